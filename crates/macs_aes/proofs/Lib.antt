@@ -1,0 +1,4 @@
+pub mod SBoxTable
+pub mod RoundConstants
+pub mod RoundSteps
+pub mod Words

@@ -1,0 +1,10 @@
+pub mod Xor
+pub mod Division
+pub mod OctetProduct
+pub mod BlockProduct
+pub mod BlockField
+pub mod OctetField
+pub mod OctetInverse
+pub mod Quotient
+pub mod GhashPowers
+pub mod GhashBlocks
