@@ -36,7 +36,7 @@ abbrev pub mix_columns : List ℕ → List ℕ
 mix_columns s = table (λ r c.
     mixed (cell s r c) (cell s ((r + 1) % 4) c) (cell s ((r + 2) % 4) c) (cell s ((r + 3) % 4) c))
 
--- the words 4 round to 4 round + 3 as columns, the leftmost octet of each in row 0
+-- the words 4 round to 4 round + 3 as columns, the leftmost octet of each in the top row
 abbrev pub round_key : List ℕ → ℕ → List ℕ
 round_key w round = table (λ r c. slice_index (to_be_bytes w32 (slice_index w (4 * round + c))) r)
 

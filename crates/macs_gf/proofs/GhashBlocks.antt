@@ -83,10 +83,12 @@ block_at-append_right front octets n i size behind =
     ∙ ap (drop (16 * (i - n))) (drop_at front octets (16 * n) size) in
     ap (from_be_bytes w128) (block_octets (front ++ octets) i ∙ ap (take 16) rest ∙ sym (block_octets octets (i - n)))
 
+-- how many whole blocks a string has
 pub length-blocks_of : (octets : List ℕ) → length (blocks_of octets) ≡ length octets / 16
 unfolding blocks_of
 length-blocks_of octets = length-map-range_with_len (block_at octets) 0 (length octets / 16)
 
+-- each of them
 pub get_or-blocks_of : (octets : List ℕ) (i : ℕ) → i < length octets / 16 → get_or (blocks_of octets) i 0 ≡ block_at octets i
 unfolding blocks_of
 get_or-blocks_of octets i below = get_or-map-range_with_len (block_at octets) 0 (length octets / 16) i i 0 below (omega arith)

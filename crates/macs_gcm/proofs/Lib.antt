@@ -1,0 +1,4 @@
+pub mod Comparison
+pub mod CounterMode
+pub mod HashInput
+pub mod Sealing

@@ -1,0 +1,79 @@
+#!/usr/bin/env python3
+"""Prints crates/macs_gcm/src/tests/vectors.rt: AES-128-GCM by Python's `cryptography`.
+
+The inputs follow rules, which the tests of the crate repeat, so that the table holds results alone.
+Of vector n
+    octet i of the key is                          (13 i +   n) mod 256,
+    octet i of the initialisation vector is        (17 i + 2 n + 1) mod 256,
+    octet i of the additional data is              (11 i + 5) mod 256,
+    octet i of the plaintext is                    ( 7 i + 3) mod 256.
+A ciphertext is written in blocks of 16 octets, whose last is filled up with zero octets.
+
+Run:  python3 tools/gcm_vectors.py > crates/macs_gcm/src/tests/vectors.rt
+"""
+
+from cryptography.hazmat.primitives.ciphers.aead import AESGCM
+
+TEXT_LENGTHS = [0, 1, 15, 16, 17, 31, 32, 60, 255, 256, 257, 1500]
+EXTRA_LENGTHS = [0, 1, 20, 28, 16, 17]
+
+
+def octets(factor, first, length):
+    return bytes((factor * i + first) % 256 for i in range(length))
+
+
+def lengths():
+    """Each text length with three lengths of additional data if it is short, else with fewer."""
+    for t, text in enumerate(TEXT_LENGTHS):
+        steps = [0, 1, 3] if text < 255 else [0, 3] if text < 1500 else [4]
+        for step in steps:
+            yield EXTRA_LENGTHS[(t + step) % len(EXTRA_LENGTHS)], text
+
+
+def blocks(text):
+    return [f"0x{text[i:i + 16].ljust(16, bytes(1)).hex()}" for i in range(0, len(text), 16)]
+
+
+def vector(n, extra, text):
+    sealed = AESGCM(octets(13, n, 16)).encrypt(
+        octets(17, 2 * n + 1, 12), octets(7, 3, text), octets(11, 5, extra)
+    )
+    ciphertext, tag = sealed[:-16], sealed[-16:]
+    written = blocks(ciphertext)
+    print("    Vector {")
+    print(f"        extra_length: {extra},")
+    print(f"        text_length: {text},")
+    if len(written) < 2:
+        print(f"        ciphertext: &[{''.join(written)}],")
+    else:
+        print("        ciphertext: &[")
+        for block in written:
+            print(f"            {block},")
+        print("        ],")
+    print(f"        tag: 0x{tag.hex()},")
+    print("    },")
+
+
+def main():
+    table = list(lengths())
+    print(
+        """//! AES-128-GCM by Python's `cryptography`, printed by tools/gcm_vectors.py, which has the rules of
+//! the inputs.
+
+/// What a plaintext and additional data of these lengths, in octets, are sealed to.
+pub struct Vector {
+    pub extra_length: u16,
+    pub text_length: u16,
+    /// In blocks of 16 octets, the last filled up with zero octets.
+    pub ciphertext: &'static [u128],
+    pub tag: u128,
+}
+"""
+    )
+    print(f"pub const VECTORS: [Vector; {len(table)}] = [")
+    for n, (extra, text) in enumerate(table):
+        vector(n, extra, text)
+    print("];")
+
+
+main()
