@@ -1,0 +1,5 @@
+pub mod FirstRefusal
+pub mod ClearEnd
+pub mod Readings
+pub mod OpenedInPlace
+pub mod OpenFaults

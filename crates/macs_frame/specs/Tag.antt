@@ -1,0 +1,126 @@
+-- The SecTAG of a frame (IEEE Std 802.1AE-2018, clause 9), and what makes it bad. Octets of the frame are counted from 0,
+-- octets of the SecTAG from 1: octet 1 of the SecTAG is octet 12 of the frame.
+use Rattle.std.specs.Prelude.{◌≡◌, ◌≢◌, ℕ, ◌+◌, ◌-◌, ◌%◌, ◌<◌, ◌≤◌, ◌⊎◌, ◌&&◌, ◌==◌, Bool, true, false, not, List, [], ◌∷◌, length, slice_index, slice_range, if◌then◌else◌, bit_and}
+use Rattle.std.specs.Int.{w32, from_be_bytes}
+use Rattle.macs_frame.specs.declared.tag.ScName.{ScName}
+use Rattle.macs_frame.specs.declared.tag.ScName.TheVariants.{Explicit, EndStation, Implicit}
+use Rattle.macs_frame.specs.declared.tag.SecTag.{SecTag}
+use Rattle.macs_frame.specs.declared.tag.Parts.{Parts}
+use Rattle.macs_frame.specs.declared.tag.TagFault.{TagFault}
+use Rattle.macs_frame.specs.declared.tag.TagFault.TheVariants.{Runt, Oversize, NoTag, BadTag, ForKay}
+
+-- ---- the octets of the tag
+
+-- the EtherType 88-E5 in octets 1 and 2 (9.4)
+abbrev pub IsTagged : List ℕ → Type 0
+IsTagged frame = (slice_index frame 12 ≡ 0x88) × (slice_index frame 13 ≡ 0xE5)
+
+-- octet 3: the TCI's bits V, ES, SC, SCB, E and C, and the AN (9.5, 9.6)
+abbrev pub control : List ℕ → ℕ
+control frame = slice_index frame 14
+
+-- the bit of an octet that has this value
+abbrev pub has_bit : ℕ → ℕ → Bool
+has_bit octet mask = not (bit_and octet mask == 0)
+
+abbrev pub version : List ℕ → Bool
+version frame = has_bit (control frame) 0x80
+
+abbrev pub end_station : List ℕ → Bool
+end_station frame = has_bit (control frame) 0x40
+
+abbrev pub has_sci : List ℕ → Bool
+has_sci frame = has_bit (control frame) 0x20
+
+abbrev pub single_copy_broadcast : List ℕ → Bool
+single_copy_broadcast frame = has_bit (control frame) 0x10
+
+abbrev pub encrypted : List ℕ → Bool
+encrypted frame = has_bit (control frame) 0x08
+
+abbrev pub changed : List ℕ → Bool
+changed frame = has_bit (control frame) 0x04
+
+-- octet 4: SL, the length of short Secure Data, under two bits that are 0 (9.7)
+abbrev pub short_length : List ℕ → ℕ
+short_length frame = slice_index frame 15
+
+-- octets 5 to 8: the PN (9.8)
+abbrev pub number_of : List ℕ → ℕ
+number_of frame = from_be_bytes w32 (slice_range frame 16 20)
+
+-- octets 9 to 16, only where SC is set: the SCI (9.9)
+abbrev pub sci_of : List ℕ → List ℕ
+sci_of frame = slice_range frame 20 28
+
+-- the SecTAG has 16 octets with an SCI, else 8 (9.3)
+abbrev pub start_of : List ℕ → ℕ
+start_of frame = if has_sci frame then 28 else 20
+
+-- ---- where Secure Data end
+
+-- A frame of so many octets, with Secure Data from start on, agrees with SL: where SL is 0 there are 48 octets of Secure
+-- Data or more in front of the ICV; else SL octets and the ICV end the frame, or the padding to 60 octets follows them.
+abbrev pub Agrees : ℕ → ℕ → ℕ → Type 0
+Agrees octets start short =
+    ((short ≡ 0) × (start + 48 + 16 ≤ octets))
+    ⊎ ((short ≢ 0) × ((octets ≡ start + short + 16) ⊎ ((octets ≡ 60) × (start + short + 16 < 60))))
+
+-- in front of the frame's last 16 octets where SL is 0, else SL octets on
+abbrev pub end_at : ℕ → ℕ → ℕ → ℕ
+end_at octets start short = if short == 0 then octets - 16 else start + short
+
+abbrev pub end_of : List ℕ → ℕ
+end_of frame = end_at (length frame) (start_of frame) (short_length frame)
+
+-- ---- what the tag says
+
+abbrev pub name_of : List ℕ → ScName
+name_of frame = if has_sci frame then Explicit (sci_of frame) else if end_station frame then EndStation else Implicit
+
+abbrev pub tag_of : List ℕ → SecTag
+tag_of frame = record {
+  an = control frame % 4;
+  pn = number_of frame;
+  name = name_of frame;
+  encrypted = encrypted frame;
+  changed = changed frame;
+}
+
+-- no rule is broken: the tag is whole, V and SCB are clear, SC and ES are not both set, the upper bits of octet 4 are clear,
+-- the PN is not 0, and the frame's length agrees with SL
+pub record IsGoodTag (frame : List ℕ) : Type 0 where
+  pub whole : start_of frame ≤ length frame
+  pub version_clear : version frame ≡ false
+  pub single_copy_clear : single_copy_broadcast frame ≡ false
+  pub one_name : has_sci frame && end_station frame ≡ false
+  pub reserved_clear : short_length frame < 64
+  pub numbered : number_of frame ≢ 0
+  pub agrees : Agrees (length frame) (start_of frame) (short_length frame)
+
+-- a frame of 14 to 9,216 octets has a tag that is not bad, and these are its parts
+pub record Tag (frame : List ℕ) (parts : Parts) : Type 0 where
+  pub long_enough : 14 ≤ length frame
+  pub short_enough : length frame ≤ 9216
+  pub tagged : IsTagged frame
+  pub good : IsGoodTag frame
+  pub tag : parts.tag ≡ tag_of frame
+  pub start : parts.start ≡ start_of frame
+  pub end : parts.end ≡ end_of frame
+
+-- E without C: the frame is for the key agreement entity alone (9.5)
+abbrev pub IsForKay : List ℕ → Type 0
+IsForKay frame = (encrypted frame ≡ true) × (changed frame ≡ false)
+
+-- ---- faults
+
+abbrev pub TagFaultHolds : List ℕ → TagFault → Type 0
+TagFaultHolds frame Runt = length frame < 14
+TagFaultHolds frame Oversize = 9216 < length frame
+TagFaultHolds frame NoTag = ¬ IsTagged frame
+TagFaultHolds frame BadTag = ¬ IsGoodTag frame
+TagFaultHolds frame ForKay = IsForKay frame
+
+-- in the order in which they are looked for
+abbrev pub tag_faults : List TagFault
+tag_faults = Runt ∷ Oversize ∷ NoTag ∷ BadTag ∷ ForKay ∷ []

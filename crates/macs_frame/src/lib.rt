@@ -1,0 +1,15 @@
+//! MACsec frames (IEEE Std 802.1AE-2018): reading a SecTAG, and opening a protected frame.
+#![tactic(auto)]
+
+mod fields;
+pub mod laws;
+mod opening;
+mod reading;
+mod tag;
+#[cfg(test)]
+mod tests;
+
+pub use fields::{An, Offset, Pn, Sci};
+pub use opening::{OpenFault, open_frame, open_parts};
+pub use reading::read_tag;
+pub use tag::{FrameBuf, MAX_FRAME, MIN_FRAME, Parts, ScName, SecTag, TagFault};

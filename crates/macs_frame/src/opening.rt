@@ -1,0 +1,186 @@
+//! Opening a protected frame (IEEE Std 802.1AE-2018, 10.6 and 14.5).
+
+ghost use Rattle.std.specs.Prelude.{◌≡◌, ◌≢◌, ◌<◌, ◌≤◌, ◌+◌, ◌^◌, ◌++◌, ◌↔◌, List, ℕ, [], ◌∷◌, length, take, drop, slice_range, IsTrue, IfOk, IsSomeAnd, OnOk, OnErr};
+ghost use Rattle.std.specs.Bool.{OnFalse, OnTrue};
+ghost use Rattle.arrayvec.specs.ArrayVec.{array_vec_len};
+ghost use Rattle.macs_gcm.specs.Gcm.{Opens, seal};
+ghost use Rattle.macs_frame.specs.Fields.{octets_of};
+ghost use Rattle.macs_frame.specs.First.{IsFirst};
+ghost use Rattle.macs_frame.specs.Opening.{OpenFaultHolds, OpensTo, Verified, clear_of, extra_of, hidden_of, icv_of, iv_of, named_sci, open_faults, secure_data};
+ghost use Rattle.macs_frame.specs.Tag.{Tag, tag_of};
+
+use crate::fields::{An, Offset, Pn, Sci};
+use crate::reading::read_tag;
+use crate::tag::{FrameBuf, Parts, ScName, TagFault};
+use macs_gcm::{GcmKey, open};
+
+/// Why a frame is not opened, in the order in which the faults are looked for.
+#[derive(Debug, Clone, Copy, PartialEq, Eq)]
+pub enum OpenFault {
+    /// The frame has no parts that are for this endpoint.
+    Tag(TagFault),
+    /// The SecTAG names another SCI: it spells one out, or names the source address with port 00-01.
+    OtherSci,
+    /// The ICV is not that of the frame under this key, SCI and offset.
+    NotValid,
+}
+
+impl From<TagFault> for OpenFault {
+    ghost use Rattle.macs_frame.specs.declared.opening.OpenFault.TheVariants.{Tag as TagRefused};
+
+    ghost from_gives = { λ fault e. e ≡ TagRefused fault };
+
+    fn from(fault: TagFault) -> OpenFault {
+        OpenFault::Tag(fault)
+    }
+}
+
+/// The initialisation vector of a frame (14.5).
+fn iv_of(sci: Sci, number: Pn) -> [u8; 12]
+    ensures { result ≡ iv_of sci number }
+{
+    let [a, b, c, d, e, f, g, h] = sci.get();
+    let [i, j, k, l] = number.get().to_be_bytes();
+    [a, b, c, d, e, f, g, h, i, j, k, l]
+}
+
+/// The ICV, whose 16 octets begin at `end`.
+fn icv_at(frame: &[u8], end: usize) -> [u8; 16]
+    requires { end + 16 ≤ length frame.now }
+    ensures { result ≡ slice_range frame.now end (end + 16) }
+{
+    let mut icv = [0; 16];
+    icv.copy_from_slice(&frame[end..end + 16]);
+    icv
+}
+
+/// Where the octets of a frame end that are authenticated in the clear; encrypted ones follow, up to
+/// the end of Secure Data.
+fn clear_end(frame: &[u8], parts: &Parts, offset: Offset) -> usize
+    requires { Tag frame.now parts.now }
+    ensures low { parts.now.start ≤ result }
+    ensures high { result ≤ parts.now.end }
+    ensures extra { take result frame.now ≡ extra_of frame.now (octets_of offset) parts.now }
+    ensures clear { slice_range frame.now parts.now.start result ≡ clear_of parts.now.tag.encrypted (octets_of offset) (secure_data frame.now parts.now) }
+    ensures hidden { slice_range frame.now result parts.now.end ≡ hidden_of parts.now.tag.encrypted (octets_of offset) (secure_data frame.now parts.now) }
+{
+    if parts.tag.encrypted {
+        parts.end.min(parts.start + offset.get() as usize)
+    } else {
+        parts.end
+    }
+}
+
+/// Appends octets for which there is room.
+fn append(out: &mut FrameBuf, octets: &[u8])
+    requires { array_vec_len out.old + length octets.now ≤ 9216 }
+    ensures { out.new.items ≡ out.old.items ++ octets.now }
+{
+    out.try_extend_from_slice(octets).unwrap();
+}
+
+/// Opens the octets from `start` on in place, and leaves those in front of it.
+fn open_from(
+    key: &GcmKey,
+    iv: &[u8; 12],
+    extra: &[u8],
+    octets: &mut [u8],
+    start: usize,
+    icv: &[u8; 16],
+) -> bool
+    requires start { start ≤ length octets.old }
+    requires extra { length extra.now < 2 ^ 32 }
+    requires octets { length octets.old < 2 ^ 32 }
+    ensures exactly { IsTrue result ↔ Opens key.now iv.now extra.now (drop start octets.old) icv.now }
+    ensures opened { OnTrue result (seal key.now iv.now extra.now (drop start octets.new) ≡ (drop start octets.old, icv.now)) }
+    ensures front { take start octets.new ≡ take start octets.old }
+{
+    open(key, iv, extra, &mut octets[start..], icv)
+}
+
+/// Opens the Secure Data and the ICV of a frame whose parts are given, and writes its plain frame to
+/// `out`. The answer is whether they open under this key, SCI and offset; if not, `out` is empty.
+pub fn open_parts(
+    key: &GcmKey,
+    sci: Sci,
+    offset: Offset,
+    frame: &[u8],
+    parts: &Parts,
+    out: &mut FrameBuf,
+) -> bool
+    requires { Tag frame.now parts.now }
+    ensures exactly { IsTrue result ↔ ((plain : List ℕ) × OpensTo frame.now key.now sci (octets_of offset) parts.now plain) }
+    ensures opened { OnTrue result (OpensTo frame.now key.now sci (octets_of offset) parts.now out.new.items) }
+    ensures empty { OnFalse result (out.new.items ≡ []) }
+{
+    let clear = clear_end(frame, parts, offset);
+    out.clear();
+    append(out, &frame[..12]);
+    append(out, &frame[parts.start..clear]);
+    let start = out.len();
+    append(out, &frame[clear..parts.end]);
+    let iv = iv_of(sci, parts.tag.pn);
+    let icv = icv_at(frame, parts.end);
+    let is_valid = open_from(key, &iv, &frame[..clear], out.as_mut_slice(), start, &icv);
+    if !is_valid {
+        out.clear();
+    }
+    is_valid
+}
+
+/// The SCI that a SecTAG names, `None` where it leaves the channel to the receiver (9.5, 9.9).
+fn named_sci(frame: &[u8], name: ScName) -> Option<Sci>
+    requires { 12 ≤ length frame.now }
+    ensures { result ≡ named_sci frame.now name }
+{
+    match name {
+        ScName::Explicit(sci) => Some(sci),
+        ScName::EndStation => Some(end_station_sci(frame)),
+        ScName::Implicit => None,
+    }
+}
+
+/// The SCI of an end station: its source address, with port 00-01.
+fn end_station_sci(frame: &[u8]) -> Sci
+    requires { 12 ≤ length frame.now }
+    ensures { result ≡ slice_range frame.now 6 12 ++ 0 ∷ 1 ∷ [] }
+{
+    let mut address = [0; 6];
+    address.copy_from_slice(&frame[6..12]);
+    let [a, b, c, d, e, f] = address;
+    Sci::new([a, b, c, d, e, f, 0, 1])
+}
+
+/// Whether a SecTAG names an SCI, and it is another one.
+fn names_other(frame: &[u8], name: ScName, sci: Sci) -> bool
+    requires { 12 ≤ length frame.now }
+    ensures { IsTrue result ↔ IsSomeAnd (named_sci frame.now name) (λ named. named ≢ sci) }
+{
+    named_sci(frame, name).is_some_and(|named| named != sci)
+}
+
+/// Opens a protected frame, writes its plain frame to `out`, and answers the association and the
+/// packet number that its SecTAG names. After a fault `out` is empty.
+pub fn open_frame(
+    key: &GcmKey,
+    sci: Sci,
+    offset: Offset,
+    frame: &[u8],
+    out: &mut FrameBuf,
+) -> Result<(An, Pn), OpenFault>
+    ensures opened { OnOk result (Verified frame.now key.now sci (octets_of offset) out.new.items) }
+    ensures numbers { IfOk result (λ found. (found.0 ≡ (tag_of frame.now).an) × (found.1 ≡ (tag_of frame.now).pn)) }
+    ensures fault { (fault : OpenFault) → (result ≡ Err fault) ↔ IsFirst (OpenFaultHolds frame.now key.now sci (octets_of offset)) open_faults fault }
+    ensures empty { OnErr result (out.new.items ≡ []) }
+{
+    out.clear();
+    let parts = read_tag(frame)?;
+    let tag = parts.tag;
+    if names_other(frame, tag.name, sci) {
+        return Err(OpenFault::OtherSci);
+    }
+    if !open_parts(key, sci, offset, frame, &parts, out) {
+        return Err(OpenFault::NotValid);
+    }
+    Ok((tag.an, tag.pn))
+}

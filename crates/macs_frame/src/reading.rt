@@ -1,0 +1,142 @@
+//! Reading a SecTAG (IEEE Std 802.1AE-2018, clause 9).
+
+ghost use Rattle.std.specs.Prelude.{◌≡◌, ◌<◌, ◌≤◌, ◌+◌, ◌↔◌, ◌&&◌, ℕ, false, length, IsTrue, MatchOption};
+ghost use Rattle.macs_frame.specs.First.{IsFirst};
+ghost use Rattle.macs_frame.specs.Tag.{Agrees, IsForKay, IsGoodTag, Tag, TagFaultHolds, end_at, end_of, has_bit, name_of, number_of, sci_of, start_of, tag_faults, tag_of};
+
+use crate::fields::{An, Pn, Sci};
+use crate::tag::{MAX_FRAME, MIN_FRAME, Parts, ScName, SecTag, TagFault};
+
+// Octet 3 of the SecTAG: V, ES, SC, SCB, E and C (9.5).
+
+const VERSION: u8 = 0x80;
+
+const END_STATION: u8 = 0x40;
+
+const SCI_PRESENT: u8 = 0x20;
+
+const SINGLE_COPY_BROADCAST: u8 = 0x10;
+
+const ENCRYPTED: u8 = 0x08;
+
+const CHANGED: u8 = 0x04;
+
+/// Whether the bit with this value is set.
+fn is_set(octet: u8, mask: u8) -> bool
+    ensures { result ≡ has_bit octet mask }
+{
+    octet & mask != 0
+}
+
+/// The PN's four octets as a number.
+fn number_of(frame: &[u8]) -> u32
+    requires { 20 ≤ length frame.now }
+    ensures { result ≡ number_of frame.now }
+{
+    let mut number = [0; 4];
+    number.copy_from_slice(&frame[16..20]);
+    u32::from_be_bytes(number)
+}
+
+/// The SCI that is spelled out.
+fn sci_of(frame: &[u8]) -> Sci
+    requires { 28 ≤ length frame.now }
+    ensures { result ≡ sci_of frame.now }
+{
+    let mut octets = [0; 8];
+    octets.copy_from_slice(&frame[20..28]);
+    Sci::new(octets)
+}
+
+/// Where Secure Data that start at `start` end in a frame of `len` octets, by SL: `None` where SL
+/// does not agree with the frame's length (9.7).
+fn data_end(len: usize, start: usize, short_length: u8) -> Option<usize>
+    requires start { start ≤ 28 }
+    requires short { short_length < 64 }
+    ensures { MatchOption result (¬ Agrees len start short_length) (λ end. Agrees len start short_length × (end ≡ end_at len start short_length)) }
+{
+    if short_length == 0 {
+        return if start + 48 + 16 <= len {
+            Some(len - 16)
+        } else {
+            None
+        };
+    }
+    let end = start + short_length as usize;
+    if len == end + 16 || (len == 60 && end + 16 < 60) {
+        Some(end)
+    } else {
+        None
+    }
+}
+
+/// Whether octet 3 breaks no rule: V and SCB are clear, and SC and ES are not both set (9.5).
+fn is_good_control(control: u8) -> bool
+    ensures { IsTrue result ↔ ((has_bit control 0x80 ≡ false) × (has_bit control 0x10 ≡ false) × (has_bit control 0x20 && has_bit control 0x40 ≡ false)) }
+{
+    let is_named_twice = is_set(control, SCI_PRESENT) && is_set(control, END_STATION);
+    !is_set(control, VERSION) && !is_set(control, SINGLE_COPY_BROADCAST) && !is_named_twice
+}
+
+/// How a whole SecTAG names its channel (9.5).
+fn name_of(frame: &[u8]) -> ScName
+    requires control { 15 ≤ length frame.now }
+    requires whole { start_of frame.now ≤ length frame.now }
+    ensures { result ≡ name_of frame.now }
+{
+    if is_set(frame[14], SCI_PRESENT) {
+        ScName::Explicit(sci_of(frame))
+    } else if is_set(frame[14], END_STATION) {
+        ScName::EndStation
+    } else {
+        ScName::Implicit
+    }
+}
+
+/// The parts of a tagged frame, `None` where its tag is bad.
+fn parts_of(frame: &[u8]) -> Option<Parts>
+    requires { 14 ≤ length frame.now }
+    ensures { MatchOption result (¬ IsGoodTag frame.now) (λ parts. IsGoodTag frame.now × (parts.tag ≡ tag_of frame.now) × (parts.start ≡ start_of frame.now) × (parts.end ≡ end_of frame.now)) }
+{
+    if frame.len() < 20 {
+        return None;
+    }
+    let control = frame[14];
+    let start = if is_set(control, SCI_PRESENT) { 28 } else { 20 };
+    if frame.len() < start || !is_good_control(control) || frame[15] >= 64 {
+        return None;
+    }
+    let pn = Pn::new(number_of(frame))?;
+    let end = data_end(frame.len(), start, frame[15])?;
+    let tag = SecTag {
+        an: An::new(control % 4)?,
+        pn,
+        name: name_of(frame),
+        encrypted: is_set(control, ENCRYPTED),
+        changed: is_set(control, CHANGED),
+    };
+    Some(Parts { tag, start, end })
+}
+
+/// The parts of a protected frame, or the first fault.
+pub fn read_tag(frame: &[u8]) -> Result<Parts, TagFault>
+    ensures parts { (parts : Parts) → (result ≡ Ok parts) ↔ (Tag frame.now parts × (¬ IsForKay frame.now)) }
+    ensures fault { (fault : TagFault) → (result ≡ Err fault) ↔ IsFirst (TagFaultHolds frame.now) tag_faults fault }
+{
+    if frame.len() < MIN_FRAME {
+        return Err(TagFault::Runt);
+    }
+    if frame.len() > MAX_FRAME {
+        return Err(TagFault::Oversize);
+    }
+    if frame[12] != 0x88 || frame[13] != 0xE5 {
+        return Err(TagFault::NoTag);
+    }
+    let Some(parts) = parts_of(frame) else {
+        return Err(TagFault::BadTag);
+    };
+    if parts.tag.encrypted && !parts.tag.changed {
+        return Err(TagFault::ForKay);
+    }
+    Ok(parts)
+}
