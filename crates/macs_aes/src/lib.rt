@@ -1,4 +1,4 @@
-//! AES-128 by single blocks (FIPS 197): the key expansion, and the cipher under it.
+//! AES-128 by single blocks (FIPS 197, edition of 2001): the key expansion, and the cipher under it.
 #![tactic(auto)]
 
 mod rounds;

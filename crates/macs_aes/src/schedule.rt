@@ -17,6 +17,7 @@ const ROUND_CONSTANTS: [u8; 10] = [0x01, 0x02, 0x04, 0x08, 0x10, 0x20, 0x40, 0x8
 /// An AES-128 key, expanded for its ten rounds. In clauses it is its key, a list of 16 octets.
 #[derive(Drop)]
 pub struct Schedule {
+    /// Kept for the contracts: the value of a schedule is its key.
     key: Block,
     words: [u32; WORDS],
 }

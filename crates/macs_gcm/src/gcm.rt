@@ -2,14 +2,15 @@
 
 ghost use Rattle.std.specs.Prelude.{◌≡◌, ◌^◌, ◌<◌, ◌↔◌, ℕ, List, length, IsTrue};
 ghost use Rattle.std.specs.Bool.{OnFalse, OnTrue};
-ghost use Rattle.macs_gcm.specs.Gcm.{Opens, ciphertext_of, hash_key, pre_counter_block, seal, tag_of};
+ghost use Rattle.macs_gcm.specs.Gcm.{Opens, ciphertext_of, hash_subkey, pre_counter_block, seal, tag_of};
 
 use crate::counter::{gctr, inc32};
 use crate::hash::ghash;
 use macs_aes::{Block, Schedule, encrypt_block};
 use std::marker::Model;
 
-/// A key of AES-128, prepared for GCM: its round keys and its hash subkey.
+/// A key of AES-128, prepared for GCM: its round keys and its hash subkey. In clauses it is its key, a
+/// list of 16 octets.
 #[derive(Drop)]
 pub struct GcmKey {
     schedule: Schedule,
@@ -22,7 +23,7 @@ impl Model for GcmKey {
 
     ghost view = { λ k. k.schedule };
 
-    ghost invariant = { λ k. k.subkey ≡ hash_key k.schedule };
+    ghost invariant = { λ k. k.subkey ≡ hash_subkey k.schedule };
 }
 
 impl GcmKey {

@@ -4,10 +4,10 @@ use Rattle.std.proofs.Common.{◌≡◌, ℕ, zero, suc, ◌+◌, ◌-◌, ◌*�
 use Rattle.std.specs.Int.{bit_at}
 use Rattle.std.proofs.lemmas.Nat.{pow_pos, shr-shr, xor_shr, xor_mod, xor_lt}
 use Rattle.std.proofs.lemmas.Nat.Bits.{bit_at-lt, bit_at-suc, bit_at-zero, bit_at_above, bit_at_lowest}
-use native.Mathlib.Nat.{div-eq_of_lt, one-mul, pow-suc, zero-mul}
+use native.Mathlib.Nat.{div-eq_of_lt, pow-suc, zero-mul}
 use lib.Bits.{xor_self, xor_zero_r, xor_shifted}
 use Rattle.macs_gf.specs.Gf128.{block_bit, block_product, block_product_below, reduction, times_power, times_x}
-use Rattle.macs_gf.proofs.Xor.{bit_at_xor_product, chosen_zero, digit_of_sum, digit_product, digit_scaled, xor_middle}
+use Rattle.macs_gf.proofs.Xor.{bit_at_xor_product, chosen_zero, digit-lt, digit_of_sum, digit_product, digit_scaled, xor_middle}
 
 -- ---- x times a block
 
@@ -28,19 +28,13 @@ unfolding times_power
 times_power-lt zero v h = h
 times_power-lt (suc i) v h = times_x-lt (times_power i v) (times_power-lt i v h)
 
--- a bit times a block
-digit-lt : (d v : ℕ) → d < 2 → v < 2 ^ 128 → d * v < 2 ^ 128
-digit-lt zero v h k = rw zero-mul (lit< tt)
-digit-lt (suc zero) v h k = rw one-mul k
-digit-lt (suc (suc d)) v h k = absurd (omega arith)
-
 -- a sum of chosen powers of x times a block is a block
 pub below-lt : (n a v : ℕ) → v < 2 ^ 128 → block_product_below a v n < 2 ^ 128
 unfolding block_product_below
 below-lt zero a v h = lit< tt
 below-lt (suc i) a v h =
     xor_lt 128 (block_product_below a v i) (block_bit a i * times_power i v) (below-lt i a v h)
-    (digit-lt (block_bit a i) (times_power i v) (bit_at-lt a (127 - i)) (times_power-lt i v h))
+    (digit-lt 128 (block_bit a i) (times_power i v) (bit_at-lt a (127 - i)) (times_power-lt i v h))
 
 -- the product is a block
 pub product-lt : (a v : ℕ) → v < 2 ^ 128 → block_product a v < 2 ^ 128

@@ -4,7 +4,7 @@ use Rattle.std.specs.Int.{w128, from_be_bytes}
 use Rattle.std.specs.List.{slice_range}
 use Rattle.std.proofs.lemmas.Bool.{cases_lt}
 use Rattle.std.proofs.lemmas.Grind.{same_number_lists}
-use Rattle.std.proofs.lemmas.List.{append-nil, append_assoc, drop-append-le, drop-drop, drop_at, get_or-append_right, get_or-drop, get_or-replicate, get_or-take, get_or_append_left, get_or_past, length-append, length-drop, length-replicate, length-take-le, take-append-le, take_all, take_more}
+use Rattle.std.proofs.lemmas.List.{append_assoc, drop-append-le, drop-drop, drop_at, get_or-append_right, get_or-drop, get_or-replicate, get_or-take, get_or_append_left, get_or_past, length-append, length-drop, length-replicate, length-take-le, take-append-le, take_all, take_more}
 use Rattle.std.proofs.lemmas.List.FromFn.{get_or-map-range_with_len, length-map-range_with_len}
 use Rattle.std.proofs.lemmas.List.Sums.{fold-append}
 use Rattle.macs_gf.specs.Ghash.{absorb, block_at, blocks_of, ghash_from, padded}
@@ -16,12 +16,6 @@ pub length-padded : (octets : List ℕ) → length (padded octets) ≡ 16 * ((le
 length-padded octets =
     let zeros : ℕ = (16 - length octets % 16) % 16 in
     omega (arith, length-append octets (replicate zeros 0), length-replicate {A = ℕ} zeros 0)
-
--- a string of whole blocks gets no padding
-pub padded-whole : (octets : List ℕ) → length octets % 16 ≡ 0 → padded octets ≡ octets
-padded-whole octets whole =
-    let none : (16 - length octets % 16) % 16 ≡ 0 = omega arith in
-    ap (λ (n : ℕ). octets ++ replicate n 0) none ∙ append-nil octets
 
 -- behind whole blocks a string is padded as by itself
 pub padded-append : (front octets : List ℕ) → length front % 16 ≡ 0 → padded (front ++ octets) ≡ front ++ padded octets

@@ -1,4 +1,4 @@
--- Blocks absorbed side by side, each under its own power of the hash key.
+-- Blocks absorbed side by side, each under its own power of the hash subkey.
 use Rattle.std.proofs.Common.{◌≡◌, ℕ, zero, suc, ◌^◌, ◌<◌, List, [], ◌∷◌, length, bit_xor, ap, sym, ◌∙◌, lit<}
 use lib.Bits.{xor_assoc, xor_zero_r}
 use Rattle.macs_gf.specs.Gf128.{block_product}

@@ -92,13 +92,16 @@ pub inverse-lt : (a : ℕ) → a < 2 ^ 8 → inverse a < 2 ^ 8
 inverse-lt zero h = rw inverse_zero (lit< tt)
 inverse-lt (suc k) h = (inverse-of_power (suc k) (omega arith) h).1
 
--- the inverse is the one octet that is an inverse
-pub inverse-is : (a b : ℕ) → a < 2 ^ 8 → b < 2 ^ 8 → IsInverse a b ↔ (b ≡ inverse a)
-inverse-is zero b ha hb = (λ h. h.0 refl ∙ sym inverse_zero, λ e. (λ z. e ∙ inverse_zero, λ ne. absurd (ne refl)))
-inverse-is (suc k) b ha hb =
+-- the inverse is the one number that is an inverse
+pub inverse-is : (a b : ℕ) → a < 2 ^ 8 → IsInverse a b ↔ (b ≡ inverse a)
+inverse-is zero b ha = (
+  λ h. h.1.0 refl ∙ sym inverse_zero,
+  λ e. (omega (arith, e, inverse_zero), (λ z. e ∙ inverse_zero, λ ne. absurd (ne refl))),
+)
+inverse-is (suc k) b ha =
     let inv = inverse-of_power (suc k) (omega arith) ha in (
-      λ h. unique (suc k) b (inverse (suc k)) ha hb inv.1 (h.1 (λ e. absurd (omega arith))) inv.0,
-      λ e. (λ z. absurd (omega arith), λ ne. ap (octet_product (suc k)) e ∙ inv.0),
+      λ h. unique (suc k) b (inverse (suc k)) ha h.0 inv.1 (h.1.1 (λ e. absurd (omega arith))) inv.0,
+      λ e. (omega (arith, e, inv.1), (λ z. absurd (omega arith), λ ne. ap (octet_product (suc k)) e ∙ inv.0)),
     )
 
 -- the inverse is the power 254

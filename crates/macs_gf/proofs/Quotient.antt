@@ -3,9 +3,9 @@ use Rattle.std.proofs.Common.{◌≡◌, ℕ, zero, suc, ◌+◌, ◌-◌, ◌*�
 use Rattle.std.specs.Int.{bit_at}
 use Rattle.std.proofs.lemmas.Nat.{mod_below, pow-add, pow_pos, shl_below, shr_below, shr_split, xor_block, xor_comm, xor_lt}
 use Rattle.std.proofs.lemmas.Nat.Bits.{bit_at_cat_high, bit_at_cat_low, bit_at-lt, bit_at_lowest}
-use native.Mathlib.Nat.{lt_of_lt_of_le, mod-eq_of_lt, one-mul, pow-le-pow_right, pow-suc, zero-mul}
+use native.Mathlib.Nat.{lt_of_lt_of_le, mod-eq_of_lt, one-mul, pow-le-pow_right, pow-suc}
 use lib.Bits.{xor_assoc, xor_self, xor_zero_r}
-use Rattle.macs_gf.proofs.Xor.{chosen_zero}
+use Rattle.macs_gf.proofs.Xor.{chosen_zero, digit-lt}
 use Rattle.macs_gf.specs.Gf256.{aes_modulus, octet_product}
 use Rattle.macs_gf.specs.Polynomial.{IsRemainder, division_step, product_below, remainder}
 
@@ -100,17 +100,11 @@ small_shift a n h k =
     let within : 8 + n ≤ 16 = omega arith in
     lt_of_lt_of_le (shl_below a 8 n h) (pow-le-pow_right (omega arith) within)
 
--- a bit times such a polynomial
-chosen-lt : (d y : ℕ) → d < 2 → y < 2 ^ 16 → d * y < 2 ^ 16
-chosen-lt zero y h k = rw zero-mul (lit< tt)
-chosen-lt (suc zero) y h k = rw one-mul k
-chosen-lt (suc (suc d)) y h k = absurd (omega arith)
-
 -- the product of two octets is of degree below 16
 pub product-lt : (a b n : ℕ) → a < 2 ^ 8 → n ≤ 8 → product_below a b n < 2 ^ 16
 unfolding product_below
 product-lt a b zero h k = lit< tt
-product-lt a b (suc n) h k = xor_lt 16 (product_below a b n) (bit_at b n * (a * 2 ^ n)) (product-lt a b n h (omega arith)) (chosen-lt (bit_at b n) (a * 2 ^ n) (bit_at-lt b n) (small_shift a n h (omega arith)))
+product-lt a b (suc n) h k = xor_lt 16 (product_below a b n) (bit_at b n * (a * 2 ^ n)) (product-lt a b n h (omega arith)) (digit-lt 16 (bit_at b n) (a * 2 ^ n) (bit_at-lt b n) (small_shift a n h (omega arith)))
 
 -- the product of octets is the remainder
 pub octet_product-IsRemainder : (a b : ℕ) → a < 2 ^ 8 → IsRemainder aes_modulus (product_below a b 8) (octet_product a b)

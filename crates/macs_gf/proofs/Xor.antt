@@ -40,15 +40,25 @@ pub bit_at_xor_product : (a b i m : ℕ) → bit_at (bit_xor a b) i * m ≡ bit_
 bit_at_xor_product a b i m =
     ap (λ (x : ℕ). x * m) (bit_at_xor a b i) ∙ digits_product (bit_at a i) (bit_at b i) m (bit_at-lt a i) (bit_at-lt b i)
 
+-- the sum of two bits
+xor_of_bits : (x y : ℕ) → x < 2 → y < 2 → bit_xor x y ≡ (x + y) % 2
+xor_of_bits zero zero p q = refl
+xor_of_bits zero (suc zero) p q = refl
+xor_of_bits (suc zero) zero p q = refl
+xor_of_bits (suc zero) (suc zero) p q = refl
+xor_of_bits (suc (suc x)) y p q = absurd (omega arith)
+xor_of_bits zero (suc (suc y)) p q = absurd (omega arith)
+xor_of_bits (suc zero) (suc (suc y)) p q = absurd (omega arith)
+
 -- a sum of two bits, as a factor
 pub digit_product : (x y m : ℕ) → x < 2 → y < 2 → bit_xor x y * m ≡ bit_xor (x * m) (y * m)
-digit_product zero zero m p q = rw zero-mul refl
-digit_product zero (suc zero) m p q = rw (zero-mul, one-mul) refl
-digit_product (suc zero) zero m p q = rw (zero-mul, one-mul) (sym (xor_zero_r m))
-digit_product (suc zero) (suc zero) m p q = rw zero-mul (sym (xor_self (1 * m)))
-digit_product (suc (suc x)) y m p q = absurd (omega arith)
-digit_product zero (suc (suc y)) m p q = absurd (omega arith)
-digit_product (suc zero) (suc (suc y)) m p q = absurd (omega arith)
+digit_product x y m p q = ap (λ (d : ℕ). d * m) (xor_of_bits x y p q) ∙ digits_product x y m p q
+
+-- a bit times a number of n bits
+pub digit-lt : (n d v : ℕ) → d < 2 → v < 2 ^ n → d * v < 2 ^ n
+digit-lt n zero v h k = rw zero-mul (pow_pos n)
+digit-lt n (suc zero) v h k = rw one-mul k
+digit-lt n (suc (suc d)) v h k = absurd (omega arith)
 
 -- a bit times a sum
 pub digit_of_sum : (d u v : ℕ) → d < 2 → d * bit_xor u v ≡ bit_xor (d * u) (d * v)

@@ -11,7 +11,8 @@ block_bit a i = bit_at a (127 - i)
 abbrev pub reduction : ℕ
 reduction = 0xE1 * 2 ^ 120
 
--- x * v: a shift to the right, and R added where the bit shifted out was 1
+-- x * v: a shift to the right, and R added where the bit shifted out was 1 (algorithm 1, step 3: the next V
+-- from V)
 abbrev pub times_x : ℕ → ℕ
 times_x v = bit_xor (v / 2) (v % 2 * reduction)
 

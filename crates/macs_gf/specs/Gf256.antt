@@ -1,7 +1,7 @@
--- The field of 256 elements of AES (FIPS 197, 4.2): an octet is a polynomial of degree below 8.
-use Rattle.std.specs.Prelude.{◌≡◌, ◌≢◌, ℕ, ◌*◌, List, find, ◌==◌, unwrap_or}
+-- The field of 256 elements of AES (FIPS 197 (2001), 4.2): an octet is a polynomial of degree below 8.
+use Rattle.std.specs.Prelude.{◌≡◌, ◌≢◌, ℕ, ◌^◌, ◌<◌, List, find, ◌==◌, unwrap_or}
 use Rattle.std.specs.List.{range_with_len}
-use Rattle.macs_gf.specs.Polynomial.{division_step, product_below, remainder}
+use Rattle.macs_gf.specs.Polynomial.{product_below, remainder}
 
 -- x^8 + x^4 + x^3 + x + 1, of degree 8
 abbrev pub aes_modulus : ℕ
@@ -11,13 +11,9 @@ aes_modulus = 0x11B
 unfoldable pub octet_product : ℕ → ℕ → ℕ
 octet_product a b = remainder aes_modulus (product_below a b 8) 8
 
--- the product of x and an octet, modulo aes_modulus: xtime (4.2.1)
-abbrev pub octet_times_x : ℕ → ℕ
-octet_times_x a = division_step aes_modulus (a * 2) 0
-
 -- b is the inverse of a: their product is 1 (4.2), and that of 0 is 0 (5.1.1)
 abbrev pub IsInverse : ℕ → ℕ → Type 0
-IsInverse a b = (a ≡ 0 → b ≡ 0) × (a ≢ 0 → octet_product a b ≡ 1)
+IsInverse a b = (b < 2 ^ 8) × ((a ≡ 0 → b ≡ 0) × (a ≢ 0 → octet_product a b ≡ 1))
 
 -- each octet, in order
 abbrev pub octets : List ℕ

@@ -1,5 +1,5 @@
--- Polynomials over the field of two elements, as numbers: bit i is the coefficient of x^i (FIPS 197,
--- 4.2). The sum of two is their xor, the product with x^i is the product with 2 ^ i, and a degree
+-- Polynomials over the field of two elements, as numbers: bit i is the coefficient of x^i (FIPS 197
+-- (2001), 4.1 and 4.2). The sum of two is their xor, the product with x^i is the product with 2 ^ i, and a degree
 -- below n is a number below 2 ^ n.
 use Rattle.std.specs.Prelude.{◌≡◌, ℕ, zero, suc, ◌+◌, ◌*◌, ◌^◌, ◌<◌, bit_xor}
 use Rattle.std.specs.Int.{bit_at}

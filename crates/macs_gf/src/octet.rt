@@ -1,14 +1,14 @@
 //! The field of 256 elements (FIPS 197, 4.2).
 
 ghost use Rattle.std.specs.Prelude.{◌≡◌};
-ghost use Rattle.macs_gf.specs.Gf256.{octet_product, octet_times_x};
+ghost use Rattle.macs_gf.specs.Gf256.{octet_product};
 
 /// x^4 + x^3 + x + 1, the remainder of x^8.
 const REDUCTION: u8 = 0x1B;
 
 /// The product of x and an octet, reduced (FIPS 197, 4.2.1).
 fn xtime8(a: u8) -> u8
-    ensures { result ≡ octet_times_x a }
+    ensures { result ≡ octet_product 2 a }
 {
     if a < 0x80 {
         a << 1

@@ -23,7 +23,7 @@ loop-i-preserved c =
             let bit : bit_at b i ≡ 0 = omega (arith, shr_and_one b i, bit_at-lt b i) in
             w.product-is ∙ product_next_zero a b i _ bit held.0
       ],
-      c.xtime8-multiple.ensures ∙ multiple_next a i _ (omega arith) (omega arith) held.1,
+      c.xtime8-multiple.ensures ∙ multiple_next a i _ (omega arith) (omega arith) (omega arith) held.1,
     )
 
 pub returns : goal.returns
