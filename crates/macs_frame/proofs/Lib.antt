@@ -3,3 +3,4 @@ pub mod ClearEnd
 pub mod Readings
 pub mod OpenedInPlace
 pub mod OpenFaults
+pub mod Decisions

@@ -10,15 +10,15 @@ use Rattle.macs_frame.specs.First.{IsFirst, NoneHolds}
 use Rattle.macs_frame.specs.Opening.{OpenFaultHolds, OpensTo, Verified, named_sci, open_faults}
 use Rattle.macs_frame.specs.Tag.{IsForKay, Tag, TagFaultHolds, tag_faults}
 use Rattle.macs_frame.proofs.FirstRefusal.{first-map-append, first-behind, none-map-append}
-use Rattle.macs_frame.proofs.Readings.{one_reading}
+use Rattle.macs_frame.proofs.Readings.{verified_by_its_parts}
 
 -- the faults behind those of the tag
 abbrev later_faults : List OpenFault
 later_faults = OtherSci ∷ NotValid ∷ []
 
 -- a frame that has parts for this endpoint has no fault of its tag
-no_tag_fault : (frame : List ℕ) (parts : Parts) → Tag frame parts × (¬ IsForKay frame) → NoneHolds (TagFaultHolds frame) tag_faults
-no_tag_fault frame parts (tag, kay) = (λ runt. omega arith, (λ oversize. omega arith, (λ no. no tag.tagged, (λ bad. bad tag.good, (kay, tt)))))
+pub no_tag_fault : (frame : List ℕ) (parts : Parts) → Tag frame parts × (¬ IsForKay frame) → NoneHolds (TagFaultHolds frame) tag_faults
+no_tag_fault frame parts (tag, kay) = (λ runt. omega arith, (λ oversize. omega arith, (λ no. no tag.tagged, (λ bad. bad tag.reading.good, (kay, tt)))))
 
 module _ (frame key sci : List ℕ) (offset : ℕ) where
   -- the first fault of the tag is the first of all
@@ -27,14 +27,14 @@ module _ (frame key sci : List ℕ) (offset : ℕ) where
 
   -- a frame whose parts open is verified
   pub verified : (parts : Parts) → Tag frame parts × (¬ IsForKay frame) → (plain : List ℕ) → OpensTo frame key sci offset parts plain → Verified frame key sci offset plain
-  verified parts read plain opens = record { parts = parts; tag = read.0; not_for_kay = read.1; opens = opens }
+  verified parts read plain opens = (verified_by_its_parts frame key sci offset parts plain read.0 read.1).1 opens
 
   -- what follows once the parts are read, and it is known whether they name another SCI
   module _ (parts : Parts) (read : Tag frame parts × (¬ IsForKay frame)) (other : Bool)
       (is_other : IsTrue other ↔ IsSomeAnd (named_sci frame parts.tag.name) (λ named. named ≢ sci)) where
     -- the SCI that the parts name is the one that the frame names
     names_other : IsTrue other ↔ OpenFaultHolds frame key sci offset OtherSci
-    names_other = subst (λ name. IsTrue other ↔ IsSomeAnd (named_sci frame name) (λ named. named ≢ sci)) (ap (λ (t : SecTag). t.name) read.0.tag) is_other
+    names_other = subst (λ name. IsTrue other ↔ IsSomeAnd (named_sci frame name) (λ named. named ≢ sci)) (ap (λ (t : SecTag). t.name) read.0.reading.tag) is_other
 
     same_sci : other ≡ false → ¬ OpenFaultHolds frame key sci offset OtherSci
     same_sci same = λ differs. let yes = names_other.1 differs in cc
@@ -47,8 +47,8 @@ module _ (frame key sci : List ℕ) (offset : ℕ) where
     -- else that the parts open to nothing is
     pub first_not_valid : other ≡ false → ((plain : List ℕ) → ¬ OpensTo frame key sci offset parts plain) → IsFirst (OpenFaultHolds frame key sci offset) open_faults NotValid
     first_not_valid same closed =
-        let wrong : OpenFaultHolds frame key sci offset NotValid = λ plain verified.
-        closed plain (subst (λ p. OpensTo frame key sci offset p plain) (one_reading frame verified.parts parts verified.tag read.0) verified.opens) in
+        let wrong : OpenFaultHolds frame key sci offset NotValid = λ plain found.
+        closed plain ((verified_by_its_parts frame key sci offset parts plain read.0 read.1).0 found) in
         first-behind (OpenFaultHolds frame key sci offset) TagRefused tag_faults later_faults NotValid (no_tag_fault frame parts read)
         (inr (same_sci same, inl (wrong, refl)))
 

@@ -18,11 +18,11 @@ module _ (frame key sci : List ℕ) (offset : ℕ) (parts : Parts) (clear : ℕ)
   pub opened_in_place : (start : ℕ) (out : List ℕ) → take start out ≡ take 12 frame ++ slice_range frame parts.start clear
       → seal key iv (take clear frame) (drop start out) ≡ (slice_range frame clear parts.end, icv) → OpensTo frame key sci offset parts out
   opened_in_place start out front sealed = record {
-    hidden = drop start out;
+    plaintext = drop start out;
     sealed = rw (← p.extra_is, ← p.hidden_is, ← p.iv_is, ← p.icv_is) sealed;
-    given = rw (← p.clear_is, ← front) (sym (take-append-drop start out));
+    plain_is = rw (← p.clear_is, ← front) (sym (take-append-drop start out));
   }
 
   -- and parts that open to a plain frame open
   pub opens_in_place : (plain : List ℕ) → OpensTo frame key sci offset parts plain → Opens key iv (take clear frame) (slice_range frame clear parts.end) icv
-  opens_in_place plain opens = (opens.hidden, rw (p.extra_is, p.hidden_is, p.iv_is, p.icv_is) opens.sealed)
+  opens_in_place plain opens = (opens.plaintext, rw (p.extra_is, p.hidden_is, p.iv_is, p.icv_is) opens.sealed)

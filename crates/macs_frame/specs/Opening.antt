@@ -22,24 +22,27 @@ hidden_of encrypted offset octets = if encrypted then drop offset octets else []
 abbrev pub iv_of : List ℕ → ℕ → List ℕ
 iv_of sci number = sci ++ to_be_bytes w32 number
 
+-- the Secure Data: the octets between the SecTAG and the ICV (9.10)
 abbrev pub secure_data : List ℕ → Parts → List ℕ
 secure_data frame parts = slice_range frame parts.start parts.end
 
+-- the ICV: the 16 octets behind Secure Data (9.11)
 abbrev pub icv_of : List ℕ → Parts → List ℕ
 icv_of frame parts = slice_range frame parts.end (parts.end + 16)
 
--- the addresses, the SecTAG and the Secure Data in the clear
+-- what is authenticated and not encrypted: the addresses, the SecTAG and the Secure Data in the clear (14.5)
 abbrev pub extra_of : List ℕ → ℕ → Parts → List ℕ
 extra_of frame offset parts =
     take parts.start frame ++ clear_of parts.tag.encrypted offset (secure_data frame parts)
 
 -- Under the key, the SCI and the offset these parts of the frame open to the plain frame: its User Data are the octets in
--- the clear and then hidden ones, and what the hidden ones are sealed to is the encrypted Secure Data and the ICV.
+-- the clear and then the plaintext, and what the plaintext is sealed to is the encrypted Secure Data and the ICV.
 pub record OpensTo (frame key sci : List ℕ) (offset : ℕ) (parts : Parts) (plain : List ℕ) : Type 0 where
-  pub hidden : List ℕ
-  pub sealed : seal key (iv_of sci parts.tag.pn) (extra_of frame offset parts) hidden
+  pub plaintext : List ℕ
+  pub sealed : seal key (iv_of sci parts.tag.pn) (extra_of frame offset parts) plaintext
       ≡ (hidden_of parts.tag.encrypted offset (secure_data frame parts), icv_of frame parts)
-  pub given : plain ≡ take 12 frame ++ clear_of parts.tag.encrypted offset (secure_data frame parts) ++ hidden
+  pub plain_is : plain
+      ≡ take 12 frame ++ clear_of parts.tag.encrypted offset (secure_data frame parts) ++ plaintext
 
 -- the frame is verified as this plain frame
 pub record Verified (frame key sci : List ℕ) (offset : ℕ) (plain : List ℕ) : Type 0 where
@@ -58,7 +61,8 @@ named_sci frame Implicit = None
 
 abbrev pub OpenFaultHolds : (frame key sci : List ℕ) → ℕ → OpenFault → Type 0
 OpenFaultHolds frame key sci offset (TagRefused fault) = TagFaultHolds frame fault
-OpenFaultHolds frame key sci offset OtherSci = IsSomeAnd (named_sci frame (name_of frame)) (λ named. named ≢ sci)
+OpenFaultHolds frame key sci offset OtherSci =
+    IsSomeAnd (named_sci frame (name_of frame)) (λ named. named ≢ sci)
 OpenFaultHolds frame key sci offset NotValid = (plain : List ℕ) → ¬ Verified frame key sci offset plain
 
 -- in the order in which they are looked for

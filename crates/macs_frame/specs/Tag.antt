@@ -19,27 +19,27 @@ IsTagged frame = (slice_index frame 12 ≡ 0x88) × (slice_index frame 13 ≡ 0x
 abbrev pub control : List ℕ → ℕ
 control frame = slice_index frame 14
 
--- the bit of an octet that has this value
+-- whether an octet has the bit of this value
 abbrev pub has_bit : ℕ → ℕ → Bool
 has_bit octet mask = not (bit_and octet mask == 0)
 
-abbrev pub version : List ℕ → Bool
-version frame = has_bit (control frame) 0x80
+abbrev pub version : ℕ → Bool
+version octet = has_bit octet 0x80
 
-abbrev pub end_station : List ℕ → Bool
-end_station frame = has_bit (control frame) 0x40
+abbrev pub end_station : ℕ → Bool
+end_station octet = has_bit octet 0x40
 
-abbrev pub has_sci : List ℕ → Bool
-has_sci frame = has_bit (control frame) 0x20
+abbrev pub has_sci : ℕ → Bool
+has_sci octet = has_bit octet 0x20
 
-abbrev pub single_copy_broadcast : List ℕ → Bool
-single_copy_broadcast frame = has_bit (control frame) 0x10
+abbrev pub single_copy_broadcast : ℕ → Bool
+single_copy_broadcast octet = has_bit octet 0x10
 
-abbrev pub encrypted : List ℕ → Bool
-encrypted frame = has_bit (control frame) 0x08
+abbrev pub encrypted : ℕ → Bool
+encrypted octet = has_bit octet 0x08
 
-abbrev pub changed : List ℕ → Bool
-changed frame = has_bit (control frame) 0x04
+abbrev pub changed : ℕ → Bool
+changed octet = has_bit octet 0x04
 
 -- octet 4: SL, the length of short Secure Data, under two bits that are 0 (9.7)
 abbrev pub short_length : List ℕ → ℕ
@@ -55,12 +55,13 @@ sci_of frame = slice_range frame 20 28
 
 -- the SecTAG has 16 octets with an SCI, else 8 (9.3)
 abbrev pub start_of : List ℕ → ℕ
-start_of frame = if has_sci frame then 28 else 20
+start_of frame = if has_sci (control frame) then 28 else 20
 
 -- ---- where Secure Data end
 
--- A frame of so many octets, with Secure Data from start on, agrees with SL: where SL is 0 there are 48 octets of Secure
--- Data or more in front of the ICV; else SL octets and the ICV end the frame, or the padding to 60 octets follows them.
+-- A frame of so many octets, with Secure Data from start on, agrees with SL (9.7, 9.12): where SL is 0 there are 48 octets
+-- of Secure Data or more in front of the ICV; else SL octets and the ICV end the frame, or the padding to 60 octets follows
+-- them. That padding, and an SL of 48 to 63, are this profile's own.
 abbrev pub Agrees : ℕ → ℕ → ℕ → Type 0
 Agrees octets start short =
     ((short ≡ 0) × (start + 48 + 16 ≤ octets))
@@ -76,41 +77,52 @@ end_of frame = end_at (length frame) (start_of frame) (short_length frame)
 -- ---- what the tag says
 
 abbrev pub name_of : List ℕ → ScName
-name_of frame = if has_sci frame then Explicit (sci_of frame) else if end_station frame then EndStation else Implicit
+name_of frame =
+    if has_sci (control frame) then Explicit (sci_of frame)
+    else if end_station (control frame) then EndStation
+    else Implicit
 
 abbrev pub tag_of : List ℕ → SecTag
 tag_of frame = record {
   an = control frame % 4;
   pn = number_of frame;
   name = name_of frame;
-  encrypted = encrypted frame;
-  changed = changed frame;
+  encrypted = encrypted (control frame);
+  changed = changed (control frame);
 }
 
--- no rule is broken: the tag is whole, V and SCB are clear, SC and ES are not both set, the upper bits of octet 4 are clear,
--- the PN is not 0, and the frame's length agrees with SL
+-- octet 3 breaks no rule (9.12): V and SCB are clear, and SC and ES are not both set
+pub record IsGoodControl (octet : ℕ) : Type 0 where
+  pub version_clear : version octet ≡ false
+  pub single_copy_clear : single_copy_broadcast octet ≡ false
+  pub one_name : has_sci octet && end_station octet ≡ false
+
+-- no rule of PDU validation is broken (9.12; that SCB is always clear is this profile's own): the tag is whole, octet 3
+-- breaks no rule, the upper bits of octet 4 are clear, the PN is not 0, and the frame's length agrees with SL
 pub record IsGoodTag (frame : List ℕ) : Type 0 where
   pub whole : start_of frame ≤ length frame
-  pub version_clear : version frame ≡ false
-  pub single_copy_clear : single_copy_broadcast frame ≡ false
-  pub one_name : has_sci frame && end_station frame ≡ false
+  pub good_control : IsGoodControl (control frame)
   pub reserved_clear : short_length frame < 64
   pub numbered : number_of frame ≢ 0
   pub agrees : Agrees (length frame) (start_of frame) (short_length frame)
+
+-- the frame's tag is good, and these are the frame's parts
+pub record IsReading (frame : List ℕ) (parts : Parts) : Type 0 where
+  pub good : IsGoodTag frame
+  pub tag : parts.tag ≡ tag_of frame
+  pub start : parts.start ≡ start_of frame
+  pub end : parts.end ≡ end_of frame
 
 -- a frame of 14 to 9,216 octets has a tag that is not bad, and these are its parts
 pub record Tag (frame : List ℕ) (parts : Parts) : Type 0 where
   pub long_enough : 14 ≤ length frame
   pub short_enough : length frame ≤ 9216
   pub tagged : IsTagged frame
-  pub good : IsGoodTag frame
-  pub tag : parts.tag ≡ tag_of frame
-  pub start : parts.start ≡ start_of frame
-  pub end : parts.end ≡ end_of frame
+  pub reading : IsReading frame parts
 
 -- E without C: the frame is for the key agreement entity alone (9.5)
 abbrev pub IsForKay : List ℕ → Type 0
-IsForKay frame = (encrypted frame ≡ true) × (changed frame ≡ false)
+IsForKay frame = (encrypted (control frame) ≡ true) × (changed (control frame) ≡ false)
 
 -- ---- faults
 

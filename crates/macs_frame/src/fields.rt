@@ -7,7 +7,7 @@ use std::marker::Model;
 
 /// A secure channel identifier: the 6 octets of a MAC address, then 2 of a port (9.9).
 #[derive(Debug, Clone, Copy, PartialEq, Eq)]
-pub struct Sci([u8; 8]);
+pub struct Sci(pub [u8; 8]);
 
 impl Model for Sci {
     ghost Value = { List ℕ };
@@ -18,18 +18,12 @@ impl Model for Sci {
 }
 
 impl Sci {
-    /// The channel of these 8 octets.
-    pub fn new(octets: [u8; 8]) -> Sci
-        ensures { result ≡ octets }
-    {
-        Sci(octets)
-    }
-
     /// Its 8 octets.
     pub fn get(self) -> [u8; 8]
         ensures { result ≡ self }
     {
-        self.0
+        let Sci(octets) = self;
+        octets
     }
 }
 
@@ -61,7 +55,8 @@ impl An {
         ensures value { result ≡ self }
         ensures range { result < 4 }
     {
-        self.0
+        let An(number) = self;
+        number
     }
 }
 
@@ -94,7 +89,8 @@ impl Pn {
         ensures above { 0 < result }
         ensures below { result < 2 ^ 32 }
     {
-        self.0
+        let Pn(packet_number) = self;
+        packet_number
     }
 }
 

@@ -11,13 +11,13 @@ ghost use Rattle.macs_frame.specs.Tag.{Tag, tag_of};
 
 use crate::fields::{An, Offset, Pn, Sci};
 use crate::reading::read_tag;
-use crate::tag::{FrameBuf, Parts, ScName, TagFault};
+use crate::tag::{ADDRESS_OCTETS, FrameBuf, ICV_OCTETS, Parts, ScName, TagFault};
 use macs_gcm::{GcmKey, open};
 
 /// Why a frame is not opened, in the order in which the faults are looked for.
 #[derive(Debug, Clone, Copy, PartialEq, Eq)]
 pub enum OpenFault {
-    /// The frame has no parts that are for this endpoint.
+    /// The SecTAG has a fault.
     Tag(TagFault),
     /// The SecTAG names another SCI: it spells one out, or names the source address with port 00-01.
     OtherSci,
@@ -45,12 +45,12 @@ fn iv_of(sci: Sci, number: Pn) -> [u8; 12]
 }
 
 /// The ICV, whose 16 octets begin at `end`.
-fn icv_at(frame: &[u8], end: usize) -> [u8; 16]
+fn icv_at(frame: &[u8], end: usize) -> [u8; ICV_OCTETS]
     requires { end + 16 ≤ length frame.now }
     ensures { result ≡ slice_range frame.now end (end + 16) }
 {
-    let mut icv = [0; 16];
-    icv.copy_from_slice(&frame[end..end + 16]);
+    let mut icv = [0; ICV_OCTETS];
+    icv.copy_from_slice(&frame[end..end + ICV_OCTETS]);
     icv
 }
 
@@ -61,8 +61,10 @@ fn clear_end(frame: &[u8], parts: &Parts, offset: Offset) -> usize
     ensures low { parts.now.start ≤ result }
     ensures high { result ≤ parts.now.end }
     ensures extra { take result frame.now ≡ extra_of frame.now (octets_of offset) parts.now }
-    ensures clear { slice_range frame.now parts.now.start result ≡ clear_of parts.now.tag.encrypted (octets_of offset) (secure_data frame.now parts.now) }
-    ensures hidden { slice_range frame.now result parts.now.end ≡ hidden_of parts.now.tag.encrypted (octets_of offset) (secure_data frame.now parts.now) }
+    ensures clear { slice_range frame.now parts.now.start result
+        ≡ clear_of parts.now.tag.encrypted (octets_of offset) (secure_data frame.now parts.now) }
+    ensures hidden { slice_range frame.now result parts.now.end
+        ≡ hidden_of parts.now.tag.encrypted (octets_of offset) (secure_data frame.now parts.now) }
 {
     if parts.tag.encrypted {
         parts.end.min(parts.start + offset.get() as usize)
@@ -86,20 +88,22 @@ fn open_from(
     extra: &[u8],
     octets: &mut [u8],
     start: usize,
-    icv: &[u8; 16],
+    icv: &[u8; ICV_OCTETS],
 ) -> bool
     requires start { start ≤ length octets.old }
     requires extra { length extra.now < 2 ^ 32 }
     requires octets { length octets.old < 2 ^ 32 }
     ensures exactly { IsTrue result ↔ Opens key.now iv.now extra.now (drop start octets.old) icv.now }
-    ensures opened { OnTrue result (seal key.now iv.now extra.now (drop start octets.new) ≡ (drop start octets.old, icv.now)) }
+    ensures opened { OnTrue result
+        (seal key.now iv.now extra.now (drop start octets.new) ≡ (drop start octets.old, icv.now)) }
     ensures front { take start octets.new ≡ take start octets.old }
 {
     open(key, iv, extra, &mut octets[start..], icv)
 }
 
-/// Opens the Secure Data and the ICV of a frame whose parts are given, and writes its plain frame to
-/// `out`. The answer is whether they open under this key, SCI and offset; if not, `out` is empty.
+/// Opens the Secure Data and the ICV of a frame, and writes its plain frame to `out`. The parts are a
+/// reading of this frame, as `read_tag` answers. The answer is whether they open under this key, SCI
+/// and offset; if not, `out` is empty.
 pub fn open_parts(
     key: &GcmKey,
     sci: Sci,
@@ -109,13 +113,15 @@ pub fn open_parts(
     out: &mut FrameBuf,
 ) -> bool
     requires { Tag frame.now parts.now }
-    ensures exactly { IsTrue result ↔ ((plain : List ℕ) × OpensTo frame.now key.now sci (octets_of offset) parts.now plain) }
-    ensures opened { OnTrue result (OpensTo frame.now key.now sci (octets_of offset) parts.now out.new.items) }
+    ensures exactly { IsTrue result
+        ↔ ((plain : List ℕ) × OpensTo frame.now key.now sci (octets_of offset) parts.now plain) }
+    ensures opened { OnTrue result
+        (OpensTo frame.now key.now sci (octets_of offset) parts.now out.new.items) }
     ensures empty { OnFalse result (out.new.items ≡ []) }
 {
     let clear = clear_end(frame, parts, offset);
     out.clear();
-    append(out, &frame[..12]);
+    append(out, &frame[..ADDRESS_OCTETS]);
     append(out, &frame[parts.start..clear]);
     let start = out.len();
     append(out, &frame[clear..parts.end]);
@@ -148,7 +154,7 @@ fn end_station_sci(frame: &[u8]) -> Sci
     let mut address = [0; 6];
     address.copy_from_slice(&frame[6..12]);
     let [a, b, c, d, e, f] = address;
-    Sci::new([a, b, c, d, e, f, 0, 1])
+    Sci([a, b, c, d, e, f, 0, 1])
 }
 
 /// Whether a SecTAG names an SCI, and it is another one.
@@ -169,8 +175,10 @@ pub fn open_frame(
     out: &mut FrameBuf,
 ) -> Result<(An, Pn), OpenFault>
     ensures opened { OnOk result (Verified frame.now key.now sci (octets_of offset) out.new.items) }
-    ensures numbers { IfOk result (λ found. (found.0 ≡ (tag_of frame.now).an) × (found.1 ≡ (tag_of frame.now).pn)) }
-    ensures fault { (fault : OpenFault) → (result ≡ Err fault) ↔ IsFirst (OpenFaultHolds frame.now key.now sci (octets_of offset)) open_faults fault }
+    ensures numbers { IfOk result
+        (λ found. (found.0 ≡ (tag_of frame.now).an) × (found.1 ≡ (tag_of frame.now).pn)) }
+    ensures fault { (fault : OpenFault) → (result ≡ Err fault)
+        ↔ IsFirst (OpenFaultHolds frame.now key.now sci (octets_of offset)) open_faults fault }
     ensures empty { OnErr result (out.new.items ≡ []) }
 {
     out.clear();

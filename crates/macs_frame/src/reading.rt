@@ -1,11 +1,11 @@
 //! Reading a SecTAG (IEEE Std 802.1AE-2018, clause 9).
 
-ghost use Rattle.std.specs.Prelude.{◌≡◌, ◌<◌, ◌≤◌, ◌+◌, ◌↔◌, ◌&&◌, ℕ, false, length, IsTrue, MatchOption};
+ghost use Rattle.std.specs.Prelude.{◌≡◌, ◌<◌, ◌≤◌, ◌+◌, ◌↔◌, ℕ, length, IsTrue, MatchOption};
 ghost use Rattle.macs_frame.specs.First.{IsFirst};
-ghost use Rattle.macs_frame.specs.Tag.{Agrees, IsForKay, IsGoodTag, Tag, TagFaultHolds, end_at, end_of, has_bit, name_of, number_of, sci_of, start_of, tag_faults, tag_of};
+ghost use Rattle.macs_frame.specs.Tag.{Agrees, IsForKay, IsGoodControl, IsGoodTag, IsReading, Tag, TagFaultHolds, end_at, has_bit, name_of, number_of, sci_of, start_of, tag_faults};
 
 use crate::fields::{An, Pn, Sci};
-use crate::tag::{MAX_FRAME, MIN_FRAME, Parts, ScName, SecTag, TagFault};
+use crate::tag::{ICV_OCTETS, MAX_FRAME, MIN_FRAME, Parts, ScName, SecTag, TagFault};
 
 // Octet 3 of the SecTAG: V, ES, SC, SCB, E and C (9.5).
 
@@ -20,6 +20,12 @@ const SINGLE_COPY_BROADCAST: u8 = 0x10;
 const ENCRYPTED: u8 = 0x08;
 
 const CHANGED: u8 = 0x04;
+
+/// The shortest Secure Data whose length SL may leave out, in octets (9.7).
+const MIN_LONG_DATA: usize = 48;
+
+/// A frame that is padded, in octets.
+const PADDED_FRAME: usize = 60;
 
 /// Whether the bit with this value is set.
 fn is_set(octet: u8, mask: u8) -> bool
@@ -45,7 +51,7 @@ fn sci_of(frame: &[u8]) -> Sci
 {
     let mut octets = [0; 8];
     octets.copy_from_slice(&frame[20..28]);
-    Sci::new(octets)
+    Sci(octets)
 }
 
 /// Where Secure Data that start at `start` end in a frame of `len` octets, by SL: `None` where SL
@@ -53,26 +59,27 @@ fn sci_of(frame: &[u8]) -> Sci
 fn data_end(len: usize, start: usize, short_length: u8) -> Option<usize>
     requires start { start ≤ 28 }
     requires short { short_length < 64 }
-    ensures { MatchOption result (¬ Agrees len start short_length) (λ end. Agrees len start short_length × (end ≡ end_at len start short_length)) }
+    ensures { MatchOption result (¬ Agrees len start short_length)
+        (λ end. Agrees len start short_length × (end ≡ end_at len start short_length)) }
 {
     if short_length == 0 {
-        return if start + 48 + 16 <= len {
-            Some(len - 16)
+        return if start + MIN_LONG_DATA + ICV_OCTETS <= len {
+            Some(len - ICV_OCTETS)
         } else {
             None
         };
     }
     let end = start + short_length as usize;
-    if len == end + 16 || (len == 60 && end + 16 < 60) {
+    if len == end + ICV_OCTETS || (len == PADDED_FRAME && end + ICV_OCTETS < PADDED_FRAME) {
         Some(end)
     } else {
         None
     }
 }
 
-/// Whether octet 3 breaks no rule: V and SCB are clear, and SC and ES are not both set (9.5).
+/// Whether octet 3 breaks no rule: V and SCB are clear, and SC and ES are not both set (9.12).
 fn is_good_control(control: u8) -> bool
-    ensures { IsTrue result ↔ ((has_bit control 0x80 ≡ false) × (has_bit control 0x10 ≡ false) × (has_bit control 0x20 && has_bit control 0x40 ≡ false)) }
+    ensures { IsTrue result ↔ IsGoodControl control }
 {
     let is_named_twice = is_set(control, SCI_PRESENT) && is_set(control, END_STATION);
     !is_set(control, VERSION) && !is_set(control, SINGLE_COPY_BROADCAST) && !is_named_twice
@@ -96,7 +103,7 @@ fn name_of(frame: &[u8]) -> ScName
 /// The parts of a tagged frame, `None` where its tag is bad.
 fn parts_of(frame: &[u8]) -> Option<Parts>
     requires { 14 ≤ length frame.now }
-    ensures { MatchOption result (¬ IsGoodTag frame.now) (λ parts. IsGoodTag frame.now × (parts.tag ≡ tag_of frame.now) × (parts.start ≡ start_of frame.now) × (parts.end ≡ end_of frame.now)) }
+    ensures { MatchOption result (¬ IsGoodTag frame.now) (IsReading frame.now) }
 {
     if frame.len() < 20 {
         return None;
@@ -118,10 +125,12 @@ fn parts_of(frame: &[u8]) -> Option<Parts>
     Some(Parts { tag, start, end })
 }
 
-/// The parts of a protected frame, or the first fault.
+/// The parts of a protected frame of any number of octets, or the first fault in the order of
+/// `TagFault`.
 pub fn read_tag(frame: &[u8]) -> Result<Parts, TagFault>
     ensures parts { (parts : Parts) → (result ≡ Ok parts) ↔ (Tag frame.now parts × (¬ IsForKay frame.now)) }
-    ensures fault { (fault : TagFault) → (result ≡ Err fault) ↔ IsFirst (TagFaultHolds frame.now) tag_faults fault }
+    ensures fault { (fault : TagFault)
+        → (result ≡ Err fault) ↔ IsFirst (TagFaultHolds frame.now) tag_faults fault }
 {
     if frame.len() < MIN_FRAME {
         return Err(TagFault::Runt);

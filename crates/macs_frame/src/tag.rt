@@ -9,8 +9,14 @@ pub const MIN_FRAME: usize = 14;
 /// The longest frame, in octets.
 pub const MAX_FRAME: usize = 9216;
 
+/// The two addresses that a frame begins with, in octets.
+pub(crate) const ADDRESS_OCTETS: usize = 12;
+
+/// An ICV, in octets.
+pub(crate) const ICV_OCTETS: usize = 16;
+
 /// A frame of at most 9,216 octets.
-pub type FrameBuf = ArrayVec<u8, 9216>;
+pub type FrameBuf = ArrayVec<u8, MAX_FRAME>;
 
 /// How a SecTAG names its secure channel (IEEE Std 802.1AE-2018, 9.5 and 9.9).
 #[derive(Debug, Clone, Copy, PartialEq, Eq)]
@@ -42,8 +48,7 @@ pub struct Parts {
     pub end: usize,
 }
 
-/// Why a frame has no parts that are for this endpoint, in the order in which the faults are looked
-/// for.
+/// What is wrong with a frame or its SecTAG, in the order in which the faults are looked for.
 #[derive(Debug, Clone, Copy, PartialEq, Eq)]
 pub enum TagFault {
     /// The frame has fewer than 14 octets.
@@ -52,7 +57,7 @@ pub enum TagFault {
     Oversize,
     /// The EtherType is not 88-E5.
     NoTag,
-    /// The SecTAG breaks a rule of clause 9.
+    /// The SecTAG breaks a rule of 9.12, or has SCB set.
     BadTag,
     /// E is set and C clear: the frame is for the key agreement entity (9.5).
     ForKay,

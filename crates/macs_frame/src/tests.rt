@@ -1,6 +1,8 @@
 //! Frames of outside origin: IEEE Std 802.1AE-2018, Annex C, and Python's `cryptography`.
 
-use crate::{An, FrameBuf, Offset, OpenFault, Pn, ScName, Sci, TagFault, open_frame, read_tag};
+use crate::{
+    An, FrameBuf, Offset, OpenFault, Pn, ScName, Sci, TagFault, open_frame, open_parts, read_tag,
+};
 use macs_gcm::GcmKey;
 use std::process::Abort;
 use std::test::Fail;
@@ -93,15 +95,16 @@ const FIFTY: Case = Case {
 \x08\x00\x0f\x10\x11\x12\x13\x14\x15\x16\x17\x18\x19\x1a\x1b\x1c\x1d\x1e\x1f\x20\x21\x22\x23\x24\x25\x26\x27\x28\x29\x2a\x2b\x2c\x2d\x2e\x2f\x30\x31\x32\x33\x34\x00\x04",
 };
 
-/// By Python's `cryptography`: a channel that is not named, and padding to 60 octets.
+/// By Python's `cryptography`: a channel that is not named, of another address than the frame's
+/// source, and padding to 60 octets.
 const PADDED: Case = Case {
     key: 0x071b113b0ca743fecccf3d051f737382,
-    sci: 0xf0761e8dcd3d0001,
+    sci: 0x12153524c0895e81,
     offset: Offset::Zero,
     frame: b"\xe2\x01\x06\xd7\xcd\x0d\xf0\x76\x1e\x8d\xcd\x3d\
 \x88\xe5\x0d\x02\x00\x00\x00\x01\
-\xe4\xf1\
-\xb3\x43\xbf\x18\xf8\x6c\x70\xfc\x1a\x3b\xb7\x7d\x43\x5b\x43\x53\
+\x4e\x24\
+\xae\xf2\xa9\x53\x0b\xae\x26\x3d\xa4\x75\xd3\xab\x17\xe4\xbb\x27\
 \x00\x00\x00\x00\x00\x00\x00\x00\x00\x00\x00\x00\x00\x00\x00\x00\x00\x00\x00\x00\x00\x00",
     association: 1,
     number: 1,
@@ -112,7 +115,7 @@ const PADDED: Case = Case {
 /// Opens a frame under a case's key, SCI and offset.
 fn open_under(case: &Case, frame: &[u8], out: &mut FrameBuf) -> Result<(An, Pn), OpenFault> {
     let key = GcmKey::new(&case.key.to_be_bytes());
-    let sci = Sci::new(case.sci.to_be_bytes());
+    let sci = Sci(case.sci.to_be_bytes());
     open_frame(&key, sci, case.offset, frame, out)
 }
 
@@ -135,6 +138,39 @@ fn opens_frames(rt: HostRuntime) -> Result<(), Fail> {
     Ok(())
 }
 
+/// With E clear and C set the whole frame is in the clear, and the offset says nothing. The ICV is
+/// by Python's `cryptography`.
+#[test]
+fn opens_changed_octets(rt: HostRuntime) -> Result<(), Fail> {
+    let mut frame = FrameBuf::new();
+    frame.try_extend_from_slice(&INTEGRITY.frame[..70])?;
+    frame.try_extend_from_slice(
+        b"\x38\xe4\x0d\x0d\x4f\x5c\x59\xe3\x5c\x4d\x88\x43\x9b\x77\xd4\xf3",
+    )?;
+    assert_eq!(rt; frame.len(), 86);
+    frame[14] = 0x26;
+    let mut case = INTEGRITY;
+    case.offset = Offset::Fifty;
+    let mut out = FrameBuf::new();
+    let (an, pn) = open_under(&case, frame.as_slice(), &mut out)?;
+    assert_eq!(rt; (an.get(), pn.get()), (case.association, case.number));
+    assert_eq!(rt; out.as_slice(), case.plain);
+    Ok(())
+}
+
+#[test]
+fn opens_parts(rt: HostRuntime) -> Result<(), Fail> {
+    let key = GcmKey::new(&THIRTY.key.to_be_bytes());
+    let sci = Sci(THIRTY.sci.to_be_bytes());
+    let parts = read_tag(THIRTY.frame)?;
+    assert_eq!(rt; parts.tag.name, ScName::Explicit(sci));
+    let mut out = FrameBuf::new();
+    out.push(0);
+    assert!(rt; open_parts(&key, sci, THIRTY.offset, THIRTY.frame, &parts, &mut out));
+    assert_eq!(rt; out.as_slice(), THIRTY.plain);
+    Ok(())
+}
+
 /// Opens a frame that has this fault, with an octet in the buffer that has to go.
 fn expect_fault(rt: &impl Abort, case: &Case, frame: &[u8], fault: OpenFault) {
     let mut out = FrameBuf::new();
@@ -153,11 +189,14 @@ fn refuses_frames(rt: HostRuntime) -> Result<(), Fail> {
     other_sci.sci ^= 1;
     let mut other_station = END_STATION;
     other_station.sci ^= 3;
+    let mut other_channel = PADDED;
+    other_channel.sci = END_STATION.sci;
     let mut other_key = INTEGRITY;
     other_key.key ^= 1;
     expect_fault(&rt, &other_sci, INTEGRITY.frame, OpenFault::OtherSci);
     expect_fault(&rt, &other_sci, changed.as_slice(), OpenFault::OtherSci);
     expect_fault(&rt, &other_station, END_STATION.frame, OpenFault::OtherSci);
+    expect_fault(&rt, &other_channel, PADDED.frame, OpenFault::NotValid);
     expect_fault(&rt, &INTEGRITY, changed.as_slice(), OpenFault::NotValid);
     expect_fault(&rt, &other_key, INTEGRITY.frame, OpenFault::NotValid);
     let cut = OpenFault::Tag(TagFault::BadTag);
@@ -171,7 +210,7 @@ fn reads_a_tag(rt: HostRuntime) -> Result<(), Fail> {
     assert_eq!(rt; (parts.start, parts.end), (28, 70));
     let tag = parts.tag;
     assert_eq!(rt; (tag.an.get(), tag.pn.get()), (2, 0xb2c28465));
-    let sci = Sci::new(INTEGRITY.sci.to_be_bytes());
+    let sci = Sci(INTEGRITY.sci.to_be_bytes());
     assert_eq!(rt; tag.name, ScName::Explicit(sci));
     assert_eq!(rt; (tag.encrypted, tag.changed), (false, false));
     Ok(())
@@ -185,6 +224,8 @@ fn refuses_tags(rt: HostRuntime) -> Result<(), Fail> {
         (14, 0x32, TagFault::BadTag),
         (14, 0x2a, TagFault::ForKay),
         (15, 0x40, TagFault::BadTag),
+        (15, 0x80, TagFault::BadTag),
+        (12, 0x89, TagFault::NoTag),
         (13, 0xe6, TagFault::NoTag),
     ];
     for (place, octet, fault) in edits {
@@ -218,11 +259,14 @@ fn takes_lengths(rt: HostRuntime) -> Result<(), Fail> {
     let cases = [
         (0x00, 92, 76),
         (0x00, 9216, 9200),
+        (0x30, 92, 76),
         (0x32, 94, 78),
+        (0x3f, 107, 91),
+        (0x0f, 60, 43),
         (0x02, 46, 30),
         (0x02, 60, 30),
     ];
-    let sci = Sci::new(INTEGRITY.sci.to_be_bytes());
+    let sci = Sci(INTEGRITY.sci.to_be_bytes());
     for (short_length, octets, end) in cases {
         let frame = tagged(short_length, 1, octets)?;
         let parts = read_tag(frame.as_slice())?;
@@ -238,7 +282,15 @@ fn takes_lengths(rt: HostRuntime) -> Result<(), Fail> {
 
 #[test]
 fn refuses_lengths(rt: HostRuntime) -> Result<(), Fail> {
-    let cases = [(0x00, 1, 91), (0x02, 1, 59), (0x02, 1, 61), (0x02, 0, 60)];
+    let cases = [
+        (0x00, 1, 91),
+        (0x02, 1, 59),
+        (0x02, 1, 61),
+        (0x02, 0, 60),
+        (0x32, 1, 93),
+        (0x32, 1, 95),
+        (0x3f, 1, 60),
+    ];
     for (short_length, number, octets) in cases {
         let frame = tagged(short_length, number, octets)?;
         let found = read_tag(frame.as_slice());
@@ -251,6 +303,38 @@ fn refuses_lengths(rt: HostRuntime) -> Result<(), Fail> {
     assert_eq!(rt; read_tag(&INTEGRITY.frame[..13]), Err(TagFault::Runt));
     assert_eq!(rt; read_tag(&INTEGRITY.frame[..14]), Err(TagFault::BadTag));
     assert_eq!(rt; read_tag(&[0; 9217]), Err(TagFault::Oversize));
+    Ok(())
+}
+
+/// A frame of so many octets under a published frame's tag without SCI, with SL 0.
+fn without_sci(octets: usize) -> Result<FrameBuf, Fail> {
+    let mut frame = FrameBuf::new();
+    frame.try_extend_from_slice(&END_STATION.frame[..15])?;
+    frame.try_extend_from_slice(&[0, 0, 0, 0, 1])?;
+    for _ in frame.len()..octets {
+        frame.try_push(0)?;
+    }
+    Ok(frame)
+}
+
+#[test]
+fn reads_a_short_tag(rt: HostRuntime) -> Result<(), Fail> {
+    let parts = read_tag(without_sci(84)?.as_slice())?;
+    assert_eq!(rt; (parts.start, parts.end), (20, 68));
+    assert_eq!(rt; parts.tag.name, ScName::EndStation);
+    assert_eq!(rt;
+        read_tag(without_sci(83)?.as_slice()),
+        Err(TagFault::BadTag)
+    );
+    Ok(())
+}
+
+#[test]
+fn refuses_a_bad_tag_first(rt: HostRuntime) -> Result<(), Fail> {
+    let mut frame = tagged(0x02, 0, 60)?;
+    assert_eq!(rt; frame.len(), 60);
+    frame[14] = 0x2a;
+    assert_eq!(rt; read_tag(frame.as_slice()), Err(TagFault::BadTag));
     Ok(())
 }
 

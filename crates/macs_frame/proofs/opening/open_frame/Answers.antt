@@ -38,7 +38,7 @@ returns-clause-opened c =
 
 pub returns-clause-numbers : goal.returns-clause-numbers
 returns-clause-numbers c =
-    let tag = ((c.in_ok-parts.ensures.parts c.in_ok-parts.parts).0 refl).0.tag in
+    let tag = ((c.in_ok-parts.ensures.parts c.in_ok-parts.parts).0 refl).0.reading.tag in
     (ap (λ (t : SecTag). t.an) tag, ap (λ (t : SecTag). t.pn) tag)
 
 pub returns-clause-fault : goal.returns-clause-fault

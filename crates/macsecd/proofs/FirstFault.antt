@@ -1,0 +1,19 @@
+-- First faults.
+use Rattle.std.proofs.Common.{◌≡◌, ◌↔◌, Result, Err, List, [], ◌∷◌, inl, inr, refl}
+use Rattle.macs_frame.specs.First.{IsFirst, NoneHolds}
+
+-- where nothing is the first that holds, none holds
+pub nothing_first : {R : Type 0} (Holds : R → Type 0) (order : List R) → ((fault : R) → ¬ IsFirst Holds order fault) → NoneHolds Holds order
+nothing_first Holds [] h = tt
+nothing_first Holds (r ∷ rs) h =
+    let out : ¬ Holds r = λ held. h r (inl (held, refl)) in
+    (out, nothing_first Holds rs (λ fault first. h fault (inr (out, first))))
+
+-- an error that is handed on in another result
+pub handed_on : {R S T : Type 0} (Holds : R → Type 0) (order : List R) (before : Result S R) (after : Result T R) (error : R)
+    → before ≡ Err error → after ≡ Err error → ((fault : R) → (before ≡ Err fault) ↔ IsFirst Holds order fault)
+    → (fault : R) → (after ≡ Err fault) ↔ IsFirst Holds order fault
+handed_on Holds order before after error was is exactly fault = (
+  λ same. let e : before ≡ Err fault = cc in (exactly fault).0 e,
+  λ first. let e = (exactly fault).1 first in cc,
+)

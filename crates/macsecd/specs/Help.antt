@@ -1,0 +1,9 @@
+-- What is printed where help is asked for.
+use Rattle.std.specs.Prelude.{ℕ, List}
+use Rattle.macsecd.specs.declared.help.Topic.{Topic}
+use Rattle.macsecd.specs.declared.help.Topic.TheVariants.{Help, Version}
+use Rattle.macsecd.specs.declared.help.TheConstants.{HELP, VERSION}
+
+abbrev pub topic_text : Topic → List ℕ
+topic_text Help = HELP.now
+topic_text Version = VERSION.now

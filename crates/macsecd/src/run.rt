@@ -1,0 +1,129 @@
+//! The program over its words, a reader and two writers.
+
+ghost use Rattle.std.specs.Prelude.{◌≡◌, ◌≢◌, ◌⊎◌, ◌++◌, ◌∷◌, ℕ, List, [], true, take, IfErr, IfOk, IfSome, OnOk, string_bytes};
+ghost use Rattle.std.specs.Io.KnownBytes.{Appends};
+ghost use Rattle.clap.specs.Words.{takes};
+ghost use Rattle.macsecd.specs.Answer.{answer_text};
+ghost use Rattle.macsecd.specs.Run.{Prints, Replies, code_of, failure_status};
+ghost use Rattle.macsecd.specs.Words.{macsecd, texts};
+
+use crate::action::{Action, action_of};
+use crate::answer::{Answer, answer_of};
+use crate::failure::Failure;
+use crate::help::topic_of;
+use crate::request::InputFault;
+use crate::status::Status;
+use arrayvec::ArrayVec;
+use std::alloc::{AllocError, Allocator, Global};
+use std::io;
+use std::io::{Read, Write};
+
+/// One octet more than the longest input that is taken.
+const MAX_READ: usize = 20_001;
+
+/// An input as it was read, to its end or to one octet more than it may have.
+type InputText = ArrayVec<u8, MAX_READ>;
+
+/// Reads an input, as far as it can be of use.
+fn read_input<R: Read>(input: &mut R) -> Result<InputText, Failure>
+    ensures read { IfOk result (λ text. IfSome (R.remaining input.old)
+        (λ octets. text.items ≡ take MAX_READ octets)) }
+    ensures failed { IfErr result (λ failure. failure ≡ Failure.Input InputFault.Input) }
+{
+    let mut text = InputText::new();
+    match io::copy(&mut input.take(MAX_READ as u64), &mut text) {
+        Ok(_) => Ok(text),
+        Err(_) => Err(Failure::Input(InputFault::Input)),
+    }
+}
+
+/// The line that `open` prints, with its line feed.
+pub fn line_of<A: Allocator>(alloc: A, answer: &Answer) -> Result<String<A>, AllocError>
+    ensures { IfOk result (λ line. string_bytes line ≡ answer_text answer.now ++ 10 ∷ []) }
+{
+    format!(in alloc; "{answer}\n")
+}
+
+/// Writes a text to standard output, whole.
+fn print<W: Write>(out: &mut W, text: &str) -> Result<(), Failure>
+    ensures printed { OnOk result (Appends (W.contents out.old) (W.contents out.new) text.now) }
+    ensures failed { IfErr result (λ failure. failure ≡ Failure.Output) }
+{
+    if out.write_all(text.as_bytes()).is_err() || out.flush().is_err() {
+        return Err(Failure::Output);
+    }
+    Ok(())
+}
+
+/// `open`: reads an input, and prints the answer to it.
+fn open_input<R: Read, W: Write>(
+    alloc: Global,
+    input: &mut R,
+    out: &mut W,
+) -> Result<Status, Failure>
+    ensures printed { IfOk result (λ status. IfSome (R.remaining input.old)
+        (λ octets. Prints octets (W.contents out.old) (W.contents out.new) status)) }
+    ensures status { IfOk result (λ status. status ≢ Status.Usage) }
+    ensures failed { IfErr result (λ failure. failure_status failure ≡ Status.Fault) }
+{
+    let text = read_input(input)?;
+    let answer = answer_of(text.as_slice())?;
+    print(out, line_of(alloc, &answer)?.as_str())?;
+    Ok(answer.status())
+}
+
+/// Does what the words ask for.
+fn act<R: Read, W: Write>(
+    alloc: Global,
+    words: &[&str],
+    input: &mut R,
+    out: &mut W,
+) -> Result<Status, Failure>
+    ensures replied { IfOk result (Replies (texts words.now) (R.remaining input.old)
+        (W.contents out.old) (W.contents out.new)) }
+    ensures status { IfOk result (λ status. status ≢ Status.Usage) }
+    ensures usage { IfErr result (λ failure. failure_status failure ≡ Status.Usage
+        → (takes macsecd (texts words.now) ≢ true) × (out.new ≡ out.old)) }
+{
+    if let Some(topic) = topic_of(words) {
+        print(out, topic.text())?;
+        return Ok(Status::Done);
+    }
+    match action_of(alloc, words)? {
+        Action::Open => open_input(alloc, input, out),
+    }
+}
+
+/// Writes what ends a run to standard error as one line, and answers the status of the process.
+pub fn report<E: Write>(failure: &Failure, err: &mut E) -> u8
+    ensures { result ≡ code_of (failure_status failure.now) }
+{
+    let _ = writeln!(err, "macsecd: {}", failure.text());
+    failure.status().code()
+}
+
+/// Runs the program: the words without the program's own name, standard input, standard output and
+/// standard error. It answers the status of the process.
+pub fn run<R: Read, W: Write, E: Write>(
+    alloc: Global,
+    words: &[&str],
+    input: &mut R,
+    out: &mut W,
+    err: &mut E,
+) -> u8
+    // The status is one of 0, 2, 3 and 5.
+    ensures status { (status : Status) × (result ≡ code_of status) }
+    // At 0 and 3 the help or the answer to the input is written to standard output.
+    ensures replied { (result ≡ 0) ⊎ (result ≡ 3) → (status : Status) × (result ≡ code_of status)
+        × Replies (texts words.now) (R.remaining input.old)
+        (W.contents out.old) (W.contents out.new) status }
+    // And nothing on standard error.
+    ensures quiet { (result ≡ 0) ⊎ (result ≡ 3) → err.new ≡ err.old }
+    // At 2 the words are none that are taken, and nothing is printed.
+    ensures usage { result ≡ 2 → (takes macsecd (texts words.now) ≢ true) × (out.new ≡ out.old) }
+{
+    match act(alloc, words, input, out) {
+        Ok(status) => status.code(),
+        Err(failure) => report(&failure, err),
+    }
+}

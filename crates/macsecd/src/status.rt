@@ -1,0 +1,31 @@
+//! How the program ends.
+
+/// How a run ends, and the status of the process.
+#[derive(Debug, Clone, Copy, PartialEq, Eq)]
+pub enum Status {
+    /// It is done: 0.
+    Done,
+    /// The words are none that the program knows: 2.
+    Usage,
+    /// The frame is refused: 3.
+    Refused,
+    /// The input, the output or memory failed: 5.
+    Fault,
+}
+
+impl Status {
+    ghost use Rattle.std.specs.Prelude.{◌≡◌};
+    ghost use Rattle.macsecd.specs.Run.{code_of};
+
+    /// The status of the process.
+    pub fn code(self) -> u8
+        ensures { result ≡ code_of self }
+    {
+        match self {
+            Status::Done => 0,
+            Status::Usage => 2,
+            Status::Refused => 3,
+            Status::Fault => 5,
+        }
+    }
+}
