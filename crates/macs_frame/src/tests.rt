@@ -287,6 +287,8 @@ fn refuses_lengths(rt: HostRuntime) -> Result<(), Fail> {
         (0x02, 1, 59),
         (0x02, 1, 61),
         (0x02, 0, 60),
+        (0x2a, 0, 86),
+        (0x2a, 1, 85),
         (0x32, 1, 93),
         (0x32, 1, 95),
         (0x3f, 1, 60),
