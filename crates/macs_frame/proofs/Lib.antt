@@ -1,6 +1,9 @@
 pub mod FirstRefusal
 pub mod ClearEnd
 pub mod Readings
+pub mod Protection
 pub mod OpenedInPlace
+pub mod SealedInPlace
+pub mod WrittenTag
 pub mod OpenFaults
 pub mod Decisions

@@ -6,7 +6,7 @@ ghost use Rattle.std.specs.Prelude.{◌≡◌, ℕ, ◌<◌, ◌^◌, ◌↔◌,
 use std::marker::Model;
 
 /// A secure channel identifier: the 6 octets of a MAC address, then 2 of a port (9.9).
-#[derive(Debug, Clone, Copy, PartialEq, Eq)]
+#[derive(Debug, Default, Clone, Copy, PartialEq, Eq)]
 pub struct Sci(pub [u8; 8]);
 
 impl Model for Sci {

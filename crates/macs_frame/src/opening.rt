@@ -2,15 +2,15 @@
 
 ghost use Rattle.std.specs.Prelude.{◌≡◌, ◌≢◌, ◌<◌, ◌≤◌, ◌+◌, ◌^◌, ◌++◌, ◌↔◌, List, ℕ, [], ◌∷◌, length, take, drop, slice_range, IsTrue, IfOk, IsSomeAnd, OnOk, OnErr};
 ghost use Rattle.std.specs.Bool.{OnFalse, OnTrue};
-ghost use Rattle.arrayvec.specs.ArrayVec.{array_vec_len};
 ghost use Rattle.macs_gcm.specs.Gcm.{Opens, seal};
 ghost use Rattle.macs_frame.specs.Fields.{octets_of};
 ghost use Rattle.macs_frame.specs.First.{IsFirst};
-ghost use Rattle.macs_frame.specs.Opening.{OpenFaultHolds, OpensTo, Verified, clear_of, extra_of, hidden_of, icv_of, iv_of, named_sci, open_faults, secure_data};
+ghost use Rattle.macs_frame.specs.Opening.{OpenFaultHolds, OpensTo, Verified, named_sci, open_faults};
 ghost use Rattle.macs_frame.specs.Tag.{Tag, tag_of};
 
 use crate::fields::{An, Offset, Pn, Sci};
 use crate::reading::read_tag;
+use crate::shared::{append, clear_end, iv_of};
 use crate::tag::{ADDRESS_OCTETS, FrameBuf, ICV_OCTETS, Parts, ScName, TagFault};
 use macs_gcm::{GcmKey, open};
 
@@ -35,15 +35,6 @@ impl From<TagFault> for OpenFault {
     }
 }
 
-/// The initialisation vector of a frame (14.5).
-fn iv_of(sci: Sci, number: Pn) -> [u8; 12]
-    ensures { result ≡ iv_of sci number }
-{
-    let [a, b, c, d, e, f, g, h] = sci.get();
-    let [i, j, k, l] = number.get().to_be_bytes();
-    [a, b, c, d, e, f, g, h, i, j, k, l]
-}
-
 /// The ICV, whose 16 octets begin at `end`.
 fn icv_at(frame: &[u8], end: usize) -> [u8; ICV_OCTETS]
     requires { end + 16 ≤ length frame.now }
@@ -52,33 +43,6 @@ fn icv_at(frame: &[u8], end: usize) -> [u8; ICV_OCTETS]
     let mut icv = [0; ICV_OCTETS];
     icv.copy_from_slice(&frame[end..end + ICV_OCTETS]);
     icv
-}
-
-/// Where the octets of a frame end that are authenticated in the clear; encrypted ones follow, up to
-/// the end of Secure Data.
-fn clear_end(frame: &[u8], parts: &Parts, offset: Offset) -> usize
-    requires { Tag frame.now parts.now }
-    ensures low { parts.now.start ≤ result }
-    ensures high { result ≤ parts.now.end }
-    ensures extra { take result frame.now ≡ extra_of frame.now (octets_of offset) parts.now }
-    ensures clear { slice_range frame.now parts.now.start result
-        ≡ clear_of parts.now.tag.encrypted (octets_of offset) (secure_data frame.now parts.now) }
-    ensures hidden { slice_range frame.now result parts.now.end
-        ≡ hidden_of parts.now.tag.encrypted (octets_of offset) (secure_data frame.now parts.now) }
-{
-    if parts.tag.encrypted {
-        parts.end.min(parts.start + offset.get() as usize)
-    } else {
-        parts.end
-    }
-}
-
-/// Appends octets for which there is room.
-fn append(out: &mut FrameBuf, octets: &[u8])
-    requires { array_vec_len out.old + length octets.now ≤ 9216 }
-    ensures { out.new.items ≡ out.old.items ++ octets.now }
-{
-    out.try_extend_from_slice(octets).unwrap();
 }
 
 /// Opens the octets from `start` on in place, and leaves those in front of it.
@@ -119,7 +83,7 @@ pub fn open_parts(
         (OpensTo frame.now key.now sci (octets_of offset) parts.now out.new.items) }
     ensures empty { OnFalse result (out.new.items ≡ []) }
 {
-    let clear = clear_end(frame, parts, offset);
+    let clear = clear_end(&parts.tag, offset, parts.start, parts.end);
     out.clear();
     append(out, &frame[..ADDRESS_OCTETS]);
     append(out, &frame[parts.start..clear]);

@@ -1,6 +1,6 @@
 //! Reading a SecTAG (IEEE Std 802.1AE-2018, clause 9).
 
-ghost use Rattle.std.specs.Prelude.{◌≡◌, ◌<◌, ◌≤◌, ◌+◌, ◌↔◌, ℕ, length, IsTrue, MatchOption};
+ghost use Rattle.std.specs.Prelude.{◌≡◌, ◌<◌, ◌≤◌, ◌+◌, ◌↔◌, length, IsTrue, MatchOption};
 ghost use Rattle.macs_frame.specs.First.{IsFirst};
 ghost use Rattle.macs_frame.specs.Tag.{Agrees, IsForKay, IsGoodControl, IsGoodTag, IsReading, Tag, TagFaultHolds, end_at, has_bit, name_of, number_of, sci_of, start_of, tag_faults};
 
@@ -11,18 +11,18 @@ use crate::tag::{ICV_OCTETS, MAX_FRAME, MIN_FRAME, Parts, ScName, SecTag, TagFau
 
 const VERSION: u8 = 0x80;
 
-const END_STATION: u8 = 0x40;
+pub(crate) const END_STATION: u8 = 0x40;
 
-const SCI_PRESENT: u8 = 0x20;
+pub(crate) const SCI_PRESENT: u8 = 0x20;
 
 const SINGLE_COPY_BROADCAST: u8 = 0x10;
 
-const ENCRYPTED: u8 = 0x08;
+pub(crate) const ENCRYPTED: u8 = 0x08;
 
-const CHANGED: u8 = 0x04;
+pub(crate) const CHANGED: u8 = 0x04;
 
 /// The shortest Secure Data whose length SL may leave out, in octets (9.7).
-const MIN_LONG_DATA: usize = 48;
+pub(crate) const MIN_LONG_DATA: usize = 48;
 
 /// A frame that is padded, in octets.
 const PADDED_FRAME: usize = 60;

@@ -29,6 +29,22 @@ pub enum ScName {
     Implicit,
 }
 
+impl ScName {
+    ghost use Rattle.std.specs.Prelude.{◌≡◌};
+    ghost use Rattle.macs_frame.specs.Protection.{overhead};
+
+    /// By how many octets a frame that is protected under a SecTAG with this name is longer than its
+    /// plain frame: 16 of SecTAG where the SCI is spelled out, else 8, and 16 of ICV (9.3, 9.11).
+    pub fn overhead(self) -> usize
+        ensures { result ≡ overhead self }
+    {
+        match self {
+            ScName::Explicit(_) => 16 + ICV_OCTETS,
+            ScName::EndStation | ScName::Implicit => 8 + ICV_OCTETS,
+        }
+    }
+}
+
 /// What a SecTAG says. `encrypted` is its E bit and `changed` its C bit (9.5).
 #[derive(Debug, Clone, Copy, PartialEq, Eq)]
 pub struct SecTag {

@@ -1,5 +1,8 @@
 //! Frames of outside origin: IEEE Std 802.1AE-2018, Annex C, and Python's `cryptography`.
 
+mod sealing;
+mod vectors;
+
 use crate::{
     An, FrameBuf, Offset, OpenFault, Pn, ScName, Sci, TagFault, open_frame, open_parts, read_tag,
 };

@@ -1,7 +1,8 @@
-use Rattle.std.proofs.Common.{◌≡◌, ◌∙◌, ◌≤◌, ◌+◌, ◌++◌, true, ℕ, length, take, drop, slice_range, refl, ap, sym, arith, rules, length-append, length-take, length-drop}
+use Rattle.std.proofs.Common.{◌≡◌, ◌∙◌, ◌≤◌, ◌+◌, ◌++◌, true, ℕ, List, length, take, drop, slice_range, refl, ap, sym, arith, rules, length-append, length-take, length-drop}
 use Rattle.std.proofs.lemmas.List.{take_at, drop_at}
 use Rattle.macs_frame.specs.Fields.{octets_of}
 use Rattle.macs_frame.specs.Opening.{OpensTo}
+use Rattle.macs_frame.proofs.ClearEnd.{take-append-slice_range}
 use Rattle.macs_frame.proofs.OpenedInPlace.{Pieces, opened_in_place, opens_in_place}
 use Rattle.macs_frame.proofs.opening.open_parts.Goals as goal
 use Rattle.macs_frame.proofs.opening.open_parts.Goals.{After-open_from-is_valid}
@@ -27,9 +28,11 @@ append-requires-3 c =
 pieces : (c : After-open_from-is_valid)
     → Pieces c.args.frame.now c.args.sci (octets_of c.args.offset) c.args.parts.now c.clear_end-clear.result c.iv_of-iv.result c.icv_at-icv.result
 pieces c = record {
-  extra_is = c.clear_end-clear.ensures.extra;
-  clear_is = c.clear_end-clear.ensures.clear;
-  hidden_is = c.clear_end-clear.ensures.hidden;
+  extra_is =
+      sym (take-append-slice_range c.args.parts.now.start c.clear_end-clear.result c.args.frame.now c.clear_end-clear.ensures.low)
+      ∙ ap (λ (l : List ℕ). take c.args.parts.now.start c.args.frame.now ++ l) (c.clear_end-clear.ensures.clear c.args.frame.now);
+  clear_is = c.clear_end-clear.ensures.clear c.args.frame.now;
+  hidden_is = c.clear_end-clear.ensures.hidden c.args.frame.now;
   iv_is = c.iv_of-iv.ensures;
   icv_is = c.icv_at-icv.ensures;
 }

@@ -1,0 +1,98 @@
+//! Protecting a plain frame (IEEE Std 802.1AE-2018, 10.5 and 14.5).
+
+ghost use Rattle.std.specs.Prelude.{◌≡◌, ◌<◌, ◌≤◌, ◌+◌, ◌^◌, ◌++◌, length, take, drop};
+ghost use Rattle.arrayvec.specs.ArrayVec.{array_vec_len};
+ghost use Rattle.macs_gcm.specs.Gcm.{seal};
+ghost use Rattle.macs_frame.specs.Fields.{octets_of};
+ghost use Rattle.macs_frame.specs.Protection.{control_octet, overhead, protected, short_of, tag_octets, written_tag};
+
+use crate::fields::{Offset, Sci};
+use crate::reading::{CHANGED, ENCRYPTED, END_STATION, MIN_LONG_DATA, SCI_PRESENT};
+use crate::shared::{append, clear_end, iv_of};
+use crate::tag::{ADDRESS_OCTETS, FrameBuf, ICV_OCTETS, ScName, SecTag};
+use macs_gcm::{GcmKey, seal};
+
+/// Octet 3 of a SecTAG (9.5, 9.6).
+fn control_octet(tag: &SecTag) -> u8
+    ensures { result ≡ control_octet tag.now }
+{
+    let name = match tag.name {
+        ScName::Explicit(_) => SCI_PRESENT,
+        ScName::EndStation => END_STATION,
+        ScName::Implicit => 0,
+    };
+    let encrypted = if tag.encrypted { ENCRYPTED } else { 0 };
+    let changed = if tag.changed { CHANGED } else { 0 };
+    name + encrypted + changed + tag.an.get()
+}
+
+/// SL for so many octets of Secure Data (9.7).
+fn short_of(secure_len: usize) -> u8
+    ensures { result ≡ short_of secure_len }
+{
+    if secure_len < MIN_LONG_DATA {
+        secure_len as u8
+    } else {
+        0
+    }
+}
+
+/// Appends a SecTAG, 16 octets where it spells an SCI out and else 8, in front of `secure_len` octets
+/// of Secure Data (9.3): SL is their number where it is below 48, else 0 (9.7). There is room for 16
+/// octets.
+pub fn write_tag(tag: &SecTag, secure_len: usize, out: &mut FrameBuf)
+    requires { array_vec_len out.old + 16 ≤ 9216 }
+    ensures written { out.new.items ≡ out.old.items ++ written_tag tag.now secure_len }
+    ensures length { array_vec_len out.new ≡ array_vec_len out.old + tag_octets tag.now.name }
+{
+    let octets = [0x88, 0xE5, control_octet(tag), short_of(secure_len)];
+    append(out, &octets);
+    append(out, &tag.pn.get().to_be_bytes());
+    if let ScName::Explicit(sci) = tag.name {
+        append(out, &sci.get());
+    }
+}
+
+/// Seals the octets from `start` on in place, with those in front of it as additional data, and
+/// answers the ICV.
+fn seal_from(key: &GcmKey, iv: &[u8; 12], octets: &mut [u8], start: usize) -> [u8; ICV_OCTETS]
+    requires start { start ≤ length octets.old }
+    requires octets { length octets.old < 2 ^ 32 }
+    ensures sealed { (drop start octets.new, result)
+        ≡ seal key.now iv.now (take start octets.old) (drop start octets.old) }
+    ensures front { take start octets.new ≡ take start octets.old }
+{
+    let (extra, text) = octets.split_at_mut(start);
+    seal(key, iv, extra, text)
+}
+
+/// Protects a plain frame of 14 octets or more under a key, and writes the protected frame to `out`
+/// in place of what stood there. The tag names the association, the packet number and the channel,
+/// and its `encrypted` is its `changed`: with both set User Data are encrypted from `offset` on, else
+/// all of them stay in the clear. `sci` is the transmit channel's, which enters the initialisation
+/// vector (14.5). The protected frame has at most 9,216 octets: it is 32 octets longer than the plain
+/// one where the tag spells an SCI out, else 24.
+pub fn seal_frame(
+    key: &GcmKey,
+    sci: Sci,
+    tag: &SecTag,
+    offset: Offset,
+    plain: &[u8],
+    out: &mut FrameBuf,
+)
+    requires long_enough { 14 ≤ length plain.now }
+    requires fits { length plain.now + overhead tag.now.name ≤ 9216 }
+    requires alike { tag.now.encrypted ≡ tag.now.changed }
+    ensures { out.new.items ≡ protected key.now sci tag.now (octets_of offset) plain.now }
+{
+    let clear = clear_end(tag, offset, ADDRESS_OCTETS, plain.len());
+    out.clear();
+    append(out, &plain[..ADDRESS_OCTETS]);
+    write_tag(tag, plain.len() - ADDRESS_OCTETS, out);
+    append(out, &plain[ADDRESS_OCTETS..clear]);
+    let start = out.len();
+    append(out, &plain[clear..]);
+    let iv = iv_of(sci, tag.pn);
+    let icv = seal_from(key, &iv, out.as_mut_slice(), start);
+    append(out, &icv);
+}
