@@ -1,0 +1,9 @@
+pub mod OffsetChoice
+pub mod StoredChannels
+pub mod Channels
+pub mod Spent
+pub mod Tables
+pub mod Sides
+pub mod Kept
+pub mod Replayed
+pub mod Refused

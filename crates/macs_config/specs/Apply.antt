@@ -1,0 +1,162 @@
+-- What a command makes of the configuration, and why one is refused.
+use Rattle.std.specs.Prelude.{◌≡◌, ◌<◌, ◌⊎◌, ◌^◌, ℕ, if◌then◌else◌, ◌==◌, nat_le, Bool, true, false, not, ◌&&◌, ◌||◌, List, [], ◌∷◌, ◌++◌, length, Option, Some, None, is_none, is_some, Result, Ok, Err}
+use Rattle.std.specs.List.{filter}
+use Rattle.std.specs.Str.{bytes_eq}
+use Rattle.macs_frame.specs.First.{first}
+use Rattle.macs_frame.specs.declared.fields.Offset.{Offset}
+use Rattle.macs_frame.specs.declared.fields.Offset.TheVariants.{Zero, Thirty, Fifty}
+use Rattle.macs_config.specs.Association.{is_end_station, protection_of}
+use Rattle.macs_config.specs.Config.{Edition, Config, has_channel, is_spent, max_spent, put_among, rx_fingerprint, tx_fingerprint}
+use Rattle.macs_config.specs.Identity.{Identity, is_port_one}
+use Rattle.macs_config.specs.Tables.{put, put_at}
+use Rattle.macs_config.specs.declared.command.Command.{Command}
+use Rattle.macs_config.specs.declared.command.Command.TheVariants.{SetValidate, SetReplay, SetSciMode, TxInstall, TxUse, TxRemove, RxAdd, RxDrop, RxInstall, RxRemove}
+use Rattle.macs_config.specs.declared.refusal.Refusal.{Refusal}
+use Rattle.macs_config.specs.declared.refusal.Refusal.TheVariants.{StartRange, OffsetChoice, OwnSci, EndStationSci, NoChannel, ChannelTaken, ChannelsFull, SlotTaken, SlotEmpty, InUse, KeySpent, SpentFull}
+
+-- ---- ranges
+
+-- a key has 16 octets, or 32 where the edition takes those
+abbrev pub IsKey : Edition → List ℕ → Type 0
+IsKey edition key = (length key ≡ 16) ⊎ ((edition.long_keys ≡ true) × (length key ≡ 32))
+
+-- the fields of a command are in the ranges that their types keep
+abbrev pub IsCommand : Edition → Command → Type 0
+IsCommand edition (SetValidate validate) = Unit {0}
+IsCommand edition (SetReplay on window) = window < 2 ^ 32
+IsCommand edition (SetSciMode mode) = Unit {0}
+IsCommand edition (TxInstall an key start confidential offset) =
+    (an < 4) × IsKey edition key × (start < 2 ^ 32) × (offset < 256)
+IsCommand edition (TxUse an) = an < 4
+IsCommand edition (TxRemove an) = an < 4
+IsCommand edition (RxAdd sci) = length sci ≡ 8
+IsCommand edition (RxDrop sci) = length sci ≡ 8
+IsCommand edition (RxInstall sci an key start offset) =
+    (length sci ≡ 8) × (an < 4) × IsKey edition key × (start < 2 ^ 32) × (offset < 256)
+IsCommand edition (RxRemove sci an) = (length sci ≡ 8) × (an < 4)
+
+-- ---- the tests of the refusals, each on every command
+
+abbrev pub start_range : Command → Bool
+start_range (TxInstall an key start confidential offset) = start == 0
+start_range (RxInstall sci an key start offset) = start == 0
+start_range command = false
+
+-- the confidentiality offset of so many octets
+abbrev pub offset_at : ℕ → Option Offset
+offset_at octets =
+    if octets == 0 then Some Zero else if octets == 30 then Some Thirty else if octets == 50 then Some Fifty else None
+
+abbrev pub offset_choice : Command → Bool
+offset_choice (TxInstall an key start confidential offset) =
+    is_none (offset_at offset) || (not confidential && not (offset == 0))
+offset_choice (RxInstall sci an key start offset) = is_none (offset_at offset)
+offset_choice command = false
+
+abbrev pub own_sci : Identity → Command → Bool
+own_sci identity (RxAdd sci) = bytes_eq sci identity.sci
+own_sci identity command = false
+
+abbrev pub end_station_sci : Identity → Command → Bool
+end_station_sci identity (SetSciMode mode) = is_end_station mode && not (is_port_one identity.sci)
+end_station_sci identity command = false
+
+abbrev pub no_channel : Config → Command → Bool
+no_channel c (RxDrop sci) = not (has_channel c sci)
+no_channel c (RxInstall sci an key start offset) = not (has_channel c sci)
+no_channel c (RxRemove sci an) = not (has_channel c sci)
+no_channel c command = false
+
+abbrev pub channel_taken : Config → Command → Bool
+channel_taken c (RxAdd sci) = has_channel c sci
+channel_taken c command = false
+
+abbrev pub channels_full : Edition → Config → Command → Bool
+channels_full edition c (RxAdd sci) = nat_le edition.channels (length c.channels)
+channels_full edition c command = false
+
+abbrev pub slot_taken : Config → Command → Bool
+slot_taken c (TxInstall an key start confidential offset) = is_some (c.tx an)
+slot_taken c (RxInstall sci an key start offset) = is_some (c.rx sci an)
+slot_taken c command = false
+
+abbrev pub slot_empty : Config → Command → Bool
+slot_empty c (TxUse an) = is_none (c.tx an)
+slot_empty c (TxRemove an) = is_none (c.tx an)
+slot_empty c (RxRemove sci an) = is_none (c.rx sci an)
+slot_empty c command = false
+
+abbrev pub is_encoding : Option ℕ → ℕ → Bool
+is_encoding None an = false
+is_encoding (Some encoding) an = encoding == an
+
+abbrev pub in_use : Config → Command → Bool
+in_use c (TxRemove an) = is_encoding c.encoding an
+in_use c command = false
+
+abbrev pub key_spent : Config → Command → Bool
+key_spent c (TxInstall an key start confidential offset) = is_spent c.spent_tx (tx_fingerprint key)
+key_spent c (RxInstall sci an key start offset) = is_spent c.spent_rx (rx_fingerprint sci key)
+key_spent c command = false
+
+abbrev pub spent_full : Config → Command → Bool
+spent_full c (TxInstall an key start confidential offset) = nat_le max_spent (length c.spent_tx)
+spent_full c (RxInstall sci an key start offset) = nat_le max_spent (length c.spent_rx)
+spent_full c command = false
+
+-- every refusal with its test, in the order in which they are looked for
+abbrev pub refusals : Edition → Identity → Config → Command → List (Refusal × Bool)
+refusals edition identity c command =
+    (StartRange, start_range command)
+    ∷ (OffsetChoice, offset_choice command)
+    ∷ (OwnSci, own_sci identity command)
+    ∷ (EndStationSci, end_station_sci identity command)
+    ∷ (NoChannel, no_channel c command)
+    ∷ (ChannelTaken, channel_taken c command)
+    ∷ (ChannelsFull, channels_full edition c command)
+    ∷ (SlotTaken, slot_taken c command)
+    ∷ (SlotEmpty, slot_empty c command)
+    ∷ (InUse, in_use c command)
+    ∷ (KeySpent, key_spent c command)
+    ∷ (SpentFull, spent_full c command)
+    ∷ []
+
+abbrev pub refusal_of : Edition → Identity → Config → Command → Option Refusal
+refusal_of edition identity c command = first (refusals edition identity c command)
+
+-- ---- effects
+
+-- the offset of a command that is not refused
+abbrev pub chosen : Option Offset → Offset
+chosen None = Zero
+chosen (Some offset) = offset
+
+-- what a command that is not refused makes of the configuration
+abbrev pub changed : Config → Command → Config
+changed c (SetValidate validate) = record c { validate = validate }
+changed c (SetReplay on window) = record c { replay = record { on = on; window = window } }
+changed c (SetSciMode mode) = record c { mode = mode }
+changed c (TxInstall an key start confidential offset) = record c {
+  tx = put c.tx an (Some (record { key = key; protection = protection_of confidential (chosen (offset_at offset)) }));
+  spent_tx = c.spent_tx ++ tx_fingerprint key ∷ [];
+}
+changed c (TxUse an) = record c { encoding = Some an }
+changed c (TxRemove an) = record c { tx = put c.tx an None }
+changed c (RxAdd sci) = record c { channels = put_among sci c.channels }
+changed c (RxDrop sci) = record c {
+  channels = filter (λ other. not (bytes_eq other sci)) c.channels;
+  rx = put_at c.rx sci (λ an. None);
+}
+changed c (RxInstall sci an key start offset) = record c {
+  rx = put_at c.rx sci (put (c.rx sci) an (Some (record { key = key; offset = chosen (offset_at offset) })));
+  spent_rx = c.spent_rx ++ rx_fingerprint sci key ∷ [];
+}
+changed c (RxRemove sci an) = record c { rx = put_at c.rx sci (put (c.rx sci) an None) }
+
+abbrev pub unless : Option Refusal → Config → Result Config Refusal
+unless None c = Ok c
+unless (Some refusal) c = Err refusal
+
+-- the configuration after a command, or the first refusal that holds
+abbrev pub apply : Edition → Identity → Config → Command → Result Config Refusal
+apply edition identity c command = unless (refusal_of edition identity c command) (changed c command)

@@ -1,0 +1,117 @@
+-- The configuration of a MAC Security Entity.
+use Rattle.std.specs.Prelude.{◌≡◌, ◌≤◌, ◌<◌, ℕ, Bool, true, false, ◌&&◌, not, if◌then◌else◌, List, [], ◌∷◌, ◌++◌, length, Option, Some, None, IsSome, IfSome}
+use Rattle.std.specs.List.{list_any}
+use Rattle.std.specs.Str.{bytes_eq}
+use Rattle.std.specs.Cmp.Lexicographic.{slice_cmp}
+use Rattle.std.specs.Ordering.{is_lt, nat_cmp}
+use Rattle.sha2.specs.Sha256.{sha256}
+use Rattle.macs_config.specs.Identity.{Identity, is_port_one}
+use Rattle.macs_config.specs.declared.association.TxSa.{TxSa}
+use Rattle.macs_config.specs.declared.association.RxSa.{RxSa}
+use Rattle.macs_config.specs.declared.command.Validate.{Validate}
+use Rattle.macs_config.specs.declared.command.Validate.TheVariants.{Strict}
+use Rattle.macs_config.specs.declared.command.Replay.{Replay}
+use Rattle.macs_config.specs.declared.command.SciMode.{SciMode}
+use Rattle.macs_config.specs.declared.command.SciMode.TheVariants.{Explicit, EndStation}
+use Rattle.macs_config.specs.declared.command.Role.{Role}
+use Rattle.macs_config.specs.declared.command.Role.TheVariants.{Transmit, Receive}
+
+-- what an edition of the product takes: how many receive channels, and whether keys of 32 octets beside those of 16
+pub record Edition : Type 0 where
+  pub channels : ℕ
+  pub long_keys : Bool
+
+abbrev pub first_edition : Edition
+first_edition = record { channels = 8; long_keys = false }
+
+-- how many keys may be spent on a side
+abbrev pub max_spent : ℕ
+max_spent = 512
+
+-- Associations by their numbers, receive associations by SCI and number; the receive channels as their SCIs, ascending; the
+-- fingerprints of spent keys in the order of installing. It holds no start, next number or ceiling.
+pub record Config : Type 0 where
+  pub validate : Validate
+  pub replay : Replay
+  pub mode : SciMode
+  pub encoding : Option ℕ
+  pub tx : ℕ → Option TxSa
+  pub channels : List (List ℕ)
+  pub rx : List ℕ → ℕ → Option RxSa
+  pub spent_tx : List (List ℕ)
+  pub spent_rx : List (List ℕ)
+
+-- what an endpoint is formatted with
+abbrev pub default : Config
+default = record {
+  validate = Strict;
+  replay = record { on = true; window = 0 };
+  mode = Explicit;
+  encoding = None;
+  tx = λ an. None;
+  channels = [];
+  rx = λ sci an. None;
+  spent_tx = [];
+  spent_rx = [];
+}
+
+-- ---- channels
+
+abbrev pub is_among : List (List ℕ) → List ℕ → Bool
+is_among items item = list_any (λ other. bytes_eq other item) items
+
+abbrev pub has_channel : Config → List ℕ → Bool
+has_channel c sci = is_among c.channels sci
+
+-- an SCI comes before another one: by the first octet in which they differ, as numbers of 64 bits do
+abbrev pub comes_before : List ℕ → List ℕ → Bool
+comes_before a b = is_lt (slice_cmp nat_cmp a b)
+
+-- an SCI put among those that ascend
+abbrev pub put_among : List ℕ → List (List ℕ) → List (List ℕ)
+put_among sci [] = sci ∷ []
+put_among sci (other ∷ others) =
+    if comes_before sci other then sci ∷ other ∷ others else other ∷ put_among sci others
+
+abbrev pub is_ascending : List (List ℕ) → Bool
+is_ascending [] = true
+is_ascending (sci ∷ []) = true
+is_ascending (sci ∷ next ∷ others) = comes_before sci next && is_ascending (next ∷ others)
+
+-- ---- spent keys
+
+-- what stands for a key on the transmit side, and for a key under an SCI on the receive side
+abbrev pub tx_fingerprint : List ℕ → List ℕ
+tx_fingerprint key = sha256 key
+
+abbrev pub rx_fingerprint : List ℕ → List ℕ → List ℕ
+rx_fingerprint sci key = sha256 (sci ++ key)
+
+abbrev pub is_spent : List (List ℕ) → List ℕ → Bool
+is_spent spent fingerprint = is_among spent fingerprint
+
+abbrev pub spent_of : Role → Config → List (List ℕ)
+spent_of Transmit c = c.spent_tx
+spent_of Receive c = c.spent_rx
+
+-- none comes twice
+abbrev pub are_distinct : List (List ℕ) → Bool
+are_distinct [] = true
+are_distinct (item ∷ items) = not (is_among items item) && are_distinct items
+
+-- ---- what holds of every configuration
+
+-- Associations that stand have keys that are spent. Two of them may have one key: a key is spent for a side and, on the
+-- receive side, for an SCI.
+pub record IsConfig (edition : Edition) (identity : Identity) (c : Config) : Type 0 where
+  pub encoding_stands : IfSome c.encoding (λ an. IsSome (c.tx an))
+  pub end_station : c.mode ≡ EndStation → is_port_one identity.sci ≡ true
+  pub channels_ascend : is_ascending c.channels ≡ true
+  pub channels_fit : length c.channels ≤ edition.channels
+  pub own_sci_free : has_channel c identity.sci ≡ false
+  pub rx_channels : (sci : List ℕ) (an : ℕ) (sa : RxSa) → c.rx sci an ≡ Some sa → has_channel c sci ≡ true
+  pub tx_spent : (an : ℕ) (sa : TxSa) → an < 4 → c.tx an ≡ Some sa → is_spent c.spent_tx (tx_fingerprint sa.key) ≡ true
+  pub rx_spent : (sci : List ℕ) (an : ℕ) (sa : RxSa) → an < 4 → c.rx sci an ≡ Some sa
+      → is_spent c.spent_rx (rx_fingerprint sci sa.key) ≡ true
+  pub spent_once : (role : Role) → are_distinct (spent_of role c) ≡ true
+  pub spent_fit : (role : Role) → length (spent_of role c) ≤ max_spent

@@ -1,0 +1,92 @@
+-- A configuration replayed from the parts of a snapshot of it.
+use Rattle.std.specs.Prelude.{ℕ, ◌+◌, nat_le, nat_lt, Bool, true, false, not, ◌&&◌, if◌then◌else◌, List, [], ◌∷◌, ◌++◌, length, Option, Some, None, is_none, is_some}
+use Rattle.std.specs.Option.{option_map_or}
+use Rattle.std.specs.List.{list_all}
+use Rattle.std.specs.Str.{bytes_eq}
+use Rattle.macs_config.specs.Association.{is_end_station}
+use Rattle.macs_config.specs.Config.{Edition, Config, are_distinct, default, has_channel, is_among, is_spent, max_spent, put_among, rx_fingerprint, spent_of, tx_fingerprint}
+use Rattle.macs_config.specs.Identity.{Identity, is_port_one}
+use Rattle.macs_config.specs.Tables.{put, put_at}
+use Rattle.macs_config.specs.declared.command.Role.TheVariants.{Transmit, Receive}
+use Rattle.macs_config.specs.declared.part.Part.{Part}
+use Rattle.macs_config.specs.declared.part.Part.TheVariants.{Settings, TxSa, Channel, RxSa, Spent}
+
+-- ---- order
+
+-- a part's place in the order of a snapshot
+abbrev pub place_of : Part → ℕ
+place_of (Settings validate replay mode encoding) = 1
+place_of (TxSa an sa) = 2
+place_of (Channel sci) = 3
+place_of (RxSa sci an sa) = 4
+place_of (Spent Transmit fingerprints) = 5
+place_of (Spent Receive fingerprints) = 6
+
+-- no part's place is before this one, or before that of the part in front of it
+abbrev pub are_ordered : ℕ → List Part → Bool
+are_ordered place [] = true
+are_ordered place (part ∷ parts) = nat_le place (place_of part) && are_ordered (place_of part) parts
+
+-- ---- part by part
+
+-- no fingerprint of these is among those before them, or comes twice
+abbrev pub are_new : List (List ℕ) → List (List ℕ) → Bool
+are_new spent fingerprints = are_distinct fingerprints && list_all (λ item. not (is_among spent item)) fingerprints
+
+-- A part may follow what the parts in front of it made: its association or channel does not stand yet; its channel is not
+-- the own SCI and is one of as many as may stand, or stands, for an association; its fingerprints are new and fit.
+abbrev pub may_follow : Edition → Identity → Config → Part → Bool
+may_follow edition identity c (Settings validate replay mode encoding) = false
+may_follow edition identity c (TxSa an sa) = is_none (c.tx an)
+may_follow edition identity c (Channel sci) =
+    not (bytes_eq sci identity.sci) && not (has_channel c sci) && nat_lt (length c.channels) edition.channels
+may_follow edition identity c (RxSa sci an sa) = has_channel c sci && is_none (c.rx sci an)
+may_follow edition identity c (Spent role fingerprints) =
+    are_new (spent_of role c) fingerprints && nat_le (length (spent_of role c) + length fingerprints) max_spent
+
+-- what a part adds
+abbrev pub with_part : Config → Part → Config
+with_part c (Settings validate replay mode encoding) =
+    record c { validate = validate; replay = replay; mode = mode; encoding = encoding }
+with_part c (TxSa an sa) = record c { tx = put c.tx an (Some sa) }
+with_part c (Channel sci) = record c { channels = put_among sci c.channels }
+with_part c (RxSa sci an sa) = record c { rx = put_at c.rx sci (put (c.rx sci) an (Some sa)) }
+with_part c (Spent Transmit fingerprints) = record c { spent_tx = c.spent_tx ++ fingerprints }
+with_part c (Spent Receive fingerprints) = record c { spent_rx = c.spent_rx ++ fingerprints }
+
+abbrev pub with_parts : Edition → Identity → Config → List Part → Option Config
+with_parts edition identity c [] = Some c
+with_parts edition identity c (part ∷ parts) =
+    if may_follow edition identity c part then with_parts edition identity (with_part c part) parts else None
+
+-- ---- the whole
+
+abbrev pub numbers : List ℕ
+numbers = 0 ∷ 1 ∷ 2 ∷ 3 ∷ []
+
+abbrev pub is_tx_spent : Config → ℕ → Bool
+is_tx_spent c an = option_map_or (λ sa. is_spent c.spent_tx (tx_fingerprint sa.key)) (c.tx an) true
+
+abbrev pub is_rx_spent : Config → List ℕ → ℕ → Bool
+is_rx_spent c sci an = option_map_or (λ sa. is_spent c.spent_rx (rx_fingerprint sci sa.key)) (c.rx sci an) true
+
+-- Every installed key is spent, the encoding association stands, and an end station's port is 00-01.
+abbrev pub is_whole : Identity → Config → Bool
+is_whole identity c =
+    list_all (is_tx_spent c) numbers
+    && list_all (λ sci. list_all (is_rx_spent c sci) numbers) c.channels
+    && option_map_or (λ an. is_some (c.tx an)) c.encoding true
+    && not (is_end_station c.mode && not (is_port_one identity.sci))
+
+abbrev pub checked : Identity → Option Config → Option Config
+checked identity None = None
+checked identity (Some c) = if is_whole identity c then Some c else None
+
+-- Settings, once, and then the other parts in the snapshot's order, none of which is refused: the configuration that they
+-- make, where it is whole
+abbrev pub restored : Edition → Identity → List Part → Option Config
+restored edition identity [] = None
+restored edition identity (part ∷ parts) =
+    if nat_le (place_of part) 1 && are_ordered 2 parts
+    then checked identity (with_parts edition identity (with_part default part) parts)
+    else None

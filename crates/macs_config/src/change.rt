@@ -1,0 +1,60 @@
+//! What a command does.
+
+ghost use Rattle.std.specs.Prelude.{◌≡◌, None, Some};
+ghost use Rattle.macs_config.specs.Apply.{changed, chosen, offset_at, refusal_of};
+ghost use Rattle.macs_config.specs.Config.{first_edition};
+ghost use Rattle.macs_config.specs.Identity.{Identity};
+ghost use Rattle.macs_config.specs.Stored.{read};
+ghost use Rattle.macs_config.specs.declared.command.Command.TheVariants.{RxInstall, TxInstall};
+
+use crate::association::{Protection, RxSa, TxSa};
+use crate::command::{Command, Replay};
+use crate::contents::Contents;
+use crate::fingerprint::{rx_fingerprint, tx_fingerprint};
+use macs_frame::{An, Offset, Sci};
+
+/// Does what a command asks for that is not refused.
+pub fn change(contents: &mut Contents, command: &Command)
+    requires { (identity : Identity) × (refusal_of first_edition identity (read contents.old) command.now ≡ None) }
+    ensures { read contents.new ≡ changed (read contents.old) command.now }
+{
+    match *command {
+        Command::SetValidate(validate) => contents.validate = validate,
+        Command::SetReplay { on, window } => contents.replay = Replay { on, window },
+        Command::SetSciMode(mode) => contents.mode = mode,
+        Command::TxInstall {
+            an,
+            key,
+            confidential,
+            offset,
+            ..
+        } => {
+            let protection = Protection::new(confidential, chosen(offset));
+            contents.put_tx(an, Some(TxSa { key, protection }));
+            contents.spend_tx(tx_fingerprint(&key));
+        }
+        Command::TxUse { an } => contents.encoding = Some(an),
+        Command::TxRemove { an } => contents.put_tx(an, None),
+        Command::RxAdd { sci } => contents.add_channel(sci),
+        Command::RxDrop { sci } => contents.drop_channel(sci),
+        Command::RxInstall {
+            sci,
+            an,
+            key,
+            offset,
+            ..
+        } => {
+            let offset = chosen(offset);
+            contents.put_rx(sci, an, Some(RxSa { key, offset }));
+            contents.spend_rx(rx_fingerprint(sci, &key));
+        }
+        Command::RxRemove { sci, an } => contents.put_rx(sci, an, None),
+    }
+}
+
+/// The confidentiality offset of so many octets, in a command that is not refused.
+fn chosen(octets: u8) -> Offset
+    ensures { result ≡ chosen (offset_at octets) }
+{
+    Offset::new(octets).unwrap_or(Offset::Zero)
+}

@@ -1,0 +1,91 @@
+//! What the operator asks for.
+
+use macs_frame::{An, Sci};
+
+/// What is done with a received frame that does not verify (IEEE Std 802.1AE-2018, 10.7.8).
+#[derive(Clone, Copy, Debug, PartialEq, Eq)]
+pub enum Validate {
+    /// It is discarded.
+    Strict,
+    /// It is delivered where its User Data were not changed: C is clear.
+    Check,
+}
+
+/// Whether received packet numbers are checked for replay, and how far below the next expected one
+/// they may lie (10.7.8): `window` is 0 to 2^32 - 1 numbers.
+#[derive(Clone, Copy, Debug, PartialEq, Eq)]
+pub struct Replay {
+    pub on: bool,
+    pub window: u32,
+}
+
+/// How the SecTAG of transmitted frames names the channel (9.5, 9.9).
+#[derive(Clone, Copy, Debug, PartialEq, Eq)]
+pub enum SciMode {
+    /// It spells the SCI out.
+    Explicit,
+    /// It names an end station: the source address with port 00-01.
+    EndStation,
+    /// It leaves the channel to the receiver.
+    Implicit,
+}
+
+/// The side that an association, or a spent key, is on.
+#[derive(Clone, Copy, Debug, PartialEq, Eq)]
+pub enum Role {
+    Transmit,
+    Receive,
+}
+
+/// A command of the operator. `start` is the first packet number of a new association and `offset` its
+/// confidentiality offset in octets: any number is read here, and one that is out of range is refused
+/// when the command is applied.
+#[derive(Clone, Copy, PartialEq, Eq)]
+pub enum Command {
+    /// Sets what is done with frames that do not verify. Never refused.
+    SetValidate(Validate),
+    /// Sets replay protection and its window. Never refused.
+    SetReplay {
+        on: bool,
+        window: u32,
+    },
+    /// Sets how transmitted frames name the channel.
+    SetSciMode(SciMode),
+    /// A new transmit association; its key is spent from then on.
+    TxInstall {
+        an: An,
+        key: [u8; 16],
+        start: u32,
+        confidential: bool,
+        offset: u8,
+    },
+    /// Frames go out under this association from then on.
+    TxUse {
+        an: An,
+    },
+    /// A transmit association goes.
+    TxRemove {
+        an: An,
+    },
+    /// A new receive channel.
+    RxAdd {
+        sci: Sci,
+    },
+    /// A receive channel goes, with its associations.
+    RxDrop {
+        sci: Sci,
+    },
+    /// A new receive association of a channel; its key is spent there from then on.
+    RxInstall {
+        sci: Sci,
+        an: An,
+        key: [u8; 16],
+        start: u32,
+        offset: u8,
+    },
+    /// A receive association goes.
+    RxRemove {
+        sci: Sci,
+        an: An,
+    },
+}

@@ -1,0 +1,210 @@
+//! The configuration.
+
+ghost use Rattle.std.specs.Prelude.{◌≡◌, ◌≤◌, ◌↔◌, length, slice_get, IfSome, Some, Ok, Err, OnOk, OnErr};
+ghost use Rattle.std.specs.Option.{option_map};
+ghost use Rattle.macs_config.specs.Apply.{apply, refusal_of};
+ghost use Rattle.macs_config.specs.Config.{IsConfig, default, first_edition, has_channel, is_spent, rx_fingerprint, spent_of, tx_fingerprint};
+ghost use Rattle.macs_config.specs.Snapshot.{restored};
+ghost use Rattle.macs_config.specs.Stored.{config_of};
+
+use crate::association::{RxSa, TxSa};
+use crate::change::change;
+use crate::check::refusal_of;
+use crate::command::{Command, Replay, Role, SciMode, Validate};
+use crate::contents::{Contents, MAX_CHANNELS};
+use crate::fingerprint::{Fingerprint, is_spent, rx_fingerprint, tx_fingerprint};
+use crate::identity::Identity;
+use crate::part::Part;
+use crate::refusal::Refusal;
+use crate::restore::restored;
+use arrayvec::ArrayVec;
+use macs_frame::{An, Sci};
+use std::marker::Model;
+
+/// The configuration of an endpoint: what its operator has commanded, and which keys are spent. It
+/// holds no packet number.
+#[derive(Drop)]
+pub struct Config {
+    identity: Identity,
+    contents: Contents,
+}
+
+impl Model for Config {
+    ghost use Rattle.macs_config.specs.Stored.{Stored, read};
+    ghost use Rattle.macs_config.specs.Config.{IsConfig, first_edition};
+
+    ghost Value = { Stored };
+
+    ghost view = { λ c. record { identity = c.identity; contents = c.contents } };
+
+    ghost invariant = { λ c. IsConfig first_edition c.identity (read c.contents) };
+}
+
+impl Config {
+    /// What an endpoint is formatted with: strict validation, replay protection with window 0, SCIs
+    /// spelled out, no association and no channel, and no key spent.
+    pub fn new(identity: &Identity) -> Config
+        ensures identity { result.identity ≡ identity.now }
+        ensures default { config_of result ≡ default }
+    {
+        Config {
+            identity: *identity,
+            contents: Contents::new(),
+        }
+    }
+
+    /// The configuration that the parts of a snapshot make up. `None` where they are not in a
+    /// snapshot's order, with settings once; an association, a channel or a fingerprint comes twice;
+    /// a channel is the endpoint's own SCI, or one more than 8; more than 512 keys are spent on a
+    /// side; a receive association has no channel; a key that stands is not spent; the encoding
+    /// association does not stand; or the mode is that of an end station, and the port of the
+    /// endpoint's SCI is not 00-01.
+    pub fn restore(identity: &Identity, parts: &[Part]) -> Option<Config>
+        ensures restored { option_map config_of result ≡ restored first_edition identity.now parts.now }
+        ensures identity { IfSome result (λ config. config.identity ≡ identity.now) }
+    {
+        let contents = restored(identity, parts)?;
+        Some(Config {
+            identity: *identity,
+            contents,
+        })
+    }
+
+    /// Whether a command may be applied, or the first refusal in the order of `Refusal`.
+    pub fn check(&self, command: &Command) -> Result<(), Refusal>
+        ensures { (refusal : Refusal) → (result ≡ Err refusal)
+            ↔ (refusal_of first_edition self.now.identity (config_of self.now) command.now ≡ Some refusal) }
+    {
+        match refusal_of(&self.contents, &self.identity, command) {
+            Some(refusal) => Err(refusal),
+            None => Ok(()),
+        }
+    }
+
+    /// Applies a command. A refusal, the first in the order of `Refusal`, changes nothing.
+    pub fn apply(&mut self, command: &Command) -> Result<(), Refusal>
+        ensures applied { OnOk result
+            (apply first_edition self.old.identity (config_of self.old) command.now ≡ Ok (config_of self.new)) }
+        ensures refused { (refusal : Refusal) → (result ≡ Err refusal)
+            ↔ (apply first_edition self.old.identity (config_of self.old) command.now ≡ Err refusal) }
+        ensures identity { self.new.identity ≡ self.old.identity }
+        ensures same { OnErr result (self.new ≡ self.old) }
+    {
+        self.check(command)?;
+        change(&mut self.contents, command);
+        Ok(())
+    }
+
+    /// What holds of every configuration.
+    pub fn facts(&self)
+        ensures { IsConfig first_edition self.now.identity (config_of self.now) }
+    {
+        let _identity = &self.identity;
+    }
+
+    /// The identity that it was made with.
+    pub fn identity(&self) -> Identity
+        ensures { result ≡ self.now.identity }
+    {
+        self.identity
+    }
+
+    /// What is done with received frames that do not verify.
+    pub fn validate(&self) -> Validate
+        ensures { result ≡ (config_of self.now).validate }
+    {
+        self.contents.validate
+    }
+
+    /// Whether replay protection is on, and its window.
+    pub fn replay(&self) -> Replay
+        ensures { result ≡ (config_of self.now).replay }
+    {
+        self.contents.replay
+    }
+
+    /// How transmitted frames name the channel.
+    pub fn sci_mode(&self) -> SciMode
+        ensures { result ≡ (config_of self.now).mode }
+    {
+        self.contents.mode
+    }
+
+    /// The number of the association that frames go out under.
+    pub fn encoding(&self) -> Option<An>
+        ensures { result ≡ (config_of self.now).encoding }
+    {
+        self.contents.encoding
+    }
+
+    /// A transmit association, `None` where none stands at that number.
+    pub fn tx(&self, an: An) -> Option<TxSa>
+        ensures { result ≡ (config_of self.now).tx an }
+    {
+        self.contents.tx[an.get() as usize]
+    }
+
+    /// Whether a receive channel of that SCI stands.
+    pub fn has_channel(&self, sci: Sci) -> bool
+        ensures { result ≡ has_channel (config_of self.now) sci }
+    {
+        self.contents.has_channel(sci)
+    }
+
+    /// The SCIs of the receive channels, ascending.
+    pub fn channels(&self) -> ArrayVec<Sci, MAX_CHANNELS>
+        ensures { result.items ≡ (config_of self.now).channels }
+    {
+        let mut scis = ArrayVec::new();
+        for channel in self.contents.channels.iter() {
+            scis.push(channel.sci);
+        }
+        scis
+    }
+
+    /// A receive association, `None` where none stands at that number of that channel.
+    pub fn rx(&self, sci: Sci, an: An) -> Option<RxSa>
+        ensures { result ≡ (config_of self.now).rx sci an }
+    {
+        self.contents.rx(sci, an)
+    }
+
+    /// How many keys are spent on the transmit side, at most 512.
+    pub fn spent_tx(&self) -> usize
+        ensures { result ≡ length (config_of self.now).spent_tx }
+    {
+        self.contents.spent_tx.len()
+    }
+
+    /// How many keys are spent on the receive side, at most 512.
+    pub fn spent_rx(&self) -> usize
+        ensures { result ≡ length (config_of self.now).spent_rx }
+    {
+        self.contents.spent_rx.len()
+    }
+
+    /// Whether a key of 16 octets is spent on the transmit side.
+    pub fn is_spent_tx(&self, key: &[u8; 16]) -> bool
+        ensures { result ≡ is_spent (config_of self.now).spent_tx (tx_fingerprint key.now) }
+    {
+        is_spent(self.contents.spent_tx.as_slice(), &tx_fingerprint(key))
+    }
+
+    /// Whether a key of 16 octets is spent for an SCI on the receive side.
+    pub fn is_spent_rx(&self, sci: Sci, key: &[u8; 16]) -> bool
+        ensures { result ≡ is_spent (config_of self.now).spent_rx (rx_fingerprint sci key.now) }
+    {
+        is_spent(self.contents.spent_rx.as_slice(), &rx_fingerprint(sci, key))
+    }
+
+    /// The fingerprint of the key that was spent at this place in the order of installing, counted
+    /// from 0; `None` where fewer are spent on that side.
+    pub fn spent_at(&self, role: Role, at: usize) -> Option<Fingerprint>
+        ensures { result ≡ slice_get (spent_of role (config_of self.now)) at }
+    {
+        match role {
+            Role::Transmit => self.contents.spent_tx.get(at).copied(),
+            Role::Receive => self.contents.spent_rx.get(at).copied(),
+        }
+    }
+}

@@ -1,0 +1,177 @@
+//! What a configuration holds, and how one command changes it.
+
+use crate::association::{RxSa, TxSa};
+use crate::command::{Replay, SciMode, Validate};
+use crate::fingerprint::Fingerprint;
+use arrayvec::ArrayVec;
+use macs_frame::{An, Sci};
+
+/// How many receive channels may stand.
+pub const MAX_CHANNELS: usize = 8;
+
+/// How many keys may be spent on a side.
+pub const MAX_SPENT: usize = 512;
+
+/// How many associations a channel may have.
+pub const ASSOCIATIONS: usize = 4;
+
+/// A receive channel, with its associations by their numbers.
+#[derive(Default, Drop)]
+pub struct Channel {
+    pub sci: Sci,
+    pub associations: [Option<RxSa>; ASSOCIATIONS],
+}
+
+impl Channel {
+    ghost use Rattle.std.specs.Prelude.{◌≡◌, ℕ, None, get_or};
+    ghost use Rattle.macs_config.specs.Tables.{put};
+
+    /// Puts an association at a number, or takes it away.
+    fn put(&mut self, an: An, sa: Option<RxSa>)
+        ensures sci { self.new.sci ≡ self.old.sci }
+        ensures association { (number : ℕ) → get_or self.new.associations number None
+            ≡ put (λ other. get_or self.old.associations other None) an sa number }
+    {
+        self.associations[an.get() as usize] = sa;
+    }
+}
+
+/// What a configuration holds: transmit associations by their numbers, receive channels by ascending
+/// SCI, and the fingerprints of spent keys in the order of installing.
+#[derive(Drop)]
+pub struct Contents {
+    pub validate: Validate,
+    pub replay: Replay,
+    pub mode: SciMode,
+    pub encoding: Option<An>,
+    pub tx: [Option<TxSa>; ASSOCIATIONS],
+    pub channels: ArrayVec<Channel, MAX_CHANNELS>,
+    pub spent_tx: ArrayVec<Fingerprint, MAX_SPENT>,
+    pub spent_rx: ArrayVec<Fingerprint, MAX_SPENT>,
+}
+
+impl Contents {
+    ghost use Rattle.std.specs.Prelude.{◌≡◌, ◌<◌, ◌≤◌, ◌++◌, [], ◌∷◌, length, true, false, not, None, IfNone, IfSome, take, drop};
+    ghost use Rattle.std.specs.List.{filter};
+    ghost use Rattle.std.specs.Str.{bytes_eq};
+    ghost use Rattle.macs_config.specs.Config.{default, has_channel, put_among};
+    ghost use Rattle.macs_config.specs.Places.{IsPlace};
+    ghost use Rattle.macs_config.specs.Stored.{read};
+    ghost use Rattle.macs_config.specs.Tables.{put, put_at};
+
+    /// What an endpoint is formatted with.
+    pub fn new() -> Contents
+        ensures { read result ≡ default }
+    {
+        Contents {
+            validate: Validate::Strict,
+            replay: Replay {
+                on: true,
+                window: 0,
+            },
+            mode: SciMode::Explicit,
+            encoding: None,
+            tx: [None; ASSOCIATIONS],
+            channels: ArrayVec::new(),
+            spent_tx: ArrayVec::new(),
+            spent_rx: ArrayVec::new(),
+        }
+    }
+
+    /// The place of a receive channel among those that stand.
+    fn place(&self, sci: Sci) -> Option<usize>
+        ensures stands { IfSome result (λ place. IsPlace (read self.now).channels sci place) }
+        ensures none { IfNone result (has_channel (read self.now) sci ≡ false) }
+    {
+        for (place, channel) in self.channels.iter().enumerate() {
+            if channel.sci == sci {
+                return Some(place);
+            }
+        }
+        None
+    }
+
+    /// Whether a receive channel of that SCI stands.
+    pub fn has_channel(&self, sci: Sci) -> bool
+        ensures { result ≡ has_channel (read self.now) sci }
+    {
+        self.place(sci).is_some()
+    }
+
+    /// A receive association.
+    pub fn rx(&self, sci: Sci, an: An) -> Option<RxSa>
+        ensures { result ≡ (read self.now).rx sci an }
+    {
+        let place = self.place(sci)?;
+        self.channels[place].associations[an.get() as usize]
+    }
+
+    /// Puts a transmit association at a number, or takes it away.
+    pub fn put_tx(&mut self, an: An, sa: Option<TxSa>)
+        ensures { read self.new ≡ record (read self.old) { tx = put (read self.old).tx an sa } }
+    {
+        self.tx[an.get() as usize] = sa;
+    }
+
+    /// Puts a receive association at a number of a channel that stands, or takes it away.
+    pub fn put_rx(&mut self, sci: Sci, an: An, sa: Option<RxSa>)
+        requires { has_channel (read self.old) sci ≡ true }
+        ensures { read self.new ≡ record (read self.old)
+            { rx = put_at (read self.old).rx sci (put ((read self.old).rx sci) an sa) } }
+    {
+        if let Some(place) = self.place(sci) {
+            self.channels[place].put(an, sa);
+        }
+    }
+
+    /// Adds a receive channel that does not stand yet.
+    pub fn add_channel(&mut self, sci: Sci)
+        requires free { has_channel (read self.old) sci ≡ false }
+        requires room { length (read self.old).channels < 8 }
+        ensures { read self.new ≡ record (read self.old) { channels = put_among sci (read self.old).channels } }
+    {
+        let place = self.place_after(sci);
+        let associations = [None; ASSOCIATIONS];
+        self.channels.insert(place, Channel { sci, associations });
+    }
+
+    /// How many of the channels that stand come first, before the first that comes after an SCI.
+    fn place_after(&self, sci: Sci) -> usize
+        ensures within { result ≤ length (read self.now).channels }
+        ensures between { put_among sci (read self.now).channels ≡
+            take result (read self.now).channels ++ sci ∷ drop result (read self.now).channels }
+    {
+        for (place, channel) in self.channels.iter().enumerate() {
+            if sci.get() < channel.sci.get() {
+                return place;
+            }
+        }
+        self.channels.len()
+    }
+
+    /// Drops a receive channel, with its associations.
+    pub fn drop_channel(&mut self, sci: Sci)
+        ensures { read self.new ≡ record (read self.old) {
+          channels = filter (λ other. not (bytes_eq other sci)) (read self.old).channels;
+          rx = put_at (read self.old).rx sci (λ an. None);
+        } }
+    {
+        self.channels.retain(|channel| channel.sci != sci);
+    }
+
+    /// Adds a fingerprint to those that are spent on the transmit side.
+    pub fn spend_tx(&mut self, fingerprint: Fingerprint)
+        requires { length (read self.old).spent_tx < 512 }
+        ensures { read self.new ≡ record (read self.old) { spent_tx = (read self.old).spent_tx ++ fingerprint ∷ [] } }
+    {
+        self.spent_tx.push(fingerprint);
+    }
+
+    /// Adds a fingerprint to those that are spent on the receive side.
+    pub fn spend_rx(&mut self, fingerprint: Fingerprint)
+        requires { length (read self.old).spent_rx < 512 }
+        ensures { read self.new ≡ record (read self.old) { spent_rx = (read self.old).spent_rx ++ fingerprint ∷ [] } }
+    {
+        self.spent_rx.push(fingerprint);
+    }
+}

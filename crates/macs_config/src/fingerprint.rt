@@ -1,0 +1,37 @@
+//! What stands for a key that is spent.
+
+ghost use Rattle.std.specs.Prelude.{◌≡◌};
+ghost use Rattle.macs_config.specs.Config.{is_spent, rx_fingerprint, tx_fingerprint};
+
+use macs_frame::Sci;
+use sha2::{Digest, Sha256};
+
+/// The SHA-256 of a key, or of an SCI and a key: 32 octets.
+pub type Fingerprint = [u8; 32];
+
+/// What stands for a key among those that are spent on the transmit side.
+pub(crate) fn tx_fingerprint(key: &[u8; 16]) -> Fingerprint
+    ensures { result ≡ tx_fingerprint key.now }
+{
+    let mut hasher = Sha256::new();
+    hasher.update(key.as_slice());
+    hasher.finalize()
+}
+
+/// What stands for an SCI and a key among those that are spent on the receive side.
+pub(crate) fn rx_fingerprint(sci: Sci, key: &[u8; 16]) -> Fingerprint
+    ensures { result ≡ rx_fingerprint sci key.now }
+{
+    let octets = sci.get();
+    let mut hasher = Sha256::new();
+    hasher.update(octets.as_slice());
+    hasher.update(key.as_slice());
+    hasher.finalize()
+}
+
+/// Whether a fingerprint is among these.
+pub(crate) fn is_spent(spent: &[Fingerprint], fingerprint: &Fingerprint) -> bool
+    ensures { result ≡ is_spent spent.now fingerprint.now }
+{
+    spent.contains(fingerprint)
+}

@@ -1,0 +1,88 @@
+//! Laws of the definitions, for the layers above.
+
+ghost use Rattle.std.specs.Prelude.{◌≡◌, ◌<◌, ◌^◌, List, Some, Ok};
+ghost use Rattle.macs_config.specs.Apply.{IsCommand, IsKey, apply};
+ghost use Rattle.macs_config.specs.Config.{Config, Edition, IsConfig, default, first_edition};
+ghost use Rattle.macs_config.specs.Identity.{Identity, IsIdentity};
+ghost use Rattle.macs_config.specs.Snapshot.{restored};
+ghost use Rattle.macs_config.specs.declared.command.Command.{Command};
+ghost use Rattle.macs_config.specs.declared.part.Part.{Part};
+
+use crate::{Command, Identity};
+
+/// The fields of a command are in their ranges.
+pub fn command_in_range(command: &Command)
+    ensures { IsCommand first_edition command.now }
+{
+    match *command {
+        Command::SetValidate(_) => {}
+        Command::SetReplay { window, .. } => {
+            let _window = window;
+        }
+        Command::SetSciMode(_) => {}
+        Command::TxInstall {
+            an,
+            key,
+            start,
+            offset,
+            ..
+        } => {
+            let _an = an.get();
+            installs_in_range(&key, start, offset);
+        }
+        Command::TxUse { an } | Command::TxRemove { an } => {
+            let _an = an.get();
+        }
+        Command::RxAdd { sci } | Command::RxDrop { sci } => {
+            let _sci = sci.get();
+        }
+        Command::RxInstall {
+            sci,
+            an,
+            key,
+            start,
+            offset,
+        } => {
+            let _place = (sci.get(), an.get());
+            installs_in_range(&key, start, offset);
+        }
+        Command::RxRemove { sci, an } => {
+            let _place = (sci.get(), an.get());
+        }
+    }
+}
+
+/// The key and the numbers of a new association are in their ranges.
+fn installs_in_range(key: &[u8; 16], start: u32, offset: u8)
+    ensures key { IsKey first_edition key.now }
+    ensures start { start < 2 ^ 32 }
+    ensures offset { offset < 256 }
+{
+    let _octet = key[0];
+}
+
+/// The fields of an identity are in their ranges.
+pub fn identity_in_range(identity: &Identity)
+    ensures { IsIdentity identity.now }
+{
+    let _sci = identity.sci().get();
+    let _blocks = (identity.tx_block(), identity.rx_block());
+}
+
+/// What an endpoint is formatted with is a configuration.
+pub fn default_is_config()
+    ensures { (edition : Edition) (identity : Identity) → IsConfig edition identity default }
+{}
+
+/// A command that is not refused makes a configuration of a configuration.
+pub fn apply_keeps()
+    ensures { (edition : Edition) (identity : Identity) (old new : Config) (command : Command)
+        → IsConfig edition identity old → apply edition identity old command ≡ Ok new
+        → IsConfig edition identity new }
+{}
+
+/// What a snapshot is restored to is a configuration.
+pub fn restored_is_config()
+    ensures { (edition : Edition) (identity : Identity) (parts : List Part) (c : Config)
+        → restored edition identity parts ≡ Some c → IsConfig edition identity c }
+{}

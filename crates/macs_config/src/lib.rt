@@ -1,0 +1,27 @@
+//! The configuration of a MAC Security Entity: what its operator commands, why a command is refused,
+//! and which keys are spent.
+#![tactic(auto)]
+
+mod association;
+mod change;
+mod check;
+mod command;
+mod config;
+mod contents;
+mod fingerprint;
+mod identity;
+pub mod laws;
+mod part;
+mod refusal;
+mod restore;
+
+pub use association::{Protection, RxSa, TxSa};
+pub use command::{Command, Replay, Role, SciMode, Validate};
+pub use config::Config;
+pub use fingerprint::Fingerprint;
+pub use identity::Identity;
+pub use part::{Fingerprints, Part};
+pub use refusal::Refusal;
+
+#[cfg(test)]
+mod tests;

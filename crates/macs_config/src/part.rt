@@ -1,0 +1,85 @@
+//! The parts of a snapshot of a configuration.
+
+ghost use Rattle.std.specs.Prelude.{◌≡◌, ◌≤◌, ◌<◌, ◌++◌, ◌↔◌, [], ◌∷◌, length, List, ℕ, IsTrue, true, false};
+
+use crate::association::{RxSa, TxSa};
+use crate::command::{Replay, Role, SciMode, Validate};
+use crate::fingerprint::Fingerprint;
+use arrayvec::ArrayVec;
+use macs_frame::{An, Sci};
+use std::marker::Model;
+
+/// The most fingerprints that one part holds.
+pub const MAX_FINGERPRINTS: usize = 15;
+
+/// 1 to 15 fingerprints of spent keys, in the order of installing.
+#[derive(Drop)]
+pub struct Fingerprints {
+    items: ArrayVec<Fingerprint, MAX_FINGERPRINTS>,
+}
+
+impl Model for Fingerprints {
+    ghost Value = { List (List ℕ) };
+
+    ghost view = { λ f. f.items.items };
+
+    ghost invariant = { λ f. 1 ≤ length f.items.items };
+}
+
+impl Fingerprints {
+    /// One fingerprint.
+    pub fn new(first: Fingerprint) -> Fingerprints
+        ensures { result ≡ first ∷ [] }
+    {
+        let mut items = ArrayVec::new();
+        items.push(first);
+        Fingerprints { items }
+    }
+
+    /// Adds a fingerprint, and answers whether it did: 15 are the most.
+    pub fn push(&mut self, fingerprint: Fingerprint) -> bool
+        ensures room { IsTrue result ↔ (length self.old < 15) }
+        ensures pushed { result ≡ true → self.new ≡ self.old ++ fingerprint ∷ [] }
+        ensures same { result ≡ false → self.new ≡ self.old }
+    {
+        self.items.try_push(fingerprint).is_ok()
+    }
+
+    /// The fingerprints.
+    pub fn as_slice(&self) -> &[Fingerprint]
+        ensures items { result.now ≡ self.now }
+        ensures some { 1 ≤ length self.now }
+        ensures few { length self.now ≤ 15 }
+    {
+        self.items.as_slice()
+    }
+}
+
+/// A part of a snapshot. In order a snapshot has its settings, the transmit associations, the receive
+/// channels, the receive associations, the spent keys of the transmit side and those of the receive
+/// side.
+#[derive(Drop)]
+pub enum Part {
+    Settings {
+        validate: Validate,
+        replay: Replay,
+        sci_mode: SciMode,
+        encoding: Option<An>,
+    },
+    TxSa {
+        an: An,
+        sa: TxSa,
+    },
+    Channel {
+        sci: Sci,
+    },
+    RxSa {
+        sci: Sci,
+        an: An,
+        sa: RxSa,
+    },
+    Spent {
+        role: Role,
+        fingerprints: Fingerprints,
+    },
+}

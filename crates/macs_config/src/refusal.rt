@@ -1,0 +1,32 @@
+//! Why a command is refused.
+
+/// Why a command is refused, in the order in which refusals are looked for. A refused command changes
+/// nothing.
+#[derive(Clone, Copy, Debug, PartialEq, Eq)]
+pub enum Refusal {
+    /// The start of a new association is 0, which is no packet number.
+    StartRange,
+    /// The offset of a new association is none of 0, 30 and 50 octets, or not 0 without
+    /// confidentiality.
+    OffsetChoice,
+    /// A new channel has the endpoint's own SCI.
+    OwnSci,
+    /// The mode would be that of an end station, and the port of the endpoint's SCI is not 00-01.
+    EndStationSci,
+    /// No such receive channel stands.
+    NoChannel,
+    /// A receive channel of that SCI stands.
+    ChannelTaken,
+    /// As many receive channels stand as may: 8.
+    ChannelsFull,
+    /// An association stands at that number.
+    SlotTaken,
+    /// No association stands at that number.
+    SlotEmpty,
+    /// Frames go out under that association.
+    InUse,
+    /// The key was installed before: on the transmit side, or on the receive side for that SCI.
+    KeySpent,
+    /// As many keys are spent on that side as may be: 512.
+    SpentFull,
+}

@@ -1,0 +1,290 @@
+//! A configuration made of the parts of a snapshot.
+
+ghost use Rattle.std.specs.Prelude.{◌≡◌, ◌+◌, ◌&&◌, ◌<◌, [], ◌∷◌, Bool, true, false, not, if◌then◌else◌, length, nat_le, nat_lt, is_none, is_some, Some, None};
+ghost use Rattle.std.specs.Option.{option_map, option_map_or};
+ghost use Rattle.std.specs.List.{list_all};
+ghost use Rattle.std.specs.Str.{bytes_eq};
+ghost use Rattle.macs_config.specs.Config.{are_distinct, default, first_edition, has_channel, is_spent, put_among, spent_of, tx_fingerprint};
+ghost use Rattle.macs_config.specs.Identity.{is_port_one};
+ghost use Rattle.macs_config.specs.Snapshot.{are_new, are_ordered, is_rx_spent, is_tx_spent, is_whole, may_follow, numbers, place_of, restored, with_part, with_parts};
+ghost use Rattle.macs_config.specs.Stored.{read};
+ghost use Rattle.macs_config.specs.Tables.{put, put_at};
+ghost use Rattle.macs_config.specs.declared.part.Part.TheVariants.{Spent};
+
+use crate::association::{RxSa, TxSa};
+use crate::check::is_port_one;
+use crate::command::{Role, SciMode};
+use crate::contents::{Contents, MAX_CHANNELS, MAX_SPENT};
+use crate::fingerprint::{Fingerprint, is_spent, rx_fingerprint, tx_fingerprint};
+use crate::identity::Identity;
+use crate::part::Part;
+use macs_frame::{An, Sci};
+
+/// The place of the first parts behind the settings, in the order of a snapshot.
+const BEHIND_SETTINGS: u8 = 2;
+
+/// What the parts of a snapshot make up, `None` where the snapshot is refused.
+pub(crate) fn restored(identity: &Identity, parts: &[Part]) -> Option<Contents>
+    ensures { option_map read result ≡ restored first_edition identity.now parts.now }
+{
+    let (first, rest) = parts.split_first()?;
+    let contents = replayed(identity, settled(first)?, rest)?;
+    if is_whole(identity, &contents) {
+        Some(contents)
+    } else {
+        None
+    }
+}
+
+/// The settings of a first part, on what an endpoint is formatted with; `None` for another part.
+fn settled(first: &Part) -> Option<Contents>
+    ensures { option_map read result
+        ≡ (if nat_le (place_of first.now) 1 then Some (with_part default first.now) else None) }
+{
+    match first {
+        Part::Settings {
+            validate,
+            replay,
+            sci_mode,
+            encoding,
+        } => Some(Contents {
+            validate: *validate,
+            replay: *replay,
+            mode: *sci_mode,
+            encoding: *encoding,
+            ..Contents::new()
+        }),
+        _ => None,
+    }
+}
+
+/// The parts behind the settings, added in turn; `None` where one is out of order, or may not follow
+/// those in front of it.
+fn replayed(identity: &Identity, mut contents: Contents, parts: &[Part]) -> Option<Contents>
+    ensures { option_map read result
+        ≡ (if are_ordered 2 parts.now then with_parts first_edition identity.now (read contents) parts.now else None) }
+{
+    let mut place = BEHIND_SETTINGS;
+    for part in parts {
+        let next = place_of(part);
+        if next < place || !add(identity, &mut contents, part) {
+            return None;
+        }
+        place = next;
+    }
+    Some(contents)
+}
+
+/// A part's place in the order of a snapshot, 1 to 6.
+fn place_of(part: &Part) -> u8
+    ensures { result ≡ place_of part.now }
+{
+    match part {
+        Part::Settings { .. } => 1,
+        Part::TxSa { .. } => 2,
+        Part::Channel { .. } => 3,
+        Part::RxSa { .. } => 4,
+        Part::Spent {
+            role: Role::Transmit,
+            ..
+        } => 5,
+        Part::Spent {
+            role: Role::Receive,
+            ..
+        } => 6,
+    }
+}
+
+/// Adds a part, and answers whether it may follow what stands.
+fn add(identity: &Identity, contents: &mut Contents, part: &Part) -> bool
+    ensures test { result ≡ may_follow first_edition identity.now (read contents.old) part.now }
+    ensures added { result ≡ true → read contents.new ≡ with_part (read contents.old) part.now }
+{
+    match part {
+        Part::Settings { .. } => false,
+        Part::TxSa { an, sa } => add_tx(contents, *an, *sa),
+        Part::Channel { sci } => add_channel(identity, contents, *sci),
+        Part::RxSa { sci, an, sa } => add_rx(contents, *sci, *an, *sa),
+        Part::Spent { role, fingerprints } => add_spent(contents, *role, fingerprints.as_slice()),
+    }
+}
+
+/// Adds a transmit association, and answers whether none stood at its number.
+fn add_tx(contents: &mut Contents, an: An, sa: TxSa) -> bool
+    ensures test { result ≡ is_none ((read contents.old).tx an) }
+    ensures added { result ≡ true → read contents.new ≡ record (read contents.old) { tx = put (read contents.old).tx an (Some sa) } }
+{
+    let is_free = contents.tx[an.get() as usize].is_none();
+    if is_free {
+        contents.put_tx(an, Some(sa));
+    }
+    is_free
+}
+
+/// Adds a receive channel, and answers whether it is not the own one, did not stand, and fits.
+fn add_channel(identity: &Identity, contents: &mut Contents, sci: Sci) -> bool
+    ensures test { result ≡ (not (bytes_eq sci identity.now.sci) && not (has_channel (read contents.old) sci)
+        && nat_lt (length (read contents.old).channels) 8) }
+    ensures added { result ≡ true → read contents.new ≡ record (read contents.old) { channels = put_among sci (read contents.old).channels } }
+{
+    let is_new = sci != identity.sci() && !contents.has_channel(sci);
+    let may_follow = is_new && contents.channels.len() < MAX_CHANNELS;
+    if may_follow {
+        contents.add_channel(sci);
+    }
+    may_follow
+}
+
+/// Adds a receive association, and answers whether its channel stands and no association at its
+/// number.
+fn add_rx(contents: &mut Contents, sci: Sci, an: An, sa: RxSa) -> bool
+    ensures test { result ≡ (has_channel (read contents.old) sci && is_none ((read contents.old).rx sci an)) }
+    ensures added { result ≡ true → read contents.new ≡ record (read contents.old)
+        { rx = put_at (read contents.old).rx sci (put ((read contents.old).rx sci) an (Some sa)) } }
+{
+    let is_free = contents.has_channel(sci) && contents.rx(sci, an).is_none();
+    if is_free {
+        contents.put_rx(sci, an, Some(sa));
+    }
+    is_free
+}
+
+/// Adds spent keys of a side, and answers whether they are new and fit.
+fn add_spent(contents: &mut Contents, role: Role, fingerprints: &[Fingerprint]) -> bool
+    ensures test { result ≡ (are_new (spent_of role (read contents.old)) fingerprints.now
+        && nat_le (length (spent_of role (read contents.old)) + length fingerprints.now) 512) }
+    ensures added { result ≡ true → read contents.new ≡ with_part (read contents.old) (Spent role fingerprints.now) }
+{
+    let may_follow = may_be_spent(spent_of(contents, role), fingerprints);
+    if may_follow {
+        for fingerprint in fingerprints {
+            spend(contents, role, *fingerprint);
+        }
+    }
+    may_follow
+}
+
+/// The spent keys of a side.
+fn spent_of(contents: &Contents, role: Role) -> &[Fingerprint]
+    ensures { result.now ≡ spent_of role (read contents.now) }
+{
+    match role {
+        Role::Transmit => contents.spent_tx.as_slice(),
+        Role::Receive => contents.spent_rx.as_slice(),
+    }
+}
+
+/// Adds a spent key of a side.
+fn spend(contents: &mut Contents, role: Role, fingerprint: Fingerprint)
+    requires { length (spent_of role (read contents.old)) < 512 }
+    ensures { read contents.new ≡ with_part (read contents.old) (Spent role (fingerprint ∷ [])) }
+{
+    match role {
+        Role::Transmit => contents.spend_tx(fingerprint),
+        Role::Receive => contents.spend_rx(fingerprint),
+    }
+}
+
+/// Whether fingerprints are new beside those that are spent, and fit.
+fn may_be_spent(spent: &[Fingerprint], fingerprints: &[Fingerprint]) -> bool
+    ensures { result ≡ (are_new spent.now fingerprints.now && nat_le (length spent.now + length fingerprints.now) 512) }
+{
+    are_new(spent, fingerprints) && spent.len() + fingerprints.len() <= MAX_SPENT
+}
+
+/// Whether no fingerprint comes twice, and none is among those that are spent.
+fn are_new(spent: &[Fingerprint], fingerprints: &[Fingerprint]) -> bool
+    ensures { result ≡ are_new spent.now fingerprints.now }
+{
+    are_distinct(fingerprints)
+        && fingerprints
+            .iter()
+            .all(|fingerprint| !is_spent(spent, fingerprint))
+}
+
+/// Whether no fingerprint comes twice.
+fn are_distinct(fingerprints: &[Fingerprint]) -> bool
+    ensures { result ≡ are_distinct fingerprints.now }
+{
+    let mut rest = fingerprints;
+    while let Some((first, others)) = rest.split_first() {
+        if is_spent(others, first) {
+            return false;
+        }
+        rest = others;
+    }
+    true
+}
+
+/// Whether every installed key is spent, the encoding association stands, and an end station's port
+/// is 00-01.
+fn is_whole(identity: &Identity, contents: &Contents) -> bool
+    ensures { result ≡ is_whole identity.now (read contents.now) }
+{
+    are_tx_spent(contents)
+        && are_rx_spent(contents)
+        && encoding_stands(contents)
+        && (contents.mode != SciMode::EndStation || is_port_one(identity.sci()))
+}
+
+/// Whether the keys of all transmit associations are spent.
+fn are_tx_spent(contents: &Contents) -> bool
+    ensures { result ≡ list_all (is_tx_spent (read contents.now)) numbers }
+{
+    let spent = contents.spent_tx.as_slice();
+    contents.tx.iter().all(|sa| is_tx_spent(spent, sa))
+}
+
+/// Whether the key of a transmit association is spent; true where there is none.
+fn is_tx_spent(spent: &[Fingerprint], sa: &Option<TxSa>) -> bool
+    ensures { result ≡ option_map_or (λ sa. is_spent spent.now (tx_fingerprint sa.key)) sa.now true }
+{
+    match sa {
+        Some(sa) => is_spent(spent, &tx_fingerprint(&sa.key)),
+        None => true,
+    }
+}
+
+/// Whether the keys of all receive associations are spent.
+fn are_rx_spent(contents: &Contents) -> bool
+    ensures { result ≡ list_all (λ sci. list_all (is_rx_spent (read contents.now) sci) numbers) (read contents.now).channels }
+{
+    contents
+        .channels
+        .iter()
+        .all(|channel| are_keys_spent(contents, channel.sci))
+}
+
+/// Whether the keys of a channel's associations, at the numbers 0 to 3, are spent.
+fn are_keys_spent(contents: &Contents, sci: Sci) -> bool
+    ensures { result ≡ list_all (is_rx_spent (read contents.now) sci) numbers }
+{
+    for number in 0..4 {
+        if let Some(an) = An::new(number) {
+            if !is_rx_spent(contents, sci, an) {
+                return false;
+            }
+        }
+    }
+    true
+}
+
+/// Whether the key of a receive association is spent; true where none stands.
+fn is_rx_spent(contents: &Contents, sci: Sci, an: An) -> bool
+    ensures { result ≡ is_rx_spent (read contents.now) sci an }
+{
+    match contents.rx(sci, an) {
+        Some(sa) => is_spent(contents.spent_rx.as_slice(), &rx_fingerprint(sci, &sa.key)),
+        None => true,
+    }
+}
+
+/// Whether the association that frames go out under stands; true where there is none.
+fn encoding_stands(contents: &Contents) -> bool
+    ensures { result ≡ option_map_or (λ an. is_some ((read contents.now).tx an)) (read contents.now).encoding true }
+{
+    match contents.encoding {
+        Some(an) => contents.tx[an.get() as usize].is_some(),
+        None => true,
+    }
+}

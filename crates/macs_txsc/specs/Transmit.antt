@@ -1,0 +1,166 @@
+-- The transmit channel (IEEE Std 802.1AE-2018, 10.5): which fault comes first, and the frame that goes out.
+use Rattle.std.specs.Prelude.{◌≡◌, ◌≤◌, ℕ, ◌+◌, ◌-◌, ◌/◌, ◌^◌, ◌==◌, min, nat_le, nat_lt, Bool, false, not, ◌&&◌, if◌then◌else◌, List, [], ◌∷◌, ◌++◌, length, take, slice_range, Option, Some, None, is_none, Result, Ok, Err}
+use Rattle.std.specs.Option.{option_map_or}
+use Rattle.std.specs.Str.{bytes_eq}
+use Rattle.macs_config.specs.Association.{is_confidential, is_end_station, offset_of}
+use Rattle.macs_config.specs.Tables.{put}
+use Rattle.macs_config.specs.declared.association.TxSa.{TxSa}
+use Rattle.macs_config.specs.declared.command.SciMode.{SciMode}
+use Rattle.macs_config.specs.declared.command.SciMode.TheVariants.{Explicit, EndStation, Implicit}
+use Rattle.macs_frame.specs.Fields.{octets_of}
+use Rattle.macs_frame.specs.Protection.{overhead, protected}
+use Rattle.macs_frame.specs.declared.tag.ScName.{ScName}
+use Rattle.macs_frame.specs.declared.tag.ScName.TheVariants.{Explicit as NamesSci, EndStation as NamesStation, Implicit as NamesNone}
+use Rattle.macs_frame.specs.declared.tag.SecTag.{SecTag}
+use Rattle.macs_txsc.specs.declared.counters.TxCounters.{TxCounters}
+use Rattle.macs_txsc.specs.declared.fault.TxFault.{TxFault}
+use Rattle.macs_txsc.specs.declared.fault.TxFault.TheVariants.{Runt, TooLong, ForeignSource, NoEncodingSa, Exhausted, NoNumber}
+
+-- a transmit channel: associations and their next packet numbers by association number
+pub record TxSide : Type 0 where
+  pub sci : List ℕ
+  pub mode : SciMode
+  pub encoding : Option ℕ
+  pub tx : ℕ → Option TxSa
+  pub next : ℕ → Option ℕ
+
+abbrev pub new_side : List ℕ → TxSide
+new_side sci = record { sci = sci; mode = Explicit; encoding = None; tx = λ an. None; next = λ an. None }
+
+-- ---- what goes out
+
+-- the association that frames go out under, and its next packet number
+pub record Outgoing : Type 0 where
+  pub an : ℕ
+  pub sa : TxSa
+  pub pn : ℕ
+
+abbrev pub numbered : ℕ → Option TxSa → Option ℕ → Option Outgoing
+numbered an (Some sa) (Some pn) = Some (record { an = an; sa = sa; pn = pn })
+numbered an sa pn = None
+
+abbrev pub outgoing_at : TxSide → Option ℕ → Option Outgoing
+outgoing_at side None = None
+outgoing_at side (Some an) = numbered an (side.tx an) (side.next an)
+
+abbrev pub outgoing : TxSide → Option Outgoing
+outgoing side = outgoing_at side side.encoding
+
+-- SC is set where SCIs are spelled out, ES for an end station, and else neither
+abbrev pub name_in : SciMode → List ℕ → ScName
+name_in Explicit sci = NamesSci sci
+name_in EndStation sci = NamesStation
+name_in Implicit sci = NamesNone
+
+abbrev pub tag_for : TxSide → Outgoing → SecTag
+tag_for side o = record {
+  an = o.an;
+  pn = o.pn;
+  name = name_in side.mode side.sci;
+  encrypted = is_confidential o.sa.protection;
+  changed = is_confidential o.sa.protection;
+}
+
+-- the frame that goes out for a plain frame
+abbrev pub frame_of : TxSide → Outgoing → List ℕ → List ℕ
+frame_of side o plain = protected o.sa.key side.sci (tag_for side o) (octets_of (offset_of o.sa.protection)) plain
+
+-- the next packet number is used
+abbrev pub sent_at : TxSide → Option Outgoing → TxSide
+sent_at side None = side
+sent_at side (Some o) = record side { next = put side.next o.an (Some (o.pn + 1)) }
+
+abbrev pub sent_side : TxSide → TxSide
+sent_side side = sent_at side (outgoing side)
+
+-- ---- faults
+
+-- the source address of a plain frame is the one in the SCI
+abbrev pub is_own_source : List ℕ → List ℕ → Bool
+is_own_source sci plain = bytes_eq (slice_range plain 6 12) (take 6 sci)
+
+abbrev pub is_used_up : Option Outgoing → Bool
+is_used_up None = false
+is_used_up (Some o) = o.pn == 2 ^ 32
+
+-- every fault but NoNumber with its test, in the order in which they are looked for
+abbrev pub tx_faults : TxSide → List ℕ → List (TxFault × Bool)
+tx_faults side plain =
+    (Runt, nat_lt (length plain) 14)
+    ∷ (TooLong, nat_lt 9216 (length plain + overhead (name_in side.mode side.sci)))
+    ∷ (ForeignSource, is_end_station side.mode && not (is_own_source side.sci plain))
+    ∷ (NoEncodingSa, is_none (outgoing side))
+    ∷ (Exhausted, is_used_up (outgoing side))
+    ∷ []
+
+abbrev pub is_at_ceiling : (ℕ → Option ℕ) → Option Outgoing → Bool
+is_at_ceiling ceilings None = false
+is_at_ceiling ceilings (Some o) = option_map_or (λ ceiling. ceiling == o.pn) (ceilings o.an) false
+
+-- and NoNumber last, where the ceilings are known
+abbrev pub all_tx_faults : TxSide → (ℕ → Option ℕ) → List ℕ → List (TxFault × Bool)
+all_tx_faults side ceilings plain = tx_faults side plain ++ (NoNumber, is_at_ceiling ceilings (outgoing side)) ∷ []
+
+-- ---- needs
+
+-- at most half a block is left below the ceiling, which can be raised
+abbrev pub is_needed : ℕ → ℕ → ℕ → Bool
+is_needed block next ceiling = nat_le (ceiling - next) (block / 2) && nat_lt ceiling (2 ^ 32)
+
+abbrev pub need_at : (ℕ → Option ℕ) → ℕ → Option Outgoing → Option ℕ
+need_at ceilings block None = None
+need_at ceilings block (Some o) =
+    if option_map_or (is_needed block o.pn) (ceilings o.an) false then Some o.an else None
+
+abbrev pub need_of : TxSide → (ℕ → Option ℕ) → ℕ → Option ℕ
+need_of side ceilings block = need_at ceilings block (outgoing side)
+
+-- ---- ranges
+
+abbrev pub InOrder : Option ℕ → Option ℕ → Type 0
+InOrder (Some next) (Some ceiling) = (1 ≤ next) × (next ≤ ceiling) × (ceiling ≤ 2 ^ 32)
+InOrder (Some next) None = ⊥
+InOrder None (Some ceiling) = ⊥
+InOrder None None = Unit {0}
+
+-- an association stands with a next number and a ceiling, or nothing does
+abbrev pub AreOrdered : TxSide → (ℕ → Option ℕ) → ℕ → Type 0
+AreOrdered side ceilings an = InOrder (side.next an) (ceilings an) × (is_none (side.tx an) ≡ is_none (side.next an))
+
+-- ---- counters
+
+abbrev pub none_counted : TxCounters
+none_counted = record {
+  protected = 0;
+  runt = 0;
+  too_long = 0;
+  foreign_source = 0;
+  no_encoding_sa = 0;
+  exhausted = 0;
+  no_number = 0;
+}
+
+-- one more, up to 2^64 - 1
+abbrev pub one_more : ℕ → ℕ
+one_more count = min (count + 1) (2 ^ 64 - 1)
+
+abbrev pub fault_count : TxFault → TxCounters → ℕ
+fault_count Runt c = c.runt
+fault_count TooLong c = c.too_long
+fault_count ForeignSource c = c.foreign_source
+fault_count NoEncodingSa c = c.no_encoding_sa
+fault_count Exhausted c = c.exhausted
+fault_count NoNumber c = c.no_number
+
+abbrev pub fault_counted : TxFault → TxCounters → TxCounters
+fault_counted Runt c = record c { runt = one_more c.runt }
+fault_counted TooLong c = record c { too_long = one_more c.too_long }
+fault_counted ForeignSource c = record c { foreign_source = one_more c.foreign_source }
+fault_counted NoEncodingSa c = record c { no_encoding_sa = one_more c.no_encoding_sa }
+fault_counted Exhausted c = record c { exhausted = one_more c.exhausted }
+fault_counted NoNumber c = record c { no_number = one_more c.no_number }
+
+-- what an answer adds
+abbrev pub tx_counted : Result ℕ TxFault → TxCounters → TxCounters
+tx_counted (Ok pn) c = record c { protected = one_more c.protected }
+tx_counted (Err fault) c = fault_counted fault c

@@ -1,0 +1,272 @@
+//! The transmit channel (IEEE Std 802.1AE-2018, 10.5).
+
+ghost use Rattle.std.specs.Prelude.{◌≡◌, ◌≢◌, ◌≤◌, ◌^◌, ◌↔◌, ℕ, [], true, Some, None, IsSome, IfSome, IfOk, IfErr, OnOk, OnErr, Err, ◌+◌, ◌∷◌, ◌&&◌, not, nat_lt, length};
+ghost use Rattle.std.specs.Option.{option_map};
+ghost use Rattle.macs_config.specs.Association.{is_end_station, protection_of};
+ghost use Rattle.macs_config.specs.Identity.{is_port_one};
+ghost use Rattle.macs_config.specs.Tables.{put};
+ghost use Rattle.macs_config.specs.declared.command.SciMode.TheVariants.{EndStation};
+ghost use Rattle.macs_frame.specs.First.{first};
+ghost use Rattle.macs_frame.specs.Protection.{overhead};
+ghost use Rattle.macs_txsc.specs.declared.fault.TxFault.TheVariants.{Runt, TooLong, ForeignSource};
+ghost use Rattle.macs_txsc.specs.Transmit.{AreOrdered, Outgoing, all_tx_faults, fault_count, frame_of, is_own_source, name_in, need_of, new_side, none_counted, outgoing, sent_side, tx_counted};
+ghost use Rattle.macs_txsc.specs.View.{ceilings_of, counters_of, side_of};
+
+use crate::association::Association;
+use crate::counters::TxCounters;
+use crate::fault::TxFault;
+use macs_config::{Protection, SciMode};
+use macs_frame::{An, FrameBuf, MAX_FRAME, MIN_FRAME, Offset, Pn, ScName, Sci, SecTag, seal_frame};
+use macs_gcm::GcmKey;
+
+/// The end of the packet numbers: the first number that is none.
+const END_OF_NUMBERS: u64 = 1 << 32;
+
+/// A transmit channel: its SCI, how its frames name it, its associations by their numbers, and the
+/// one that frames go out under.
+#[derive(Drop)]
+pub struct Tx {
+    sci: Sci,
+    mode: SciMode,
+    encoding: Option<An>,
+    associations: [Option<Association>; 4],
+    counters: TxCounters,
+}
+
+impl Tx {
+    /// A channel without associations, that spells its SCI out.
+    pub fn new(sci: Sci) -> Tx
+        ensures side { side_of result ≡ new_side sci }
+        ensures ceilings { ceilings_of result ≡ (λ an. None) }
+        ensures counters { counters_of result ≡ none_counted }
+    {
+        Tx {
+            sci,
+            mode: SciMode::Explicit,
+            encoding: None,
+            associations: [None, None, None, None],
+            counters: TxCounters::new(),
+        }
+    }
+
+    /// Sets how frames name the channel. An end station's port is 00-01.
+    pub fn set_mode(&mut self, mode: SciMode)
+        requires { mode ≡ EndStation → is_port_one (side_of self.old).sci ≡ true }
+        ensures side { side_of self.new ≡ record (side_of self.old) { mode = mode } }
+        ensures ceilings { ceilings_of self.new ≡ ceilings_of self.old }
+        ensures counters { counters_of self.new ≡ counters_of self.old }
+    {
+        self.mode = mode;
+    }
+
+    /// A new association at a number where none stands. `next` is the first packet number that is
+    /// used, and only numbers below `ceiling` are: 1 to 2^32 both, `next` not above `ceiling`.
+    pub fn install(
+        &mut self,
+        an: An,
+        key: &[u8; 16],
+        confidential: bool,
+        offset: Offset,
+        next: u64,
+        ceiling: u64,
+    )
+        requires empty { (side_of self.old).tx an ≡ None }
+        requires numbered { 1 ≤ next }
+        requires ordered { next ≤ ceiling }
+        requires bounded { ceiling ≤ 2 ^ 32 }
+        ensures side { side_of self.new ≡ record (side_of self.old) {
+          tx = put (side_of self.old).tx an (Some (record { key = key.now; protection = protection_of confidential offset }));
+          next = put (side_of self.old).next an (Some next);
+        } }
+        ensures ceilings { ceilings_of self.new ≡ put (ceilings_of self.old) an (Some ceiling) }
+        ensures counters { counters_of self.new ≡ counters_of self.old }
+    {
+        self.associations[an.get() as usize] = Some(Association {
+            key: GcmKey::new(key),
+            protection: Protection::new(confidential, offset),
+            next,
+            ceiling,
+        });
+    }
+
+    /// An association that stands goes. Frames do not go out under it.
+    pub fn remove(&mut self, an: An)
+        requires stands { IsSome ((side_of self.old).tx an) }
+        requires unused { (side_of self.old).encoding ≢ Some an }
+        ensures side { side_of self.new ≡ record (side_of self.old)
+            { tx = put (side_of self.old).tx an None; next = put (side_of self.old).next an None } }
+        ensures ceilings { ceilings_of self.new ≡ put (ceilings_of self.old) an None }
+        ensures counters { counters_of self.new ≡ counters_of self.old }
+    {
+        self.associations[an.get() as usize] = None;
+    }
+
+    /// Frames go out under this association, which stands.
+    pub fn select(&mut self, an: An)
+        requires { IsSome ((side_of self.old).tx an) }
+        ensures side { side_of self.new ≡ record (side_of self.old) { encoding = Some an } }
+        ensures ceilings { ceilings_of self.new ≡ ceilings_of self.old }
+        ensures counters { counters_of self.new ≡ counters_of self.old }
+    {
+        self.encoding = Some(an);
+    }
+
+    /// Raises the ceiling of an association that stands: not below the one before, and at most 2^32.
+    pub fn raise(&mut self, an: An, ceiling: u64)
+        requires stands { IsSome ((side_of self.old).tx an) }
+        requires higher { IfSome (ceilings_of self.old an) (λ old. old ≤ ceiling) }
+        requires bounded { ceiling ≤ 2 ^ 32 }
+        ensures side { side_of self.new ≡ side_of self.old }
+        ensures ceilings { ceilings_of self.new ≡ put (ceilings_of self.old) an (Some ceiling) }
+        ensures counters { counters_of self.new ≡ counters_of self.old }
+    {
+        if let Some(association) = &mut self.associations[an.get() as usize] {
+            association.ceiling = ceiling;
+        }
+    }
+
+    /// The next packet number of an association, 1 to 2^32, `None` where none stands at that number.
+    pub fn next_number(&self, an: An) -> Option<u64>
+        ensures { result ≡ (side_of self.now).next an }
+    {
+        let association = self.associations[an.get() as usize].as_ref()?;
+        Some(association.next)
+    }
+
+    /// The number of the association whose ceiling has to be raised: the one that frames go out
+    /// under, where at most half a block of packet numbers, rounded down, is left below its ceiling,
+    /// and the ceiling is below 2^32. `tx_block` is 1 to 65,536 packet numbers.
+    pub fn needs(&self, tx_block: u32) -> Option<An>
+        ensures { result ≡ need_of (side_of self.now) (ceilings_of self.now) tx_block }
+    {
+        let an = self.encoding?;
+        let association = self.associations[an.get() as usize].as_ref()?;
+        let left = association.ceiling - association.next;
+        let is_needed = left <= u64::from(tx_block / 2) && association.ceiling < END_OF_NUMBERS;
+        is_needed.then_some(an)
+    }
+
+    /// Protects a plain frame, writes the protected frame to `out`, and answers its packet number,
+    /// which is then used. The first fault, in the order of `TxFault`, is answered in its place; then
+    /// `out` is empty, and no number is used. Each answer is counted.
+    pub fn protect(&mut self, plain: &[u8], out: &mut FrameBuf) -> Result<Pn, TxFault>
+        ensures fault { (fault : TxFault) → (result ≡ Err fault)
+            ↔ (first (all_tx_faults (side_of self.old) (ceilings_of self.old) plain.now) ≡ Some fault) }
+        ensures number { IfOk result (λ pn. option_map (λ (o : Outgoing). o.pn) (outgoing (side_of self.old)) ≡ Some pn) }
+        ensures frame { OnOk result
+            (option_map (λ (o : Outgoing). frame_of (side_of self.old) o plain.now) (outgoing (side_of self.old)) ≡ Some out.new.items) }
+        ensures sent { OnOk result (side_of self.new ≡ sent_side (side_of self.old)) }
+        ensures same { OnErr result (side_of self.new ≡ side_of self.old) }
+        ensures ceilings { ceilings_of self.new ≡ ceilings_of self.old }
+        ensures empty { OnErr result (out.new.items ≡ []) }
+        ensures counters { counters_of self.new ≡ tx_counted result (counters_of self.old) }
+    {
+        out.clear();
+        let answer = self.send(plain, out);
+        self.counters.count(&answer);
+        answer
+    }
+
+    /// How many frames met this fault, at most 2^64 - 1.
+    pub fn fault_count(&self, fault: TxFault) -> u64
+        ensures { result ≡ fault_count fault (counters_of self.now) }
+    {
+        self.counters.fault_count(fault)
+    }
+
+    /// How many frames were protected, at most 2^64 - 1.
+    pub fn protected_count(&self) -> u64
+        ensures { result ≡ (counters_of self.now).protected }
+    {
+        self.counters.protected
+    }
+
+    /// Each association has a next number, 1 to 2^32, that is not above its ceiling, which is at most
+    /// 2^32.
+    pub fn facts(&self)
+        ensures { (an : ℕ) → AreOrdered (side_of self.now) (ceilings_of self.now) an }
+    {}
+
+    /// Protects a plain frame as `protect` does, and counts nothing. After a fault `out` is as before.
+    fn send(&mut self, plain: &[u8], out: &mut FrameBuf) -> Result<Pn, TxFault>
+        ensures fault { IfErr result
+            (λ fault. first (all_tx_faults (side_of self.old) (ceilings_of self.old) plain.now) ≡ Some fault) }
+        ensures none { OnOk result (first (all_tx_faults (side_of self.old) (ceilings_of self.old) plain.now) ≡ None) }
+        ensures number { IfOk result (λ pn. option_map (λ (o : Outgoing). o.pn) (outgoing (side_of self.old)) ≡ Some pn) }
+        ensures frame { OnOk result
+            (option_map (λ (o : Outgoing). frame_of (side_of self.old) o plain.now) (outgoing (side_of self.old)) ≡ Some out.new.items) }
+        ensures sent { OnOk result (side_of self.new ≡ sent_side (side_of self.old)) }
+        ensures same { OnErr result (side_of self.new ≡ side_of self.old) }
+        ensures ceilings { ceilings_of self.new ≡ ceilings_of self.old }
+        ensures untouched { OnErr result (out.new.items ≡ out.old.items) }
+        ensures counters { counters_of self.new ≡ counters_of self.old }
+    {
+        if let Some(fault) = self.frame_fault(plain) {
+            return Err(fault);
+        }
+        let name = self.name();
+        let Some(an) = self.encoding else {
+            return Err(TxFault::NoEncodingSa);
+        };
+        let Some(association) = &mut self.associations[an.get() as usize] else {
+            return Err(TxFault::NoEncodingSa);
+        };
+        let pn = association.packet_number()?;
+        let is_confidential = association.protection.is_confidential();
+        let tag = SecTag {
+            an,
+            pn,
+            name,
+            encrypted: is_confidential,
+            changed: is_confidential,
+        };
+        seal_frame(
+            &association.key,
+            self.sci,
+            &tag,
+            association.protection.offset(),
+            plain,
+            out,
+        );
+        association.next += 1;
+        Ok(pn)
+    }
+
+    /// How a SecTAG names the channel (9.5, 9.9).
+    fn name(&self) -> ScName
+        ensures { result ≡ name_in self.now.mode self.now.sci }
+    {
+        match self.mode {
+            SciMode::Explicit => ScName::Explicit(self.sci),
+            SciMode::EndStation => ScName::EndStation,
+            SciMode::Implicit => ScName::Implicit,
+        }
+    }
+
+    /// Whether the source address of a plain frame is the one in the SCI.
+    fn is_own_source(&self, plain: &[u8]) -> bool
+        requires { 14 ≤ length plain.now }
+        ensures { result ≡ is_own_source self.now.sci plain.now }
+    {
+        plain[6..12] == self.sci.get()[..6]
+    }
+
+    /// The first fault of a plain frame that does not lie in an association.
+    fn frame_fault(&self, plain: &[u8]) -> Option<TxFault>
+        ensures { result ≡ first (
+            (Runt, nat_lt (length plain.now) 14)
+            ∷ (TooLong, nat_lt 9216 (length plain.now + overhead (name_in self.now.mode self.now.sci)))
+            ∷ (ForeignSource, is_end_station self.now.mode && not (is_own_source self.now.sci plain.now))
+            ∷ []) }
+    {
+        if plain.len() < MIN_FRAME {
+            Some(TxFault::Runt)
+        } else if plain.len() > MAX_FRAME - self.name().overhead() {
+            Some(TxFault::TooLong)
+        } else if self.mode == SciMode::EndStation && !self.is_own_source(plain) {
+            Some(TxFault::ForeignSource)
+        } else {
+            None
+        }
+    }
+}

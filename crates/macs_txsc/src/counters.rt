@@ -1,0 +1,81 @@
+//! What is counted.
+
+ghost use Rattle.std.specs.Prelude.{◌≡◌};
+ghost use Rattle.macs_txsc.specs.Transmit.{fault_count, fault_counted, none_counted, one_more, tx_counted};
+
+use crate::fault::TxFault;
+use macs_frame::Pn;
+
+/// How many frames were protected, and how many met each fault. A counter stays at 2^64 - 1.
+#[derive(Clone, Copy)]
+pub struct TxCounters {
+    pub protected: u64,
+    pub runt: u64,
+    pub too_long: u64,
+    pub foreign_source: u64,
+    pub no_encoding_sa: u64,
+    pub exhausted: u64,
+    pub no_number: u64,
+}
+
+impl TxCounters {
+    /// Nothing is counted yet.
+    pub fn new() -> TxCounters
+        ensures { result ≡ none_counted }
+    {
+        TxCounters {
+            protected: 0,
+            runt: 0,
+            too_long: 0,
+            foreign_source: 0,
+            no_encoding_sa: 0,
+            exhausted: 0,
+            no_number: 0,
+        }
+    }
+
+    /// How many frames met this fault.
+    pub fn fault_count(&self, fault: TxFault) -> u64
+        ensures { result ≡ fault_count fault self.now }
+    {
+        match fault {
+            TxFault::Runt => self.runt,
+            TxFault::TooLong => self.too_long,
+            TxFault::ForeignSource => self.foreign_source,
+            TxFault::NoEncodingSa => self.no_encoding_sa,
+            TxFault::Exhausted => self.exhausted,
+            TxFault::NoNumber => self.no_number,
+        }
+    }
+
+    /// One more frame met this fault.
+    fn count_fault(&mut self, fault: TxFault)
+        ensures { self.new ≡ fault_counted fault self.old }
+    {
+        match fault {
+            TxFault::Runt => count_one(&mut self.runt),
+            TxFault::TooLong => count_one(&mut self.too_long),
+            TxFault::ForeignSource => count_one(&mut self.foreign_source),
+            TxFault::NoEncodingSa => count_one(&mut self.no_encoding_sa),
+            TxFault::Exhausted => count_one(&mut self.exhausted),
+            TxFault::NoNumber => count_one(&mut self.no_number),
+        }
+    }
+
+    /// One more frame got this answer.
+    pub fn count(&mut self, answer: &Result<Pn, TxFault>)
+        ensures { self.new ≡ tx_counted answer.now self.old }
+    {
+        match answer {
+            Ok(_) => count_one(&mut self.protected),
+            Err(fault) => self.count_fault(*fault),
+        }
+    }
+}
+
+/// One more, up to 2^64 - 1.
+fn count_one(counter: &mut u64)
+    ensures { counter.new ≡ one_more counter.old }
+{
+    *counter = counter.saturating_add(1);
+}
