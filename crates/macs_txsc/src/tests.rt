@@ -1,5 +1,6 @@
 //! The transmit channel against frames from outside, and its numbers and faults.
 
+mod commanded;
 mod faults;
 mod frames;
 mod numbers;

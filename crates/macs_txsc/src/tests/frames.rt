@@ -8,14 +8,14 @@ use std::process::Abort;
 /// What a frame goes out under, and the frame. A line of it is its addresses, its SecTAG, its Secure
 /// Data or its ICV.
 #[derive(Clone, Copy)]
-struct Case {
-    sci: [u8; 8],
-    mode: SciMode,
-    association: u8,
-    security: Security,
-    number: u32,
-    plain: &'static [u8],
-    frame: &'static [u8],
+pub(super) struct Case {
+    pub(super) sci: [u8; 8],
+    pub(super) mode: SciMode,
+    pub(super) association: u8,
+    pub(super) security: Security,
+    pub(super) number: u32,
+    pub(super) plain: &'static [u8],
+    pub(super) frame: &'static [u8],
 }
 
 const CHANNEL: [u8; 8] = [0x12, 0x15, 0x35, 0x24, 0xc0, 0x89, 0x5e, 0x81];
@@ -23,7 +23,7 @@ const CHANNEL: [u8; 8] = [0x12, 0x15, 0x35, 0x24, 0xc0, 0x89, 0x5e, 0x81];
 const CHANNEL_KEY: u128 = 0xad7a_2bd0_3eac_835a_6f62_0fdc_b506_b345;
 
 /// Annex C: integrity protection of a frame with an SCI.
-const INTEGRITY: Case = Case {
+pub(super) const INTEGRITY: Case = Case {
     sci: CHANNEL,
     mode: SciMode::Explicit,
     association: 2,
@@ -42,7 +42,7 @@ const INTEGRITY: Case = Case {
 };
 
 /// Annex C: confidentiality protection of a frame with an SCI.
-const CONFIDENTIALITY: Case = Case {
+pub(super) const CONFIDENTIALITY: Case = Case {
     sci: CHANNEL,
     mode: SciMode::Explicit,
     association: 2,
@@ -61,7 +61,7 @@ const CONFIDENTIALITY: Case = Case {
 };
 
 /// Annex C: confidentiality protection of an end station's frame.
-const END_STATION: Case = Case {
+pub(super) const END_STATION: Case = Case {
     sci: STATION,
     mode: SciMode::EndStation,
     association: 0,
@@ -75,7 +75,7 @@ const END_STATION: Case = Case {
 };
 
 /// By Python's `cryptography`: 30 octets of User Data, all of them in the clear.
-const ALL_CLEAR: Case = Case {
+pub(super) const ALL_CLEAR: Case = Case {
     sci: STATION,
     mode: SciMode::Explicit,
     association: 0,
@@ -94,7 +94,7 @@ const ALL_CLEAR: Case = Case {
 };
 
 /// By Python's `cryptography`: 30 octets of User Data in the clear and one encrypted.
-const ONE_HIDDEN: Case = Case {
+pub(super) const ONE_HIDDEN: Case = Case {
     sci: STATION,
     mode: SciMode::Explicit,
     association: 0,
@@ -142,7 +142,7 @@ const IMPLICIT: Case = Case {
 };
 
 /// By Python's `cryptography`: the last packet number.
-const LAST_NUMBER: Case = Case {
+pub(super) const LAST_NUMBER: Case = Case {
     sci: STATION,
     mode: SciMode::EndStation,
     association: 0,
