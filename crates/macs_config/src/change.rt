@@ -14,7 +14,7 @@ use crate::fingerprint::{rx_fingerprint, tx_fingerprint};
 use macs_frame::{An, Offset, Sci};
 
 /// Does what a command asks for that is not refused.
-pub fn change(contents: &mut Contents, command: &Command)
+pub(crate) fn change(contents: &mut Contents, command: &Command)
     requires { (identity : Identity) × (refusal_of first_edition identity (read contents.old) command.now ≡ None) }
     ensures { read contents.new ≡ changed (read contents.old) command.now }
 {

@@ -19,7 +19,7 @@ use macs_frame::{An, Offset, Sci};
 const END_STATION_PORT: [u8; 2] = [0, 1];
 
 /// The first refusal of a command, in the order of `Refusal`.
-pub fn refusal_of(contents: &Contents, identity: &Identity, command: &Command) -> Option<Refusal>
+pub(crate) fn refusal_of(contents: &Contents, identity: &Identity, command: &Command) -> Option<Refusal>
     ensures { result ≡ refusal_of first_edition identity.now (read contents.now) command.now }
 {
     match *command {
@@ -58,7 +58,7 @@ fn sci_mode_refusal(identity: &Identity, mode: SciMode) -> Option<Refusal>
 }
 
 /// Whether the port of an SCI is 00-01.
-pub fn is_port_one(sci: Sci) -> bool
+pub(crate) fn is_port_one(sci: Sci) -> bool
     ensures { result ≡ is_port_one sci }
 {
     let octets = sci.get();

@@ -13,11 +13,11 @@ pub const MAX_CHANNELS: usize = 8;
 pub const MAX_SPENT: usize = 512;
 
 /// How many associations a channel may have.
-pub const ASSOCIATIONS: usize = 4;
+pub(crate) const ASSOCIATIONS: usize = 4;
 
 /// A receive channel, with its associations by their numbers.
 #[derive(Default, Drop)]
-pub struct Channel {
+pub(crate) struct Channel {
     pub sci: Sci,
     pub associations: [Option<RxSa>; ASSOCIATIONS],
 }
@@ -39,7 +39,7 @@ impl Channel {
 /// What a configuration holds: transmit associations by their numbers, receive channels by ascending
 /// SCI, and the fingerprints of spent keys in the order of installing.
 #[derive(Drop)]
-pub struct Contents {
+pub(crate) struct Contents {
     pub validate: Validate,
     pub replay: Replay,
     pub mode: SciMode,
@@ -60,7 +60,7 @@ impl Contents {
     ghost use Rattle.macs_config.specs.Tables.{put, put_at};
 
     /// What an endpoint is formatted with.
-    pub fn new() -> Contents
+    pub(crate) fn new() -> Contents
         ensures { read result ≡ default }
     {
         Contents {
@@ -92,14 +92,14 @@ impl Contents {
     }
 
     /// Whether a receive channel of that SCI stands.
-    pub fn has_channel(&self, sci: Sci) -> bool
+    pub(crate) fn has_channel(&self, sci: Sci) -> bool
         ensures { result ≡ has_channel (read self.now) sci }
     {
         self.place(sci).is_some()
     }
 
     /// A receive association.
-    pub fn rx(&self, sci: Sci, an: An) -> Option<RxSa>
+    pub(crate) fn rx(&self, sci: Sci, an: An) -> Option<RxSa>
         ensures { result ≡ (read self.now).rx sci an }
     {
         let place = self.place(sci)?;
@@ -107,14 +107,14 @@ impl Contents {
     }
 
     /// Puts a transmit association at a number, or takes it away.
-    pub fn put_tx(&mut self, an: An, sa: Option<TxSa>)
+    pub(crate) fn put_tx(&mut self, an: An, sa: Option<TxSa>)
         ensures { read self.new ≡ record (read self.old) { tx = put (read self.old).tx an sa } }
     {
         self.tx[an.get() as usize] = sa;
     }
 
     /// Puts a receive association at a number of a channel that stands, or takes it away.
-    pub fn put_rx(&mut self, sci: Sci, an: An, sa: Option<RxSa>)
+    pub(crate) fn put_rx(&mut self, sci: Sci, an: An, sa: Option<RxSa>)
         requires { has_channel (read self.old) sci ≡ true }
         ensures { read self.new ≡ record (read self.old)
             { rx = put_at (read self.old).rx sci (put ((read self.old).rx sci) an sa) } }
@@ -125,7 +125,7 @@ impl Contents {
     }
 
     /// Adds a receive channel that does not stand yet.
-    pub fn add_channel(&mut self, sci: Sci)
+    pub(crate) fn add_channel(&mut self, sci: Sci)
         requires free { has_channel (read self.old) sci ≡ false }
         requires room { length (read self.old).channels < 8 }
         ensures { read self.new ≡ record (read self.old) { channels = put_among sci (read self.old).channels } }
@@ -150,7 +150,7 @@ impl Contents {
     }
 
     /// Drops a receive channel, with its associations.
-    pub fn drop_channel(&mut self, sci: Sci)
+    pub(crate) fn drop_channel(&mut self, sci: Sci)
         ensures { read self.new ≡ record (read self.old) {
           channels = filter (λ other. not (bytes_eq other sci)) (read self.old).channels;
           rx = put_at (read self.old).rx sci (λ an. None);
@@ -160,7 +160,7 @@ impl Contents {
     }
 
     /// Adds a fingerprint to those that are spent on the transmit side.
-    pub fn spend_tx(&mut self, fingerprint: Fingerprint)
+    pub(crate) fn spend_tx(&mut self, fingerprint: Fingerprint)
         requires { length (read self.old).spent_tx < 512 }
         ensures { read self.new ≡ record (read self.old) { spent_tx = (read self.old).spent_tx ++ fingerprint ∷ [] } }
     {
@@ -168,7 +168,7 @@ impl Contents {
     }
 
     /// Adds a fingerprint to those that are spent on the receive side.
-    pub fn spend_rx(&mut self, fingerprint: Fingerprint)
+    pub(crate) fn spend_rx(&mut self, fingerprint: Fingerprint)
         requires { length (read self.old).spent_rx < 512 }
         ensures { read self.new ≡ record (read self.old) { spent_rx = (read self.old).spent_rx ++ fingerprint ∷ [] } }
     {

@@ -18,9 +18,10 @@ mod restore;
 pub use association::{Protection, RxSa, TxSa};
 pub use command::{Command, Replay, Role, SciMode, Validate};
 pub use config::Config;
+pub use contents::{MAX_CHANNELS, MAX_SPENT};
 pub use fingerprint::Fingerprint;
 pub use identity::Identity;
-pub use part::{Fingerprints, Part};
+pub use part::{Fingerprints, MAX_FINGERPRINTS, Part};
 pub use refusal::Refusal;
 
 #[cfg(test)]

@@ -1,0 +1,88 @@
+-- A disk through time, and what one call of it does.
+use Rattle.std.specs.Prelude.{◌≡◌, ◌≤◌, ◌<◌, ◌+◌, ◌⊎◌, ℕ, Bool, true, false, List, Result, IsErr, OnOk, OnErr}
+use Rattle.macs_disk.specs.States.{IsSector, Image, State, IsImage, settled, written, synced}
+
+-- a disk through time. `past k` is its state at moment k, for each k up to the clock. A worn disk
+-- fails each call. Whether it is honest says whether its calls do what is said of an honest disk.
+pub record Disk : Type 0 where
+  pub sectors : ℕ
+  pub past : ℕ → State
+  pub clock : ℕ
+  pub failures : ℕ
+  pub honest : Bool
+  pub worn : Bool
+
+-- its state at this moment
+abbrev pub now : Disk → State
+now disk = disk.past disk.clock
+
+abbrev pub IsHonest : Disk → Type 0
+IsHonest disk = disk.honest ≡ true
+
+-- a power loss now may leave this image
+abbrev pub MayLeave : Disk → Image → Type 0
+MayLeave disk image = IsImage (now disk) image
+
+-- a power loss at some moment since `since` might have left this image
+abbrev pub LeftSince : Disk → ℕ → Image → Type 0
+LeftSince disk since image = (k : ℕ) × (since ≤ k) × (k ≤ disk.clock) × IsImage (disk.past k) image
+
+-- a disk that a power loss left with this image. It is no call: the counts stand. Its past begins
+-- anew: at each moment it is settled with this image.
+abbrev pub restarted : Disk → Image → Disk
+restarted disk image =
+    record {
+      sectors = disk.sectors;
+      past = λ _. settled image;
+      clock = disk.clock;
+      failures = disk.failures;
+      honest = disk.honest;
+      worn = disk.worn;
+    }
+
+-- calls led from old to new: the clock goes on, what was past stays, failures are only added, a worn
+-- disk stays worn, and the sectors and honesty stay
+pub record Works (old new : Disk) : Type 0 where
+  pub later : old.clock ≤ new.clock
+  pub past : (k : ℕ) → k ≤ old.clock → new.past k ≡ old.past k
+  pub failures : old.failures ≤ new.failures
+  pub worn : old.worn ≡ true → new.worn ≡ true
+  pub sectors : new.sectors ≡ old.sectors
+  pub honest : new.honest ≡ old.honest
+
+-- between these a call failed: a failure was counted, or the disk is worn
+abbrev pub Rose : Disk → Disk → Type 0
+Rose old new = (old.failures < new.failures) ⊎ (new.worn ≡ true)
+
+-- calls of which the last alone may have failed, where the result tells whether it did
+pub record IsWork {T E : Type 0} (old new : Disk) (result : Result T E) : Type 0 where
+  pub works : Works old new
+  pub ok : OnOk result (new.failures ≡ old.failures)
+  pub err : OnErr result (Rose old new)
+
+-- what each call does on every disk, honest or not: a moment passes, and a failure is counted exactly
+-- where one is answered. A worn disk fails the call and its state stands; its clock and its failures
+-- stand as well, or both rise by one (those of a fuse, which counts the calls that it fails itself).
+pub record IsCall {T E : Type 0} (old new : Disk) (result : Result T E) : Type 0 where
+  pub work : IsWork old new result
+  pub at_most_one : new.clock ≤ old.clock + 1
+  pub one : old.worn ≡ false → new.clock ≡ old.clock + 1
+  pub counted : old.worn ≡ false → OnErr result (new.failures ≡ old.failures + 1)
+  pub refused : old.worn ≡ true → IsErr result
+  pub stands : old.worn ≡ true → now new ≡ now old
+  pub alike : old.worn ≡ true → new.clock + old.failures ≡ old.clock + new.failures
+
+-- what a read does on an honest disk
+pub record Reads {T E : Type 0} (old new : State) (at : ℕ) (into : List ℕ) (result : Result T E) : Type 0 where
+  pub same : new ≡ old
+  pub ok : OnOk result (into ≡ old.seen at)
+
+-- what a write does on an honest disk: where it fails nothing was written, or some 512 octets were
+pub record Writes {T E : Type 0} (old new : State) (at : ℕ) (octets : List ℕ) (result : Result T E) : Type 0 where
+  pub ok : OnOk result (new ≡ written old at octets)
+  pub err : OnErr result ((new ≡ old) ⊎ ((other : List ℕ) × IsSector other × (new ≡ written old at other)))
+
+-- what a sync does on an honest disk: where it fails nothing is durable that was not
+pub record Syncs {T E : Type 0} (old new : State) (result : Result T E) : Type 0 where
+  pub ok : OnOk result (new ≡ synced old)
+  pub err : OnErr result (new ≡ old)

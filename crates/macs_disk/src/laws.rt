@@ -1,0 +1,117 @@
+//! Laws of the definitions, for the layers above: what a power loss may leave after one call and after
+//! several, and how the promises of calls that follow one another are put together.
+
+ghost use Rattle.std.specs.Prelude.{◌≡◌, ◌≢◌, ◌≤◌, ℕ, true, List, Result};
+ghost use Rattle.macs_disk.specs.States.{Image, IsImage, IsSector, IsSound, State, settled, synced, written};
+ghost use Rattle.macs_disk.specs.Disk.{Disk, IsCall, IsHonest, IsWork, LeftSince, MayLeave, Rose, Works};
+ghost use Rattle.macs_disk.specs.Runs.{Leaves, LeavesNothingNew};
+ghost use Rattle.macs_disk.specs.Fused.{Fused, fuse_disk};
+ghost use Rattle.macs_disk.specs.MemDisks.{disk_of};
+ghost use Rattle.macs_disk.specs.declared.memory.MemDisk.{MemDisk};
+
+use crate::disk::SectorDisk;
+use std::alloc::Allocator;
+
+/// A property of what a power loss leaves.
+pub trait Property {
+    /// Holds of the images that have it.
+    ghost holds: { Image → Type 0 };
+}
+
+/// Where nothing is pending, a power loss leaves what reads give and nothing else.
+pub fn one_image_without_pending()
+    ensures { (image other : Image) → IsImage (settled image) other → other ≡ image }
+{}
+
+/// A power loss leaves sectors of 512 octets.
+pub fn images_are_sectors()
+    ensures { (state : State) (image : Image) → IsSound state → IsImage state image
+        → (i : ℕ) → IsSector (image i) }
+{}
+
+/// What a power loss may leave after a sync, it could leave before.
+pub fn a_sync_leaves_nothing_new()
+    ensures { (state : State) (image : Image) → IsSound state → IsImage (synced state) image
+        → IsImage state image }
+{}
+
+/// What a power loss may leave after a write, it could leave before, but for the sector that was
+/// written.
+pub fn a_write_leaves_one_sector()
+    ensures { (state : State) (at : ℕ) (octets : List ℕ) (image : Image) → IsSound state
+        → IsImage (written state at octets) image
+        → (before : Image) × IsImage state before × ((i : ℕ) → i ≢ at → image i ≡ before i) }
+{}
+
+/// No call is work, and works that follow one another are.
+pub fn works_on()
+    ensures none { (disk : Disk) → Works disk disk }
+    ensures more { (old mid new : Disk) → Works old mid → Works mid new → Works old new }
+{}
+
+/// Work without a fault, and then more.
+pub fn work_goes_on<T, E>()
+    ensures { (old mid new : Disk) (result : Result T E) → Works old mid → mid.failures ≡ old.failures
+        → IsWork mid new result → IsWork old new result }
+{}
+
+/// A fault stays one, whatever comes after and came before.
+pub fn a_fault_stays()
+    ensures after { (old mid new : Disk) → Rose old mid → Works mid new → Rose old new }
+    ensures before { (old mid new : Disk) → Works old mid → Rose mid new → Rose old new }
+{}
+
+/// What might be left since a moment, might be left since each earlier one; and what may be left now,
+/// might be left since each moment.
+pub fn left_since_earlier()
+    ensures earlier { (disk : Disk) (since until : ℕ) (image : Image) → since ≤ until
+        → LeftSince disk until image → LeftSince disk since image }
+    ensures now { (disk : Disk) (since : ℕ) (image : Image) → since ≤ disk.clock
+        → MayLeave disk image → LeftSince disk since image }
+{}
+
+/// Before the first call.
+pub fn leaves_none<P: Property>()
+    ensures { (disk : Disk) → ((image : Image) → MayLeave disk image → P.holds image)
+        → Leaves disk disk P.holds }
+{}
+
+/// A call more: what it adds is what a power loss may leave after it.
+pub fn leaves_call<P: Property, T, E>()
+    ensures { (old mid new : Disk) (result : Result T E) → Leaves old mid P.holds → IsCall mid new result
+        → ((image : Image) → MayLeave new image → P.holds image) → Leaves old new P.holds }
+{}
+
+/// Runs one after the other.
+pub fn leaves_more<P: Property>()
+    ensures { (old mid new : Disk) → Leaves old mid P.holds → Leaves mid new P.holds
+        → Leaves old new P.holds }
+{}
+
+/// A run has what follows from what it has.
+pub fn leaves_weaker<P: Property, Q: Property>()
+    ensures { (old new : Disk) → ((image : Image) → P.holds image → Q.holds image)
+        → Leaves old new P.holds → Leaves old new Q.holds }
+{}
+
+/// What a power loss may leave after a run is among what it might have left in it.
+pub fn leaves_now<P: Property>()
+    ensures { (old new : Disk) → Leaves old new P.holds
+        → (image : Image) → MayLeave new image → P.holds image }
+{}
+
+/// Runs that leave nothing new, one after the other.
+pub fn nothing_new_twice()
+    ensures { (old mid new : Disk) → LeavesNothingNew old mid → LeavesNothingNew mid new
+        → LeavesNothingNew old new }
+{}
+
+/// A disk in memory is an honest disk.
+pub fn memory_is_honest<A: Allocator>()
+    ensures { (it : MemDisk A) → IsHonest (disk_of it) }
+{}
+
+/// A fuse in front of an honest disk is an honest disk.
+pub fn fuses_are_honest<D: SectorDisk>()
+    ensures { (fuse : Fused D) → IsHonest (D.disk fuse.inner) → IsHonest (fuse_disk D.disk fuse) }
+{}
