@@ -35,7 +35,7 @@ no_test : {R : Type 0} (rows : List (R × Bool)) → first rows ≡ None → NoT
 no_test [] is = tt
 no_test (row ∷ rows) is = no_test_by row.0 row.1 rows (no_test rows) is
 
-applied_by : (refusal : Option Refusal) (made new : Config) → unless refusal made ≡ Ok new → (refusal ≡ None) × (made ≡ new)
+pub applied_by : (refusal : Option Refusal) (made new : Config) → unless refusal made ≡ Ok new → (refusal ≡ None) × (made ≡ new)
 applied_by None made new is = (refl, cc)
 applied_by (Some refusal) made new is = cc
 

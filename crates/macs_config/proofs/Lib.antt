@@ -7,3 +7,4 @@ pub mod Sides
 pub mod Kept
 pub mod Replayed
 pub mod Refused
+pub mod SpentForGood

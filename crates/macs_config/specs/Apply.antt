@@ -11,6 +11,8 @@ use Rattle.macs_config.specs.Identity.{Identity, is_port_one}
 use Rattle.macs_config.specs.Tables.{put, put_at}
 use Rattle.macs_config.specs.declared.command.Command.{Command}
 use Rattle.macs_config.specs.declared.command.Command.TheVariants.{SetValidate, SetReplay, SetSciMode, TxInstall, TxUse, TxRemove, RxAdd, RxDrop, RxInstall, RxRemove}
+use Rattle.macs_config.specs.declared.command.Role.{Role}
+use Rattle.macs_config.specs.declared.command.Role.TheVariants.{Transmit, Receive}
 use Rattle.macs_config.specs.declared.refusal.Refusal.{Refusal}
 use Rattle.macs_config.specs.declared.refusal.Refusal.TheVariants.{StartRange, OffsetChoice, OwnSci, EndStationSci, NoChannel, ChannelTaken, ChannelsFull, SlotTaken, SlotEmpty, InUse, KeySpent, SpentFull}
 
@@ -160,3 +162,9 @@ unless (Some refusal) c = Err refusal
 -- the configuration after a command, or the first refusal that holds
 abbrev pub apply : Edition → Identity → Config → Command → Result Config Refusal
 apply edition identity c command = unless (refusal_of edition identity c command) (changed c command)
+
+-- the fingerprint that a command spends on a side, if it installs there
+abbrev pub spends : Role → Command → List (List ℕ)
+spends Transmit (TxInstall an key start confidential offset) = tx_fingerprint key ∷ []
+spends Receive (RxInstall sci an key start offset) = rx_fingerprint sci key ∷ []
+spends role command = []

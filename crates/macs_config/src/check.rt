@@ -19,7 +19,11 @@ use macs_frame::{An, Offset, Sci};
 const END_STATION_PORT: [u8; 2] = [0, 1];
 
 /// The first refusal of a command, in the order of `Refusal`.
-pub(crate) fn refusal_of(contents: &Contents, identity: &Identity, command: &Command) -> Option<Refusal>
+pub(crate) fn refusal_of(
+    contents: &Contents,
+    identity: &Identity,
+    command: &Command,
+) -> Option<Refusal>
     ensures { result ≡ refusal_of first_edition identity.now (read contents.now) command.now }
 {
     match *command {

@@ -54,9 +54,9 @@ impl Config {
     }
 
     /// The configuration that the parts of a snapshot make up. `None` where they are not in a
-    /// snapshot's order, with settings once; an association, a channel or a fingerprint comes twice;
-    /// a channel is the endpoint's own SCI, or one more than 8; more than 512 keys are spent on a
-    /// side; a receive association has no channel; a key that stands is not spent; the encoding
+    /// snapshot's order, with settings once; an association, a channel or, on one side, a
+    /// fingerprint comes twice; a channel is the endpoint's own SCI, or one more than 8; more than 512
+    /// keys are spent on a side; a receive association has no channel; a key that stands is not spent; the encoding
     /// association does not stand; or the mode is that of an end station, and the port of the
     /// endpoint's SCI is not 00-01.
     pub fn restore(identity: &Identity, parts: &[Part]) -> Option<Config>

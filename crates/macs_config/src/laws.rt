@@ -1,11 +1,13 @@
-//! Laws of the definitions, for the layers above.
+//! Laws of the definitions, for the layers above. Where a law speaks of a value behind a reference, its
+//! body reads the fields: that is how a proof learns their ranges.
 
-ghost use Rattle.std.specs.Prelude.{◌≡◌, ◌<◌, ◌^◌, List, Some, Ok};
-ghost use Rattle.macs_config.specs.Apply.{IsCommand, IsKey, apply};
-ghost use Rattle.macs_config.specs.Config.{Config, Edition, IsConfig, default, first_edition};
+ghost use Rattle.std.specs.Prelude.{◌≡◌, ◌<◌, ◌^◌, ◌++◌, ℕ, List, length, Some, Ok};
+ghost use Rattle.macs_config.specs.Apply.{IsCommand, IsKey, apply, spends};
+ghost use Rattle.macs_config.specs.Config.{Config, Edition, IsConfig, default, first_edition, spent_of};
 ghost use Rattle.macs_config.specs.Identity.{Identity, IsIdentity};
 ghost use Rattle.macs_config.specs.Snapshot.{restored};
 ghost use Rattle.macs_config.specs.declared.command.Command.{Command};
+ghost use Rattle.macs_config.specs.declared.command.Role.{Role};
 ghost use Rattle.macs_config.specs.declared.part.Part.{Part};
 
 use crate::{Command, Identity};
@@ -61,6 +63,11 @@ fn installs_in_range(key: &[u8; 16], start: u32, offset: u8)
     let _octet = key[0];
 }
 
+/// A key of this edition has 16 octets.
+pub fn short_keys()
+    ensures { (key : List ℕ) → IsKey first_edition key → length key ≡ 16 }
+{}
+
 /// The fields of an identity are in their ranges.
 pub fn identity_in_range(identity: &Identity)
     ensures { IsIdentity identity.now }
@@ -85,4 +92,11 @@ pub fn apply_keeps()
 pub fn restored_is_config()
     ensures { (edition : Edition) (identity : Identity) (parts : List Part) (c : Config)
         → restored edition identity parts ≡ Some c → IsConfig edition identity c }
+{}
+
+/// Spent keys stay, in their order; an install adds its key on its side, and no other command any.
+pub fn spent_for_good()
+    ensures { (edition : Edition) (identity : Identity) (old new : Config) (command : Command) (role : Role)
+        → apply edition identity old command ≡ Ok new
+        → spent_of role new ≡ spent_of role old ++ spends role command }
 {}

@@ -25,7 +25,7 @@ pub enum Refusal {
     SlotEmpty,
     /// Frames go out under that association.
     InUse,
-    /// The key was installed before: on the transmit side, or on the receive side for that SCI.
+    /// The key is spent on the transmit side, or on the receive side for that SCI.
     KeySpent,
     /// As many keys are spent on that side as may be: 512.
     SpentFull,

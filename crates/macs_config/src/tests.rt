@@ -18,7 +18,7 @@ fn peer(station: u8) -> Sci {
     Sci([2, 0, 0, 0, 0, station, 0, 7])
 }
 
-/// Sixteen octets that count up from one.
+/// Sixteen octets that count up from this one.
 fn key_from(first: u8) -> [u8; 16] {
     let mut key = [0; 16];
     for place in 0..16u8 {

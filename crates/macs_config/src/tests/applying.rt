@@ -63,6 +63,9 @@ fn sets(rt: HostRuntime) {
     take(&rt, &mut config, Command::SetSciMode(SciMode::EndStation));
     assert_eq!(rt; config.sci_mode(), SciMode::EndStation);
     assert_eq!(rt; config.encoding(), Some(an_of(&rt, 1)));
+    let an = an_of(&rt, 0);
+    take(&rt, &mut config, Command::TxUse { an });
+    assert_eq!(rt; config.encoding(), Some(an));
 }
 
 #[test]

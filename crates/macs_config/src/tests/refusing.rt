@@ -87,6 +87,18 @@ fn refuses_others(rt: HostRuntime) {
     expect_refusal(&rt, Command::RxRemove { sci, an }, Refusal::SlotEmpty);
 }
 
+/// A channel that was dropped is looked for before its old key.
+#[test]
+fn refuses_a_dropped_channel_first(rt: HostRuntime) {
+    let mut config = configured(&rt);
+    take(&rt, &mut config, Command::RxDrop { sci: peer(9) });
+    let first = rx_install(&rt, peer(9), 2, key_from(32));
+    refuse(&rt, &mut config, first, Refusal::NoChannel);
+    take(&rt, &mut config, Command::RxAdd { sci: peer(9) });
+    let second = rx_install(&rt, peer(9), 2, key_from(32));
+    refuse(&rt, &mut config, second, Refusal::KeySpent);
+}
+
 #[test]
 fn refuses_the_ninth_channel(rt: HostRuntime) {
     let mut config = Config::new(&identity_of(&rt, OWN_SCI));

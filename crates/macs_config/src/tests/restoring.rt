@@ -44,7 +44,7 @@ fn settings(sci_mode: SciMode, encoding: Option<An>) -> Part {
     Part::Settings {
         validate: Validate::Check,
         replay: Replay {
-            on: true,
+            on: false,
             window: 7,
         },
         sci_mode,
@@ -140,7 +140,7 @@ fn restores_a_configuration(rt: HostRuntime) -> Result<(), Fail> {
     assert_eq!(rt;
         config.replay(),
         Replay {
-            on: true,
+            on: false,
             window: 7
         }
     );
