@@ -22,7 +22,7 @@ side_of t = record {
   next = λ an. option_map (λ (a : Association). a.next) (association_at t an);
 }
 
--- only numbers below an association's ceiling are used
+-- the ceilings of associations, by their numbers
 abbrev pub ceilings_of : Tx → ℕ → Option ℕ
 ceilings_of t an = option_map (λ (a : Association). a.ceiling) (association_at t an)
 

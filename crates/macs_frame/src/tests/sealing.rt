@@ -187,6 +187,12 @@ fn writes_tags(rt: HostRuntime) {
     );
     expect_tag(&rt, &station, 48, b"\x07\x88\xe5\x4f\x00\x76\xd4\x57\xed");
     expect_tag(&rt, &implicit, 47, b"\x07\x88\xe5\x0d\x2f\x00\x00\x00\x01");
+    let mut encrypted = tag_of(&rt, 1, 1, ScName::Implicit, true);
+    encrypted.changed = false;
+    expect_tag(&rt, &encrypted, 47, b"\x07\x88\xe5\x09\x2f\x00\x00\x00\x01");
+    let mut changed = tag_of(&rt, 1, 1, ScName::Implicit, true);
+    changed.encrypted = false;
+    expect_tag(&rt, &changed, 47, b"\x07\x88\xe5\x05\x2f\x00\x00\x00\x01");
 }
 
 /// Seals and opens a plain frame, whose protected one has so many octets.

@@ -63,16 +63,41 @@ fn answers_the_first_fault(rt: HostRuntime) {
 #[test]
 fn compares_the_source(rt: HostRuntime) -> Result<(), Fail> {
     let mut tx = sending(&rt, SciMode::EndStation, 0x76d4_57ed, END);
-    let mut plain = own_frame(14)?;
-    assert!(rt; plain.len() == 14);
-    plain[11] = 0x3e;
-    assert_eq!(rt;
-        protect(&rt, &mut tx, plain.as_slice()),
-        Err(TxFault::ForeignSource)
-    );
+    for place in 6..12 {
+        let plain = foreign_frame(&rt, place)?;
+        assert_eq!(rt;
+            protect(&rt, &mut tx, plain.as_slice()),
+            Err(TxFault::ForeignSource),
+            "octet {place}"
+        );
+    }
     assert_eq!(rt; tx.next_number(number_of(&rt, 0)), Some(0x76d4_57ed));
     tx.set_mode(SciMode::Implicit);
+    let plain = foreign_frame(&rt, 11)?;
     assert_eq!(rt; protect(&rt, &mut tx, plain.as_slice()), Ok(0x76d4_57ed));
+    Ok(())
+}
+
+/// A plain frame of 14 octets whose source differs from the end station's in one octet.
+fn foreign_frame(rt: &impl Abort, place: usize) -> Result<FrameBuf, Fail> {
+    let mut plain = own_frame(14)?;
+    assert!(rt; place < plain.len());
+    plain[place] ^= 3;
+    Ok(plain)
+}
+
+#[test]
+fn counts_faults_apart(rt: HostRuntime) -> Result<(), Fail> {
+    let mut tx = sending(&rt, SciMode::EndStation, 1, END);
+    let long = own_frame(9193)?;
+    let foreign = foreign_frame(&rt, 6)?;
+    assert!(rt; protect(&rt, &mut tx, long.as_slice()).is_err());
+    assert!(rt; protect(&rt, &mut tx, foreign.as_slice()).is_err());
+    assert!(rt; protect(&rt, &mut tx, foreign.as_slice()).is_err());
+    assert_eq!(rt; tx.fault_count(TxFault::TooLong), 1);
+    assert_eq!(rt; tx.fault_count(TxFault::ForeignSource), 2);
+    assert_eq!(rt; tx.fault_count(TxFault::Runt), 0);
+    assert_eq!(rt; tx.protected_count(), 0);
     Ok(())
 }
 

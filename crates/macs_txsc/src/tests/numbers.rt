@@ -56,6 +56,16 @@ fn asks_for_numbers(rt: HostRuntime) {
     expect_needs(&rt, &mut tx, Ok(5), [None, None, None]);
 }
 
+/// A ceiling just below the end of the numbers may still be raised.
+#[test]
+fn asks_up_to_the_end(rt: HostRuntime) {
+    let an = number_of(&rt, 0);
+    let mut tx = channel(STATION, SciMode::Explicit);
+    install(&rt, &mut tx, an, HIDDEN, END - 2, END - 1);
+    tx.select(an);
+    assert_eq!(rt; tx.needs(4), Some(an));
+}
+
 /// A frame has this answer, and after it the associations have these numbers.
 fn expect_next(rt: &impl Abort, tx: &mut Tx, answer: Result<u32, TxFault>, next: [Option<u64>; 4])
     ensures associations { (side_of tx.new).tx ≡ (side_of tx.old).tx }
