@@ -8,7 +8,7 @@ use Rattle.macs_frame.specs.declared.tag.ScName.TheVariants.{Explicit, EndStatio
 use Rattle.macs_frame.specs.declared.tag.Parts.{Parts}
 use Rattle.macs_frame.specs.declared.opening.OpenFault.{OpenFault}
 use Rattle.macs_frame.specs.declared.opening.OpenFault.TheVariants.{Tag as TagRefused, OtherSci, NotValid}
-use Rattle.macs_frame.specs.Tag.{IsForKay, Tag, TagFaultHolds, name_of, tag_faults}
+use Rattle.macs_frame.specs.Tag.{IsForKay, Tag, TagFaultHolds, end_of, name_of, start_of, tag_faults}
 
 -- of octets that come after the SecTAG, those in the clear: all under integrity alone, else as many as the offset says
 abbrev pub clear_of : Bool → ℕ → List ℕ → List ℕ
@@ -56,6 +56,10 @@ abbrev pub named_sci : List ℕ → ScName → Option (List ℕ)
 named_sci frame (Explicit sci) = Some sci
 named_sci frame EndStation = Some (slice_range frame 6 12 ++ 0 ∷ 1 ∷ [])
 named_sci frame Implicit = None
+
+-- a tagged frame without its SecTAG, ICV and padding: the addresses and the Secure Data
+abbrev pub bare : List ℕ → List ℕ
+bare frame = take 12 frame ++ slice_range frame (start_of frame) (end_of frame)
 
 -- ---- faults
 

@@ -1,0 +1,5 @@
+pub mod Places
+pub mod Steps
+pub mod Order
+pub mod Shown
+pub mod Needs

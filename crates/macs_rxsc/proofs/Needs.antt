@@ -1,0 +1,97 @@
+-- The first need of the channels that stand.
+use Rattle.std.proofs.Common.{◌≡◌, ◌∙◌, ◌≤◌, ◌<◌, ◌+◌, ◌++◌, ℕ, zero, suc, Bool, true, false, cond, List, [], ◌∷◌, length, map, flat_map, drop, get_or, bytes_eq, Option, Some, None, IsSome, refl, ap, sym, subst, arith}
+use Rattle.std.specs.List.{list_any}
+use Rattle.std.proofs.lemmas.Bool.{or_parts}
+use Rattle.std.proofs.lemmas.List.{drop_more}
+use Rattle.macs_config.specs.declared.command.Replay.{Replay}
+use Rattle.macs_config.specs.declared.command.Validate.{Validate}
+use Rattle.macs_rxsc.proofs.Places.{bytes_eq-same, bytes_eq-sym, channel_at-none}
+use Rattle.macs_rxsc.specs.Kept.{AreDistinct}
+use Rattle.macs_rxsc.specs.Receive.{Need, first_need, need_of, needs_of}
+use Rattle.macs_rxsc.specs.View.{ceilings_among, ceilings_in, channel_at, numbers_in, sas_in, scis_of, shown}
+use Rattle.macs_rxsc.specs.declared.channel.Channel.{Channel}
+
+-- the needs of a channel's associations
+abbrev pub needs_in : ℕ → List ℕ → Option Channel → List (Option Need)
+needs_in block sci channel = map (λ an. need_of block sci an (numbers_in channel an) (ceilings_in channel an)) (0 ∷ 1 ∷ 2 ∷ 3 ∷ [])
+
+abbrev pub needs_among : ℕ → List Channel → List (Option Need)
+needs_among block channels = flat_map (λ (c : Channel). needs_in block c.sci (Some c)) channels
+
+append_none : (xs ys : List (Option Need)) → first_need xs ≡ None → first_need (xs ++ ys) ≡ first_need ys
+append_none [] ys none = refl
+append_none (None ∷ xs) ys none = append_none xs ys none
+append_none (Some n ∷ xs) ys none = absurd (cc)
+
+append_some : (xs ys : List (Option Need)) (n : Need) → first_need xs ≡ Some n → first_need (xs ++ ys) ≡ Some n
+append_some [] ys n is = absurd (cc)
+append_some (None ∷ xs) ys n is = append_some xs ys n is
+append_some (Some m ∷ xs) ys n is = is
+
+-- a channel without need
+pub passed : (block : ℕ) (channels : List Channel) (i : ℕ) (d : Channel) → i < length channels → first_need (needs_in block (get_or channels i d).sci (Some (get_or channels i d))) ≡ None
+    → first_need (needs_among block channels) ≡ first_need (needs_among block (drop i channels))
+    → first_need (needs_among block channels) ≡ first_need (needs_among block (drop (i + 1) channels))
+passed block channels i d within none so_far =
+    so_far ∙ ap (λ (xs : List Channel). first_need (needs_among block xs)) (drop_more channels i d within)
+    ∙ append_none (needs_in block (get_or channels i d).sci (Some (get_or channels i d))) _ none
+
+-- a channel with a need
+pub met : (block : ℕ) (channels : List Channel) (i : ℕ) (d : Channel) (need : Need) → i < length channels → first_need (needs_in block (get_or channels i d).sci (Some (get_or channels i d))) ≡ Some need
+    → first_need (needs_among block channels) ≡ first_need (needs_among block (drop i channels))
+    → first_need (needs_among block channels) ≡ Some need
+met block channels i d need within some so_far =
+    so_far ∙ ap (λ (xs : List Channel). first_need (needs_among block xs)) (drop_more channels i d within)
+    ∙ append_some (needs_in block (get_or channels i d).sci (Some (get_or channels i d))) _ need some
+
+gone_past : (xs : List Channel) (i : ℕ) → length xs ≤ i → drop i xs ≡ []
+gone_past [] zero past = refl
+gone_past [] (suc i) past = refl
+gone_past (x ∷ xs) zero past = absurd (omega arith)
+gone_past (x ∷ xs) (suc i) past = gone_past xs i (omega arith)
+
+-- no channel has a need
+pub past_all : (block : ℕ) (channels : List Channel) (i : ℕ) → length channels ≤ i
+    → first_need (needs_among block channels) ≡ first_need (needs_among block (drop i channels)) → first_need (needs_among block channels) ≡ None
+past_all block channels i past so_far = so_far ∙ ap (λ (xs : List Channel). first_need (needs_among block xs)) (gone_past channels i past)
+
+-- ---- the channel of an SCI is the one that has it, where no SCI stands twice
+
+not_at : (channels : List Channel) (sci : List ℕ) (k : ℕ) (d : Channel) → list_any (λ other. bytes_eq other sci) (scis_of channels) ≡ false → k < length channels
+    → bytes_eq (get_or channels k d).sci sci ≡ false
+not_at [] sci k d none within = absurd (omega arith)
+not_at (c ∷ cs) sci zero d none within = (or_parts (bytes_eq c.sci sci) (list_any (λ other. bytes_eq other sci) (scis_of cs)) none).0
+not_at (c ∷ cs) sci (suc k) d none within = not_at cs sci k d (or_parts (bytes_eq c.sci sci) (list_any (λ other. bytes_eq other sci) (scis_of cs)) none).1 (omega arith)
+
+own : (channels : List Channel) → AreDistinct (scis_of channels) → (k : ℕ) (d : Channel) → k < length channels → channel_at channels (get_or channels k d).sci ≡ Some (get_or channels k d)
+own [] distinct k d within = absurd (omega arith)
+own (c ∷ cs) distinct zero d within = rw (bytes_eq-same c.sci) refl
+own (c ∷ cs) distinct (suc k) d within =
+    let lt : k < length cs = omega arith in
+    let other : bytes_eq c.sci (get_or cs k d).sci ≡ false = bytes_eq-sym c.sci (get_or cs k d).sci ∙ not_at cs c.sci k d distinct.0 lt in
+    rw other (own cs distinct.1 k d lt)
+
+same_needs : (block : ℕ) (all xs : List Channel) → ((k : ℕ) (d : Channel) → k < length xs → channel_at all (get_or xs k d).sci ≡ Some (get_or xs k d))
+    → flat_map (λ sci. needs_in block sci (channel_at all sci)) (scis_of xs) ≡ needs_among block xs
+same_needs block all [] each = refl
+same_needs block all (x ∷ xs) each =
+    let here : channel_at all x.sci ≡ Some x = each zero x (omega arith) in
+    let rest = same_needs block all xs (λ k d lt. each (suc k) d (omega arith)) in
+    λ i. needs_in block x.sci (here i) ++ rest i
+
+-- the first need of all
+pub needs_are : (block : ℕ) (channels : List Channel) → AreDistinct (scis_of channels) → (validate : Validate) (replay : Replay)
+    → first_need (needs_among block channels) ≡ needs_of (shown validate replay channels) (ceilings_among channels) block
+needs_are block channels distinct validate replay = ap first_need (sym (same_needs block channels channels (own channels distinct)))
+
+-- ---- an association stands in a channel that stands
+
+among_by : (channels : List Channel) (sci : List ℕ) (an : ℕ) (b : Bool) → list_any (λ other. bytes_eq other sci) (scis_of channels) ≡ b → IsSome (sas_in (channel_at channels sci) an) → b ≡ true
+among_by channels sci an true is some = refl
+among_by channels sci an false is some =
+    let none = channel_at-none channels sci is in
+    let gone = subst (λ (o : Option Channel). IsSome (sas_in o an)) none some in
+    absurd (cc)
+
+pub among : (channels : List Channel) (sci : List ℕ) (an : ℕ) → IsSome (sas_in (channel_at channels sci) an) → list_any (λ other. bytes_eq other sci) (scis_of channels) ≡ true
+among channels sci an some = among_by channels sci an _ refl some

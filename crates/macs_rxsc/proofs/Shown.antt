@@ -1,0 +1,327 @@
+-- What the channels show, after one of them has changed, came or went.
+use Rattle.std.proofs.Common.{◌≡◌, ◌∙◌, ◌<◌, ℕ, zero, suc, Bool, true, false, cond, not, List, [], ◌∷◌, ◌++◌, length, map, take, drop, set, get_or, filter, Option, Some, None, IsSome, refl, ap, sym, subst, arith, rules}
+use Rattle.std.specs.Prelude.{position, slice_set, ◌||◌}
+use Rattle.std.specs.List.{insert, list_any, refill}
+use Rattle.std.specs.Option.{option_and_then, option_map}
+use Rattle.std.specs.Str.{bytes_eq}
+use Rattle.std.proofs.lemmas.List.{length-set}
+use Rattle.std.proofs.Math.Path.{fun_ext}
+use Rattle.arrayvec.proofs.ArrayVecLemmas.{items-with_items}
+use Rattle.macs_config.specs.Config.{put_among}
+use Rattle.macs_config.specs.Tables.{put, put_at}
+use Rattle.macs_config.specs.declared.association.RxSa.{RxSa}
+use Rattle.macs_config.specs.declared.command.Replay.{Replay}
+use Rattle.macs_config.specs.declared.command.Validate.{Validate}
+use Rattle.macs_config.specs.declared.command.Validate.TheVariants.{Strict, Check}
+use Rattle.macs_frame.specs.Tag.{name_of, tag_of}
+use Rattle.macs_frame.specs.declared.tag.SecTag.{SecTag}
+use Rattle.macs_frame.specs.declared.tag.ScName.{ScName}
+use Rattle.macs_frame.specs.declared.tag.TagFault.{TagFault}
+use Rattle.macs_frame.specs.declared.tag.TagFault.TheVariants.{Runt as IsRunt, Oversize as IsOversize, NoTag as HasNoTag, BadTag as HasBadTag, ForKay as IsForKay}
+use Rattle.macs_rxsc.specs.Kept.{AreDistinct, IsKept}
+use Rattle.macs_rxsc.specs.Receive.{Numbers, Outcome, Receives, RxSide, Tag as TagStep, channel_counted, channel_of, counted_at, none_counted_for_channel, put_numbers, sci_named, standing, verdict_at, windowed}
+use Rattle.macs_rxsc.specs.View.{ceilings_among, ceilings_in, channel_at, counters_among, counters_in, numbers_in, numbers_of, sa_of, sas_in, scis_of, shown, slid, slid_channel, association_in}
+use Rattle.macs_rxsc.specs.declared.association.Association.{Association}
+use Rattle.macs_rxsc.specs.declared.channel.Channel.{Channel}
+use Rattle.macs_rxsc.specs.declared.counters.ChannelCounters.{ChannelCounters}
+use Rattle.macs_rxsc.specs.declared.counters.RxCounters.{RxCounters}
+use Rattle.macs_rxsc.specs.declared.verdict.Verdict.{Verdict}
+use Rattle.macs_rxsc.proofs.Order.{AllOrdered}
+use Rattle.macs_rxsc.proofs.Places.{IsPlace, among_at, channel_at-filter, channel_at-insert, channel_at-none, channel_at-place, channel_at-set, channel_at-slid, has_sci, is_other, is_place, not_there, place_there, put_at-same, read_of, scis_of-filter, scis_of-insert, scis_of-set, scis_of-slid}
+
+-- a channel that is none
+abbrev pub blank : Channel
+blank = record { sci = []; associations = []; counters = none_counted_for_channel }
+
+-- the array after one of its channels was lent
+pub lent : (items ws : List Channel) (place : ℕ) (new : Channel) → ws ≡ items → refill (length items) items (set ws place new) ≡ set items place new
+lent items ws place new is =
+    ap (λ (xs : List Channel). refill (length items) items (set xs place new)) is ∙ items-with_items (record { items = items }) (set items place new) (length-set items place new)
+
+-- the channel that was lent
+pub lent_old : (items ws : List Channel) (place : ℕ) (d : Channel) → ws ≡ items → d ≡ get_or ws place d → get_or ws place d ≡ get_or items place (get_or ws place d)
+lent_old items ws place d same is = ap (λ (xs : List Channel). get_or xs place d) same ∙ ap (get_or items place) is
+
+-- where a channel stands, as it was found
+pub found_place : (items ws : List Channel) (sci : List ℕ) (place : ℕ) (d : Channel) → ws ≡ items → Some place ≡ position (has_sci sci) ws → IsPlace items sci place d
+found_place items ws sci place d is found = is_place items sci place d (sym (found ∙ ap (position (has_sci sci)) is))
+
+pub found_none : (items ws : List Channel) (sci : List ℕ) → ws ≡ items → None ≡ position (has_sci sci) ws
+    → (channel_at items sci ≡ None) × (list_any (λ other. bytes_eq other sci) (scis_of items) ≡ false)
+found_none items ws sci is none = not_there items sci blank (sym (none ∙ ap (position (has_sci sci)) is))
+
+-- ---- one channel has changed
+
+module _ (items : List Channel) (place : ℕ) (old new : Channel) (sci : List ℕ) (p : IsPlace items sci place old) (is : old ≡ get_or items place old) (same : new.sci ≡ old.sci) where
+  pub there : old.sci ≡ sci
+  there = ap (λ (c : Channel). c.sci) is ∙ place_there items sci place old p
+
+  pub at_old : channel_at items sci ≡ Some old
+  at_old = channel_at-place items sci place old p ∙ ap Some (sym is)
+
+  each : (s : List ℕ) → channel_at (set items place new) s ≡ put_at (channel_at items) sci (Some new) s
+  each = channel_at-set items place new old sci p (same ∙ there)
+
+  scis : scis_of (set items place new) ≡ scis_of items
+  scis = scis_of-set items place new old sci p (same ∙ there)
+
+  pub shown-changed : (validate : Validate) (replay : Replay) (f : ℕ → Option RxSa) (g : ℕ → Option Numbers) → sas_in (Some new) ≡ f → numbers_in (Some new) ≡ g
+      → shown validate replay (set items place new) ≡ record (shown validate replay items)
+      { rx = put_at (shown validate replay items).rx sci f; numbers = put_at (shown validate replay items).numbers sci g }
+  shown-changed validate replay f g sas numbers =
+      let rx_is : (λ (s : List ℕ). sas_in (channel_at (set items place new) s)) ≡ put_at (λ (s : List ℕ). sas_in (channel_at items s)) sci f =
+      read_of sas_in _ _ sci (Some new) each ∙ ap (put_at (λ (s : List ℕ). sas_in (channel_at items s)) sci) sas in
+      let numbers_are : (λ (s : List ℕ). numbers_in (channel_at (set items place new) s)) ≡ put_at (λ (s : List ℕ). numbers_in (channel_at items s)) sci g =
+      read_of numbers_in _ _ sci (Some new) each ∙ ap (put_at (λ (s : List ℕ). numbers_in (channel_at items s)) sci) numbers in
+      λ i. record { validate = validate; replay = replay; channels = scis i; rx = rx_is i; numbers = numbers_are i }
+
+  pub ceilings-changed : (h : ℕ → Option ℕ) → ceilings_in (Some new) ≡ h → ceilings_among (set items place new) ≡ put_at (ceilings_among items) sci h
+  ceilings-changed h is = read_of ceilings_in _ _ sci (Some new) each ∙ ap (put_at (ceilings_among items) sci) is
+
+  pub counters-changed : (h : Option ChannelCounters) → Some new.counters ≡ h → counters_among (set items place new) ≡ put_at (counters_among items) sci h
+  counters-changed h is = read_of counters_in _ _ sci (Some new) each ∙ ap (put_at (counters_among items) sci) is
+
+  -- what the old channel said, put where it was
+  pub sas-old : put_at (λ (s : List ℕ). sas_in (channel_at items s)) sci (sas_in (Some old)) ≡ (λ (s : List ℕ). sas_in (channel_at items s))
+  sas-old = put_at-same (λ (s : List ℕ). sas_in (channel_at items s)) sci (sas_in (Some old)) (ap sas_in at_old)
+
+  pub numbers-old : put_at (λ (s : List ℕ). numbers_in (channel_at items s)) sci (numbers_in (Some old)) ≡ (λ (s : List ℕ). numbers_in (channel_at items s))
+  numbers-old = put_at-same (λ (s : List ℕ). numbers_in (channel_at items s)) sci (numbers_in (Some old)) (ap numbers_in at_old)
+
+  pub ceilings-kept : ceilings_in (Some new) ≡ ceilings_in (Some old) → ceilings_among (set items place new) ≡ ceilings_among items
+  ceilings-kept is = ceilings-changed _ is ∙ put_at-same (ceilings_among items) sci (ceilings_in (Some old)) (ap ceilings_in at_old)
+
+  pub counters-kept : new.counters ≡ old.counters → counters_among (set items place new) ≡ counters_among items
+  counters-kept is = counters-changed _ (ap Some is) ∙ put_at-same (counters_among items) sci (Some old.counters) (ap counters_in at_old)
+
+  pub shown-kept : (validate : Validate) (replay : Replay) → sas_in (Some new) ≡ sas_in (Some old) → numbers_in (Some new) ≡ numbers_in (Some old)
+      → shown validate replay (set items place new) ≡ shown validate replay items
+  shown-kept validate replay sas numbers =
+      shown-changed validate replay _ _ sas numbers
+      ∙ (λ i. record { validate = validate; replay = replay; channels = scis_of items; rx = sas-old i; numbers = numbers-old i })
+
+  -- only the numbers changed
+  pub shown-numbers : (validate : Validate) (replay : Replay) → sas_in (Some new) ≡ sas_in (Some old)
+      → shown validate replay (set items place new) ≡ record (shown validate replay items) { numbers = (shown validate replay (set items place new)).numbers }
+  shown-numbers validate replay sas =
+      let rx_is : (λ (s : List ℕ). sas_in (channel_at (set items place new) s)) ≡ (λ (s : List ℕ). sas_in (channel_at items s)) =
+      read_of sas_in _ _ sci (Some new) each ∙ ap (put_at (λ (s : List ℕ). sas_in (channel_at items s)) sci) sas ∙ sas-old in
+      λ i. record { validate = validate; replay = replay; channels = scis i; rx = rx_is i; numbers = (shown validate replay (set items place new)).numbers }
+
+  -- the numbers that the channel has now
+  pub numbers-changed : put_at (λ (s : List ℕ). numbers_in (channel_at items s)) old.sci (numbers_in (Some new)) ≡ (λ (s : List ℕ). numbers_in (channel_at (set items place new) s))
+  numbers-changed =
+      ap (λ (s : List ℕ). put_at (λ (t : List ℕ). numbers_in (channel_at items t)) s (numbers_in (Some new))) there
+      ∙ sym (read_of numbers_in _ _ sci (Some new) each)
+
+  -- one more is counted for the channel
+  pub counters-counted : (verdict : Verdict) → new.counters ≡ channel_counted verdict old.counters
+      → counters_among (set items place new) ≡ counted_at (Some sci) verdict (counters_among items)
+  counters-counted verdict is =
+      counters-changed _ (ap Some is)
+      ∙ ap (λ (o : Option Channel). put_at (counters_among items) sci (option_map (channel_counted verdict) (counters_in o))) (sym at_old)
+
+-- ---- a new channel
+
+abbrev pub fresh : List ℕ → Channel
+fresh sci = record { sci = sci; associations = None ∷ None ∷ None ∷ None ∷ []; counters = none_counted_for_channel }
+
+nothing_at : (an : ℕ) → get_or {A = Option Association} (None ∷ None ∷ None ∷ None ∷ []) an None ≡ None
+nothing_at zero = refl
+nothing_at (suc zero) = refl
+nothing_at (suc (suc zero)) = refl
+nothing_at (suc (suc (suc zero))) = refl
+nothing_at (suc (suc (suc (suc an)))) = refl
+
+module _ (items : List Channel) (place : ℕ) (sci : List ℕ) (free : list_any (λ other. bytes_eq other sci) (scis_of items) ≡ false) where
+  inserted : (s : List ℕ) → channel_at (insert items place (fresh sci)) s ≡ put_at (channel_at items) sci (Some (fresh sci)) s
+  inserted = channel_at-insert items place (fresh sci) free
+
+  none_yet : channel_at items sci ≡ None
+  none_yet = channel_at-none items sci free
+
+  -- what is read of associations is as before
+  unread : {X : Type 0} (f : Association → X) → ◌≡◌ {A = ℕ → Option X} (λ an. option_map f (get_or (fresh sci).associations an None)) (λ an. None)
+  unread f = fun_ext (λ an. ap (option_map f) (nothing_at an))
+
+  sas-added : ◌≡◌ {A = List ℕ → ℕ → Option RxSa} (λ s. sas_in (channel_at (insert items place (fresh sci)) s)) (λ s. sas_in (channel_at items s))
+  sas-added =
+      read_of sas_in _ _ sci (Some (fresh sci)) inserted ∙ ap (put_at (λ (s : List ℕ). sas_in (channel_at items s)) sci) (unread sa_of)
+      ∙ put_at-same (λ (s : List ℕ). sas_in (channel_at items s)) sci _ (ap sas_in none_yet)
+
+  numbers-added : ◌≡◌ {A = List ℕ → ℕ → Option Numbers} (λ s. numbers_in (channel_at (insert items place (fresh sci)) s)) (λ s. numbers_in (channel_at items s))
+  numbers-added =
+      read_of numbers_in _ _ sci (Some (fresh sci)) inserted ∙ ap (put_at (λ (s : List ℕ). numbers_in (channel_at items s)) sci) (unread numbers_of)
+      ∙ put_at-same (λ (s : List ℕ). numbers_in (channel_at items s)) sci _ (ap numbers_in none_yet)
+
+  pub ceilings-added : ceilings_among (insert items place (fresh sci)) ≡ ceilings_among items
+  ceilings-added =
+      read_of ceilings_in _ _ sci (Some (fresh sci)) inserted ∙ ap (put_at (ceilings_among items) sci) (unread (λ (a : Association). a.ceiling))
+      ∙ put_at-same (ceilings_among items) sci _ (ap ceilings_in none_yet)
+
+  pub counters-added : counters_among (insert items place (fresh sci)) ≡ put_at (counters_among items) sci (Some none_counted_for_channel)
+  counters-added = read_of counters_in _ _ sci (Some (fresh sci)) inserted
+
+  pub shown-added : (validate : Validate) (replay : Replay) → put_among sci (scis_of items) ≡ take place (scis_of items) ++ sci ∷ drop place (scis_of items)
+      → shown validate replay (insert items place (fresh sci)) ≡ record (shown validate replay items) { channels = put_among sci (scis_of items) }
+  shown-added validate replay between =
+      let scis : scis_of (insert items place (fresh sci)) ≡ put_among sci (scis_of items) = scis_of-insert items place (fresh sci) ∙ sym between in
+      λ i. record { validate = validate; replay = replay; channels = scis i; rx = sas-added i; numbers = numbers-added i }
+
+-- ---- a channel goes
+
+module _ (items : List Channel) (sci : List ℕ) where
+  pub shown-gone : (validate : Validate) (replay : Replay) → shown validate replay (filter (is_other sci) items) ≡ record (shown validate replay items) {
+    channels = filter (λ other. not (bytes_eq other sci)) (scis_of items);
+    rx = put_at (shown validate replay items).rx sci (λ an. None);
+    numbers = put_at (shown validate replay items).numbers sci (λ an. None);
+  }
+  shown-gone validate replay =
+      let rx_is : (λ (s : List ℕ). sas_in (channel_at (filter (is_other sci) items) s)) ≡ put_at (λ (s : List ℕ). sas_in (channel_at items s)) sci (λ an. None) =
+      read_of sas_in _ _ sci None (channel_at-filter items sci) in
+      let numbers_are : (λ (s : List ℕ). numbers_in (channel_at (filter (is_other sci) items) s)) ≡ put_at (λ (s : List ℕ). numbers_in (channel_at items s)) sci (λ an. None) =
+      read_of numbers_in _ _ sci None (channel_at-filter items sci) in
+      λ i. record { validate = validate; replay = replay; channels = scis_of-filter items sci i; rx = rx_is i; numbers = numbers_are i }
+
+  pub ceilings-gone : ceilings_among (filter (is_other sci) items) ≡ put_at (ceilings_among items) sci (λ an. None)
+  ceilings-gone = read_of ceilings_in _ _ sci None (channel_at-filter items sci)
+
+  pub counters-gone : counters_among (filter (is_other sci) items) ≡ put_at (counters_among items) sci None
+  counters-gone = read_of counters_in _ _ sci None (channel_at-filter items sci)
+
+-- ---- the channel that a frame names
+
+-- the place that was found, over the channels as they are kept and the name in the frame's tag
+pub named_at : (items ws : List Channel) (frame : List ℕ) (tag : SecTag) (found : Option ℕ) → ws ≡ items → tag ≡ tag_of frame
+    → found ≡ option_and_then (λ (s : List ℕ). position (has_sci s) ws) (sci_named (scis_of ws) frame tag.name)
+    → found ≡ option_and_then (λ (s : List ℕ). position (has_sci s) items) (sci_named (scis_of items) frame (name_of frame))
+named_at items ws frame tag found same is found_is =
+    found_is
+    ∙ ap (λ (t : SecTag). option_and_then (λ (s : List ℕ). position (has_sci s) ws) (sci_named (scis_of ws) frame t.name)) is
+    ∙ ap (λ (xs : List Channel). option_and_then (λ (s : List ℕ). position (has_sci s) xs) (sci_named (scis_of xs) frame (name_of frame))) same
+
+pub named_some : (items : List Channel) (place : ℕ) (d : Channel) (named : Option (List ℕ))
+    → ◌≡◌ {A = Option ℕ} (Some place) (option_and_then (λ (s : List ℕ). position (has_sci s) items) named)
+    → (sci : List ℕ) × (named ≡ Some sci) × IsPlace items sci place d × (option_and_then (standing (scis_of items)) named ≡ Some sci)
+named_some items place d None found = absurd (cc)
+named_some items place d (Some sci) found =
+    let p = is_place items sci place d (sym found) in
+    (sci, refl, p, rw (among_at items sci place d p) refl)
+
+pub named_none : (items : List Channel) (named : Option (List ℕ)) → ◌≡◌ {A = Option ℕ} None (option_and_then (λ (s : List ℕ). position (has_sci s) items) named)
+    → option_and_then (standing (scis_of items)) named ≡ None
+named_none items None none = refl
+named_none items (Some sci) none = rw ((not_there items sci blank (sym none)).1) refl
+
+-- ---- what is not counted for channels
+
+same_in : (o : Option ChannelCounters) (verdict : Verdict) → ((c : ChannelCounters) → channel_counted verdict c ≡ c) → o ≡ option_map (channel_counted verdict) o
+same_in None verdict same = refl
+same_in (Some c) verdict same = ap Some (sym (same c))
+
+pub uncounted : (channel : Option (List ℕ)) (verdict : Verdict) (table : List ℕ → Option ChannelCounters) → ((c : ChannelCounters) → channel_counted verdict c ≡ c) → counted_at channel verdict table ≡ table
+uncounted None verdict table same = refl
+uncounted (Some sci) verdict table same = put_at-same table sci _ (same_in (table sci) verdict same)
+
+pub tag_uncounted : (side : RxSide) (frame : List ℕ) (fault : TagFault) (validate : Validate) → side.validate ≡ validate → (c : ChannelCounters) → channel_counted (verdict_at side frame (TagStep fault)) c ≡ c
+tag_uncounted side frame IsRunt validate is c = refl
+tag_uncounted side frame IsOversize validate is c = refl
+tag_uncounted side frame HasNoTag Strict is c = rw is refl
+tag_uncounted side frame HasNoTag Check is c = rw is refl
+tag_uncounted side frame HasBadTag validate is c = refl
+tag_uncounted side frame IsForKay validate is c = refl
+
+-- ---- the window changes
+
+windowed_read : (window : ℕ) (a : Option Association) → option_map numbers_of (option_map (slid window) a) ≡ option_map (windowed window) (option_map numbers_of a)
+windowed_read window None = refl
+windowed_read window (Some a) = refl
+
+sa_read : (window : ℕ) (a : Option Association) → option_map sa_of (option_map (slid window) a) ≡ option_map sa_of a
+sa_read window None = refl
+sa_read window (Some a) = refl
+
+ceiling_read : (window : ℕ) (a : Option Association) → option_map (λ (x : Association). x.ceiling) (option_map (slid window) a) ≡ option_map (λ (x : Association). x.ceiling) a
+ceiling_read window None = refl
+ceiling_read window (Some a) = refl
+
+slid_at : (window : ℕ) (xs : List (Option Association)) (an : ℕ) → get_or (map (option_map (slid window)) xs) an None ≡ option_map (slid window) (get_or xs an None)
+slid_at window [] an = refl
+slid_at window (x ∷ xs) zero = refl
+slid_at window (x ∷ xs) (suc an) = slid_at window xs an
+
+slid_in : (window : ℕ) (o : Option Channel) (an : ℕ) → association_in (option_map (slid_channel window) o) an ≡ option_map (slid window) (association_in o an)
+slid_in window None an = refl
+slid_in window (Some c) an = slid_at window c.associations an
+
+module _ (items : List Channel) (window : ℕ) where
+  slid_there : (s : List ℕ) (an : ℕ) → association_in (channel_at (map (slid_channel window) items) s) an ≡ option_map (slid window) (association_in (channel_at items s) an)
+  slid_there s an = ap (λ (o : Option Channel). association_in o an) (channel_at-slid items window s) ∙ slid_in window (channel_at items s) an
+
+  pub shown-slid : (validate : Validate) (replay : Replay) (old : Validate) (before : Replay) → shown validate replay (map (slid_channel window) items) ≡ record (shown old before items) {
+    validate = validate;
+    replay = replay;
+    numbers = λ sci an. option_map (windowed window) ((shown old before items).numbers sci an);
+  }
+  shown-slid validate replay old before =
+      let rx_is : (λ (s : List ℕ). sas_in (channel_at (map (slid_channel window) items) s)) ≡ (λ (s : List ℕ). sas_in (channel_at items s)) =
+      fun_ext (λ s. fun_ext (λ an. ap (option_map sa_of) (slid_there s an) ∙ sa_read window (association_in (channel_at items s) an))) in
+      let numbers_are : (λ (s : List ℕ). numbers_in (channel_at (map (slid_channel window) items) s)) ≡ (λ (s : List ℕ) (an : ℕ). option_map (windowed window) (numbers_in (channel_at items s) an)) =
+      fun_ext (λ s. fun_ext (λ an. ap (option_map numbers_of) (slid_there s an) ∙ windowed_read window (association_in (channel_at items s) an))) in
+      λ i. record { validate = validate; replay = replay; channels = scis_of-slid items window i; rx = rx_is i; numbers = numbers_are i }
+
+  pub ceilings-slid : ceilings_among (map (slid_channel window) items) ≡ ceilings_among items
+  ceilings-slid = fun_ext (λ s. fun_ext (λ an. ap (option_map (λ (x : Association). x.ceiling)) (slid_there s an) ∙ ceiling_read window (association_in (channel_at items s) an)))
+
+  counted_in : (o : Option Channel) → counters_in (option_map (slid_channel window) o) ≡ counters_in o
+  counted_in None = refl
+  counted_in (Some c) = refl
+
+  pub counters-slid : counters_among (map (slid_channel window) items) ≡ counters_among items
+  counters-slid = fun_ext (λ s. ap counters_in (channel_at-slid items window s) ∙ counted_in (channel_at items s))
+
+-- ---- what holds of all that is kept
+
+-- channels that show this are in order where it is
+pub kept_as : (validate : Validate) (replay : Replay) (items : List Channel) (counters : RxCounters) (side : RxSide) (ceilings : List ℕ → ℕ → Option ℕ)
+    → shown validate replay items ≡ side → ceilings_among items ≡ ceilings → AreDistinct side.channels → AllOrdered side ceilings
+    → IsKept (record { validate = validate; replay = replay; channels = items; counters = counters })
+kept_as validate replay items counters side ceilings is_side are_ceilings distinct ordered = record {
+  distinct = subst (λ (s : RxSide). AreDistinct s.channels) (sym is_side) distinct;
+  ordered =
+      subst (λ (s : RxSide). AllOrdered s (ceilings_among items)) (sym is_side)
+      (subst (λ (c : List ℕ → ℕ → Option ℕ). AllOrdered side c) (sym are_ceilings) ordered);
+}
+
+-- ---- one association of a channel has changed
+
+placed : {A B : Type 0} (f : A → B) (xs : List (Option A)) (i : ℕ) (new : A) → i < length xs
+    → (λ (j : ℕ). option_map f (get_or (slice_set xs i (Some new)) j None)) ≡ put (λ (j : ℕ). option_map f (get_or xs j None)) i (Some (f new))
+placed f xs i new within = search rules
+
+-- the channel that its association has moved the numbers of
+pub decided_some : (side : RxSide) (ceilings : List ℕ → ℕ → Option ℕ) (frame : List ℕ) (channel : Channel) (i an : ℕ) (new : Association) (verdict : Verdict) (given : List ℕ)
+    → i ≡ an → i < length channel.associations → side.numbers channel.sci ≡ numbers_in (Some channel)
+    → Receives side ceilings frame (record { verdict = verdict; given = given; numbers = put_numbers side.numbers channel.sci an (Some (numbers_of new)) })
+    → Receives side ceilings frame (record {
+      verdict = verdict;
+      given = given;
+      numbers = put_at side.numbers channel.sci (numbers_in (Some (record channel { associations = slice_set channel.associations i (Some new) })));
+    })
+decided_some side ceilings frame channel i an new verdict given same within are received =
+    let changed : put (side.numbers channel.sci) an (Some (numbers_of new)) ≡ numbers_in (Some (record channel { associations = slice_set channel.associations i (Some new) })) =
+    ap (λ (f : ℕ → Option Numbers). put f an (Some (numbers_of new))) are
+    ∙ ap (λ (k : ℕ). put (numbers_in (Some channel)) k (Some (numbers_of new))) (sym same)
+    ∙ sym (placed numbers_of channel.associations i new within) in
+    subst (λ (f : ℕ → Option Numbers). Receives side ceilings frame (record { verdict = verdict; given = given; numbers = put_at side.numbers channel.sci f })) changed received
+
+-- an element, whatever is read past the end
+pub read_at : {X : Type 0} (xs : List X) (i : ℕ) (d e : X) → i < length xs → get_or xs i d ≡ get_or xs i e
+read_at [] i d e within = absurd (omega arith)
+read_at (x ∷ xs) zero d e within = refl
+read_at (x ∷ xs) (suc i) d e within = read_at xs i d e (omega arith)
+
+-- the channel of which no association has changed
+pub decided_same : (side : RxSide) (channel : Channel) (f : ℕ → Option Numbers) → f ≡ numbers_in (Some channel) → side.numbers channel.sci ≡ numbers_in (Some channel)
+    → put_at side.numbers channel.sci f ≡ side.numbers
+decided_same side channel f same are = put_at-same side.numbers channel.sci f (are ∙ sym same)

@@ -1,0 +1,16 @@
+use Rattle.std.proofs.Common.{◌≡◌, ◌∙◌, ℕ, List, Option, Some, None, IsSome, IfSome, filter, not, bytes_eq, refl, ap, sym, subst, arith}
+use Rattle.macs_rxsc.proofs.Shown.{kept_as}
+use Rattle.macs_rxsc.specs.View.{ceilings_among, shown}
+use Rattle.macs_rxsc.proofs.Order.{distinct-filter, ordered-gone}
+use Rattle.macs_rxsc.proofs.receive.Rx.drop_channel.Goals as goal
+
+pub invariant_of-self : goal.invariant_of-self
+invariant_of-self c =
+    let side = shown c.self.inside.validate c.self.inside.replay c.self.inside.table.channels.items in
+    kept_as c.self.inside.validate c.self.inside.replay _ c.self.inside.counters _ _
+    (c.drop_channel.ensures.side c.self.inside.validate c.self.inside.replay) c.drop_channel.ensures.ceilings
+    (distinct-filter _ side.channels c.self.invariant.distinct)
+    (ordered-gone side (ceilings_among c.self.inside.table.channels.items) c.self.invariant.ordered c.args.sci (filter (λ other. not (bytes_eq other c.args.sci)) side.channels))
+
+pub returns-clause-side : goal.returns-clause-side
+returns-clause-side c = rw (← c.self.view_is) (c.drop_channel.ensures.side c.self.inside.validate c.self.inside.replay)

@@ -1,0 +1,15 @@
+use Rattle.std.proofs.Common.{◌≡◌, ◌∙◌, ℕ, List, Option, Some, None, IsSome, IfSome, refl, ap, sym, subst, arith}
+use Rattle.macs_rxsc.proofs.Shown.{kept_as}
+use Rattle.macs_rxsc.specs.View.{ceilings_among, shown}
+use Rattle.macs_rxsc.proofs.Order.{ordered-received}
+use Rattle.macs_rxsc.proofs.receive.Rx.receive.Goals as goal
+
+pub invariant_of-self : goal.invariant_of-self
+invariant_of-self c =
+    let side = shown c.self.inside.validate c.self.inside.replay c.self.inside.table.channels.items in
+    kept_as c.self.inside.validate c.self.inside.replay _ _ _ _
+    c.receive-verdict.ensures.side c.receive-verdict.ensures.ceilings c.self.invariant.distinct
+    (ordered-received side (ceilings_among c.self.inside.table.channels.items) c.args.frame.now _ c.self.invariant.ordered c.receive-verdict.ensures.verdict)
+
+pub returns-clause-verdict : goal.returns-clause-verdict
+returns-clause-verdict c = rw (← c.self.view_is) c.receive-verdict.ensures.verdict

@@ -1,0 +1,55 @@
+use Rattle.std.proofs.Common.{◌≡◌, ◌∙◌, ◌++◌, ◌∷◌, ℕ, List, Option, Some, None, get_or, take, drop, refl, ap, sym, subst}
+use Rattle.std.specs.Option.{option_map}
+use Rattle.macs_config.specs.Config.{put_among}
+use Rattle.macs_config.specs.Tables.{put}
+use Rattle.macs_rxsc.proofs.Places.{IsPlace}
+use Rattle.macs_rxsc.specs.View.{ceilings_in, numbers_in, numbers_of, sa_of, sas_in, scis_of, shown, ceilings_among, counters_among}
+use Rattle.macs_rxsc.specs.declared.association.Association.{Association}
+use Rattle.macs_rxsc.specs.declared.channel.Channel.{Channel}
+use Rattle.macs_rxsc.proofs.Shown.{at_old, ceilings-changed, counters-kept, found_none, found_place, lent, lent_old, shown-changed}
+use Rattle.macs_rxsc.proofs.table.Table.put.Goals as goal
+use Rattle.macs_rxsc.proofs.table.Table.put.Goals.{After-put}
+
+-- the channel that was lent
+abbrev old : After-put → Channel
+old c = get_or c.deref_mut.result.now c.in-Some.place c.index-deref_mut-place.result
+
+stands : (c : After-put) → IsPlace c.args.self.now.channels.items c.args.sci c.in-Some.place (old c)
+stands c = found_place c.args.self.now.channels.items c.as_slice.result.now c.args.sci c.in-Some.place (old c) c.as_slice.ensures.value c.in-Some.ensures
+
+was : (c : After-put) → old c ≡ get_or c.args.self.now.channels.items c.in-Some.place (old c)
+was c = lent_old c.args.self.now.channels.items c.deref_mut.result.now c.in-Some.place c.index-deref_mut-place.result c.deref_mut.ensures.value c.index-deref_mut-place.is
+
+pub returns-in-Some-clause-side : goal.returns-in-Some-clause-side
+returns-in-Some-clause-side c =
+    let p = (goal.at.returns-in-Some-clause-side c).After-put in
+    λ validate replay. ap (shown validate replay) (lent c.args.self.now.channels.items c.deref_mut.result.now c.in-Some.place c.put.new.self c.deref_mut.ensures.value)
+    ∙ shown-changed c.args.self.now.channels.items c.in-Some.place (old p) c.put.new.self c.args.sci (stands p) (was p) c.put.ensures.sci validate replay _ _
+    (c.put.ensures.sas ∙ ap (λ (o : Option Channel). put (sas_in o) c.args.an (option_map sa_of c.args.association)) (sym (at_old c.args.self.now.channels.items c.in-Some.place (old p) c.put.new.self c.args.sci (stands p) (was p) c.put.ensures.sci)))
+    (c.put.ensures.numbers ∙ ap (λ (o : Option Channel). put (numbers_in o) c.args.an (option_map numbers_of c.args.association)) (sym (at_old c.args.self.now.channels.items c.in-Some.place (old p) c.put.new.self c.args.sci (stands p) (was p) c.put.ensures.sci)))
+
+pub returns-in-Some-clause-ceilings : goal.returns-in-Some-clause-ceilings
+returns-in-Some-clause-ceilings c =
+    let p = (goal.at.returns-in-Some-clause-ceilings c).After-put in
+    ap ceilings_among (lent c.args.self.now.channels.items c.deref_mut.result.now c.in-Some.place c.put.new.self c.deref_mut.ensures.value)
+    ∙ ceilings-changed c.args.self.now.channels.items c.in-Some.place (old p) c.put.new.self c.args.sci (stands p) (was p) c.put.ensures.sci _
+    (c.put.ensures.ceilings ∙ ap (λ (o : Option Channel). put (ceilings_in o) c.args.an (option_map (λ (a : Association). a.ceiling) c.args.association)) (sym (at_old c.args.self.now.channels.items c.in-Some.place (old p) c.put.new.self c.args.sci (stands p) (was p) c.put.ensures.sci)))
+
+pub returns-in-Some-clause-counters : goal.returns-in-Some-clause-counters
+returns-in-Some-clause-counters c =
+    let p = (goal.at.returns-in-Some-clause-counters c).After-put in
+    ap counters_among (lent c.args.self.now.channels.items c.deref_mut.result.now c.in-Some.place c.put.new.self c.deref_mut.ensures.value) ∙ counters-kept c.args.self.now.channels.items c.in-Some.place (old p) c.put.new.self c.args.sci (stands p) (was p) c.put.ensures.sci c.put.ensures.counters
+
+pub returns-in-None-clause-side : goal.returns-in-None-clause-side
+returns-in-None-clause-side c =
+    λ validate replay. let gone = found_none c.args.self.now.channels.items c.as_slice.result.now c.args.sci c.as_slice.ensures.value c.in-None.ensures in
+    let no = gone.1 in
+    let yes = c.requires in
+    absurd (cc)
+
+pub returns-in-None-clause-ceilings : goal.returns-in-None-clause-ceilings
+returns-in-None-clause-ceilings c =
+    let gone = found_none c.args.self.now.channels.items c.as_slice.result.now c.args.sci c.as_slice.ensures.value c.in-None.ensures in
+    let no = gone.1 in
+    let yes = c.requires in
+    absurd (cc)

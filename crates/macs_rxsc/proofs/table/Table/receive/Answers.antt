@@ -1,0 +1,30 @@
+use Rattle.std.proofs.Common.{◌≡◌, ◌∙◌, List, ℕ, Option, refl, ap, sym}
+use Rattle.macs_frame.specs.Tag.{name_of}
+use Rattle.macs_rxsc.proofs.Shown.{tag_uncounted, uncounted}
+use Rattle.macs_rxsc.proofs.Steps.{first_fault, settles}
+use Rattle.macs_rxsc.specs.Receive.{Tag as TagStep, channel_counted, channel_of, given_at, verdict_at}
+use Rattle.macs_rxsc.specs.View.{ceilings_among, counters_among, shown}
+use Rattle.macs_rxsc.specs.declared.counters.ChannelCounters.{ChannelCounters}
+use Rattle.macs_rxsc.specs.declared.verdict.Verdict.{Verdict}
+use Rattle.macs_rxsc.proofs.table.Table.receive.Goals as goal
+
+pub receive_tagged-requires-clause-read : goal.receive_tagged-requires-clause-read
+receive_tagged-requires-clause-read c = (c.read_tag.ensures.parts c.in-Ok.parts).0 c.in-Ok.is
+
+pub refuse-requires-clause-fault : goal.refuse-requires-clause-fault
+refuse-requires-clause-fault c = (c.read_tag.ensures.fault c.in-Err.fault).0 c.in-Err.is
+
+pub returns-in-Err-clause-verdict : goal.returns-in-Err-clause-verdict
+returns-in-Err-clause-verdict c =
+    let side = shown c.args.validate c.args.replay c.args.self.now.channels.items in
+    let verdict = c.refuse.ensures.verdict side refl in
+    settles side (ceilings_among c.args.self.now.channels.items) c.args.frame.now (TagStep c.in-Err.fault)
+    (first_fault side c.args.frame.now c.in-Err.fault ((c.read_tag.ensures.fault c.in-Err.fault).0 c.in-Err.is))
+    _ _ _ verdict (c.refuse.ensures.given ∙ ap (given_at c.args.frame.now) verdict) refl
+
+pub returns-in-Err-clause-counters : goal.returns-in-Err-clause-counters
+returns-in-Err-clause-counters c =
+    let side = shown c.args.validate c.args.replay c.args.self.now.channels.items in
+    let verdict = c.refuse.ensures.verdict side refl in
+    sym (uncounted (channel_of side c.args.frame.now) c.refuse.result (counters_among c.args.self.now.channels.items)
+    (λ (k : ChannelCounters). ap (λ (v : Verdict). channel_counted v k) verdict ∙ tag_uncounted side c.args.frame.now c.in-Err.fault c.args.validate refl k))

@@ -1,0 +1,384 @@
+-- Reception (IEEE Std 802.1AE-2018, 10.6 and 10.7): the verdict on a frame from the common side, and what a frame that
+-- verifies does to the packet numbers of its association.
+use Rattle.std.specs.Prelude.{◌≡◌, ◌≤◌, ◌<◌, ◌⊎◌, ◌^◌, ℕ, ◌+◌, ◌-◌, ◌/◌, max, min, nat_le, nat_lt, Bool, true, false, ◌&&◌, ◌||◌, if◌then◌else◌, List, [], ◌∷◌, ◌++◌, map, flat_map, Option, Some, None, IsSome, IsSomeAnd}
+use Rattle.std.specs.List.{list_any}
+use Rattle.std.specs.Option.{option_and_then, option_map}
+use Rattle.std.specs.Str.{bytes_eq}
+use Rattle.macs_config.specs.Tables.{put, put_at}
+use Rattle.macs_config.specs.declared.association.RxSa.{RxSa}
+use Rattle.macs_config.specs.declared.command.Replay.{Replay}
+use Rattle.macs_config.specs.declared.command.Validate.{Validate}
+use Rattle.macs_config.specs.declared.command.Validate.TheVariants.{Strict, Check}
+use Rattle.macs_frame.specs.Fields.{octets_of}
+use Rattle.macs_frame.specs.First.{IsFirst, NoneHolds}
+use Rattle.macs_frame.specs.Opening.{Verified, bare, named_sci}
+use Rattle.macs_frame.specs.Tag.{TagFaultHolds, changed, control, name_of, tag_faults, tag_of}
+use Rattle.macs_frame.specs.declared.tag.ScName.{ScName}
+use Rattle.macs_frame.specs.declared.tag.ScName.TheVariants.{Explicit, EndStation, Implicit}
+use Rattle.macs_frame.specs.declared.tag.TagFault.{TagFault}
+use Rattle.macs_frame.specs.declared.tag.TagFault.TheVariants.{Runt as IsRunt, Oversize as IsOversize, NoTag as HasNoTag, BadTag as HasBadTag, ForKay as IsForKay}
+use Rattle.macs_rxsc.specs.declared.counters.RxCounters.{RxCounters}
+use Rattle.macs_rxsc.specs.declared.counters.ChannelCounters.{ChannelCounters}
+use Rattle.macs_rxsc.specs.declared.verdict.Kind.{Kind}
+use Rattle.macs_rxsc.specs.declared.verdict.Kind.TheVariants.{Ok, Delayed, Invalid, Untagged, UnknownSci, UnusedSa}
+use Rattle.macs_rxsc.specs.declared.verdict.Reason.{Reason}
+use Rattle.macs_rxsc.specs.declared.verdict.Reason.TheVariants.{Runt, Oversize, NoTag, BadTag, ForKay, NoSci, NotUsingSa, Late, NotValid}
+use Rattle.macs_rxsc.specs.declared.verdict.Verdict.{Verdict}
+use Rattle.macs_rxsc.specs.declared.verdict.Verdict.TheVariants.{Delivered, Discarded, HeldBack}
+
+-- next: one more than the greatest number delivered; lowest: the lowest acceptable number; seen: the greatest number of
+-- this life that verified, if any did
+pub record Numbers : Type 0 where
+  pub next : ℕ
+  pub lowest : ℕ
+  pub seen : Option ℕ
+
+-- receive channels as their SCIs, ascending; associations and their numbers by SCI and association number
+pub record RxSide : Type 0 where
+  pub validate : Validate
+  pub replay : Replay
+  pub channels : List (List ℕ)
+  pub rx : List ℕ → ℕ → Option RxSa
+  pub numbers : List ℕ → ℕ → Option Numbers
+
+abbrev pub new_side : RxSide
+new_side = record {
+  validate = Strict;
+  replay = record { on = true; window = 0 };
+  channels = [];
+  rx = λ sci an. None;
+  numbers = λ sci an. None;
+}
+
+abbrev pub has_channel : RxSide → List ℕ → Bool
+has_channel side sci = list_any (λ other. bytes_eq other sci) side.channels
+
+-- ---- the channel, the association and its numbers that a frame names
+
+-- the only one of these
+abbrev pub only : List (List ℕ) → Option (List ℕ)
+only [] = None
+only (sci ∷ []) = Some sci
+only (sci ∷ other ∷ others) = None
+
+-- The SCI that a tag names: the one that is spelled out, the source address with port 00-01, or that of the only channel
+-- where it names none (that there be one alone is this profile's own)
+abbrev pub sci_named : List (List ℕ) → List ℕ → ScName → Option (List ℕ)
+sci_named channels frame (Explicit sci) = named_sci frame (Explicit sci)
+sci_named channels frame EndStation = named_sci frame EndStation
+sci_named channels frame Implicit = only channels
+
+abbrev pub standing : List (List ℕ) → List ℕ → Option (List ℕ)
+standing channels sci = if list_any (λ other. bytes_eq other sci) channels then Some sci else None
+
+abbrev pub channel_of : RxSide → List ℕ → Option (List ℕ)
+channel_of side frame = option_and_then (standing side.channels) (sci_named side.channels frame (name_of frame))
+
+abbrev pub association_of : RxSide → List ℕ → Option RxSa
+association_of side frame = option_and_then (λ sci. side.rx sci (tag_of frame).an) (channel_of side frame)
+
+abbrev pub numbers_of : RxSide → List ℕ → Option Numbers
+numbers_of side frame = option_and_then (λ sci. side.numbers sci (tag_of frame).an) (channel_of side frame)
+
+-- the frame verifies as this plain frame under the association that it names
+pub record VerifiesAs (side : RxSide) (frame plain : List ℕ) : Type 0 where
+  pub sci : List ℕ
+  pub sa : RxSa
+  pub is_channel : channel_of side frame ≡ Some sci
+  pub is_association : association_of side frame ≡ Some sa
+  pub verified : Verified frame sa.key sci (octets_of sa.offset) plain
+
+-- ---- the first nine steps, which may settle a frame
+
+pub data Step : Type 0 where
+  Tag : TagFault → Step
+  NoChannel : Step
+  NoAssociation : Step
+  BelowLowest : Step
+  NotVerified : Step
+
+abbrev pub Holds : RxSide → List ℕ → Step → Type 0
+Holds side frame (Tag fault) = TagFaultHolds frame fault
+Holds side frame NoChannel = channel_of side frame ≡ None
+Holds side frame NoAssociation = association_of side frame ≡ None
+Holds side frame BelowLowest =
+    (side.replay.on ≡ true) × IsSomeAnd (numbers_of side frame) (λ numbers. (tag_of frame).pn < numbers.lowest)
+Holds side frame NotVerified = (plain : List ℕ) → ¬ VerifiesAs side frame plain
+
+-- in their order
+abbrev pub steps : List Step
+steps = map Tag tag_faults ++ NoChannel ∷ NoAssociation ∷ BelowLowest ∷ NotVerified ∷ []
+
+abbrev pub is_strict : Validate → Bool
+is_strict Strict = true
+is_strict Check = false
+
+-- discarded where validation is strict or C is set, else delivered
+abbrev pub unless_checked : RxSide → List ℕ → Reason → Kind → Verdict
+unless_checked side frame reason kind =
+    if is_strict side.validate || changed (control frame) then Discarded reason else Delivered kind
+
+-- the verdict where a step is the first that holds
+abbrev pub verdict_at : RxSide → List ℕ → Step → Verdict
+verdict_at side frame (Tag IsRunt) = Discarded Runt
+verdict_at side frame (Tag IsOversize) = Discarded Oversize
+verdict_at side frame (Tag HasNoTag) = if is_strict side.validate then Discarded NoTag else Delivered Untagged
+verdict_at side frame (Tag HasBadTag) = Discarded BadTag
+verdict_at side frame (Tag IsForKay) = Discarded ForKay
+verdict_at side frame NoChannel = unless_checked side frame NoSci UnknownSci
+verdict_at side frame NoAssociation = unless_checked side frame NotUsingSa UnusedSa
+verdict_at side frame BelowLowest = Discarded Late
+verdict_at side frame NotVerified = unless_checked side frame NotValid Invalid
+
+-- what such a verdict gives: an untagged frame whole, others without SecTAG and ICV
+abbrev pub given_at : List ℕ → Verdict → List ℕ
+given_at frame (Delivered Untagged) = frame
+given_at frame (Delivered UnknownSci) = bare frame
+given_at frame (Delivered UnusedSa) = bare frame
+given_at frame (Delivered Invalid) = bare frame
+given_at frame (Delivered Ok) = []
+given_at frame (Delivered Delayed) = []
+given_at frame (Discarded reason) = []
+given_at frame HeldBack = []
+
+-- ---- the last three steps, which a frame that verified passes to
+
+pub record Arrival : Type 0 where
+  pub sci : List ℕ
+  pub an : ℕ
+  pub pn : ℕ
+  pub sa : RxSa
+  pub numbers : Numbers
+  pub plain : List ℕ
+
+-- the first nine steps do not settle the frame, and this is what it is
+pub record Arrives (side : RxSide) (frame : List ℕ) (a : Arrival) : Type 0 where
+  pub unsettled : NoneHolds (Holds side frame) steps
+  pub is_channel : channel_of side frame ≡ Some a.sci
+  pub is_an : a.an ≡ (tag_of frame).an
+  pub is_pn : a.pn ≡ (tag_of frame).pn
+  pub is_association : side.rx a.sci a.an ≡ Some a.sa
+  pub are_numbers : side.numbers a.sci a.an ≡ Some a.numbers
+  pub verified : Verified frame a.sa.key a.sci (octets_of a.sa.offset) a.plain
+
+abbrev pub kind_of : Numbers → ℕ → Kind
+kind_of numbers pn = if nat_lt pn numbers.lowest then Delayed else Ok
+
+abbrev pub seen_after : Option ℕ → ℕ → Option ℕ
+seen_after None pn = Some pn
+seen_after (Some seen) pn = Some (max seen pn)
+
+-- a frame is held back
+abbrev pub held_back : Numbers → ℕ → Numbers
+held_back numbers pn = record numbers { seen = seen_after numbers.seen pn }
+
+-- a frame is delivered
+abbrev pub advanced : ℕ → Numbers → ℕ → Numbers
+advanced window numbers pn =
+    let next = max numbers.next (pn + 1) in
+    record { next = next; lowest = max numbers.lowest (next - window); seen = seen_after numbers.seen pn }
+
+-- the window changes
+abbrev pub windowed : ℕ → Numbers → Numbers
+windowed window numbers = record numbers { lowest = max numbers.lowest (numbers.next - window) }
+
+-- an association is installed
+abbrev pub started : ℕ → Numbers
+started start = record { next = start; lowest = start; seen = None }
+
+-- numbers by SCI and association number, changed at one place
+abbrev pub put_numbers : (List ℕ → ℕ → Option Numbers) → List ℕ → ℕ → Option Numbers → List ℕ → ℕ → Option Numbers
+put_numbers table sci an numbers = put_at table sci (put (table sci) an numbers)
+
+-- ---- receiving, where the ceilings are known
+
+pub record Outcome : Type 0 where
+  pub verdict : Verdict
+  pub given : List ℕ
+  pub numbers : List ℕ → ℕ → Option Numbers
+
+abbrev pub settled : RxSide → List ℕ → Step → Outcome
+settled side frame step = record {
+  verdict = verdict_at side frame step;
+  given = given_at frame (verdict_at side frame step);
+  numbers = side.numbers;
+}
+
+-- a number below the ceiling is delivered, and another one held back
+abbrev pub is_below : Option ℕ → ℕ → Bool
+is_below None pn = false
+is_below (Some ceiling) pn = nat_lt pn ceiling
+
+abbrev pub arrived : RxSide → (List ℕ → ℕ → Option ℕ) → Arrival → Outcome
+arrived side ceilings a =
+    if is_below (ceilings a.sci a.an) a.pn
+    then record {
+      verdict = Delivered (kind_of a.numbers a.pn);
+      given = a.plain;
+      numbers = put_numbers side.numbers a.sci a.an (Some (advanced side.replay.window a.numbers a.pn));
+    }
+    else record {
+      verdict = HeldBack;
+      given = [];
+      numbers = put_numbers side.numbers a.sci a.an (Some (held_back a.numbers a.pn));
+    }
+
+-- the outcome is that of the first of nine steps that holds, or that of the frame's arrival
+abbrev pub Receives : RxSide → (List ℕ → ℕ → Option ℕ) → List ℕ → Outcome → Type 0
+Receives side ceilings frame outcome =
+    ((step : Step) × IsFirst (Holds side frame) steps step × (outcome ≡ settled side frame step))
+    ⊎ ((a : Arrival) × Arrives side frame a × (outcome ≡ arrived side ceilings a))
+
+-- ---- needs
+
+-- a need: the association, and the greatest number that was seen
+pub record Need : Type 0 where
+  pub sci : List ℕ
+  pub an : ℕ
+  pub pn : ℕ
+
+-- the ceiling that a number asks for
+abbrev pub raised : ℕ → ℕ → ℕ
+raised block seen = min (seen + block) (2 ^ 32)
+
+-- A frame was seen, and it is at or above the ceiling, or at most half a block is left below that, and a higher ceiling is
+-- to be had.
+abbrev pub is_needed : ℕ → ℕ → ℕ → ℕ → Bool
+is_needed block next ceiling seen =
+    (nat_le ceiling seen || nat_le (ceiling - next) (block / 2)) && nat_lt ceiling (raised block seen)
+
+abbrev pub needed : ℕ → List ℕ → ℕ → Numbers → ℕ → Option ℕ → Option Need
+needed block sci an numbers ceiling None = None
+needed block sci an numbers ceiling (Some seen) =
+    if is_needed block numbers.next ceiling seen then Some (record { sci = sci; an = an; pn = seen }) else None
+
+-- the need of one association
+abbrev pub need_of : ℕ → List ℕ → ℕ → Option Numbers → Option ℕ → Option Need
+need_of block sci an (Some numbers) (Some ceiling) = needed block sci an numbers ceiling numbers.seen
+need_of block sci an numbers ceiling = None
+
+-- of the needs by SCI and association number, ascending, the first
+abbrev pub first_need : List (Option Need) → Option Need
+first_need [] = None
+first_need (None ∷ needs) = first_need needs
+first_need (Some need ∷ needs) = Some need
+
+abbrev pub needs_of : RxSide → (List ℕ → ℕ → Option ℕ) → ℕ → Option Need
+needs_of side ceilings block = first_need
+    (flat_map (λ sci. map (λ an. need_of block sci an (side.numbers sci an) (ceilings sci an)) (0 ∷ 1 ∷ 2 ∷ 3 ∷ [])) side.channels)
+
+-- ---- ranges
+
+-- next - window <= lowest <= next <= ceiling <= 2^32
+pub record InOrder (window : ℕ) (numbers : Numbers) (ceiling : ℕ) : Type 0 where
+  pub numbered : 1 ≤ numbers.lowest
+  pub windowed : numbers.next - window ≤ numbers.lowest
+  pub ordered : numbers.lowest ≤ numbers.next
+  pub below : numbers.next ≤ ceiling
+  pub bounded : ceiling ≤ 2 ^ 32
+
+abbrev pub Stands : ℕ → Option RxSa → Option Numbers → Option ℕ → Type 0
+Stands window (Some sa) (Some numbers) (Some ceiling) = InOrder window numbers ceiling
+Stands window None None None = Unit {0}
+Stands window sa numbers ceiling = ⊥
+
+-- an association stands with numbers and a ceiling in their order, or nothing does
+abbrev pub AreOrdered : RxSide → (List ℕ → ℕ → Option ℕ) → List ℕ → ℕ → Type 0
+AreOrdered side ceilings sci an =
+    Stands side.replay.window (side.rx sci an) (side.numbers sci an) (ceilings sci an)
+
+-- ---- counters
+
+-- one more, up to 2^64 - 1
+abbrev pub one_more : ℕ → ℕ
+one_more count = min (count + 1) (2 ^ 64 - 1)
+
+-- how often a verdict was given; a frame that is held back is not counted
+abbrev pub count_of : Verdict → RxCounters → ℕ
+count_of (Delivered Ok) c = c.ok
+count_of (Delivered Delayed) c = c.delayed
+count_of (Delivered Invalid) c = c.invalid
+count_of (Delivered Untagged) c = c.untagged
+count_of (Delivered UnknownSci) c = c.unknown_sci
+count_of (Delivered UnusedSa) c = c.unused_sa
+count_of (Discarded Runt) c = c.runt
+count_of (Discarded Oversize) c = c.oversize
+count_of (Discarded NoTag) c = c.no_tag
+count_of (Discarded BadTag) c = c.bad_tag
+count_of (Discarded ForKay) c = c.for_kay
+count_of (Discarded NoSci) c = c.no_sci
+count_of (Discarded NotUsingSa) c = c.not_using_sa
+count_of (Discarded Late) c = c.late
+count_of (Discarded NotValid) c = c.not_valid
+count_of HeldBack c = 0
+
+abbrev pub counted : Verdict → RxCounters → RxCounters
+counted (Delivered Ok) c = record c { ok = one_more c.ok }
+counted (Delivered Delayed) c = record c { delayed = one_more c.delayed }
+counted (Delivered Invalid) c = record c { invalid = one_more c.invalid }
+counted (Delivered Untagged) c = record c { untagged = one_more c.untagged }
+counted (Delivered UnknownSci) c = record c { unknown_sci = one_more c.unknown_sci }
+counted (Delivered UnusedSa) c = record c { unused_sa = one_more c.unused_sa }
+counted (Discarded Runt) c = record c { runt = one_more c.runt }
+counted (Discarded Oversize) c = record c { oversize = one_more c.oversize }
+counted (Discarded NoTag) c = record c { no_tag = one_more c.no_tag }
+counted (Discarded BadTag) c = record c { bad_tag = one_more c.bad_tag }
+counted (Discarded ForKay) c = record c { for_kay = one_more c.for_kay }
+counted (Discarded NoSci) c = record c { no_sci = one_more c.no_sci }
+counted (Discarded NotUsingSa) c = record c { not_using_sa = one_more c.not_using_sa }
+counted (Discarded Late) c = record c { late = one_more c.late }
+counted (Discarded NotValid) c = record c { not_valid = one_more c.not_valid }
+counted HeldBack c = c
+
+-- of the verdicts that name a channel, those that are counted for it
+abbrev pub channel_count_of : Verdict → ChannelCounters → ℕ
+channel_count_of (Delivered Ok) c = c.ok
+channel_count_of (Delivered Delayed) c = c.delayed
+channel_count_of (Delivered Invalid) c = c.invalid
+channel_count_of (Delivered UnusedSa) c = c.unused_sa
+channel_count_of (Discarded NotUsingSa) c = c.not_using_sa
+channel_count_of (Discarded Late) c = c.late
+channel_count_of (Discarded NotValid) c = c.not_valid
+channel_count_of verdict c = 0
+
+abbrev pub channel_counted : Verdict → ChannelCounters → ChannelCounters
+channel_counted (Delivered Ok) c = record c { ok = one_more c.ok }
+channel_counted (Delivered Delayed) c = record c { delayed = one_more c.delayed }
+channel_counted (Delivered Invalid) c = record c { invalid = one_more c.invalid }
+channel_counted (Delivered UnusedSa) c = record c { unused_sa = one_more c.unused_sa }
+channel_counted (Discarded NotUsingSa) c = record c { not_using_sa = one_more c.not_using_sa }
+channel_counted (Discarded Late) c = record c { late = one_more c.late }
+channel_counted (Discarded NotValid) c = record c { not_valid = one_more c.not_valid }
+channel_counted verdict c = c
+
+-- a verdict is counted for the channel that its frame names, if one stands
+abbrev pub counted_at : Option (List ℕ) → Verdict → (List ℕ → Option ChannelCounters) → List ℕ → Option ChannelCounters
+counted_at None verdict table = table
+counted_at (Some sci) verdict table = put_at table sci (option_map (channel_counted verdict) (table sci))
+
+abbrev pub none_counted : RxCounters
+none_counted = record {
+  ok = 0;
+  delayed = 0;
+  invalid = 0;
+  untagged = 0;
+  unknown_sci = 0;
+  unused_sa = 0;
+  runt = 0;
+  oversize = 0;
+  no_tag = 0;
+  bad_tag = 0;
+  for_kay = 0;
+  no_sci = 0;
+  not_using_sa = 0;
+  late = 0;
+  not_valid = 0;
+}
+
+abbrev pub none_counted_for_channel : ChannelCounters
+none_counted_for_channel =
+    record { ok = 0; delayed = 0; invalid = 0; unused_sa = 0; not_using_sa = 0; late = 0; not_valid = 0 }
+
+-- each association that stands has its numbers
+abbrev pub AreNumbered : RxSide → Type 0
+AreNumbered side = (sci : List ℕ) (an : ℕ) → IsSome (side.rx sci an) → IsSome (side.numbers sci an)

@@ -1,0 +1,87 @@
+-- Receive channels as they are kept.
+use Rattle.std.specs.Prelude.{◌≡◌, ℕ, ◌-◌, max, if◌then◌else◌, List, [], ◌∷◌, map, get_or, Option, Some, None}
+use Rattle.std.specs.Option.{option_and_then, option_map}
+use Rattle.std.specs.Str.{bytes_eq}
+use Rattle.macs_config.specs.declared.association.RxSa.{RxSa}
+use Rattle.macs_config.specs.declared.command.Replay.{Replay}
+use Rattle.macs_config.specs.declared.command.Validate.{Validate}
+use Rattle.macs_rxsc.specs.Receive.{Numbers, RxSide}
+use Rattle.macs_rxsc.specs.declared.association.Association.{Association}
+use Rattle.macs_rxsc.specs.declared.channel.Channel.{Channel}
+use Rattle.macs_rxsc.specs.declared.counters.ChannelCounters.{ChannelCounters}
+use Rattle.macs_rxsc.specs.declared.counters.RxCounters.{RxCounters}
+
+-- what is kept: how frames are validated, the channels that stand, and what was counted
+pub record Kept : Type 0 where
+  pub validate : Validate
+  pub replay : Replay
+  pub channels : List Channel
+  pub counters : RxCounters
+
+-- the channel of an SCI
+abbrev pub channel_at : List Channel → List ℕ → Option Channel
+channel_at [] sci = None
+channel_at (channel ∷ channels) sci = if bytes_eq channel.sci sci then Some channel else channel_at channels sci
+
+-- the association of a channel, if that stands
+abbrev pub association_in : Option Channel → ℕ → Option Association
+association_in channel an = option_and_then (λ (c : Channel). get_or c.associations an None) channel
+
+abbrev pub sa_of : Association → RxSa
+sa_of a = record { key = a.key; offset = a.offset }
+
+abbrev pub numbers_of : Association → Numbers
+numbers_of a = record { next = a.next; lowest = a.lowest; seen = a.seen }
+
+abbrev pub scis_of : List Channel → List (List ℕ)
+scis_of channels = map (λ (channel : Channel). channel.sci) channels
+
+abbrev pub sas_in : Option Channel → ℕ → Option RxSa
+sas_in channel an = option_map sa_of (association_in channel an)
+
+abbrev pub numbers_in : Option Channel → ℕ → Option Numbers
+numbers_in channel an = option_map numbers_of (association_in channel an)
+
+abbrev pub ceilings_in : Option Channel → ℕ → Option ℕ
+ceilings_in channel an = option_map (λ (a : Association). a.ceiling) (association_in channel an)
+
+abbrev pub counters_in : Option Channel → Option ChannelCounters
+counters_in channel = option_map (λ (c : Channel). c.counters) channel
+
+-- these channels under this validation
+abbrev pub shown : Validate → Replay → List Channel → RxSide
+shown validate replay channels = record {
+  validate = validate;
+  replay = replay;
+  channels = scis_of channels;
+  rx = λ sci. sas_in (channel_at channels sci);
+  numbers = λ sci. numbers_in (channel_at channels sci);
+}
+
+abbrev pub ceilings_among : List Channel → List ℕ → ℕ → Option ℕ
+ceilings_among channels = λ sci. ceilings_in (channel_at channels sci)
+
+abbrev pub counters_among : List Channel → List ℕ → Option ChannelCounters
+counters_among channels = λ sci. counters_in (channel_at channels sci)
+
+abbrev pub side_of : Kept → RxSide
+side_of r = shown r.validate r.replay r.channels
+
+-- only frames with numbers below an association's ceiling are delivered as verified
+abbrev pub ceilings_of : Kept → List ℕ → ℕ → Option ℕ
+ceilings_of r = ceilings_among r.channels
+
+abbrev pub counters_of : Kept → RxCounters
+counters_of r = r.counters
+
+abbrev pub channel_counters_of : Kept → List ℕ → Option ChannelCounters
+channel_counters_of r = counters_among r.channels
+
+-- ---- the window changes
+
+-- the lowest acceptable number of an association rises with the window, and never falls
+abbrev pub slid : ℕ → Association → Association
+slid window a = record a { lowest = max a.lowest (a.next - window) }
+
+abbrev pub slid_channel : ℕ → Channel → Channel
+slid_channel window channel = record channel { associations = map (option_map (slid window)) channel.associations }

@@ -1,0 +1,157 @@
+//! A receive association (IEEE Std 802.1AE-2018, 10.7).
+
+ghost use Rattle.std.specs.Prelude.{◌≡◌, Option, ◌≤◌, ◌<◌, ℕ, List, [], Some, None, nat_lt, if◌then◌else◌, ◌&&◌};
+ghost use Rattle.std.specs.Option.{option_map};
+ghost use Rattle.macs_frame.specs.Tag.{IsForKay, Tag, tag_of};
+ghost use Rattle.macs_rxsc.specs.Receive.{Need, Receives, RxSide, advanced, channel_of, held_back, kind_of, need_of, put_numbers, seen_after};
+ghost use Rattle.macs_rxsc.specs.View.{numbers_of, sa_of, slid};
+
+use crate::need::RxNeed;
+use crate::settling::settle;
+use crate::verdict::{Kind, Reason, Verdict};
+use macs_config::{Replay, Validate};
+use macs_frame::{An, FrameBuf, Offset, Parts, Pn, Sci, open_parts};
+use macs_gcm::GcmKey;
+
+/// The end of the packet numbers: the first number that is none.
+const END_OF_NUMBERS: u64 = 1 << 32;
+
+/// The packet numbers of a receive association: the next expected one, 1 to 2^32, and the lowest
+/// acceptable.
+#[derive(Clone, Copy, Debug, PartialEq, Eq)]
+pub struct RxNumbers {
+    pub next: u64,
+    pub lowest: u64,
+}
+
+/// A receive association: its key, the offset of its encrypted frames, the next and the lowest
+/// acceptable packet number, the ceiling that only frames with lower numbers are delivered below, and
+/// the greatest number that verified, if any did.
+#[derive(Drop)]
+pub struct Association {
+    pub key: GcmKey,
+    pub offset: Offset,
+    pub next: u64,
+    pub lowest: u64,
+    pub ceiling: u64,
+    pub seen: Option<Pn>,
+}
+
+/// The greater of two packet numbers, where one may be missing.
+fn greatest(seen: Option<Pn>, pn: Pn) -> Pn
+    ensures { Some result ≡ seen_after seen pn }
+{
+    match seen {
+        Some(seen) if seen.get() > pn.get() => seen,
+        _ => pn,
+    }
+}
+
+/// The lowest acceptable number of an association rises with the window, where one stands.
+pub fn slide(association: &mut Option<Association>, window: u32)
+    ensures { association.new ≡ option_map (slid window) association.old }
+{
+    if let Some(association) = association {
+        association.slide(window);
+    }
+}
+
+impl Association {
+    /// The lowest acceptable number rises to the next one less the window, and never falls.
+    pub fn slide(&mut self, window: u32)
+        ensures { self.new ≡ slid window self.old }
+    {
+        self.lowest = self.lowest.max(self.next.saturating_sub(u64::from(window)));
+    }
+
+    /// Whether replay protection is on, and a packet number is below the lowest acceptable.
+    fn is_late(&self, replay: Replay, pn: Pn) -> bool
+        ensures { result ≡ (replay.on && nat_lt pn self.now.lowest) }
+    {
+        replay.on && u64::from(pn.get()) < self.lowest
+    }
+
+    /// A frame that verified under this association comes with its packet number: as what it is
+    /// delivered, `None` where the number is not below the ceiling and the frame is held back.
+    fn arrive(&mut self, pn: Pn, window: u32) -> Option<Kind>
+        ensures kind { result ≡ (if nat_lt pn self.old.ceiling then Some (kind_of (numbers_of self.old) pn) else None) }
+        ensures numbers { numbers_of self.new ≡ (if nat_lt pn self.old.ceiling
+            then advanced window (numbers_of self.old) pn else held_back (numbers_of self.old) pn) }
+        ensures sa { sa_of self.new ≡ sa_of self.old }
+        ensures ceiling { self.new.ceiling ≡ self.old.ceiling }
+    {
+        self.seen = Some(greatest(self.seen, pn));
+        let number = u64::from(pn.get());
+        if number >= self.ceiling {
+            return None;
+        }
+        let kind = if number < self.lowest {
+            Kind::Delayed
+        } else {
+            Kind::Ok
+        };
+        self.next = self.next.max(number + 1);
+        self.slide(window);
+        Some(kind)
+    }
+
+    /// What becomes of a frame that names this association of a channel; the parts are a reading of
+    /// it. `out` is empty before.
+    pub fn receive(
+        &mut self,
+        sci: Sci,
+        validate: Validate,
+        replay: Replay,
+        frame: &[u8],
+        parts: &Parts,
+        out: &mut FrameBuf,
+    ) -> Verdict
+        requires read { Tag frame.now parts.now × (¬ IsForKay frame.now) }
+        requires empty { out.old.items ≡ [] }
+        ensures verdict { (side : RxSide) (ceilings : List ℕ → ℕ → Option ℕ) → side.validate ≡ validate
+            → side.replay ≡ replay → channel_of side frame.now ≡ Some sci
+            → side.rx sci (tag_of frame.now).an ≡ Some (sa_of self.old)
+            → side.numbers sci (tag_of frame.now).an ≡ Some (numbers_of self.old)
+            → ceilings sci (tag_of frame.now).an ≡ Some self.old.ceiling
+            → Receives side ceilings frame.now (record {
+              verdict = result;
+              given = out.new.items;
+              numbers = put_numbers side.numbers sci (tag_of frame.now).an (Some (numbers_of self.new));
+            }) }
+        ensures sa { sa_of self.new ≡ sa_of self.old }
+        ensures ceiling { self.new.ceiling ≡ self.old.ceiling }
+    {
+        let pn = parts.tag.pn;
+        if self.is_late(replay, pn) {
+            return Verdict::Discarded(Reason::Late);
+        }
+        if !open_parts(&self.key, sci, self.offset, frame, parts, out) {
+            return settle(validate, Reason::NotValid, Kind::Invalid, frame, parts, out);
+        }
+        match self.arrive(pn, replay.window) {
+            Some(kind) => Verdict::Delivered(kind),
+            None => {
+                out.clear();
+                Verdict::HeldBack
+            }
+        }
+    }
+
+    /// The need of this association of a channel, if it has one. `block` is 1 to 65,536 packet
+    /// numbers.
+    pub fn need(&self, sci: Sci, an: An, block: u32) -> Option<RxNeed>
+        ensures { option_map (λ (need : RxNeed). record { sci = need.sci; an = need.an; pn = need.pn }) result
+            ≡ need_of block sci an (Some (numbers_of self.now)) (Some self.now.ceiling) }
+    {
+        let pn = self.seen?;
+        let seen = u64::from(pn.get());
+        let is_low = self.ceiling <= seen
+            || self.ceiling.saturating_sub(self.next) <= u64::from(block / 2);
+        let raised = END_OF_NUMBERS.min(seen + u64::from(block));
+        if is_low && self.ceiling < raised {
+            Some(RxNeed { sci, an, pn })
+        } else {
+            None
+        }
+    }
+}

@@ -1,0 +1,186 @@
+//! A receive channel (IEEE Std 802.1AE-2018, 10.7).
+
+ghost use Rattle.std.specs.Prelude.{◌≡◌, Option, ◌<◌, ◌∷◌, ℕ, List, [], Some, None, IsSome, map};
+ghost use Rattle.std.specs.Option.{option_map};
+ghost use Rattle.macs_frame.specs.Tag.{IsForKay, Tag};
+ghost use Rattle.macs_rxsc.specs.Receive.{Need, Numbers, Receives, RxSide, channel_counted, channel_of, first_need, need_of, none_counted_for_channel};
+ghost use Rattle.macs_rxsc.specs.View.{ceilings_in, numbers_in, numbers_of, sa_of, sas_in, slid, slid_channel};
+ghost use Rattle.macs_config.specs.Tables.{put, put_at};
+ghost use Rattle.macs_rxsc.specs.declared.association.Association.{Association};
+
+use crate::association::{Association, RxNumbers, slide};
+use crate::counters::ChannelCounters;
+use crate::need::RxNeed;
+use crate::settling::settle;
+use crate::verdict::{Kind, Reason, Verdict};
+use macs_config::{Replay, Validate};
+use macs_frame::{An, FrameBuf, Parts, Sci};
+
+/// How many associations a channel may have.
+const ASSOCIATIONS: usize = 4;
+
+/// A receive channel: its SCI, its associations by their numbers, and what was counted for it.
+#[derive(Default, Drop)]
+pub struct Channel {
+    pub sci: Sci,
+    pub associations: [Option<Association>; ASSOCIATIONS],
+    pub counters: ChannelCounters,
+}
+
+impl Channel {
+    /// A channel without associations, for which nothing is counted.
+    pub fn new(sci: Sci) -> Channel
+        ensures { result ≡ record {
+          sci = sci;
+          associations = None ∷ None ∷ None ∷ None ∷ [];
+          counters = none_counted_for_channel;
+        } }
+    {
+        Channel {
+            sci,
+            associations: [None, None, None, None],
+            counters: ChannelCounters::new(),
+        }
+    }
+
+    /// Puts an association at a number, or takes it away.
+    pub fn put(&mut self, an: An, association: Option<Association>)
+        ensures sci { self.new.sci ≡ self.old.sci }
+        ensures counters { self.new.counters ≡ self.old.counters }
+        ensures sas { sas_in (Some self.new) ≡ put (sas_in (Some self.old)) an (option_map sa_of association) }
+        ensures numbers { numbers_in (Some self.new) ≡ put (numbers_in (Some self.old)) an (option_map numbers_of association) }
+        ensures ceilings { ceilings_in (Some self.new)
+            ≡ put (ceilings_in (Some self.old)) an (option_map (λ (a : Association). a.ceiling) association) }
+    {
+        self.associations[an.get() as usize] = association;
+    }
+
+    /// Raises the ceiling of an association that stands.
+    pub fn raise(&mut self, an: An, ceiling: u64)
+        ensures sci { self.new.sci ≡ self.old.sci }
+        ensures counters { self.new.counters ≡ self.old.counters }
+        ensures sas { sas_in (Some self.new) ≡ sas_in (Some self.old) }
+        ensures numbers { numbers_in (Some self.new) ≡ numbers_in (Some self.old) }
+        ensures ceilings { IsSome (ceilings_in (Some self.old) an) → ceilings_in (Some self.new) ≡ put (ceilings_in (Some self.old)) an (Some ceiling) }
+    {
+        if let Some(association) = &mut self.associations[an.get() as usize] {
+            association.ceiling = ceiling;
+        }
+    }
+
+    /// The lowest acceptable number of each association rises with the window, and never falls.
+    pub fn slide(&mut self, window: u32)
+        ensures { self.new ≡ slid_channel window self.old }
+    {
+        for association in self.associations.iter_mut() {
+            slide(association, window);
+        }
+    }
+
+    /// What becomes of a frame that names this channel; the parts are a reading of it. `out` is empty
+    /// before. The verdict is counted.
+    pub fn receive(
+        &mut self,
+        validate: Validate,
+        replay: Replay,
+        frame: &[u8],
+        parts: &Parts,
+        out: &mut FrameBuf,
+    ) -> Verdict
+        requires read { Tag frame.now parts.now × (¬ IsForKay frame.now) }
+        requires empty { out.old.items ≡ [] }
+        ensures verdict { (side : RxSide) (ceilings : List ℕ → ℕ → Option ℕ) → side.validate ≡ validate
+            → side.replay ≡ replay → channel_of side frame.now ≡ Some self.old.sci
+            → side.rx self.old.sci ≡ sas_in (Some self.old)
+            → side.numbers self.old.sci ≡ numbers_in (Some self.old)
+            → ceilings self.old.sci ≡ ceilings_in (Some self.old)
+            → Receives side ceilings frame.now (record {
+              verdict = result;
+              given = out.new.items;
+              numbers = put_at side.numbers self.old.sci (numbers_in (Some self.new));
+            }) }
+        ensures sci { self.new.sci ≡ self.old.sci }
+        ensures sas { sas_in (Some self.new) ≡ sas_in (Some self.old) }
+        ensures ceilings { ceilings_in (Some self.new) ≡ ceilings_in (Some self.old) }
+        ensures counters { self.new.counters ≡ channel_counted result self.old.counters }
+    {
+        let verdict = self.decide(validate, replay, frame, parts, out);
+        self.counters.count(verdict);
+        verdict
+    }
+
+    /// What becomes of a frame, as `receive` says; nothing is counted.
+    fn decide(
+        &mut self,
+        validate: Validate,
+        replay: Replay,
+        frame: &[u8],
+        parts: &Parts,
+        out: &mut FrameBuf,
+    ) -> Verdict
+        requires read { Tag frame.now parts.now × (¬ IsForKay frame.now) }
+        requires empty { out.old.items ≡ [] }
+        ensures verdict { (side : RxSide) (ceilings : List ℕ → ℕ → Option ℕ) → side.validate ≡ validate
+            → side.replay ≡ replay → channel_of side frame.now ≡ Some self.old.sci
+            → side.rx self.old.sci ≡ sas_in (Some self.old)
+            → side.numbers self.old.sci ≡ numbers_in (Some self.old)
+            → ceilings self.old.sci ≡ ceilings_in (Some self.old)
+            → Receives side ceilings frame.now (record {
+              verdict = result;
+              given = out.new.items;
+              numbers = put_at side.numbers self.old.sci (numbers_in (Some self.new));
+            }) }
+        ensures sci { self.new.sci ≡ self.old.sci }
+        ensures sas { sas_in (Some self.new) ≡ sas_in (Some self.old) }
+        ensures ceilings { ceilings_in (Some self.new) ≡ ceilings_in (Some self.old) }
+        ensures counters { self.new.counters ≡ self.old.counters }
+    {
+        let an = parts.tag.an;
+        match &mut self.associations[an.get() as usize] {
+            Some(association) => association.receive(self.sci, validate, replay, frame, parts, out),
+            None => settle(
+                validate,
+                Reason::NotUsingSa,
+                Kind::UnusedSa,
+                frame,
+                parts,
+                out,
+            ),
+        }
+    }
+
+    /// The next and the lowest acceptable packet number of an association, `None` where none stands.
+    pub fn numbers(&self, an: An) -> Option<RxNumbers>
+        ensures { result ≡ option_map (λ (n : Numbers). record { next = n.next; lowest = n.lowest })
+            (numbers_in (Some self.now) an) }
+    {
+        let association = self.associations[an.get() as usize].as_ref()?;
+        Some(RxNumbers {
+            next: association.next,
+            lowest: association.lowest,
+        })
+    }
+
+    /// The need of the association at a number.
+    fn need_at(&self, number: u8, block: u32) -> Option<RxNeed>
+        requires { number < 4 }
+        ensures { option_map (λ (need : RxNeed). record { sci = need.sci; an = need.an; pn = need.pn }) result
+            ≡ need_of block self.now.sci number (numbers_in (Some self.now) number) (ceilings_in (Some self.now) number) }
+    {
+        let an = An::new(number)?;
+        let association = self.associations[number as usize].as_ref()?;
+        association.need(self.sci, an, block)
+    }
+
+    /// The need of the first association, by its number, that has one.
+    pub fn need(&self, block: u32) -> Option<RxNeed>
+        ensures { option_map (λ (need : RxNeed). record { sci = need.sci; an = need.an; pn = need.pn }) result
+            ≡ first_need (map (λ an. need_of block self.now.sci an (numbers_in (Some self.now) an) (ceilings_in (Some self.now) an))
+            (0 ∷ 1 ∷ 2 ∷ 3 ∷ [])) }
+    {
+        self.need_at(0, block)
+            .or_else(|| self.need_at(1, block))
+            .or_else(|| self.need_at(2, block))
+            .or_else(|| self.need_at(3, block))
+    }
+}

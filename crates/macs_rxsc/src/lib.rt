@@ -1,0 +1,19 @@
+//! The receive channels of a MAC Security Entity: the verdict on every frame, and the replay window.
+#![tactic(auto)]
+
+mod association;
+mod channel;
+mod counters;
+pub mod laws;
+mod need;
+mod receive;
+mod settling;
+mod table;
+#[cfg(test)]
+mod tests;
+mod verdict;
+
+pub use association::RxNumbers;
+pub use need::RxNeed;
+pub use receive::Rx;
+pub use verdict::{Kind, Reason, Verdict};

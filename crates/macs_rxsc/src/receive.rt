@@ -1,0 +1,238 @@
+//! Receive channels, and what becomes of received frames (IEEE Std 802.1AE-2018, 10.6 and 10.7).
+
+ghost use Rattle.std.specs.Prelude.{◌≡◌, ◌≤◌, ◌<◌, ◌^◌, ℕ, List, [], length, not, true, false, Some, None, IsSome, IfSome};
+ghost use Rattle.std.specs.List.{filter};
+ghost use Rattle.std.specs.Option.{option_map};
+ghost use Rattle.std.specs.Str.{bytes_eq};
+ghost use Rattle.macs_config.specs.Config.{put_among};
+ghost use Rattle.macs_config.specs.Tables.{put, put_at};
+ghost use Rattle.macs_rxsc.specs.Receive.{AreOrdered, Need, Numbers, Receives, channel_count_of, channel_of, count_of, counted, counted_at, has_channel, needs_of, new_side, none_counted, none_counted_for_channel, put_numbers, started, windowed};
+ghost use Rattle.macs_rxsc.specs.View.{ceilings_of, channel_counters_of, counters_of, side_of};
+
+use crate::association::{Association, RxNumbers};
+use crate::counters::RxCounters;
+use crate::need::RxNeed;
+use crate::table::Table;
+use crate::verdict::Verdict;
+use arrayvec::ArrayVec;
+use macs_config::{Replay, Validate};
+use macs_frame::{An, FrameBuf, Offset, Sci};
+use macs_gcm::GcmKey;
+use std::marker::Model;
+
+/// The receive channels, by ascending SCI, and how their frames are validated.
+#[derive(Drop)]
+pub struct Rx {
+    validate: Validate,
+    replay: Replay,
+    table: Table,
+    counters: RxCounters,
+}
+
+impl Model for Rx {
+    ghost use Rattle.macs_rxsc.specs.View.{Kept};
+    ghost use Rattle.macs_rxsc.specs.Kept.{IsKept};
+
+    ghost Value = { Kept };
+
+    ghost view = { λ r. record { validate = r.validate; replay = r.replay; channels = r.table.channels.items; counters = r.counters } };
+
+    ghost invariant = { λ r. IsKept (record
+        { validate = r.validate; replay = r.replay; channels = r.table.channels.items; counters = r.counters }) };
+}
+
+impl Rx {
+    /// No channel; strict validation, replay protection with window 0.
+    pub fn new() -> Rx
+        ensures side { side_of result ≡ new_side }
+        ensures counters { counters_of result ≡ none_counted }
+    {
+        Rx {
+            validate: Validate::Strict,
+            replay: Replay {
+                on: true,
+                window: 0,
+            },
+            table: Table {
+                channels: ArrayVec::new(),
+            },
+            counters: RxCounters::new(),
+        }
+    }
+
+    /// Sets how frames are validated, whether packet numbers are checked for replay, and the window. The lowest
+    /// acceptable number of each association rises to the next one less the window, whether replay
+    /// protection is on or off, and never falls.
+    pub fn set_policy(&mut self, validate: Validate, on: bool, window: u32)
+        ensures side { side_of self.new ≡ record (side_of self.old) {
+          validate = validate;
+          replay = record { on = on; window = window };
+          numbers = λ sci an. option_map (windowed window) ((side_of self.old).numbers sci an);
+        } }
+        ensures ceilings { ceilings_of self.new ≡ ceilings_of self.old }
+        ensures counters { counters_of self.new ≡ counters_of self.old }
+        ensures channel_counters { channel_counters_of self.new ≡ channel_counters_of self.old }
+    {
+        self.validate = validate;
+        self.replay = Replay { on, window };
+        self.table.slide(window);
+    }
+
+    /// A new channel, of an SCI of which none stands, where fewer than 8 stand.
+    pub fn add(&mut self, sci: Sci)
+        requires free { has_channel (side_of self.old) sci ≡ false }
+        requires room { length (side_of self.old).channels < 8 }
+        ensures side { side_of self.new ≡ record (side_of self.old)
+            { channels = put_among sci (side_of self.old).channels } }
+        ensures ceilings { ceilings_of self.new ≡ ceilings_of self.old }
+        ensures counters { counters_of self.new ≡ counters_of self.old }
+        ensures channel_counters { channel_counters_of self.new
+            ≡ put_at (channel_counters_of self.old) sci (Some none_counted_for_channel) }
+    {
+        self.table.add(sci);
+    }
+
+    /// A channel that stands goes, with its associations and counters.
+    pub fn drop_channel(&mut self, sci: Sci)
+        requires { has_channel (side_of self.old) sci ≡ true }
+        ensures side { side_of self.new ≡ record (side_of self.old) {
+          channels = filter (λ other. not (bytes_eq other sci)) (side_of self.old).channels;
+          rx = put_at (side_of self.old).rx sci (λ an. None);
+          numbers = put_at (side_of self.old).numbers sci (λ an. None);
+        } }
+        ensures ceilings { ceilings_of self.new ≡ put_at (ceilings_of self.old) sci (λ an. None) }
+        ensures counters { counters_of self.new ≡ counters_of self.old }
+        ensures channel_counters { channel_counters_of self.new ≡ put_at (channel_counters_of self.old) sci None }
+    {
+        self.table.drop_channel(sci);
+    }
+
+    /// A new association of a channel that stands, at a number where none does. `next` is its next and
+    /// lowest acceptable packet number, and only frames with numbers below `ceiling` are delivered as
+    /// verified: 1 to 2^32 both, `next` not above `ceiling`.
+    pub fn install(
+        &mut self,
+        sci: Sci,
+        an: An,
+        key: &[u8; 16],
+        offset: Offset,
+        next: u64,
+        ceiling: u64,
+    )
+        requires stands { has_channel (side_of self.old) sci ≡ true }
+        requires empty { (side_of self.old).rx sci an ≡ None }
+        requires numbered { 1 ≤ next }
+        requires ordered { next ≤ ceiling }
+        requires bounded { ceiling ≤ 2 ^ 32 }
+        ensures side { side_of self.new ≡ record (side_of self.old) {
+          rx = put_at (side_of self.old).rx sci
+              (put ((side_of self.old).rx sci) an (Some (record { key = key.now; offset = offset })));
+          numbers = put_numbers (side_of self.old).numbers sci an (Some (started next));
+        } }
+        ensures ceilings { ceilings_of self.new
+            ≡ put_at (ceilings_of self.old) sci (put (ceilings_of self.old sci) an (Some ceiling)) }
+        ensures counters { counters_of self.new ≡ counters_of self.old }
+        ensures channel_counters { channel_counters_of self.new ≡ channel_counters_of self.old }
+    {
+        let association = Association {
+            key: GcmKey::new(key),
+            offset,
+            next,
+            lowest: next,
+            ceiling,
+            seen: None,
+        };
+        self.table.put(sci, an, Some(association));
+    }
+
+    /// An association that stands goes.
+    pub fn remove(&mut self, sci: Sci, an: An)
+        requires { IsSome ((side_of self.old).rx sci an) }
+        ensures side { side_of self.new ≡ record (side_of self.old) {
+          rx = put_at (side_of self.old).rx sci (put ((side_of self.old).rx sci) an None);
+          numbers = put_numbers (side_of self.old).numbers sci an None;
+        } }
+        ensures ceilings { ceilings_of self.new
+            ≡ put_at (ceilings_of self.old) sci (put (ceilings_of self.old sci) an None) }
+        ensures counters { counters_of self.new ≡ counters_of self.old }
+        ensures channel_counters { channel_counters_of self.new ≡ channel_counters_of self.old }
+    {
+        self.table.put(sci, an, None);
+    }
+
+    /// Raises the ceiling of an association that stands: not below the one before, and at most 2^32.
+    pub fn raise(&mut self, sci: Sci, an: An, ceiling: u64)
+        requires stands { IsSome ((side_of self.old).rx sci an) }
+        requires higher { IfSome (ceilings_of self.old sci an) (λ old. old ≤ ceiling) }
+        requires bounded { ceiling ≤ 2 ^ 32 }
+        ensures side { side_of self.new ≡ side_of self.old }
+        ensures ceilings { ceilings_of self.new
+            ≡ put_at (ceilings_of self.old) sci (put (ceilings_of self.old sci) an (Some ceiling)) }
+        ensures counters { counters_of self.new ≡ counters_of self.old }
+        ensures channel_counters { channel_counters_of self.new ≡ channel_counters_of self.old }
+    {
+        self.table.raise(sci, an, ceiling);
+    }
+
+    /// The next and the lowest acceptable packet number of an association, `None` where none stands.
+    pub fn numbers(&self, sci: Sci, an: An) -> Option<RxNumbers>
+        ensures { result ≡ option_map (λ (n : Numbers). record { next = n.next; lowest = n.lowest })
+            ((side_of self.now).numbers sci an) }
+    {
+        self.table.channel(sci)?.numbers(an)
+    }
+
+    /// The first association, by ascending SCI and number, whose ceiling is to be raised, and the
+    /// greatest packet number that was seen on it: a frame verified on it whose number was at or above the
+    /// ceiling, or at most half a block, rounded down, is left below that; and the number seen and a
+    /// block, at most 2^32, is above the ceiling. `rx_block` is 1 to 65,536 packet numbers.
+    pub fn needs(&self, rx_block: u32) -> Option<RxNeed>
+        ensures { option_map (λ (need : RxNeed). record { sci = need.sci; an = need.an; pn = need.pn }) result
+            ≡ needs_of (side_of self.now) (ceilings_of self.now) rx_block }
+    {
+        self.table.need(rx_block)
+    }
+
+    /// The verdict on a frame from the common side, of any number of octets. What is delivered is
+    /// written to `out`: the plain frame where the frame verified, an untagged frame whole, and else
+    /// the addresses and the Secure Data; unless the verdict is `Delivered`, `out` is empty. Only a
+    /// frame that verifies moves packet numbers, and only those of its association.
+    pub fn receive(&mut self, frame: &[u8], out: &mut FrameBuf) -> Verdict
+        ensures verdict { Receives (side_of self.old) (ceilings_of self.old) frame.now
+            (record { verdict = result; given = out.new.items; numbers = (side_of self.new).numbers }) }
+        ensures side { side_of self.new ≡ record (side_of self.old) { numbers = (side_of self.new).numbers } }
+        ensures ceilings { ceilings_of self.new ≡ ceilings_of self.old }
+        ensures counters { counters_of self.new ≡ counted result (counters_of self.old) }
+        ensures channel_counters { channel_counters_of self.new
+            ≡ counted_at (channel_of (side_of self.old) frame.now) result (channel_counters_of self.old) }
+    {
+        let verdict = self.table.receive(self.validate, self.replay, frame, out);
+        self.counters.count(verdict);
+        verdict
+    }
+
+    /// How often a verdict was given, at most 2^64 - 1; a frame that is held back is not counted.
+    pub fn count(&self, verdict: Verdict) -> u64
+        ensures { result ≡ count_of verdict (counters_of self.now) }
+    {
+        self.counters.of(verdict)
+    }
+
+    /// How often a verdict was given on frames of a channel, at most 2^64 - 1: 0 for one that is not
+    /// counted for channels, `None` where the channel does not stand.
+    pub fn channel_count(&self, sci: Sci, verdict: Verdict) -> Option<u64>
+        ensures { result ≡ option_map (channel_count_of verdict) (channel_counters_of self.now sci) }
+    {
+        let channel = self.table.channel(sci)?;
+        Some(channel.counters.of(verdict))
+    }
+
+    /// Each association that stands has numbers in their order: the next one less the window is not
+    /// above the lowest acceptable, that not above the next, that not above the ceiling, and that at
+    /// most 2^32.
+    pub fn facts(&self)
+        ensures { (sci : List ℕ) (an : ℕ) → AreOrdered (side_of self.now) (ceilings_of self.now) sci an }
+    {
+        let _table = &self.table;
+    }
+}

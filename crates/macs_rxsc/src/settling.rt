@@ -1,0 +1,69 @@
+//! What becomes of a frame that does not verify.
+
+ghost use Rattle.std.specs.Prelude.{◌≡◌, ◌||◌, [], ◌≤◌, ◌+◌, ◌++◌, length, if◌then◌else◌, List, ℕ};
+ghost use Rattle.arrayvec.specs.ArrayVec.{array_vec_len};
+ghost use Rattle.macs_frame.specs.First.{IsFirst};
+ghost use Rattle.macs_frame.specs.Opening.{bare};
+ghost use Rattle.macs_frame.specs.Tag.{Tag, TagFaultHolds, changed, control, tag_faults};
+ghost use Rattle.macs_rxsc.specs.Receive.{RxSide, Tag as TagStep, given_at, is_strict, verdict_at};
+ghost use Rattle.macs_rxsc.specs.declared.verdict.Verdict.TheVariants.{Delivered, Discarded};
+
+use crate::verdict::{Kind, Reason, Verdict};
+use macs_config::Validate;
+use macs_frame::{FrameBuf, Parts, TagFault};
+
+/// The octets of the two addresses.
+const ADDRESS_OCTETS: usize = 12;
+
+/// Appends octets, for which there is room.
+fn append(out: &mut FrameBuf, octets: &[u8])
+    requires { array_vec_len out.old + length octets.now ≤ 9216 }
+    ensures { out.new.items ≡ out.old.items ++ octets.now }
+{
+    out.try_extend_from_slice(octets).unwrap();
+}
+
+/// Discards a frame, or delivers its addresses and Secure Data, where validation is not strict and C
+/// is clear. The parts are a reading of it. `out` is empty before.
+pub fn settle(
+    validate: Validate,
+    reason: Reason,
+    kind: Kind,
+    frame: &[u8],
+    parts: &Parts,
+    out: &mut FrameBuf,
+) -> Verdict
+    requires read { Tag frame.now parts.now }
+    requires empty { out.old.items ≡ [] }
+    ensures verdict { result ≡ (if is_strict validate || changed (control frame.now) then Discarded reason else Delivered kind) }
+    ensures given { out.new.items ≡ (if is_strict validate || changed (control frame.now) then [] else bare frame.now) }
+{
+    if validate == Validate::Strict || parts.tag.changed {
+        return Verdict::Discarded(reason);
+    }
+    append(out, &frame[..ADDRESS_OCTETS]);
+    append(out, &frame[parts.start..parts.end]);
+    Verdict::Delivered(kind)
+}
+
+/// What becomes of a frame with a fault of its tag, the first of them: it is discarded, but without a
+/// tag and where validation is not strict it is delivered whole. `out` is empty before.
+pub fn refuse(validate: Validate, fault: TagFault, frame: &[u8], out: &mut FrameBuf) -> Verdict
+    requires fault { IsFirst (TagFaultHolds frame.now) tag_faults fault }
+    requires empty { out.old.items ≡ [] }
+    ensures verdict { (side : RxSide) → side.validate ≡ validate → result ≡ verdict_at side frame.now (TagStep fault) }
+    ensures given { out.new.items ≡ given_at frame.now result }
+{
+    let reason = match fault {
+        TagFault::Runt => Reason::Runt,
+        TagFault::Oversize => Reason::Oversize,
+        TagFault::NoTag if validate == Validate::Check => {
+            append(out, frame);
+            return Verdict::Delivered(Kind::Untagged);
+        }
+        TagFault::NoTag => Reason::NoTag,
+        TagFault::BadTag => Reason::BadTag,
+        TagFault::ForKay => Reason::ForKay,
+    };
+    Verdict::Discarded(reason)
+}

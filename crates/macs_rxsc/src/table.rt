@@ -1,0 +1,258 @@
+//! The receive channels that stand.
+
+ghost use Rattle.std.specs.Prelude.{◌≡◌, ◌≤◌, ◌<◌, ◌++◌, ◌∷◌, ℕ, List, Option, [], Some, None, IsSome, IfSome, true, false, not, length, map, position, slice_range, take, drop};
+ghost use Rattle.std.specs.List.{filter, list_any};
+ghost use Rattle.std.specs.Option.{option_and_then, option_map};
+ghost use Rattle.std.specs.Str.{bytes_eq};
+ghost use Rattle.macs_config.specs.Config.{put_among};
+ghost use Rattle.macs_config.specs.Tables.{put, put_at};
+ghost use Rattle.macs_frame.specs.Tag.{IsForKay, Tag};
+ghost use Rattle.macs_rxsc.specs.Receive.{Need, Receives, channel_of, counted_at, needs_of, none_counted_for_channel, put_numbers, sci_named};
+ghost use Rattle.macs_rxsc.specs.Kept.{AreDistinct};
+ghost use Rattle.macs_rxsc.specs.View.{ceilings_among, channel_at, counters_among, numbers_of, sa_of, scis_of, shown, slid_channel};
+ghost use Rattle.macs_config.specs.declared.command.Replay.{Replay};
+ghost use Rattle.macs_config.specs.declared.command.Validate.{Validate};
+ghost use Rattle.macs_rxsc.specs.declared.association.Association.{Association};
+ghost use Rattle.macs_rxsc.specs.declared.channel.Channel.{Channel};
+
+use crate::association::Association;
+use crate::channel::Channel;
+use crate::need::RxNeed;
+use crate::settling::{refuse, settle};
+use crate::verdict::{Kind, Reason, Verdict};
+use arrayvec::ArrayVec;
+use macs_config::{Replay, Validate};
+use macs_frame::{An, FrameBuf, Parts, ScName, Sci, read_tag};
+
+/// How many receive channels may stand.
+pub const MAX_CHANNELS: usize = 8;
+
+/// The receive channels that stand, by ascending SCI.
+#[derive(Drop)]
+pub struct Table {
+    pub channels: ArrayVec<Channel, MAX_CHANNELS>,
+}
+
+/// The place of the channel of an SCI, `None` where none stands.
+fn place(channels: &[Channel], sci: Sci) -> Option<usize>
+    ensures { result ≡ position (λ (channel : Channel). bytes_eq channel.sci sci) channels.now }
+{
+    channels.iter().position(|channel| channel.sci == sci)
+}
+
+/// How many of the channels that stand come first, before the first that comes after an SCI.
+fn place_after(channels: &[Channel], sci: Sci) -> usize
+    ensures within { result ≤ length channels.now }
+    ensures between { put_among sci (scis_of channels.now)
+        ≡ take result (scis_of channels.now) ++ sci ∷ drop result (scis_of channels.now) }
+{
+    for (place, channel) in channels.iter().enumerate() {
+        if sci.get() < channel.sci.get() {
+            return place;
+        }
+    }
+    channels.len()
+}
+
+/// The lowest acceptable number of each association rises with the window, and never falls.
+fn slide(channels: &mut [Channel], window: u32)
+    ensures { channels.new ≡ map (slid_channel window) channels.old }
+{
+    for channel in channels.iter_mut() {
+        channel.slide(window);
+    }
+}
+
+/// The SCI of an end station: the source address, with port 00-01 (9.5).
+fn end_station_sci(frame: &[u8]) -> Sci
+    requires { 12 ≤ length frame.now }
+    ensures { result ≡ slice_range frame.now 6 12 ++ 0 ∷ 1 ∷ [] }
+{
+    let mut address = [0; 6];
+    address.copy_from_slice(&frame[6..12]);
+    let [a, b, c, d, e, f] = address;
+    Sci([a, b, c, d, e, f, 0, 1])
+}
+
+/// The SCI that a SecTAG names: the one that is spelled out, the source address with port 00-01, or
+/// that of the only channel where it names none (9.5, 9.9).
+fn sci_named(channels: &[Channel], frame: &[u8], name: ScName) -> Option<Sci>
+    requires { 12 ≤ length frame.now }
+    ensures { result ≡ sci_named (scis_of channels.now) frame.now name }
+{
+    match (name, channels) {
+        (ScName::Explicit(sci), _) => Some(sci),
+        (ScName::EndStation, _) => Some(end_station_sci(frame)),
+        (ScName::Implicit, [channel]) => Some(channel.sci),
+        (ScName::Implicit, _) => None,
+    }
+}
+
+/// The place of the channel that a SecTAG names, `None` where none stands.
+fn place_named(channels: &[Channel], frame: &[u8], name: ScName) -> Option<usize>
+    requires { 12 ≤ length frame.now }
+    ensures { result ≡ option_and_then (λ sci. position (λ (channel : Channel). bytes_eq channel.sci sci) channels.now)
+        (sci_named (scis_of channels.now) frame.now name) }
+{
+    let sci = sci_named(channels, frame, name)?;
+    place(channels, sci)
+}
+
+impl Table {
+    /// The channel of an SCI, `None` where none stands.
+    pub fn channel(&self, sci: Sci) -> Option<&Channel>
+        ensures { option_map (λ channel. channel.now) result ≡ channel_at self.now.channels.items sci }
+    {
+        let place = place(self.channels.as_slice(), sci)?;
+        Some(&self.channels[place])
+    }
+
+    /// The lowest acceptable number of each association rises to the next one less the window, and
+    /// never falls.
+    pub fn slide(&mut self, window: u32)
+        ensures { self.new.channels.items ≡ map (slid_channel window) self.old.channels.items }
+    {
+        slide(self.channels.as_mut_slice(), window);
+    }
+
+    /// A new channel, of an SCI of which none stands, where fewer than 8 stand.
+    pub fn add(&mut self, sci: Sci)
+        requires free { list_any (λ other. bytes_eq other sci) (scis_of self.old.channels.items) ≡ false }
+        requires room { length (scis_of self.old.channels.items) < 8 }
+        ensures side { (validate : Validate) (replay : Replay) → shown validate replay self.new.channels.items
+            ≡ record (shown validate replay self.old.channels.items)
+            { channels = put_among sci (scis_of self.old.channels.items) } }
+        ensures ceilings { ceilings_among self.new.channels.items ≡ ceilings_among self.old.channels.items }
+        ensures counters { counters_among self.new.channels.items
+            ≡ put_at (counters_among self.old.channels.items) sci (Some none_counted_for_channel) }
+    {
+        let place = place_after(self.channels.as_slice(), sci);
+        self.channels.insert(place, Channel::new(sci));
+    }
+
+    /// A channel goes, with its associations and counters.
+    pub fn drop_channel(&mut self, sci: Sci)
+        ensures side { (validate : Validate) (replay : Replay) → shown validate replay self.new.channels.items
+            ≡ record (shown validate replay self.old.channels.items) {
+              channels = filter (λ other. not (bytes_eq other sci)) (scis_of self.old.channels.items);
+              rx = put_at (shown validate replay self.old.channels.items).rx sci (λ an. None);
+              numbers = put_at (shown validate replay self.old.channels.items).numbers sci (λ an. None);
+            } }
+        ensures ceilings { ceilings_among self.new.channels.items
+            ≡ put_at (ceilings_among self.old.channels.items) sci (λ an. None) }
+        ensures counters { counters_among self.new.channels.items
+            ≡ put_at (counters_among self.old.channels.items) sci None }
+    {
+        self.channels.retain(|channel| channel.sci != sci);
+    }
+
+    /// Puts an association at a number of a channel that stands, or takes it away.
+    pub fn put(&mut self, sci: Sci, an: An, association: Option<Association>)
+        requires { list_any (λ other. bytes_eq other sci) (scis_of self.old.channels.items) ≡ true }
+        ensures side { (validate : Validate) (replay : Replay) → shown validate replay self.new.channels.items
+            ≡ record (shown validate replay self.old.channels.items) {
+              rx = put_at (shown validate replay self.old.channels.items).rx sci
+                  (put ((shown validate replay self.old.channels.items).rx sci) an (option_map sa_of association));
+              numbers = put_numbers (shown validate replay self.old.channels.items).numbers sci an
+                  (option_map numbers_of association);
+            } }
+        ensures ceilings { ceilings_among self.new.channels.items ≡ put_at (ceilings_among self.old.channels.items) sci
+            (put (ceilings_among self.old.channels.items sci) an (option_map (λ (a : Association). a.ceiling) association)) }
+        ensures counters { counters_among self.new.channels.items ≡ counters_among self.old.channels.items }
+    {
+        match place(self.channels.as_slice(), sci) {
+            Some(place) => self.channels[place].put(an, association),
+            None => {}
+        }
+    }
+
+    /// Raises the ceiling of an association that stands.
+    pub fn raise(&mut self, sci: Sci, an: An, ceiling: u64)
+        requires { IsSome (ceilings_among self.old.channels.items sci an) }
+        ensures side { (validate : Validate) (replay : Replay) → shown validate replay self.new.channels.items
+            ≡ shown validate replay self.old.channels.items }
+        ensures ceilings { ceilings_among self.new.channels.items ≡ put_at (ceilings_among self.old.channels.items) sci
+            (put (ceilings_among self.old.channels.items sci) an (Some ceiling)) }
+        ensures counters { counters_among self.new.channels.items ≡ counters_among self.old.channels.items }
+    {
+        match place(self.channels.as_slice(), sci) {
+            Some(place) => self.channels[place].raise(an, ceiling),
+            None => {}
+        }
+    }
+
+    /// The need of the first association, by ascending SCI and number, that has one. No SCI stands
+    /// twice.
+    pub fn need(&self, block: u32) -> Option<RxNeed>
+        requires { AreDistinct (scis_of self.now.channels.items) }
+        ensures { (validate : Validate) (replay : Replay)
+            → option_map (λ (need : RxNeed). record { sci = need.sci; an = need.an; pn = need.pn }) result
+            ≡ needs_of (shown validate replay self.now.channels.items) (ceilings_among self.now.channels.items) block }
+    {
+        for channel in self.channels.iter() {
+            if let Some(need) = channel.need(block) {
+                return Some(need);
+            }
+        }
+        None
+    }
+
+    /// What becomes of a frame from the common side. The verdict is counted for its channel.
+    pub fn receive(
+        &mut self,
+        validate: Validate,
+        replay: Replay,
+        frame: &[u8],
+        out: &mut FrameBuf,
+    ) -> Verdict
+        ensures verdict { Receives (shown validate replay self.old.channels.items) (ceilings_among self.old.channels.items)
+            frame.now (record {
+              verdict = result;
+              given = out.new.items;
+              numbers = (shown validate replay self.new.channels.items).numbers;
+            }) }
+        ensures side { shown validate replay self.new.channels.items ≡ record (shown validate replay self.old.channels.items)
+            { numbers = (shown validate replay self.new.channels.items).numbers } }
+        ensures ceilings { ceilings_among self.new.channels.items ≡ ceilings_among self.old.channels.items }
+        ensures counters { counters_among self.new.channels.items ≡ counted_at
+            (channel_of (shown validate replay self.old.channels.items) frame.now) result
+            (counters_among self.old.channels.items) }
+    {
+        out.clear();
+        match read_tag(frame) {
+            Ok(parts) => self.receive_tagged(validate, replay, frame, &parts, out),
+            Err(fault) => refuse(validate, fault, frame, out),
+        }
+    }
+
+    /// What becomes of a frame, as `receive` says; the parts are a reading of it, and `out` is empty
+    /// before.
+    fn receive_tagged(
+        &mut self,
+        validate: Validate,
+        replay: Replay,
+        frame: &[u8],
+        parts: &Parts,
+        out: &mut FrameBuf,
+    ) -> Verdict
+        requires read { Tag frame.now parts.now × (¬ IsForKay frame.now) }
+        requires empty { out.old.items ≡ [] }
+        ensures verdict { Receives (shown validate replay self.old.channels.items) (ceilings_among self.old.channels.items)
+            frame.now (record {
+              verdict = result;
+              given = out.new.items;
+              numbers = (shown validate replay self.new.channels.items).numbers;
+            }) }
+        ensures side { shown validate replay self.new.channels.items ≡ record (shown validate replay self.old.channels.items)
+            { numbers = (shown validate replay self.new.channels.items).numbers } }
+        ensures ceilings { ceilings_among self.new.channels.items ≡ ceilings_among self.old.channels.items }
+        ensures counters { counters_among self.new.channels.items ≡ counted_at
+            (channel_of (shown validate replay self.old.channels.items) frame.now) result
+            (counters_among self.old.channels.items) }
+    {
+        match place_named(self.channels.as_slice(), frame, parts.tag.name) {
+            Some(place) => self.channels[place].receive(validate, replay, frame, parts, out),
+            None => settle(validate, Reason::NoSci, Kind::UnknownSci, frame, parts, out),
+        }
+    }
+}

@@ -1,0 +1,53 @@
+//! What becomes of a received frame.
+
+/// What becomes of a received frame (IEEE Std 802.1AE-2018, 10.6 and 10.7).
+#[derive(Clone, Copy, Debug, PartialEq, Eq)]
+pub enum Verdict {
+    /// It is given to the controlled side.
+    Delivered(Kind),
+    /// It is dropped.
+    Discarded(Reason),
+    /// It verified, but its packet number is not reserved yet: nothing is given, and it is to be
+    /// handed in again.
+    HeldBack,
+}
+
+/// As what a frame is delivered.
+#[derive(Clone, Copy, Debug, PartialEq, Eq)]
+pub enum Kind {
+    /// It verified.
+    Ok,
+    /// It verified, with replay protection off, and its packet number is below the lowest acceptable.
+    Delayed,
+    /// It did not verify; validation is not strict, and C is clear.
+    Invalid,
+    /// It has no SecTAG, and validation is not strict.
+    Untagged,
+    /// It names no channel that stands; validation is not strict, and C is clear.
+    UnknownSci,
+    /// Its association does not stand; validation is not strict, and C is clear.
+    UnusedSa,
+}
+
+/// Why a frame is discarded.
+#[derive(Clone, Copy, Debug, PartialEq, Eq)]
+pub enum Reason {
+    /// It has fewer than 14 octets.
+    Runt,
+    /// It has more than 9,216 octets.
+    Oversize,
+    /// It has no SecTAG, and validation is strict.
+    NoTag,
+    /// Its SecTAG breaks a rule of 9.12, or has SCB set.
+    BadTag,
+    /// E is set and C clear: it is for the key agreement entity.
+    ForKay,
+    /// It names no channel that stands; validation is strict, or C is set.
+    NoSci,
+    /// Its association does not stand; validation is strict, or C is set.
+    NotUsingSa,
+    /// Replay protection is on, and its packet number is below the lowest acceptable.
+    Late,
+    /// It did not verify; validation is strict, or C is set.
+    NotValid,
+}
