@@ -3,3 +3,4 @@ pub mod Steps
 pub mod Order
 pub mod Shown
 pub mod Needs
+pub mod Told

@@ -1,11 +1,9 @@
 -- The numbers of each association stay in their order, and no channel comes to stand twice.
-use Rattle.std.proofs.Common.{◌≡◌, ◌∙◌, ◌<◌, ◌≤◌, ◌+◌, ◌-◌, ◌^◌, ◌==◌, ◌||◌, ℕ, Bool, true, false, cond, not, max, List, [], ◌∷◌, filter, bytes_eq, Option, Some, None, IsSome, IfSome, inl, inr, refl, ap, sym, subst, arith}
+use Rattle.std.proofs.Common.{◌≡◌, ◌∙◌, ◌<◌, ◌≤◌, ◌^◌, ◌==◌, ℕ, Bool, true, false, cond, List, [], ◌∷◌, filter, bytes_eq, Option, Some, None, IsSome, IfSome, inl, inr, refl, ap, sym, subst, arith}
 use Rattle.std.specs.Prelude.{nat_lt}
 use Rattle.std.specs.List.{list_any}
 use Rattle.std.specs.Option.{option_map}
 use Rattle.std.proofs.lemmas.Bool.{or_parts}
-use Rattle.std.proofs.lemmas.Bool.Decides.{nat_tests}
-use Rattle.std.proofs.lemmas.Grind.{common_steps}
 use Rattle.std.proofs.lemmas.Slice.Eq.{bytes_eq-Decides}
 use borrow.Author.Tests.{eqb-true, ltb-true}
 use Rattle.macs_config.specs.Config.{comes_before, put_among}
@@ -13,7 +11,7 @@ use Rattle.macs_config.specs.Tables.{put, put_at}
 use Rattle.macs_config.specs.declared.association.RxSa.{RxSa}
 use Rattle.macs_config.specs.declared.command.Validate.{Validate}
 use Rattle.macs_rxsc.specs.Kept.{AreDistinct}
-use Rattle.macs_rxsc.specs.Receive.{AreOrdered, Arrival, Arrives, InOrder, Numbers, Outcome, Receives, RxSide, Stands, advanced, arrived, held_back, put_numbers, started, windowed}
+use Rattle.macs_rxsc.specs.Receive.{AreOrdered, Arrival, Numbers, Outcome, Receives, RxSide, Stands, advanced, arrived, held_back, put_numbers, started, windowed}
 use Rattle.macs_rxsc.proofs.Places.{bytes_eq-sym}
 
 -- ---- numbers

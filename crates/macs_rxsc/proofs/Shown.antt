@@ -1,6 +1,6 @@
 -- What the channels show, after one of them has changed, came or went.
-use Rattle.std.proofs.Common.{◌≡◌, ◌∙◌, ◌<◌, ℕ, zero, suc, Bool, true, false, cond, not, List, [], ◌∷◌, ◌++◌, length, map, take, drop, set, get_or, filter, Option, Some, None, IsSome, refl, ap, sym, subst, arith, rules}
-use Rattle.std.specs.Prelude.{position, slice_set, ◌||◌}
+use Rattle.std.proofs.Common.{◌≡◌, ◌∙◌, ◌<◌, ℕ, zero, suc, false, not, List, [], ◌∷◌, ◌++◌, length, map, take, drop, set, get_or, filter, Option, Some, None, refl, ap, sym, subst, arith, rules}
+use Rattle.std.specs.Prelude.{position, slice_set}
 use Rattle.std.specs.List.{insert, list_any, refill}
 use Rattle.std.specs.Option.{option_and_then, option_map}
 use Rattle.std.specs.Str.{bytes_eq}
@@ -15,11 +15,10 @@ use Rattle.macs_config.specs.declared.command.Validate.{Validate}
 use Rattle.macs_config.specs.declared.command.Validate.TheVariants.{Strict, Check}
 use Rattle.macs_frame.specs.Tag.{name_of, tag_of}
 use Rattle.macs_frame.specs.declared.tag.SecTag.{SecTag}
-use Rattle.macs_frame.specs.declared.tag.ScName.{ScName}
 use Rattle.macs_frame.specs.declared.tag.TagFault.{TagFault}
 use Rattle.macs_frame.specs.declared.tag.TagFault.TheVariants.{Runt as IsRunt, Oversize as IsOversize, NoTag as HasNoTag, BadTag as HasBadTag, ForKay as IsForKay}
 use Rattle.macs_rxsc.specs.Kept.{AreDistinct, IsKept}
-use Rattle.macs_rxsc.specs.Receive.{Numbers, Outcome, Receives, RxSide, Tag as TagStep, channel_counted, channel_of, counted_at, none_counted_for_channel, put_numbers, sci_named, standing, verdict_at, windowed}
+use Rattle.macs_rxsc.specs.Receive.{Numbers, Receives, RxSide, Tag as TagStep, channel_counted, counted_at, none_counted_for_channel, put_numbers, sci_named, standing, verdict_at, windowed}
 use Rattle.macs_rxsc.specs.View.{ceilings_among, ceilings_in, channel_at, counters_among, counters_in, numbers_in, numbers_of, sa_of, sas_in, scis_of, shown, slid, slid_channel, association_in}
 use Rattle.macs_rxsc.specs.declared.association.Association.{Association}
 use Rattle.macs_rxsc.specs.declared.channel.Channel.{Channel}

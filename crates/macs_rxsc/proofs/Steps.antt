@@ -1,5 +1,5 @@
 -- What becomes of a frame: the steps in their order, and what they say once the parts of the frame are read.
-use Rattle.std.proofs.Common.{◌≡◌, ◌∙◌, ◌<◌, ◌≤◌, ◌⊎◌, ℕ, Bool, true, false, cond, List, [], ◌∷◌, Option, Some, None, IsSome, inl, inr, refl, ap, sym, subst, arith}
+use Rattle.std.proofs.Common.{◌≡◌, ◌∙◌, ◌<◌, ◌⊎◌, ℕ, Bool, true, false, cond, List, [], ◌∷◌, Option, Some, None, IsSome, inl, inr, refl, ap, sym, subst, arith}
 use Rattle.std.specs.Prelude.{◌&&◌, ◌||◌, IsSomeAnd, nat_lt}
 use Rattle.std.specs.Option.{option_and_then}
 use Rattle.std.proofs.lemmas.Bool.{cases_lt}
@@ -7,7 +7,7 @@ use Rattle.std.proofs.lemmas.Bool.Decides.{nat_tests}
 use Rattle.macs_config.specs.Tables.{put_at}
 use Rattle.macs_config.specs.declared.association.RxSa.{RxSa}
 use Rattle.macs_frame.specs.Fields.{octets_of}
-use Rattle.macs_frame.specs.First.{IsFirst, NoneHolds}
+use Rattle.macs_frame.specs.First.{IsFirst}
 use Rattle.macs_frame.specs.Opening.{Verified, bare}
 use Rattle.macs_frame.specs.Tag.{IsForKay, Tag, TagFaultHolds, changed, control, tag_faults, tag_of}
 use Rattle.macs_frame.specs.declared.tag.Parts.{Parts}

@@ -2,7 +2,7 @@
 use Rattle.std.specs.Prelude.{◌≡◌, ℕ, false, List, [], ◌∷◌}
 use Rattle.std.specs.List.{list_any}
 use Rattle.std.specs.Str.{bytes_eq}
-use Rattle.macs_rxsc.specs.Receive.{AreOrdered, RxSide}
+use Rattle.macs_rxsc.specs.Receive.{AreOrdered}
 use Rattle.macs_rxsc.specs.View.{Kept, ceilings_of, side_of}
 
 -- no SCI stands twice

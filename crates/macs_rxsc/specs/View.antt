@@ -1,5 +1,5 @@
 -- Receive channels as they are kept.
-use Rattle.std.specs.Prelude.{◌≡◌, ℕ, ◌-◌, max, if◌then◌else◌, List, [], ◌∷◌, map, get_or, Option, Some, None}
+use Rattle.std.specs.Prelude.{ℕ, ◌-◌, max, if◌then◌else◌, List, [], ◌∷◌, map, get_or, Option, Some, None}
 use Rattle.std.specs.Option.{option_and_then, option_map}
 use Rattle.std.specs.Str.{bytes_eq}
 use Rattle.macs_config.specs.declared.association.RxSa.{RxSa}

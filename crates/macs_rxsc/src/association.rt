@@ -48,7 +48,7 @@ fn greatest(seen: Option<Pn>, pn: Pn) -> Pn
 }
 
 /// The lowest acceptable number of an association rises with the window, where one stands.
-pub fn slide(association: &mut Option<Association>, window: u32)
+pub(crate) fn slide(association: &mut Option<Association>, window: u32)
     ensures { association.new ≡ option_map (slid window) association.old }
 {
     if let Some(association) = association {
@@ -58,7 +58,7 @@ pub fn slide(association: &mut Option<Association>, window: u32)
 
 impl Association {
     /// The lowest acceptable number rises to the next one less the window, and never falls.
-    pub fn slide(&mut self, window: u32)
+    pub(crate) fn slide(&mut self, window: u32)
         ensures { self.new ≡ slid window self.old }
     {
         self.lowest = self.lowest.max(self.next.saturating_sub(u64::from(window)));
@@ -97,7 +97,7 @@ impl Association {
 
     /// What becomes of a frame that names this association of a channel; the parts are a reading of
     /// it. `out` is empty before.
-    pub fn receive(
+    pub(crate) fn receive(
         &mut self,
         sci: Sci,
         validate: Validate,
@@ -139,7 +139,7 @@ impl Association {
 
     /// The need of this association of a channel, if it has one. `block` is 1 to 65,536 packet
     /// numbers.
-    pub fn need(&self, sci: Sci, an: An, block: u32) -> Option<RxNeed>
+    pub(crate) fn need(&self, sci: Sci, an: An, block: u32) -> Option<RxNeed>
         ensures { option_map (λ (need : RxNeed). record { sci = need.sci; an = need.an; pn = need.pn }) result
             ≡ need_of block sci an (Some (numbers_of self.now)) (Some self.now.ceiling) }
     {

@@ -29,7 +29,7 @@ pub struct Channel {
 
 impl Channel {
     /// A channel without associations, for which nothing is counted.
-    pub fn new(sci: Sci) -> Channel
+    pub(crate) fn new(sci: Sci) -> Channel
         ensures { result ≡ record {
           sci = sci;
           associations = None ∷ None ∷ None ∷ None ∷ [];
@@ -44,7 +44,7 @@ impl Channel {
     }
 
     /// Puts an association at a number, or takes it away.
-    pub fn put(&mut self, an: An, association: Option<Association>)
+    pub(crate) fn put(&mut self, an: An, association: Option<Association>)
         ensures sci { self.new.sci ≡ self.old.sci }
         ensures counters { self.new.counters ≡ self.old.counters }
         ensures sas { sas_in (Some self.new) ≡ put (sas_in (Some self.old)) an (option_map sa_of association) }
@@ -56,7 +56,7 @@ impl Channel {
     }
 
     /// Raises the ceiling of an association that stands.
-    pub fn raise(&mut self, an: An, ceiling: u64)
+    pub(crate) fn raise(&mut self, an: An, ceiling: u64)
         ensures sci { self.new.sci ≡ self.old.sci }
         ensures counters { self.new.counters ≡ self.old.counters }
         ensures sas { sas_in (Some self.new) ≡ sas_in (Some self.old) }
@@ -69,7 +69,7 @@ impl Channel {
     }
 
     /// The lowest acceptable number of each association rises with the window, and never falls.
-    pub fn slide(&mut self, window: u32)
+    pub(crate) fn slide(&mut self, window: u32)
         ensures { self.new ≡ slid_channel window self.old }
     {
         for association in self.associations.iter_mut() {
@@ -79,7 +79,7 @@ impl Channel {
 
     /// What becomes of a frame that names this channel; the parts are a reading of it. `out` is empty
     /// before. The verdict is counted.
-    pub fn receive(
+    pub(crate) fn receive(
         &mut self,
         validate: Validate,
         replay: Replay,
@@ -150,7 +150,7 @@ impl Channel {
     }
 
     /// The next and the lowest acceptable packet number of an association, `None` where none stands.
-    pub fn numbers(&self, an: An) -> Option<RxNumbers>
+    pub(crate) fn numbers(&self, an: An) -> Option<RxNumbers>
         ensures { result ≡ option_map (λ (n : Numbers). record { next = n.next; lowest = n.lowest })
             (numbers_in (Some self.now) an) }
     {
@@ -173,7 +173,7 @@ impl Channel {
     }
 
     /// The need of the first association, by its number, that has one.
-    pub fn need(&self, block: u32) -> Option<RxNeed>
+    pub(crate) fn need(&self, block: u32) -> Option<RxNeed>
         ensures { option_map (λ (need : RxNeed). record { sci = need.sci; an = need.an; pn = need.pn }) result
             ≡ first_need (map (λ an. need_of block self.now.sci an (numbers_in (Some self.now) an) (ceilings_in (Some self.now) an))
             (0 ∷ 1 ∷ 2 ∷ 3 ∷ [])) }

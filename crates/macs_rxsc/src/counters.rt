@@ -49,7 +49,7 @@ impl RxCounters {
     ghost use Rattle.macs_rxsc.specs.Receive.{count_of, counted, none_counted};
 
     /// Nothing is counted yet.
-    pub fn new() -> RxCounters
+    pub(crate) fn new() -> RxCounters
         ensures { result ≡ none_counted }
     {
         RxCounters {
@@ -72,7 +72,7 @@ impl RxCounters {
     }
 
     /// How often a verdict was given, 0 for a frame that is held back.
-    pub fn of(&self, verdict: Verdict) -> u64
+    pub(crate) fn of(&self, verdict: Verdict) -> u64
         ensures { result ≡ count_of verdict self.now }
     {
         match verdict {
@@ -96,7 +96,7 @@ impl RxCounters {
     }
 
     /// A verdict is given once more.
-    pub fn count(&mut self, verdict: Verdict)
+    pub(crate) fn count(&mut self, verdict: Verdict)
         ensures { self.new ≡ counted verdict self.old }
     {
         match verdict {
@@ -125,7 +125,7 @@ impl ChannelCounters {
     ghost use Rattle.macs_rxsc.specs.Receive.{channel_count_of, channel_counted, none_counted_for_channel};
 
     /// Nothing is counted yet.
-    pub fn new() -> ChannelCounters
+    pub(crate) fn new() -> ChannelCounters
         ensures { result ≡ none_counted_for_channel }
     {
         ChannelCounters {
@@ -140,7 +140,7 @@ impl ChannelCounters {
     }
 
     /// How often a verdict was given, 0 for one that is not counted for channels.
-    pub fn of(&self, verdict: Verdict) -> u64
+    pub(crate) fn of(&self, verdict: Verdict) -> u64
         ensures { result ≡ channel_count_of verdict self.now }
     {
         match verdict {
@@ -156,7 +156,7 @@ impl ChannelCounters {
     }
 
     /// A verdict is given once more.
-    pub fn count(&mut self, verdict: Verdict)
+    pub(crate) fn count(&mut self, verdict: Verdict)
         ensures { self.new ≡ channel_counted verdict self.old }
     {
         match verdict {

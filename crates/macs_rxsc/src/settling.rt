@@ -25,7 +25,7 @@ fn append(out: &mut FrameBuf, octets: &[u8])
 
 /// Discards a frame, or delivers its addresses and Secure Data, where validation is not strict and C
 /// is clear. The parts are a reading of it. `out` is empty before.
-pub fn settle(
+pub(crate) fn settle(
     validate: Validate,
     reason: Reason,
     kind: Kind,
@@ -48,7 +48,12 @@ pub fn settle(
 
 /// What becomes of a frame with a fault of its tag, the first of them: it is discarded, but without a
 /// tag and where validation is not strict it is delivered whole. `out` is empty before.
-pub fn refuse(validate: Validate, fault: TagFault, frame: &[u8], out: &mut FrameBuf) -> Verdict
+pub(crate) fn refuse(
+    validate: Validate,
+    fault: TagFault,
+    frame: &[u8],
+    out: &mut FrameBuf,
+) -> Verdict
     requires fault { IsFirst (TagFaultHolds frame.now) tag_faults fault }
     requires empty { out.old.items ≡ [] }
     ensures verdict { (side : RxSide) → side.validate ≡ validate → result ≡ verdict_at side frame.now (TagStep fault) }

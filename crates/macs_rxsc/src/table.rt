@@ -21,11 +21,8 @@ use crate::need::RxNeed;
 use crate::settling::{refuse, settle};
 use crate::verdict::{Kind, Reason, Verdict};
 use arrayvec::ArrayVec;
-use macs_config::{Replay, Validate};
+use macs_config::{MAX_CHANNELS, Replay, Validate};
 use macs_frame::{An, FrameBuf, Parts, ScName, Sci, read_tag};
-
-/// How many receive channels may stand.
-pub const MAX_CHANNELS: usize = 8;
 
 /// The receive channels that stand, by ascending SCI.
 #[derive(Drop)]
@@ -100,7 +97,7 @@ fn place_named(channels: &[Channel], frame: &[u8], name: ScName) -> Option<usize
 
 impl Table {
     /// The channel of an SCI, `None` where none stands.
-    pub fn channel(&self, sci: Sci) -> Option<&Channel>
+    pub(crate) fn channel(&self, sci: Sci) -> Option<&Channel>
         ensures { option_map (λ channel. channel.now) result ≡ channel_at self.now.channels.items sci }
     {
         let place = place(self.channels.as_slice(), sci)?;
@@ -109,14 +106,14 @@ impl Table {
 
     /// The lowest acceptable number of each association rises to the next one less the window, and
     /// never falls.
-    pub fn slide(&mut self, window: u32)
+    pub(crate) fn slide(&mut self, window: u32)
         ensures { self.new.channels.items ≡ map (slid_channel window) self.old.channels.items }
     {
         slide(self.channels.as_mut_slice(), window);
     }
 
     /// A new channel, of an SCI of which none stands, where fewer than 8 stand.
-    pub fn add(&mut self, sci: Sci)
+    pub(crate) fn add(&mut self, sci: Sci)
         requires free { list_any (λ other. bytes_eq other sci) (scis_of self.old.channels.items) ≡ false }
         requires room { length (scis_of self.old.channels.items) < 8 }
         ensures side { (validate : Validate) (replay : Replay) → shown validate replay self.new.channels.items
@@ -131,7 +128,7 @@ impl Table {
     }
 
     /// A channel goes, with its associations and counters.
-    pub fn drop_channel(&mut self, sci: Sci)
+    pub(crate) fn drop_channel(&mut self, sci: Sci)
         ensures side { (validate : Validate) (replay : Replay) → shown validate replay self.new.channels.items
             ≡ record (shown validate replay self.old.channels.items) {
               channels = filter (λ other. not (bytes_eq other sci)) (scis_of self.old.channels.items);
@@ -147,7 +144,7 @@ impl Table {
     }
 
     /// Puts an association at a number of a channel that stands, or takes it away.
-    pub fn put(&mut self, sci: Sci, an: An, association: Option<Association>)
+    pub(crate) fn put(&mut self, sci: Sci, an: An, association: Option<Association>)
         requires { list_any (λ other. bytes_eq other sci) (scis_of self.old.channels.items) ≡ true }
         ensures side { (validate : Validate) (replay : Replay) → shown validate replay self.new.channels.items
             ≡ record (shown validate replay self.old.channels.items) {
@@ -167,7 +164,7 @@ impl Table {
     }
 
     /// Raises the ceiling of an association that stands.
-    pub fn raise(&mut self, sci: Sci, an: An, ceiling: u64)
+    pub(crate) fn raise(&mut self, sci: Sci, an: An, ceiling: u64)
         requires { IsSome (ceilings_among self.old.channels.items sci an) }
         ensures side { (validate : Validate) (replay : Replay) → shown validate replay self.new.channels.items
             ≡ shown validate replay self.old.channels.items }
@@ -183,7 +180,7 @@ impl Table {
 
     /// The need of the first association, by ascending SCI and number, that has one. No SCI stands
     /// twice.
-    pub fn need(&self, block: u32) -> Option<RxNeed>
+    pub(crate) fn need(&self, block: u32) -> Option<RxNeed>
         requires { AreDistinct (scis_of self.now.channels.items) }
         ensures { (validate : Validate) (replay : Replay)
             → option_map (λ (need : RxNeed). record { sci = need.sci; an = need.an; pn = need.pn }) result
@@ -198,7 +195,7 @@ impl Table {
     }
 
     /// What becomes of a frame from the common side. The verdict is counted for its channel.
-    pub fn receive(
+    pub(crate) fn receive(
         &mut self,
         validate: Validate,
         replay: Replay,

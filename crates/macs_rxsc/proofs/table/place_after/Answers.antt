@@ -1,4 +1,4 @@
-use Rattle.std.proofs.Common.{◌≡◌, ◌∙◌, [], get_or, length, sym, ap}
+use Rattle.std.proofs.Common.{◌≡◌, ◌∙◌, [], get_or, sym, ap}
 use Rattle.macs_config.specs.Config.{comes_before}
 use Rattle.macs_rxsc.proofs.Places.{before_by, put_behind, put_here, sci_at, within_scis}
 use Rattle.macs_rxsc.specs.View.{scis_of}

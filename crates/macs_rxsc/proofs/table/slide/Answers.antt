@@ -1,7 +1,6 @@
-use Rattle.std.proofs.Common.{◌≡◌, ◌∙◌, ◌<◌, ◌++◌, List, get_or, length, map, take, drop, set, refl, ap, sym, arith, add-one}
-use Rattle.macs_rxsc.proofs.Places.{mapped_at, mapped_more}
+use Rattle.std.proofs.Common.{arith}
+use Rattle.macs_rxsc.proofs.Places.{mapped_more}
 use Rattle.macs_rxsc.specs.View.{slid_channel}
-use Rattle.macs_rxsc.specs.declared.channel.Channel.{Channel}
 use Rattle.macs_rxsc.proofs.table.slide.Goals as goal
 
 pub loop-channel-preserved : goal.loop-channel-preserved

@@ -1,4 +1,4 @@
-use Rattle.std.proofs.Common.{◌≡◌, ◌∙◌, ◌<◌, ℕ, List, [], Bool, true, false, cond, Option, Some, None, refl, ap, sym, subst, arith}
+use Rattle.std.proofs.Common.{◌≡◌, ◌∙◌, ◌<◌, ℕ, List, true, false, cond, Some, None, refl, ap, sym}
 use Rattle.std.specs.Prelude.{◌&&◌, nat_lt}
 use borrow.Author.Tests.{ltb-true}
 use Rattle.macs_config.specs.declared.command.Replay.{Replay}
@@ -10,10 +10,9 @@ use Rattle.macs_frame.specs.declared.tag.SecTag.{SecTag}
 use Rattle.macs_rxsc.proofs.Steps.{arrives, arrives_as, first_late, first_not_verified, in_time_by, is_delivered, is_held, late_parts, put_numbers-same, settles, settles_bare}
 use Rattle.macs_rxsc.specs.Receive.{BelowLowest, Numbers, NotVerified, RxSide, advanced, held_back, kind_of, put_numbers}
 use Rattle.macs_rxsc.specs.View.{numbers_of, sa_of}
-use Rattle.macs_rxsc.specs.declared.verdict.Kind.{Kind}
 use Rattle.macs_rxsc.specs.declared.verdict.Kind.TheVariants.{Invalid}
 use Rattle.macs_rxsc.specs.declared.verdict.Reason.TheVariants.{NotValid}
-use Rattle.macs_rxsc.specs.declared.verdict.Verdict.TheVariants.{Delivered, HeldBack}
+use Rattle.macs_rxsc.specs.declared.verdict.Verdict.TheVariants.{Delivered}
 use Rattle.macs_rxsc.proofs.association.Association.receive.Goals as goal
 use Rattle.macs_rxsc.proofs.association.Association.receive.Goals.{After-is_late, After-arrive}
 

@@ -1,14 +1,13 @@
-use Rattle.std.proofs.Common.{◌≡◌, ◌∙◌, ◌<◌, ℕ, List, Option, Some, None, get_or, length, slice_set, refl, ap, sym, subst, arith, rules}
+use Rattle.std.proofs.Common.{◌≡◌, ◌∙◌, ◌<◌, Some, None, get_or, length, refl, ap, subst, arith}
 use Rattle.std.proofs.lemmas.Grind.{common_steps}
 use Rattle.std.specs.Option.{option_map}
 use Rattle.macs_frame.specs.Tag.{tag_of}
 use Rattle.macs_frame.specs.declared.tag.SecTag.{SecTag}
 use Rattle.macs_rxsc.proofs.Shown.{decided_same, decided_some, read_at}
 use Rattle.macs_rxsc.proofs.Steps.{first_no_association, settles_bare}
-use Rattle.macs_rxsc.specs.Receive.{NoAssociation, RxSide}
-use Rattle.macs_rxsc.specs.View.{ceilings_in, numbers_in, numbers_of, sa_of, sas_in}
+use Rattle.macs_rxsc.specs.Receive.{NoAssociation}
+use Rattle.macs_rxsc.specs.View.{numbers_of, sa_of}
 use Rattle.macs_rxsc.specs.declared.association.Association.{Association}
-use Rattle.macs_rxsc.specs.declared.channel.Channel.{Channel}
 use Rattle.macs_rxsc.specs.declared.verdict.Kind.TheVariants.{UnusedSa}
 use Rattle.macs_rxsc.specs.declared.verdict.Reason.TheVariants.{NotUsingSa}
 use Rattle.macs_rxsc.proofs.channel.Channel.decide.Goals as goal

@@ -1,6 +1,5 @@
-use Rattle.std.proofs.Common.{◌≡◌, ◌∙◌, ℕ, List, Option, Some, None, IsSome, IfSome, refl, ap, sym, subst, arith}
 use Rattle.macs_rxsc.proofs.Shown.{kept_as}
-use Rattle.macs_rxsc.specs.View.{ceilings_among, shown}
+use Rattle.macs_rxsc.specs.View.{shown}
 use Rattle.macs_rxsc.proofs.Order.{distinct-put}
 use Rattle.macs_rxsc.proofs.receive.Rx.add.Goals as goal
 

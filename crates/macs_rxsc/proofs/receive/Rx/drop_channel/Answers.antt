@@ -1,4 +1,4 @@
-use Rattle.std.proofs.Common.{◌≡◌, ◌∙◌, ℕ, List, Option, Some, None, IsSome, IfSome, filter, not, bytes_eq, refl, ap, sym, subst, arith}
+use Rattle.std.proofs.Common.{filter, not, bytes_eq}
 use Rattle.macs_rxsc.proofs.Shown.{kept_as}
 use Rattle.macs_rxsc.specs.View.{ceilings_among, shown}
 use Rattle.macs_rxsc.proofs.Order.{distinct-filter, ordered-gone}

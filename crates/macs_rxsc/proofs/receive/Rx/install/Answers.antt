@@ -1,4 +1,4 @@
-use Rattle.std.proofs.Common.{◌≡◌, ◌∙◌, ℕ, List, Option, Some, None, IsSome, IfSome, refl, ap, sym, subst, arith}
+use Rattle.std.proofs.Common.{Some}
 use Rattle.macs_rxsc.proofs.Shown.{kept_as}
 use Rattle.macs_rxsc.specs.View.{ceilings_among, shown}
 use Rattle.macs_rxsc.proofs.Order.{ordered-put, started_stands}

@@ -1,10 +1,6 @@
-use Rattle.std.proofs.Common.{◌≡◌, ◌∙◌, ◌++◌, ◌∷◌, ℕ, List, Option, Some, None, get_or, take, drop, refl, ap, sym, subst}
-use Rattle.std.specs.Option.{option_map}
+use Rattle.std.proofs.Common.{◌≡◌, ◌∙◌, ◌++◌, ◌∷◌, List, take, drop, ap, subst}
 use Rattle.macs_config.specs.Config.{put_among}
-use Rattle.macs_config.specs.Tables.{put}
-use Rattle.macs_rxsc.proofs.Places.{IsPlace}
-use Rattle.macs_rxsc.specs.View.{ceilings_in, numbers_in, numbers_of, sa_of, sas_in, scis_of, shown, ceilings_among, counters_among}
-use Rattle.macs_rxsc.specs.declared.association.Association.{Association}
+use Rattle.macs_rxsc.specs.View.{scis_of, shown, ceilings_among, counters_among}
 use Rattle.macs_rxsc.specs.declared.channel.Channel.{Channel}
 use Rattle.std.specs.List.{insert}
 use Rattle.macs_rxsc.proofs.Shown.{ceilings-added, counters-added, fresh, shown-added}

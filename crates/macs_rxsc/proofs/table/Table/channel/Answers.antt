@@ -1,9 +1,7 @@
-use Rattle.std.proofs.Common.{◌≡◌, ◌∙◌, List, Option, Some, None, get_or, refl, ap, sym}
+use Rattle.std.proofs.Common.{◌∙◌, Some, ap, sym}
 use Rattle.std.specs.Option.{option_map}
 use Rattle.macs_rxsc.proofs.Places.{channel_at-place}
 use Rattle.macs_rxsc.proofs.Shown.{found_none, found_place}
-use Rattle.macs_rxsc.specs.View.{channel_at}
-use Rattle.macs_rxsc.specs.declared.channel.Channel.{Channel}
 use Rattle.macs_rxsc.proofs.table.Table.channel.Goals as goal
 
 pub returns-in_err-place : goal.returns-in_err-place

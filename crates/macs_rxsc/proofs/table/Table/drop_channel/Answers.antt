@@ -1,11 +1,5 @@
-use Rattle.std.proofs.Common.{◌≡◌, ◌∙◌, ◌++◌, ◌∷◌, ℕ, List, Option, Some, None, get_or, take, drop, refl, ap, sym, subst}
-use Rattle.std.specs.Option.{option_map}
-use Rattle.macs_config.specs.Config.{put_among}
-use Rattle.macs_config.specs.Tables.{put}
-use Rattle.macs_rxsc.proofs.Places.{IsPlace}
-use Rattle.macs_rxsc.specs.View.{ceilings_in, numbers_in, numbers_of, sa_of, sas_in, scis_of, shown, ceilings_among, counters_among}
-use Rattle.macs_rxsc.specs.declared.association.Association.{Association}
-use Rattle.macs_rxsc.specs.declared.channel.Channel.{Channel}
+use Rattle.std.proofs.Common.{◌≡◌, ◌∙◌, ap}
+use Rattle.macs_rxsc.specs.View.{shown, ceilings_among, counters_among}
 use Rattle.std.proofs.Common.{rules, filter}
 use Rattle.arrayvec.proofs.ArrayVecLemmas.{filter-from_retain}
 use Rattle.macs_rxsc.proofs.Places.{is_other}

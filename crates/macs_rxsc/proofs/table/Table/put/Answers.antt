@@ -1,9 +1,8 @@
-use Rattle.std.proofs.Common.{◌≡◌, ◌∙◌, ◌++◌, ◌∷◌, ℕ, List, Option, Some, None, get_or, take, drop, refl, ap, sym, subst}
+use Rattle.std.proofs.Common.{◌≡◌, ◌∙◌, Option, get_or, ap, sym}
 use Rattle.std.specs.Option.{option_map}
-use Rattle.macs_config.specs.Config.{put_among}
 use Rattle.macs_config.specs.Tables.{put}
 use Rattle.macs_rxsc.proofs.Places.{IsPlace}
-use Rattle.macs_rxsc.specs.View.{ceilings_in, numbers_in, numbers_of, sa_of, sas_in, scis_of, shown, ceilings_among, counters_among}
+use Rattle.macs_rxsc.specs.View.{ceilings_in, numbers_in, numbers_of, sa_of, sas_in, shown, ceilings_among, counters_among}
 use Rattle.macs_rxsc.specs.declared.association.Association.{Association}
 use Rattle.macs_rxsc.specs.declared.channel.Channel.{Channel}
 use Rattle.macs_rxsc.proofs.Shown.{at_old, ceilings-changed, counters-kept, found_none, found_place, lent, lent_old, shown-changed}

@@ -1,10 +1,7 @@
-use Rattle.std.proofs.Common.{◌≡◌, ◌∙◌, ◌++◌, ◌∷◌, ℕ, List, Option, Some, None, IsSome, get_or, take, drop, refl, ap, sym, subst}
-use Rattle.std.specs.Option.{option_map}
-use Rattle.macs_config.specs.Config.{put_among}
+use Rattle.std.proofs.Common.{◌≡◌, ◌∙◌, Option, Some, IsSome, get_or, ap, sym, subst}
 use Rattle.macs_config.specs.Tables.{put}
 use Rattle.macs_rxsc.proofs.Places.{IsPlace}
-use Rattle.macs_rxsc.specs.View.{ceilings_in, numbers_in, numbers_of, sa_of, sas_in, scis_of, shown, ceilings_among, counters_among}
-use Rattle.macs_rxsc.specs.declared.association.Association.{Association}
+use Rattle.macs_rxsc.specs.View.{ceilings_in, shown, ceilings_among, counters_among}
 use Rattle.macs_rxsc.specs.declared.channel.Channel.{Channel}
 use Rattle.macs_rxsc.proofs.Shown.{at_old, ceilings-changed, counters-kept, found_none, found_place, lent, lent_old, shown-kept}
 use Rattle.macs_rxsc.proofs.table.Table.raise.Goals as goal

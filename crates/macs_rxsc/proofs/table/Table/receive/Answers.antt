@@ -1,8 +1,7 @@
-use Rattle.std.proofs.Common.{◌≡◌, ◌∙◌, List, ℕ, Option, refl, ap, sym}
-use Rattle.macs_frame.specs.Tag.{name_of}
+use Rattle.std.proofs.Common.{◌∙◌, refl, ap, sym}
 use Rattle.macs_rxsc.proofs.Shown.{tag_uncounted, uncounted}
 use Rattle.macs_rxsc.proofs.Steps.{first_fault, settles}
-use Rattle.macs_rxsc.specs.Receive.{Tag as TagStep, channel_counted, channel_of, given_at, verdict_at}
+use Rattle.macs_rxsc.specs.Receive.{Tag as TagStep, channel_counted, channel_of, given_at}
 use Rattle.macs_rxsc.specs.View.{ceilings_among, counters_among, shown}
 use Rattle.macs_rxsc.specs.declared.counters.ChannelCounters.{ChannelCounters}
 use Rattle.macs_rxsc.specs.declared.verdict.Verdict.{Verdict}

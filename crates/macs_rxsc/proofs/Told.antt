@@ -1,0 +1,94 @@
+-- What a caller knows from what the readers tell: which channels stand, and what a need says of a ceiling.
+use Rattle.std.proofs.Common.{◌≡◌, ◌≤◌, ◌<◌, ℕ, Bool, true, false, cond, List, [], ◌∷◌, length, filter, map, flat_map, bytes_eq, Option, Some, None, IsSome, IfSome, refl, subst, arith}
+use Rattle.std.specs.Prelude.{◌||◌, IsSomeAnd, nat_le, nat_lt, ◌-◌, ◌/◌}
+use Rattle.std.specs.List.{list_any}
+use Rattle.std.specs.Option.{is_some, option_map}
+use Rattle.std.proofs.lemmas.Bool.{and_parts}
+use Rattle.std.proofs.lemmas.Bool.Decides.{nat_tests}
+use Rattle.macs_config.specs.declared.association.RxSa.{RxSa}
+use Rattle.macs_rxsc.specs.Receive.{Need, Numbers, RxSide, Stands, first_need, is_needed, need_of, needed, needs_of, raised}
+use Rattle.macs_rxsc.specs.View.{channel_at, counters_among, counters_in, scis_of}
+use Rattle.macs_rxsc.specs.declared.channel.Channel.{Channel}
+use Rattle.macs_rxsc.specs.declared.counters.ChannelCounters.{ChannelCounters}
+
+-- ---- channels, by their counters
+
+abbrev pub is_among : List Channel → List ℕ → Bool
+is_among channels sci = list_any (λ other. bytes_eq other sci) (scis_of channels)
+
+told_step : {X : Type 0} (count : ChannelCounters → X) (c : Channel) (cs : List Channel) (sci : List ℕ) (b : Bool)
+    → is_some (option_map count (counters_among cs sci)) ≡ is_among cs sci → is_some (option_map count (counters_in (cond b (Some c) (channel_at cs sci)))) ≡ (b || is_among cs sci)
+told_step count c cs sci true rest = refl
+told_step count c cs sci false rest = rest
+
+-- a count is told of the channels that stand
+pub told : {X : Type 0} (count : ChannelCounters → X) (channels : List Channel) (sci : List ℕ) → is_some (option_map count (counters_among channels sci)) ≡ is_among channels sci
+told count [] sci = refl
+told count (c ∷ cs) sci = told_step count c cs sci (bytes_eq c.sci sci) (told count cs sci)
+
+-- ---- needs
+
+-- the association that a need names has a ceiling, below the one that is asked for
+abbrev pub IsAsked : (List ℕ → ℕ → Option ℕ) → ℕ → Need → Type 0
+IsAsked ceilings block need = IsSomeAnd (ceilings need.sci need.an) (λ old. old < raised block need.pn)
+
+module _ (ceilings : List ℕ → ℕ → Option ℕ) (block : ℕ) (sci : List ℕ) (an : ℕ) where
+  asked_by : (next ceiling seen : ℕ) → ceilings sci an ≡ Some ceiling → (b : Bool) → is_needed block next ceiling seen ≡ b
+      → (need : Need) → cond b (Some (record { sci = sci; an = an; pn = seen })) None ≡ Some need → IsAsked ceilings block need
+  asked_by next ceiling seen at true is need some =
+      let test : nat_lt ceiling (raised block seen) ≡ true = (and_parts (nat_le ceiling seen || nat_le (ceiling - next) (block / 2)) (nat_lt ceiling (raised block seen)) is).1 in
+      let below : ceiling < raised block seen = grind (arith, nat_tests) in
+      let named : IsAsked ceilings block (record { sci = sci; an = an; pn = seen }) = rw at below in
+      let same : ◌≡◌ {A = Need} (record { sci = sci; an = an; pn = seen }) need = cc in
+      subst (IsAsked ceilings block) same named
+  asked_by next ceiling seen at false is need some = absurd (cc)
+
+  asked_seen : (numbers : Numbers) (ceiling : ℕ) → ceilings sci an ≡ Some ceiling → (seen : Option ℕ) → (need : Need) → needed block sci an numbers ceiling seen ≡ Some need → IsAsked ceilings block need
+  asked_seen numbers ceiling at None need some = absurd (cc)
+  asked_seen numbers ceiling at (Some seen) need some = asked_by numbers.next ceiling seen at _ refl need some
+
+  asked_at : (numbers : Option Numbers) (ceiling : Option ℕ) → ceilings sci an ≡ ceiling → (need : Need) → need_of block sci an numbers ceiling ≡ Some need → IsAsked ceilings block need
+  asked_at None None at need some = absurd (cc)
+  asked_at None (Some ceiling) at need some = absurd (cc)
+  asked_at (Some numbers) None at need some = absurd (cc)
+  asked_at (Some numbers) (Some ceiling) at need some = asked_seen numbers ceiling at numbers.seen need some
+
+first_step : (P : Need → Type 0) (o : Option Need) (needs : List (Option Need)) (need : Need) → (o ≡ Some need → P need) → (first_need needs ≡ Some need → P need)
+    → first_need (o ∷ needs) ≡ Some need → P need
+first_step P None needs need here later is = later is
+first_step P (Some n) needs need here later is = here is
+
+asked_among : (numbers : List ℕ → ℕ → Option Numbers) (ceilings : List ℕ → ℕ → Option ℕ) (block : ℕ) (scis : List (List ℕ)) (need : Need)
+    → first_need (flat_map (λ sci. map (λ an. need_of block sci an (numbers sci an) (ceilings sci an)) (0 ∷ 1 ∷ 2 ∷ 3 ∷ [])) scis) ≡ Some need → IsAsked ceilings block need
+asked_among numbers ceilings block [] need is = absurd (cc)
+asked_among numbers ceilings block (sci ∷ scis) need is =
+    let P = IsAsked ceilings block in
+    let at = λ (an : ℕ). asked_at ceilings block sci an (numbers sci an) (ceilings sci an) refl need in
+    first_step P _ _ need (at 0) (first_step P _ _ need (at 1) (first_step P _ _ need (at 2) (first_step P _ _ need (at 3) (asked_among numbers ceilings block scis need)))) is
+
+-- what a need asks for may be raised
+pub asked : (side : RxSide) (ceilings : List ℕ → ℕ → Option ℕ) (block : ℕ) (need : Need) → needs_of side ceilings block ≡ Some need → IsAsked ceilings block need
+asked side ceilings block need is = asked_among side.numbers ceilings block side.channels need is
+
+-- an association that has a ceiling stands
+pub bounded : (window : ℕ) (sa : Option RxSa) (numbers : Option Numbers) (ceiling : Option ℕ) (P : ℕ → Type 0) → Stands window sa numbers ceiling → IsSomeAnd ceiling P → IsSome sa
+bounded window (Some sa) numbers ceiling P stands some = refl
+bounded window None None None P stands some = absurd some
+bounded window None None (Some ceiling) P stands some = absurd stands
+bounded window None (Some numbers) None P stands some = absurd stands
+bounded window None (Some numbers) (Some ceiling) P stands some = absurd stands
+
+-- and its ceiling may rise as far
+pub risen : (ceiling : Option ℕ) (below above : ℕ) → IsSomeAnd ceiling (λ old. old < below) → below ≤ above → IfSome ceiling (λ old. old ≤ above)
+risen None below above some order = absurd some
+risen (Some ceiling) below above some order = omega arith
+
+-- ---- the channels that are left
+
+left_step : (b : Bool) (sci : List ℕ) (kept scis : List (List ℕ)) → length kept ≤ length scis → length (cond b (sci ∷ kept) kept) ≤ length (sci ∷ scis)
+left_step true sci kept scis fewer = omega arith
+left_step false sci kept scis fewer = omega arith
+
+pub length-left : (test : List ℕ → Bool) (scis : List (List ℕ)) → length (filter test scis) ≤ length scis
+length-left test [] = omega arith
+length-left test (sci ∷ scis) = left_step (test sci) sci (filter test scis) scis (length-left test scis)

@@ -1,0 +1,169 @@
+//! Frames: of IEEE Std 802.1AE-2018, Annex C, by Python's `cryptography`, and sealed as a test runs. A
+//! line of a frame is its addresses, its SecTAG, its Secure Data or its ICV.
+
+use macs_frame::{An, FrameBuf, MAX_FRAME, MIN_FRAME, Offset, Pn, ScName, Sci, SecTag, seal_frame};
+use macs_gcm::{GcmKey, seal};
+use std::process::Abort;
+
+/// The SCI of a channel.
+pub(super) const CHANNEL: Sci = Sci([0x12, 0x15, 0x35, 0x24, 0xc0, 0x89, 0x5e, 0x81]);
+
+/// The key of its association 2.
+pub(super) const CHANNEL_KEY: u128 = 0xad7a_2bd0_3eac_835a_6f62_0fdc_b506_b345;
+
+/// The SCI of an end station: its address with port 00-01.
+pub(super) const STATION: Sci = Sci([0xf0, 0x76, 0x1e, 0x8d, 0xcd, 0x3d, 0, 1]);
+
+/// The key of its association 0.
+pub(super) const STATION_KEY: u128 = 0x071b_113b_0ca7_43fe_cccf_3d05_1f73_7382;
+
+/// Annex C: integrity protection of a frame of the channel, under association 2.
+pub(super) const INTEGRITY: &[u8] = b"\xd6\x09\xb1\xf0\x56\x63\x7a\x0d\x46\xdf\x99\x8d\
+\x88\xe5\x22\x2a\xb2\xc2\x84\x65\x12\x15\x35\x24\xc0\x89\x5e\x81\
+\x08\x00\x0f\x10\x11\x12\x13\x14\x15\x16\x17\x18\x19\x1a\x1b\x1c\x1d\x1e\x1f\x20\x21\x22\x23\x24\x25\x26\x27\x28\x29\x2a\x2b\x2c\x2d\x2e\x2f\x30\x31\x32\x33\x34\x00\x01\
+\xf0\x94\x78\xa9\xb0\x90\x07\xd0\x6f\x46\xe9\xb6\xa1\xda\x25\xdd";
+
+/// The plain frame of it.
+pub(super) const INTEGRITY_PLAIN: &[u8] = b"\xd6\x09\xb1\xf0\x56\x63\x7a\x0d\x46\xdf\x99\x8d\
+\x08\x00\x0f\x10\x11\x12\x13\x14\x15\x16\x17\x18\x19\x1a\x1b\x1c\x1d\x1e\x1f\x20\x21\x22\x23\x24\x25\x26\x27\x28\x29\x2a\x2b\x2c\x2d\x2e\x2f\x30\x31\x32\x33\x34\x00\x01";
+
+/// Annex C: confidentiality protection of a frame of the channel, under association 2.
+pub(super) const CONFIDENTIALITY: &[u8] = b"\xd6\x09\xb1\xf0\x56\x63\x7a\x0d\x46\xdf\x99\x8d\
+\x88\xe5\x2e\x00\xb2\xc2\x84\x65\x12\x15\x35\x24\xc0\x89\x5e\x81\
+\x70\x1a\xfa\x1c\xc0\x39\xc0\xd7\x65\x12\x8a\x66\x5d\xab\x69\x24\x38\x99\xbf\x73\x18\xcc\xdc\x81\xc9\x93\x1d\xa1\x7f\xbe\x8e\xdd\x7d\x17\xcb\x8b\x4c\x26\xfc\x81\xe3\x28\x4f\x2b\x7f\xba\x71\x3d\
+\x4f\x8d\x55\xe7\xd3\xf0\x6f\xd5\xa1\x3c\x0c\x29\xb9\xd5\xb8\x80";
+
+/// The plain frame of it.
+pub(super) const CONFIDENTIALITY_PLAIN: &[u8] = b"\xd6\x09\xb1\xf0\x56\x63\x7a\x0d\x46\xdf\x99\x8d\
+\x08\x00\x0f\x10\x11\x12\x13\x14\x15\x16\x17\x18\x19\x1a\x1b\x1c\x1d\x1e\x1f\x20\x21\x22\x23\x24\x25\x26\x27\x28\x29\x2a\x2b\x2c\x2d\x2e\x2f\x30\x31\x32\x33\x34\x35\x36\x37\x38\x39\x3a\x00\x02";
+
+/// Annex C: confidentiality protection of the end station's frame, under association 0.
+pub(super) const END_STATION: &[u8] = b"\xe2\x01\x06\xd7\xcd\x0d\xf0\x76\x1e\x8d\xcd\x3d\
+\x88\xe5\x4c\x2a\x76\xd4\x57\xed\
+\x13\xb4\xc7\x2b\x38\x9d\xc5\x01\x8e\x72\xa1\x71\xdd\x85\xa5\xd3\x75\x22\x74\xd3\xa0\x19\xfb\xca\xed\x09\xa4\x25\xcd\x9b\x2e\x1c\x9b\x72\xee\xe7\xc9\xde\x7d\x52\xb3\xf3\
+\xd6\xa5\x28\x4f\x4a\x6d\x3f\xe2\x2a\x5d\x6c\x2b\x96\x04\x94\xc3";
+
+/// The plain frame of it.
+pub(super) const END_STATION_PLAIN: &[u8] = b"\xe2\x01\x06\xd7\xcd\x0d\xf0\x76\x1e\x8d\xcd\x3d\
+\x08\x00\x0f\x10\x11\x12\x13\x14\x15\x16\x17\x18\x19\x1a\x1b\x1c\x1d\x1e\x1f\x20\x21\x22\x23\x24\x25\x26\x27\x28\x29\x2a\x2b\x2c\x2d\x2e\x2f\x30\x31\x32\x33\x34\x00\x04";
+
+/// By Python's `cryptography`: a frame of the channel, which it does not name, under association 1,
+/// number 1 and the end station's key.
+pub(super) const IMPLICIT: &[u8] = b"\xe2\x01\x06\xd7\xcd\x0d\xf0\x76\x1e\x8d\xcd\x3d\
+\x88\xe5\x0d\x02\x00\x00\x00\x01\
+\x4e\x24\
+\xae\xf2\xa9\x53\x0b\xae\x26\x3d\xa4\x75\xd3\xab\x17\xe4\xbb\x27";
+
+/// By Python's `cryptography`: a frame of the end station, which it spells out, under association 3,
+/// number 1 and the end station's key.
+pub(super) const SHORTEST: &[u8] = b"\xe2\x01\x06\xd7\xcd\x0d\xf0\x76\x1e\x8d\xcd\x3d\
+\x88\xe5\x2f\x02\x00\x00\x00\x01\xf0\x76\x1e\x8d\xcd\x3d\x00\x01\
+\xe4\xf1\
+\x48\xf7\xa7\x49\x33\xdf\xe6\x6f\x0e\xe1\x47\x9b\x43\xdf\x50\x26";
+
+/// The plain frame of both.
+pub(super) const SHORTEST_PLAIN: &[u8] =
+    b"\xe2\x01\x06\xd7\xcd\x0d\xf0\x76\x1e\x8d\xcd\x3d\x08\x00";
+
+/// The plain frame of a frame that is sealed as a test runs.
+pub(super) const PLAIN: &[u8] = &[7; 62];
+
+pub(super) fn number_of(rt: &impl Abort, association: u8) -> An {
+    An::new(association).expect(rt, "association number")
+}
+
+/// How a frame is protected: E and C are clear, or both are set.
+#[derive(Clone, Copy, PartialEq, Eq)]
+pub(super) enum Security {
+    Integrity,
+    Confidentiality,
+}
+
+/// A frame under the channel's key, whose tag spells an SCI out.
+pub(super) fn sealed_as(
+    rt: &impl Abort,
+    sci: Sci,
+    association: u8,
+    number: u32,
+    security: Security,
+    plain: &[u8],
+) -> FrameBuf {
+    let is_encrypted = security == Security::Confidentiality;
+    let tag = SecTag {
+        an: number_of(rt, association),
+        pn: Pn::new(number).expect(rt, "packet number"),
+        name: ScName::Explicit(sci),
+        encrypted: is_encrypted,
+        changed: is_encrypted,
+    };
+    assert!(rt; plain.len() >= MIN_FRAME);
+    assert!(rt; plain.len() <= MAX_FRAME - tag.name.overhead());
+    let key = GcmKey::new(&CHANNEL_KEY.to_be_bytes());
+    let mut frame = FrameBuf::new();
+    seal_frame(&key, sci, &tag, Offset::Zero, plain, &mut frame);
+    frame
+}
+
+/// A frame of the channel under association 2.
+pub(super) fn sealed(rt: &impl Abort, number: u32, security: Security) -> FrameBuf {
+    sealed_as(rt, CHANNEL, 2, number, security, PLAIN)
+}
+
+/// These octets.
+fn copied(rt: &impl Abort, octets: &[u8]) -> FrameBuf {
+    assert!(rt; octets.len() <= MAX_FRAME);
+    let mut frame = FrameBuf::new();
+    append(rt, &mut frame, octets);
+    frame
+}
+
+fn append(rt: &impl Abort, frame: &mut FrameBuf, octets: &[u8]) {
+    frame.try_extend_from_slice(octets).expect(rt, "room");
+}
+
+/// A frame with one octet changed.
+pub(super) fn with_octet(rt: &impl Abort, frame: &[u8], place: usize, octet: u8) -> FrameBuf {
+    let mut changed = copied(rt, frame);
+    assert!(rt; place < changed.len());
+    changed[place] = octet;
+    changed
+}
+
+/// A frame with the last bit of its ICV changed.
+pub(super) fn broken(rt: &impl Abort, frame: &[u8]) -> FrameBuf {
+    let mut changed = copied(rt, frame);
+    let last = changed.pop().expect(rt, "octet");
+    changed.push(last ^ 1);
+    changed
+}
+
+/// A frame without its last octet.
+pub(super) fn cut(rt: &impl Abort, frame: &[u8]) -> FrameBuf {
+    let mut shorter = copied(rt, frame);
+    let _last = shorter.pop();
+    shorter
+}
+
+/// A frame with so many octets of padding.
+pub(super) fn padded(rt: &impl Abort, frame: &[u8], octets: usize) -> FrameBuf {
+    let mut longer = copied(rt, frame);
+    for _ in 0..octets {
+        append(rt, &mut longer, &[0]);
+    }
+    longer
+}
+
+/// A frame of the channel under association 2 and number 5 whose SL says 50, where a sender writes 0
+/// (9.7), with 50 octets of Secure Data in the clear.
+pub(super) fn with_long_sl(rt: &impl Abort) -> FrameBuf {
+    let mut frame = copied(rt, &INTEGRITY[..14]);
+    append(rt, &mut frame, &[0x22, 50, 0, 0, 0, 5]);
+    append(rt, &mut frame, &CHANNEL.get());
+    append(rt, &mut frame, &[7; 50]);
+    let [a, b, c, d, e, f, g, h] = CHANNEL.get();
+    let iv = [a, b, c, d, e, f, g, h, 0, 0, 0, 5];
+    let key = GcmKey::new(&CHANNEL_KEY.to_be_bytes());
+    let icv = seal(&key, &iv, frame.as_slice(), &mut []);
+    append(rt, &mut frame, &icv);
+    frame
+}
