@@ -1,0 +1,191 @@
+-- A sector is that of one record: its fields are read back from their places.
+use Rattle.std.proofs.Common.{◌≡◌, ◌<◌, ◌^◌, ◌++◌, ◌==◌, ◌∙◌, zero, suc, ℕ, Bool, true, false, List, [], ◌∷◌, if◌then◌else◌, length, get_or, take, drop, replicate, ◌-◌, Option, Some, None, refl, sym, ap, arith, append_assoc}
+use Rattle.std.specs.Int.{from_be_bytes, to_be_bytes, w32, w64}
+use Rattle.std.specs.List.{All, concat}
+use Rattle.std.proofs.lemmas.Bool.{ne_eqb}
+use Rattle.std.proofs.lemmas.List.{drop_at, take_at}
+use Rattle.std.proofs.lemmas.List.Elements.{All-head, All-tail}
+use Rattle.std.proofs.lemmas.Nat.{from_be_bytes-to_be_bytes_4, from_be_bytes-to_be_bytes_8}
+use Rattle.macs_frame.specs.Fields.{octets_of}
+use Rattle.macs_frame.specs.declared.fields.Offset.{Offset}
+use Rattle.macs_frame.specs.declared.fields.Offset.TheVariants.{Zero, Thirty, Fifty}
+use Rattle.macs_config.specs.Association.{is_confidential, offset_of}
+use Rattle.macs_config.specs.declared.association.Protection.{Protection}
+use Rattle.macs_config.specs.declared.association.Protection.TheVariants.{Confidentiality, Integrity}
+use Rattle.macs_config.specs.declared.command.Replay.{Replay}
+use Rattle.macs_config.specs.declared.command.Role.{Role}
+use Rattle.macs_config.specs.declared.command.Role.TheVariants.{Receive, Transmit}
+use Rattle.macs_config.specs.declared.command.SciMode.{SciMode}
+use Rattle.macs_config.specs.declared.command.SciMode.TheVariants.{EndStation, Explicit, Implicit}
+use Rattle.macs_config.specs.declared.command.Validate.{Validate}
+use Rattle.macs_config.specs.declared.command.Validate.TheVariants.{Check, Strict}
+use Rattle.macs_record.specs.Layout.{IsRecord, encoding_octet, fields_of, flag, front_of, kind_of, mode_octet, protection_octets, replay_octets, role_octet, sector_of, validate_octet}
+use Rattle.macs_record.specs.Ranges.{IsEncoding, IsOctets}
+use Rattle.macs_record.specs.declared.record.Record.{Record}
+use Rattle.macs_record.specs.declared.record.Record.TheVariants.{Settings, TxSa, Channel, RxSa, Spent, SetValidate, SetReplay, SetSciMode, TxInstall, TxUse, TxRemove, RxAdd, RxDrop, RxInstall, RxRemove, TxCeiling, RxCeiling}
+
+-- ---- the fields from their octets
+
+abbrev octet : ℕ → List ℕ → ℕ
+octet place octets = get_or octets place 0
+
+flag_back : (is : Bool) → (flag is == 1) ≡ is
+flag_back false = refl
+flag_back true = refl
+
+abbrev validate_from : ℕ → Validate
+validate_from octet = if octet == 0 then Strict else Check
+
+validate_back : (validate : Validate) → validate_from (validate_octet validate) ≡ validate
+validate_back Strict = refl
+validate_back Check = refl
+
+abbrev mode_from : ℕ → SciMode
+mode_from octet = if octet == 0 then Explicit else if octet == 1 then EndStation else Implicit
+
+mode_back : (mode : SciMode) → mode_from (mode_octet mode) ≡ mode
+mode_back Explicit = refl
+mode_back EndStation = refl
+mode_back Implicit = refl
+
+abbrev encoding_from : ℕ → Option ℕ
+encoding_from octet = if octet == 0xff then None else Some octet
+
+encoding_back : (encoding : Option ℕ) → IsEncoding encoding → encoding_from (encoding_octet encoding) ≡ encoding
+encoding_back None is = refl
+encoding_back (Some an) is = rw (ne_eqb an 0xff (λ e. omega arith)) refl
+
+abbrev role_from : ℕ → Role
+role_from octet = if octet == 0 then Transmit else Receive
+
+role_back : (role : Role) → role_from (role_octet role) ≡ role
+role_back Transmit = refl
+role_back Receive = refl
+
+abbrev offset_from : ℕ → Offset
+offset_from octet = if octet == 0 then Zero else if octet == 30 then Thirty else Fifty
+
+offset_back : (offset : Offset) → offset_from (octets_of offset) ≡ offset
+offset_back Zero = refl
+offset_back Thirty = refl
+offset_back Fifty = refl
+
+abbrev protection_from : ℕ → ℕ → Protection
+protection_from confidential octet = if confidential == 1 then Confidentiality (offset_from octet) else Integrity
+
+protection_back : (protection : Protection) → protection_from (flag (is_confidential protection)) (octets_of (offset_of protection)) ≡ protection
+protection_back Integrity = refl
+protection_back (Confidentiality offset) = ap Confidentiality (offset_back offset)
+
+abbrev number_4 : List ℕ → ℕ
+number_4 octets = from_be_bytes w32 (take 4 octets)
+
+abbrev number_8 : List ℕ → ℕ
+number_8 octets = from_be_bytes w64 (take 8 octets)
+
+abbrev replay_from : List ℕ → Replay
+replay_from octets = record { on = octet 0 octets == 1; window = number_4 (drop 1 octets) }
+
+chunks : ℕ → List ℕ → List (List ℕ)
+chunks zero octets = []
+chunks (suc n) octets = take 32 octets ∷ chunks n (drop 32 octets)
+
+-- a list that is cut behind its front
+cut : {X : Type 0} (f : List ℕ → List ℕ → X) (n : ℕ) (front rest octets : List ℕ) → length front ≡ n → octets ≡ front ++ rest
+    → f (take n octets) (drop n octets) ≡ f front rest
+cut f n front rest octets size is =
+    let at_front : take n octets ≡ front = ap (take n) is ∙ take_at front rest n size in
+    let behind : drop n octets ≡ rest = ap (drop n) is ∙ drop_at front rest n size in
+    λ i. f (at_front i) (behind i)
+
+chunks_back : (items : List (List ℕ)) (rest : List ℕ) → All (IsOctets 32) items → chunks (length items) (concat items ++ rest) ≡ items
+unfolding chunks
+chunks_back [] rest are = refl
+chunks_back (item ∷ items) rest are =
+    cut (λ (front behind : List ℕ). front ∷ chunks (length items) behind) 32 item (concat items ++ rest) _
+    (All-head (IsOctets 32) item items are).size (append_assoc item (concat items) rest)
+    ∙ ap (λ (more : List (List ℕ)). item ∷ more) (chunks_back items rest (All-tail (IsOctets 32) item items are))
+
+-- ---- the records from their fields
+
+abbrev tx_sa_from : ℕ → List ℕ → List ℕ → Record
+tx_sa_from an key behind =
+    TxSa an (record { key = key; protection = protection_from (octet 8 behind) (octet 9 behind) }) (number_8 behind)
+
+abbrev rx_sa_from : List ℕ → ℕ → List ℕ → List ℕ → Record
+rx_sa_from sci an key behind = RxSa sci an (record { key = key; offset = offset_from (octet 8 behind) }) (number_8 behind)
+
+abbrev tx_install_from : ℕ → List ℕ → List ℕ → Record
+tx_install_from an key behind =
+    TxInstall an (record { key = key; protection = protection_from (octet 4 behind) (octet 5 behind) }) (number_4 behind)
+
+abbrev rx_install_from : List ℕ → ℕ → List ℕ → List ℕ → Record
+rx_install_from sci an key behind = RxInstall sci an (record { key = key; offset = offset_from (octet 4 behind) }) (number_4 behind)
+
+abbrev keyed : (List ℕ → List ℕ → Record) → List ℕ → Record
+keyed f octets = f (take 16 octets) (drop 16 octets)
+
+abbrev named : (List ℕ → List ℕ → Record) → List ℕ → Record
+named f octets = f (take 8 octets) (drop 8 octets)
+
+-- the record of this kind whose fields these octets begin with
+unfoldable unread : ℕ → List ℕ → Record
+unread kind octets =
+    if kind == 1 then Settings (validate_from (octet 0 octets)) (replay_from (drop 1 octets)) (mode_from (octet 6 octets)) (encoding_from (octet 7 octets))
+    else if kind == 2 then keyed (tx_sa_from (octet 0 octets)) (drop 1 octets)
+    else if kind == 3 then named (λ (sci behind : List ℕ). Channel sci) octets
+    else if kind == 4 then named (λ (sci behind : List ℕ). keyed (rx_sa_from sci (octet 0 behind)) (drop 1 behind)) octets
+    else if kind == 5 then Spent (role_from (octet 0 octets)) (chunks (octet 1 octets) (drop 2 octets))
+    else if kind == 6 then SetValidate (validate_from (octet 0 octets))
+    else if kind == 7 then SetReplay (replay_from octets)
+    else if kind == 8 then SetSciMode (mode_from (octet 0 octets))
+    else if kind == 9 then keyed (tx_install_from (octet 0 octets)) (drop 1 octets)
+    else if kind == 10 then TxUse (octet 0 octets)
+    else if kind == 11 then TxRemove (octet 0 octets)
+    else if kind == 12 then named (λ (sci behind : List ℕ). RxAdd sci) octets
+    else if kind == 13 then named (λ (sci behind : List ℕ). RxDrop sci) octets
+    else if kind == 14 then named (λ (sci behind : List ℕ). keyed (rx_install_from sci (octet 0 behind)) (drop 1 behind)) octets
+    else if kind == 15 then named (λ (sci behind : List ℕ). RxRemove sci (octet 0 behind)) octets
+    else if kind == 16 then TxCeiling (octet 0 octets) (number_8 (drop 1 octets))
+    else named (λ (sci behind : List ℕ). RxCeiling sci (octet 0 behind) (number_8 (drop 1 behind))) octets
+
+replay_back : (replay : Replay) (rest : List ℕ) → replay.window < 2 ^ 32 → replay_from (replay_octets replay ++ rest) ≡ replay
+replay_back replay rest range = λ i. record { on = flag_back replay.on i; window = from_be_bytes-to_be_bytes_4 replay.window range i }
+
+back : (r : Record) (rest : List ℕ) → IsRecord r → unread (kind_of r) (fields_of r ++ rest) ≡ r
+unfolding unread
+back (Settings validate replay mode encoding) rest is =
+    λ i. Settings (validate_back validate i) (replay_back replay [] is.0 i) (mode_back mode i) (encoding_back encoding is.1 i)
+back (TxSa an sa ceiling) rest is =
+    cut (tx_sa_from an) 16 sa.key (to_be_bytes w64 ceiling ++ protection_octets sa.protection ++ rest) _ is.1.size (append_assoc sa.key _ rest)
+    ∙ (λ i. TxSa an (record { key = sa.key; protection = protection_back sa.protection i }) (from_be_bytes-to_be_bytes_8 ceiling (omega (arith, is.2.1)) i))
+back (Channel sci) rest is = cut (λ (front behind : List ℕ). Channel front) 8 sci rest _ is.size refl
+back (RxSa sci an sa ceiling) rest is =
+    cut (λ (front behind : List ℕ). keyed (rx_sa_from front (octet 0 behind)) (drop 1 behind)) 8 sci _ _ is.0.size (append_assoc sci _ rest)
+    ∙ cut (rx_sa_from sci an) 16 sa.key (to_be_bytes w64 ceiling ++ octets_of sa.offset ∷ rest) _ is.2.size (append_assoc sa.key _ rest)
+    ∙ (λ i. RxSa sci an (record { key = sa.key; offset = offset_back sa.offset i }) (from_be_bytes-to_be_bytes_8 ceiling (omega (arith, is.3.1)) i))
+back (Spent role fingerprints) rest is = λ i. Spent (role_back role i) (chunks_back fingerprints rest is.2 i)
+back (SetValidate validate) rest is = ap SetValidate (validate_back validate)
+back (SetReplay replay) rest is = ap SetReplay (replay_back replay rest is)
+back (SetSciMode mode) rest is = ap SetSciMode (mode_back mode)
+back (TxInstall an sa start) rest is =
+    cut (tx_install_from an) 16 sa.key (to_be_bytes w32 start ++ protection_octets sa.protection ++ rest) _ is.1.size (append_assoc sa.key _ rest)
+    ∙ (λ i. TxInstall an (record { key = sa.key; protection = protection_back sa.protection i }) (from_be_bytes-to_be_bytes_4 start is.2.1 i))
+back (TxUse an) rest is = refl
+back (TxRemove an) rest is = refl
+back (RxAdd sci) rest is = cut (λ (front behind : List ℕ). RxAdd front) 8 sci rest _ is.size refl
+back (RxDrop sci) rest is = cut (λ (front behind : List ℕ). RxDrop front) 8 sci rest _ is.size refl
+back (RxInstall sci an sa start) rest is =
+    cut (λ (front behind : List ℕ). keyed (rx_install_from front (octet 0 behind)) (drop 1 behind)) 8 sci _ _ is.0.size (append_assoc sci _ rest)
+    ∙ cut (rx_install_from sci an) 16 sa.key (to_be_bytes w32 start ++ octets_of sa.offset ∷ rest) _ is.2.size (append_assoc sa.key _ rest)
+    ∙ (λ i. RxInstall sci an (record { key = sa.key; offset = offset_back sa.offset i }) (from_be_bytes-to_be_bytes_4 start is.3.1 i))
+back (RxRemove sci an) rest is = cut (λ (front behind : List ℕ). RxRemove front (octet 0 behind)) 8 sci _ _ is.0.size (append_assoc sci _ rest)
+back (TxCeiling an ceiling) rest is = ap (TxCeiling an) (from_be_bytes-to_be_bytes_8 ceiling (omega (arith, is.1.1)))
+back (RxCeiling sci an ceiling) rest is =
+    cut (λ (front behind : List ℕ). RxCeiling front (octet 0 behind) (number_8 (drop 1 behind))) 8 sci _ _ is.0.size (append_assoc sci _ rest)
+    ∙ ap (RxCeiling sci an) (from_be_bytes-to_be_bytes_8 ceiling (omega (arith, is.2.1)))
+
+pub one_record : (a b : Record) → IsRecord a → IsRecord b → sector_of a ≡ sector_of b → a ≡ b
+one_record a b is_a is_b same =
+    sym (back a (replicate (512 - length (front_of a)) 0) is_a) ∙ ap (λ (sector : List ℕ). unread (octet 4 sector) (drop 5 sector)) same
+    ∙ back b (replicate (512 - length (front_of b)) 0) is_b

@@ -1,0 +1,137 @@
+-- How a record stands in its sector: a mark, its kind, its fields in order without gaps, and zeros. Numbers of several octets
+-- are big-endian.
+use Rattle.std.specs.Prelude.{◌<◌, ◌^◌, ◌++◌, ℕ, Bool, true, false, List, [], ◌∷◌, length, Option, Some, None}
+use Rattle.std.specs.Int.{to_be_bytes, w32, w64}
+use Rattle.std.specs.List.{concat}
+use Rattle.macs_frame.specs.Fields.{octets_of}
+use Rattle.macs_config.specs.Association.{is_confidential, offset_of}
+use Rattle.macs_config.specs.declared.association.Protection.{Protection}
+use Rattle.macs_config.specs.declared.command.Replay.{Replay}
+use Rattle.macs_config.specs.declared.command.Role.{Role}
+use Rattle.macs_config.specs.declared.command.Role.TheVariants.{Transmit, Receive}
+use Rattle.macs_config.specs.declared.command.SciMode.{SciMode}
+use Rattle.macs_config.specs.declared.command.SciMode.TheVariants.{Explicit, EndStation, Implicit}
+use Rattle.macs_config.specs.declared.command.Validate.{Validate}
+use Rattle.macs_config.specs.declared.command.Validate.TheVariants.{Strict, Check}
+use Rattle.macs_record.specs.Ranges.{IsAn, IsCeiling, IsEncoding, IsFingerprints, IsKey, IsSci, IsStart}
+use Rattle.macs_record.specs.Sectors.{padded}
+use Rattle.macs_record.specs.declared.record.Record.{Record}
+use Rattle.macs_record.specs.declared.record.Record.TheVariants.{Settings, TxSa, Channel, RxSa, Spent, SetValidate, SetReplay, SetSciMode, TxInstall, TxUse, TxRemove, RxAdd, RxDrop, RxInstall, RxRemove, TxCeiling, RxCeiling}
+
+-- ---- fields
+
+abbrev pub flag : Bool → ℕ
+flag false = 0
+flag true = 1
+
+abbrev pub validate_octet : Validate → ℕ
+validate_octet Strict = 0
+validate_octet Check = 1
+
+abbrev pub mode_octet : SciMode → ℕ
+mode_octet Explicit = 0
+mode_octet EndStation = 1
+mode_octet Implicit = 2
+
+-- an association number, or ff for none
+abbrev pub encoding_octet : Option ℕ → ℕ
+encoding_octet None = 0xff
+encoding_octet (Some an) = an
+
+abbrev pub role_octet : Role → ℕ
+role_octet Transmit = 0
+role_octet Receive = 1
+
+-- whether protection is on, then the window
+abbrev pub replay_octets : Replay → List ℕ
+replay_octets replay = flag replay.on ∷ to_be_bytes w32 replay.window
+
+-- whether User Data are encrypted, then the confidentiality offset
+abbrev pub protection_octets : Protection → List ℕ
+protection_octets protection = flag (is_confidential protection) ∷ octets_of (offset_of protection) ∷ []
+
+-- how many there are, then one after the other
+abbrev pub fingerprint_octets : List (List ℕ) → List ℕ
+fingerprint_octets fingerprints = length fingerprints ∷ concat fingerprints
+
+-- ---- records
+
+-- MREC
+abbrev pub mark : List ℕ
+mark = 0x4d ∷ 0x52 ∷ 0x45 ∷ 0x43 ∷ []
+
+abbrev pub kind_of : Record → ℕ
+kind_of (Settings validate replay mode encoding) = 1
+kind_of (TxSa an sa ceiling) = 2
+kind_of (Channel sci) = 3
+kind_of (RxSa sci an sa ceiling) = 4
+kind_of (Spent role fingerprints) = 5
+kind_of (SetValidate validate) = 6
+kind_of (SetReplay replay) = 7
+kind_of (SetSciMode mode) = 8
+kind_of (TxInstall an sa start) = 9
+kind_of (TxUse an) = 10
+kind_of (TxRemove an) = 11
+kind_of (RxAdd sci) = 12
+kind_of (RxDrop sci) = 13
+kind_of (RxInstall sci an sa start) = 14
+kind_of (RxRemove sci an) = 15
+kind_of (TxCeiling an ceiling) = 16
+kind_of (RxCeiling sci an ceiling) = 17
+
+abbrev pub fields_of : Record → List ℕ
+fields_of (Settings validate replay mode encoding) =
+    validate_octet validate ∷ (replay_octets replay ++ (mode_octet mode ∷ encoding_octet encoding ∷ []))
+fields_of (TxSa an sa ceiling) =
+    an ∷ (sa.key ++ (to_be_bytes w64 ceiling ++ protection_octets sa.protection))
+fields_of (Channel sci) = sci
+fields_of (RxSa sci an sa ceiling) =
+    sci ++ (an ∷ (sa.key ++ (to_be_bytes w64 ceiling ++ (octets_of sa.offset ∷ []))))
+fields_of (Spent role fingerprints) = role_octet role ∷ fingerprint_octets fingerprints
+fields_of (SetValidate validate) = validate_octet validate ∷ []
+fields_of (SetReplay replay) = replay_octets replay
+fields_of (SetSciMode mode) = mode_octet mode ∷ []
+fields_of (TxInstall an sa start) =
+    an ∷ (sa.key ++ (to_be_bytes w32 start ++ protection_octets sa.protection))
+fields_of (TxUse an) = an ∷ []
+fields_of (TxRemove an) = an ∷ []
+fields_of (RxAdd sci) = sci
+fields_of (RxDrop sci) = sci
+fields_of (RxInstall sci an sa start) =
+    sci ++ (an ∷ (sa.key ++ (to_be_bytes w32 start ++ (octets_of sa.offset ∷ []))))
+fields_of (RxRemove sci an) = sci ++ (an ∷ [])
+fields_of (TxCeiling an ceiling) = an ∷ to_be_bytes w64 ceiling
+fields_of (RxCeiling sci an ceiling) = sci ++ (an ∷ to_be_bytes w64 ceiling)
+
+-- the mark and the kind, then the fields
+abbrev pub octets_of_kind : ℕ → List ℕ
+octets_of_kind kind = mark ++ (kind ∷ [])
+
+abbrev pub front_of : Record → List ℕ
+front_of r = octets_of_kind (kind_of r) ++ fields_of r
+
+-- the sector of a record
+abbrev pub sector_of : Record → List ℕ
+sector_of r = padded (front_of r)
+
+-- ---- ranges
+
+-- the fields of a record are in their ranges
+abbrev pub IsRecord : Record → Type 0
+IsRecord (Settings validate replay mode encoding) = (replay.window < 2 ^ 32) × IsEncoding encoding
+IsRecord (TxSa an sa ceiling) = IsAn an × IsKey sa.key × IsCeiling ceiling
+IsRecord (Channel sci) = IsSci sci
+IsRecord (RxSa sci an sa ceiling) = IsSci sci × IsAn an × IsKey sa.key × IsCeiling ceiling
+IsRecord (Spent role fingerprints) = IsFingerprints fingerprints
+IsRecord (SetValidate validate) = Unit {0}
+IsRecord (SetReplay replay) = replay.window < 2 ^ 32
+IsRecord (SetSciMode mode) = Unit {0}
+IsRecord (TxInstall an sa start) = IsAn an × IsKey sa.key × IsStart start
+IsRecord (TxUse an) = IsAn an
+IsRecord (TxRemove an) = IsAn an
+IsRecord (RxAdd sci) = IsSci sci
+IsRecord (RxDrop sci) = IsSci sci
+IsRecord (RxInstall sci an sa start) = IsSci sci × IsAn an × IsKey sa.key × IsStart start
+IsRecord (RxRemove sci an) = IsSci sci × IsAn an
+IsRecord (TxCeiling an ceiling) = IsAn an × IsCeiling ceiling
+IsRecord (RxCeiling sci an ceiling) = IsSci sci × IsAn an × IsCeiling ceiling

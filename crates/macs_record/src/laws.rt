@@ -1,0 +1,129 @@
+//! Laws of the definitions, for the layers above. Where a law speaks of a value behind a reference, its
+//! body reads the fields: that is how a proof learns their ranges.
+
+ghost use Rattle.std.specs.Prelude.{◌≡◌, ◌<◌, ◌^◌, List, ℕ, All, length};
+ghost use Rattle.macs_record.specs.Layout.{IsRecord, sector_of};
+ghost use Rattle.macs_record.specs.Ranges.{IsEncoding, IsFingerprints, IsKey, IsOctets, IsSci};
+ghost use Rattle.macs_record.specs.declared.record.Record.{Record};
+
+use crate::Record;
+use macs_config::{Fingerprint, Fingerprints, Replay};
+use macs_frame::{An, Sci};
+
+/// The fields of a record are in their ranges.
+pub fn record_in_range(value: &Record)
+    ensures { IsRecord value.now }
+{
+    match value {
+        Record::Settings {
+            replay,
+            encoding,
+            ..
+        } => {
+            replay_in_range(*replay);
+            encoding_in_range(*encoding);
+        }
+        Record::TxSa { an, sa, ceiling } => {
+            let _numbers = (an.get(), ceiling.get());
+            key_in_range(sa.key);
+        }
+        Record::Channel { sci } | Record::RxAdd { sci } | Record::RxDrop { sci } => {
+            sci_in_range(*sci);
+        }
+        Record::RxSa {
+            sci,
+            an,
+            sa,
+            ceiling,
+        } => {
+            sci_in_range(*sci);
+            let _numbers = (an.get(), ceiling.get());
+            key_in_range(sa.key);
+        }
+        Record::Spent { fingerprints, .. } => fingerprints_in_range(fingerprints),
+        Record::SetValidate(_) | Record::SetSciMode(_) => {}
+        Record::SetReplay(replay) => replay_in_range(*replay),
+        Record::TxInstall { an, sa, start } => {
+            let _numbers = (an.get(), start.get());
+            key_in_range(sa.key);
+        }
+        Record::TxUse { an } | Record::TxRemove { an } => {
+            let _number = an.get();
+        }
+        Record::RxInstall { sci, an, sa, start } => {
+            sci_in_range(*sci);
+            let _numbers = (an.get(), start.get());
+            key_in_range(sa.key);
+        }
+        Record::RxRemove { sci, an } => {
+            sci_in_range(*sci);
+            let _number = an.get();
+        }
+        Record::TxCeiling { an, ceiling } => {
+            let _numbers = (an.get(), ceiling.get());
+        }
+        Record::RxCeiling { sci, an, ceiling } => {
+            sci_in_range(*sci);
+            let _numbers = (an.get(), ceiling.get());
+        }
+    }
+}
+
+/// Octets are below 2^8: a proof that calls this knows it of octets behind a reference.
+pub(crate) fn octets_in_range(octets: &[u8])
+    ensures { All (λ octet. octet < 2 ^ 8) octets.now }
+{}
+
+/// A replay window is of 32 bits.
+fn replay_in_range(replay: Replay)
+    ensures { replay.window < 2 ^ 32 }
+{}
+
+/// An encoding association is 0 to 3.
+fn encoding_in_range(encoding: Option<An>)
+    ensures { IsEncoding encoding }
+{
+    if let Some(an) = encoding {
+        let _number = an.get();
+    }
+}
+
+/// An SCI has 8 octets.
+fn sci_in_range(sci: Sci)
+    ensures { IsSci sci }
+{
+    let _octets = sci.get();
+}
+
+/// A key has 16 octets.
+fn key_in_range(key: [u8; 16])
+    ensures { IsKey key }
+{
+    octets_in_range(&key);
+}
+
+/// A fingerprint has 32 octets.
+fn fingerprint_in_range(fingerprint: Fingerprint)
+    ensures { IsOctets 32 fingerprint }
+{
+    octets_in_range(&fingerprint);
+}
+
+/// There are 1 to 15 fingerprints, each of 32 octets.
+fn fingerprints_in_range(fingerprints: &Fingerprints)
+    ensures { IsFingerprints fingerprints.now }
+{
+    for fingerprint in fingerprints.as_slice() {
+        fingerprint_in_range(*fingerprint);
+    }
+}
+
+/// A record fills a sector of 512 octets.
+pub fn sector_length()
+    ensures { (r : Record) → IsRecord r → length (sector_of r) ≡ 512 }
+{}
+
+/// A sector is that of one record.
+pub fn one_record()
+    ensures { (a b : Record) → IsRecord a → IsRecord b → sector_of a ≡ sector_of b → a ≡ b }
+{}

@@ -1,0 +1,240 @@
+//! A sector that is read from its start.
+
+ghost use Rattle.std.specs.Prelude.{◌≡◌, ◌<◌, ◌^◌, ◌↔◌, ◌++◌, ◌∷◌, ℕ, Bool, List, [], IfSome, IsTrue, Some, Option, length, replicate};
+ghost use Rattle.std.specs.Int.{to_be_bytes, w32, w64};
+ghost use Rattle.macs_frame.specs.Fields.{octets_of};
+ghost use Rattle.macs_frame.specs.declared.fields.Offset.{Offset};
+ghost use Rattle.macs_config.specs.declared.association.Protection.{Protection};
+ghost use Rattle.macs_config.specs.declared.command.Replay.{Replay};
+ghost use Rattle.macs_config.specs.declared.command.Role.{Role};
+ghost use Rattle.macs_config.specs.declared.command.SciMode.{SciMode};
+ghost use Rattle.macs_config.specs.declared.command.Validate.{Validate};
+ghost use Rattle.macs_record.specs.Ranges.{IsAn, IsCeiling, IsEncoding, IsFingerprints, IsKey, IsOctets, IsSci, IsStart};
+ghost use Rattle.macs_record.specs.Layout.{encoding_octet, fingerprint_octets, flag, mode_octet, protection_octets, replay_octets, role_octet, validate_octet};
+
+use crate::ceiling::Ceiling;
+use crate::laws::octets_in_range;
+use crate::protection::protection;
+use crate::writing::NO_AN;
+use macs_config::{Fingerprint, Fingerprints, Protection, Replay, Role, SciMode, Validate};
+use macs_frame::{An, Offset, Pn, Sci};
+use std::marker::Model;
+
+/// The octets that are still to be read. Each field is answered exactly where they begin with it;
+/// after `None` nothing is said of them.
+#[derive(Drop)]
+pub(crate) struct Reader<'a> {
+    octets: &'a [u8],
+}
+
+impl<'a> Model for Reader<'a> {
+    ghost Value = { List ℕ };
+
+    ghost view = { λ r. r.octets.now };
+}
+
+impl<'a> Reader<'a> {
+    pub(crate) fn new(octets: &'a [u8]) -> Reader<'a>
+        ensures { result ≡ octets.now }
+    {
+        Reader { octets }
+    }
+
+    pub(crate) fn octets<const N: usize>(&mut self) -> Option<[u8; N]>
+        ensures some { IfSome result (λ octets. IsOctets N octets × (self.old ≡ octets ++ self.new)) }
+        ensures found { (octets rest : List ℕ) → length octets ≡ N → self.old ≡ octets ++ rest
+            → (result ≡ Some octets) × (self.new ≡ rest) }
+    {
+        octets_in_range(self.octets);
+        let (octets, rest) = self.octets.split_first_chunk::<N>()?;
+        self.octets = rest;
+        Some(*octets)
+    }
+
+    pub(crate) fn octet(&mut self) -> Option<u8>
+        ensures some { IfSome result (λ octet. self.old ≡ octet ∷ self.new) }
+        ensures found { (octet : ℕ) (rest : List ℕ) → self.old ≡ octet ∷ rest
+            → (result ≡ Some octet) × (self.new ≡ rest) }
+    {
+        let (octet, rest) = self.octets.split_first()?;
+        self.octets = rest;
+        Some(*octet)
+    }
+
+    /// A big-endian number of 4 octets.
+    fn u32(&mut self) -> Option<u32>
+        ensures some { IfSome result (λ number. (number < 2 ^ 32) × (self.old ≡ to_be_bytes w32 number ++ self.new)) }
+        ensures found { (number : ℕ) (rest : List ℕ) → number < 2 ^ 32 → self.old ≡ to_be_bytes w32 number ++ rest
+            → (result ≡ Some number) × (self.new ≡ rest) }
+    {
+        let octets = self.octets()?;
+        Some(u32::from_be_bytes(octets))
+    }
+
+    /// A big-endian number of 8 octets.
+    fn u64(&mut self) -> Option<u64>
+        ensures some { IfSome result (λ number. (number < 2 ^ 64) × (self.old ≡ to_be_bytes w64 number ++ self.new)) }
+        ensures found { (number : ℕ) (rest : List ℕ) → number < 2 ^ 64 → self.old ≡ to_be_bytes w64 number ++ rest
+            → (result ≡ Some number) × (self.new ≡ rest) }
+    {
+        let octets = self.octets()?;
+        Some(u64::from_be_bytes(octets))
+    }
+
+    pub(crate) fn flag(&mut self) -> Option<bool>
+        ensures some { IfSome result (λ is. self.old ≡ flag is ∷ self.new) }
+        ensures found { (is : Bool) (rest : List ℕ) → self.old ≡ flag is ∷ rest
+            → (result ≡ Some is) × (self.new ≡ rest) }
+    {
+        match self.octet()? {
+            0 => Some(false),
+            1 => Some(true),
+            _ => None,
+        }
+    }
+
+    pub(crate) fn validate(&mut self) -> Option<Validate>
+        ensures some { IfSome result (λ validate. self.old ≡ validate_octet validate ∷ self.new) }
+        ensures found { (validate : Validate) (rest : List ℕ) → self.old ≡ validate_octet validate ∷ rest
+            → (result ≡ Some validate) × (self.new ≡ rest) }
+    {
+        match self.octet()? {
+            0 => Some(Validate::Strict),
+            1 => Some(Validate::Check),
+            _ => None,
+        }
+    }
+
+    pub(crate) fn replay(&mut self) -> Option<Replay>
+        ensures some { IfSome result (λ replay. (replay.window < 2 ^ 32) × (self.old ≡ replay_octets replay ++ self.new)) }
+        ensures found { (replay : Replay) (rest : List ℕ) → replay.window < 2 ^ 32 → self.old ≡ replay_octets replay ++ rest
+            → (result ≡ Some replay) × (self.new ≡ rest) }
+    {
+        let on = self.flag()?;
+        let window = self.u32()?;
+        Some(Replay { on, window })
+    }
+
+    pub(crate) fn sci_mode(&mut self) -> Option<SciMode>
+        ensures some { IfSome result (λ mode. self.old ≡ mode_octet mode ∷ self.new) }
+        ensures found { (mode : SciMode) (rest : List ℕ) → self.old ≡ mode_octet mode ∷ rest
+            → (result ≡ Some mode) × (self.new ≡ rest) }
+    {
+        match self.octet()? {
+            0 => Some(SciMode::Explicit),
+            1 => Some(SciMode::EndStation),
+            2 => Some(SciMode::Implicit),
+            _ => None,
+        }
+    }
+
+    /// An association number, or `None` for the octet ff.
+    pub(crate) fn encoding(&mut self) -> Option<Option<An>>
+        ensures some { IfSome result (λ encoding. IsEncoding encoding × (self.old ≡ encoding_octet encoding ∷ self.new)) }
+        ensures found { (encoding : Option ℕ) (rest : List ℕ) → IsEncoding encoding
+            → self.old ≡ encoding_octet encoding ∷ rest → (result ≡ Some encoding) × (self.new ≡ rest) }
+    {
+        match self.octet()? {
+            NO_AN => Some(None),
+            number => Some(Some(An::new(number)?)),
+        }
+    }
+
+    pub(crate) fn an(&mut self) -> Option<An>
+        ensures some { IfSome result (λ an. IsAn an × (self.old ≡ an ∷ self.new)) }
+        ensures found { (an : ℕ) (rest : List ℕ) → IsAn an → self.old ≡ an ∷ rest
+            → (result ≡ Some an) × (self.new ≡ rest) }
+    {
+        An::new(self.octet()?)
+    }
+
+    pub(crate) fn sci(&mut self) -> Option<Sci>
+        ensures some { IfSome result (λ sci. IsSci sci × (self.old ≡ sci ++ self.new)) }
+        ensures found { (sci rest : List ℕ) → IsSci sci → self.old ≡ sci ++ rest
+            → (result ≡ Some sci) × (self.new ≡ rest) }
+    {
+        Some(Sci(self.octets()?))
+    }
+
+    pub(crate) fn key(&mut self) -> Option<[u8; 16]>
+        ensures some { IfSome result (λ key. IsKey key × (self.old ≡ key ++ self.new)) }
+        ensures found { (key rest : List ℕ) → IsKey key → self.old ≡ key ++ rest
+            → (result ≡ Some key) × (self.new ≡ rest) }
+    {
+        self.octets()
+    }
+
+    pub(crate) fn start(&mut self) -> Option<Pn>
+        ensures some { IfSome result (λ start. IsStart start × (self.old ≡ to_be_bytes w32 start ++ self.new)) }
+        ensures found { (start : ℕ) (rest : List ℕ) → IsStart start → self.old ≡ to_be_bytes w32 start ++ rest
+            → (result ≡ Some start) × (self.new ≡ rest) }
+    {
+        Pn::new(self.u32()?)
+    }
+
+    pub(crate) fn ceiling(&mut self) -> Option<Ceiling>
+        ensures some { IfSome result (λ ceiling. IsCeiling ceiling × (self.old ≡ to_be_bytes w64 ceiling ++ self.new)) }
+        ensures found { (ceiling : ℕ) (rest : List ℕ) → IsCeiling ceiling → self.old ≡ to_be_bytes w64 ceiling ++ rest
+            → (result ≡ Some ceiling) × (self.new ≡ rest) }
+    {
+        Ceiling::new(self.u64()?)
+    }
+
+    pub(crate) fn offset(&mut self) -> Option<Offset>
+        ensures some { IfSome result (λ offset. self.old ≡ octets_of offset ∷ self.new) }
+        ensures found { (offset : Offset) (rest : List ℕ) → self.old ≡ octets_of offset ∷ rest
+            → (result ≡ Some offset) × (self.new ≡ rest) }
+    {
+        Offset::new(self.octet()?)
+    }
+
+    /// `None` also for an offset that is not 0 without confidentiality.
+    pub(crate) fn protection(&mut self) -> Option<Protection>
+        ensures some { IfSome result (λ protection. self.old ≡ protection_octets protection ++ self.new) }
+        ensures found { (protection : Protection) (rest : List ℕ) → self.old ≡ protection_octets protection ++ rest
+            → (result ≡ Some protection) × (self.new ≡ rest) }
+    {
+        let confidential = self.flag()?;
+        let offset = self.offset()?;
+        protection(confidential, offset)
+    }
+
+    pub(crate) fn role(&mut self) -> Option<Role>
+        ensures some { IfSome result (λ role. self.old ≡ role_octet role ∷ self.new) }
+        ensures found { (role : Role) (rest : List ℕ) → self.old ≡ role_octet role ∷ rest
+            → (result ≡ Some role) × (self.new ≡ rest) }
+    {
+        match self.octet()? {
+            0 => Some(Role::Transmit),
+            1 => Some(Role::Receive),
+            _ => None,
+        }
+    }
+
+    pub(crate) fn fingerprints(&mut self) -> Option<Fingerprints>
+        ensures some { IfSome result (λ items. IsFingerprints items × (self.old ≡ fingerprint_octets items ++ self.new)) }
+        ensures found { (items : List (List ℕ)) (rest : List ℕ) → IsFingerprints items
+            → self.old ≡ fingerprint_octets items ++ rest → (result ≡ Some items) × (self.new ≡ rest) }
+    {
+        let count = self.octet()?;
+        if count == 0 {
+            return None;
+        }
+        let first = self.octets()?;
+        let mut items = Fingerprints::new(first);
+        for _ in 1..count {
+            let next = self.octets()?;
+            if !items.push(next) {
+                return None;
+            }
+        }
+        Some(items)
+    }
+
+    /// Whether all that is left is zeros.
+    pub(crate) fn is_zero(&self) -> bool
+        ensures { IsTrue result ↔ (self.now ≡ replicate (length self.now) 0) }
+    {
+        self.octets.iter().all(|octet| *octet == 0)
+    }
+}

@@ -1,0 +1,153 @@
+//! What a journal keeps.
+
+ghost use Rattle.std.specs.Prelude.{◌≡◌};
+ghost use Rattle.macs_config.specs.declared.command.Command.TheVariants.{RxInstall, TxInstall};
+ghost use Rattle.macs_record.specs.Commands.{record_of};
+
+use crate::ceiling::Ceiling;
+use crate::protection::protection;
+use macs_config::{Command, Fingerprints, Replay, Role, RxSa, SciMode, TxSa, Validate};
+use macs_frame::{An, Offset, Pn, Sci};
+
+/// A record of a journal. Its kinds are of three groups: what a snapshot of a configuration has,
+/// commands, and ceilings.
+#[derive(Drop)]
+pub enum Record {
+    /// The settings of a snapshot.
+    Settings {
+        validate: Validate,
+        replay: Replay,
+        sci_mode: SciMode,
+        encoding: Option<An>,
+    },
+    /// A transmit association of a snapshot, with its ceiling.
+    TxSa {
+        an: An,
+        sa: TxSa,
+        ceiling: Ceiling,
+    },
+    /// A receive channel of a snapshot.
+    Channel {
+        sci: Sci,
+    },
+    /// A receive association of a snapshot, with its ceiling.
+    RxSa {
+        sci: Sci,
+        an: An,
+        sa: RxSa,
+        ceiling: Ceiling,
+    },
+    /// Spent keys of a snapshot.
+    Spent {
+        role: Role,
+        fingerprints: Fingerprints,
+    },
+    SetValidate(Validate),
+    SetReplay(Replay),
+    SetSciMode(SciMode),
+    /// A new transmit association, and its first packet number.
+    TxInstall {
+        an: An,
+        sa: TxSa,
+        start: Pn,
+    },
+    TxUse {
+        an: An,
+    },
+    TxRemove {
+        an: An,
+    },
+    RxAdd {
+        sci: Sci,
+    },
+    RxDrop {
+        sci: Sci,
+    },
+    /// A new receive association, and its first packet number.
+    RxInstall {
+        sci: Sci,
+        an: An,
+        sa: RxSa,
+        start: Pn,
+    },
+    RxRemove {
+        sci: Sci,
+        an: An,
+    },
+    /// The raised ceiling of a transmit association.
+    TxCeiling {
+        an: An,
+        ceiling: Ceiling,
+    },
+    /// The raised ceiling of a receive association.
+    RxCeiling {
+        sci: Sci,
+        an: An,
+        ceiling: Ceiling,
+    },
+}
+
+/// Why a sector is no record: the first that holds.
+#[derive(Clone, Copy, Debug, PartialEq, Eq)]
+pub enum RecordFault {
+    /// It does not begin with the mark and a kind of record.
+    Kind,
+    /// A field of that kind is out of its range.
+    Field,
+    /// An octet behind the fields is not zero.
+    Rest,
+}
+
+impl Record {
+    /// The record of a command, `None` where its start is 0, its offset is none of 0, 30 and 50, or
+    /// not 0 without confidentiality.
+    pub fn command(command: &Command) -> Option<Record>
+        ensures { result ≡ record_of command.now }
+    {
+        match *command {
+            Command::SetValidate(validate) => Some(Record::SetValidate(validate)),
+            Command::SetReplay { on, window } => Some(Record::SetReplay(Replay { on, window })),
+            Command::SetSciMode(sci_mode) => Some(Record::SetSciMode(sci_mode)),
+            Command::TxInstall {
+                an,
+                key,
+                start,
+                confidential,
+                offset,
+            } => tx_install(an, key, start, confidential, offset),
+            Command::TxUse { an } => Some(Record::TxUse { an }),
+            Command::TxRemove { an } => Some(Record::TxRemove { an }),
+            Command::RxAdd { sci } => Some(Record::RxAdd { sci }),
+            Command::RxDrop { sci } => Some(Record::RxDrop { sci }),
+            Command::RxInstall {
+                sci,
+                an,
+                key,
+                start,
+                offset,
+            } => rx_install(sci, an, key, start, offset),
+            Command::RxRemove { sci, an } => Some(Record::RxRemove { sci, an }),
+        }
+    }
+}
+
+/// The record of a command that installs a transmit association.
+fn tx_install(an: An, key: [u8; 16], start: u32, confidential: bool, offset: u8) -> Option<Record>
+    ensures { result ≡ record_of (TxInstall an key start confidential offset) }
+{
+    let offset = Offset::new(offset)?;
+    let protection = protection(confidential, offset)?;
+    let start = Pn::new(start)?;
+    let sa = TxSa { key, protection };
+    Some(Record::TxInstall { an, sa, start })
+}
+
+/// The record of a command that installs a receive association.
+fn rx_install(sci: Sci, an: An, key: [u8; 16], start: u32, offset: u8) -> Option<Record>
+    ensures { result ≡ record_of (RxInstall sci an key start offset) }
+{
+    let offset = Offset::new(offset)?;
+    let start = Pn::new(start)?;
+    let sa = RxSa { key, offset };
+    Some(Record::RxInstall { sci, an, sa, start })
+}

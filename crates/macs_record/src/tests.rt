@@ -1,0 +1,49 @@
+//! Records and their octets, written out by hand from the table of the kinds.
+
+mod commands;
+mod kinds;
+mod refused;
+
+use crate::{Ceiling, Record, RecordFault, SECTOR, decode, encode};
+use macs_frame::{An, Pn, Sci};
+use std::process::Abort;
+
+/// A key, and an SCI with port 00-07, whose octets differ.
+const KEY: [u8; 16] = *b"0123456789abcdef";
+
+const SCI: Sci = Sci(*b"peer-A\x00\x07");
+
+/// A sector that begins with these octets and goes on with zeros.
+fn sector_of(rt: &impl Abort, front: &[u8]) -> [u8; SECTOR] {
+    assert!(rt; front.len() <= SECTOR);
+    let mut sector = [0; SECTOR];
+    sector[..front.len()].copy_from_slice(front);
+    sector
+}
+
+/// The record is written as these octets and zeros, and they are read as it.
+fn stands_as(rt: &impl Abort, value: &Record, front: &[u8]) {
+    let sector = sector_of(rt, front);
+    assert_eq!(rt; encode(value), sector);
+    match decode(&sector) {
+        Ok(read) => assert_eq!(rt; encode(&read), sector),
+        Err(fault) => panic!(rt; "{fault:?}"),
+    }
+}
+
+/// These octets and zeros are no record.
+fn is_refused(rt: &impl Abort, front: &[u8], fault: RecordFault) {
+    assert_eq!(rt; decode(&sector_of(rt, front)).err(), Some(fault));
+}
+
+fn an_of(rt: &impl Abort, number: u8) -> An {
+    An::new(number).expect(rt, "association number")
+}
+
+fn pn_of(rt: &impl Abort, number: u32) -> Pn {
+    Pn::new(number).expect(rt, "packet number")
+}
+
+fn ceiling_of(rt: &impl Abort, number: u64) -> Ceiling {
+    Ceiling::new(number).expect(rt, "ceiling")
+}

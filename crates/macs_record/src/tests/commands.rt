@@ -1,0 +1,125 @@
+//! Commands as records.
+
+use super::{KEY, SCI, an_of, sector_of};
+use crate::{Record, encode};
+use macs_config::{Command, SciMode, Validate};
+use std::process::Abort;
+
+/// The command has a record that is written as these octets and zeros.
+fn is_kept_as(rt: &impl Abort, command: Command, front: &[u8]) {
+    let value = Record::command(&command).expect(rt, "record");
+    assert_eq!(rt; encode(&value), sector_of(rt, front));
+}
+
+/// The command has no record.
+fn is_not_kept(rt: &impl Abort, command: Command) {
+    assert!(rt; Record::command(&command).is_none());
+}
+
+#[test]
+fn settings(rt: HostRuntime) {
+    is_kept_as(&rt, Command::SetValidate(Validate::Check), b"MREC\x06\x01");
+    let replay = Command::SetReplay {
+        on: true,
+        window: 0x0102_0304,
+    };
+    is_kept_as(&rt, replay, b"MREC\x07\x01\x01\x02\x03\x04");
+    is_kept_as(
+        &rt,
+        Command::SetSciMode(SciMode::EndStation),
+        b"MREC\x08\x01",
+    );
+}
+
+#[test]
+fn places(rt: HostRuntime) {
+    is_kept_as(&rt, Command::TxUse { an: an_of(&rt, 2) }, b"MREC\x0a\x02");
+    is_kept_as(
+        &rt,
+        Command::TxRemove { an: an_of(&rt, 3) },
+        b"MREC\x0b\x03",
+    );
+    is_kept_as(&rt, Command::RxAdd { sci: SCI }, b"MREC\x0cpeer-A\x00\x07");
+    is_kept_as(&rt, Command::RxDrop { sci: SCI }, b"MREC\x0dpeer-A\x00\x07");
+    let remove = Command::RxRemove {
+        sci: SCI,
+        an: an_of(&rt, 1),
+    };
+    is_kept_as(&rt, remove, b"MREC\x0fpeer-A\x00\x07\x01");
+}
+
+/// A new transmit association under number 1.
+fn tx_install(rt: &impl Abort, start: u32, confidential: bool, offset: u8) -> Command {
+    Command::TxInstall {
+        an: an_of(rt, 1),
+        key: KEY,
+        start,
+        confidential,
+        offset,
+    }
+}
+
+#[test]
+fn transmit_associations(rt: HostRuntime) {
+    is_kept_as(
+        &rt,
+        tx_install(&rt, 1, false, 0),
+        b"MREC\x09\x010123456789abcdef\x00\x00\x00\x01\x00\x00",
+    );
+    is_kept_as(
+        &rt,
+        tx_install(&rt, 0x0102_0304, true, 0),
+        b"MREC\x09\x010123456789abcdef\x01\x02\x03\x04\x01\x00",
+    );
+    is_kept_as(
+        &rt,
+        tx_install(&rt, u32::MAX, true, 30),
+        b"MREC\x09\x010123456789abcdef\xff\xff\xff\xff\x01\x1e",
+    );
+    is_kept_as(
+        &rt,
+        tx_install(&rt, 1, true, 50),
+        b"MREC\x09\x010123456789abcdef\x00\x00\x00\x01\x01\x32",
+    );
+    is_not_kept(&rt, tx_install(&rt, 0, false, 0));
+    is_not_kept(&rt, tx_install(&rt, 0, true, 30));
+    is_not_kept(&rt, tx_install(&rt, 1, true, 20));
+    is_not_kept(&rt, tx_install(&rt, 1, true, 51));
+    is_not_kept(&rt, tx_install(&rt, 1, false, 30));
+    is_not_kept(&rt, tx_install(&rt, 1, false, 50));
+    is_not_kept(&rt, tx_install(&rt, 0, false, 20));
+}
+
+/// A new receive association under number 2.
+fn rx_install(rt: &impl Abort, start: u32, offset: u8) -> Command {
+    Command::RxInstall {
+        sci: SCI,
+        an: an_of(rt, 2),
+        key: KEY,
+        start,
+        offset,
+    }
+}
+
+#[test]
+fn receive_associations(rt: HostRuntime) {
+    is_kept_as(
+        &rt,
+        rx_install(&rt, 1, 0),
+        b"MREC\x0epeer-A\x00\x07\x020123456789abcdef\x00\x00\x00\x01\x00",
+    );
+    is_kept_as(
+        &rt,
+        rx_install(&rt, 0x0102_0304, 30),
+        b"MREC\x0epeer-A\x00\x07\x020123456789abcdef\x01\x02\x03\x04\x1e",
+    );
+    is_kept_as(
+        &rt,
+        rx_install(&rt, u32::MAX, 50),
+        b"MREC\x0epeer-A\x00\x07\x020123456789abcdef\xff\xff\xff\xff\x32",
+    );
+    is_not_kept(&rt, rx_install(&rt, 0, 0));
+    is_not_kept(&rt, rx_install(&rt, 1, 20));
+    is_not_kept(&rt, rx_install(&rt, 1, 49));
+    is_not_kept(&rt, rx_install(&rt, 0, 20));
+}
