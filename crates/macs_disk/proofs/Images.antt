@@ -2,7 +2,7 @@
 use Rattle.std.proofs.Common.{◌≡◌, ◌≢◌, ◌==◌, inl, inr, ℕ, refl, sym, ◌∙◌, ap, subst, arith, Bool, true, false, List}
 use Rattle.std.proofs.lemmas.Bool.{cases_eq, eq-eqb}
 use Rattle.std.proofs.lemmas.Bool.Decides.{nat_tests}
-use Rattle.macs_disk.specs.States.{IsSector, Image, State, IsImage, IsSound, put, written, settled, synced}
+use Rattle.macs_disk.specs.States.{IsSector, Image, State, IsImage, IsSound, put, written, synced}
 
 -- f, but x at one place
 pub put-same : {X : Type 0} (f : ℕ → X) (at i : ℕ) (x : X) → i ≡ at → put f at x i ≡ x
@@ -16,8 +16,8 @@ pub State-ext : (a b : State) → ((i : ℕ) → a.seen i ≡ b.seen i) → ((i 
 State-ext a b seen durable pending = λ j. record { seen = λ i. seen i j; durable = λ i. durable i j; pending = λ i. pending i j }
 
 -- where nothing is pending there is one image
-pub settled-image : (image other : Image) → IsImage (settled image) other → other ≡ image
-settled-image image other left = λ j i. left.kept i refl j
+pub only-image : (s : State) (image : Image) → IsSound s → ((i : ℕ) → s.pending i ≡ false) → IsImage s image → (i : ℕ) → image i ≡ s.seen i
+only-image s image sound clean left i = left.kept i (clean i) ∙ sym (sound.fit.kept i (clean i))
 
 -- the octets of an image are those of sectors
 pub sound-image : (s : State) (image : Image) → IsSound s → IsImage s image → (i : ℕ) → IsSector (image i)

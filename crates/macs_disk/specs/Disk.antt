@@ -50,7 +50,7 @@ pub record Works (old new : Disk) : Type 0 where
   pub sectors : new.sectors ≡ old.sectors
   pub honest : new.honest ≡ old.honest
 
--- between these a call failed: a failure was counted, or the disk is worn
+-- a failure was counted, or the disk is worn, so that one may have failed uncounted
 abbrev pub Rose : Disk → Disk → Type 0
 Rose old new = (old.failures < new.failures) ⊎ (new.worn ≡ true)
 

@@ -52,6 +52,6 @@ pub trait SectorDisk {
     /// Sectors have 512 octets, and what reads give is what a power loss may leave.
     ghost sound: { (it : Self) → IsHonest (disk it) → IsSound (now (disk it)) };
 
-    /// A disk is not worn before 2^64 - 1 calls.
+    /// A disk is not worn before its clock is 2^64 - 1.
     ghost wear: { (it : Self) → (disk it).worn ≡ true → 2 ^ 64 - 1 ≤ (disk it).clock };
 }

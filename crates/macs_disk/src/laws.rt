@@ -1,9 +1,10 @@
 //! Laws of the definitions, for the layers above: what a power loss may leave after one call and after
 //! several, and how the promises of calls that follow one another are put together.
 
-ghost use Rattle.std.specs.Prelude.{◌≡◌, ◌≢◌, ◌≤◌, ℕ, true, List, Result};
-ghost use Rattle.macs_disk.specs.States.{Image, IsImage, IsSector, IsSound, State, settled, synced, written};
-ghost use Rattle.macs_disk.specs.Disk.{Disk, IsCall, IsHonest, IsWork, LeftSince, MayLeave, Rose, Works};
+ghost use Rattle.std.specs.Prelude.{◌≡◌, ◌≢◌, ◌≤◌, ◌+◌, ◌⊎◌, ℕ, false, true, List, Result, IsErr, IsOk};
+ghost use Rattle.macs_disk.specs.States.{Image, IsImage, IsSector, IsSound, State, synced, written};
+ghost use Rattle.macs_disk.specs.Disk.{Disk, IsCall, IsHonest, IsWork, LeftSince, MayLeave, Reads, Rose, Syncs};
+ghost use Rattle.macs_disk.specs.Disk.{Works, Writes, now};
 ghost use Rattle.macs_disk.specs.Runs.{Leaves, LeavesNothingNew};
 ghost use Rattle.macs_disk.specs.Fused.{Fused, fuse_disk};
 ghost use Rattle.macs_disk.specs.MemDisks.{disk_of};
@@ -20,7 +21,8 @@ pub trait Property {
 
 /// Where nothing is pending, a power loss leaves what reads give and nothing else.
 pub fn one_image_without_pending()
-    ensures { (image other : Image) → IsImage (settled image) other → other ≡ image }
+    ensures { (state : State) (image : Image) → IsSound state → ((i : ℕ) → state.pending i ≡ false)
+        → IsImage state image → (i : ℕ) → image i ≡ state.seen i }
 {}
 
 /// A power loss leaves sectors of 512 octets.
@@ -41,6 +43,48 @@ pub fn a_write_leaves_one_sector()
     ensures { (state : State) (at : ℕ) (octets : List ℕ) (image : Image) → IsSound state
         → IsImage (written state at octets) image
         → (before : Image) × IsImage state before × ((i : ℕ) → i ≢ at → image i ≡ before i) }
+{}
+
+/// What a call counts. Before the disk is worn the clock goes on by one, and a failure is counted exactly
+/// where it is answered. On a worn disk the call fails, the state stands, and so do both counts, or both
+/// rise by one.
+pub fn calls_are_counted<T, E>()
+    ensures clock { (old new : Disk) (result : Result T E) → IsCall old new result
+        → old.worn ≡ false → new.clock ≡ old.clock + 1 }
+    ensures failed { (old new : Disk) (result : Result T E) → IsCall old new result
+        → old.worn ≡ false → IsErr result → new.failures ≡ old.failures + 1 }
+    ensures done { (old new : Disk) (result : Result T E) → IsCall old new result
+        → IsOk result → new.failures ≡ old.failures }
+    ensures worn { (old new : Disk) (result : Result T E) → IsCall old new result
+        → old.worn ≡ true → IsErr result × (now new ≡ now old) }
+    ensures alike { (old new : Disk) (result : Result T E) → IsCall old new result → old.worn ≡ true
+        → ((new.clock ≡ old.clock) × (new.failures ≡ old.failures))
+        ⊎ ((new.clock ≡ old.clock + 1) × (new.failures ≡ old.failures + 1)) }
+{}
+
+/// A read, done or failed, leaves nothing new.
+pub fn a_read_call_leaves_nothing_new<T, E>()
+    ensures { (old new : Disk) (at : ℕ) (into : List ℕ) (result : Result T E) → IsCall old new result
+        → Reads (now old) (now new) at into result → LeavesNothingNew old new }
+{}
+
+/// A sync, done or failed, leaves nothing new, and a failed one changes nothing.
+pub fn a_sync_call_leaves_nothing_new<T, E>()
+    ensures nothing_new { (old new : Disk) (result : Result T E) → IsSound (now old) → IsCall old new result
+        → Syncs (now old) (now new) result → LeavesNothingNew old new }
+    ensures failed { (old new : State) (result : Result T E) → Syncs old new result
+        → IsErr result → new ≡ old }
+{}
+
+/// A write, done or failed, leaves only images that have a property, where each that could be left
+/// before it has the property, and each that a write of some 512 octets to that sector leaves.
+pub fn a_write_call_leaves<P: Property, T, E>()
+    ensures { (old new : Disk) (at : ℕ) (octets : List ℕ) (result : Result T E) → IsSector octets
+        → IsCall old new result → Writes (now old) (now new) at octets result
+        → ((image : Image) → MayLeave old image → P.holds image)
+        → ((sector : List ℕ) (image : Image) → IsSector sector
+        → IsImage (written (now old) at sector) image → P.holds image)
+        → Leaves old new P.holds }
 {}
 
 /// No call is work, and works that follow one another are.
@@ -86,6 +130,14 @@ pub fn leaves_call<P: Property, T, E>()
 pub fn leaves_more<P: Property>()
     ensures { (old mid new : Disk) → Leaves old mid P.holds → Leaves mid new P.holds
         → Leaves old new P.holds }
+{}
+
+/// Runs of two properties, one after the other, where a third follows from either.
+pub fn leaves_join<P: Property, Q: Property, R: Property>()
+    ensures { (old mid new : Disk) → Leaves old mid P.holds → Leaves mid new Q.holds
+        → ((image : Image) → P.holds image → R.holds image)
+        → ((image : Image) → Q.holds image → R.holds image)
+        → Leaves old new R.holds }
 {}
 
 /// A run has what follows from what it has.

@@ -1,14 +1,13 @@
 //! Stories of writes, syncs, choices and power losses, with what is to be found worked out by hand.
 
+mod promises;
+mod tearing;
+
 ghost use Rattle.std.specs.Prelude.{◌≡◌, ◌<◌, ◌+◌, ◌-◌, ◌^◌, OnErr, OnOk};
 
-use crate::laws::{
-    Property, fuses_are_honest, leaves_call, leaves_more, leaves_none, leaves_now, leaves_weaker,
-    memory_is_honest, work_goes_on,
-};
 use crate::{DeviceFault, Fuse, MemDisk, MemFault, SectorDisk};
 use linked_list_allocator::LocalHeap;
-use std::alloc::{Allocator, Global};
+use std::alloc::Allocator;
 use std::process::Abort;
 use std::test::Fail;
 
@@ -270,6 +269,24 @@ fn refused_memory_changes_nothing(rt: HostRuntime) -> Result<(), Fail> {
     Ok(())
 }
 
+/// In ample memory no call is refused, however many the record has.
+#[test]
+fn two_thousand_calls_are_done(rt: HostRuntime) -> Result<(), Fail> {
+    let mut disk = MemDisk::new(rt.alloc(), 8)?;
+    for round in 0..1_000_u16 {
+        let at = u64::from(round % 8);
+        let octet = (round % 251) as u8;
+        assert_eq!(rt; fill(&rt, &mut disk, at, octet), Ok(()), "write {round}");
+        assert_eq!(rt; disk.sync(), Ok(()), "sync {round}");
+        assert_eq!(rt;
+            found(&rt, &mut disk, at)?,
+            (octet, octet, false),
+            "round {round}"
+        );
+    }
+    Ok(())
+}
+
 /// A disk that forgets what it is told and claims no honesty: the trait asks no more of it than the
 /// counts.
 #[derive(Drop)]
@@ -335,23 +352,4 @@ fn a_disk_may_claim_nothing(rt: HostRuntime) -> Result<(), Fail> {
     assert_eq!(rt; seen(&rt, &mut fuse, 2)?, 0);
     assert_eq!(rt; fuse.sync(), Err(DeviceFault));
     Ok(())
-}
-
-/// What every power loss leaves has this.
-struct Anything;
-
-impl Property for Anything {
-    ghost holds = { λ _. Unit {0} };
-}
-
-#[test]
-fn laws_hold_at_types(_rt: HostRuntime) {
-    work_goes_on::<(), DeviceFault>();
-    leaves_none::<Anything>();
-    leaves_call::<Anything, (), DeviceFault>();
-    leaves_more::<Anything>();
-    leaves_weaker::<Anything, Anything>();
-    leaves_now::<Anything>();
-    memory_is_honest::<Global>();
-    fuses_are_honest::<MemDisk<Global>>();
 }
