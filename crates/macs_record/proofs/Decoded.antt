@@ -47,7 +47,7 @@ read_once kind sector behind left result kinds fields r is =
     let of_kind : kind_of r ≡ kind = cc in
     fields r zeros is.range of_kind k.1
 
-filled : (sector front left : List ℕ) → length sector ≡ 512 → sector ≡ front ++ left → left ≡ replicate (length left) 0 → padded front ≡ sector
+pub filled : (sector front left : List ℕ) → length sector ≡ 512 → sector ≡ front ++ left → left ≡ replicate (length left) 0 → padded front ≡ sector
 filled sector front left size whole zeros =
     let room : 512 - length front ≡ length left = omega (arith, ap length whole, length-append {A = ℕ}) in
     ap (λ (n : ℕ). front ++ replicate n 0) room ∙ ap (λ (rest : List ℕ). front ++ rest) (sym zeros) ∙ sym whole
@@ -73,7 +73,7 @@ pub first_field : (kind : ℕ) (sector behind left : List ℕ) → (1 ≤ kind) 
 first_field kind sector behind left read kinds fields =
     inr ((λ no. no (kind_stands kind sector behind read.0 read.1 read.2)), inl (no_fields kind sector behind left kinds fields, refl))
 
-all_zeros : (left : List ℕ) (n : ℕ) → left ≡ replicate n 0 → left ≡ replicate (length left) 0
+pub all_zeros : (left : List ℕ) (n : ℕ) → left ≡ replicate n 0 → left ≡ replicate (length left) 0
 all_zeros left n zeros =
     let size : n ≡ length left = sym (ap length zeros ∙ length-replicate {A = ℕ} n 0) in zeros ∙ ap (λ (k : ℕ). replicate k 0) size
 

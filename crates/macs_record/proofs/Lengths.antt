@@ -1,8 +1,9 @@
--- How many octets records have.
+-- How many octets records and heads have.
 use Rattle.std.proofs.Common.{◌≡◌, ◌≤◌, ◌*◌, ◌-◌, ℕ, List, [], ◌∷◌, length, replicate, arith, length-append}
 use Rattle.std.specs.List.{All, concat}
 use Rattle.std.proofs.lemmas.List.{length-replicate}
 use Rattle.std.proofs.lemmas.List.Elements.{All-head, All-tail}
+use Rattle.macs_record.specs.Heads.{Head, IsHead, head_octets, head_sector_of}
 use Rattle.macs_record.specs.Layout.{IsRecord, fields_of, front_of, sector_of}
 use Rattle.macs_record.specs.Ranges.{IsOctets}
 use Rattle.macs_record.specs.Sectors.{padded}
@@ -38,3 +39,6 @@ length-padded front within = omega (arith, length-append front (replicate (512 -
 
 pub sector_length : (r : Record) → IsRecord r → length (sector_of r) ≡ 512
 sector_length r is = let fields = fields_length r is in length-padded (front_of r) (omega (arith, fields))
+
+pub head_sector_length : (head : Head) → IsHead head → length (head_sector_of head) ≡ 512
+head_sector_length head is = length-padded (head_octets head) (omega (arith, length-append {A = ℕ}, is.sci.size))

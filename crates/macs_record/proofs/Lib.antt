@@ -6,3 +6,5 @@ pub mod Lengths
 pub mod Commands
 pub mod Fingerprints
 pub mod Fields
+pub mod OneHead
+pub mod DecodedHead

@@ -91,7 +91,7 @@ chunks zero octets = []
 chunks (suc n) octets = take 32 octets ∷ chunks n (drop 32 octets)
 
 -- a list that is cut behind its front
-cut : {X : Type 0} (f : List ℕ → List ℕ → X) (n : ℕ) (front rest octets : List ℕ) → length front ≡ n → octets ≡ front ++ rest
+pub cut : {X : Type 0} (f : List ℕ → List ℕ → X) (n : ℕ) (front rest octets : List ℕ) → length front ≡ n → octets ≡ front ++ rest
     → f (take n octets) (drop n octets) ≡ f front rest
 cut f n front rest octets size is =
     let at_front : take n octets ≡ front = ap (take n) is ∙ take_at front rest n size in

@@ -1,7 +1,7 @@
 -- The ranges of a record's fields.
 use Rattle.std.specs.Prelude.{◌≡◌, ◌≤◌, ◌<◌, ◌^◌, ℕ, List, All, length, Option, Some, None}
 
--- octets of a number, such as a key of 16
+-- so many octets, such as a key of 16
 pub record IsOctets (count : ℕ) (octets : List ℕ) : Type 0 where
   pub size : length octets ≡ count
   pub each : All (λ octet. octet < 2 ^ 8) octets

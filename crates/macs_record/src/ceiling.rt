@@ -1,11 +1,11 @@
-//! The ceilings that reservations are kept as.
+//! Ceilings of packet numbers.
 
 ghost use Rattle.std.specs.Prelude.{◌≡◌, ◌≤◌, ◌↔◌, ℕ, IsSome, IfSome};
 ghost use Rattle.macs_record.specs.Ranges.{IsCeiling};
 
 use std::marker::Model;
 
-/// The greatest ceiling: above it are no packet numbers.
+/// The greatest ceiling: from it on there are no packet numbers.
 const MAX_CEILING: u64 = 1 << 32;
 
 /// The ceiling of an association, 1 to 2^32: only packet numbers below it are used, or delivered as

@@ -85,7 +85,7 @@ fn read_fields(kind: u8, from: &mut Reader<'_>) -> Option<Record>
     }
 }
 
-/// Reads the fields of kind 1.
+/// Reads the settings of a snapshot, kind 1.
 fn read_settings(from: &mut Reader<'_>) -> Option<Record>
     ensures some { IfSome result (λ r. IsRecord r × (kind_of r ≡ 1) × (from.old ≡ fields_of r ++ from.new)) }
     ensures found { (r : Record) (rest : List ℕ) → IsRecord r → kind_of r ≡ 1 → from.old ≡ fields_of r ++ rest
@@ -103,7 +103,7 @@ fn read_settings(from: &mut Reader<'_>) -> Option<Record>
     })
 }
 
-/// Reads the fields of kind 2.
+/// Reads a transmit association of a snapshot, kind 2.
 fn read_tx_sa(from: &mut Reader<'_>) -> Option<Record>
     ensures some { IfSome result (λ r. IsRecord r × (kind_of r ≡ 2) × (from.old ≡ fields_of r ++ from.new)) }
     ensures found { (r : Record) (rest : List ℕ) → IsRecord r → kind_of r ≡ 2 → from.old ≡ fields_of r ++ rest
@@ -117,7 +117,7 @@ fn read_tx_sa(from: &mut Reader<'_>) -> Option<Record>
     Some(Record::TxSa { an, sa, ceiling })
 }
 
-/// Reads the fields of kind 4.
+/// Reads a receive association of a snapshot, kind 4.
 fn read_rx_sa(from: &mut Reader<'_>) -> Option<Record>
     ensures some { IfSome result (λ r. IsRecord r × (kind_of r ≡ 4) × (from.old ≡ fields_of r ++ from.new)) }
     ensures found { (r : Record) (rest : List ℕ) → IsRecord r → kind_of r ≡ 4 → from.old ≡ fields_of r ++ rest
@@ -137,7 +137,7 @@ fn read_rx_sa(from: &mut Reader<'_>) -> Option<Record>
     })
 }
 
-/// Reads the fields of kind 5.
+/// Reads spent keys of a snapshot, kind 5.
 fn read_spent(from: &mut Reader<'_>) -> Option<Record>
     ensures some { IfSome result (λ r. IsRecord r × (kind_of r ≡ 5) × (from.old ≡ fields_of r ++ from.new)) }
     ensures found { (r : Record) (rest : List ℕ) → IsRecord r → kind_of r ≡ 5 → from.old ≡ fields_of r ++ rest
@@ -148,7 +148,7 @@ fn read_spent(from: &mut Reader<'_>) -> Option<Record>
     Some(Record::Spent { role, fingerprints })
 }
 
-/// Reads the fields of kind 9.
+/// Reads a new transmit association, kind 9.
 fn read_tx_install(from: &mut Reader<'_>) -> Option<Record>
     ensures some { IfSome result (λ r. IsRecord r × (kind_of r ≡ 9) × (from.old ≡ fields_of r ++ from.new)) }
     ensures found { (r : Record) (rest : List ℕ) → IsRecord r → kind_of r ≡ 9 → from.old ≡ fields_of r ++ rest
@@ -162,7 +162,7 @@ fn read_tx_install(from: &mut Reader<'_>) -> Option<Record>
     Some(Record::TxInstall { an, sa, start })
 }
 
-/// Reads the fields of kind 14.
+/// Reads a new receive association, kind 14.
 fn read_rx_install(from: &mut Reader<'_>) -> Option<Record>
     ensures some { IfSome result (λ r. IsRecord r × (kind_of r ≡ 14) × (from.old ≡ fields_of r ++ from.new)) }
     ensures found { (r : Record) (rest : List ℕ) → IsRecord r → kind_of r ≡ 14 → from.old ≡ fields_of r ++ rest
@@ -177,7 +177,7 @@ fn read_rx_install(from: &mut Reader<'_>) -> Option<Record>
     Some(Record::RxInstall { sci, an, sa, start })
 }
 
-/// Reads the fields of kind 15.
+/// Reads a receive association that goes, kind 15.
 fn read_rx_remove(from: &mut Reader<'_>) -> Option<Record>
     ensures some { IfSome result (λ r. IsRecord r × (kind_of r ≡ 15) × (from.old ≡ fields_of r ++ from.new)) }
     ensures found { (r : Record) (rest : List ℕ) → IsRecord r → kind_of r ≡ 15 → from.old ≡ fields_of r ++ rest
@@ -188,7 +188,7 @@ fn read_rx_remove(from: &mut Reader<'_>) -> Option<Record>
     Some(Record::RxRemove { sci, an })
 }
 
-/// Reads the fields of kind 16.
+/// Reads the raised ceiling of a transmit association, kind 16.
 fn read_tx_ceiling(from: &mut Reader<'_>) -> Option<Record>
     ensures some { IfSome result (λ r. IsRecord r × (kind_of r ≡ 16) × (from.old ≡ fields_of r ++ from.new)) }
     ensures found { (r : Record) (rest : List ℕ) → IsRecord r → kind_of r ≡ 16 → from.old ≡ fields_of r ++ rest
@@ -199,7 +199,7 @@ fn read_tx_ceiling(from: &mut Reader<'_>) -> Option<Record>
     Some(Record::TxCeiling { an, ceiling })
 }
 
-/// Reads the fields of kind 17.
+/// Reads the raised ceiling of a receive association, kind 17.
 fn read_rx_ceiling(from: &mut Reader<'_>) -> Option<Record>
     ensures some { IfSome result (λ r. IsRecord r × (kind_of r ≡ 17) × (from.old ≡ fields_of r ++ from.new)) }
     ensures found { (r : Record) (rest : List ℕ) → IsRecord r → kind_of r ≡ 17 → from.old ≡ fields_of r ++ rest

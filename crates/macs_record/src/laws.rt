@@ -2,11 +2,12 @@
 //! body reads the fields: that is how a proof learns their ranges.
 
 ghost use Rattle.std.specs.Prelude.{◌≡◌, ◌<◌, ◌^◌, List, ℕ, All, length};
+ghost use Rattle.macs_record.specs.Heads.{Head, IsHead, IsHeadOf, head_sector_of};
 ghost use Rattle.macs_record.specs.Layout.{IsRecord, sector_of};
 ghost use Rattle.macs_record.specs.Ranges.{IsEncoding, IsFingerprints, IsKey, IsOctets, IsSci};
 ghost use Rattle.macs_record.specs.declared.record.Record.{Record};
 
-use crate::Record;
+use crate::{Head, Record};
 use macs_config::{Fingerprint, Fingerprints, Replay};
 use macs_frame::{An, Sci};
 
@@ -126,4 +127,24 @@ pub fn sector_length()
 /// A sector is that of one record.
 pub fn one_record()
     ensures { (a b : Record) → IsRecord a → IsRecord b → sector_of a ≡ sector_of b → a ≡ b }
+{}
+
+/// The fields of a head are in their ranges.
+pub fn head_in_range(head: &Head)
+    ensures { IsHead head.now }
+{
+    let _numbers = (head.generation(), head.count());
+    let identity = head.identity();
+    sci_in_range(identity.sci());
+    let _blocks = (identity.tx_block(), identity.rx_block());
+}
+
+/// A head fills a sector of 512 octets.
+pub fn head_sector_length()
+    ensures { (head : Head) → IsHead head → length (head_sector_of head) ≡ 512 }
+{}
+
+/// A sector is that of one head.
+pub fn one_head()
+    ensures { (a b : Head) (sector : List ℕ) → IsHeadOf a sector → IsHeadOf b sector → a ≡ b }
 {}

@@ -1,9 +1,12 @@
-//! The records of a journal, and the sectors that they stand in.
+//! The records of a journal, the heads and gates of its areas, and the sectors that they stand in.
 #![tactic(auto)]
 
 mod ceiling;
 mod decoding;
 mod encoding;
+mod gate;
+mod head;
+mod head_codec;
 pub mod laws;
 mod protection;
 mod reading;
@@ -15,6 +18,9 @@ mod writing;
 pub use ceiling::Ceiling;
 pub use decoding::decode;
 pub use encoding::encode;
+pub use gate::{CLOSED_GATE, is_open, open_gate};
+pub use head::Head;
+pub use head_codec::{decode_head, encode_head};
 pub use record::{Record, RecordFault};
 
 /// The octets of a sector.

@@ -62,7 +62,7 @@ impl<'a> Reader<'a> {
     }
 
     /// A big-endian number of 4 octets.
-    fn u32(&mut self) -> Option<u32>
+    pub(crate) fn u32(&mut self) -> Option<u32>
         ensures some { IfSome result (λ number. (number < 2 ^ 32) × (self.old ≡ to_be_bytes w32 number ++ self.new)) }
         ensures found { (number : ℕ) (rest : List ℕ) → number < 2 ^ 32 → self.old ≡ to_be_bytes w32 number ++ rest
             → (result ≡ Some number) × (self.new ≡ rest) }
@@ -72,7 +72,7 @@ impl<'a> Reader<'a> {
     }
 
     /// A big-endian number of 8 octets.
-    fn u64(&mut self) -> Option<u64>
+    pub(crate) fn u64(&mut self) -> Option<u64>
         ensures some { IfSome result (λ number. (number < 2 ^ 64) × (self.old ≡ to_be_bytes w64 number ++ self.new)) }
         ensures found { (number : ℕ) (rest : List ℕ) → number < 2 ^ 64 → self.old ≡ to_be_bytes w64 number ++ rest
             → (result ≡ Some number) × (self.new ≡ rest) }

@@ -9,8 +9,8 @@ use crate::protection::protection;
 use macs_config::{Command, Fingerprints, Replay, Role, RxSa, SciMode, TxSa, Validate};
 use macs_frame::{An, Offset, Pn, Sci};
 
-/// A record of a journal. Its kinds are of three groups: what a snapshot of a configuration has,
-/// commands, and ceilings.
+/// A record of a journal. Its kinds are of three groups: what a snapshot of a configuration has, the
+/// commands that are not refused for their start or offset, and raised ceilings.
 #[derive(Drop)]
 pub enum Record {
     /// The settings of a snapshot.
@@ -150,4 +150,23 @@ fn rx_install(sci: Sci, an: An, key: [u8; 16], start: u32, offset: u8) -> Option
     let start = Pn::new(start)?;
     let sa = RxSa { key, offset };
     Some(Record::RxInstall { sci, an, sa, start })
+}
+
+impl Default for Record {
+    ghost use Rattle.macs_record.specs.Settings.{default_settings};
+
+    /// The settings of a new configuration.
+    fn default() -> Record
+        ensures { result ≡ default_settings }
+    {
+        Record::Settings {
+            validate: Validate::Strict,
+            replay: Replay {
+                on: true,
+                window: 0,
+            },
+            sci_mode: SciMode::Explicit,
+            encoding: None,
+        }
+    }
 }

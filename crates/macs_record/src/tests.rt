@@ -1,6 +1,8 @@
-//! Records and their octets, written out by hand from the table of the kinds.
+//! Records and their octets, written out by hand from the table of the kinds; heads and gates.
 
 mod commands;
+mod gates;
+mod heads;
 mod kinds;
 mod refused;
 

@@ -52,6 +52,22 @@ impl Writer {
         self.octets(&[octet])
     }
 
+    /// A big-endian number of 4 octets.
+    pub(crate) fn u32(self, number: u32) -> Writer
+        requires room { length self + 4 ≤ 512 }
+        ensures { result ≡ self ++ to_be_bytes w32 number }
+    {
+        self.octets(&number.to_be_bytes())
+    }
+
+    /// A big-endian number of 8 octets.
+    pub(crate) fn u64(self, number: u64) -> Writer
+        requires room { length self + 8 ≤ 512 }
+        ensures { result ≡ self ++ to_be_bytes w64 number }
+    {
+        self.octets(&number.to_be_bytes())
+    }
+
     pub(crate) fn flag(self, is: bool) -> Writer
         requires room { length self + 1 ≤ 512 }
         ensures { result ≡ self ++ flag is ∷ [] }
@@ -73,7 +89,7 @@ impl Writer {
         requires room { length self + 5 ≤ 512 }
         ensures { result ≡ self ++ replay_octets replay }
     {
-        self.flag(replay.on).octets(&replay.window.to_be_bytes())
+        self.flag(replay.on).u32(replay.window)
     }
 
     pub(crate) fn sci_mode(self, sci_mode: SciMode) -> Writer
@@ -116,14 +132,14 @@ impl Writer {
         requires room { length self + 4 ≤ 512 }
         ensures { result ≡ self ++ to_be_bytes w32 start }
     {
-        self.octets(&start.get().to_be_bytes())
+        self.u32(start.get())
     }
 
     pub(crate) fn ceiling(self, ceiling: Ceiling) -> Writer
         requires room { length self + 8 ≤ 512 }
         ensures { result ≡ self ++ to_be_bytes w64 ceiling }
     {
-        self.octets(&ceiling.get().to_be_bytes())
+        self.u64(ceiling.get())
     }
 
     pub(crate) fn offset(self, offset: Offset) -> Writer

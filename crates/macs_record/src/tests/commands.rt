@@ -16,24 +16,38 @@ fn is_not_kept(rt: &impl Abort, command: Command) {
     assert!(rt; Record::command(&command).is_none());
 }
 
+/// Sets replay protection and its window.
+fn set_replay(on: bool, window: u32) -> Command {
+    Command::SetReplay { on, window }
+}
+
 #[test]
 fn settings(rt: HostRuntime) {
+    is_kept_as(&rt, Command::SetValidate(Validate::Strict), b"MREC\x06\x00");
     is_kept_as(&rt, Command::SetValidate(Validate::Check), b"MREC\x06\x01");
-    let replay = Command::SetReplay {
-        on: true,
-        window: 0x0102_0304,
-    };
-    is_kept_as(&rt, replay, b"MREC\x07\x01\x01\x02\x03\x04");
     is_kept_as(
         &rt,
-        Command::SetSciMode(SciMode::EndStation),
-        b"MREC\x08\x01",
+        set_replay(true, 0x0102_0304),
+        b"MREC\x07\x01\x01\x02\x03\x04",
     );
+    is_kept_as(&rt, set_replay(false, 7), b"MREC\x07\x00\x00\x00\x00\x07");
+    for (sci_mode, octet) in [
+        (SciMode::Explicit, 0),
+        (SciMode::EndStation, 1),
+        (SciMode::Implicit, 2),
+    ] {
+        is_kept_as(
+            &rt,
+            Command::SetSciMode(sci_mode),
+            &[b'M', b'R', b'E', b'C', 8, octet],
+        );
+    }
 }
 
 #[test]
 fn places(rt: HostRuntime) {
     is_kept_as(&rt, Command::TxUse { an: an_of(&rt, 2) }, b"MREC\x0a\x02");
+    is_kept_as(&rt, Command::TxUse { an: an_of(&rt, 1) }, b"MREC\x0a\x01");
     is_kept_as(
         &rt,
         Command::TxRemove { an: an_of(&rt, 3) },

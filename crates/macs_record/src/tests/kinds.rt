@@ -18,16 +18,11 @@ const MAX_CEILING: u64 = 1 << 32;
 
 #[test]
 fn settings(rt: HostRuntime) {
-    let default = Record::Settings {
-        validate: Validate::Strict,
-        replay: Replay {
-            on: true,
-            window: 0,
-        },
-        sci_mode: SciMode::Explicit,
-        encoding: None,
-    };
-    stands_as(&rt, &default, b"MREC\x01\x00\x01\x00\x00\x00\x00\x00\xff");
+    stands_as(
+        &rt,
+        &Record::default(),
+        b"MREC\x01\x00\x01\x00\x00\x00\x00\x00\xff",
+    );
     let least = Record::Settings {
         validate: Validate::Strict,
         replay: Replay {

@@ -1,0 +1,49 @@
+-- A sector is that of one head: its fields are read back from their places.
+use Rattle.std.proofs.Common.{◌≡◌, ◌++◌, ◌∙◌, ◌-◌, ℕ, List, length, take, drop, replicate, sym, ap, arith, append_assoc}
+use Rattle.std.specs.Int.{from_be_bytes, to_be_bytes, w32, w64}
+use Rattle.std.proofs.lemmas.Nat.{from_be_bytes-to_be_bytes_4, from_be_bytes-to_be_bytes_8}
+use Rattle.macs_config.specs.Identity.{Identity, IsBlock}
+use Rattle.macs_record.specs.Heads.{Head, IsHead, IsHeadOf, head_octets, head_sector_of, identity_octets}
+use Rattle.macs_record.specs.Ranges.{IsSci}
+use Rattle.macs_record.proofs.OneRecord.{cut}
+
+abbrev identity_from : List ℕ → List ℕ → Identity
+identity_from sci blocks = record {
+  sci = sci;
+  tx_block = from_be_bytes w32 (take 4 blocks);
+  rx_block = from_be_bytes w32 (take 4 (drop 4 blocks));
+}
+
+abbrev identity_at : List ℕ → Identity
+identity_at octets = identity_from (take 8 octets) (drop 8 octets)
+
+-- what stands in the places of a head's fields
+unfoldable head_at : List ℕ → Head
+head_at sector = record {
+  generation = from_be_bytes w64 (take 8 (drop 12 sector));
+  count = from_be_bytes w32 (take 4 (drop 20 sector));
+  identity = identity_at (drop 24 sector);
+}
+
+identity_back : (identity : Identity) (rest : List ℕ) → IsSci identity.sci → IsBlock identity.tx_block → IsBlock identity.rx_block
+    → identity_at (identity_octets identity ++ rest) ≡ identity
+identity_back identity rest sci tx rx =
+    cut identity_from 8 identity.sci ((to_be_bytes w32 identity.tx_block ++ to_be_bytes w32 identity.rx_block) ++ rest) _ sci.size (append_assoc identity.sci _ rest)
+    ∙ (λ i. record {
+      sci = identity.sci;
+      tx_block = from_be_bytes-to_be_bytes_4 identity.tx_block (omega (arith, tx.1)) i;
+      rx_block = from_be_bytes-to_be_bytes_4 identity.rx_block (omega (arith, rx.1)) i;
+    })
+
+head_back : (head : Head) (rest : List ℕ) → IsHead head → head_at (head_octets head ++ rest) ≡ head
+unfolding head_at
+head_back head rest is = λ i. record {
+  generation = from_be_bytes-to_be_bytes_8 head.generation is.generations i;
+  count = from_be_bytes-to_be_bytes_4 head.count (omega (arith, is.few)) i;
+  identity = identity_back head.identity rest is.sci is.tx_block is.rx_block i;
+}
+
+pub one_head : (a b : Head) (sector : List ℕ) → IsHeadOf a sector → IsHeadOf b sector → a ≡ b
+one_head a b sector is_a is_b =
+    sym (head_back a (replicate (512 - length (head_octets a)) 0) is_a.range) ∙ ap head_at (is_a.octets ∙ sym is_b.octets)
+    ∙ head_back b (replicate (512 - length (head_octets b)) 0) is_b.range

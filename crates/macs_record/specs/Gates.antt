@@ -1,0 +1,19 @@
+-- Gates: sectors whose first octets say whether what they stand for counts.
+use Rattle.std.specs.Prelude.{List, ℕ, [], ◌∷◌, replicate}
+use Rattle.macs_record.specs.Sectors.{Begins, padded}
+
+-- MSECOPEN
+abbrev pub open_mark : List ℕ
+open_mark = 0x4d ∷ 0x53 ∷ 0x45 ∷ 0x43 ∷ 0x4f ∷ 0x50 ∷ 0x45 ∷ 0x4e ∷ []
+
+-- a gate is open where its sector begins with the mark, whatever else it holds, and closed elsewhere
+abbrev pub IsOpen : List ℕ → Type 0
+IsOpen sector = Begins open_mark sector
+
+-- an open gate, as it is written
+abbrev pub open_gate : List ℕ
+open_gate = padded open_mark
+
+-- a closed gate, as it is written
+abbrev pub closed_gate : List ℕ
+closed_gate = padded []

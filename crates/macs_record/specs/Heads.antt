@@ -1,0 +1,47 @@
+-- The head of an area: a mark, a version, and the fields in order without gaps, and zeros. Numbers are big-endian.
+use Rattle.std.specs.Prelude.{◌≡◌, ◌<◌, ◌≤◌, ◌^◌, ◌++◌, ℕ, List, [], ◌∷◌}
+use Rattle.std.specs.Int.{to_be_bytes, w32, w64}
+use Rattle.macs_config.specs.Identity.{Identity, IsBlock}
+use Rattle.macs_record.specs.Ranges.{IsSci}
+use Rattle.macs_record.specs.Sectors.{padded}
+
+-- generation: how often the journal began anew, from 1 on; count: how many records its snapshot has; identity: whose it is
+pub record Head : Type 0 where
+  pub generation : ℕ
+  pub count : ℕ
+  pub identity : Identity
+
+-- the fields of a head are in their ranges
+pub record IsHead (head : Head) : Type 0 where
+  pub generation : 0 < head.generation
+  pub generations : head.generation < 2 ^ 64
+  pub some : 1 ≤ head.count
+  pub few : head.count ≤ 256
+  pub sci : IsSci head.identity.sci
+  pub tx_block : IsBlock head.identity.tx_block
+  pub rx_block : IsBlock head.identity.rx_block
+
+-- MSECHEAD
+abbrev pub head_mark : List ℕ
+head_mark = 0x4d ∷ 0x53 ∷ 0x45 ∷ 0x43 ∷ 0x48 ∷ 0x45 ∷ 0x41 ∷ 0x44 ∷ []
+
+abbrev pub version : ℕ
+version = 1
+
+abbrev pub identity_octets : Identity → List ℕ
+identity_octets identity = identity.sci ++ (to_be_bytes w32 identity.tx_block ++ to_be_bytes w32 identity.rx_block)
+
+-- the mark and the version, then the fields
+abbrev pub head_octets : Head → List ℕ
+head_octets head =
+    head_mark ++ (to_be_bytes w32 version ++ (to_be_bytes w64 head.generation ++ (to_be_bytes w32 head.count
+    ++ identity_octets head.identity)))
+
+-- the sector of a head
+abbrev pub head_sector_of : Head → List ℕ
+head_sector_of head = padded (head_octets head)
+
+-- the sector is that of this head
+pub record IsHeadOf (head : Head) (sector : List ℕ) : Type 0 where
+  pub range : IsHead head
+  pub octets : head_sector_of head ≡ sector
