@@ -1,0 +1,26 @@
+use Rattle.std.proofs.Common.{◌≡◌, sym, ◌∙◌, arith}
+use Rattle.macs_disk.specs.Disk.{IsHonest, now}
+use Rattle.macs_disk.proofs.Moments.{Leaves-start, Leaves-call}
+use Rattle.macs_journal.specs.Found.{IsNotFormatted}
+use Rattle.macs_journal.specs.Formatting.{IsBlank}
+use Rattle.macs_journal.proofs.Appends.{wrote}
+use Rattle.macs_journal.proofs.Blank.{blank-image, blank-wrote}
+use Rattle.macs_journal.proofs.formatting.write_bodies.Goals as goal
+
+pub returns-in_err-write-clause-images : goal.returns-in_err-write-clause-images
+returns-in_err-write-clause-images g c honest blank =
+    let d = g.D.SectorDisk.disk in
+    let first : c.head_body.result ≡ 0 = omega (arith, c.head_body.ensures.at, c.first-area.ensures) in
+    Leaves-call _ _ (d c.write.new.self) c.write.result IsNotFormatted (Leaves-start (d c.args.disk.now) IsNotFormatted (blank-image _ blank)) c.write.ensures.call
+    (blank-image _ (blank-wrote _ _ _ (omega (arith, first)) (omega (arith, first)) (wrote _ _ _ _ _ (c.write.ensures.effect honest)) blank))
+
+pub returns-in_err-write-2-clause-images : goal.returns-in_err-write-2-clause-images
+returns-in_err-write-2-clause-images g c honest blank =
+    let d = g.D.SectorDisk.disk in
+    let first : c.head_body.result ≡ 0 = omega (arith, c.head_body.ensures.at, c.first-area.ensures) in
+    let second : c.slot_body.result ≡ 2 = omega (arith, c.slot_body.ensures.at, c.first-area.ensures) in
+    let honest1 : IsHonest (d c.write.new.self) = sym c.write-2.ensures.call.work.works.honest ∙ honest in
+    let blank1 : IsBlank (now (d c.write.new.self)) = blank-wrote _ _ _ (omega (arith, first)) (omega (arith, first)) (wrote _ _ _ _ _ (c.write.ensures.effect honest1)) blank in
+    let first = Leaves-call _ _ (d c.write.new.self) c.write.result IsNotFormatted (Leaves-start (d c.args.disk.now) IsNotFormatted (blank-image _ blank)) c.write.ensures.call (blank-image _ blank1) in
+    Leaves-call _ _ (d c.write-2.new.self) c.write-2.result IsNotFormatted first c.write-2.ensures.call
+    (blank-image _ (blank-wrote _ _ _ (omega (arith, second)) (omega (arith, second)) (wrote _ _ _ _ _ (c.write-2.ensures.effect honest)) blank1))

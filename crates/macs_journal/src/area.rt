@@ -1,0 +1,80 @@
+//! Where things stand on a disk.
+
+ghost use Rattle.std.specs.Prelude.{◌≡◌, ◌<◌, ◌≤◌, ◌+◌, ℕ};
+ghost use Rattle.macs_journal.specs.Areas.{IsArea, gate, head_body, other, slot_body};
+
+use std::marker::Model;
+
+/// How many sectors a disk needs: those behind them are never touched.
+pub(crate) const LEAST_SECTORS: u64 = 1_028;
+
+/// How many slots an area has.
+pub(crate) const SLOTS: u64 = 256;
+
+/// How many sectors an area has: a body and a gate for its head, and for each of its slots.
+const AREA_SECTORS: u64 = 2 + 2 * SLOTS;
+
+/// One of the two areas of a disk, 0 or 1.
+#[derive(Debug, Clone, Copy, PartialEq, Eq)]
+pub struct Area(u64);
+
+impl Model for Area {
+    ghost Value = { ℕ };
+
+    ghost view = { λ a. a.0 };
+
+    ghost invariant = { λ a. IsArea a.0 };
+
+    ghost inverse = { λ n. record { 0 = n } };
+}
+
+impl Area {
+    /// The area at the start of the disk.
+    pub(crate) fn first() -> Area
+        ensures { result ≡ 0 }
+    {
+        Area(0)
+    }
+
+    /// The area behind the first.
+    pub(crate) fn second() -> Area
+        ensures { result ≡ 1 }
+    {
+        Area(1)
+    }
+
+    /// The sector of the head body.
+    pub(crate) fn head_body(self) -> u64
+        ensures at { result ≡ head_body self }
+        ensures within { result < 1028 }
+    {
+        let Area(number) = self;
+        AREA_SECTORS * number
+    }
+
+    /// The sector of the head gate.
+    pub(crate) fn head_gate(self) -> u64
+        ensures at { result ≡ gate self 0 }
+        ensures within { result < 1028 }
+    {
+        self.head_body() + 1
+    }
+
+    /// The sector of a slot's body.
+    pub(crate) fn slot_body(self, slot: u64) -> u64
+        requires { slot < 256 }
+        ensures at { result ≡ slot_body self slot }
+        ensures within { result < 1028 }
+    {
+        self.head_body() + 2 + 2 * slot
+    }
+
+    /// The sector of a slot's gate.
+    pub(crate) fn slot_gate(self, slot: u64) -> u64
+        requires { slot < 256 }
+        ensures at { result ≡ gate self (slot + 1) }
+        ensures within { result < 1028 }
+    {
+        self.slot_body(slot) + 1
+    }
+}

@@ -1,0 +1,176 @@
+//! A disk made a journal.
+
+ghost use Rattle.std.specs.Prelude.{◌≡◌, ◌<◌, ◌≤◌, ◌+◌, ◌↔◌, ◌⊎◌, ℕ, false, true, IfOk, OnOk, OnErr, IsErrOf};
+ghost use Rattle.macs_config.specs.Identity.{Identity};
+ghost use Rattle.macs_disk.specs.Disk.{IsHonest, IsWork, MayLeave, now};
+ghost use Rattle.macs_disk.specs.Runs.{Leaves, LeavesNothingNew};
+ghost use Rattle.macs_disk.specs.States.{Image, synced};
+ghost use Rattle.macs_record.specs.Decoding.{IsSectorOf};
+ghost use Rattle.macs_record.specs.Heads.{IsHeadOf};
+ghost use Rattle.macs_record.specs.Settings.{default_settings};
+ghost use Rattle.macs_journal.specs.Appending.{IsReady};
+ghost use Rattle.macs_journal.specs.Found.{Finds, IsGateOpen, IsNotFormatted};
+ghost use Rattle.macs_journal.specs.Formatting.{FormatLeaves, IsBlank, IsFormatting, IsNewOrNone, first_content, first_head};
+ghost use Rattle.macs_journal.specs.Work.{IsWorkOf};
+ghost use Rattle.macs_journal.specs.declared.fault.JournalFault.TheVariants.{AlreadyFormatted, Disk, TooSmall};
+
+use crate::area::{Area, LEAST_SECTORS, SLOTS};
+use crate::fault::JournalFault;
+use crate::slots::gate_is_open;
+use macs_config::Identity;
+use macs_disk::{DeviceFault, SectorDisk};
+use macs_record::laws::{head_in_range, record_in_range};
+use macs_record::{CLOSED_GATE, Head, Record, SECTOR, encode, encode_head, is_open, open_gate};
+
+/// Makes a journal of a disk that has none: its one record is the settings that an endpoint begins
+/// with. Sectors from 1,028 on are not touched. Refused as `TooSmall`, then as `Disk` at the first call
+/// that fails, and as `AlreadyFormatted` where a head gate reads open after a first sync.
+pub fn format<D: SectorDisk>(disk: &mut D, identity: &Identity) -> Result<(), JournalFault>
+    ensures names { OnErr result (IsErrOf result TooSmall ⊎ (IsErrOf result Disk ⊎ IsErrOf result AlreadyFormatted)) }
+    ensures small { IsErrOf result TooSmall ↔ ((D.disk disk.old).sectors < 1028) }
+    ensures untouched { IsErrOf result TooSmall → disk.new ≡ disk.old }
+    ensures work { IsWorkOf (D.disk disk.old) (D.disk disk.new) result }
+    ensures taken { IsErrOf result AlreadyFormatted → IsHonest (D.disk disk.new)
+        → (IsGateOpen (now (D.disk disk.old)).seen 0 0 ⊎ IsGateOpen (now (D.disk disk.old)).seen 1 0)
+        × LeavesNothingNew (D.disk disk.old) (D.disk disk.new)
+        × (now (D.disk disk.new) ≡ synced (now (D.disk disk.old))) }
+    ensures blank { OnOk result (IsHonest (D.disk disk.new) → IsNotFormatted (now (D.disk disk.old)).seen) }
+    ensures any_moment { IsHonest (D.disk disk.new)
+        → Leaves (D.disk disk.old) (D.disk disk.new) (FormatLeaves (now (D.disk disk.old)) identity.now) }
+    ensures done { OnOk result (IsHonest (D.disk disk.new) → IsReady (now (D.disk disk.new)) (first_content identity.now)) }
+    ensures kept { OnOk result (IsHonest (D.disk disk.new) → (image : Image) → MayLeave (D.disk disk.new) image
+        → Finds image (first_content identity.now)) }
+    ensures others { IsHonest (D.disk disk.new) → (i : ℕ) → 514 ≤ i → (now (D.disk disk.new)).seen i ≡ (now (D.disk disk.old)).seen i }
+{
+    if disk.sectors() < LEAST_SECTORS {
+        return Err(JournalFault::TooSmall);
+    }
+    match has_open_head(disk) {
+        Ok(true) => Err(JournalFault::AlreadyFormatted),
+        Ok(false) => match fill(disk, identity) {
+            Ok(()) => Ok(()),
+            Err(_) => Err(JournalFault::Disk),
+        },
+        Err(_) => Err(JournalFault::Disk),
+    }
+}
+
+/// Whether a head gate is open, once a sync made sure of what reads give.
+fn has_open_head<D: SectorDisk>(disk: &mut D) -> Result<bool, DeviceFault>
+    requires size { 1028 ≤ (D.disk disk.old).sectors }
+    ensures work { IsWork (D.disk disk.old) (D.disk disk.new) result }
+    ensures nothing { IsHonest (D.disk disk.new) → LeavesNothingNew (D.disk disk.old) (D.disk disk.new) }
+    ensures settled { OnOk result (IsHonest (D.disk disk.new) → now (D.disk disk.new) ≡ synced (now (D.disk disk.old))) }
+    ensures same { IsHonest (D.disk disk.new) → (i : ℕ) → (now (D.disk disk.new)).seen i ≡ (now (D.disk disk.old)).seen i }
+    ensures clear { IfOk result (λ is. is ≡ false → IsHonest (D.disk disk.new) → IsNotFormatted (now (D.disk disk.old)).seen) }
+    ensures taken { IfOk result (λ is. is ≡ true → IsHonest (D.disk disk.new)
+        → IsGateOpen (now (D.disk disk.old)).seen 0 0 ⊎ IsGateOpen (now (D.disk disk.old)).seen 1 0) }
+{
+    disk.sync()?;
+    let mut first = [0; SECTOR];
+    disk.read(Area::first().head_gate(), &mut first)?;
+    let mut second = [0; SECTOR];
+    disk.read(Area::second().head_gate(), &mut second)?;
+    Ok(is_open(&first) || is_open(&second))
+}
+
+/// Fills a disk whose head gates are closed.
+fn fill<D: SectorDisk>(disk: &mut D, identity: &Identity) -> Result<(), DeviceFault>
+    requires size { 1028 ≤ (D.disk disk.old).sectors }
+    ensures work { IsWork (D.disk disk.old) (D.disk disk.new) result }
+    ensures images { IsHonest (D.disk disk.new) → IsBlank (now (D.disk disk.old))
+        → Leaves (D.disk disk.old) (D.disk disk.new) (IsNewOrNone identity.now) }
+    ensures done { OnOk result (IsHonest (D.disk disk.new) → IsBlank (now (D.disk disk.old))
+        → IsReady (now (D.disk disk.new)) (first_content identity.now)) }
+    ensures others { IsHonest (D.disk disk.new) → (i : ℕ) → 514 ≤ i → (now (D.disk disk.new)).seen i ≡ (now (D.disk disk.old)).seen i }
+{
+    write_bodies(disk, identity)?;
+    close_slots(disk)?;
+    open_head(disk, identity)?;
+    Ok(())
+}
+
+/// Writes the bodies of the head and of the first slot.
+fn write_bodies<D: SectorDisk>(disk: &mut D, identity: &Identity) -> Result<(), DeviceFault>
+    requires size { 1028 ≤ (D.disk disk.old).sectors }
+    ensures work { IsWork (D.disk disk.old) (D.disk disk.new) result }
+    ensures images { IsHonest (D.disk disk.new) → IsBlank (now (D.disk disk.old))
+        → Leaves (D.disk disk.old) (D.disk disk.new) IsNotFormatted }
+    ensures done { OnOk result (IsHonest (D.disk disk.new) → IsBlank (now (D.disk disk.old))
+        → IsFormatting (now (D.disk disk.new)) identity.now 0) }
+    ensures others { IsHonest (D.disk disk.new) → (i : ℕ) → 514 ≤ i → (now (D.disk disk.new)).seen i ≡ (now (D.disk disk.old)).seen i }
+{
+    let area = Area::first();
+    disk.write(area.head_body(), &first_head(identity))?;
+    disk.write(area.slot_body(0), &first_record())?;
+    Ok(())
+}
+
+/// Closes the gates of the first area's slots where they read open.
+fn close_slots<D: SectorDisk>(disk: &mut D) -> Result<(), DeviceFault>
+    requires size { 1028 ≤ (D.disk disk.old).sectors }
+    ensures work { IsWork (D.disk disk.old) (D.disk disk.new) result }
+    ensures images { IsHonest (D.disk disk.new) → IsBlank (now (D.disk disk.old))
+        → Leaves (D.disk disk.old) (D.disk disk.new) IsNotFormatted }
+    ensures done { OnOk result (IsHonest (D.disk disk.new) → (identity : Identity)
+        → IsFormatting (now (D.disk disk.old)) identity 0 → IsFormatting (now (D.disk disk.new)) identity 256) }
+    ensures others { IsHonest (D.disk disk.new) → (i : ℕ) → 514 ≤ i → (now (D.disk disk.new)).seen i ≡ (now (D.disk disk.old)).seen i }
+{
+    for slot in 0..SLOTS {
+        close_slot(disk, slot)?;
+    }
+    Ok(())
+}
+
+/// Closes the gate of a slot of the first area where it reads open.
+fn close_slot<D: SectorDisk>(disk: &mut D, slot: u64) -> Result<(), DeviceFault>
+    requires room { slot < 256 }
+    requires size { 1028 ≤ (D.disk disk.old).sectors }
+    ensures work { IsWork (D.disk disk.old) (D.disk disk.new) result }
+    ensures images { IsHonest (D.disk disk.new) → IsBlank (now (D.disk disk.old))
+        → Leaves (D.disk disk.old) (D.disk disk.new) IsNotFormatted }
+    ensures blank { IsHonest (D.disk disk.new) → IsBlank (now (D.disk disk.old)) → IsBlank (now (D.disk disk.new)) }
+    ensures done { OnOk result (IsHonest (D.disk disk.new) → (identity : Identity)
+        → IsFormatting (now (D.disk disk.old)) identity slot → IsFormatting (now (D.disk disk.new)) identity (slot + 1)) }
+    ensures others { IsHonest (D.disk disk.new) → (i : ℕ) → 514 ≤ i → (now (D.disk disk.new)).seen i ≡ (now (D.disk disk.old)).seen i }
+{
+    let area = Area::first();
+    if gate_is_open(disk, area, slot)? {
+        disk.write(area.slot_gate(slot), &CLOSED_GATE)?;
+    }
+    Ok(())
+}
+
+/// Makes sure of the bodies and the closed gates, and then opens the head gate.
+fn open_head<D: SectorDisk>(disk: &mut D, identity: &Identity) -> Result<(), DeviceFault>
+    requires size { 1028 ≤ (D.disk disk.old).sectors }
+    ensures work { IsWork (D.disk disk.old) (D.disk disk.new) result }
+    ensures images { IsHonest (D.disk disk.new) → IsFormatting (now (D.disk disk.old)) identity.now 256
+        → Leaves (D.disk disk.old) (D.disk disk.new) (IsNewOrNone identity.now) }
+    ensures done { OnOk result (IsHonest (D.disk disk.new) → IsFormatting (now (D.disk disk.old)) identity.now 256
+        → IsReady (now (D.disk disk.new)) (first_content identity.now)) }
+    ensures others { IsHonest (D.disk disk.new) → (i : ℕ) → 514 ≤ i → (now (D.disk disk.new)).seen i ≡ (now (D.disk disk.old)).seen i }
+{
+    disk.sync()?;
+    disk.write(Area::first().head_gate(), &open_gate())?;
+    disk.sync()?;
+    Ok(())
+}
+
+/// The head that a journal begins with.
+fn first_head(identity: &Identity) -> [u8; SECTOR]
+    ensures { IsHeadOf (first_head identity.now) result }
+{
+    let head = Head::new(1, 1, *identity).unwrap();
+    head_in_range(&head);
+    encode_head(&head)
+}
+
+/// The record that a journal begins with: the settings of a new configuration.
+fn first_record() -> [u8; SECTOR]
+    ensures { IsSectorOf default_settings result }
+{
+    let settings = Record::default();
+    record_in_range(&settings);
+    encode(&settings)
+}
