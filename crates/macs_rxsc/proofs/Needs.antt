@@ -1,13 +1,16 @@
 -- The first need of the channels that stand.
-use Rattle.std.proofs.Common.{◌≡◌, ◌∙◌, ◌≤◌, ◌<◌, ◌+◌, ◌++◌, ℕ, zero, suc, Bool, true, false, List, [], ◌∷◌, length, map, flat_map, drop, get_or, bytes_eq, Option, Some, None, IsSome, refl, ap, sym, subst, arith}
+use Rattle.std.proofs.Common.{◌≡◌, ◌∙◌, ◌≤◌, ◌<◌, ◌+◌, ◌++◌, ℕ, zero, suc, Bool, true, false, List, [], ◌∷◌, length, map, flat_map, drop, get_or, bytes_eq, Option, Some, None, IsSome, Ordering, Less, Equal, Greater, nat_cmp, is_lt, is_eq, refl, ap, sym, subst, arith}
 use Rattle.std.specs.List.{list_any}
-use Rattle.std.proofs.lemmas.Bool.{or_parts}
+use Rattle.std.proofs.lemmas.Bool.{and_from, and_parts, or_from, or_parts}
 use Rattle.std.proofs.lemmas.List.{drop_more}
+use Rattle.std.proofs.lemmas.Map.Text.{is_eq-slice_cmp}
+use Rattle.std.specs.Cmp.Lexicographic.{slice_cmp}
+use Rattle.macs_config.proofs.Channels.{before-trans}
+use Rattle.macs_config.specs.Config.{comes_before, is_ascending}
 use Rattle.macs_config.specs.declared.command.Replay.{Replay}
 use Rattle.macs_config.specs.declared.command.Validate.{Validate}
 use Rattle.macs_rxsc.proofs.Places.{bytes_eq-same, bytes_eq-sym, channel_at-none}
-use Rattle.macs_rxsc.specs.Kept.{AreDistinct}
-use Rattle.macs_rxsc.specs.Receive.{Need, first_need, need_of, needs_of}
+use Rattle.macs_rxsc.specs.Needs.{Need, first_need, need_of, needs_of}
 use Rattle.macs_rxsc.specs.View.{ceilings_among, ceilings_in, channel_at, numbers_in, sas_in, scis_of, shown}
 use Rattle.macs_rxsc.specs.declared.channel.Channel.{Channel}
 
@@ -55,7 +58,35 @@ pub past_all : (block : ℕ) (channels : List Channel) (i : ℕ) → length chan
     → first_need (needs_among block channels) ≡ first_need (needs_among block (drop i channels)) → first_need (needs_among block channels) ≡ None
 past_all block channels i past so_far = so_far ∙ ap (λ (xs : List Channel). first_need (needs_among block xs)) (gone_past channels i past)
 
--- ---- the channel of an SCI is the one that has it, where no SCI stands twice
+-- ---- the channel of an SCI is the one that has it, where SCIs ascend
+
+differs_by : (order : Ordering) → is_lt order ≡ true → is_eq order ≡ false
+differs_by Less before = refl
+differs_by Equal before = absurd (cc)
+differs_by Greater before = refl
+
+-- an SCI is another one than those that it comes before
+differs : (a b : List ℕ) → comes_before a b ≡ true → bytes_eq b a ≡ false
+differs a b before = bytes_eq-sym b a ∙ sym (is_eq-slice_cmp a b) ∙ differs_by (slice_cmp nat_cmp a b) before
+
+-- those that ascend do so without the second of them
+without_second : (first second : List ℕ) (others : List (List ℕ)) → comes_before first second ≡ true → is_ascending (second ∷ others) ≡ true
+    → is_ascending (first ∷ others) ≡ true
+without_second first second [] before ascending = refl
+without_second first second (third ∷ others) before ascending =
+    let parts = and_parts (comes_before second third) (is_ascending (third ∷ others)) ascending in
+    and_from (comes_before first third) (is_ascending (third ∷ others)) (before-trans first second third before parts.0) parts.1
+
+without_first : (first : List ℕ) (others : List (List ℕ)) → is_ascending (first ∷ others) ≡ true → is_ascending others ≡ true
+without_first first [] ascending = refl
+without_first first (second ∷ others) ascending = (and_parts (comes_before first second) (is_ascending (second ∷ others)) ascending).1
+
+not_again : (first : List ℕ) (others : List (List ℕ)) → is_ascending (first ∷ others) ≡ true → list_any (λ other. bytes_eq other first) others ≡ false
+not_again first [] ascending = refl
+not_again first (second ∷ others) ascending =
+    let parts = and_parts (comes_before first second) (is_ascending (second ∷ others)) ascending in
+    or_from (bytes_eq second first) (list_any (λ other. bytes_eq other first) others) (differs first second parts.0)
+    (not_again first others (without_second first second others parts.0 parts.1))
 
 not_at : (channels : List Channel) (sci : List ℕ) (k : ℕ) (d : Channel) → list_any (λ other. bytes_eq other sci) (scis_of channels) ≡ false → k < length channels
     → bytes_eq (get_or channels k d).sci sci ≡ false
@@ -63,13 +94,13 @@ not_at [] sci k d none within = absurd (omega arith)
 not_at (c ∷ cs) sci zero d none within = (or_parts (bytes_eq c.sci sci) (list_any (λ other. bytes_eq other sci) (scis_of cs)) none).0
 not_at (c ∷ cs) sci (suc k) d none within = not_at cs sci k d (or_parts (bytes_eq c.sci sci) (list_any (λ other. bytes_eq other sci) (scis_of cs)) none).1 (omega arith)
 
-own : (channels : List Channel) → AreDistinct (scis_of channels) → (k : ℕ) (d : Channel) → k < length channels → channel_at channels (get_or channels k d).sci ≡ Some (get_or channels k d)
-own [] distinct k d within = absurd (omega arith)
-own (c ∷ cs) distinct zero d within = rw (bytes_eq-same c.sci) refl
-own (c ∷ cs) distinct (suc k) d within =
+own : (channels : List Channel) → is_ascending (scis_of channels) ≡ true → (k : ℕ) (d : Channel) → k < length channels → channel_at channels (get_or channels k d).sci ≡ Some (get_or channels k d)
+own [] ascending k d within = absurd (omega arith)
+own (c ∷ cs) ascending zero d within = rw (bytes_eq-same c.sci) refl
+own (c ∷ cs) ascending (suc k) d within =
     let lt : k < length cs = omega arith in
-    let other : bytes_eq c.sci (get_or cs k d).sci ≡ false = bytes_eq-sym c.sci (get_or cs k d).sci ∙ not_at cs c.sci k d distinct.0 lt in
-    rw other (own cs distinct.1 k d lt)
+    let other : bytes_eq c.sci (get_or cs k d).sci ≡ false = bytes_eq-sym c.sci (get_or cs k d).sci ∙ not_at cs c.sci k d (not_again c.sci (scis_of cs) ascending) lt in
+    rw other (own cs (without_first c.sci (scis_of cs) ascending) k d lt)
 
 same_needs : (block : ℕ) (all xs : List Channel) → ((k : ℕ) (d : Channel) → k < length xs → channel_at all (get_or xs k d).sci ≡ Some (get_or xs k d))
     → flat_map (λ sci. needs_in block sci (channel_at all sci)) (scis_of xs) ≡ needs_among block xs
@@ -80,9 +111,9 @@ same_needs block all (x ∷ xs) each =
     λ i. needs_in block x.sci (here i) ++ rest i
 
 -- the first need of all
-pub needs_are : (block : ℕ) (channels : List Channel) → AreDistinct (scis_of channels) → (validate : Validate) (replay : Replay)
+pub needs_are : (block : ℕ) (channels : List Channel) → is_ascending (scis_of channels) ≡ true → (validate : Validate) (replay : Replay)
     → first_need (needs_among block channels) ≡ needs_of (shown validate replay channels) (ceilings_among channels) block
-needs_are block channels distinct validate replay = ap first_need (sym (same_needs block channels channels (own channels distinct)))
+needs_are block channels ascending validate replay = ap first_need (sym (same_needs block channels channels (own channels ascending)))
 
 -- ---- an association stands in a channel that stands
 

@@ -1,18 +1,13 @@
--- The numbers of each association stay in their order, and no channel comes to stand twice.
-use Rattle.std.proofs.Common.{◌≡◌, ◌∙◌, ◌<◌, ◌≤◌, ◌^◌, ◌==◌, ℕ, Bool, true, false, cond, List, [], ◌∷◌, filter, bytes_eq, Option, Some, None, IsSome, IfSome, inl, inr, refl, ap, sym, subst, arith}
+-- The numbers of each association stay in their order.
+use Rattle.std.proofs.Common.{◌≡◌, ◌∙◌, ◌<◌, ◌≤◌, ◌^◌, ◌==◌, ℕ, Bool, true, false, cond, List, [], ◌∷◌, bytes_eq, Option, Some, None, IsSome, IfSome, inl, inr, refl, ap, sym, subst, arith}
 use Rattle.std.specs.Prelude.{nat_lt}
-use Rattle.std.specs.List.{list_any}
 use Rattle.std.specs.Option.{option_map}
-use Rattle.std.proofs.lemmas.Bool.{or_parts}
 use Rattle.std.proofs.lemmas.Slice.Eq.{bytes_eq-Decides}
 use borrow.Author.Tests.{eqb-true, ltb-true}
-use Rattle.macs_config.specs.Config.{comes_before, put_among}
 use Rattle.macs_config.specs.Tables.{put, put_at}
 use Rattle.macs_config.specs.declared.association.RxSa.{RxSa}
 use Rattle.macs_config.specs.declared.command.Validate.{Validate}
-use Rattle.macs_rxsc.specs.Kept.{AreDistinct}
 use Rattle.macs_rxsc.specs.Receive.{AreOrdered, Arrival, Numbers, Outcome, Receives, RxSide, Stands, advanced, arrived, held_back, put_numbers, started, windowed}
-use Rattle.macs_rxsc.proofs.Places.{bytes_eq-sym}
 
 -- ---- numbers
 
@@ -170,47 +165,3 @@ ordered-received side ceilings frame o old (inr arrives) =
     subst (λ n. Stands side.replay.window (side.rx a.sci a.an) n (ceilings a.sci a.an)) arrives.1.are_numbers (old a.sci a.an) in
     subst (λ (numbers : List ℕ → ℕ → Option Numbers). AllOrdered (record side { numbers = numbers }) ceilings) (sym (ap (λ (x : Outcome). x.numbers) arrives.2))
     (arrived_ordered side ceilings old a here (ceilings a.sci a.an) refl)
-
--- ---- channels
-
-any-put_by : (b : Bool) (o : List ℕ) (os : List (List ℕ)) (sci s : List ℕ) → bytes_eq sci s ≡ false → bytes_eq o s ≡ false → list_any (λ x. bytes_eq x s) os ≡ false
-    → list_any (λ x. bytes_eq x s) (put_among sci os) ≡ false → list_any (λ x. bytes_eq x s) (cond b (sci ∷ o ∷ os) (o ∷ put_among sci os)) ≡ false
-any-put_by true o os sci s other first rest later = rw (other, first) rest
-any-put_by false o os sci s other first rest later = rw first later
-
-any-put : (scis : List (List ℕ)) (sci s : List ℕ) → bytes_eq sci s ≡ false → list_any (λ x. bytes_eq x s) scis ≡ false → list_any (λ x. bytes_eq x s) (put_among sci scis) ≡ false
-any-put [] sci s other none = rw other refl
-any-put (o ∷ os) sci s other none =
-    let parts = or_parts (bytes_eq o s) (list_any (λ x. bytes_eq x s) os) none in
-    any-put_by (comes_before sci o) o os sci s other parts.0 parts.1 (any-put os sci s other parts.1)
-
-distinct-put_by : (b : Bool) (o : List ℕ) (os : List (List ℕ)) (sci : List ℕ) → AreDistinct (o ∷ os) → list_any (λ x. bytes_eq x sci) (o ∷ os) ≡ false
-    → list_any (λ x. bytes_eq x o) (put_among sci os) ≡ false → AreDistinct (put_among sci os) → AreDistinct (cond b (sci ∷ o ∷ os) (o ∷ put_among sci os))
-distinct-put_by true o os sci distinct none other later = (none, distinct)
-distinct-put_by false o os sci distinct none other later = (other, later)
-
--- a new SCI is put among others
-pub distinct-put : (scis : List (List ℕ)) (sci : List ℕ) → AreDistinct scis → list_any (λ x. bytes_eq x sci) scis ≡ false → AreDistinct (put_among sci scis)
-distinct-put [] sci distinct none = (refl, tt)
-distinct-put (o ∷ os) sci distinct none =
-    let parts = or_parts (bytes_eq o sci) (list_any (λ x. bytes_eq x sci) os) none in
-    distinct-put_by (comes_before sci o) o os sci distinct none (any-put os sci o (bytes_eq-sym sci o ∙ parts.0) distinct.0) (distinct-put os sci distinct.1 parts.1)
-
-any-filter_by : (b : Bool) (o s : List ℕ) (rest : List (List ℕ)) → bytes_eq o s ≡ false → list_any (λ x. bytes_eq x s) rest ≡ false → list_any (λ x. bytes_eq x s) (cond b (o ∷ rest) rest) ≡ false
-any-filter_by true o s rest first later = rw first later
-any-filter_by false o s rest first later = later
-
-any-filter : (test : List ℕ → Bool) (scis : List (List ℕ)) (s : List ℕ) → list_any (λ x. bytes_eq x s) scis ≡ false → list_any (λ x. bytes_eq x s) (filter test scis) ≡ false
-any-filter test [] s none = refl
-any-filter test (o ∷ os) s none =
-    let parts = or_parts (bytes_eq o s) (list_any (λ x. bytes_eq x s) os) none in
-    any-filter_by (test o) o s (filter test os) parts.0 (any-filter test os s parts.1)
-
-distinct-filter_by : (b : Bool) (o : List ℕ) (rest : List (List ℕ)) → list_any (λ x. bytes_eq x o) rest ≡ false → AreDistinct rest → AreDistinct (cond b (o ∷ rest) rest)
-distinct-filter_by true o rest none later = (none, later)
-distinct-filter_by false o rest none later = later
-
--- an SCI goes
-pub distinct-filter : (test : List ℕ → Bool) (scis : List (List ℕ)) → AreDistinct scis → AreDistinct (filter test scis)
-distinct-filter test [] distinct = tt
-distinct-filter test (o ∷ os) distinct = distinct-filter_by (test o) o (filter test os) (any-filter test os o distinct.0) (distinct-filter test os distinct.1)

@@ -1,5 +1,5 @@
 -- What the channels show, after one of them has changed, came or went.
-use Rattle.std.proofs.Common.{◌≡◌, ◌∙◌, ◌<◌, ℕ, zero, suc, false, not, List, [], ◌∷◌, ◌++◌, length, map, take, drop, set, get_or, filter, Option, Some, None, refl, ap, sym, subst, arith, rules}
+use Rattle.std.proofs.Common.{◌≡◌, ◌∙◌, ◌<◌, ℕ, zero, suc, true, false, not, List, [], ◌∷◌, ◌++◌, length, map, take, drop, set, get_or, filter, Option, Some, None, refl, ap, sym, subst, arith, rules}
 use Rattle.std.specs.Prelude.{position, slice_set}
 use Rattle.std.specs.List.{insert, list_any, refill}
 use Rattle.std.specs.Option.{option_and_then, option_map}
@@ -7,7 +7,7 @@ use Rattle.std.specs.Str.{bytes_eq}
 use Rattle.std.proofs.lemmas.List.{length-set}
 use Rattle.std.proofs.Math.Path.{fun_ext}
 use Rattle.arrayvec.proofs.ArrayVecLemmas.{items-with_items}
-use Rattle.macs_config.specs.Config.{put_among}
+use Rattle.macs_config.specs.Config.{is_ascending, put_among}
 use Rattle.macs_config.specs.Tables.{put, put_at}
 use Rattle.macs_config.specs.declared.association.RxSa.{RxSa}
 use Rattle.macs_config.specs.declared.command.Replay.{Replay}
@@ -17,8 +17,9 @@ use Rattle.macs_frame.specs.Tag.{name_of, tag_of}
 use Rattle.macs_frame.specs.declared.tag.SecTag.{SecTag}
 use Rattle.macs_frame.specs.declared.tag.TagFault.{TagFault}
 use Rattle.macs_frame.specs.declared.tag.TagFault.TheVariants.{Runt as IsRunt, Oversize as IsOversize, NoTag as HasNoTag, BadTag as HasBadTag, ForKay as IsForKay}
-use Rattle.macs_rxsc.specs.Kept.{AreDistinct, IsKept}
-use Rattle.macs_rxsc.specs.Receive.{Numbers, Receives, RxSide, Tag as TagStep, channel_counted, counted_at, none_counted_for_channel, put_numbers, sci_named, standing, verdict_at, windowed}
+use Rattle.macs_rxsc.specs.Kept.{IsKept}
+use Rattle.macs_rxsc.specs.Receive.{Numbers, Receives, RxSide, Tag as TagStep, put_numbers, sci_named, standing, verdict_at, windowed}
+use Rattle.macs_rxsc.specs.Counting.{channel_counted, counted_at, none_counted_for_channel}
 use Rattle.macs_rxsc.specs.View.{ceilings_among, ceilings_in, channel_at, counters_among, counters_in, numbers_in, numbers_of, sa_of, sas_in, scis_of, shown, slid, slid_channel, association_in}
 use Rattle.macs_rxsc.specs.declared.association.Association.{Association}
 use Rattle.macs_rxsc.specs.declared.channel.Channel.{Channel}
@@ -283,10 +284,10 @@ module _ (items : List Channel) (window : ℕ) where
 
 -- channels that show this are in order where it is
 pub kept_as : (validate : Validate) (replay : Replay) (items : List Channel) (counters : RxCounters) (side : RxSide) (ceilings : List ℕ → ℕ → Option ℕ)
-    → shown validate replay items ≡ side → ceilings_among items ≡ ceilings → AreDistinct side.channels → AllOrdered side ceilings
+    → shown validate replay items ≡ side → ceilings_among items ≡ ceilings → is_ascending side.channels ≡ true → AllOrdered side ceilings
     → IsKept (record { validate = validate; replay = replay; channels = items; counters = counters })
-kept_as validate replay items counters side ceilings is_side are_ceilings distinct ordered = record {
-  distinct = subst (λ (s : RxSide). AreDistinct s.channels) (sym is_side) distinct;
+kept_as validate replay items counters side ceilings is_side are_ceilings ascending ordered = record {
+  ascending = ap (λ (s : RxSide). is_ascending s.channels) is_side ∙ ascending;
   ordered =
       subst (λ (s : RxSide). AllOrdered s (ceilings_among items)) (sym is_side)
       (subst (λ (c : List ℕ → ℕ → Option ℕ). AllOrdered side c) (sym are_ceilings) ordered);

@@ -1,30 +1,38 @@
 -- What a caller knows from what the readers tell: which channels stand, and what a need says of a ceiling.
-use Rattle.std.proofs.Common.{◌≡◌, ◌≤◌, ◌<◌, ℕ, Bool, true, false, cond, List, [], ◌∷◌, length, filter, map, flat_map, bytes_eq, Option, Some, None, IsSome, IfSome, refl, subst, arith}
+use Rattle.std.proofs.Common.{◌≡◌, ◌≤◌, ◌<◌, ℕ, Bool, true, false, cond, List, [], ◌∷◌, map, flat_map, bytes_eq, Option, Some, None, IsSome, IfSome, refl, sym, subst, arith}
 use Rattle.std.specs.Prelude.{◌||◌, IsSomeAnd, nat_le, nat_lt, ◌-◌, ◌/◌}
 use Rattle.std.specs.List.{list_any}
 use Rattle.std.specs.Option.{is_some, option_map}
 use Rattle.std.proofs.lemmas.Bool.{and_parts}
 use Rattle.std.proofs.lemmas.Bool.Decides.{nat_tests}
 use Rattle.macs_config.specs.declared.association.RxSa.{RxSa}
-use Rattle.macs_rxsc.specs.Receive.{Need, Numbers, RxSide, Stands, first_need, is_needed, need_of, needed, needs_of, raised}
+use Rattle.macs_rxsc.specs.Receive.{Numbers, RxSide, Stands}
+use Rattle.macs_rxsc.specs.Needs.{Need, first_need, is_needed, need_of, needed, needs_of, raised}
 use Rattle.macs_rxsc.specs.View.{channel_at, counters_among, counters_in, scis_of}
 use Rattle.macs_rxsc.specs.declared.channel.Channel.{Channel}
 use Rattle.macs_rxsc.specs.declared.counters.ChannelCounters.{ChannelCounters}
+use Rattle.macs_rxsc.specs.declared.need.RxNeed.{RxNeed}
+use Rattle.macs_rxsc.proofs.Order.{AllOrdered}
 
 -- ---- channels, by their counters
 
 abbrev pub is_among : List Channel → List ℕ → Bool
 is_among channels sci = list_any (λ other. bytes_eq other sci) (scis_of channels)
 
-told_step : {X : Type 0} (count : ChannelCounters → X) (c : Channel) (cs : List Channel) (sci : List ℕ) (b : Bool)
-    → is_some (option_map count (counters_among cs sci)) ≡ is_among cs sci → is_some (option_map count (counters_in (cond b (Some c) (channel_at cs sci)))) ≡ (b || is_among cs sci)
-told_step count c cs sci true rest = refl
-told_step count c cs sci false rest = rest
+counted_step : (c : Channel) (cs : List Channel) (sci : List ℕ) (b : Bool) → is_some (counters_among cs sci) ≡ is_among cs sci
+    → is_some (counters_in (cond b (Some c) (channel_at cs sci))) ≡ (b || is_among cs sci)
+counted_step c cs sci true rest = refl
+counted_step c cs sci false rest = rest
 
--- a count is told of the channels that stand
-pub told : {X : Type 0} (count : ChannelCounters → X) (channels : List Channel) (sci : List ℕ) → is_some (option_map count (counters_among channels sci)) ≡ is_among channels sci
-told count [] sci = refl
-told count (c ∷ cs) sci = told_step count c cs sci (bytes_eq c.sci sci) (told count cs sci)
+-- the channels that stand have counters, and no others
+pub counted : (channels : List Channel) (sci : List ℕ) → is_some (counters_among channels sci) ≡ is_among channels sci
+counted [] sci = refl
+counted (c ∷ cs) sci = counted_step c cs sci (bytes_eq c.sci sci) (counted cs sci)
+
+-- a count is told exactly where there are counters
+pub told : {X : Type 0} (count : ChannelCounters → X) (counters : Option ChannelCounters) → is_some (option_map count counters) ≡ is_some counters
+told count None = refl
+told count (Some c) = refl
 
 -- ---- needs
 
@@ -71,24 +79,34 @@ pub asked : (side : RxSide) (ceilings : List ℕ → ℕ → Option ℕ) (block 
 asked side ceilings block need is = asked_among side.numbers ceilings block side.channels need is
 
 -- an association that has a ceiling stands
-pub bounded : (window : ℕ) (sa : Option RxSa) (numbers : Option Numbers) (ceiling : Option ℕ) (P : ℕ → Type 0) → Stands window sa numbers ceiling → IsSomeAnd ceiling P → IsSome sa
+bounded : (window : ℕ) (sa : Option RxSa) (numbers : Option Numbers) (ceiling : Option ℕ) (P : ℕ → Type 0) → Stands window sa numbers ceiling → IsSomeAnd ceiling P → IsSome sa
 bounded window (Some sa) numbers ceiling P stands some = refl
 bounded window None None None P stands some = absurd some
 bounded window None None (Some ceiling) P stands some = absurd stands
 bounded window None (Some numbers) None P stands some = absurd stands
 bounded window None (Some numbers) (Some ceiling) P stands some = absurd stands
 
--- and its ceiling may rise as far
-pub risen : (ceiling : Option ℕ) (below above : ℕ) → IsSomeAnd ceiling (λ old. old < below) → below ≤ above → IfSome ceiling (λ old. old ≤ above)
-risen None below above some order = absurd some
+if_some : (ceiling : Option ℕ) (P : ℕ → Type 0) → IsSomeAnd ceiling P → IfSome ceiling P
+if_some None P some = tt
+if_some (Some ceiling) P some = some
+
+abbrev pub need_shown : RxNeed → Need
+need_shown need = record { sci = need.sci; an = need.an; pn = need.pn }
+
+module _ (side : RxSide) (ceilings : List ℕ → ℕ → Option ℕ) (block : ℕ) where
+  -- what a need names stands
+  pub need_stands : AllOrdered side ceilings → (result : Option RxNeed) → option_map need_shown result ≡ needs_of side ceilings block
+      → IfSome result (λ need. IsSome (side.rx need.sci need.an))
+  need_stands ordered None is = tt
+  need_stands ordered (Some need) is = bounded _ _ _ _ _ (ordered need.sci need.an) (asked side ceilings block (need_shown need) (sym is))
+
+  -- and its ceiling is below the one that is asked for
+  pub need_higher : (result : Option RxNeed) → option_map need_shown result ≡ needs_of side ceilings block
+      → IfSome result (λ need. IfSome (ceilings need.sci need.an) (λ old. old < raised block need.pn))
+  need_higher None is = tt
+  need_higher (Some need) is = if_some (ceilings need.sci need.an) (λ old. old < raised block need.pn) (asked side ceilings block (need_shown need) (sym is))
+
+-- a ceiling that is below one is at most that
+pub risen : (ceiling : Option ℕ) (below above : ℕ) → IfSome ceiling (λ old. old < below) → below ≤ above → IfSome ceiling (λ old. old ≤ above)
+risen None below above some order = tt
 risen (Some ceiling) below above some order = omega arith
-
--- ---- the channels that are left
-
-left_step : (b : Bool) (sci : List ℕ) (kept scis : List (List ℕ)) → length kept ≤ length scis → length (cond b (sci ∷ kept) kept) ≤ length (sci ∷ scis)
-left_step true sci kept scis fewer = omega arith
-left_step false sci kept scis fewer = omega arith
-
-pub length-left : (test : List ℕ → Bool) (scis : List (List ℕ)) → length (filter test scis) ≤ length scis
-length-left test [] = omega arith
-length-left test (sci ∷ scis) = left_step (test sci) sci (filter test scis) scis (length-left test scis)

@@ -1,8 +1,8 @@
 -- Reception (IEEE Std 802.1AE-2018, 10.6 and 10.7): the verdict on a frame from the common side, and what a frame that
 -- verifies does to the packet numbers of its association.
-use Rattle.std.specs.Prelude.{◌≡◌, ◌≤◌, ◌<◌, ◌⊎◌, ◌^◌, ℕ, ◌+◌, ◌-◌, ◌/◌, max, min, nat_le, nat_lt, Bool, true, false, ◌&&◌, ◌||◌, if◌then◌else◌, List, [], ◌∷◌, ◌++◌, map, flat_map, Option, Some, None, IsSome, IsSomeAnd}
+use Rattle.std.specs.Prelude.{◌≡◌, ◌≤◌, ◌<◌, ◌⊎◌, ◌^◌, ℕ, ◌+◌, ◌-◌, max, nat_lt, Bool, true, false, ◌||◌, if◌then◌else◌, List, [], ◌∷◌, ◌++◌, map, Option, Some, None, IsSome, IsSomeAnd}
 use Rattle.std.specs.List.{list_any}
-use Rattle.std.specs.Option.{option_and_then, option_map}
+use Rattle.std.specs.Option.{option_and_then}
 use Rattle.std.specs.Str.{bytes_eq}
 use Rattle.macs_config.specs.Tables.{put, put_at}
 use Rattle.macs_config.specs.declared.association.RxSa.{RxSa}
@@ -17,8 +17,6 @@ use Rattle.macs_frame.specs.declared.tag.ScName.{ScName}
 use Rattle.macs_frame.specs.declared.tag.ScName.TheVariants.{Explicit, EndStation, Implicit}
 use Rattle.macs_frame.specs.declared.tag.TagFault.{TagFault}
 use Rattle.macs_frame.specs.declared.tag.TagFault.TheVariants.{Runt as IsRunt, Oversize as IsOversize, NoTag as HasNoTag, BadTag as HasBadTag, ForKay as IsForKay}
-use Rattle.macs_rxsc.specs.declared.counters.RxCounters.{RxCounters}
-use Rattle.macs_rxsc.specs.declared.counters.ChannelCounters.{ChannelCounters}
 use Rattle.macs_rxsc.specs.declared.verdict.Kind.{Kind}
 use Rattle.macs_rxsc.specs.declared.verdict.Kind.TheVariants.{Ok, Delayed, Invalid, Untagged, UnknownSci, UnusedSa}
 use Rattle.macs_rxsc.specs.declared.verdict.Reason.{Reason}
@@ -229,44 +227,6 @@ Receives side ceilings frame outcome =
     ((step : Step) × IsFirst (Holds side frame) steps step × (outcome ≡ settled side frame step))
     ⊎ ((a : Arrival) × Arrives side frame a × (outcome ≡ arrived side ceilings a))
 
--- ---- needs
-
--- a need: the association, and the greatest number that was seen
-pub record Need : Type 0 where
-  pub sci : List ℕ
-  pub an : ℕ
-  pub pn : ℕ
-
--- the ceiling that a number asks for
-abbrev pub raised : ℕ → ℕ → ℕ
-raised block seen = min (seen + block) (2 ^ 32)
-
--- A frame was seen, and it is at or above the ceiling, or at most half a block is left below that, and a higher ceiling is
--- to be had.
-abbrev pub is_needed : ℕ → ℕ → ℕ → ℕ → Bool
-is_needed block next ceiling seen =
-    (nat_le ceiling seen || nat_le (ceiling - next) (block / 2)) && nat_lt ceiling (raised block seen)
-
-abbrev pub needed : ℕ → List ℕ → ℕ → Numbers → ℕ → Option ℕ → Option Need
-needed block sci an numbers ceiling None = None
-needed block sci an numbers ceiling (Some seen) =
-    if is_needed block numbers.next ceiling seen then Some (record { sci = sci; an = an; pn = seen }) else None
-
--- the need of one association
-abbrev pub need_of : ℕ → List ℕ → ℕ → Option Numbers → Option ℕ → Option Need
-need_of block sci an (Some numbers) (Some ceiling) = needed block sci an numbers ceiling numbers.seen
-need_of block sci an numbers ceiling = None
-
--- of the needs by SCI and association number, ascending, the first
-abbrev pub first_need : List (Option Need) → Option Need
-first_need [] = None
-first_need (None ∷ needs) = first_need needs
-first_need (Some need ∷ needs) = Some need
-
-abbrev pub needs_of : RxSide → (List ℕ → ℕ → Option ℕ) → ℕ → Option Need
-needs_of side ceilings block = first_need
-    (flat_map (λ sci. map (λ an. need_of block sci an (side.numbers sci an) (ceilings sci an)) (0 ∷ 1 ∷ 2 ∷ 3 ∷ [])) side.channels)
-
 -- ---- ranges
 
 -- next - window <= lowest <= next <= ceiling <= 2^32
@@ -286,98 +246,6 @@ Stands window sa numbers ceiling = ⊥
 abbrev pub AreOrdered : RxSide → (List ℕ → ℕ → Option ℕ) → List ℕ → ℕ → Type 0
 AreOrdered side ceilings sci an =
     Stands side.replay.window (side.rx sci an) (side.numbers sci an) (ceilings sci an)
-
--- ---- counters
-
--- one more, up to 2^64 - 1
-abbrev pub one_more : ℕ → ℕ
-one_more count = min (count + 1) (2 ^ 64 - 1)
-
--- how often a verdict was given; a frame that is held back is not counted
-abbrev pub count_of : Verdict → RxCounters → ℕ
-count_of (Delivered Ok) c = c.ok
-count_of (Delivered Delayed) c = c.delayed
-count_of (Delivered Invalid) c = c.invalid
-count_of (Delivered Untagged) c = c.untagged
-count_of (Delivered UnknownSci) c = c.unknown_sci
-count_of (Delivered UnusedSa) c = c.unused_sa
-count_of (Discarded Runt) c = c.runt
-count_of (Discarded Oversize) c = c.oversize
-count_of (Discarded NoTag) c = c.no_tag
-count_of (Discarded BadTag) c = c.bad_tag
-count_of (Discarded ForKay) c = c.for_kay
-count_of (Discarded NoSci) c = c.no_sci
-count_of (Discarded NotUsingSa) c = c.not_using_sa
-count_of (Discarded Late) c = c.late
-count_of (Discarded NotValid) c = c.not_valid
-count_of HeldBack c = 0
-
-abbrev pub counted : Verdict → RxCounters → RxCounters
-counted (Delivered Ok) c = record c { ok = one_more c.ok }
-counted (Delivered Delayed) c = record c { delayed = one_more c.delayed }
-counted (Delivered Invalid) c = record c { invalid = one_more c.invalid }
-counted (Delivered Untagged) c = record c { untagged = one_more c.untagged }
-counted (Delivered UnknownSci) c = record c { unknown_sci = one_more c.unknown_sci }
-counted (Delivered UnusedSa) c = record c { unused_sa = one_more c.unused_sa }
-counted (Discarded Runt) c = record c { runt = one_more c.runt }
-counted (Discarded Oversize) c = record c { oversize = one_more c.oversize }
-counted (Discarded NoTag) c = record c { no_tag = one_more c.no_tag }
-counted (Discarded BadTag) c = record c { bad_tag = one_more c.bad_tag }
-counted (Discarded ForKay) c = record c { for_kay = one_more c.for_kay }
-counted (Discarded NoSci) c = record c { no_sci = one_more c.no_sci }
-counted (Discarded NotUsingSa) c = record c { not_using_sa = one_more c.not_using_sa }
-counted (Discarded Late) c = record c { late = one_more c.late }
-counted (Discarded NotValid) c = record c { not_valid = one_more c.not_valid }
-counted HeldBack c = c
-
--- of the verdicts that name a channel, those that are counted for it
-abbrev pub channel_count_of : Verdict → ChannelCounters → ℕ
-channel_count_of (Delivered Ok) c = c.ok
-channel_count_of (Delivered Delayed) c = c.delayed
-channel_count_of (Delivered Invalid) c = c.invalid
-channel_count_of (Delivered UnusedSa) c = c.unused_sa
-channel_count_of (Discarded NotUsingSa) c = c.not_using_sa
-channel_count_of (Discarded Late) c = c.late
-channel_count_of (Discarded NotValid) c = c.not_valid
-channel_count_of verdict c = 0
-
-abbrev pub channel_counted : Verdict → ChannelCounters → ChannelCounters
-channel_counted (Delivered Ok) c = record c { ok = one_more c.ok }
-channel_counted (Delivered Delayed) c = record c { delayed = one_more c.delayed }
-channel_counted (Delivered Invalid) c = record c { invalid = one_more c.invalid }
-channel_counted (Delivered UnusedSa) c = record c { unused_sa = one_more c.unused_sa }
-channel_counted (Discarded NotUsingSa) c = record c { not_using_sa = one_more c.not_using_sa }
-channel_counted (Discarded Late) c = record c { late = one_more c.late }
-channel_counted (Discarded NotValid) c = record c { not_valid = one_more c.not_valid }
-channel_counted verdict c = c
-
--- a verdict is counted for the channel that its frame names, if one stands
-abbrev pub counted_at : Option (List ℕ) → Verdict → (List ℕ → Option ChannelCounters) → List ℕ → Option ChannelCounters
-counted_at None verdict table = table
-counted_at (Some sci) verdict table = put_at table sci (option_map (channel_counted verdict) (table sci))
-
-abbrev pub none_counted : RxCounters
-none_counted = record {
-  ok = 0;
-  delayed = 0;
-  invalid = 0;
-  untagged = 0;
-  unknown_sci = 0;
-  unused_sa = 0;
-  runt = 0;
-  oversize = 0;
-  no_tag = 0;
-  bad_tag = 0;
-  for_kay = 0;
-  no_sci = 0;
-  not_using_sa = 0;
-  late = 0;
-  not_valid = 0;
-}
-
-abbrev pub none_counted_for_channel : ChannelCounters
-none_counted_for_channel =
-    record { ok = 0; delayed = 0; invalid = 0; unused_sa = 0; not_using_sa = 0; late = 0; not_valid = 0 }
 
 -- each association that stands has its numbers
 abbrev pub AreNumbered : RxSide → Type 0

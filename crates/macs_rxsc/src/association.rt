@@ -3,7 +3,8 @@
 ghost use Rattle.std.specs.Prelude.{◌≡◌, Option, ◌≤◌, ◌<◌, ℕ, List, [], Some, None, nat_lt, if◌then◌else◌, ◌&&◌};
 ghost use Rattle.std.specs.Option.{option_map};
 ghost use Rattle.macs_frame.specs.Tag.{IsForKay, Tag, tag_of};
-ghost use Rattle.macs_rxsc.specs.Receive.{Need, Receives, RxSide, advanced, channel_of, held_back, kind_of, need_of, put_numbers, seen_after};
+ghost use Rattle.macs_rxsc.specs.Receive.{Receives, RxSide, advanced, channel_of, held_back, kind_of, put_numbers, seen_after};
+ghost use Rattle.macs_rxsc.specs.Needs.{Need, need_of};
 ghost use Rattle.macs_rxsc.specs.View.{numbers_of, sa_of, slid};
 
 use crate::need::RxNeed;
@@ -16,17 +17,20 @@ use macs_gcm::GcmKey;
 /// The end of the packet numbers: the first number that is none.
 const END_OF_NUMBERS: u64 = 1 << 32;
 
-/// The packet numbers of a receive association: the next expected one, 1 to 2^32, and the lowest
-/// acceptable.
+/// The packet numbers of a receive association.
+///
+/// `next` is one more than the greatest number delivered, or the start; `lowest` is the lowest
+/// acceptable one. Both are 1 to 2^32.
 #[derive(Clone, Copy, Debug, PartialEq, Eq)]
 pub struct RxNumbers {
     pub next: u64,
     pub lowest: u64,
 }
 
-/// A receive association: its key, the offset of its encrypted frames, the next and the lowest
-/// acceptable packet number, the ceiling that only frames with lower numbers are delivered below, and
-/// the greatest number that verified, if any did.
+/// A receive association.
+///
+/// `offset` is that of its encrypted frames. Only frames with numbers below `ceiling` are delivered
+/// as verified; `seen` is the greatest number that verified, if any did.
 #[derive(Drop)]
 pub struct Association {
     pub key: GcmKey,
@@ -71,8 +75,8 @@ impl Association {
         replay.on && u64::from(pn.get()) < self.lowest
     }
 
-    /// A frame that verified under this association comes with its packet number: as what it is
-    /// delivered, `None` where the number is not below the ceiling and the frame is held back.
+    /// As what a frame that verified is delivered, by its packet number: `None` where that is not
+    /// below the ceiling, and the frame is held back.
     fn arrive(&mut self, pn: Pn, window: u32) -> Option<Kind>
         ensures kind { result ≡ (if nat_lt pn self.old.ceiling then Some (kind_of (numbers_of self.old) pn) else None) }
         ensures numbers { numbers_of self.new ≡ (if nat_lt pn self.old.ceiling
@@ -95,8 +99,8 @@ impl Association {
         Some(kind)
     }
 
-    /// What becomes of a frame that names this association of a channel; the parts are a reading of
-    /// it. `out` is empty before.
+    /// What becomes of a frame that names this association of a channel. The parts are a reading of
+    /// it, and `out` is empty before.
     pub(crate) fn receive(
         &mut self,
         sci: Sci,

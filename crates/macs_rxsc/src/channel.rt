@@ -3,7 +3,9 @@
 ghost use Rattle.std.specs.Prelude.{◌≡◌, Option, ◌<◌, ◌∷◌, ℕ, List, [], Some, None, IsSome, map};
 ghost use Rattle.std.specs.Option.{option_map};
 ghost use Rattle.macs_frame.specs.Tag.{IsForKay, Tag};
-ghost use Rattle.macs_rxsc.specs.Receive.{Need, Numbers, Receives, RxSide, channel_counted, channel_of, first_need, need_of, none_counted_for_channel};
+ghost use Rattle.macs_rxsc.specs.Receive.{Numbers, Receives, RxSide, channel_of};
+ghost use Rattle.macs_rxsc.specs.Needs.{Need, first_need, need_of};
+ghost use Rattle.macs_rxsc.specs.Counting.{channel_counted, none_counted_for_channel};
 ghost use Rattle.macs_rxsc.specs.View.{ceilings_in, numbers_in, numbers_of, sa_of, sas_in, slid, slid_channel};
 ghost use Rattle.macs_config.specs.Tables.{put, put_at};
 ghost use Rattle.macs_rxsc.specs.declared.association.Association.{Association};
@@ -77,8 +79,8 @@ impl Channel {
         }
     }
 
-    /// What becomes of a frame that names this channel; the parts are a reading of it. `out` is empty
-    /// before. The verdict is counted.
+    /// What becomes of a frame that names this channel. The parts are a reading of it, and `out` is
+    /// empty before. The verdict is counted.
     pub(crate) fn receive(
         &mut self,
         validate: Validate,
@@ -149,7 +151,8 @@ impl Channel {
         }
     }
 
-    /// The next and the lowest acceptable packet number of an association, `None` where none stands.
+    /// The next and the lowest acceptable packet number of an association. It is `None` where none
+    /// stands.
     pub(crate) fn numbers(&self, an: An) -> Option<RxNumbers>
         ensures { result ≡ option_map (λ (n : Numbers). record { next = n.next; lowest = n.lowest })
             (numbers_in (Some self.now) an) }

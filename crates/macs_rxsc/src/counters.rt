@@ -1,7 +1,7 @@
 //! What is counted.
 
 ghost use Rattle.std.specs.Prelude.{◌≡◌};
-ghost use Rattle.macs_rxsc.specs.Receive.{one_more};
+ghost use Rattle.macs_rxsc.specs.Counting.{one_more};
 
 use crate::verdict::{Kind, Reason, Verdict};
 
@@ -46,7 +46,7 @@ pub struct ChannelCounters {
 
 impl RxCounters {
     ghost use Rattle.std.specs.Prelude.{◌≡◌};
-    ghost use Rattle.macs_rxsc.specs.Receive.{count_of, counted, none_counted};
+    ghost use Rattle.macs_rxsc.specs.Counting.{count_of, counted, none_counted};
 
     /// Nothing is counted yet.
     pub(crate) fn new() -> RxCounters
@@ -122,7 +122,7 @@ impl RxCounters {
 
 impl ChannelCounters {
     ghost use Rattle.std.specs.Prelude.{◌≡◌};
-    ghost use Rattle.macs_rxsc.specs.Receive.{channel_count_of, channel_counted, none_counted_for_channel};
+    ghost use Rattle.macs_rxsc.specs.Counting.{channel_count_of, channel_counted, none_counted_for_channel};
 
     /// Nothing is counted yet.
     pub(crate) fn new() -> ChannelCounters

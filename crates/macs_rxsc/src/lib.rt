@@ -1,4 +1,5 @@
-//! The receive channels of a MAC Security Entity: the verdict on every frame, and the replay window.
+//! The receive channels of a MAC Security Entity: the verdict on every frame, and the replay
+//! window.
 #![tactic(auto)]
 
 mod association;

@@ -2,7 +2,7 @@
 
 use macs_frame::{An, Pn, Sci};
 
-/// An association whose ceiling is to be raised, and the greatest packet number that verified on it.
+/// An association whose ceiling is to be raised, with the greatest packet number that verified.
 #[derive(Clone, Copy, Debug, PartialEq, Eq)]
 pub struct RxNeed {
     pub sci: Sci,

@@ -2,11 +2,13 @@
 
 ghost use Rattle.std.specs.Prelude.{◌≡◌, ◌≤◌, ◌<◌, ◌^◌, ℕ, List, [], length, not, true, false, Some, None, IsSome, IfSome};
 ghost use Rattle.std.specs.List.{filter};
-ghost use Rattle.std.specs.Option.{option_map};
+ghost use Rattle.std.specs.Option.{is_some, option_map};
 ghost use Rattle.std.specs.Str.{bytes_eq};
-ghost use Rattle.macs_config.specs.Config.{put_among};
+ghost use Rattle.macs_config.specs.Config.{first_edition, is_ascending, put_among};
 ghost use Rattle.macs_config.specs.Tables.{put, put_at};
-ghost use Rattle.macs_rxsc.specs.Receive.{AreOrdered, Need, Numbers, Receives, channel_count_of, channel_of, count_of, counted, counted_at, has_channel, needs_of, new_side, none_counted, none_counted_for_channel, put_numbers, started, windowed};
+ghost use Rattle.macs_rxsc.specs.Receive.{AreOrdered, Numbers, Receives, channel_of, has_channel, new_side, put_numbers, started, windowed};
+ghost use Rattle.macs_rxsc.specs.Needs.{Need, needs_of, raised};
+ghost use Rattle.macs_rxsc.specs.Counting.{channel_count_of, count_of, counted, counted_at, none_counted, none_counted_for_channel};
 ghost use Rattle.macs_rxsc.specs.View.{ceilings_of, channel_counters_of, counters_of, side_of};
 
 use crate::association::{Association, RxNumbers};
@@ -45,7 +47,9 @@ impl Rx {
     /// No channel; strict validation, replay protection with window 0.
     pub fn new() -> Rx
         ensures side { side_of result ≡ new_side }
+        ensures ceilings { ceilings_of result ≡ (λ sci an. None) }
         ensures counters { counters_of result ≡ none_counted }
+        ensures channel_counters { channel_counters_of result ≡ (λ sci. None) }
     {
         Rx {
             validate: Validate::Strict,
@@ -60,9 +64,10 @@ impl Rx {
         }
     }
 
-    /// Sets how frames are validated, whether packet numbers are checked for replay, and the window. The lowest
-    /// acceptable number of each association rises to the next one less the window, whether replay
-    /// protection is on or off, and never falls.
+    /// Sets how frames are validated, whether numbers are checked for replay, and the window.
+    ///
+    /// The lowest acceptable number of each association rises to the next one less the window,
+    /// whether replay protection is on or off, and never falls.
     pub fn set_policy(&mut self, validate: Validate, on: bool, window: u32)
         ensures side { side_of self.new ≡ record (side_of self.old) {
           validate = validate;
@@ -81,7 +86,7 @@ impl Rx {
     /// A new channel, of an SCI of which none stands, where fewer than 8 stand.
     pub fn add(&mut self, sci: Sci)
         requires free { has_channel (side_of self.old) sci ≡ false }
-        requires room { length (side_of self.old).channels < 8 }
+        requires room { length (side_of self.old).channels < first_edition.channels }
         ensures side { side_of self.new ≡ record (side_of self.old)
             { channels = put_among sci (side_of self.old).channels } }
         ensures ceilings { ceilings_of self.new ≡ ceilings_of self.old }
@@ -107,9 +112,10 @@ impl Rx {
         self.table.drop_channel(sci);
     }
 
-    /// A new association of a channel that stands, at a number where none does. `next` is its next and
-    /// lowest acceptable packet number, and only frames with numbers below `ceiling` are delivered as
-    /// verified: 1 to 2^32 both, `next` not above `ceiling`.
+    /// A new association of a channel that stands, at a number where none does.
+    ///
+    /// `next` is its next and lowest acceptable packet number, and only frames with numbers below
+    /// `ceiling` are delivered as verified: 1 to 2^32 both, `next` not above `ceiling`.
     pub fn install(
         &mut self,
         sci: Sci,
@@ -160,7 +166,8 @@ impl Rx {
         self.table.put(sci, an, None);
     }
 
-    /// Raises the ceiling of an association that stands: not below the one before, and at most 2^32.
+    /// Raises the ceiling of an association that stands. The new one is not below the one before,
+    /// and at most 2^32.
     pub fn raise(&mut self, sci: Sci, an: An, ceiling: u64)
         requires stands { IsSome ((side_of self.old).rx sci an) }
         requires higher { IfSome (ceilings_of self.old sci an) (λ old. old ≤ ceiling) }
@@ -174,7 +181,8 @@ impl Rx {
         self.table.raise(sci, an, ceiling);
     }
 
-    /// The next and the lowest acceptable packet number of an association, `None` where none stands.
+    /// The next and the lowest acceptable packet number of an association. It is `None` where none
+    /// stands.
     pub fn numbers(&self, sci: Sci, an: An) -> Option<RxNumbers>
         ensures { result ≡ option_map (λ (n : Numbers). record { next = n.next; lowest = n.lowest })
             ((side_of self.now).numbers sci an) }
@@ -182,21 +190,32 @@ impl Rx {
         self.table.channel(sci)?.numbers(an)
     }
 
-    /// The first association, by ascending SCI and number, whose ceiling is to be raised, and the
-    /// greatest packet number that was seen on it: a frame verified on it whose number was at or above the
-    /// ceiling, or at most half a block, rounded down, is left below that; and the number seen and a
-    /// block, at most 2^32, is above the ceiling. `rx_block` is 1 to 65,536 packet numbers.
+    /// The first association, by ascending SCI and number, whose ceiling is to be raised.
+    ///
+    /// With it comes the greatest packet number that was seen on it: that of a frame that verified.
+    /// It was at or above the ceiling, or at most half a block, rounded down, is left between next
+    /// and the ceiling; and the number seen and a block, at most 2^32, is above the ceiling.
+    /// `rx_block` is 1 to 65,536 packet numbers. What is named stands, and may be raised that far.
     pub fn needs(&self, rx_block: u32) -> Option<RxNeed>
-        ensures { option_map (λ (need : RxNeed). record { sci = need.sci; an = need.an; pn = need.pn }) result
+        ensures need { option_map (λ (need : RxNeed). record { sci = need.sci; an = need.an; pn = need.pn }) result
             ≡ needs_of (side_of self.now) (ceilings_of self.now) rx_block }
+        ensures stands { IfSome result (λ need. IsSome ((side_of self.now).rx need.sci need.an)) }
+        ensures higher { IfSome result (λ need. IfSome (ceilings_of self.now need.sci need.an)
+            (λ old. old < raised rx_block need.pn)) }
     {
         self.table.need(rx_block)
     }
 
-    /// The verdict on a frame from the common side, of any number of octets. What is delivered is
-    /// written to `out`: the plain frame where the frame verified, an untagged frame whole, and else
-    /// the addresses and the Secure Data; unless the verdict is `Delivered`, `out` is empty. Only a
-    /// frame that verifies moves packet numbers, and only those of its association.
+    /// The verdict on a frame from the common side, of any number of octets.
+    ///
+    /// What is delivered is written to `out`: the plain frame where the frame verified, an untagged
+    /// frame whole, and else the addresses and the Secure Data. Unless the verdict is `Delivered`,
+    /// `out` is empty. Only a frame that verifies moves packet numbers, and only those of its
+    /// association.
+    ///
+    /// Every verdict but `HeldBack` is counted, and seven of them also for the channel that the
+    /// frame names. A frame that is held back is to be handed in again, whole and unchanged, once
+    /// `needs` has been served by `raise`: nothing of it is kept but that its number was seen.
     pub fn receive(&mut self, frame: &[u8], out: &mut FrameBuf) -> Verdict
         ensures verdict { Receives (side_of self.old) (ceilings_of self.old) frame.now
             (record { verdict = result; given = out.new.items; numbers = (side_of self.new).numbers }) }
@@ -218,8 +237,8 @@ impl Rx {
         self.counters.of(verdict)
     }
 
-    /// How often a verdict was given on frames of a channel, at most 2^64 - 1: 0 for one that is not
-    /// counted for channels, `None` where the channel does not stand.
+    /// How often a verdict was given on frames of a channel, at most 2^64 - 1. It is 0 for a
+    /// verdict that is not counted for channels, and `None` where the channel does not stand.
     pub fn channel_count(&self, sci: Sci, verdict: Verdict) -> Option<u64>
         ensures { result ≡ option_map (channel_count_of verdict) (channel_counters_of self.now sci) }
     {
@@ -227,11 +246,18 @@ impl Rx {
         Some(channel.counters.of(verdict))
     }
 
+    /// What holds of all receive channels.
+    ///
     /// Each association that stands has numbers in their order: the next one less the window is not
     /// above the lowest acceptable, that not above the next, that not above the ceiling, and that at
-    /// most 2^32.
+    /// most 2^32. It stands on a channel that stands. The channels ascend by SCI, and those that
+    /// stand have counters, and no others.
     pub fn facts(&self)
-        ensures { (sci : List ℕ) (an : ℕ) → AreOrdered (side_of self.now) (ceilings_of self.now) sci an }
+        ensures ordered { (sci : List ℕ) (an : ℕ) → AreOrdered (side_of self.now) (ceilings_of self.now) sci an }
+        ensures stands { (sci : List ℕ) (an : ℕ) → IsSome ((side_of self.now).rx sci an)
+            → has_channel (side_of self.now) sci ≡ true }
+        ensures ascending { is_ascending (side_of self.now).channels ≡ true }
+        ensures counted { (sci : List ℕ) → is_some (channel_counters_of self.now sci) ≡ has_channel (side_of self.now) sci }
     {
         let _table = &self.table;
     }

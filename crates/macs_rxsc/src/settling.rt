@@ -23,8 +23,8 @@ fn append(out: &mut FrameBuf, octets: &[u8])
     out.try_extend_from_slice(octets).unwrap();
 }
 
-/// Discards a frame, or delivers its addresses and Secure Data, where validation is not strict and C
-/// is clear. The parts are a reading of it. `out` is empty before.
+/// Discards a frame, or delivers its addresses and Secure Data. It is delivered where validation is
+/// not strict and C is clear. The parts are a reading of it, and `out` is empty before.
 pub(crate) fn settle(
     validate: Validate,
     reason: Reason,
@@ -46,8 +46,8 @@ pub(crate) fn settle(
     Verdict::Delivered(kind)
 }
 
-/// What becomes of a frame with a fault of its tag, the first of them: it is discarded, but without a
-/// tag and where validation is not strict it is delivered whole. `out` is empty before.
+/// What becomes of a frame with a fault of its tag, the first of them. It is discarded; without a
+/// tag, and where validation is not strict, it is delivered whole. `out` is empty before.
 pub(crate) fn refuse(
     validate: Validate,
     fault: TagFault,

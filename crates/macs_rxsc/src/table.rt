@@ -4,11 +4,12 @@ ghost use Rattle.std.specs.Prelude.{◌≡◌, ◌≤◌, ◌<◌, ◌++◌, ◌
 ghost use Rattle.std.specs.List.{filter, list_any};
 ghost use Rattle.std.specs.Option.{option_and_then, option_map};
 ghost use Rattle.std.specs.Str.{bytes_eq};
-ghost use Rattle.macs_config.specs.Config.{put_among};
+ghost use Rattle.macs_config.specs.Config.{first_edition, is_ascending, put_among};
 ghost use Rattle.macs_config.specs.Tables.{put, put_at};
 ghost use Rattle.macs_frame.specs.Tag.{IsForKay, Tag};
-ghost use Rattle.macs_rxsc.specs.Receive.{Need, Receives, channel_of, counted_at, needs_of, none_counted_for_channel, put_numbers, sci_named};
-ghost use Rattle.macs_rxsc.specs.Kept.{AreDistinct};
+ghost use Rattle.macs_rxsc.specs.Receive.{Receives, channel_of, put_numbers, sci_named};
+ghost use Rattle.macs_rxsc.specs.Needs.{Need, needs_of};
+ghost use Rattle.macs_rxsc.specs.Counting.{counted_at, none_counted_for_channel};
 ghost use Rattle.macs_rxsc.specs.View.{ceilings_among, channel_at, counters_among, numbers_of, sa_of, scis_of, shown, slid_channel};
 ghost use Rattle.macs_config.specs.declared.command.Replay.{Replay};
 ghost use Rattle.macs_config.specs.declared.command.Validate.{Validate};
@@ -71,8 +72,8 @@ fn end_station_sci(frame: &[u8]) -> Sci
     Sci([a, b, c, d, e, f, 0, 1])
 }
 
-/// The SCI that a SecTAG names: the one that is spelled out, the source address with port 00-01, or
-/// that of the only channel where it names none (9.5, 9.9).
+/// The SCI that a SecTAG names (9.5, 9.9). That is the one that is spelled out, the source address
+/// with port 00-01, or that of the only channel where it names none.
 fn sci_named(channels: &[Channel], frame: &[u8], name: ScName) -> Option<Sci>
     requires { 12 ≤ length frame.now }
     ensures { result ≡ sci_named (scis_of channels.now) frame.now name }
@@ -104,8 +105,7 @@ impl Table {
         Some(&self.channels[place])
     }
 
-    /// The lowest acceptable number of each association rises to the next one less the window, and
-    /// never falls.
+    /// The lowest acceptable number of each association rises with the window, and never falls.
     pub(crate) fn slide(&mut self, window: u32)
         ensures { self.new.channels.items ≡ map (slid_channel window) self.old.channels.items }
     {
@@ -115,7 +115,7 @@ impl Table {
     /// A new channel, of an SCI of which none stands, where fewer than 8 stand.
     pub(crate) fn add(&mut self, sci: Sci)
         requires free { list_any (λ other. bytes_eq other sci) (scis_of self.old.channels.items) ≡ false }
-        requires room { length (scis_of self.old.channels.items) < 8 }
+        requires room { length (scis_of self.old.channels.items) < first_edition.channels }
         ensures side { (validate : Validate) (replay : Replay) → shown validate replay self.new.channels.items
             ≡ record (shown validate replay self.old.channels.items)
             { channels = put_among sci (scis_of self.old.channels.items) } }
@@ -157,9 +157,8 @@ impl Table {
             (put (ceilings_among self.old.channels.items sci) an (option_map (λ (a : Association). a.ceiling) association)) }
         ensures counters { counters_among self.new.channels.items ≡ counters_among self.old.channels.items }
     {
-        match place(self.channels.as_slice(), sci) {
-            Some(place) => self.channels[place].put(an, association),
-            None => {}
+        if let Some(place) = place(self.channels.as_slice(), sci) {
+            self.channels[place].put(an, association);
         }
     }
 
@@ -172,16 +171,14 @@ impl Table {
             (put (ceilings_among self.old.channels.items sci) an (Some ceiling)) }
         ensures counters { counters_among self.new.channels.items ≡ counters_among self.old.channels.items }
     {
-        match place(self.channels.as_slice(), sci) {
-            Some(place) => self.channels[place].raise(an, ceiling),
-            None => {}
+        if let Some(place) = place(self.channels.as_slice(), sci) {
+            self.channels[place].raise(an, ceiling);
         }
     }
 
-    /// The need of the first association, by ascending SCI and number, that has one. No SCI stands
-    /// twice.
+    /// The need of the first association, by ascending SCI and number, that has one. SCIs ascend.
     pub(crate) fn need(&self, block: u32) -> Option<RxNeed>
-        requires { AreDistinct (scis_of self.now.channels.items) }
+        requires { is_ascending (scis_of self.now.channels.items) ≡ true }
         ensures { (validate : Validate) (replay : Replay)
             → option_map (λ (need : RxNeed). record { sci = need.sci; an = need.an; pn = need.pn }) result
             ≡ needs_of (shown validate replay self.now.channels.items) (ceilings_among self.now.channels.items) block }
@@ -222,8 +219,8 @@ impl Table {
         }
     }
 
-    /// What becomes of a frame, as `receive` says; the parts are a reading of it, and `out` is empty
-    /// before.
+    /// What becomes of a frame, as `receive` says. The parts are a reading of it, and `out` is
+    /// empty before.
     fn receive_tagged(
         &mut self,
         validate: Validate,

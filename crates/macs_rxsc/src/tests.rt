@@ -73,3 +73,15 @@ const CHANNEL_VERDICTS: [Verdict; 7] = [
     LATE,
     NOT_VALID,
 ];
+
+/// Every verdict that is counted, and not for a channel.
+const OTHER_VERDICTS: [Verdict; 8] = [
+    UNTAGGED,
+    UNKNOWN_SCI,
+    RUNT,
+    OVERSIZE,
+    NO_TAG,
+    BAD_TAG,
+    FOR_KAY,
+    NO_SCI,
+];

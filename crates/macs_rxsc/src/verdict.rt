@@ -7,8 +7,8 @@ pub enum Verdict {
     Delivered(Kind),
     /// It is dropped.
     Discarded(Reason),
-    /// It verified, but its packet number is not reserved yet: nothing is given, and it is to be
-    /// handed in again.
+    /// It verified, but its packet number is not reserved yet. Nothing is given, and it is to be
+    /// handed in again once the ceiling is raised.
     HeldBack,
 }
 
@@ -17,7 +17,8 @@ pub enum Verdict {
 pub enum Kind {
     /// It verified.
     Ok,
-    /// It verified, with replay protection off, and its packet number is below the lowest acceptable.
+    /// It verified, with replay protection off, and its packet number is below the lowest
+    /// acceptable.
     Delayed,
     /// It did not verify; validation is not strict, and C is clear.
     Invalid,

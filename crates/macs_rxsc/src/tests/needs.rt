@@ -1,9 +1,10 @@
 //! Which ceiling is to be raised.
 
-use super::OK;
 use super::frames::{CHANNEL, CHANNEL_KEY, PLAIN, STATION, Security, sealed_as};
 use super::receiver::{END, Receiver};
+use super::{DELAYED, LATE, OK};
 use crate::Verdict;
+use macs_config::Validate;
 use macs_frame::Sci;
 use std::process::Abort;
 
@@ -13,7 +14,7 @@ fn hold_back(rt: &impl Abort, receiver: &mut Receiver, sci: Sci, association: u8
     receiver.expect(rt, frame.as_slice(), Verdict::HeldBack, &[]);
 }
 
-/// The greatest number that was seen is asked for, though it was not the last and the next one is far
+/// The greatest number that was seen is asked for. It was not the last, and the next one is far
 /// below.
 #[test]
 fn needs_the_greatest_number(rt: HostRuntime) {
@@ -88,4 +89,38 @@ fn needs_up_to_the_end(rt: HostRuntime) {
     receiver.expect_number(&rt, 0xffff_ffff, OK);
     receiver.expect_numbers(&rt, END, END);
     receiver.expect_need(&rt, 65_536, None);
+}
+
+/// With the ceiling at the greatest number, that number is still to be had.
+#[test]
+fn needs_the_last_number(rt: HostRuntime) {
+    let mut receiver = Receiver::ready(&rt, END - 3, END - 1);
+    receiver.expect_number(&rt, 0xffff_fffe, OK);
+    receiver.expect_numbers(&rt, END - 1, END - 1);
+    receiver.expect_need(&rt, 4, Some((CHANNEL, 2, 0xffff_fffe)));
+    receiver.expect_number(&rt, 0xffff_ffff, Verdict::HeldBack);
+    receiver.raise(&rt, 4, CHANNEL, 2, 0xffff_ffff);
+    receiver.expect_need(&rt, 4, None);
+    receiver.expect_number(&rt, 0xffff_ffff, OK);
+    receiver.expect_numbers(&rt, END, END);
+    receiver.expect_need(&rt, 4, None);
+}
+
+/// A late frame is not verified, so that its number is not seen.
+#[test]
+fn needs_nothing_for_late_frames(rt: HostRuntime) {
+    let mut receiver = Receiver::ready(&rt, 5, 5);
+    receiver.expect_number(&rt, 3, LATE);
+    receiver.expect_need(&rt, 4, None);
+}
+
+/// A delayed frame is verified, so that its number is seen, also where it is below the start.
+#[test]
+fn needs_of_delayed_frames(rt: HostRuntime) {
+    let mut receiver = Receiver::ready(&rt, 3, 3);
+    receiver.set_policy(Validate::Strict, false, 0);
+    receiver.expect_number(&rt, 1, DELAYED);
+    receiver.expect_numbers(&rt, 3, 3);
+    receiver.expect_need(&rt, 2, None);
+    receiver.expect_need(&rt, 4, Some((CHANNEL, 2, 1)));
 }

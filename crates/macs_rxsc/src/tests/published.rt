@@ -2,13 +2,13 @@
 
 use super::frames::{
     CHANNEL, CHANNEL_KEY, CONFIDENTIALITY, CONFIDENTIALITY_PLAIN, INTEGRITY, INTEGRITY_PLAIN,
-    broken, with_octet,
+    OFFSET_30, OFFSET_50, OFFSET_PLAIN, broken, with_octet,
 };
 use super::receiver::Receiver;
 use super::{INVALID, NO_SCI, NOT_USING_SA, NOT_VALID, OK, UNKNOWN_SCI, UNUSED_SA};
 use crate::{RxNumbers, Verdict};
 use macs_config::Validate;
-use macs_frame::FrameBuf;
+use macs_frame::{FrameBuf, Offset};
 use std::process::Abort;
 
 /// A frame is held back until its packet number is reserved, and is then given as its plain frame.
@@ -85,4 +85,25 @@ fn refuses_frames_of_no_association(rt: HostRuntime) {
     receiver.expect_channel_count(&rt, CHANNEL, OK, Some(0));
     let untouched = Some(RxNumbers { next: 1, lowest: 1 });
     receiver.expect_association(&rt, CHANNEL, 3, untouched);
+}
+
+/// The frame is taken by an association of this confidentiality offset, and by none of the others.
+fn expect_offset(rt: &impl Abort, frame: &[u8], offset: Offset) {
+    for other in [Offset::Zero, Offset::Thirty, Offset::Fifty] {
+        let (verdict, given) = if other == offset {
+            (OK, OFFSET_PLAIN)
+        } else {
+            (NOT_VALID, &[] as &[u8])
+        };
+        let mut receiver = Receiver::new();
+        receiver.add(rt, CHANNEL);
+        receiver.install_at(rt, CHANNEL, 2, CHANNEL_KEY, other, 1, 9);
+        receiver.expect(rt, frame, verdict, given);
+    }
+}
+
+#[test]
+fn confidentiality_offsets(rt: HostRuntime) {
+    expect_offset(&rt, OFFSET_30, Offset::Thirty);
+    expect_offset(&rt, OFFSET_50, Offset::Fifty);
 }

@@ -17,6 +17,7 @@ pub(super) const END: u64 = 4_294_967_296;
 fn has_channel(rx: &Rx, sci: Sci) -> bool
     ensures { result ≡ has_channel (side_of rx.now) sci }
 {
+    rx.facts();
     rx.channel_count(sci, Verdict::HeldBack).is_some()
 }
 
@@ -70,6 +71,20 @@ impl Receiver {
         next: u64,
         ceiling: u64,
     ) {
+        self.install_at(rt, sci, association, key, Offset::Zero, next, ceiling);
+    }
+
+    /// A new association with a confidentiality offset.
+    pub(super) fn install_at(
+        &mut self,
+        rt: &impl Abort,
+        sci: Sci,
+        association: u8,
+        key: u128,
+        offset: Offset,
+        next: u64,
+        ceiling: u64,
+    ) {
         let an = number_of(rt, association);
         assert!(rt; has_channel(&self.rx, sci));
         assert!(rt; self.rx.numbers(sci, an).is_none());
@@ -78,7 +93,7 @@ impl Receiver {
         assert!(rt; ceiling <= END);
         self.rx.facts();
         self.rx
-            .install(sci, an, &key.to_be_bytes(), Offset::Zero, next, ceiling);
+            .install(sci, an, &key.to_be_bytes(), offset, next, ceiling);
     }
 
     pub(super) fn remove(&mut self, rt: &impl Abort, sci: Sci, association: u8) {
@@ -112,7 +127,8 @@ impl Receiver {
         assert_eq!(rt; out.as_slice(), given);
     }
 
-    /// A frame whose plain frame is `PLAIN` has this verdict, and `PLAIN` is given where it is delivered.
+    /// A frame whose plain frame is `PLAIN` has this verdict, and `PLAIN` is given where it is
+    /// delivered.
     pub(super) fn expect_plain(&mut self, rt: &impl Abort, frame: &[u8], verdict: Verdict) {
         let given = if matches!(verdict, Verdict::Delivered(_)) {
             PLAIN
@@ -159,7 +175,8 @@ impl Receiver {
         assert_eq!(rt; self.rx.count(verdict), count, "{verdict:?}");
     }
 
-    /// How often a verdict was given on frames of a channel, `None` where the channel does not stand.
+    /// How often a verdict was given on frames of a channel, `None` where the channel does not
+    /// stand.
     pub(super) fn expect_channel_count(
         &self,
         rt: &impl Abort,

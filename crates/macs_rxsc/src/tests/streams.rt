@@ -50,8 +50,8 @@ impl Rules {
     }
 }
 
-/// The number has the verdict of the rules. Where it is held back, the ceiling is raised and it comes
-/// again.
+/// The number has the verdict of the rules. Where it is held back, the ceiling is raised and it
+/// comes again.
 fn expect_step(rt: &impl Abort, receiver: &mut Receiver, rules: &mut Rules, number: u32) {
     let verdict = rules.receive(number);
     receiver.expect_number(rt, number, verdict);

@@ -2,11 +2,14 @@
 //! and 9.12).
 
 use super::frames::{
-    CHANNEL, INTEGRITY, INTEGRITY_PLAIN, PLAIN, SHORTEST, SHORTEST_PLAIN, STATION, STATION_KEY,
-    Security, cut, padded, sealed_as, with_long_sl, with_octet,
+    CHANNEL, INTEGRITY, INTEGRITY_PLAIN, ONE_OCTET, ONE_OCTET_PLAIN, PLAIN, SHORTEST,
+    SHORTEST_PLAIN, STATION, STATION_KEY, Security, cut, padded, sealed_as, with_long_sl,
+    with_octet,
 };
 use super::receiver::{END, Receiver};
-use super::{BAD_TAG, FOR_KAY, NO_TAG, OK, OVERSIZE, RUNT, UNTAGGED};
+use super::{
+    BAD_TAG, FOR_KAY, INVALID, NO_TAG, OK, OVERSIZE, RUNT, UNKNOWN_SCI, UNTAGGED, UNUSED_SA,
+};
 use crate::Verdict;
 use macs_config::Validate;
 use macs_frame::FrameBuf;
@@ -132,4 +135,27 @@ fn frames_of_60_octets(rt: HostRuntime) {
     assert_eq!(rt; filled.len(), 60);
     receiver.expect(&rt, filled.as_slice(), OK, &PLAIN[..27]);
     receiver.expect_numbers(&rt, 7, 7);
+}
+
+/// A padded frame that does not verify is given without padding, SecTAG and ICV. C is clear in it.
+#[test]
+fn padding_is_not_given(rt: HostRuntime) {
+    let frame = padded(&rt, with_octet(&rt, SHORTEST, 14, 0x23).as_slice(), 14);
+    assert_eq!(rt; frame.len(), 60);
+    let bare = b"\xe2\x01\x06\xd7\xcd\x0d\xf0\x76\x1e\x8d\xcd\x3d\xe4\xf1";
+    let mut receiver = Receiver::new();
+    receiver.set_policy(Validate::Check, true, 0);
+    receiver.expect(&rt, frame.as_slice(), UNKNOWN_SCI, bare);
+    receiver.add(&rt, STATION);
+    receiver.expect(&rt, frame.as_slice(), UNUSED_SA, bare);
+    receiver.install(&rt, STATION, 3, STATION_KEY, 1, 2);
+    receiver.expect(&rt, frame.as_slice(), INVALID, bare);
+}
+
+/// A plain frame of 13 octets is given, though none so short is protected or taken without a tag.
+#[test]
+fn secure_data_of_one_octet(rt: HostRuntime) {
+    let mut receiver = Receiver::ready(&rt, 1, 9);
+    receiver.expect(&rt, ONE_OCTET, OK, ONE_OCTET_PLAIN);
+    receiver.expect(&rt, ONE_OCTET_PLAIN, RUNT, &[]);
 }

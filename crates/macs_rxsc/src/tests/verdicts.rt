@@ -34,9 +34,9 @@ fn frame_of(rt: &impl Abort, sent: Sent) -> FrameBuf {
     }
 }
 
-/// A frame to association 2 of the channel, with next number 3 and ceiling 9, under a window of 0. All
-/// that is given is the plain frame. The verdict is counted and no other, and the numbers move where
-/// the frame is delivered as verified.
+/// A frame to association 2 of the channel, with next number 3 and ceiling 9, under a window of 0.
+/// All that is given is the plain frame. The verdict is counted and no other, and the numbers move
+/// where the frame is delivered as verified.
 fn expect_verdict(
     rt: &impl Abort,
     frame: &[u8],

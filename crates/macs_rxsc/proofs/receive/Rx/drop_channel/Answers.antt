@@ -1,7 +1,8 @@
 use Rattle.std.proofs.Common.{filter, not, bytes_eq}
 use Rattle.macs_rxsc.proofs.Shown.{kept_as}
 use Rattle.macs_rxsc.specs.View.{ceilings_among, shown}
-use Rattle.macs_rxsc.proofs.Order.{distinct-filter, ordered-gone}
+use Rattle.macs_config.proofs.Channels.{ascending-filter}
+use Rattle.macs_rxsc.proofs.Order.{ordered-gone}
 use Rattle.macs_rxsc.proofs.receive.Rx.drop_channel.Goals as goal
 
 pub invariant_of-self : goal.invariant_of-self
@@ -9,7 +10,7 @@ invariant_of-self c =
     let side = shown c.self.inside.validate c.self.inside.replay c.self.inside.table.channels.items in
     kept_as c.self.inside.validate c.self.inside.replay _ c.self.inside.counters _ _
     (c.drop_channel.ensures.side c.self.inside.validate c.self.inside.replay) c.drop_channel.ensures.ceilings
-    (distinct-filter _ side.channels c.self.invariant.distinct)
+    (ascending-filter _ side.channels c.self.invariant.ascending)
     (ordered-gone side (ceilings_among c.self.inside.table.channels.items) c.self.invariant.ordered c.args.sci (filter (λ other. not (bytes_eq other c.args.sci)) side.channels))
 
 pub returns-clause-side : goal.returns-clause-side

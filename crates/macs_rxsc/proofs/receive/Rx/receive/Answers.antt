@@ -7,7 +7,7 @@ pub invariant_of-self : goal.invariant_of-self
 invariant_of-self c =
     let side = shown c.self.inside.validate c.self.inside.replay c.self.inside.table.channels.items in
     kept_as c.self.inside.validate c.self.inside.replay _ _ _ _
-    c.receive-verdict.ensures.side c.receive-verdict.ensures.ceilings c.self.invariant.distinct
+    c.receive-verdict.ensures.side c.receive-verdict.ensures.ceilings c.self.invariant.ascending
     (ordered-received side (ceilings_among c.self.inside.table.channels.items) c.args.frame.now _ c.self.invariant.ordered c.receive-verdict.ensures.verdict)
 
 pub returns-clause-verdict : goal.returns-clause-verdict

@@ -12,7 +12,7 @@ pub invariant_of-self : goal.invariant_of-self
 invariant_of-self c =
     let side = shown c.self.inside.validate c.self.inside.replay c.self.inside.table.channels.items in
     kept_as c.self.inside.validate c.self.inside.replay _ c.self.inside.counters _ _
-    (c.put.ensures.side c.self.inside.validate c.self.inside.replay) c.put.ensures.ceilings c.self.invariant.distinct
+    (c.put.ensures.side c.self.inside.validate c.self.inside.replay) c.put.ensures.ceilings c.self.invariant.ascending
     (ordered-put side (ceilings_among c.self.inside.table.channels.items) c.self.invariant.ordered c.args.sci c.args.an None None None tt)
 
 pub returns-clause-side : goal.returns-clause-side

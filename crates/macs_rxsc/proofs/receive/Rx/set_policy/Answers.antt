@@ -14,7 +14,7 @@ invariant_of-self c =
     (ap (shown c.args.validate (record { on = c.args.on; window = c.args.window })) c.slide.ensures
     ∙ shown-slid items c.args.window c.args.validate (record { on = c.args.on; window = c.args.window }) c.self.inside.validate c.self.inside.replay)
     (ap ceilings_among c.slide.ensures ∙ ceilings-slid items c.args.window)
-    c.self.invariant.distinct
+    c.self.invariant.ascending
     (ordered-windowed side (ceilings_among items) c.self.invariant.ordered c.args.validate c.args.on c.args.window)
 
 pub returns-clause-side : goal.returns-clause-side

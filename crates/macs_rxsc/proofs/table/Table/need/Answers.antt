@@ -1,6 +1,6 @@
 use Rattle.std.proofs.Common.{◌≡◌, ◌∙◌, ◌≤◌, ◌<◌, List, Option, Some, None, get_or, length, sym, subst, arith}
 use Rattle.macs_rxsc.proofs.Needs.{met, needs_are, needs_in, passed, past_all}
-use Rattle.macs_rxsc.specs.Receive.{Need, first_need}
+use Rattle.macs_rxsc.specs.Needs.{Need, first_need}
 use Rattle.macs_rxsc.specs.declared.channel.Channel.{Channel}
 use Rattle.macs_rxsc.proofs.table.Table.need.Goals as goal
 use Rattle.macs_rxsc.proofs.table.Table.need.Goals.{After-need}

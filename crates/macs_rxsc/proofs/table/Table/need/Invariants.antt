@@ -1,6 +1,6 @@
 use Rattle.std.proofs.Common.{◌≡◌, drop}
 use Rattle.macs_rxsc.proofs.Needs.{needs_among}
-use Rattle.macs_rxsc.specs.Receive.{first_need}
+use Rattle.macs_rxsc.specs.Needs.{first_need}
 use Rattle.macs_rxsc.proofs.table.Table.need.Given as goal
 
 abbrev pub invariant-loop-channel : goal.invariant-loop-channel

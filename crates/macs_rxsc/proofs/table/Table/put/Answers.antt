@@ -39,16 +39,16 @@ returns-in-Some-clause-counters c =
     let p = (goal.at.returns-in-Some-clause-counters c).After-put in
     ap counters_among (lent c.args.self.now.channels.items c.deref_mut.result.now c.in-Some.place c.put.new.self c.deref_mut.ensures.value) ∙ counters-kept c.args.self.now.channels.items c.in-Some.place (old p) c.put.new.self c.args.sci (stands p) (was p) c.put.ensures.sci c.put.ensures.counters
 
-pub returns-in-None-clause-side : goal.returns-in-None-clause-side
-returns-in-None-clause-side c =
-    λ validate replay. let gone = found_none c.args.self.now.channels.items c.as_slice.result.now c.args.sci c.as_slice.ensures.value c.in-None.ensures in
+pub returns-in_default-clause-side : goal.returns-in_default-clause-side
+returns-in_default-clause-side c =
+    λ validate replay. let gone = found_none c.args.self.now.channels.items c.as_slice.result.now c.args.sci c.as_slice.ensures.value c.in_default.ensures in
     let no = gone.1 in
     let yes = c.requires in
     absurd (cc)
 
-pub returns-in-None-clause-ceilings : goal.returns-in-None-clause-ceilings
-returns-in-None-clause-ceilings c =
-    let gone = found_none c.args.self.now.channels.items c.as_slice.result.now c.args.sci c.as_slice.ensures.value c.in-None.ensures in
+pub returns-in_default-clause-ceilings : goal.returns-in_default-clause-ceilings
+returns-in_default-clause-ceilings c =
+    let gone = found_none c.args.self.now.channels.items c.as_slice.result.now c.args.sci c.as_slice.ensures.value c.in_default.ensures in
     let no = gone.1 in
     let yes = c.requires in
     absurd (cc)

@@ -35,8 +35,8 @@ returns-in-Some-clause-counters c =
     let p = (goal.at.returns-in-Some-clause-counters c).After-raise in
     ap counters_among (lent c.args.self.now.channels.items c.deref_mut.result.now c.in-Some.place c.raise.new.self c.deref_mut.ensures.value) ∙ counters-kept c.args.self.now.channels.items c.in-Some.place (old p) c.raise.new.self c.args.sci (stands p) (was p) c.raise.ensures.sci c.raise.ensures.counters
 
-pub returns-in-None-clause-ceilings : goal.returns-in-None-clause-ceilings
-returns-in-None-clause-ceilings c =
-    let gone = found_none c.args.self.now.channels.items c.as_slice.result.now c.args.sci c.as_slice.ensures.value c.in-None.ensures in
+pub returns-in_default-clause-ceilings : goal.returns-in_default-clause-ceilings
+returns-in_default-clause-ceilings c =
+    let gone = found_none c.args.self.now.channels.items c.as_slice.result.now c.args.sci c.as_slice.ensures.value c.in_default.ensures in
     let some = subst (λ (o : Option Channel). IsSome (ceilings_in o c.args.an)) gone.0 c.requires in
     absurd (cc)

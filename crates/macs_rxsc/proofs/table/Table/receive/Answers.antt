@@ -1,7 +1,8 @@
 use Rattle.std.proofs.Common.{◌∙◌, refl, ap, sym}
 use Rattle.macs_rxsc.proofs.Shown.{tag_uncounted, uncounted}
 use Rattle.macs_rxsc.proofs.Steps.{first_fault, settles}
-use Rattle.macs_rxsc.specs.Receive.{Tag as TagStep, channel_counted, channel_of, given_at}
+use Rattle.macs_rxsc.specs.Receive.{Tag as TagStep, channel_of, given_at}
+use Rattle.macs_rxsc.specs.Counting.{channel_counted}
 use Rattle.macs_rxsc.specs.View.{ceilings_among, counters_among, shown}
 use Rattle.macs_rxsc.specs.declared.counters.ChannelCounters.{ChannelCounters}
 use Rattle.macs_rxsc.specs.declared.verdict.Verdict.{Verdict}

@@ -4,7 +4,8 @@ use Rattle.macs_frame.specs.Tag.{name_of}
 use Rattle.macs_rxsc.proofs.Places.{IsPlace}
 use Rattle.macs_rxsc.proofs.Shown.{at_old, ceilings-kept, counters-counted, lent, lent_old, named_at, named_none, named_some, numbers-changed, shown-numbers, there}
 use Rattle.macs_rxsc.proofs.Steps.{first_no_channel, settles_bare}
-use Rattle.macs_rxsc.specs.Receive.{NoChannel, Numbers, Receives, channel_of, counted_at, sci_named, standing}
+use Rattle.macs_rxsc.specs.Receive.{NoChannel, Numbers, Receives, channel_of, sci_named, standing}
+use Rattle.macs_rxsc.specs.Counting.{counted_at}
 use Rattle.macs_rxsc.specs.View.{ceilings_among, ceilings_in, channel_at, counters_among, numbers_in, sas_in, scis_of, shown}
 use Rattle.macs_rxsc.specs.declared.channel.Channel.{Channel}
 use Rattle.macs_rxsc.specs.declared.verdict.Kind.TheVariants.{UnknownSci}

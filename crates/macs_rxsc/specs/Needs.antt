@@ -1,0 +1,39 @@
+-- Which ceiling is to be raised, and how far.
+use Rattle.std.specs.Prelude.{◌^◌, ℕ, ◌+◌, ◌-◌, ◌/◌, min, nat_le, nat_lt, Bool, ◌&&◌, ◌||◌, if◌then◌else◌, List, [], ◌∷◌, map, flat_map, Option, Some, None}
+use Rattle.macs_rxsc.specs.Receive.{Numbers, RxSide}
+
+-- a need: the association, and the greatest number that was seen
+pub record Need : Type 0 where
+  pub sci : List ℕ
+  pub an : ℕ
+  pub pn : ℕ
+
+-- the ceiling that a number asks for
+abbrev pub raised : ℕ → ℕ → ℕ
+raised block seen = min (seen + block) (2 ^ 32)
+
+-- A frame was seen, and it is at or above the ceiling, or at most half a block is left below that, and a higher ceiling is
+-- to be had.
+abbrev pub is_needed : ℕ → ℕ → ℕ → ℕ → Bool
+is_needed block next ceiling seen =
+    (nat_le ceiling seen || nat_le (ceiling - next) (block / 2)) && nat_lt ceiling (raised block seen)
+
+abbrev pub needed : ℕ → List ℕ → ℕ → Numbers → ℕ → Option ℕ → Option Need
+needed block sci an numbers ceiling None = None
+needed block sci an numbers ceiling (Some seen) =
+    if is_needed block numbers.next ceiling seen then Some (record { sci = sci; an = an; pn = seen }) else None
+
+-- the need of one association
+abbrev pub need_of : ℕ → List ℕ → ℕ → Option Numbers → Option ℕ → Option Need
+need_of block sci an (Some numbers) (Some ceiling) = needed block sci an numbers ceiling numbers.seen
+need_of block sci an numbers ceiling = None
+
+-- of the needs by SCI and association number, ascending, the first
+abbrev pub first_need : List (Option Need) → Option Need
+first_need [] = None
+first_need (None ∷ needs) = first_need needs
+first_need (Some need ∷ needs) = Some need
+
+abbrev pub needs_of : RxSide → (List ℕ → ℕ → Option ℕ) → ℕ → Option Need
+needs_of side ceilings block = first_need
+    (flat_map (λ sci. map (λ an. need_of block sci an (side.numbers sci an) (ceilings sci an)) (0 ∷ 1 ∷ 2 ∷ 3 ∷ [])) side.channels)
