@@ -3,6 +3,8 @@ pub mod Counting
 pub mod Current
 pub mod Findings
 pub mod Ready
+pub mod Spared
 pub mod Appends
 pub mod Holding
 pub mod Blank
+pub mod Closing

@@ -8,6 +8,7 @@ ghost use Rattle.macs_record.specs.declared.record.Record.{Record};
 ghost use Rattle.macs_journal.specs.Areas.{gate, slot_body};
 ghost use Rattle.macs_journal.specs.Found.{Content, with_record};
 ghost use Rattle.macs_journal.specs.Appending.{AtAppend, AtNext, IsBeforeOrAfter, calls_left};
+ghost use Rattle.macs_journal.specs.Work.{IsSpared};
 
 use crate::area::Area;
 use macs_disk::{DeviceFault, SectorDisk};
@@ -38,7 +39,7 @@ pub(crate) fn perform<D: SectorDisk>(
     requires size { 1028 ≤ (D.disk disk.old).sectors }
     ensures call { IsCall (D.disk disk.old) (D.disk disk.new) result }
     ensures others { IsHonest (D.disk disk.new) → (i : ℕ) → i ≢ slot_body area slot → i ≢ gate area (slot + 1)
-        → (now (D.disk disk.new)).seen i ≡ (now (D.disk disk.old)).seen i }
+        → IsSpared (D.disk disk.old) (D.disk disk.new) i }
     ensures images { IsHonest (D.disk disk.new) → (c : Content) (r : Record) → c.area ≡ area → length c.records ≡ slot
         → IsSectorOf r sector.now → AtAppend (now (D.disk disk.old)) c sector.now stage
         → (image : Image) → MayLeave (D.disk disk.new) image → IsBeforeOrAfter c (with_record c r) image }
@@ -53,7 +54,7 @@ pub(crate) fn perform<D: SectorDisk>(
             Ok(Some(AppendStage::BodySync))
         }
         AppendStage::BodySync => {
-            disk.sync()?;
+            disk.sync()?; // The body stands before its gate opens.
             Ok(Some(AppendStage::Gate))
         }
         AppendStage::Gate => {
@@ -61,7 +62,7 @@ pub(crate) fn perform<D: SectorDisk>(
             Ok(Some(AppendStage::GateSync))
         }
         AppendStage::GateSync => {
-            disk.sync()?;
+            disk.sync()?; // The gate stands before that is answered.
             Ok(None)
         }
     }

@@ -15,4 +15,7 @@ pub enum JournalFault {
     NotFormatted,
     /// A head gate is open, and what stands on the disk is no journal.
     BadJournal,
+    /// All 256 slots of the current area are used. An append has room as its condition: whoever
+    /// appends asks first, and answers this.
+    AreaFull,
 }

@@ -1,30 +1,33 @@
 //! A disk made a journal.
 
-ghost use Rattle.std.specs.Prelude.{◌≡◌, ◌<◌, ◌≤◌, ◌+◌, ◌↔◌, ◌⊎◌, ℕ, false, true, IfOk, OnOk, OnErr, IsErrOf};
+ghost use Rattle.std.specs.Prelude.{◌≡◌, ◌≢◌, ◌<◌, ◌≤◌, ◌+◌, ◌↔◌, ◌⊎◌, ℕ, false, true, IfOk, OnOk, OnErr, IsErrOf};
 ghost use Rattle.macs_config.specs.Identity.{Identity};
 ghost use Rattle.macs_disk.specs.Disk.{IsHonest, IsWork, MayLeave, now};
 ghost use Rattle.macs_disk.specs.Runs.{Leaves, LeavesNothingNew};
 ghost use Rattle.macs_disk.specs.States.{Image, synced};
 ghost use Rattle.macs_record.specs.Decoding.{IsSectorOf};
+ghost use Rattle.macs_record.specs.Gates.{closed_gate, open_gate};
 ghost use Rattle.macs_record.specs.Heads.{IsHeadOf};
 ghost use Rattle.macs_record.specs.Settings.{default_settings};
 ghost use Rattle.macs_journal.specs.Appending.{IsReady};
+ghost use Rattle.macs_journal.specs.Areas.{gate, head_body, slot_body};
 ghost use Rattle.macs_journal.specs.Found.{Finds, IsGateOpen, IsNotFormatted};
-ghost use Rattle.macs_journal.specs.Formatting.{FormatLeaves, IsBlank, IsFormatting, IsNewOrNone, first_content, first_head};
-ghost use Rattle.macs_journal.specs.Work.{IsWorkOf};
+ghost use Rattle.macs_journal.specs.Formatting.{FormatLeaves, FormatWrites, HasNewGates, IsBlank, IsFormatting, IsNewOrNone, first_content, first_head};
+ghost use Rattle.macs_journal.specs.Work.{IsSpared, IsWorkOf};
 ghost use Rattle.macs_journal.specs.declared.fault.JournalFault.TheVariants.{AlreadyFormatted, Disk, TooSmall};
 
 use crate::area::{Area, LEAST_SECTORS, SLOTS};
 use crate::fault::JournalFault;
-use crate::slots::gate_is_open;
 use macs_config::Identity;
 use macs_disk::{DeviceFault, SectorDisk};
 use macs_record::laws::{head_in_range, record_in_range};
 use macs_record::{CLOSED_GATE, Head, Record, SECTOR, encode, encode_head, is_open, open_gate};
 
 /// Makes a journal of a disk that has none: its one record is the settings that an endpoint begins
-/// with. Sectors from 1,028 on are not touched. Refused as `TooSmall`, then as `Disk` at the first call
-/// that fails, and as `AlreadyFormatted` where a head gate reads open after a first sync.
+/// with. Of the first area it writes the bodies of the head and of that record, the head gate, and the
+/// gates of slots where they read open; no other sector is touched. Refused as `TooSmall`, then as
+/// `Disk` at the first call that fails, and as `AlreadyFormatted` where a head gate reads open after a
+/// first sync.
 pub fn format<D: SectorDisk>(disk: &mut D, identity: &Identity) -> Result<(), JournalFault>
     ensures names { OnErr result (IsErrOf result TooSmall ⊎ (IsErrOf result Disk ⊎ IsErrOf result AlreadyFormatted)) }
     ensures small { IsErrOf result TooSmall ↔ ((D.disk disk.old).sectors < 1028) }
@@ -40,7 +43,9 @@ pub fn format<D: SectorDisk>(disk: &mut D, identity: &Identity) -> Result<(), Jo
     ensures done { OnOk result (IsHonest (D.disk disk.new) → IsReady (now (D.disk disk.new)) (first_content identity.now)) }
     ensures kept { OnOk result (IsHonest (D.disk disk.new) → (image : Image) → MayLeave (D.disk disk.new) image
         → Finds image (first_content identity.now)) }
-    ensures others { IsHonest (D.disk disk.new) → (i : ℕ) → 514 ≤ i → (now (D.disk disk.new)).seen i ≡ (now (D.disk disk.old)).seen i }
+    ensures gates { OnOk result (IsHonest (D.disk disk.new) → HasNewGates (now (D.disk disk.old)).seen (now (D.disk disk.new)).seen) }
+    ensures others { IsHonest (D.disk disk.new) → (i : ℕ) → ¬ FormatWrites (now (D.disk disk.old)).seen i
+        → IsSpared (D.disk disk.old) (D.disk disk.new) i }
 {
     if disk.sectors() < LEAST_SECTORS {
         return Err(JournalFault::TooSmall);
@@ -61,12 +66,12 @@ fn has_open_head<D: SectorDisk>(disk: &mut D) -> Result<bool, DeviceFault>
     ensures work { IsWork (D.disk disk.old) (D.disk disk.new) result }
     ensures nothing { IsHonest (D.disk disk.new) → LeavesNothingNew (D.disk disk.old) (D.disk disk.new) }
     ensures settled { OnOk result (IsHonest (D.disk disk.new) → now (D.disk disk.new) ≡ synced (now (D.disk disk.old))) }
-    ensures same { IsHonest (D.disk disk.new) → (i : ℕ) → (now (D.disk disk.new)).seen i ≡ (now (D.disk disk.old)).seen i }
+    ensures spared { IsHonest (D.disk disk.new) → (i : ℕ) → IsSpared (D.disk disk.old) (D.disk disk.new) i }
     ensures clear { IfOk result (λ is. is ≡ false → IsHonest (D.disk disk.new) → IsNotFormatted (now (D.disk disk.old)).seen) }
     ensures taken { IfOk result (λ is. is ≡ true → IsHonest (D.disk disk.new)
         → IsGateOpen (now (D.disk disk.old)).seen 0 0 ⊎ IsGateOpen (now (D.disk disk.old)).seen 1 0) }
 {
-    disk.sync()?;
+    disk.sync()?; // What reads give is what a power loss leaves.
     let mut first = [0; SECTOR];
     disk.read(Area::first().head_gate(), &mut first)?;
     let mut second = [0; SECTOR];
@@ -82,7 +87,9 @@ fn fill<D: SectorDisk>(disk: &mut D, identity: &Identity) -> Result<(), DeviceFa
         → Leaves (D.disk disk.old) (D.disk disk.new) (IsNewOrNone identity.now) }
     ensures done { OnOk result (IsHonest (D.disk disk.new) → IsBlank (now (D.disk disk.old))
         → IsReady (now (D.disk disk.new)) (first_content identity.now)) }
-    ensures others { IsHonest (D.disk disk.new) → (i : ℕ) → 514 ≤ i → (now (D.disk disk.new)).seen i ≡ (now (D.disk disk.old)).seen i }
+    ensures gates { OnOk result (IsHonest (D.disk disk.new) → HasNewGates (now (D.disk disk.old)).seen (now (D.disk disk.new)).seen) }
+    ensures others { IsHonest (D.disk disk.new) → (i : ℕ) → ¬ FormatWrites (now (D.disk disk.old)).seen i
+        → IsSpared (D.disk disk.old) (D.disk disk.new) i }
 {
     write_bodies(disk, identity)?;
     close_slots(disk)?;
@@ -98,7 +105,8 @@ fn write_bodies<D: SectorDisk>(disk: &mut D, identity: &Identity) -> Result<(), 
         → Leaves (D.disk disk.old) (D.disk disk.new) IsNotFormatted }
     ensures done { OnOk result (IsHonest (D.disk disk.new) → IsBlank (now (D.disk disk.old))
         → IsFormatting (now (D.disk disk.new)) identity.now 0) }
-    ensures others { IsHonest (D.disk disk.new) → (i : ℕ) → 514 ≤ i → (now (D.disk disk.new)).seen i ≡ (now (D.disk disk.old)).seen i }
+    ensures others { IsHonest (D.disk disk.new) → (i : ℕ) → i ≢ head_body 0 → i ≢ slot_body 0 0
+        → IsSpared (D.disk disk.old) (D.disk disk.new) i }
 {
     let area = Area::first();
     disk.write(area.head_body(), &first_head(identity))?;
@@ -114,7 +122,11 @@ fn close_slots<D: SectorDisk>(disk: &mut D) -> Result<(), DeviceFault>
         → Leaves (D.disk disk.old) (D.disk disk.new) IsNotFormatted }
     ensures done { OnOk result (IsHonest (D.disk disk.new) → (identity : Identity)
         → IsFormatting (now (D.disk disk.old)) identity 0 → IsFormatting (now (D.disk disk.new)) identity 256) }
-    ensures others { IsHonest (D.disk disk.new) → (i : ℕ) → 514 ≤ i → (now (D.disk disk.new)).seen i ≡ (now (D.disk disk.old)).seen i }
+    ensures gates { OnOk result (IsHonest (D.disk disk.new) → (slot : ℕ) → slot < 256
+        → IsGateOpen (now (D.disk disk.old)).seen 0 (slot + 1) → (now (D.disk disk.new)).seen (gate 0 (slot + 1)) ≡ closed_gate) }
+    ensures others { IsHonest (D.disk disk.new) → (i : ℕ)
+        → ((slot : ℕ) → slot < 256 → IsGateOpen (now (D.disk disk.old)).seen 0 (slot + 1) → i ≢ gate 0 (slot + 1))
+        → IsSpared (D.disk disk.old) (D.disk disk.new) i }
 {
     for slot in 0..SLOTS {
         close_slot(disk, slot)?;
@@ -132,11 +144,18 @@ fn close_slot<D: SectorDisk>(disk: &mut D, slot: u64) -> Result<(), DeviceFault>
     ensures blank { IsHonest (D.disk disk.new) → IsBlank (now (D.disk disk.old)) → IsBlank (now (D.disk disk.new)) }
     ensures done { OnOk result (IsHonest (D.disk disk.new) → (identity : Identity)
         → IsFormatting (now (D.disk disk.old)) identity slot → IsFormatting (now (D.disk disk.new)) identity (slot + 1)) }
-    ensures others { IsHonest (D.disk disk.new) → (i : ℕ) → 514 ≤ i → (now (D.disk disk.new)).seen i ≡ (now (D.disk disk.old)).seen i }
+    ensures gate { OnOk result (IsHonest (D.disk disk.new) → IsGateOpen (now (D.disk disk.old)).seen 0 (slot + 1)
+        → (now (D.disk disk.new)).seen (gate 0 (slot + 1)) ≡ closed_gate) }
+    ensures closed { IsHonest (D.disk disk.new) → ¬ IsGateOpen (now (D.disk disk.old)).seen 0 (slot + 1)
+        → (i : ℕ) → IsSpared (D.disk disk.old) (D.disk disk.new) i }
+    ensures others { IsHonest (D.disk disk.new) → (i : ℕ) → i ≢ gate 0 (slot + 1)
+        → IsSpared (D.disk disk.old) (D.disk disk.new) i }
 {
-    let area = Area::first();
-    if gate_is_open(disk, area, slot)? {
-        disk.write(area.slot_gate(slot), &CLOSED_GATE)?;
+    let at = Area::first().slot_gate(slot);
+    let mut gate = [0; SECTOR];
+    disk.read(at, &mut gate)?;
+    if is_open(&gate) {
+        disk.write(at, &CLOSED_GATE)?;
     }
     Ok(())
 }
@@ -149,11 +168,12 @@ fn open_head<D: SectorDisk>(disk: &mut D, identity: &Identity) -> Result<(), Dev
         → Leaves (D.disk disk.old) (D.disk disk.new) (IsNewOrNone identity.now) }
     ensures done { OnOk result (IsHonest (D.disk disk.new) → IsFormatting (now (D.disk disk.old)) identity.now 256
         → IsReady (now (D.disk disk.new)) (first_content identity.now)) }
-    ensures others { IsHonest (D.disk disk.new) → (i : ℕ) → 514 ≤ i → (now (D.disk disk.new)).seen i ≡ (now (D.disk disk.old)).seen i }
+    ensures gate { OnOk result (IsHonest (D.disk disk.new) → (now (D.disk disk.new)).seen (gate 0 0) ≡ open_gate) }
+    ensures others { IsHonest (D.disk disk.new) → (i : ℕ) → i ≢ gate 0 0 → IsSpared (D.disk disk.old) (D.disk disk.new) i }
 {
-    disk.sync()?;
+    disk.sync()?; // The bodies and closed gates stand before the head says so.
     disk.write(Area::first().head_gate(), &open_gate())?;
-    disk.sync()?;
+    disk.sync()?; // The head stands before that is answered.
     Ok(())
 }
 

@@ -4,12 +4,13 @@ ghost use Rattle.std.specs.Prelude.{◌≡◌, ◌≢◌, ◌<◌, ◌≤◌, �
 ghost use Rattle.macs_disk.specs.Disk.{IsHonest, MayLeave, now};
 ghost use Rattle.macs_disk.specs.Runs.{Leaves};
 ghost use Rattle.macs_disk.specs.States.{Image};
+ghost use Rattle.macs_record.specs.Gates.{open_gate};
 ghost use Rattle.macs_record.specs.declared.record.Record.{Record};
 ghost use Rattle.macs_journal.specs.Areas.{gate, slot_body};
 ghost use Rattle.macs_journal.specs.Found.{Content, Finds, with_record};
 ghost use Rattle.macs_journal.specs.Appending.{IsBeforeOrAfter};
 ghost use Rattle.macs_journal.specs.Kept.{ComesTo, IsHolding, Kept, left_of};
-ghost use Rattle.macs_journal.specs.Work.{IsWorkOf};
+ghost use Rattle.macs_journal.specs.Work.{IsSpared, IsWorkOf};
 ghost use Rattle.macs_journal.specs.declared.fault.JournalFault.TheVariants.{Disk, Stopped};
 
 use crate::appending::{AppendStage, perform};
@@ -63,6 +64,14 @@ impl<D: SectorDisk> Journal<D> {
         self.place.free == SLOTS
     }
 
+    /// Whether a device call failed: the disk is to be recovered again.
+    pub fn is_stopped(&self) -> bool
+        ensures { result ≡ self.now.stopped }
+    {
+        let Journal { stopped, .. } = self;
+        *stopped
+    }
+
     /// The disk, as it stands.
     pub fn into_disk(self) -> D
         ensures { result ≡ self.disk }
@@ -81,6 +90,7 @@ impl<D: SectorDisk> Journal<D> {
         ensures same { self.old.stopped ≡ true → self.new ≡ self.old }
         ensures names { OnErr result (IsErrOf result Stopped ⊎ IsErrOf result Disk) }
         ensures work { IsWorkOf (D.disk self.old.disk) (D.disk self.new.disk) result }
+        ensures four { (D.disk self.new.disk).clock ≤ (D.disk self.old.disk).clock + 4 }
         ensures after { self.new.stopped ≡ is_err result }
         ensures any_moment { IsHonest (D.disk self.new.disk) → (before : Content)
             → IsHolding (now (D.disk self.old.disk)) self.old.place self.old.hand before before
@@ -91,9 +101,12 @@ impl<D: SectorDisk> Journal<D> {
         ensures kept { OnOk result (IsHonest (D.disk self.new.disk) → (before : Content)
             → IsHolding (now (D.disk self.old.disk)) self.old.place self.old.hand before before
             → (image : Image) → MayLeave (D.disk self.new.disk) image → Finds image (with_record before value.now)) }
+        ensures gate { OnOk result (IsHonest (D.disk self.new.disk) → (before : Content)
+            → IsHolding (now (D.disk self.old.disk)) self.old.place self.old.hand before before
+            → (now (D.disk self.new.disk)).seen (gate self.old.place.area (self.old.place.free + 1)) ≡ open_gate) }
         ensures others { IsHonest (D.disk self.new.disk) → (i : ℕ) → i ≢ slot_body self.old.place.area self.old.place.free
             → i ≢ gate self.old.place.area (self.old.place.free + 1)
-            → (now (D.disk self.new.disk)).seen i ≡ (now (D.disk self.old.disk)).seen i }
+            → IsSpared (D.disk self.old.disk) (D.disk self.new.disk) i }
     {
         if self.stopped {
             return Err(JournalFault::Stopped);
@@ -111,6 +124,7 @@ impl<D: SectorDisk> Journal<D> {
         requires running { self.old.stopped ≡ false }
         ensures names { OnErr result (IsErrOf result Disk) }
         ensures work { IsWorkOf (D.disk self.old.disk) (D.disk self.new.disk) result }
+        ensures few { (D.disk self.new.disk).clock ≤ (D.disk self.old.disk).clock + left_of self.old.hand }
         ensures after { self.new.stopped ≡ is_err result }
         ensures any_moment { IsHonest (D.disk self.new.disk) → (before after : Content)
             → IsHolding (now (D.disk self.old.disk)) self.old.place self.old.hand before after
@@ -118,9 +132,12 @@ impl<D: SectorDisk> Journal<D> {
         ensures done { OnOk result (IsHonest (D.disk self.new.disk) → (before after : Content)
             → IsHolding (now (D.disk self.old.disk)) self.old.place self.old.hand before after
             → IsHolding (now (D.disk self.new.disk)) self.new.place self.new.hand after after) }
+        ensures gate { OnOk result (IsSome self.old.hand → IsHonest (D.disk self.new.disk) → (before after : Content)
+            → IsHolding (now (D.disk self.old.disk)) self.old.place self.old.hand before after
+            → (now (D.disk self.new.disk)).seen (gate self.old.place.area (self.old.place.free + 1)) ≡ open_gate) }
         ensures others { IsHonest (D.disk self.new.disk) → (i : ℕ) → i ≢ slot_body self.old.place.area self.old.place.free
             → i ≢ gate self.old.place.area (self.old.place.free + 1)
-            → (now (D.disk self.new.disk)).seen i ≡ (now (D.disk self.old.disk)).seen i }
+            → IsSpared (D.disk self.old.disk) (D.disk self.new.disk) i }
     {
         while let Some(hand) = self.hand {
             self.step(hand)?;
@@ -142,11 +159,14 @@ impl<D: SectorDisk> Journal<D> {
         ensures next { OnOk result (IsHonest (D.disk self.new.disk) → (before after : Content)
             → IsHolding (now (D.disk self.old.disk)) self.old.place self.old.hand before after
             → ComesTo (now (D.disk self.new.disk)) self.new.place self.new.hand before after) }
+        ensures gate { OnOk result (self.new.hand ≡ None → IsHonest (D.disk self.new.disk) → (before after : Content)
+            → IsHolding (now (D.disk self.old.disk)) self.old.place self.old.hand before after
+            → (now (D.disk self.new.disk)).seen (gate self.old.place.area (self.old.place.free + 1)) ≡ open_gate) }
         ensures left { OnOk result (left_of self.new.hand < left_of self.old.hand) }
         ensures place { IsSome self.new.hand → self.new.place ≡ self.old.place }
         ensures others { IsHonest (D.disk self.new.disk) → (i : ℕ) → i ≢ slot_body self.old.place.area self.old.place.free
             → i ≢ gate self.old.place.area (self.old.place.free + 1)
-            → (now (D.disk self.new.disk)).seen i ≡ (now (D.disk self.old.disk)).seen i }
+            → IsSpared (D.disk self.old.disk) (D.disk self.new.disk) i }
     {
         let Place { area, free, .. } = self.place;
         match perform(&mut self.disk, area, free, &hand.sector, hand.stage) {

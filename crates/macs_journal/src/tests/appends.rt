@@ -1,15 +1,11 @@
 //! Appends, stopped at each call of the disk.
 
-use super::{SECTORS, append, formatted, has, opened, sector_of};
+use super::{RECOVERY, SECTORS, append, formatted, has, opened, sector_of};
 use crate::{JournalFault, recover};
 use macs_disk::{Fuse, MemDisk, SectorDisk};
 use std::alloc::Global;
 use std::process::Abort;
 use std::test::Fail;
-
-/// How many calls a recovery makes of a disk with a new journal: a sync, the reads of two head gates
-/// and a head body, of 255 gates behind the snapshot and of a body.
-const RECOVERY: u64 = 1 + 3 + 255 + 1;
 
 #[test]
 fn appended_records_are_found(rt: HostRuntime) -> Result<(), Fail> {

@@ -1,10 +1,11 @@
-use Rattle.std.proofs.Common.{◌≡◌, inl, inr, sym, ◌∙◌, subst}
+use Rattle.std.proofs.Common.{inl, inr, sym, ◌∙◌, subst}
 use Rattle.macs_disk.specs.Disk.{IsHonest, MayLeave, now}
-use Rattle.macs_disk.specs.States.{State}
 use Rattle.macs_disk.proofs.Moments.{Leaves-join}
 use Rattle.macs_journal.specs.Formatting.{FormatLeaves, IsBlank, IsNewOrNone}
 use Rattle.macs_journal.proofs.Blank.{blank-synced}
+use Rattle.macs_journal.proofs.Closing.{writes-same}
 use Rattle.macs_journal.proofs.Ready.{ready-image}
+use Rattle.macs_journal.proofs.Spared.{Spared-on}
 use Rattle.macs_journal.proofs.formatting.format.Goals as goal
 
 pub returns-in-Ok-clause-any_moment : goal.returns-in-Ok-clause-any_moment
@@ -37,3 +38,15 @@ returns-in-Ok-clause-done g c honest =
 
 pub returns-in-Ok-clause-kept : goal.returns-in-Ok-clause-kept
 returns-in-Ok-clause-kept g c honest = ready-image _ _ (returns-in-Ok-clause-done g c honest)
+
+pub returns-in-Ok-clause-others : goal.returns-in-Ok-clause-others
+returns-in-Ok-clause-others g c honest i apart =
+    let before : IsHonest (g.D.SectorDisk.disk c.has_open_head.new.disk) = sym c.fill.ensures.work.works.honest ∙ honest in
+    Spared-on _ _ _ i c.has_open_head.ensures.work.works c.fill.ensures.work.works (c.has_open_head.ensures.spared before i)
+    (c.fill.ensures.others honest i (writes-same _ _ i (λ j. (c.in-Ok-false.ensures.settled before j).seen) apart))
+
+pub returns-in-Err-fill-clause-others : goal.returns-in-Err-fill-clause-others
+returns-in-Err-fill-clause-others g c honest i apart =
+    let before : IsHonest (g.D.SectorDisk.disk c.has_open_head.new.disk) = sym c.fill.ensures.work.works.honest ∙ honest in
+    Spared-on _ _ _ i c.has_open_head.ensures.work.works c.fill.ensures.work.works (c.has_open_head.ensures.spared before i)
+    (c.fill.ensures.others honest i (writes-same _ _ i (λ j. (c.in-Ok-false.ensures.settled before j).seen) apart))
