@@ -54,7 +54,7 @@ pub record Works (old new : Disk) : Type 0 where
 abbrev pub Rose : Disk → Disk → Type 0
 Rose old new = (old.failures < new.failures) ⊎ (new.worn ≡ true)
 
--- calls of which the last alone may have failed, where the result tells whether it did
+-- calls, and a result that tells whether one of them failed
 pub record IsWork {T E : Type 0} (old new : Disk) (result : Result T E) : Type 0 where
   pub works : Works old new
   pub ok : OnOk result (new.failures ≡ old.failures)

@@ -37,6 +37,8 @@ pub fn format<D: SectorDisk>(disk: &mut D, identity: &Identity) -> Result<(), Jo
         → (IsGateOpen (now (D.disk disk.old)).seen 0 0 ⊎ IsGateOpen (now (D.disk disk.old)).seen 1 0)
         × LeavesNothingNew (D.disk disk.old) (D.disk disk.new)
         × (now (D.disk disk.new) ≡ synced (now (D.disk disk.old))) }
+    ensures journal { IsGateOpen (now (D.disk disk.old)).seen 0 0 ⊎ IsGateOpen (now (D.disk disk.old)).seen 1 0
+        → IsHonest (D.disk disk.new) → (i : ℕ) → IsSpared (D.disk disk.old) (D.disk disk.new) i }
     ensures blank { OnOk result (IsHonest (D.disk disk.new) → IsNotFormatted (now (D.disk disk.old)).seen) }
     ensures any_moment { IsHonest (D.disk disk.new)
         → Leaves (D.disk disk.old) (D.disk disk.new) (FormatLeaves (now (D.disk disk.old)) identity.now) }
@@ -93,7 +95,7 @@ fn fill<D: SectorDisk>(disk: &mut D, identity: &Identity) -> Result<(), DeviceFa
 {
     write_bodies(disk, identity)?;
     close_slots(disk)?;
-    open_head(disk, identity)?;
+    open_head(disk)?;
     Ok(())
 }
 
@@ -161,13 +163,13 @@ fn close_slot<D: SectorDisk>(disk: &mut D, slot: u64) -> Result<(), DeviceFault>
 }
 
 /// Makes sure of the bodies and the closed gates, and then opens the head gate.
-fn open_head<D: SectorDisk>(disk: &mut D, identity: &Identity) -> Result<(), DeviceFault>
+fn open_head<D: SectorDisk>(disk: &mut D) -> Result<(), DeviceFault>
     requires size { 1028 ≤ (D.disk disk.old).sectors }
     ensures work { IsWork (D.disk disk.old) (D.disk disk.new) result }
-    ensures images { IsHonest (D.disk disk.new) → IsFormatting (now (D.disk disk.old)) identity.now 256
-        → Leaves (D.disk disk.old) (D.disk disk.new) (IsNewOrNone identity.now) }
-    ensures done { OnOk result (IsHonest (D.disk disk.new) → IsFormatting (now (D.disk disk.old)) identity.now 256
-        → IsReady (now (D.disk disk.new)) (first_content identity.now)) }
+    ensures images { IsHonest (D.disk disk.new) → (identity : Identity) → IsFormatting (now (D.disk disk.old)) identity 256
+        → Leaves (D.disk disk.old) (D.disk disk.new) (IsNewOrNone identity) }
+    ensures done { OnOk result (IsHonest (D.disk disk.new) → (identity : Identity) → IsFormatting (now (D.disk disk.old)) identity 256
+        → IsReady (now (D.disk disk.new)) (first_content identity)) }
     ensures gate { OnOk result (IsHonest (D.disk disk.new) → (now (D.disk disk.new)).seen (gate 0 0) ≡ open_gate) }
     ensures others { IsHonest (D.disk disk.new) → (i : ℕ) → i ≢ gate 0 0 → IsSpared (D.disk disk.old) (D.disk disk.new) i }
 {

@@ -91,7 +91,10 @@ impl<D: SectorDisk> Journal<D> {
         ensures names { OnErr result (IsErrOf result Stopped ⊎ IsErrOf result Disk) }
         ensures work { IsWorkOf (D.disk self.old.disk) (D.disk self.new.disk) result }
         ensures four { (D.disk self.new.disk).clock ≤ (D.disk self.old.disk).clock + 4 }
+        ensures calls { OnOk result ((D.disk self.new.disk).clock ≡ (D.disk self.old.disk).clock + 4) }
         ensures after { self.new.stopped ≡ is_err result }
+        ensures place { OnOk result ((self.new.place ≡ record self.old.place { free = self.old.place.free + 1 }) × (self.new.hand ≡ None)) }
+        ensures at_fault { OnErr result (self.new.place ≡ self.old.place) }
         ensures any_moment { IsHonest (D.disk self.new.disk) → (before : Content)
             → IsHolding (now (D.disk self.old.disk)) self.old.place self.old.hand before before
             → Leaves (D.disk self.old.disk) (D.disk self.new.disk) (IsBeforeOrAfter before (with_record before value.now)) }
@@ -125,7 +128,11 @@ impl<D: SectorDisk> Journal<D> {
         ensures names { OnErr result (IsErrOf result Disk) }
         ensures work { IsWorkOf (D.disk self.old.disk) (D.disk self.new.disk) result }
         ensures few { (D.disk self.new.disk).clock ≤ (D.disk self.old.disk).clock + left_of self.old.hand }
+        ensures calls { OnOk result ((D.disk self.new.disk).clock ≡ (D.disk self.old.disk).clock + left_of self.old.hand) }
         ensures after { self.new.stopped ≡ is_err result }
+        ensures idle { OnOk result (self.new.hand ≡ None) }
+        ensures moved { OnOk result (IsSome self.old.hand → self.new.place ≡ record self.old.place { free = self.old.place.free + 1 }) }
+        ensures at_fault { OnErr result (self.new.place ≡ self.old.place) }
         ensures any_moment { IsHonest (D.disk self.new.disk) → (before after : Content)
             → IsHolding (now (D.disk self.old.disk)) self.old.place self.old.hand before after
             → Leaves (D.disk self.old.disk) (D.disk self.new.disk) (IsBeforeOrAfter before after) }
@@ -153,6 +160,7 @@ impl<D: SectorDisk> Journal<D> {
         ensures work { IsWorkOf (D.disk self.old.disk) (D.disk self.new.disk) result }
         ensures after { self.new.stopped ≡ is_err result }
         ensures one { (D.disk self.new.disk).clock ≤ (D.disk self.old.disk).clock + 1 }
+        ensures call { OnOk result ((D.disk self.new.disk).clock ≡ (D.disk self.old.disk).clock + 1) }
         ensures any_moment { IsHonest (D.disk self.new.disk) → (before after : Content)
             → IsHolding (now (D.disk self.old.disk)) self.old.place self.old.hand before after
             → Leaves (D.disk self.old.disk) (D.disk self.new.disk) (IsBeforeOrAfter before after) }
@@ -162,8 +170,10 @@ impl<D: SectorDisk> Journal<D> {
         ensures gate { OnOk result (self.new.hand ≡ None → IsHonest (D.disk self.new.disk) → (before after : Content)
             → IsHolding (now (D.disk self.old.disk)) self.old.place self.old.hand before after
             → (now (D.disk self.new.disk)).seen (gate self.old.place.area (self.old.place.free + 1)) ≡ open_gate) }
-        ensures left { OnOk result (left_of self.new.hand < left_of self.old.hand) }
+        ensures left { OnOk result (left_of self.new.hand + 1 ≡ left_of self.old.hand) }
         ensures place { IsSome self.new.hand → self.new.place ≡ self.old.place }
+        ensures moved { OnOk result (self.new.hand ≡ None → self.new.place ≡ record self.old.place { free = self.old.place.free + 1 }) }
+        ensures at_fault { OnErr result (self.new.place ≡ self.old.place) }
         ensures others { IsHonest (D.disk self.new.disk) → (i : ℕ) → i ≢ slot_body self.old.place.area self.old.place.free
             → i ≢ gate self.old.place.area (self.old.place.free + 1)
             → IsSpared (D.disk self.old.disk) (D.disk self.new.disk) i }

@@ -1,5 +1,5 @@
-//! A journal of records on a disk: a record is there after a power loss at any moment exactly if its
-//! gate was durably open.
+//! A journal of records on a disk: after a power loss at any moment a record is there always once its
+//! gate was durably open, and never while that is durably closed.
 #![tactic(auto)]
 
 mod appending;

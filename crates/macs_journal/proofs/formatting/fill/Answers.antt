@@ -27,7 +27,7 @@ returns-in_err-open_head-clause-images g c honest blank =
     let f = c.in_ok-write_bodies.ensures.done honest1 blank in
     let g2 = c.in_ok-close_slots.ensures.done honest2 _ f in
     let before = Leaves-join _ _ _ IsNotFormatted IsNotFormatted P (c.write_bodies.ensures.images honest1 blank) (c.close_slots.ensures.images honest2 f.blank) (λ image none. inl none) (λ image none. inl none) in
-    Leaves-join _ _ _ P P P before (c.open_head.ensures.images honest g2) (λ image p. p) (λ image p. p)
+    Leaves-join _ _ _ P P P before (c.open_head.ensures.images honest _ g2) (λ image p. p) (λ image p. p)
 
 pub returns-clause-images : goal.returns-clause-images
 returns-clause-images g c honest blank =
@@ -38,7 +38,7 @@ returns-clause-images g c honest blank =
     let f = c.in_ok-write_bodies.ensures.done honest1 blank in
     let g2 = c.in_ok-close_slots.ensures.done honest2 _ f in
     let before = Leaves-join _ _ _ IsNotFormatted IsNotFormatted P (c.write_bodies.ensures.images honest1 blank) (c.close_slots.ensures.images honest2 f.blank) (λ image none. inl none) (λ image none. inl none) in
-    Leaves-join _ _ _ P P P before (c.open_head.ensures.images honest g2) (λ image p. p) (λ image p. p)
+    Leaves-join _ _ _ P P P before (c.open_head.ensures.images honest _ g2) (λ image p. p) (λ image p. p)
 
 pub returns-clause-done : goal.returns-clause-done
 returns-clause-done g c honest blank =
@@ -48,7 +48,7 @@ returns-clause-done g c honest blank =
     let honest1 : IsHonest (d c.write_bodies.new.disk) = sym c.close_slots.ensures.work.works.honest ∙ honest2 in
     let f = c.in_ok-write_bodies.ensures.done honest1 blank in
     let g2 = c.in_ok-close_slots.ensures.done honest2 _ f in
-    c.in_ok-open_head.ensures.done honest g2
+    c.in_ok-open_head.ensures.done honest _ g2
 
 pub returns-in_err-write_bodies-clause-others : goal.returns-in_err-write_bodies-clause-others
 returns-in_err-write_bodies-clause-others g c honest =

@@ -12,10 +12,10 @@ use Rattle.macs_journal.proofs.formatting.open_head.Goals as goal
 use Rattle.macs_journal.proofs.formatting.open_head.Goals.{After-write}
 
 pub returns-in_err-sync-clause-images : goal.returns-in_err-sync-clause-images
-returns-in_err-sync-clause-images g c honest f =
+returns-in_err-sync-clause-images g c honest identity f =
     let d = g.D.SectorDisk.disk in
     let old = d c.args.disk.now in
-    let P = IsNewOrNone c.args.identity.now in
+    let P = IsNewOrNone identity in
     let honest1 : IsHonest (d c.sync.new.self) = honest in
     let honest0 : IsHonest old = sym c.sync.ensures.call.work.works.honest ∙ honest1 in
     let start = Leaves-start old P (λ image left. inl (blank-image _ f.blank image left)) in
@@ -24,59 +24,59 @@ returns-in_err-sync-clause-images g c honest f =
     first
 
 pub returns-in_err-write-clause-images : goal.returns-in_err-write-clause-images
-returns-in_err-write-clause-images g c honest f =
+returns-in_err-write-clause-images g c honest identity f =
     let d = g.D.SectorDisk.disk in
     let at : c.head_gate.result ≡ 1 = omega (arith, c.head_gate.ensures.at, c.first.ensures) in
     let old = d c.args.disk.now in
-    let P = IsNewOrNone c.args.identity.now in
+    let P = IsNewOrNone identity in
     let honest1 : IsHonest (d c.sync.new.self) = sym c.write.ensures.call.work.works.honest ∙ honest in
     let honest0 : IsHonest old = sym c.sync.ensures.call.work.works.honest ∙ honest1 in
     let start = Leaves-start old P (λ image left. inl (blank-image _ f.blank image left)) in
     let first = Leaves-call old old (d c.sync.new.self) c.sync.result P start c.sync.ensures.call
     (λ image left. inl (blank-image _ f.blank image (sync-image _ _ _ (g.met.D.SectorDisk.sound c.args.disk.now honest0).fit (c.sync.ensures.effect honest1) image left))) in
-    Leaves-call old (d c.sync.new.self) (d c.write.new.self) c.write.result P first c.write.ensures.call (opened _ _ (now (d c.write.new.self)) c.args.identity.now _ at f (c.in_ok-sync.ensures.effect honest1).ok (wrote _ _ _ _ _ (c.write.ensures.effect honest)))
+    Leaves-call old (d c.sync.new.self) (d c.write.new.self) c.write.result P first c.write.ensures.call (opened _ _ (now (d c.write.new.self)) identity _ at f (c.in_ok-sync.ensures.effect honest1).ok (wrote _ _ _ _ _ (c.write.ensures.effect honest)))
 
 pub returns-in_err-sync-2-clause-images : goal.returns-in_err-sync-2-clause-images
-returns-in_err-sync-2-clause-images g c honest f =
+returns-in_err-sync-2-clause-images g c honest identity f =
     let honest2 : IsHonest (g.D.SectorDisk.disk c.write.new.self) = sym c.sync-2.ensures.call.work.works.honest ∙ honest in
     let d = g.D.SectorDisk.disk in
     let at : c.head_gate.result ≡ 1 = omega (arith, c.head_gate.ensures.at, c.first.ensures) in
     let old = d c.args.disk.now in
-    let P = IsNewOrNone c.args.identity.now in
+    let P = IsNewOrNone identity in
     let honest1 : IsHonest (d c.sync.new.self) = sym c.write.ensures.call.work.works.honest ∙ honest2 in
     let honest0 : IsHonest old = sym c.sync.ensures.call.work.works.honest ∙ honest1 in
     let start = Leaves-start old P (λ image left. inl (blank-image _ f.blank image left)) in
     let first = Leaves-call old old (d c.sync.new.self) c.sync.result P start c.sync.ensures.call
     (λ image left. inl (blank-image _ f.blank image (sync-image _ _ _ (g.met.D.SectorDisk.sound c.args.disk.now honest0).fit (c.sync.ensures.effect honest1) image left))) in
-    let here = opened _ _ (now (d c.write.new.self)) c.args.identity.now _ at f (c.in_ok-sync.ensures.effect honest1).ok (wrote _ _ _ _ _ (c.write.ensures.effect honest2)) in
+    let here = opened _ _ (now (d c.write.new.self)) identity _ at f (c.in_ok-sync.ensures.effect honest1).ok (wrote _ _ _ _ _ (c.write.ensures.effect honest2)) in
     let second = Leaves-call old (d c.sync.new.self) (d c.write.new.self) c.write.result P first c.write.ensures.call here in
     Leaves-call old (d c.write.new.self) (d c.sync-2.new.self) c.sync-2.result P second c.sync-2.ensures.call
     (λ image left. here image (sync-image _ _ _ (g.met.D.SectorDisk.sound c.write.new.self honest2).fit (c.sync-2.ensures.effect honest) image left))
 
 pub returns-clause-images : goal.returns-clause-images
-returns-clause-images g c honest f =
+returns-clause-images g c honest identity f =
     let honest2 : IsHonest (g.D.SectorDisk.disk c.write.new.self) = sym c.sync-2.ensures.call.work.works.honest ∙ honest in
     let d = g.D.SectorDisk.disk in
     let at : c.head_gate.result ≡ 1 = omega (arith, c.head_gate.ensures.at, c.first.ensures) in
     let old = d c.args.disk.now in
-    let P = IsNewOrNone c.args.identity.now in
+    let P = IsNewOrNone identity in
     let honest1 : IsHonest (d c.sync.new.self) = sym c.write.ensures.call.work.works.honest ∙ honest2 in
     let honest0 : IsHonest old = sym c.sync.ensures.call.work.works.honest ∙ honest1 in
     let start = Leaves-start old P (λ image left. inl (blank-image _ f.blank image left)) in
     let first = Leaves-call old old (d c.sync.new.self) c.sync.result P start c.sync.ensures.call
     (λ image left. inl (blank-image _ f.blank image (sync-image _ _ _ (g.met.D.SectorDisk.sound c.args.disk.now honest0).fit (c.sync.ensures.effect honest1) image left))) in
-    let here = opened _ _ (now (d c.write.new.self)) c.args.identity.now _ at f (c.in_ok-sync.ensures.effect honest1).ok (wrote _ _ _ _ _ (c.write.ensures.effect honest2)) in
+    let here = opened _ _ (now (d c.write.new.self)) identity _ at f (c.in_ok-sync.ensures.effect honest1).ok (wrote _ _ _ _ _ (c.write.ensures.effect honest2)) in
     let second = Leaves-call old (d c.sync.new.self) (d c.write.new.self) c.write.result P first c.write.ensures.call here in
     Leaves-call old (d c.write.new.self) (d c.sync-2.new.self) c.sync-2.result P second c.sync-2.ensures.call
     (λ image left. here image (sync-image _ _ _ (g.met.D.SectorDisk.sound c.write.new.self honest2).fit (c.sync-2.ensures.effect honest) image left))
 
 pub returns-clause-done : goal.returns-clause-done
-returns-clause-done g c honest f =
+returns-clause-done g c honest identity f =
     let d = g.D.SectorDisk.disk in
     let at : c.head_gate.result ≡ 1 = omega (arith, c.head_gate.ensures.at, c.first.ensures) in
     let honest2 : IsHonest (d c.write.new.self) = sym c.sync-2.ensures.call.work.works.honest ∙ honest in
     let honest1 : IsHonest (d c.sync.new.self) = sym c.write.ensures.call.work.works.honest ∙ honest2 in
-    formatted _ _ _ _ c.args.identity.now _ c.open_gate.result at f (c.in_ok-sync.ensures.effect honest1).ok (subst IsOpen (sym c.open_gate.ensures) open_gate-opens)
+    formatted _ _ _ _ identity _ c.open_gate.result at f (c.in_ok-sync.ensures.effect honest1).ok (subst IsOpen (sym c.open_gate.ensures) open_gate-opens)
     (c.in_ok-write.ensures.effect honest2).ok (c.in_ok-sync-2.ensures.effect honest).ok
 
 -- a sync, and then the gate is written, whole or torn
