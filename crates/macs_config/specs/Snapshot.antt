@@ -11,6 +11,10 @@ use Rattle.macs_config.specs.declared.command.Role.TheVariants.{Transmit, Receiv
 use Rattle.macs_config.specs.declared.part.Part.{Part}
 use Rattle.macs_config.specs.declared.part.Part.TheVariants.{Settings, TxSa, Channel, RxSa, Spent}
 
+-- the settings of what an endpoint is formatted with
+abbrev pub default_part : Part
+default_part = Settings default.validate default.replay default.mode default.encoding
+
 -- ---- order
 
 -- a part's place in the order of a snapshot

@@ -1,6 +1,6 @@
 //! The parts of a snapshot of a configuration.
 
-ghost use Rattle.std.specs.Prelude.{◌≡◌, ◌≤◌, ◌<◌, ◌++◌, ◌↔◌, [], ◌∷◌, length, List, ℕ, IsTrue, true, false};
+ghost use Rattle.std.specs.Prelude.{◌≡◌, ◌≤◌, ◌<◌, ◌++◌, ◌↔◌, [], ◌∷◌, length, List, ℕ, IsTrue, IsSome, IfSome, true, false};
 
 use crate::association::{RxSa, TxSa};
 use crate::command::{Replay, Role, SciMode, Validate};
@@ -34,6 +34,19 @@ impl Fingerprints {
         let mut items = ArrayVec::new();
         items.push(first);
         Fingerprints { items }
+    }
+
+    /// These fingerprints. `None` for none, and for more than 15.
+    pub fn from_slice(fingerprints: &[Fingerprint]) -> Option<Fingerprints>
+        ensures within { IsSome result ↔ ((1 ≤ length fingerprints.now) × (length fingerprints.now ≤ 15)) }
+        ensures same { IfSome result (λ f. f ≡ fingerprints.now) }
+    {
+        if fingerprints.is_empty() {
+            return None;
+        }
+        let mut items = ArrayVec::new();
+        items.try_extend_from_slice(fingerprints).ok()?;
+        Some(Fingerprints { items })
     }
 
     /// Adds a fingerprint, and answers whether it did: 15 are the most.
@@ -82,4 +95,24 @@ pub enum Part {
         role: Role,
         fingerprints: Fingerprints,
     },
+}
+
+impl Default for Part {
+    ghost use Rattle.std.specs.Prelude.{◌≡◌};
+    ghost use Rattle.macs_config.specs.Snapshot.{default_part};
+
+    /// The settings of a new configuration.
+    fn default() -> Part
+        ensures { result ≡ default_part }
+    {
+        Part::Settings {
+            validate: Validate::Strict,
+            replay: Replay {
+                on: true,
+                window: 0,
+            },
+            sci_mode: SciMode::Explicit,
+            encoding: None,
+        }
+    }
 }

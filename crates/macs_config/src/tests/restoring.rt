@@ -368,3 +368,26 @@ fn a_part_holds_fifteen_fingerprints(rt: HostRuntime) {
     assert_eq!(rt; held.len(), 15);
     assert_eq!(rt; (held[1], held[14]), (made_up(1), made_up(14)));
 }
+
+#[test]
+fn fingerprints_are_1_to_15(rt: HostRuntime) {
+    assert!(rt; Fingerprints::from_slice(&[]).is_none());
+    assert!(rt; Fingerprints::from_slice(&[[7; 32]; 16]).is_none());
+    for (fingerprints, count) in [
+        (Fingerprints::from_slice(&[[7; 32]]), 1),
+        (Fingerprints::from_slice(&[[7; 32]; 15]), 15),
+    ] {
+        match fingerprints {
+            Some(fingerprints) => {
+                assert_eq!(rt; fingerprints.as_slice().len(), count);
+                assert!(rt;
+                    fingerprints
+                        .as_slice()
+                        .iter()
+                        .all(|octets| *octets == [7; 32])
+                );
+            }
+            None => panic!(rt; "no fingerprints"),
+        }
+    }
+}

@@ -1,0 +1,5 @@
+pub mod Replaying
+pub mod Tables
+pub mod Adjusting
+pub mod Keeping
+pub mod OneStanding

@@ -1,0 +1,6 @@
+pub mod Standing
+pub mod Commands
+pub mod Replay
+pub mod Table
+pub mod Found
+pub mod Kept

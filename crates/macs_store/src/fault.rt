@@ -1,0 +1,16 @@
+//! Why a command is not kept.
+
+use macs_config::Refusal;
+
+/// Why a command is not kept, in the order in which it is looked for.
+#[derive(Clone, Copy, Debug, PartialEq, Eq)]
+pub enum CommitFault {
+    /// A device call failed before: the disk is to be opened again.
+    Stopped,
+    /// The command does not fit the configuration.
+    Refused(Refusal),
+    /// All 256 slots of the journal's current area are used.
+    AreaFull,
+    /// A device call failed.
+    Disk,
+}

@@ -1,0 +1,18 @@
+//! The configuration and the ceilings of packet numbers, kept in a journal: what is kept is there after
+//! a power loss at any moment.
+#![tactic(auto)]
+
+mod ahead;
+mod fault;
+pub mod laws;
+mod opening;
+mod reading;
+mod standing;
+mod store;
+mod table;
+#[cfg(test)]
+mod tests;
+
+pub use fault::CommitFault;
+pub use opening::OpenRefused;
+pub use store::Store;

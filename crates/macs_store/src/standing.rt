@@ -1,0 +1,221 @@
+//! What a journal's records stand for.
+
+ghost use Rattle.std.specs.Prelude.{◌≡◌, ◌≤◌, ◌↔◌, List, true, false, Some, None, IsSome, Ok, Err, IsOk, OnOk, OnErr, length};
+ghost use Rattle.std.specs.Option.{option_map};
+ghost use Rattle.macs_config.specs.Apply.{apply};
+ghost use Rattle.macs_config.specs.Config as spec;
+ghost use Rattle.macs_config.specs.Config.{first_edition};
+ghost use Rattle.macs_config.specs.Snapshot.{restored};
+ghost use Rattle.macs_config.specs.Stored.{config_of};
+ghost use Rattle.macs_config.specs.declared.part.Part.{Part};
+ghost use Rattle.macs_store.specs.Replay.{followed, parts_of, replay_of, rises, snapshot_of, with_ceilings};
+ghost use Rattle.macs_store.specs.Standing.{IsStanding, accept, ceilings_after, no_ceilings, with_rx_ceiling, with_tx_ceiling};
+ghost use Rattle.macs_store.specs.Table.{Held, read, scis_of, standing_at};
+
+use crate::ahead::ahead;
+use crate::reading::{command_of, part_of};
+use crate::table::CeilingTable;
+use arrayvec::ArrayVec;
+use macs_config::{Command, Config, Identity, Part, Refusal};
+use macs_frame::{An, Sci};
+use macs_record::{Ceiling, Record};
+use std::marker::Model;
+
+/// The most records that a journal holds.
+const MAX_RECORDS: usize = 256;
+
+/// What an endpoint goes on from: its configuration, and the ceilings of its packet numbers.
+#[derive(Drop)]
+pub struct Standing {
+    pub(crate) config: Config,
+    pub(crate) ceilings: CeilingTable,
+}
+
+impl Model for Standing {
+    ghost Value = { Held };
+
+    ghost view = { λ s. record { config = s.config; table = s.ceilings } };
+
+    ghost invariant = { λ s. IsStanding (standing_at (record { config = s.config; table = s.ceilings }))
+        × (scis_of s.ceilings ≡ (config_of s.config).channels) };
+}
+
+/// The parts of a snapshot, `None` where a record is of another kind.
+fn parts_of(records: &[Record]) -> Option<ArrayVec<Part, MAX_RECORDS>>
+    requires few { length records.now ≤ 256 }
+    ensures { option_map (λ parts. parts.items) result ≡ parts_of records.now }
+{
+    let mut parts = ArrayVec::new();
+    for value in records {
+        parts.push(part_of(value)?);
+    }
+    Some(parts)
+}
+
+impl Standing {
+    /// What the records of a snapshot stand for, then those behind it: `None` where they are refused.
+    pub(crate) fn replayed(
+        identity: &Identity,
+        count: usize,
+        records: &[Record],
+    ) -> Option<Standing>
+        requires within { count ≤ length records.now }
+        requires few { length records.now ≤ 256 }
+        ensures { option_map standing_at result ≡ replay_of identity.now count records.now }
+    {
+        let (snapshot, later) = records.split_at(count);
+        let mut standing = Standing::snapshot(identity, snapshot)?;
+        for value in later {
+            if !standing.follow(value) {
+                return None;
+            }
+        }
+        Some(standing)
+    }
+
+    /// What a snapshot stands for, `None` where it is refused.
+    fn snapshot(identity: &Identity, records: &[Record]) -> Option<Standing>
+        requires few { length records.now ≤ 256 }
+        ensures { option_map standing_at result ≡ snapshot_of identity.now records.now }
+    {
+        let parts = parts_of(records)?;
+        let config = Config::restore(identity, parts.as_slice())?;
+        let ceilings = ceilings_in(&config, records);
+        Some(Standing { config, ceilings })
+    }
+
+    /// Goes on with the record of a command or of a raised ceiling, and answers whether it fits.
+    fn follow(&mut self, value: &Record) -> bool
+        ensures fits { result ≡ true → followed (standing_at self.old) value.now ≡ Some (standing_at self.new) }
+        ensures refused { result ≡ false → followed (standing_at self.old) value.now ≡ None }
+    {
+        match value {
+            Record::TxCeiling { an, ceiling } => self.follow_tx(*an, *ceiling),
+            Record::RxCeiling { sci, an, ceiling } => self.follow_rx(*sci, *an, *ceiling),
+            _ => match command_of(value) {
+                Some(command) => self.accept(&command).is_ok(),
+                None => false,
+            },
+        }
+    }
+
+    /// Goes on with a raised ceiling of a transmit association, and answers whether it is one.
+    fn follow_tx(&mut self, an: An, ceiling: Ceiling) -> bool
+        ensures fits { result ≡ rises ((standing_at self.old).ceilings.tx an) ceiling }
+        ensures raised { result ≡ true → standing_at self.new ≡ with_tx_ceiling (standing_at self.old) an ceiling }
+    {
+        let is_raised = rises(self.ceilings.tx(an), ceiling);
+        if is_raised {
+            self.raise_tx(an, ceiling);
+        }
+        is_raised
+    }
+
+    /// Goes on with a raised ceiling of a receive association, and answers whether it is one.
+    fn follow_rx(&mut self, sci: Sci, an: An, ceiling: Ceiling) -> bool
+        ensures fits { result ≡ rises ((standing_at self.old).ceilings.rx sci an) ceiling }
+        ensures raised { result ≡ true → standing_at self.new ≡ with_rx_ceiling (standing_at self.old) sci an ceiling }
+    {
+        let is_raised = rises(self.ceilings.rx(sci, an), ceiling);
+        if is_raised {
+            self.raise_rx(sci, an, ceiling);
+        }
+        is_raised
+    }
+
+    /// Raises the ceiling of a transmit association that stands.
+    pub(crate) fn raise_tx(&mut self, an: An, ceiling: Ceiling)
+        requires stands { IsSome ((standing_at self.old).ceilings.tx an) }
+        ensures { standing_at self.new ≡ with_tx_ceiling (standing_at self.old) an ceiling }
+    {
+        self.ceilings.put_tx(an, Some(ceiling));
+    }
+
+    /// Raises the ceiling of a receive association that stands.
+    pub(crate) fn raise_rx(&mut self, sci: Sci, an: An, ceiling: Ceiling)
+        requires stands { IsSome ((standing_at self.old).ceilings.rx sci an) }
+        ensures { standing_at self.new ≡ with_rx_ceiling (standing_at self.old) sci an ceiling }
+    {
+        self.ceilings.put_rx(sci, an, Some(ceiling));
+    }
+
+    /// Whether a command fits the configuration, or the first refusal in the order of `Refusal`.
+    pub(crate) fn check(&self, command: &Command) -> Result<(), Refusal>
+        ensures fits { OnOk result (IsOk (accept (standing_at self.now) command.now)) }
+        ensures refused { (refusal : Refusal) → (result ≡ Err refusal) ↔ (accept (standing_at self.now) command.now ≡ Err refusal) }
+    {
+        self.config.check(command)
+    }
+
+    /// Applies a command. A refusal, the first in the order of `Refusal`, changes nothing.
+    pub(crate) fn accept(&mut self, command: &Command) -> Result<(), Refusal>
+        ensures accepted { OnOk result (accept (standing_at self.old) command.now ≡ Ok (standing_at self.new)) }
+        ensures refused { (refusal : Refusal) → (result ≡ Err refusal) ↔ (accept (standing_at self.old) command.now ≡ Err refusal) }
+        ensures same { OnErr result (self.new ≡ self.old) }
+    {
+        self.config.apply(command)?;
+        adjust(&self.config, &mut self.ceilings, command);
+        Ok(())
+    }
+}
+
+/// The ceilings in a snapshot that makes up a configuration.
+fn ceilings_in(config: &Config, records: &[Record]) -> CeilingTable
+    requires restored { (parts : List Part) × (parts_of records.now ≡ Some parts)
+        × (restored first_edition config.now.identity parts ≡ Some (config_of config.now)) }
+    ensures ceilings { read result ≡ with_ceilings no_ceilings records.now }
+    ensures channels { scis_of result ≡ (config_of config.now).channels }
+{
+    let mut ceilings = CeilingTable::new();
+    ceilings.keep(config.channels().as_slice());
+    for value in records {
+        match value {
+            Record::TxSa { an, ceiling, .. } => ceilings.put_tx(*an, Some(*ceiling)),
+            Record::RxSa {
+                sci,
+                an,
+                ceiling,
+                ..
+            } => ceilings.put_rx(*sci, *an, Some(*ceiling)),
+            _ => {}
+        }
+    }
+    ceilings
+}
+
+/// What becomes of the ceilings by a command that made this configuration.
+fn adjust(config: &Config, ceilings: &mut CeilingTable, command: &Command)
+    requires applied { (old : spec.Config) × (scis_of ceilings.old ≡ old.channels)
+        × (apply first_edition config.now.identity old command.now ≡ Ok (config_of config.now)) }
+    ensures ceilings { read ceilings.new ≡ ceilings_after config.now.identity command.now (read ceilings.old) }
+    ensures channels { scis_of ceilings.new ≡ (config_of config.now).channels }
+{
+    match *command {
+        Command::SetValidate(_)
+        | Command::SetReplay { .. }
+        | Command::SetSciMode(_)
+        | Command::TxUse { .. } => {}
+        Command::TxInstall { an, start, .. } => {
+            let ceiling = ahead(u64::from(start), config.identity().tx_block());
+            ceilings.put_tx(an, Some(ceiling));
+        }
+        Command::TxRemove { an } => ceilings.put_tx(an, None),
+        Command::RxAdd { .. } | Command::RxDrop { .. } => {
+            ceilings.keep(config.channels().as_slice());
+        }
+        Command::RxInstall { sci, an, start, .. } => {
+            ceilings.put_rx(sci, an, Some(ahead(u64::from(start), 0)));
+        }
+        Command::RxRemove { sci, an } => ceilings.put_rx(sci, an, None),
+    }
+}
+
+/// Whether a ceiling is above the one that stands.
+fn rises(old: Option<Ceiling>, ceiling: Ceiling) -> bool
+    ensures { result ≡ rises old ceiling }
+{
+    match old {
+        Some(old) => old.get() < ceiling.get(),
+        None => false,
+    }
+}
