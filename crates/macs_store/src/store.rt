@@ -1,6 +1,6 @@
 //! What an endpoint keeps, in memory and on its disk.
 
-ghost use Rattle.std.specs.Prelude.{◌≡◌, ◌<◌, ◌^◌, ◌+◌, ◌↔◌, ◌⊎◌, ℕ, true, false, Some, Ok, Err, IsOk, IsSome, IfSome, OnOk, OnErr, IsErrOf};
+ghost use Rattle.std.specs.Prelude.{◌≡◌, ◌<◌, ◌≤◌, ◌^◌, ◌+◌, ◌↔◌, ◌⊎◌, ℕ, true, false, Some, Ok, Err, IsOk, IsSome, IfSome, OnOk, OnErr, IsErrOf};
 ghost use Rattle.macs_config.specs.Stored.{config_of};
 ghost use Rattle.macs_config.specs.declared.refusal.Refusal.{Refusal};
 ghost use Rattle.macs_disk.specs.Disk.{IsHonest, MayLeave, now};
@@ -54,6 +54,8 @@ impl<D: SectorDisk> Store<D> {
         ensures same { OnErr result (IsErrOf result Disk ⊎ (self.new ≡ self.old)) }
         ensures halted { IsErrOf result Disk → (self.new.journal.stopped ≡ true) × (self.new.held ≡ self.old.held) }
         ensures running { OnOk result (self.new.journal.stopped ≡ false) }
+        ensures place { OnOk result (self.new.journal.place ≡ record self.old.journal.place { free = self.old.journal.place.free + 1 }) }
+        ensures four { (D.disk self.new.journal.disk).clock ≤ (D.disk self.old.journal.disk).clock + 4 }
         ensures done { OnOk result (accept (standing_in self.old) command.now ≡ Ok (standing_in self.new)) }
         ensures work { IsCommitOf (D.disk self.old.journal.disk) (D.disk self.new.journal.disk) result }
         ensures any_moment { IsHonest (D.disk self.new.journal.disk) → IsStored D.disk self.old
@@ -62,7 +64,7 @@ impl<D: SectorDisk> Store<D> {
         ensures kept { OnOk result (IsHonest (D.disk self.new.journal.disk) → IsStored D.disk self.old
             → (image : Image) → MayLeave (D.disk self.new.journal.disk) image → Finds image (standing_in self.new)) }
     {
-        if self.journal.is_stopped() {
+        if self.is_stopped() {
             return Err(CommitFault::Stopped);
         }
         if let Err(refusal) = self.standing.check(command) {
@@ -92,6 +94,8 @@ impl<D: SectorDisk> Store<D> {
         ensures same { OnErr result (IsErrOf result fault.Disk ⊎ (self.new ≡ self.old)) }
         ensures halted { IsErrOf result fault.Disk → (self.new.journal.stopped ≡ true) × (self.new.held ≡ self.old.held) }
         ensures running { OnOk result (self.new.journal.stopped ≡ false) }
+        ensures place { OnOk result (self.new.journal.place ≡ record self.old.journal.place { free = self.old.journal.place.free + 1 }) }
+        ensures four { (D.disk self.new.journal.disk).clock ≤ (D.disk self.old.journal.disk).clock + 4 }
         ensures done { OnOk result (standing_in self.new ≡ tx_raised (standing_in self.old) an) }
         ensures work { IsWorkOf (D.disk self.old.journal.disk) (D.disk self.new.journal.disk) result }
         ensures any_moment { IsHonest (D.disk self.new.journal.disk) → IsStored D.disk self.old
@@ -120,6 +124,8 @@ impl<D: SectorDisk> Store<D> {
         ensures same { OnErr result (IsErrOf result fault.Disk ⊎ (self.new ≡ self.old)) }
         ensures halted { IsErrOf result fault.Disk → (self.new.journal.stopped ≡ true) × (self.new.held ≡ self.old.held) }
         ensures running { OnOk result (self.new.journal.stopped ≡ false) }
+        ensures place { OnOk result (self.new.journal.place ≡ record self.old.journal.place { free = self.old.journal.place.free + 1 }) }
+        ensures four { (D.disk self.new.journal.disk).clock ≤ (D.disk self.old.journal.disk).clock + 4 }
         ensures done { OnOk result (standing_in self.new ≡ rx_raised (standing_in self.old) sci an pn) }
         ensures work { IsWorkOf (D.disk self.old.journal.disk) (D.disk self.new.journal.disk) result }
         ensures any_moment { IsHonest (D.disk self.new.journal.disk) → IsStored D.disk self.old
@@ -144,6 +150,8 @@ impl<D: SectorDisk> Store<D> {
         ensures standing { self.new.held ≡ self.old.held }
         ensures halted { IsErrOf result fault.Disk → self.new.journal.stopped ≡ true }
         ensures running { OnOk result (self.new.journal.stopped ≡ false) }
+        ensures place { OnOk result (self.new.journal.place ≡ record self.old.journal.place { free = self.old.journal.place.free + 1 }) }
+        ensures four { (D.disk self.new.journal.disk).clock ≤ (D.disk self.old.journal.disk).clock + 4 }
         ensures work { IsWorkOf (D.disk self.old.journal.disk) (D.disk self.new.journal.disk) result }
         ensures any_moment { IsHonest (D.disk self.new.journal.disk) → IsStored D.disk self.old
             → (after : spec.Standing) → followed (standing_in self.old) value.now ≡ Some after
@@ -162,6 +170,13 @@ impl<D: SectorDisk> Store<D> {
             return Err(JournalFault::AreaFull);
         }
         self.journal.append(value)
+    }
+
+    /// Whether a device call failed: the disk is to be opened again.
+    pub fn is_stopped(&self) -> bool
+        ensures { result ≡ self.now.journal.stopped }
+    {
+        self.journal.is_stopped()
     }
 
     /// The configuration, which holds the identity too.

@@ -1,12 +1,13 @@
 //! Commands that are kept, and those that are refused.
 
 use super::{
-    PEER, an, formatted, identity, opened, refusal, reopened, reserve_tx, rx_ceiling, rx_install,
-    tx_ceiling, tx_install, window,
+    PEER, an, formatted, identity, opened, pn, refusal, reopened, reserve_rx, reserve_tx,
+    rx_ceiling, rx_install, tx_ceiling, tx_install, window,
 };
 use crate::CommitFault;
-use macs_config::{Command, Refusal, Replay, SciMode, Validate};
+use macs_config::{Command, Protection, Refusal, Replay, RxSa, SciMode, TxSa, Validate};
 use macs_disk::{Fuse, MemDisk};
+use macs_frame::Offset;
 use macs_journal::JournalFault;
 use std::test::Fail;
 
@@ -43,7 +44,10 @@ fn commands_are_found_again(rt: HostRuntime) -> Result<(), Fail> {
     let (first, second) = (an(&rt, 0), an(&rt, 3));
     let commands = [
         Command::SetValidate(Validate::Check),
-        window(7),
+        Command::SetReplay {
+            on: false,
+            window: 7,
+        },
         Command::SetSciMode(SciMode::EndStation),
         tx_install(first, 1, 5),
         tx_install(second, 2, 4_294_967_293),
@@ -66,13 +70,23 @@ fn commands_are_found_again(rt: HostRuntime) -> Result<(), Fail> {
     assert_eq!(rt;
         config.replay(),
         Replay {
-            on: true,
+            on: false,
             window: 7
         }
     );
     assert_eq!(rt; config.sci_mode(), SciMode::EndStation);
     assert!(rt; config.encoding() == Some(second));
     assert!(rt; config.tx(first).is_none());
+    let sent = TxSa {
+        key: [2; 16],
+        protection: Protection::Confidentiality(Offset::Thirty),
+    };
+    assert!(rt; config.tx(second) == Some(sent));
+    let received = RxSa {
+        key: [3; 16],
+        offset: Offset::Zero,
+    };
+    assert!(rt; config.rx(PEER, first) == Some(received));
     assert!(rt; config.has_channel(PEER));
     // An association that is gone has no ceiling; a new one may use a block, or what is left of it.
     assert_eq!(rt; tx_ceiling(&store, first), None);
@@ -135,7 +149,9 @@ fn a_full_area_takes_no_further_command(rt: HostRuntime) -> Result<(), Fail> {
     let mut store = opened(&rt, formatted(&rt, rt.alloc())?);
     let first = an(&rt, 0);
     store.commit(&tx_install(first, 1, 1))?;
-    for number in 1..=254 {
+    store.commit(&Command::RxAdd { sci: PEER })?;
+    store.commit(&rx_install(first, 1, 1))?;
+    for number in 1..=252 {
         store.commit(&window(number))?;
     }
     assert_eq!(rt; store.commit(&window(9)), Err(CommitFault::AreaFull));
@@ -149,8 +165,14 @@ fn a_full_area_takes_no_further_command(rt: HostRuntime) -> Result<(), Fail> {
         Err(JournalFault::AreaFull)
     );
     assert_eq!(rt; tx_ceiling(&store, first), Some(5));
+    assert_eq!(rt;
+        reserve_rx(&rt, &mut store, first, pn(&rt, 3)),
+        Err(JournalFault::AreaFull)
+    );
+    assert_eq!(rt; rx_ceiling(&store, first), Some(1));
+    assert!(rt; !store.is_stopped());
     let store = reopened(&rt, store);
-    assert_eq!(rt; store.config().replay().window, 254);
+    assert_eq!(rt; store.config().replay().window, 252);
     Ok(())
 }
 

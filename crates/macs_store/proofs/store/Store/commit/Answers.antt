@@ -29,7 +29,7 @@ returns-in-Err-clause-any_moment g c honest stored =
 
 module _ (g : Over) (c : In-Err g) where
   running : c.args.self.now.journal.stopped ≡ false
-  running = ap (λ (s : Kept g.row.D.Denot). s.journal.stopped) (sym c.self.view_is) ∙ sym c.is_stopped.ensures ∙ c.if-is_stopped.false
+  running = sym c.is_stopped.ensures ∙ c.if-is_stopped.false
 
   refused : accept (standing_in c.args.self.now) c.args.command.now ≡ Err c.in-Err.refusal
   refused =
