@@ -1,14 +1,15 @@
 -- Channels as they are kept, against the channels of the definitions.
-use Rattle.std.proofs.Common.{◌≡◌, ◌∙◌, ◌<◌, ℕ, zero, suc, ◌+◌, Bool, true, false, cond, not, ◌==◌, List, [], ◌∷◌, ◌++◌, length, map, take, drop, set, get_or, Option, Some, None, IfSome, IfNone, is_some, filter, bytes_eq, refl, ap, sym, subst, arith, append_assoc}
+use Rattle.std.proofs.Common.{◌≡◌, ◌∙◌, ◌<◌, ◌≤◌, ℕ, zero, suc, ◌+◌, Bool, true, false, cond, not, ◌==◌, List, [], ◌∷◌, ◌++◌, length, map, take, drop, set, get_or, Option, Some, None, IfSome, IfNone, is_some, filter, bytes_eq, refl, ap, sym, subst, arith, append_assoc}
 use Rattle.std.specs.Cmp.Lexicographic.{lists_agrees, slice_partial_cmp}
 use Rattle.std.specs.Ordering.{is_lt, is_some_and, nat_cmp, partial_lt}
 use Rattle.std.proofs.lemmas.List.{length-map, drop_more, take_more, map-set, set-get_or, get_or-map}
 use Rattle.std.proofs.lemmas.List.Folds.{list_any_at, list_any_more}
+use Rattle.std.proofs.lemmas.List.Elements.{All-head, All-tail}
 use Rattle.std.proofs.lemmas.Bool.{or_parts}
 use Rattle.std.proofs.lemmas.Slice.Eq.{bytes_eq-Decides}
 use Rattle.std.proofs.lemmas.Cmp.{nat_list_eq_equiv}
 use Rattle.std.proofs.Math.Path.{fun_ext}
-use Rattle.std.specs.List.{insert}
+use Rattle.std.specs.List.{All, insert}
 use Rattle.macs_config.specs.Config.{comes_before, is_among, put_among}
 use Rattle.macs_config.specs.Places.{IsPlace}
 use Rattle.macs_config.specs.Stored.{read, rx_at}
@@ -203,6 +204,18 @@ pub rx_at-filter : (channels : List Channel) (sci s : List ℕ) (an : ℕ)
     → rx_at (filter (is_other sci) channels) s an ≡ put_at (rx_at channels) sci (λ number. None) s an
 rx_at-filter channels sci s an =
     rx_at-filter_by channels sci s an ∙ choice_at (bytes_eq s sci) (λ number. None) (rx_at channels s) an
+
+-- ---- numbers above 3
+
+-- a channel has nothing at them
+abbrev pub EndsAtFour : Channel → Type 0
+EndsAtFour channel = (an : ℕ) → 4 ≤ an → get_or channel.associations an None ≡ None
+
+-- and then nothing is read at them
+pub rx_at-above : (channels : List Channel) → All EndsAtFour channels → (sci : List ℕ) (an : ℕ) → 4 ≤ an → rx_at channels sci an ≡ None
+rx_at-above [] all sci an above = refl
+rx_at-above (c ∷ cs) all sci an above =
+    rw (All-head EndsAtFour c cs all an above, rx_at-above cs (All-tail EndsAtFour c cs all) sci an above) (sym (both (bytes_eq c.sci sci) None))
 
 -- ---- a configuration with other channels
 

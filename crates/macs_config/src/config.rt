@@ -1,6 +1,6 @@
 //! The configuration.
 
-ghost use Rattle.std.specs.Prelude.{◌≡◌, ◌≤◌, ◌↔◌, length, slice_get, IfSome, Some, Ok, Err, OnOk, OnErr};
+ghost use Rattle.std.specs.Prelude.{◌≡◌, ◌≤◌, ◌↔◌, ℕ, List, length, slice_get, IfSome, None, Some, Ok, Err, OnOk, OnErr};
 ghost use Rattle.std.specs.Option.{option_map};
 ghost use Rattle.macs_config.specs.Apply.{apply, refusal_of};
 ghost use Rattle.macs_config.specs.Config.{IsConfig, default, first_edition, has_channel, is_spent, rx_fingerprint, spent_of, tx_fingerprint};
@@ -95,11 +95,13 @@ impl Config {
         Ok(())
     }
 
-    /// What holds of every configuration.
+    /// What holds of every configuration; and nothing stands at an association number above 3.
     pub fn facts(&self)
-        ensures { IsConfig first_edition self.now.identity (config_of self.now) }
+        ensures config { IsConfig first_edition self.now.identity (config_of self.now) }
+        ensures tx_numbers { (an : ℕ) → 4 ≤ an → (config_of self.now).tx an ≡ None }
+        ensures rx_numbers { (sci : List ℕ) (an : ℕ) → 4 ≤ an → (config_of self.now).rx sci an ≡ None }
     {
-        let _identity = &self.identity;
+        self.contents.facts();
     }
 
     /// The identity that it was made with.

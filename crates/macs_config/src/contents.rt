@@ -23,8 +23,15 @@ pub(crate) struct Channel {
 }
 
 impl Channel {
-    ghost use Rattle.std.specs.Prelude.{◌≡◌, ℕ, None, get_or};
+    ghost use Rattle.std.specs.Prelude.{◌≡◌, ◌≤◌, ℕ, None, get_or};
     ghost use Rattle.macs_config.specs.Tables.{put};
+
+    /// Nothing stands at an association number above 3.
+    fn facts(&self)
+        ensures { (an : ℕ) → 4 ≤ an → get_or self.now.associations an None ≡ None }
+    {
+        let _associations = &self.associations;
+    }
 
     /// Puts an association at a number, or takes it away.
     fn put(&mut self, an: An, sa: Option<RxSa>)
@@ -51,7 +58,7 @@ pub(crate) struct Contents {
 }
 
 impl Contents {
-    ghost use Rattle.std.specs.Prelude.{◌≡◌, ◌<◌, ◌≤◌, ◌++◌, [], ◌∷◌, length, true, false, not, None, IfNone, IfSome, take, drop};
+    ghost use Rattle.std.specs.Prelude.{◌≡◌, ◌<◌, ◌≤◌, ◌++◌, [], ◌∷◌, ℕ, List, length, true, false, not, None, IfNone, IfSome, take, drop};
     ghost use Rattle.std.specs.List.{filter};
     ghost use Rattle.std.specs.Str.{bytes_eq};
     ghost use Rattle.macs_config.specs.Config.{default, has_channel, put_among};
@@ -75,6 +82,17 @@ impl Contents {
             channels: ArrayVec::new(),
             spent_tx: ArrayVec::new(),
             spent_rx: ArrayVec::new(),
+        }
+    }
+
+    /// Nothing stands at an association number above 3.
+    pub(crate) fn facts(&self)
+        ensures tx { (an : ℕ) → 4 ≤ an → (read self.now).tx an ≡ None }
+        ensures rx { (sci : List ℕ) (an : ℕ) → 4 ≤ an → (read self.now).rx sci an ≡ None }
+    {
+        let _tx = &self.tx;
+        for channel in self.channels.iter() {
+            channel.facts();
         }
     }
 
