@@ -1,0 +1,231 @@
+-- What a power loss leaves fits the state: what stands on the disk is a restart of it.
+use Rattle.std.proofs.Common.{◌≡◌, ◌≤◌, ◌<◌, ◌^◌, ◌==◌, ℕ, Bool, true, false, cond, inl, inr, List, bytes_eq, Option, Some, None, Result, Ok, Err, refl, sym, subst, arith}
+use Rattle.std.specs.Option.{option_map}
+use Rattle.macs_config.specs.Apply.{IsCommand, apply}
+use Rattle.macs_config.specs.Config.{Config, first_edition}
+use Rattle.macs_config.specs.Identity.{Identity}
+use Rattle.macs_config.specs.Tables.{put, put_at}
+use Rattle.macs_config.specs.declared.command.Command.{Command}
+use Rattle.macs_config.specs.declared.command.Command.TheVariants.{SetValidate, SetReplay, SetSciMode, TxInstall, TxUse, TxRemove, RxAdd, RxDrop, RxInstall, RxRemove}
+use Rattle.macs_config.specs.declared.refusal.Refusal.{Refusal}
+use Rattle.macs_disk.specs.Disk.{Disk}
+use Rattle.macs_disk.specs.States.{Image}
+use Rattle.macs_journal.specs.Areas.{least_sectors}
+use Rattle.macs_txsc.specs.View as txsc
+use Rattle.macs_txsc.specs.declared.channel.Tx.{Tx}
+use Rattle.macs_rxsc.specs.Receive.{Numbers, put_numbers, started, windowed}
+use Rattle.macs_rxsc.specs.View as rxsc
+use Rattle.macs_store.specs.Found.{CommitLeaves, Finds}
+use Rattle.macs_store.specs.Kept.{IsStored, standing_in}
+use Rattle.macs_store.specs.Standing.{Ceilings, Standing, accept, accepted, ahead, ceilings_after}
+use Rattle.macs_store.proofs.Keeping.{stored-image}
+use Rattle.macs_endpoint.specs.Kept.{AreChannels, AreWithin, IsBacked, IsKept, IsRxWithin, IsTxWithin, Kept, disk_in, state_of}
+use Rattle.macs_endpoint.specs.Restart.{Fits, Resumes, RxRises, TxRises, opening}
+use Rattle.macs_endpoint.specs.State.{Logs, State}
+use Rattle.macs_endpoint.specs.Step.{next_after, numbers_after}
+
+-- ---- numbers and their ceilings
+
+-- each association has its numbers and a ceiling that is not too far ahead
+pub record AreAhead (identity : Identity) (next : ℕ → Option ℕ) (numbers : List ℕ → ℕ → Option Numbers) (c : Ceilings) : Type 0 where
+  pub tx_ahead : (an : ℕ) → IsTxWithin identity.tx_block (next an) (c.tx an)
+  pub rx_ahead : (sci : List ℕ) (an : ℕ) → IsRxWithin identity.rx_block (numbers sci an) (c.rx sci an)
+
+-- those of channels, and of what stands
+pub channels-ahead : (tx : Tx) (rx : rxsc.Kept) (s : Standing) → AreChannels tx rx s → AreWithin tx rx s.identity
+    → AreAhead s.identity (txsc.side_of tx).next (rxsc.side_of rx).numbers s.ceilings
+channels-ahead tx rx s channels within = record {
+  tx_ahead = subst (λ (c : ℕ → Option ℕ). (an : ℕ) → IsTxWithin s.identity.tx_block ((txsc.side_of tx).next an) (c an))
+      channels.tx_ceilings within.tx_within;
+  rx_ahead = subst (λ (c : List ℕ → ℕ → Option ℕ). (sci : List ℕ) (an : ℕ)
+      → IsRxWithin s.identity.rx_block ((rxsc.side_of rx).numbers sci an) (c sci an)) channels.rx_ceilings within.rx_within;
+}
+
+pub ahead-within : (tx : Tx) (rx : rxsc.Kept) (s : Standing) → AreChannels tx rx s
+    → AreAhead s.identity (txsc.side_of tx).next (rxsc.side_of rx).numbers s.ceilings → AreWithin tx rx s.identity
+ahead-within tx rx s channels are = record {
+  tx_within = subst (λ (c : ℕ → Option ℕ). (an : ℕ) → IsTxWithin s.identity.tx_block ((txsc.side_of tx).next an) (c an))
+      (sym channels.tx_ceilings) are.tx_ahead;
+  rx_within = subst (λ (c : List ℕ → ℕ → Option ℕ). (sci : List ℕ) (an : ℕ)
+      → IsRxWithin s.identity.rx_block ((rxsc.side_of rx).numbers sci an) (c sci an)) (sym channels.rx_ceilings) are.rx_ahead;
+}
+
+pub kept-ahead : {D : Type 0} (e : Kept D) → IsKept e
+    → AreAhead (standing_in e.store).identity (txsc.side_of e.tx).next (rxsc.side_of e.rx).numbers (standing_in e.store).ceilings
+kept-ahead e kept = channels-ahead e.tx e.rx (standing_in e.store) kept.channels kept.within
+
+-- ---- one place changed
+
+tx_by : (block : ℕ) (b : Bool) (n m c d : Option ℕ) → IsTxWithin block n c → IsTxWithin block m d → IsTxWithin block (cond b n m) (cond b c d)
+tx_by block true n m c d here there = here
+tx_by block false n m c d here there = there
+
+pub tx-put : (block : ℕ) (next c : ℕ → Option ℕ) (at : ℕ) (n ceiling : Option ℕ) → IsTxWithin block n ceiling
+    → ((an : ℕ) → IsTxWithin block (next an) (c an)) → (an : ℕ) → IsTxWithin block (put next at n an) (put c at ceiling an)
+tx-put block next c at n ceiling here all an = tx_by block (an == at) n (next an) ceiling (c an) here (all an)
+
+rx_by : (block : ℕ) (b : Bool) (n m : Option Numbers) (c d : Option ℕ) → IsRxWithin block n c → IsRxWithin block m d
+    → IsRxWithin block (cond b n m) (cond b c d)
+rx_by block true n m c d here there = here
+rx_by block false n m c d here there = there
+
+rx_of : (block : ℕ) (b : Bool) (n m : ℕ → Option Numbers) (c d : ℕ → Option ℕ) (an : ℕ) → IsRxWithin block (n an) (c an) → IsRxWithin block (m an) (d an)
+    → IsRxWithin block ((cond b n m) an) ((cond b c d) an)
+rx_of block true n m c d an here there = here
+rx_of block false n m c d an here there = there
+
+-- all associations of a channel
+pub rx-put_all : (block : ℕ) (numbers : List ℕ → ℕ → Option Numbers) (c : List ℕ → ℕ → Option ℕ) (at : List ℕ) (n : ℕ → Option Numbers) (d : ℕ → Option ℕ)
+    → ((an : ℕ) → IsRxWithin block (n an) (d an)) → ((sci : List ℕ) (an : ℕ) → IsRxWithin block (numbers sci an) (c sci an))
+    → (sci : List ℕ) (an : ℕ) → IsRxWithin block (put_at numbers at n sci an) (put_at c at d sci an)
+rx-put_all block numbers c at n d here all sci an = rx_of block (bytes_eq sci at) n (numbers sci) d (c sci) an (here an) (all sci an)
+
+-- and one of them
+pub rx-put : (block : ℕ) (numbers : List ℕ → ℕ → Option Numbers) (c : List ℕ → ℕ → Option ℕ) (at : List ℕ) (number : ℕ) (n : Option Numbers) (ceiling : Option ℕ)
+    → IsRxWithin block n ceiling → ((sci : List ℕ) (an : ℕ) → IsRxWithin block (numbers sci an) (c sci an))
+    → (sci : List ℕ) (an : ℕ) → IsRxWithin block (put_numbers numbers at number n sci an) (put_at c at (put (c at) number ceiling) sci an)
+rx-put block numbers c at number n ceiling here all =
+    rx-put_all block numbers c at (put (numbers at) number n) (put (c at) number ceiling)
+    (λ an. rx_by block (an == number) n (numbers at an) ceiling (c at an) here (all at an)) all
+
+rx_windowed : (block window : ℕ) (n : Option Numbers) (c : Option ℕ) → IsRxWithin block n c → IsRxWithin block (option_map (windowed window) n) c
+rx_windowed block window None None within = tt
+rx_windowed block window None (Some c) within = absurd within
+rx_windowed block window (Some n) None within = absurd within
+rx_windowed block window (Some n) (Some c) within = within
+
+-- ---- a command
+
+started_tx : (block start : ℕ) → start < 2 ^ 32 → IsTxWithin block (Some start) (Some (ahead start block))
+started_tx block start below = (omega (arith, below), omega (arith, below), omega arith)
+
+-- with the numbers that a command makes go the ceilings that it makes
+pub command-ahead : (identity : Identity) (command : Command) (next : ℕ → Option ℕ) (numbers : List ℕ → ℕ → Option Numbers) (c : Ceilings)
+    → IsCommand first_edition command → AreAhead identity next numbers c
+    → AreAhead identity (next_after command next) (numbers_after command numbers) (ceilings_after identity command c)
+command-ahead identity (SetValidate validate) next numbers c ranges are = are
+command-ahead identity (SetReplay on window) next numbers c ranges are = record {
+  tx_ahead = are.tx_ahead;
+  rx_ahead = λ sci an. rx_windowed identity.rx_block window (numbers sci an) (c.rx sci an) (are.rx_ahead sci an);
+}
+command-ahead identity (SetSciMode mode) next numbers c ranges are = are
+command-ahead identity (TxInstall an key start confidential offset) next numbers c ranges are = record {
+  tx_ahead = tx-put identity.tx_block next c.tx an (Some start) (Some (ahead start identity.tx_block))
+      (started_tx identity.tx_block start ranges.2) are.tx_ahead;
+  rx_ahead = are.rx_ahead;
+}
+command-ahead identity (TxUse an) next numbers c ranges are = are
+command-ahead identity (TxRemove an) next numbers c ranges are = record {
+  tx_ahead = tx-put identity.tx_block next c.tx an None None tt are.tx_ahead;
+  rx_ahead = are.rx_ahead;
+}
+command-ahead identity (RxAdd sci) next numbers c ranges are = are
+command-ahead identity (RxDrop sci) next numbers c ranges are = record {
+  tx_ahead = are.tx_ahead;
+  rx_ahead = rx-put_all identity.rx_block numbers c.rx sci (λ an. None) (λ an. None) (λ an. tt) are.rx_ahead;
+}
+command-ahead identity (RxInstall sci an key start offset) next numbers c ranges are = record {
+  tx_ahead = are.tx_ahead;
+  rx_ahead = rx-put identity.rx_block numbers c.rx sci an (Some (started start)) (Some start) (omega arith, omega arith) are.rx_ahead;
+}
+command-ahead identity (RxRemove sci an) next numbers c ranges are = record {
+  tx_ahead = are.tx_ahead;
+  rx_ahead = rx-put identity.rx_block numbers c.rx sci an None None tt are.rx_ahead;
+}
+
+accepted_parts : (s : Standing) (command : Command) (result : Result Config Refusal) (made : Standing) → accepted s command result ≡ Ok made
+    → (config : Config) × (result ≡ Ok config)
+    × (made ≡ record { identity = s.identity; config = config; ceilings = ceilings_after s.identity command s.ceilings })
+accepted_parts s command (Ok config) made is = (config, refl, cc)
+accepted_parts s command (Err refusal) made is = absurd cc
+
+-- what a command that is accepted makes of a configuration and its ceilings
+pub accept-parts : (s : Standing) (command : Command) (made : Standing) → accept s command ≡ Ok made
+    → (config : Config) × (apply first_edition s.identity s.config command ≡ Ok config)
+    × (made ≡ record { identity = s.identity; config = config; ceilings = ceilings_after s.identity command s.ceilings })
+accept-parts s command made is = accepted_parts s command (apply first_edition s.identity s.config command) made is
+
+-- ---- a restart
+
+tx_rises : (block : ℕ) (next ceiling : Option ℕ) → IsTxWithin block next ceiling → TxRises block next ceiling
+tx_rises block None None within = refl
+tx_rises block None (Some ceiling) within = absurd within
+tx_rises block (Some next) None within = absurd within
+tx_rises block (Some next) (Some ceiling) within = (ceiling, refl, within.0, within.1, within.2)
+
+rx_rises : (block : ℕ) (numbers : Option Numbers) (ceiling : Option ℕ) → IsRxWithin block numbers ceiling → RxRises block numbers (option_map started ceiling)
+rx_rises block None None within = refl
+rx_rises block None (Some ceiling) within = absurd within
+rx_rises block (Some numbers) None within = absurd within
+rx_rises block (Some numbers) (Some ceiling) within = (ceiling, refl, within.0, within.1)
+
+-- an endpoint goes on from the ceilings of its packet numbers
+pub resumed : (s : State) (c : Ceilings) → AreAhead s.identity s.next s.numbers c
+    → Resumes s (opening (record { identity = s.identity; config = s.config; ceilings = c }) s.logs)
+resumed s c are = record {
+  identity = refl;
+  config = refl;
+  next = λ an. tx_rises s.identity.tx_block (s.next an) (c.tx an) (are.tx_ahead an);
+  numbers = λ sci an. rx_rises s.identity.rx_block (s.numbers sci an) (c.rx sci an) (are.rx_ahead sci an);
+  logs = refl;
+  running = refl;
+  idle = refl;
+}
+
+-- ---- what fits a state
+
+-- the same configuration with these ceilings
+abbrev pub standing_with : State → Ceilings → Standing
+standing_with s c = record { identity = s.identity; config = s.config; ceilings = c }
+
+module _ (sectors : ℕ) (image : Image) (size : least_sectors ≤ sectors) where
+  -- ceilings that are not too far ahead
+  pub fits-ahead : (s : State) (c : Ceilings) → AreAhead s.identity s.next s.numbers c → Finds image (standing_with s c) → Fits sectors image s
+  fits-ahead s c are finds = record { found = standing_with s c; is_found = (size, finds); restart = inl (resumed s c are) }
+
+  -- what the command in hand makes of the configuration
+  pub fits-command : (s : State) (c : Ceilings) (command : Command) (made : Standing) → AreAhead s.identity s.next s.numbers c
+      → IsCommand first_edition command → s.in_hand ≡ Some command → accept (standing_with s c) command ≡ Ok made → Finds image made
+      → Fits sectors image s
+  fits-command s c command made are ranges holds accepts finds =
+      let parts = accept-parts (standing_with s c) command made accepts in
+      let config = parts.0 in
+      let mid : State = record s {
+        config = config;
+        next = next_after command s.next;
+        numbers = numbers_after command s.numbers;
+        in_hand = None;
+      } in
+      let later : AreAhead mid.identity mid.next mid.numbers (ceilings_after s.identity command c) =
+      command-ahead s.identity command s.next s.numbers c ranges are in
+      record {
+        found = standing_with mid (ceilings_after s.identity command c);
+        is_found = (size, subst (Finds image) parts.2 finds);
+        restart = inr (command, mid, holds, (config, parts.1, refl), resumed mid (ceilings_after s.identity command c) later);
+      }
+
+  -- what a power loss leaves while the command in hand is kept
+  pub fits-commit : (s : State) (c : Ceilings) (command : Command) → AreAhead s.identity s.next s.numbers c → IsCommand first_edition command
+      → s.in_hand ≡ Some command → CommitLeaves (standing_with s c) command image → Fits sectors image s
+  fits-commit s c command are ranges holds left = elim left [
+    | inl before ↦ fits-ahead s c are before
+    | inr later ↦ fits-command s c command later.0 are ranges holds later.1 later.2
+  ]
+
+-- ---- an endpoint
+
+module _ {D : Type 0} (disk_of : D → Disk) (e : Kept D) (kept : IsKept e) where
+  -- an image that stands for what it has in memory
+  pub kept-fits : (sectors : ℕ) → least_sectors ≤ sectors → (logs : Logs) (image : Image) → Finds image (standing_in e.store)
+      → Fits sectors image (state_of e logs)
+  kept-fits sectors size logs image finds =
+      fits-ahead sectors image size (state_of e logs) (standing_in e.store).ceilings (kept-ahead e kept) finds
+
+  -- its disk holds what it has in memory
+  pub kept-backed : least_sectors ≤ (disk_in disk_of e).sectors → IsStored disk_of e.store → IsBacked disk_of e
+  kept-backed size stored = record {
+    size = size;
+    stored = λ running. stored;
+    fits = λ logs image left.
+        kept-fits (disk_in disk_of e).sectors size logs image (stored-image disk_of e.store stored image left);
+  }

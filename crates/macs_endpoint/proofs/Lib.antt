@@ -1,0 +1,9 @@
+pub mod Fitting
+pub mod Framing
+pub mod Turns
+pub mod Formatted
+pub mod Following
+pub mod Rooms
+pub mod Opened
+pub mod Commanding
+pub mod Raising

@@ -1,0 +1,637 @@
+-- How far ceilings are ahead: after a refill or an install, and through calls.
+use Rattle.std.proofs.Common.{◌≡◌, ◌≢◌, ◌≤◌, ◌<◌, ◌+◌, ◌-◌, ◌/◌, ◌^◌, ◌==◌, ◌||◌, ◌⊎◌, inl, inr, ℕ, Bool, true, false, cond, List, [], ◌∷◌, Option, Some, None, IsSome, Ok, Err, refl, sym, ◌∙◌, ap, subst, arith}
+use Rattle.std.specs.Prelude.{nat_le, nat_lt}
+use Rattle.std.specs.Option.{option_map, option_map_or}
+use Rattle.std.proofs.lemmas.Bool.{and_parts, cases_lt, eq-eqb, eqb-true}
+use Rattle.std.proofs.lemmas.Bool.Decides.{nat_tests}
+use Rattle.macs_frame.specs.First.{first}
+use Rattle.macs_config.specs.Config.{Config}
+use Rattle.macs_config.specs.Identity.{Identity}
+use Rattle.macs_config.specs.Tables.{put, put_at}
+use Rattle.macs_config.specs.declared.association.TxSa.{TxSa}
+use Rattle.macs_config.specs.declared.command.Command.{Command}
+use Rattle.macs_config.specs.declared.command.Command.TheVariants.{SetValidate, SetReplay, SetSciMode, TxInstall, TxUse, TxRemove, RxAdd, RxDrop, RxInstall, RxRemove}
+use Rattle.macs_config.proofs.Tables.{put_all, put_at_all}
+use Rattle.macs_disk.specs.Disk.{Disk}
+use Rattle.macs_txsc.specs.Transmit.{Outgoing, TxSide, is_at_ceiling, is_used_up, numbered, outgoing, outgoing_at, tx_faults}
+use Rattle.macs_txsc.specs.Transmit as tx
+use Rattle.macs_txsc.specs.View.{association_at, sa_of}
+use Rattle.macs_txsc.specs.declared.association.Association.{Association}
+use Rattle.macs_txsc.specs.declared.fault.TxFault.TheVariants.{Runt, TooLong, ForeignSource, NoEncodingSa, Exhausted, NoNumber}
+use Rattle.macs_rxsc.specs.Needs.{Need, is_needed, need_of, needed, raised}
+use Rattle.macs_rxsc.specs.Receive.{Arrival, Arrives, Numbers, RxSide, is_below}
+use Rattle.macs_rxsc.specs.declared.verdict.Verdict.TheVariants.{HeldBack}
+use Rattle.macs_rxsc.proofs.Steps.{arrives_once}
+use Rattle.macs_store.specs.Kept.{standing_in}
+use Rattle.macs_store.specs.Standing.{Ceilings, Standing, ahead, ceilings_after}
+use Rattle.macs_store.specs.declared.fault.CommitFault.TheVariants as commit
+use Rattle.macs_endpoint.specs.Calls.{IsCall}
+use Rattle.macs_endpoint.specs.Ceilings.{Stands, rx_refilled, rx_served, tx_refilled, tx_served}
+use Rattle.macs_endpoint.specs.Kept.{IsKept, IsRxWithin, IsTxWithin, Kept, state_of}
+use Rattle.macs_endpoint.specs.Lives.{Lives, Turn}
+use Rattle.macs_endpoint.specs.Rooms.{HasRoom, IsBelow, IsEncoding, RxKeeps, RxStays, TxKeeps, TxStays, one_if, written}
+use Rattle.macs_endpoint.specs.State.{Call, Commands, Protects, Protected, Ran, Received, Receives, Refilled, Refills, Reply, State, no_logs, rx_side, tx_side}
+use Rattle.macs_endpoint.specs.Step.{Step, next_after}
+use Rattle.macs_endpoint.specs.declared.fault.ProtectFault.TheVariants as protect
+use Rattle.macs_endpoint.specs.declared.fault.RefillFault.TheVariants as refill
+use Rattle.macs_endpoint.proofs.Fitting.{accept-parts, kept-ahead}
+
+-- ---- one place changed
+
+put_other : {X : Type 0} (f : ℕ → X) (at an : ℕ) (x : X) → at ≢ an → put f at x an ≡ f an
+put_other f at an x differ = put_all (λ y. y ≡ f an) f at x an (λ same. absurd (differ (sym same))) (λ other. refl)
+
+put_here : {X : Type 0} (f : ℕ → X) (at : ℕ) (x : X) → put f at x at ≡ x
+put_here f at x = ap (λ b. cond b x (f at)) (eq-eqb at at refl)
+
+put_at_other : {X : Type 0} (f : List ℕ → X) (at sci : List ℕ) (x : X) → at ≢ sci → put_at f at x sci ≡ f sci
+put_at_other f at sci x differ = put_at_all (λ y. y ≡ f sci) f at x sci (λ same. absurd (differ (sym same))) (λ other. refl)
+
+put_rx_other : (f : List ℕ → ℕ → Option ℕ) (channel sci : List ℕ) (at an : ℕ) (x : Option ℕ) → (channel ≢ sci) ⊎ (at ≢ an)
+    → put_at f channel (put (f channel) at x) sci an ≡ f sci an
+put_rx_other f channel sci at an x differ =
+    put_at_all (λ (g : ℕ → Option ℕ). g an ≡ f sci an) f channel (put (f channel) at x) sci
+    (λ same. elim differ [
+      | inl other ↦ absurd (other (sym same))
+      | inr other ↦ put_other (f channel) at an x other ∙ ap (λ (s : List ℕ). f s an) (sym same)
+    ])
+    (λ other. refl)
+
+-- the same functions say the same
+said : (f g : ℕ → Option ℕ) (an : ℕ) (x : Option ℕ) → f ≡ g → g an ≡ x → f an ≡ x
+said f g an x same is = ap (λ (h : ℕ → Option ℕ). h an) same ∙ is
+
+-- ---- transmission
+
+-- so many numbers were left below a ceiling before these were used, or all that there are
+abbrev pub Covers : ℕ → ℕ → Option ℕ → Option ℕ → Type 0
+Covers count used (Some next) (Some ceiling) = (next + count ≤ ceiling + used) ⊎ (ceiling ≡ 2 ^ 32)
+Covers count used next ceiling = ⊥
+
+covers_of : (count next ceiling : ℕ) (n c : Option ℕ) → n ≡ Some next → c ≡ Some ceiling → (next + count ≤ ceiling) ⊎ (ceiling ≡ 2 ^ 32) → Covers count 0 n c
+covers_of count next ceiling n c is_next is_ceiling room =
+    let covers : Covers count 0 (Some next) (Some ceiling) = elim room [
+      | inl below ↦ inl (omega (arith, below))
+      | inr all ↦ inr all
+    ] in
+    subst (λ (x : Option ℕ). Covers count 0 x c) (sym is_next) (subst (λ (x : Option ℕ). Covers count 0 (Some next) x) (sym is_ceiling) covers)
+
+covers_same : (count a b : ℕ) (n c : Option ℕ) → a ≡ b → Covers count a n c → Covers count b n c
+covers_same count a b n c same covers = subst (λ (used : ℕ). Covers count used n c) same covers
+
+-- more are used
+covers_more : (count used extra : ℕ) (n c : Option ℕ) → Covers count used n c → Covers count (used + extra) n c
+covers_more count used extra None None covers = absurd covers
+covers_more count used extra None (Some ceiling) covers = absurd covers
+covers_more count used extra (Some next) None covers = absurd covers
+covers_more count used extra (Some next) (Some ceiling) (inl below) = inl (omega (arith, below))
+covers_more count used extra (Some next) (Some ceiling) (inr all) = inr all
+
+-- one is used
+covers_one : (count used pn : ℕ) (c : Option ℕ) → Covers count used (Some pn) c → Covers count (used + 1) (Some (pn + 1)) c
+covers_one count used pn None covers = absurd covers
+covers_one count used pn (Some ceiling) (inl below) = inl (omega (arith, below))
+covers_one count used pn (Some ceiling) (inr all) = inr all
+
+-- a ceiling is raised
+covers_raised : (count used block : ℕ) (n c : Option ℕ) → Covers count used n c → Covers count used n (option_map (λ ceiling. ahead ceiling block) c)
+covers_raised count used block None None covers = absurd covers
+covers_raised count used block None (Some ceiling) covers = absurd covers
+covers_raised count used block (Some next) None covers = absurd covers
+covers_raised count used block (Some next) (Some ceiling) (inl below) = elim (cases_lt (ceiling + block) (2 ^ 32)) [
+  | inl under ↦ inl (omega (arith, under, below))
+  | inr over ↦ inr (omega (arith, over))
+]
+covers_raised count used block (Some next) (Some ceiling) (inr all) = inr (omega (arith, all))
+
+covers_served : (count used an : ℕ) (n : Option ℕ) (s : Standing) (need : Option ℕ) → Covers count used n (s.ceilings.tx an)
+    → Covers count used n ((tx_served s need).ceilings.tx an)
+covers_served count used an n s None covers = covers
+covers_served count used an n s (Some at) covers =
+    let block = s.identity.tx_block in
+    put_all (λ (c : Option ℕ). Covers count used n c) s.ceilings.tx at (option_map (λ ceiling. ahead ceiling block) (s.ceilings.tx at)) an
+    (λ same. covers_raised count used block n (s.ceilings.tx at) (subst (λ (k : ℕ). Covers count used n (s.ceilings.tx k)) same covers))
+    (λ differ. covers)
+
+-- a command on another association
+covers_put : (count used an at : ℕ) (next c : ℕ → Option ℕ) (n ceiling : Option ℕ) → at ≢ an → Covers count used (next an) (c an)
+    → Covers count used (put next at n an) (put c at ceiling an)
+covers_put count used an at next c n ceiling differ covers =
+    subst (λ (x : Option ℕ). Covers count used x (put c at ceiling an)) (sym (put_other next at an n differ))
+    (subst (λ (x : Option ℕ). Covers count used (next an) x) (sym (put_other c at an ceiling differ)) covers)
+
+covers_command : (count used an : ℕ) (identity : Identity) (command : Command) (done : Unit {0}) (next : ℕ → Option ℕ) (c : Ceilings)
+    → TxKeeps an (Commands command) (Ran (Ok done)) → Covers count used (next an) (c.tx an)
+    → Covers count used (next_after command next an) ((ceilings_after identity command c).tx an)
+covers_command count used an identity (SetValidate validate) done next c keeps covers = covers
+covers_command count used an identity (SetReplay on window) done next c keeps covers = covers
+covers_command count used an identity (SetSciMode mode) done next c keeps covers = covers
+covers_command count used an identity (TxInstall at key start confidential offset) done next c keeps covers =
+    covers_put count used an at next c.tx (Some start) (Some (ahead start identity.tx_block)) keeps covers
+covers_command count used an identity (TxUse at) done next c keeps covers = covers
+covers_command count used an identity (TxRemove at) done next c keeps covers = covers_put count used an at next c.tx None None keeps covers
+covers_command count used an identity (RxAdd sci) done next c keeps covers = covers
+covers_command count used an identity (RxDrop sci) done next c keeps covers = covers
+covers_command count used an identity (RxInstall sci at key start offset) done next c keeps covers = covers
+covers_command count used an identity (RxRemove sci at) done next c keeps covers = covers
+
+-- what goes out does so under the association that is chosen, with its next number
+outgoing_numbered : (an : ℕ) (sa : Option TxSa) (n : Option ℕ) (o : Outgoing) → numbered an sa n ≡ Some o → (o.an ≡ an) × (n ≡ Some o.pn)
+outgoing_numbered an None n o is = absurd cc
+outgoing_numbered an (Some sa) None o is = absurd cc
+outgoing_numbered an (Some sa) (Some pn) o is =
+    let same : record { an = an; sa = sa; pn = pn } ≡ o = cc in
+    (sym (ap (λ (x : Outgoing). x.an) same), ap (λ (x : Outgoing). Some x.pn) same)
+
+covers_sent_by : (count used an encoding pn : ℕ) (o : Outgoing) (next : ℕ → Option ℕ) (c : Option ℕ) (out : List ℕ) → o.an ≡ encoding → next encoding ≡ Some o.pn
+    → Covers count used (next an) c → Covers count (used + one_if (Some encoding) an (Protected (Ok pn) out)) (put next o.an (Some (o.pn + 1)) an) c
+covers_sent_by count used an encoding pn o next c out is_an is_next covers =
+    put_all (λ (x : Option ℕ). Covers count (used + cond (encoding == an) 1 0) x c) next o.an (Some (o.pn + 1)) an
+    (λ same.
+    let here : encoding ≡ an = sym is_an ∙ sym same in
+    let number : next an ≡ Some o.pn = ap next (sym here) ∙ is_next in
+    subst (λ (b : Bool). Covers count (used + cond b 1 0) (Some (o.pn + 1)) c) (sym (eq-eqb encoding an here))
+    (covers_one count used o.pn c (subst (λ (x : Option ℕ). Covers count used x c) number covers)))
+    (λ differ. covers_more count used (cond (encoding == an) 1 0) (next an) c covers)
+
+covers_sent : (count used an pn : ℕ) (side : TxSide) (encoding : Option ℕ) (o : Outgoing) (c : Option ℕ) (out : List ℕ) → outgoing_at side encoding ≡ Some o
+    → Covers count used (side.next an) c → Covers count (used + one_if encoding an (Protected (Ok pn) out)) (put side.next o.an (Some (o.pn + 1)) an) c
+covers_sent count used an pn side None o c out is covers = absurd cc
+covers_sent count used an pn side (Some encoding) o c out is covers =
+    let parts = outgoing_numbered encoding (side.tx encoding) (side.next encoding) o is in
+    covers_sent_by count used an encoding pn o side.next c out parts.0 parts.1 covers
+
+module _ (count used an : ℕ) (s t : State) (f g : Standing) where
+  -- both change to these
+  covers_moved : (later : ℕ) (next c : ℕ → Option ℕ) → t.next ≡ next → g.ceilings.tx ≡ c → Covers count later (next an) (c an)
+      → Covers count later (t.next an) (g.ceilings.tx an)
+  covers_moved later next c is_next is_c covers =
+      subst (λ (x : ℕ → Option ℕ). Covers count later (x an) (g.ceilings.tx an)) (sym is_next)
+      (subst (λ (x : ℕ → Option ℕ). Covers count later (next an) (x an)) (sym is_c) covers)
+
+  -- the next numbers stay
+  covers_next : (extra : ℕ) → t.next ≡ s.next → Covers count used (s.next an) (g.ceilings.tx an) → Covers count (used + extra) (t.next an) (g.ceilings.tx an)
+  covers_next extra is_next covers =
+      covers_moved (used + extra) s.next g.ceilings.tx is_next refl (covers_more count used extra (s.next an) (g.ceilings.tx an) covers)
+
+  -- and the ceilings
+  covers_stay : (extra : ℕ) → t.next ≡ s.next → g ≡ f → Covers count used (s.next an) (f.ceilings.tx an)
+      → Covers count (used + extra) (t.next an) (g.ceilings.tx an)
+  covers_stay extra is_next same covers =
+      covers_next extra is_next (subst (λ (x : Standing). Covers count used (s.next an) (x.ceilings.tx an)) (sym same) covers)
+
+  covers_refilled : g.ceilings.tx ≡ (tx_refilled f (tx_side s)).ceilings.tx → Covers count used (s.next an) (f.ceilings.tx an)
+      → Covers count used (s.next an) (g.ceilings.tx an)
+  covers_refilled is covers =
+      subst (λ (x : ℕ → Option ℕ). Covers count used (s.next an) (x an)) (sym is)
+      (covers_served count used an (s.next an) f (tx.need_of (tx_side s) f.ceilings.tx f.identity.tx_block) covers)
+
+  covers_partly : (g ≡ f) ⊎ (g.ceilings.tx ≡ (tx_refilled f (tx_side s)).ceilings.tx) → Covers count used (s.next an) (f.ceilings.tx an)
+      → Covers count used (s.next an) (g.ceilings.tx an)
+  covers_partly (inl same) covers = subst (λ (x : Standing). Covers count used (s.next an) (x.ceilings.tx an)) (sym same) covers
+  covers_partly (inr is) covers = covers_refilled is covers
+
+  abbrev next_of : State → ℕ → Option ℕ
+  next_of x = x.next
+
+  -- through a call
+  covers_step : (call : Call) (reply : Reply) → Step s call reply t → Stands (tx_side s) (rx_side s) f call reply g → TxKeeps an call reply
+      → Covers count used (s.next an) (f.ceilings.tx an)
+      → Covers count (used + one_if s.config.encoding an reply) (t.next an) (g.ceilings.tx an)
+  covers_step (Commands command) (Ran (Ok done)) (inl step) stands keeps covers = absurd step.1
+  covers_step (Commands command) (Ran (Ok done)) (inr step) stands keeps covers =
+      let parts = accept-parts f command g stands in
+      let extra = one_if s.config.encoding an (Ran (Ok done)) in
+      let next = next_after command s.next in
+      let c = ceilings_after f.identity command f.ceilings in
+      covers_moved (used + extra) next c.tx (ap next_of step.1.2) (ap (λ (x : Standing). x.ceilings.tx) parts.2)
+      (covers_more count used extra (next an) (c.tx an) (covers_command count used an f.identity command done s.next f.ceilings keeps covers))
+  covers_step (Commands command) (Ran (Err fault)) (inl step) stands keeps covers =
+      covers_stay (one_if s.config.encoding an (Ran (Err fault))) (ap next_of step.2) stands covers
+  covers_step (Commands command) (Ran (Err (commit.Refused refusal))) (inr step) stands keeps covers =
+      covers_stay (one_if s.config.encoding an (Ran (Err (commit.Refused refusal)))) (ap next_of step.1.1) stands covers
+  covers_step (Commands command) (Ran (Err commit.AreaFull)) (inr step) stands keeps covers =
+      covers_stay (one_if s.config.encoding an (Ran (Err commit.AreaFull))) (ap next_of step.1.1) stands covers
+  covers_step (Commands command) (Ran (Err commit.Disk)) (inr step) stands keeps covers =
+      covers_stay (one_if s.config.encoding an (Ran (Err commit.Disk))) (ap next_of step.1.1) stands covers
+  covers_step (Commands command) (Ran (Err commit.Stopped)) (inr step) stands keeps covers = absurd step.1
+  covers_step (Commands command) (Refilled result) (inl step) stands keeps covers = absurd step.1
+  covers_step (Commands command) (Refilled result) (inr step) stands keeps covers = absurd step.1
+  covers_step (Commands command) (Protected result out) (inl step) stands keeps covers = absurd step.1
+  covers_step (Commands command) (Protected result out) (inr step) stands keeps covers = absurd step.1
+  covers_step (Commands command) (Received result out) (inl step) stands keeps covers = absurd step.1
+  covers_step (Commands command) (Received result out) (inr step) stands keeps covers = absurd step.1
+  covers_step Refills (Ran result) (inl step) stands keeps covers = absurd step.1
+  covers_step Refills (Ran result) (inr step) stands keeps covers = absurd step.1
+  covers_step Refills (Refilled (Ok done)) (inl step) stands keeps covers = absurd step.1
+  covers_step Refills (Refilled (Ok done)) (inr step) stands keeps covers =
+      covers_next (one_if s.config.encoding an (Refilled (Ok done))) (ap next_of step.1) (covers_refilled stands.tx covers)
+  covers_step Refills (Refilled (Err fault)) (inl step) stands keeps covers =
+      covers_next (one_if s.config.encoding an (Refilled (Err fault))) (ap next_of step.2) (covers_partly stands.either covers)
+  covers_step Refills (Refilled (Err refill.AreaFull)) (inr step) stands keeps covers =
+      covers_next (one_if s.config.encoding an (Refilled (Err refill.AreaFull))) (ap next_of step.1) (covers_partly stands.either covers)
+  covers_step Refills (Refilled (Err refill.Disk)) (inr step) stands keeps covers =
+      covers_next (one_if s.config.encoding an (Refilled (Err refill.Disk))) (ap next_of step.1) (covers_partly stands.either covers)
+  covers_step Refills (Refilled (Err refill.Stopped)) (inr step) stands keeps covers = absurd step.1
+  covers_step Refills (Protected result out) (inl step) stands keeps covers = absurd step.1
+  covers_step Refills (Protected result out) (inr step) stands keeps covers = absurd step.1
+  covers_step Refills (Received result out) (inl step) stands keeps covers = absurd step.1
+  covers_step Refills (Received result out) (inr step) stands keeps covers = absurd step.1
+  covers_step (Protects plain) (Ran result) (inl step) stands keeps covers = absurd step.1
+  covers_step (Protects plain) (Ran result) (inr step) stands keeps covers = absurd step.1
+  covers_step (Protects plain) (Refilled result) (inl step) stands keeps covers = absurd step.1
+  covers_step (Protects plain) (Refilled result) (inr step) stands keeps covers = absurd step.1
+  covers_step (Protects plain) (Protected (Ok pn) out) (inl step) stands keeps covers = absurd step.1
+  covers_step (Protects plain) (Protected (Ok pn) out) (inr step) stands keeps covers =
+      let went = step.1.1 in
+      let o = went.0 in
+      covers_moved (used + one_if s.config.encoding an (Protected (Ok pn) out)) (put s.next o.an (Some (o.pn + 1))) f.ceilings.tx
+      (ap next_of went.4) (ap (λ (x : Standing). x.ceilings.tx) stands)
+      (covers_sent count used an pn (tx_side s) s.config.encoding o (f.ceilings.tx an) out went.1 covers)
+  covers_step (Protects plain) (Protected (Err (protect.Tx fault)) out) (inl step) stands keeps covers = absurd step.1
+  covers_step (Protects plain) (Protected (Err (protect.Tx fault)) out) (inr step) stands keeps covers =
+      covers_stay (one_if s.config.encoding an (Protected (Err (protect.Tx fault)) out)) (ap next_of step.1.2) stands covers
+  covers_step (Protects plain) (Protected (Err protect.Stopped) out) (inl step) stands keeps covers =
+      covers_stay (one_if s.config.encoding an (Protected (Err protect.Stopped) out)) (ap next_of step.2) stands covers
+  covers_step (Protects plain) (Protected (Err protect.Stopped) out) (inr step) stands keeps covers = absurd step.1
+  covers_step (Protects plain) (Received result out) (inl step) stands keeps covers = absurd step.1
+  covers_step (Protects plain) (Received result out) (inr step) stands keeps covers = absurd step.1
+  covers_step (Receives frame) (Ran result) (inl step) stands keeps covers = absurd step.1
+  covers_step (Receives frame) (Ran result) (inr step) stands keeps covers = absurd step.1
+  covers_step (Receives frame) (Refilled result) (inl step) stands keeps covers = absurd step.1
+  covers_step (Receives frame) (Refilled result) (inr step) stands keeps covers = absurd step.1
+  covers_step (Receives frame) (Protected result out) (inl step) stands keeps covers = absurd step.1
+  covers_step (Receives frame) (Protected result out) (inr step) stands keeps covers = absurd step.1
+  covers_step (Receives frame) (Received result out) (inl step) stands keeps covers =
+      covers_stay (one_if s.config.encoding an (Received result out)) (ap next_of step.2) stands covers
+  covers_step (Receives frame) (Received (Ok verdict) out) (inr step) stands keeps covers =
+      covers_stay (one_if s.config.encoding an (Received (Ok verdict) out)) (elim step.1 [
+        | inl settles ↦ ap next_of settles.4
+        | inr arrives ↦ elim arrives.2 [ inl held ↦ ap next_of held.3 | inr taken ↦ ap next_of taken.2 ]
+      ]) stands covers
+  covers_step (Receives frame) (Received (Err stopped) out) (inr step) stands keeps covers = absurd step.1
+
+-- ---- reception
+
+-- a number is below a ceiling
+abbrev pub IsUnder : Option ℕ → ℕ → Type 0
+IsUnder None pn = ⊥
+IsUnder (Some ceiling) pn = pn < ceiling
+
+under_command : (sci : List ℕ) (an pn : ℕ) (identity : Identity) (command : Command) (done : Unit {0}) (c : Ceilings)
+    → RxKeeps sci an (Commands command) (Ran (Ok done)) → IsUnder (c.rx sci an) pn → IsUnder ((ceilings_after identity command c).rx sci an) pn
+under_command sci an pn identity (SetValidate validate) done c keeps under = under
+under_command sci an pn identity (SetReplay on window) done c keeps under = under
+under_command sci an pn identity (SetSciMode mode) done c keeps under = under
+under_command sci an pn identity (TxInstall at key start confidential offset) done c keeps under = under
+under_command sci an pn identity (TxUse at) done c keeps under = under
+under_command sci an pn identity (TxRemove at) done c keeps under = under
+under_command sci an pn identity (RxAdd added) done c keeps under = under
+under_command sci an pn identity (RxDrop dropped) done c keeps under =
+    subst (λ (f : ℕ → Option ℕ). IsUnder (f an) pn) (sym (put_at_other c.rx dropped sci (λ an. None) keeps)) under
+under_command sci an pn identity (RxInstall channel at key start offset) done c keeps under =
+    subst (λ (x : Option ℕ). IsUnder x pn) (sym (put_rx_other c.rx channel sci at an (Some start) keeps)) under
+under_command sci an pn identity (RxRemove channel at) done c keeps under =
+    subst (λ (x : Option ℕ). IsUnder x pn) (sym (put_rx_other c.rx channel sci at an None keeps)) under
+
+under_needed : (block an pn next ceiling seen : ℕ) (sci : List ℕ) (is : Bool) → is_needed block next ceiling seen ≡ is → pn < ceiling
+    → IsUnder (rx_served block (Some ceiling) (cond is (Some (record { sci = sci; an = an; pn = seen })) None)) pn
+under_needed block an pn next ceiling seen sci true is under =
+    let higher : ceiling < raised block seen = grind (arith, nat_tests, (and_parts (nat_le ceiling seen || nat_le (ceiling - next) (block / 2)) (nat_lt ceiling (raised block seen)) is).1) in
+    omega (arith, higher, under)
+under_needed block an pn next ceiling seen sci false is under = under
+
+under_seen : (block an pn : ℕ) (sci : List ℕ) (numbers : Numbers) (ceiling : ℕ) (seen : Option ℕ) → pn < ceiling
+    → IsUnder (rx_served block (Some ceiling) (needed block sci an numbers ceiling seen)) pn
+under_seen block an pn sci numbers ceiling None under = under
+under_seen block an pn sci numbers ceiling (Some seen) under =
+    under_needed block an pn numbers.next ceiling seen sci (is_needed block numbers.next ceiling seen) refl under
+
+under_served : (block an pn : ℕ) (sci : List ℕ) (numbers : Option Numbers) (c : Option ℕ) → IsUnder c pn
+    → IsUnder (rx_served block c (need_of block sci an numbers c)) pn
+under_served block an pn sci numbers None under = absurd under
+under_served block an pn sci None (Some ceiling) under = under
+under_served block an pn sci (Some numbers) (Some ceiling) under = under_seen block an pn sci numbers ceiling numbers.seen under
+
+module _ (sci : List ℕ) (an pn : ℕ) (side : TxSide) (rx : RxSide) (f g : Standing) where
+  under_refilled : g.ceilings.rx sci an ≡ rx_refilled f rx sci an → IsUnder (f.ceilings.rx sci an) pn → IsUnder (g.ceilings.rx sci an) pn
+  under_refilled is under =
+      subst (λ (x : Option ℕ). IsUnder x pn) (sym is)
+      (under_served f.identity.rx_block an pn sci (rx.numbers sci an) (f.ceilings.rx sci an) under)
+
+  under_same : g ≡ f → IsUnder (f.ceilings.rx sci an) pn → IsUnder (g.ceilings.rx sci an) pn
+  under_same same under = subst (λ (x : Standing). IsUnder (x.ceilings.rx sci an) pn) (sym same) under
+
+  -- through a call
+  under_stands : (call : Call) (reply : Reply) → Stands side rx f call reply g → RxKeeps sci an call reply → IsUnder (f.ceilings.rx sci an) pn
+      → IsUnder (g.ceilings.rx sci an) pn
+  under_stands (Commands command) (Ran (Ok done)) stands keeps under =
+      let parts = accept-parts f command g stands in
+      subst (λ (x : Standing). IsUnder (x.ceilings.rx sci an) pn) (sym parts.2) (under_command sci an pn f.identity command done f.ceilings keeps under)
+  under_stands (Commands command) (Ran (Err fault)) stands keeps under = under_same stands under
+  under_stands (Commands command) (Refilled result) stands keeps under = under_same stands under
+  under_stands (Commands command) (Protected result out) stands keeps under = under_same stands under
+  under_stands (Commands command) (Received result out) stands keeps under = under_same stands under
+  under_stands Refills (Ran result) stands keeps under = under_same stands under
+  under_stands Refills (Refilled (Ok done)) stands keeps under = under_refilled (stands.rx sci an) under
+  under_stands Refills (Refilled (Err fault)) stands keeps under = elim (stands.rx sci an) [
+    | inl same ↦ subst (λ (x : Option ℕ). IsUnder x pn) (sym same) under
+    | inr is ↦ under_refilled is under
+  ]
+  under_stands Refills (Protected result out) stands keeps under = under_same stands under
+  under_stands Refills (Received result out) stands keeps under = under_same stands under
+  under_stands (Protects plain) reply stands keeps under = under_same stands under
+  under_stands (Receives frame) reply stands keeps under = under_same stands under
+
+-- a refill that was not needed leaves room, and one that was makes it
+reach_by : (block next seen pn ceiling : ℕ) (is : Bool) (need : Need) → is_needed block next ceiling seen ≡ is → need.pn ≡ seen → 1 ≤ block → pn < 2 ^ 32
+    → (pn ≤ seen) ⊎ ((pn < next + block / 2 + 1) × (pn < seen + block)) → IsUnder (rx_served block (Some ceiling) (cond is (Some need) None)) pn
+reach_by block next seen pn ceiling true need is is_seen least last reach = elim reach [
+  | inl lower ↦ omega (arith, is_seen, least, last, lower)
+  | inr near ↦ (let nearer = near.1 in omega (arith, is_seen, last, nearer))
+]
+reach_by block next seen pn ceiling false need is is_seen least last reach = elim reach [
+  | inl lower ↦ grind (arith, nat_tests, is, least, last, lower)
+  | inr near ↦ (let nearest = near.0 in let nearer = near.1 in grind (arith, nat_tests, is, least, last, nearest, nearer))
+]
+
+reach_served : (block an pn next lowest seen : ℕ) (sci : List ℕ) (c d : Option ℕ) → 1 ≤ block → pn < 2 ^ 32
+    → d ≡ rx_served block c (need_of block sci an (Some (record { next = next; lowest = lowest; seen = Some seen })) c)
+    → IsRxWithin block (Some (record { next = next; lowest = lowest; seen = Some seen })) d
+    → (pn ≤ seen) ⊎ ((pn < next + block / 2 + 1) × (pn < seen + block)) → IsUnder d pn
+reach_served block an pn next lowest seen sci None d least last is within reach =
+    absurd (subst (λ (x : Option ℕ). IsRxWithin block (Some (record { next = next; lowest = lowest; seen = Some seen })) x) is within)
+reach_served block an pn next lowest seen sci (Some ceiling) d least last is within reach =
+    subst (λ (x : Option ℕ). IsUnder x pn) (sym is)
+    (reach_by block next seen pn ceiling (is_needed block next ceiling seen) (record { sci = sci; an = an; pn = seen }) refl refl least last reach)
+
+-- ---- an endpoint
+
+below_of : {D : Type 0} (e : Kept D) (sci : List ℕ) (an pn : ℕ) (c : Option ℕ) → (standing_in e.store).ceilings.rx sci an ≡ c → IsUnder c pn
+    → IsBelow e sci an pn
+below_of e sci an pn None is under = absurd under
+below_of e sci an pn (Some ceiling) is under = record { ceiling = ceiling; is_ceiling = is; below = under }
+
+under_of : {D : Type 0} (e : Kept D) (sci : List ℕ) (an pn : ℕ) → IsBelow e sci an pn → IsUnder ((standing_in e.store).ceilings.rx sci an) pn
+under_of e sci an pn below = subst (λ (x : Option ℕ). IsUnder x pn) (sym below.is_ceiling) below.below
+
+module _ {D : Type 0} (disk_of : D → Disk) where
+  under_lives : (sci : List ℕ) (an pn : ℕ) (turns : List (Turn D)) (old new : Kept D) → Lives disk_of old turns new → RxStays sci an turns
+      → IsUnder ((standing_in old.store).ceilings.rx sci an) pn → IsUnder ((standing_in new.store).ceilings.rx sci an) pn
+  under_lives sci an pn [] old new lives stays under =
+      subst (λ (e : Kept D). IsUnder ((standing_in e.store).ceilings.rx sci an) pn) (sym lives) under
+  under_lives sci an pn (turn ∷ turns) old new lives stays under =
+      under_lives sci an pn turns turn.after new lives.1 stays.1
+      (under_stands sci an pn (tx_side (state_of old no_logs)) (rx_side (state_of old no_logs)) (standing_in old.store) (standing_in turn.after.store)
+      turn.call turn.reply lives.0.stands stays.0 under)
+
+  pub below-stays : (old new : Kept D) (turns : List (Turn D)) (sci : List ℕ) (an pn : ℕ) → Lives disk_of old turns new → RxStays sci an turns
+      → IsBelow old sci an pn → IsBelow new sci an pn
+  below-stays old new turns sci an pn lives stays below =
+      below_of new sci an pn ((standing_in new.store).ceilings.rx sci an) refl
+      (under_lives sci an pn turns old new lives stays (under_of old sci an pn below))
+
+  pub below-refilled : (old new : Kept D) (sci : List ℕ) (an next lowest seen pn : ℕ) → IsKept new → IsCall disk_of old Refills (Refilled (Ok tt)) new
+      → (state_of new no_logs).numbers sci an ≡ Some (record { next = next; lowest = lowest; seen = Some seen }) → pn < 2 ^ 32
+      → ((pn ≤ seen) ⊎ ((pn < next + (standing_in new.store).identity.rx_block / 2 + 1)
+      × (pn < seen + (standing_in new.store).identity.rx_block)))
+      → IsBelow new sci an pn
+  below-refilled old new sci an next lowest seen pn kept call are last reach =
+      let block = (standing_in new.store).identity.rx_block in
+      let before = standing_in old.store in
+      let numbers : Numbers = record { next = next; lowest = lowest; seen = Some seen } in
+      let d = (standing_in new.store).ceilings.rx sci an in
+      let ended = call.step no_logs in
+      let same : (state_of new no_logs).numbers ≡ (state_of old no_logs).numbers = elim ended.1 [
+        | inl stopped ↦ absurd stopped.1
+        | inr ran ↦ ap (λ (x : State). x.numbers) ran.1
+      ] in
+      let stood : (state_of old no_logs).numbers sci an ≡ Some numbers = sym (ap (λ (x : List ℕ → ℕ → Option Numbers). x sci an) same) ∙ are in
+      let served : d ≡ rx_served before.identity.rx_block (before.ceilings.rx sci an)
+      (need_of before.identity.rx_block sci an (Some numbers) (before.ceilings.rx sci an)) =
+      call.stands.rx sci an
+      ∙ ap (λ (x : Option Numbers). rx_served before.identity.rx_block (before.ceilings.rx sci an)
+      (need_of before.identity.rx_block sci an x (before.ceilings.rx sci an))) stood in
+      let served_new : d ≡ rx_served block (before.ceilings.rx sci an) (need_of block sci an (Some numbers) (before.ceilings.rx sci an)) =
+      served ∙ ap (λ (i : Identity). rx_served i.rx_block (before.ceilings.rx sci an)
+      (need_of i.rx_block sci an (Some numbers) (before.ceilings.rx sci an))) (sym call.stands.identity) in
+      let within : IsRxWithin block (Some numbers) d =
+      subst (λ (x : Option Numbers). IsRxWithin block x d) are ((kept-ahead new kept).rx_ahead sci an) in
+      below_of new sci an pn d refl
+      (reach_served block an pn next lowest seen sci (before.ceilings.rx sci an) d kept.identity.rx_block.0 last served_new within reach)
+
+  pub below-delivered : (old new : Kept D) (frame out : List ℕ) (a : Arrival) → IsBelow old a.sci a.an a.pn
+      → Arrives (rx_side (state_of old no_logs)) frame a → IsCall disk_of old (Receives frame) (Received (Ok HeldBack) out) new → ⊥
+  below-delivered old new frame out a below arrives call =
+      let held = call.limited in
+      let same : held.0 ≡ a = arrives_once (rx_side (state_of old no_logs)) frame held.0 a held.1 arrives in
+      let above : is_below ((standing_in old.store).ceilings.rx a.sci a.an) a.pn ≡ false =
+      subst (λ (x : Arrival). is_below ((standing_in old.store).ceilings.rx x.sci x.an) x.pn ≡ false) same held.2 in
+      let beyond : nat_lt a.pn below.ceiling ≡ false = ap (λ (c : Option ℕ). is_below c a.pn) (sym below.is_ceiling) ∙ above in
+      let under = below.below in
+      grind (arith, nat_tests, beyond, under)
+
+  -- ---- room of a transmit association
+
+  covers_lives : (count an : ℕ) (turns : List (Turn D)) (used : ℕ) (old new : Kept D) → Lives disk_of old turns new → TxStays an turns
+      → Covers count used ((state_of old no_logs).next an) ((standing_in old.store).ceilings.tx an)
+      → Covers count (used + written an old turns) ((state_of new no_logs).next an) ((standing_in new.store).ceilings.tx an)
+  covers_lives count an [] used old new lives stays covers =
+      subst (λ (e : Kept D). Covers count (used + 0) ((state_of e no_logs).next an) ((standing_in e.store).ceilings.tx an)) (sym lives)
+      (covers_more count used 0 ((state_of old no_logs).next an) ((standing_in old.store).ceilings.tx an) covers)
+  covers_lives count an (turn ∷ turns) used old new lives stays covers =
+      let one = one_if (standing_in old.store).config.encoding an turn.reply in
+      let rest = written an turn.after turns in
+      let ended = lives.0.step no_logs in
+      let here : Covers count (used + one) ((state_of turn.after no_logs).next an) ((standing_in turn.after.store).ceilings.tx an) =
+      covers_step count used an (state_of old no_logs) (state_of turn.after ended.0) (standing_in old.store) (standing_in turn.after.store)
+      turn.call turn.reply ended.1 lives.0.stands stays.0 covers in
+      let sum : (used + one) + rest ≡ used + (one + rest) = omega arith in
+      covers_same count ((used + one) + rest) (used + (one + rest)) ((state_of new no_logs).next an) ((standing_in new.store).ceilings.tx an) sum
+      (covers_lives count an turns (used + one) turn.after new lives.1 stays.1 here)
+
+  room_of : (e : Kept D) (an count used block : ℕ) (n c : Option ℕ) → (state_of e no_logs).next an ≡ n → (standing_in e.store).ceilings.tx an ≡ c
+      → IsTxWithin block n c → Covers count used n c → HasRoom e an (count - used)
+  room_of e an count used block None None is_next is_ceiling within covers = absurd covers
+  room_of e an count used block None (Some ceiling) is_next is_ceiling within covers = absurd covers
+  room_of e an count used block (Some next) None is_next is_ceiling within covers = absurd covers
+  room_of e an count used block (Some next) (Some ceiling) is_next is_ceiling within covers = record {
+    next = next;
+    ceiling = ceiling;
+    is_next = is_next;
+    is_ceiling = is_ceiling;
+    room = elim covers [
+      | inl below ↦ inl (let ordered = within.0 in omega (arith, ordered, below))
+      | inr all ↦ inr all
+    ];
+  }
+
+  -- where its numbers are in order at the end
+  pub room-stays : (old new : Kept D) (turns : List (Turn D)) (an count : ℕ) → IsKept new → Lives disk_of old turns new → TxStays an turns
+      → HasRoom old an count → HasRoom new an (count - written an old turns)
+  room-stays old new turns an count kept lives stays room =
+      let n = (state_of new no_logs).next an in
+      let c = (standing_in new.store).ceilings.tx an in
+      let covers : Covers count 0 ((state_of old no_logs).next an) ((standing_in old.store).ceilings.tx an) =
+      covers_of count room.next room.ceiling ((state_of old no_logs).next an) ((standing_in old.store).ceilings.tx an) room.is_next room.is_ceiling room.room in
+      let later = covers_lives count an turns 0 old new lives stays covers in
+      room_of new an count (written an old turns) (standing_in new.store).identity.tx_block n c refl refl ((kept-ahead new kept).tx_ahead an)
+      (covers_same count (0 + written an old turns) (written an old turns) n c (omega arith) later)
+
+  pub room-installed : (old new : Kept D) (an : ℕ) (key : List ℕ) (start : ℕ) (confidential : Bool) (offset : ℕ)
+      → IsCall disk_of old (Commands (TxInstall an key start confidential offset)) (Ran (Ok tt)) new
+      → HasRoom new an (standing_in new.store).identity.tx_block
+  room-installed old new an key start confidential offset call =
+      let command = TxInstall an key start confidential offset in
+      let before = standing_in old.store in
+      let parts = accept-parts before command (standing_in new.store) call.stands in
+      let block = (standing_in new.store).identity.tx_block in
+      let kept : (standing_in new.store).identity ≡ before.identity = ap (λ (x : Standing). x.identity) parts.2 in
+      let ended = call.step no_logs in
+      let is_next : (state_of new no_logs).next an ≡ Some start = elim ended.1 [
+        | inl stopped ↦ absurd stopped.1
+        | inr ran ↦ ap (λ (x : State). x.next an) ran.1.2 ∙ put_here (state_of old no_logs).next an (Some start)
+      ] in
+      let is_ceiling : (standing_in new.store).ceilings.tx an ≡ Some (ahead start block) =
+      ap (λ (x : Standing). x.ceilings.tx an) parts.2 ∙ put_here before.ceilings.tx an (Some (ahead start before.identity.tx_block))
+      ∙ ap (λ (i : Identity). Some (ahead start i.tx_block)) (sym kept) in
+      record {
+        next = start;
+        ceiling = ahead start block;
+        is_next = is_next;
+        is_ceiling = is_ceiling;
+        room = elim (cases_lt (start + block) (2 ^ 32)) [
+          | inl under ↦ inl (omega (arith, under))
+          | inr over ↦ inr (omega (arith, over))
+        ];
+      }
+
+  -- ---- after a refill
+
+  -- an association that has a next number stands
+  association_of : (a : Option Association) → IsSome (option_map (λ (x : Association). x.next) a) → (one : Association) × (a ≡ Some one)
+  association_of None stands = absurd cc
+  association_of (Some one) stands = (one, refl)
+
+  ceiling_of : (block next : ℕ) (c : Option ℕ) → IsTxWithin block (Some next) c
+      → (ceiling : ℕ) × (c ≡ Some ceiling) × (next ≤ ceiling) × (ceiling ≤ 2 ^ 32)
+  ceiling_of block next None within = absurd within
+  ceiling_of block next (Some ceiling) within = (ceiling, refl, within.0, within.2)
+
+  -- so many numbers are left, or all that there are
+  abbrev Leaves-room : Option ℕ → ℕ → ℕ → Type 0
+  Leaves-room c next count = (ceiling : ℕ) × (c ≡ Some ceiling) × ((next + count ≤ ceiling) ⊎ (ceiling ≡ 2 ^ 32))
+
+  served_by : (s : Standing) (an next ceiling : ℕ) (is : Bool) → tx.is_needed s.identity.tx_block next ceiling ≡ is → 1 ≤ s.identity.tx_block
+      → s.ceilings.tx an ≡ Some ceiling → next ≤ ceiling → ceiling ≤ 2 ^ 32
+      → Leaves-room ((tx_served s (cond is (Some an) None)).ceilings.tx an) next (s.identity.tx_block / 2 + 1)
+  served_by s an next ceiling true is least stands ordered bounded =
+      let block = s.identity.tx_block in (
+        ahead ceiling block,
+        put_here s.ceilings.tx an (option_map (λ c. ahead c block) (s.ceilings.tx an)) ∙ ap (option_map (λ c. ahead c block)) stands,
+        elim (cases_lt (ceiling + block) (2 ^ 32)) [
+          | inl under ↦ inl (omega (arith, under, least, ordered))
+          | inr over ↦ inr (omega (arith, over))
+        ],
+      )
+  served_by s an next ceiling false is least stands ordered bounded = (
+    ceiling,
+    stands,
+    elim (cases_lt ceiling (2 ^ 32)) [
+      | inl under ↦ inl (grind (arith, nat_tests, is, under, ordered))
+      | inr over ↦ inr (omega (arith, over, bounded))
+    ],
+  )
+
+  served_room : (s : Standing) (an next ceiling : ℕ) (sa : TxSa) → 1 ≤ s.identity.tx_block → s.ceilings.tx an ≡ Some ceiling → next ≤ ceiling
+      → ceiling ≤ 2 ^ 32 → Leaves-room ((tx_served s (tx.need_at s.ceilings.tx s.identity.tx_block
+      (Some (record { an = an; sa = sa; pn = next })))).ceilings.tx an) next (s.identity.tx_block / 2 + 1)
+  served_room s an next ceiling sa least stands ordered bounded =
+      let block = s.identity.tx_block in
+      subst (λ (c : Option ℕ). Leaves-room ((tx_served s (cond (option_map_or (tx.is_needed block next) c false) (Some an) None)).ceilings.tx an)
+      next (block / 2 + 1)) (sym stands)
+      (served_by s an next ceiling (tx.is_needed block next ceiling) refl least stands ordered bounded)
+
+  pub room-refilled : (old new : Kept D) (an : ℕ) → IsKept old → IsCall disk_of old Refills (Refilled (Ok tt)) new → IsEncoding new an
+      → HasRoom new an ((standing_in new.store).identity.tx_block / 2 + 1)
+  room-refilled old new an kept call encodes =
+      let before = standing_in old.store in
+      let side = tx_side (state_of old no_logs) in
+      let block = before.identity.tx_block in
+      let ended = call.step no_logs in
+      let same : (state_of new no_logs).next ≡ side.next = elim ended.1 [
+        | inl stopped ↦ absurd stopped.1
+        | inr ran ↦ ap (λ (x : State). x.next) ran.1
+      ] in
+      let found = association_of (association_at old.tx an) (subst (λ (x : ℕ → Option ℕ). IsSome (x an)) same encodes.1) in
+      let one = found.0 in
+      let is_next : side.next an ≡ Some one.next = ap (option_map (λ (a : Association). a.next)) found.1 in
+      let is_sa : side.tx an ≡ Some (sa_of one) =
+      sym (ap (λ (x : TxSide). x.tx an) kept.channels.tx_is) ∙ ap (option_map sa_of) found.1 in
+      let ceiling = ceiling_of block one.next (before.ceilings.tx an)
+      (subst (λ (x : Option ℕ). IsTxWithin block x (before.ceilings.tx an)) is_next ((kept-ahead old kept).tx_ahead an)) in
+      let o : Outgoing = record { an = an; sa = sa_of one; pn = one.next } in
+      let chosen : side.encoding ≡ Some an = sym (ap (λ (x : Config). x.encoding) call.stands.config) ∙ encodes.0 in
+      let goes : outgoing side ≡ Some o = ap (outgoing_at side) chosen ∙ (λ i. numbered an (is_sa i) (is_next i)) in
+      let room : Leaves-room ((tx_refilled before side).ceilings.tx an) one.next (block / 2 + 1) =
+      subst (λ (x : Option Outgoing). Leaves-room ((tx_served before (tx.need_at before.ceilings.tx block x)).ceilings.tx an) one.next (block / 2 + 1))
+      (sym goes) (served_room before an one.next ceiling.0 (sa_of one) kept.identity.tx_block.0 ceiling.1 ceiling.2 ceiling.3) in
+      let has : HasRoom new an (block / 2 + 1) = record {
+        next = one.next;
+        ceiling = room.0;
+        is_next = said (state_of new no_logs).next side.next an (Some one.next) same is_next;
+        is_ceiling = said (standing_in new.store).ceilings.tx (tx_refilled before side).ceilings.tx an (Some room.0) call.stands.tx room.1;
+        room = room.2;
+      } in
+      subst (λ (i : Identity). HasRoom new an (i.tx_block / 2 + 1)) (sym call.stands.identity) has
+
+  -- ---- where no number is left
+
+  -- where no fault holds, not every number is used
+  not_exhausted : (a b c d e : Bool) → first ((Runt, a) ∷ (TooLong, b) ∷ (ForeignSource, c) ∷ (NoEncodingSa, d) ∷ (Exhausted, e) ∷ []) ≡ None → e ≡ false
+  not_exhausted true b c d e is = absurd cc
+  not_exhausted false true c d e is = absurd cc
+  not_exhausted false false true d e is = absurd cc
+  not_exhausted false false false true e is = absurd cc
+  not_exhausted false false false false true is = absurd cc
+  not_exhausted false false false false false is = refl
+
+  another_fault : (a b c d e : Bool) → first ((Runt, a) ∷ (TooLong, b) ∷ (ForeignSource, c) ∷ (NoEncodingSa, d) ∷ (Exhausted, e) ∷ []) ≡ Some NoNumber → ⊥
+  another_fault true b c d e is = cc
+  another_fault false true c d e is = cc
+  another_fault false false true d e is = cc
+  another_fault false false false true e is = cc
+  another_fault false false false false true is = cc
+  another_fault false false false false false is = cc
+
+  numbers_left : (an next ceiling count : ℕ) (sa : Option TxSa) (ceilings : ℕ → Option ℕ) → ceilings an ≡ Some ceiling
+      → (next + count ≤ ceiling) ⊎ (ceiling ≡ 2 ^ 32) → 1 ≤ count → is_at_ceiling ceilings (numbered an sa (Some next)) ≡ true
+      → is_used_up (numbered an sa (Some next)) ≡ false → ⊥
+  numbers_left an next ceiling count None ceilings is_ceiling room least at unused = cc
+  numbers_left an next ceiling count (Some sa) ceilings is_ceiling room least at unused =
+      let reached : (ceiling == next) ≡ true = ap (λ (c : Option ℕ). option_map_or (λ x. x == next) c false) (sym is_ceiling) ∙ at in
+      let same = eqb-true ceiling next reached in
+      elim room [
+        | inl below ↦ omega (arith, same, below, least)
+        | inr all ↦ (let last = eq-eqb next (2 ^ 32) (omega (arith, same, all)) in cc)
+      ]
+
+  pub room-numbered : (old new : Kept D) (an count : ℕ) (plain out : List ℕ) → IsEncoding old an → HasRoom old an count → 1 ≤ count
+      → IsCall disk_of old (Protects plain) (Protected (Err (protect.Tx NoNumber)) out) new → ⊥
+  room-numbered old new an count plain out encodes room least call =
+      let side = tx_side (state_of old no_logs) in
+      let c = (standing_in old.store).ceilings.tx in
+      let goes : outgoing side ≡ numbered an (side.tx an) (Some room.next) =
+      ap (outgoing_at side) encodes.0 ∙ ap (numbered an (side.tx an)) room.is_next in
+      let ended = call.step no_logs in
+      elim ended.1 [
+        | inl stopped ↦ stopped.1
+        | inr ran ↦ elim ran.1.0 [
+          | inl is ↦ another_fault _ _ _ _ _ is
+          | inr none ↦
+              let unused : is_used_up (outgoing side) ≡ false = not_exhausted _ _ _ _ _ none.0 in
+              numbers_left an room.next room.ceiling count (side.tx an) c room.is_ceiling room.room least
+              (subst (λ (o : Option Outgoing). is_at_ceiling c o ≡ true) goes call.limited)
+              (subst (λ (o : Option Outgoing). is_used_up o ≡ false) goes unused)
+        ]
+      ]

@@ -1,0 +1,132 @@
+use Rattle.std.proofs.Common.{◌≡◌, ◌≢◌, ◌≤◌, ℕ, false, List, Option, Some, None, Result, Ok, Err, refl, sym, ◌∙◌, ap, subst, arith}
+use Rattle.std.specs.Option.{option_map}
+use Rattle.std.proofs.lemmas.Result.{err_from_is_err_and}
+use Rattle.macs_config.specs.Identity.{IsIdentity}
+use Rattle.macs_disk.specs.Disk.{now}
+use Rattle.macs_disk.specs.States.{Image}
+use Rattle.macs_journal.specs.declared.fault.JournalFault.{JournalFault}
+use Rattle.macs_journal.specs.declared.fault.JournalFault.TheVariants.{Stopped, TooSmall, Disk, AlreadyFormatted, NotFormatted, BadJournal, AreaFull}
+use Rattle.macs_txsc.specs.Transmit.{InOrder}
+use Rattle.macs_txsc.specs.View as txsc
+use Rattle.macs_txsc.specs.declared.channel.Tx.{Tx}
+use Rattle.macs_rxsc.specs.Receive.{Numbers, started}
+use Rattle.macs_rxsc.specs.View as rxsc
+use Rattle.macs_store.specs.Found.{IsFound}
+use Rattle.macs_store.specs.Kept.{standing_in}
+use Rattle.macs_store.specs.Standing.{Standing}
+use Rattle.macs_store.proofs.OneStanding.{one_standing}
+use Rattle.macs_endpoint.specs.Kept.{IsKept, IsRxWithin, IsTxWithin, Kept, state_of}
+use Rattle.macs_endpoint.specs.Restart.{Fits, opening}
+use Rattle.macs_endpoint.specs.State.{Logs, State, receiving, transmitting}
+use Rattle.macs_endpoint.proofs.Fitting.{kept-backed}
+use Rattle.macs_endpoint.proofs.endpoint.Endpoint.open.Given.{Over}
+use Rattle.macs_endpoint.proofs.endpoint.Endpoint.open.Goals.{After-facts}
+use Rattle.macs_endpoint.proofs.endpoint.Endpoint.open.Goals as goal
+
+-- ---- a disk that fits a state is refused for the device alone
+
+not_found : (sectors : ℕ) (image : Image) (fault : JournalFault) → IsFound sectors image (Err fault) → (s : State) × Fits sectors image s → ⊥
+not_found sectors image fault is fits =
+    let same : ◌≡◌ {A = Result Standing JournalFault} (Err fault) (Ok fits.1.found) =
+    one_standing sectors image (Err fault) (Ok fits.1.found) is fits.1.is_found in cc
+
+by_device : (sectors : ℕ) (image : Image) (fault : JournalFault) → (fault ≢ Disk → IsFound sectors image (Err fault)) → (s : State) × Fits sectors image s
+    → fault ≡ Disk
+by_device sectors image Disk found fits = refl
+by_device sectors image Stopped found fits = absurd (not_found sectors image Stopped (found (λ is. cc)) fits)
+by_device sectors image TooSmall found fits = absurd (not_found sectors image TooSmall (found (λ is. cc)) fits)
+by_device sectors image AlreadyFormatted found fits = absurd (not_found sectors image AlreadyFormatted (found (λ is. cc)) fits)
+by_device sectors image NotFormatted found fits = absurd (not_found sectors image NotFormatted (found (λ is. cc)) fits)
+by_device sectors image BadJournal found fits = absurd (not_found sectors image BadJournal (found (λ is. cc)) fits)
+by_device sectors image AreaFull found fits = absurd (not_found sectors image AreaFull (found (λ is. cc)) fits)
+
+pub returns-in_err-store-clause-opens : goal.returns-in_err-store-clause-opens
+returns-in_err-store-clause-opens g c =
+    let refused = c.in_err-store.field-0.0 in
+    let risen = err_from_is_err_and c.from_residual.result c.from_residual.ensures.1 in
+    let before = (g.D.SectorDisk.disk c.args.disk) in
+    rw (risen.1, risen.2) (λ honest fits.
+    by_device before.sectors (now before).seen refused.fault (λ other. c.in_err-store.ensures.refused other honest)
+    (fits (now before).seen (g.met.D.SectorDisk.sound c.args.disk (sym c.in_err-store.ensures.work_refused.0.honest ∙ honest)).fit))
+
+-- ---- numbers begin at their ceilings
+
+tx_begins : (block : ℕ) (next ceiling : Option ℕ) → next ≡ ceiling → InOrder next ceiling → IsTxWithin block next ceiling
+tx_begins block None None same ordered = tt
+tx_begins block None (Some c) same ordered = absurd ordered
+tx_begins block (Some n) None same ordered = absurd ordered
+tx_begins block (Some n) (Some c) same ordered = let is : n ≡ c = cc in (ordered.1, omega (arith, is), ordered.2)
+
+rx_started : (block : ℕ) (ceiling : Option ℕ) → IsRxWithin block (option_map started ceiling) ceiling
+rx_started block None = tt
+rx_started block (Some c) = (omega arith, omega arith)
+
+rx_begins : (block : ℕ) (numbers : Option Numbers) (ceiling : Option ℕ) → numbers ≡ option_map started ceiling → IsRxWithin block numbers ceiling
+rx_begins block numbers ceiling same =
+    subst (λ (n : Option Numbers). IsRxWithin block n ceiling) (sym same) (rx_started block ceiling)
+
+module _ (g : Over) (c : After-facts g) where
+  abbrev s : Standing
+  s = standing_in c.in_ok-store.store
+
+  abbrev tx : Tx
+  tx = c.opened-channels.result.tx
+
+  abbrev rx : rxsc.Kept
+  rx = c.opened-channels.result.rx
+
+  next : (txsc.side_of tx).next ≡ s.ceilings.tx
+  next = ap (λ side. side.next) c.opened-channels.ensures.tx
+
+  numbers : (rxsc.side_of rx).numbers ≡ (λ sci an. option_map started (s.ceilings.rx sci an))
+  numbers = ap (λ side. side.numbers) c.opened-channels.ensures.rx
+
+  kept : IsKept {D = g.row.D.Denot} (record { store = c.in_ok-store.store; tx = tx; rx = rx; in_hand = None })
+  kept =
+      let opened = c.opened-channels.ensures in
+      record {
+        identity = subst IsIdentity c.identity.ensures c.identity_in_range.ensures;
+        channels = record {
+          tx_is = opened.tx ∙ ap (λ (n : ℕ → Option ℕ). transmitting s.identity s.config n) (sym next);
+          rx_is = opened.rx ∙ ap (λ (n : List ℕ → ℕ → Option Numbers). receiving s.config n) (sym numbers);
+          tx_ceilings = opened.tx_ceilings;
+          rx_ceilings = opened.rx_ceilings;
+        };
+        within = record {
+          tx_within = λ an. tx_begins s.identity.tx_block ((txsc.side_of tx).next an) (txsc.ceilings_of tx an)
+              (λ i. (next ∙ sym opened.tx_ceilings) i an) (c.facts.ensures an).0;
+          rx_within = λ sci an. rx_begins s.identity.rx_block ((rxsc.side_of rx).numbers sci an) (rxsc.ceilings_of rx sci an)
+              ((λ i. numbers i sci an) ∙ (λ i. option_map started (sym opened.rx_ceilings i sci an)));
+        };
+        idle = λ running. refl;
+      }
+
+pub invariant_of-result : goal.invariant_of-result
+invariant_of-result g c = kept g (goal.at.invariant_of-result g c).After-facts
+
+begins : {D : Type 0} (e : Kept D) (logs : Logs) → (txsc.side_of e.tx).next ≡ (standing_in e.store).ceilings.tx
+    → (rxsc.side_of e.rx).numbers ≡ (λ sci an. option_map started ((standing_in e.store).ceilings.rx sci an))
+    → e.store.journal.stopped ≡ false → e.in_hand ≡ None → state_of e logs ≡ opening (standing_in e.store) logs
+begins e logs next numbers running idle = λ i. record {
+  identity = (standing_in e.store).identity;
+  config = (standing_in e.store).config;
+  next = next i;
+  numbers = numbers i;
+  logs = logs;
+  stopped = running i;
+  in_hand = idle i;
+}
+
+pub returns-clause-state : goal.returns-clause-state
+returns-clause-state g c = λ logs.
+    let at = (goal.at.returns-clause-state g c).After-facts in
+    begins {D = g.row.D.Denot} (record { store = c.in_ok-store.store; tx = c.opened-channels.result.tx; rx = c.opened-channels.result.rx; in_hand = None })
+    logs (next g at) (numbers g at) c.in_ok-store.ensures.running refl
+
+pub returns-clause-backed : goal.returns-clause-backed
+returns-clause-backed g c = λ honest.
+    let at = (goal.at.returns-clause-backed g c).After-facts in
+    let found = c.in_ok-store.ensures in
+    kept-backed g.D.SectorDisk.disk
+    (record { store = c.in_ok-store.store; tx = c.opened-channels.result.tx; rx = c.opened-channels.result.rx; in_hand = None })
+    (kept g at) (subst (λ (n : ℕ). 1028 ≤ n) (sym found.work.0.sectors) found.large) (found.stored honest)

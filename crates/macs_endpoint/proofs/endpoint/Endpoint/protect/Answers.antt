@@ -1,0 +1,52 @@
+use Rattle.std.proofs.Common.{◌≡◌, false, sym, ◌∙◌, ap, subst}
+use Rattle.macs_txsc.specs.View as txsc
+use Rattle.macs_endpoint.specs.Calls.{IsCall}
+use Rattle.macs_endpoint.specs.Kept.{Kept}
+use Rattle.macs_endpoint.specs.State.{Protects, Protected}
+use Rattle.macs_endpoint.proofs.Framing.{Sends, answered, protect-stopped, protected-call, protected-kept, with_tx}
+use Rattle.macs_endpoint.proofs.endpoint.Endpoint.protect.Given.{Over}
+use Rattle.macs_endpoint.proofs.endpoint.Endpoint.protect.Goals.{After-protect, in-Ok, in-Err}
+use Rattle.macs_endpoint.proofs.endpoint.Endpoint.protect.Goals as goal
+
+pub returns-then-is_stopped-clause-call : goal.returns-then-is_stopped-clause-call
+returns-then-is_stopped-clause-call g c =
+    protect-stopped g.D.SectorDisk.disk c.args.self.now c.args.plain.now c.clear.new.self.items (sym c.is_stopped.ensures ∙ c.if-is_stopped.true)
+    c.clear.ensures
+
+module _ (g : Over) (c : After-protect g) where
+  abbrev old : Kept g.row.D.Denot
+  old = record { store = c.self.inside.store; tx = c.self.inside.channels.tx; rx = c.self.inside.channels.rx; in_hand = c.self.inside.in_hand }
+
+  sends : Sends (txsc.side_of old.tx) (txsc.side_of c.protect.new.self) (txsc.ceilings_of old.tx) c.args.plain.now c.protect.result
+      c.protect.new.out.items
+  sends = record {
+    fault = c.protect.ensures.fault;
+    number = c.protect.ensures.number;
+    frame = c.protect.ensures.frame;
+    sent = c.protect.ensures.sent;
+    same = c.protect.ensures.same;
+    empty = c.protect.ensures.empty;
+  }
+
+pub invariant_of-self : goal.invariant_of-self
+invariant_of-self g c =
+    let at = (goal.at.invariant_of-self g c).After-protect in
+    protected-kept g.D.SectorDisk.disk (old g at) c.protect.new.self c.args.plain.now c.protect.result c.protect.new.out.items c.self.invariant
+    (sends g at) c.protect.ensures.ceilings
+
+pub returns-clause-call : goal.returns-clause-call
+returns-clause-call g c =
+    let at = (goal.at.returns-clause-call g c).After-protect in
+    let disk = g.D.SectorDisk.disk in
+    let is : c.match-protect.result ≡ answered c.protect.result = elim c.match-protect.branch [
+      | in-Ok w ↦ w.result-is ∙ sym (ap answered w.in-Ok.is)
+      | in-Err w ↦ w.result-is ∙ sym (ap answered w.in-Err.is)
+    ] in
+    let running : (old g at).store.journal.stopped ≡ false =
+    ap (λ (e : Kept g.row.D.Denot). e.store.journal.stopped) c.self.view_is ∙ sym c.is_stopped.ensures ∙ c.if-is_stopped.false in
+    let call =
+    protected-call disk (old g at) c.protect.new.self c.args.plain.now c.protect.result c.protect.new.out.items c.self.invariant
+    (sends g at) c.protect.ensures.ceilings running c.protect.ensures.counters in
+    let new = with_tx (old g at) c.protect.new.self in
+    rw is (subst (λ (e : Kept g.row.D.Denot).
+    IsCall disk e (Protects c.args.plain.now) (Protected (answered c.protect.result) c.protect.new.out.items) new) c.self.view_is call)

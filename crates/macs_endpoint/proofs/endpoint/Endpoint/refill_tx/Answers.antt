@@ -1,0 +1,133 @@
+use Rattle.std.proofs.Common.{◌≡◌, ◌≤◌, ℕ, false, Option, Some, Result, Ok, Err, refl, sym, ◌∙◌, ap, subst}
+use Rattle.std.specs.Option.{IfSome, is_some}
+use Rattle.std.proofs.lemmas.Result.{err_from_is_err_and}
+use Rattle.macs_config.specs.Tables.{put}
+use Rattle.macs_journal.specs.declared.fault.JournalFault.{JournalFault}
+use Rattle.macs_txsc.specs.Transmit.{need_of}
+use Rattle.macs_txsc.specs.View as txsc
+use Rattle.macs_rxsc.specs.View as rxsc
+use Rattle.macs_store.specs.Kept.{standing_in}
+use Rattle.macs_store.specs.Standing.{Ceilings, Standing, ahead, tx_raised}
+use Rattle.macs_endpoint.specs.Kept.{Kept}
+use Rattle.macs_endpoint.proofs.Fitting.{AreAhead, kept-ahead}
+use Rattle.macs_endpoint.proofs.Raising.{IsTxNeed, Raises, faulted, raised-kept, raised-reserves, tx-below, tx-ceiling, tx-need, tx-not_below, tx-raised, tx-raised-ahead, tx-value}
+use Rattle.macs_endpoint.proofs.endpoint.Endpoint.refill_tx.Given.{Over}
+use Rattle.macs_endpoint.proofs.endpoint.Endpoint.refill_tx.Goals.{After-get, After-reserve_tx, After-tx_ceiling, In-Some}
+use Rattle.macs_endpoint.proofs.endpoint.Endpoint.refill_tx.Goals as goal
+
+module _ (g : Over) (c : In-Some g) where
+  abbrev old : Kept g.row.D.Denot
+  old = record {
+    store = c.self.inside.store;
+    tx = c.self.inside.channels.tx;
+    rx = c.self.inside.channels.rx;
+    in_hand = c.self.inside.in_hand;
+  }
+
+  abbrev s : Standing
+  s = standing_in c.self.inside.store
+
+  running : c.self.inside.store.journal.stopped ≡ false
+  running = rw (← c.self.view_is) at c.requires.running
+
+  need : IsTxNeed (txsc.side_of old.tx) s.ceilings.tx s.identity.tx_block c.in-Some.an
+  need =
+      let block = c.tx_block.ensures.value ∙ ap (λ i. i.tx_block) c.identity.ensures in
+      tx-need (txsc.side_of old.tx) s.ceilings.tx s.identity.tx_block c.in-Some.an
+      (sym (λ i. need_of (txsc.side_of old.tx) (c.self.invariant.channels.tx_ceilings i) (block i)) ∙ sym c.needs.ensures ∙ c.in-Some.is)
+
+  abbrev further : Ceilings
+  further = (tx_raised s c.in-Some.an).ceilings
+
+  are : AreAhead s.identity (txsc.side_of old.tx).next (rxsc.side_of old.rx).numbers further
+  are =
+      tx-raised-ahead s.identity (txsc.side_of old.tx) (rxsc.side_of old.rx).numbers s.ceilings c.in-Some.an need
+      (kept-ahead {D = g.row.D.Denot} old c.self.invariant)
+
+pub reserve_tx-requires-clause-raised : goal.reserve_tx-requires-clause-raised
+reserve_tx-requires-clause-raised g c = tx-below _ _ _ _ (need g (goal.at.reserve_tx-requires-clause-raised g c).In-Some)
+
+pub reserve_tx-requires-clause-stands : goal.reserve_tx-requires-clause-stands
+reserve_tx-requires-clause-stands g c = tx-ceiling _ _ _ _ (need g (goal.at.reserve_tx-requires-clause-stands g c).In-Some)
+
+-- what the store says of it
+raises : (g : Over) (c : After-reserve_tx g) (result : Result (Unit {0}) JournalFault) → c.reserve_tx.result ≡ result
+    → Raises g.D.SectorDisk.disk c.self.inside.store (tx_raised (standing_in c.self.inside.store) c.in-Some.an) result c.reserve_tx.new.self
+raises g c result is =
+    let said = c.reserve_tx.ensures in
+    subst (λ (r : Result (Unit {0}) JournalFault). Raises g.D.SectorDisk.disk c.self.inside.store
+    (tx_raised (standing_in c.self.inside.store) c.in-Some.an) r c.reserve_tx.new.self) is
+    (record {
+      stopped = said.stopped;
+      full = said.full;
+      names = said.names;
+      same = said.same;
+      halted = said.halted;
+      running = said.running;
+      done = said.done;
+      work = said.work;
+      any_moment = said.any_moment;
+      stored = said.stored;
+    })
+
+pub returns-in_err-reserve_tx-clause-reserves : goal.returns-in_err-reserve_tx-clause-reserves
+returns-in_err-reserve_tx-clause-reserves g c =
+    let at = goal.at.returns-in_err-reserve_tx-clause-reserves g c in
+    let risen = err_from_is_err_and c.from_residual.result c.from_residual.ensures.1 in
+    rw (← c.self.view_is) (rw (risen.1, risen.2)
+    (faulted g.D.SectorDisk.disk (old g at.In-Some) c.self.invariant (running g at.In-Some) (further g at.In-Some) (are g at.In-Some)
+    c.reserve_tx.new.self c.in_err-reserve_tx.field-0.0 (raises g at.After-reserve_tx (Err c.in_err-reserve_tx.field-0.0) c.in_err-reserve_tx.was)).0)
+
+-- the ceiling that the store has now
+value : (g : Over) (c : After-tx_ceiling g) → c.reserve_tx.result ≡ Ok tt
+    → c.tx_ceiling.result ≡ (tx_raised (standing_in c.self.inside.store) c.in-Some.an).ceilings.tx c.in-Some.an
+value g c done = c.tx_ceiling.ensures ∙ (λ i. ((rw done at c.reserve_tx.ensures.done) i).ceilings.tx c.in-Some.an)
+
+-- as a number
+raised_value : (g : Over) (c : In-Some g) → (tx_raised (s g c) c.in-Some.an).ceilings.tx c.in-Some.an ≡ Some (ahead (need g c).top (s g c).identity.tx_block)
+raised_value g c = tx-value (s g c).ceilings.tx c.in-Some.an _ ∙ tx-raised _ _ _ _ (need g c)
+
+pub unwrap-ceiling-requires : goal.unwrap-ceiling-requires
+unwrap-ceiling-requires g c =
+    let at = goal.at.unwrap-ceiling-requires g c in
+    ap is_some (value g at.After-tx_ceiling c.in_ok-reserve_tx.was ∙ raised_value g at.In-Some)
+
+some_same : (a b : ℕ) → Some a ≡ Some b → a ≡ b
+some_same a b is = cc
+
+got : (g : Over) (c : After-get g) (top : ℕ) → c.tx_ceiling.result ≡ Some top → c.get.result ≡ top
+got g c top is = c.get.ensures.value ∙ some_same _ _ (sym c.unwrap-ceiling.ensures ∙ is)
+
+pub raise-requires-clause-higher : goal.raise-requires-clause-higher
+raise-requires-clause-higher g c =
+    let at = goal.at.raise-requires-clause-higher g c in
+    subst (λ (x : ℕ → Option ℕ). IfSome (x c.in-Some.an) (λ (o : ℕ). o ≤ c.get.result)) (sym c.self.invariant.channels.tx_ceilings)
+    (tx-not_below _ _ _ _ (need g at.In-Some) c.get.result
+    (got g at.After-get _ (value g at.After-tx_ceiling c.in_ok-reserve_tx.was ∙ raised_value g at.In-Some)))
+
+-- the ceilings of the channel are those that stand
+ceilings : (g : Over) (c : After-get g) (new standing : ℕ → Option ℕ) (x : Option ℕ) → c.tx_ceiling.result ≡ x
+    → new ≡ put (txsc.ceilings_of c.self.inside.channels.tx) c.in-Some.an (Some c.get.result) → txsc.ceilings_of c.self.inside.channels.tx ≡ standing
+    → new ≡ put standing c.in-Some.an x
+ceilings g c new standing x is made same =
+    let one : Some c.get.result ≡ x = ap Some c.get.ensures.value ∙ sym c.unwrap-ceiling.ensures ∙ is in
+    made ∙ (λ i. put (same i) c.in-Some.an (one i))
+
+pub invariant_of-self-2 : goal.invariant_of-self-2
+invariant_of-self-2 g c =
+    let at = goal.at.invariant_of-self-2 g c in
+    let channels = c.self.invariant.channels in
+    let is = value g at.After-tx_ceiling c.in_ok-reserve_tx.was ∙ tx-value (s g at.In-Some).ceilings.tx c.in-Some.an _ in
+    raised-kept g.D.SectorDisk.disk (old g at.In-Some) c.self.invariant (running g at.In-Some) (further g at.In-Some) (are g at.In-Some)
+    c.reserve_tx.new.self (raises g at.After-reserve_tx (Ok tt) c.in_ok-reserve_tx.was) c.raise.new.self c.self.inside.channels.rx
+    c.raise.ensures.side refl (ceilings g at.After-get _ _ _ is c.raise.ensures.ceilings channels.tx_ceilings) channels.rx_ceilings
+
+pub returns-clause-reserves : goal.returns-clause-reserves
+returns-clause-reserves g c =
+    let at = goal.at.returns-clause-reserves g c in
+    let channels = c.self.invariant.channels in
+    let is = value g at.After-tx_ceiling c.in_ok-reserve_tx.was ∙ tx-value (s g at.In-Some).ceilings.tx c.in-Some.an _ in
+    rw (← c.self.view_is) (raised-reserves g.D.SectorDisk.disk (old g at.In-Some) c.self.invariant (running g at.In-Some) (further g at.In-Some)
+    (are g at.In-Some) c.reserve_tx.new.self (raises g at.After-reserve_tx (Ok tt) c.in_ok-reserve_tx.was) c.raise.new.self c.self.inside.channels.rx
+    c.raise.ensures.side refl (ceilings g at.After-get _ _ _ is c.raise.ensures.ceilings channels.tx_ceilings) channels.rx_ceilings
+    c.raise.ensures.counters refl refl)

@@ -1,0 +1,53 @@
+-- What a call does to the ceilings of packet numbers.
+use Rattle.std.specs.Prelude.{◌≡◌, ◌⊎◌, ℕ, List, Option, Some, None, Ok, Err}
+use Rattle.macs_txsc.specs.Transmit.{TxSide}
+use Rattle.macs_txsc.specs.Transmit as tx
+use Rattle.macs_rxsc.specs.Needs.{Need, raised}
+use Rattle.macs_rxsc.specs.Needs as rx
+use Rattle.macs_rxsc.specs.Receive.{RxSide}
+use Rattle.macs_store.specs.Standing.{Standing, accept, tx_raised}
+use Rattle.macs_endpoint.specs.State.{Call, Commands, Ran, Refilled, Refills, Reply}
+
+-- ---- reservations
+
+-- the ceiling that is needed is raised, if one is
+abbrev pub tx_served : Standing → Option ℕ → Standing
+tx_served s None = s
+tx_served s (Some an) = tx_raised s an
+
+abbrev pub tx_refilled : Standing → TxSide → Standing
+tx_refilled s side = tx_served s (tx.need_of side s.ceilings.tx s.identity.tx_block)
+
+abbrev pub rx_served : ℕ → Option ℕ → Option Need → Option ℕ
+rx_served block ceiling None = ceiling
+rx_served block ceiling (Some need) = Some (raised block need.pn)
+
+-- the ceiling of a receive association, raised if that is needed
+abbrev pub rx_refilled : Standing → RxSide → List ℕ → ℕ → Option ℕ
+rx_refilled s side sci an =
+    rx_served s.identity.rx_block (s.ceilings.rx sci an)
+    (rx.need_of s.identity.rx_block sci an (side.numbers sci an) (s.ceilings.rx sci an))
+
+-- every ceiling that is needed is raised, and no other
+pub record IsRefilled (old new : Standing) (tx_side : TxSide) (rx_side : RxSide) : Type 0 where
+  pub identity : new.identity ≡ old.identity
+  pub config : new.config ≡ old.config
+  pub tx : new.ceilings.tx ≡ (tx_refilled old tx_side).ceilings.tx
+  pub rx : (sci : List ℕ) (an : ℕ) → new.ceilings.rx sci an ≡ rx_refilled old rx_side sci an
+
+-- Some ceilings that are needed are raised, the one of the transmit side first, and no other
+pub record IsPartlyRefilled (old new : Standing) (tx_side : TxSide) (rx_side : RxSide) : Type 0 where
+  pub identity : new.identity ≡ old.identity
+  pub config : new.config ≡ old.config
+  pub either : (new ≡ old) ⊎ (new.ceilings.tx ≡ (tx_refilled old tx_side).ceilings.tx)
+  pub rx : (sci : List ℕ) (an : ℕ)
+      → (new.ceilings.rx sci an ≡ old.ceilings.rx sci an) ⊎ (new.ceilings.rx sci an ≡ rx_refilled old rx_side sci an)
+
+-- ---- calls
+
+-- what stands after a call
+abbrev pub Stands : TxSide → RxSide → Standing → Call → Reply → Standing → Type 0
+Stands tx_side rx_side old (Commands command) (Ran (Ok done)) new = accept old command ≡ Ok new
+Stands tx_side rx_side old Refills (Refilled (Ok done)) new = IsRefilled old new tx_side rx_side
+Stands tx_side rx_side old Refills (Refilled (Err fault)) new = IsPartlyRefilled old new tx_side rx_side
+Stands tx_side rx_side old call reply new = new ≡ old

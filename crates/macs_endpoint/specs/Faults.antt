@@ -1,0 +1,11 @@
+-- Why a reservation is not kept.
+use Rattle.macs_journal.specs.declared.fault.JournalFault.{JournalFault}
+use Rattle.macs_journal.specs.declared.fault.JournalFault.TheVariants as journal
+use Rattle.macs_endpoint.specs.declared.fault.RefillFault.{RefillFault}
+use Rattle.macs_endpoint.specs.declared.fault.RefillFault.TheVariants.{AreaFull, Disk, Stopped}
+
+-- a store answers a reservation with no other names
+abbrev pub refill_fault_of : JournalFault → RefillFault
+refill_fault_of journal.Stopped = Stopped
+refill_fault_of journal.AreaFull = AreaFull
+refill_fault_of fault = Disk

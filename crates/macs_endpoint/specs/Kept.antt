@@ -1,0 +1,82 @@
+-- An endpoint in memory, and what its disk holds.
+use Rattle.std.specs.Prelude.{◌≡◌, ◌≤◌, ◌+◌, ◌/◌, ◌^◌, ℕ, false, List, Option, Some, None}
+use Rattle.macs_config.specs.Identity.{Identity, IsIdentity}
+use Rattle.macs_config.specs.declared.command.Command.{Command}
+use Rattle.macs_disk.specs.Disk.{Disk, MayLeave}
+use Rattle.macs_disk.specs.States.{Image}
+use Rattle.macs_journal.specs.Areas.{least_sectors}
+use Rattle.macs_txsc.specs.View as txsc
+use Rattle.macs_txsc.specs.declared.channel.Tx.{Tx}
+use Rattle.macs_rxsc.specs.Receive.{Numbers}
+use Rattle.macs_rxsc.specs.View as rxsc
+use Rattle.macs_store.specs.Kept.{IsStored, standing_in}
+use Rattle.macs_store.specs.Kept as store
+use Rattle.macs_store.specs.Standing.{Standing}
+use Rattle.macs_endpoint.specs.Restart.{Fits, rx_limit}
+use Rattle.macs_endpoint.specs.State.{Logs, State, receiving, transmitting}
+
+-- what an endpoint keeps
+pub record Kept (D : Type 0) : Type 0 where
+  pub store : store.Kept D
+  pub tx : Tx
+  pub rx : rxsc.Kept
+  pub in_hand : Option Command
+
+-- its state, after these logs
+abbrev pub state_of : {D : Type 0} → Kept D → Logs → State
+state_of e logs = record {
+  identity = (standing_in e.store).identity;
+  config = (standing_in e.store).config;
+  next = (txsc.side_of e.tx).next;
+  numbers = (rxsc.side_of e.rx).numbers;
+  logs = logs;
+  stopped = e.store.journal.stopped;
+  in_hand = e.in_hand;
+}
+
+-- ---- what holds of it in memory
+
+-- a transmit ceiling is not below the next number, and at most a block and a half above it
+abbrev pub IsTxWithin : ℕ → Option ℕ → Option ℕ → Type 0
+IsTxWithin block (Some next) (Some ceiling) = (next ≤ ceiling) × (ceiling ≤ next + (block + block / 2)) × (ceiling ≤ 2 ^ 32)
+IsTxWithin block None None = Unit {0}
+IsTxWithin block next ceiling = ⊥
+
+-- a receive ceiling is not below the next number, and no further than receive numbers may rise
+abbrev pub IsRxWithin : ℕ → Option Numbers → Option ℕ → Type 0
+IsRxWithin block (Some numbers) (Some ceiling) = (numbers.next ≤ ceiling) × (ceiling ≤ rx_limit block numbers.next numbers.seen)
+IsRxWithin block None None = Unit {0}
+IsRxWithin block numbers ceiling = ⊥
+
+-- channels that a standing makes, with whatever numbers, and with the ceilings that stand
+pub record AreChannels (tx : Tx) (rx : rxsc.Kept) (s : Standing) : Type 0 where
+  pub tx_is : txsc.side_of tx ≡ transmitting s.identity s.config (txsc.side_of tx).next
+  pub rx_is : rxsc.side_of rx ≡ receiving s.config (rxsc.side_of rx).numbers
+  pub tx_ceilings : txsc.ceilings_of tx ≡ s.ceilings.tx
+  pub rx_ceilings : rxsc.ceilings_of rx ≡ s.ceilings.rx
+
+-- each association has its numbers and a ceiling that is not too far ahead
+pub record AreWithin (tx : Tx) (rx : rxsc.Kept) (identity : Identity) : Type 0 where
+  pub tx_within : (an : ℕ) → IsTxWithin identity.tx_block ((txsc.side_of tx).next an) (txsc.ceilings_of tx an)
+  pub rx_within : (sci : List ℕ) (an : ℕ)
+      → IsRxWithin identity.rx_block ((rxsc.side_of rx).numbers sci an) (rxsc.ceilings_of rx sci an)
+
+-- and nothing is in hand unless a device call failed
+pub record IsKept {D : Type 0} (e : Kept D) : Type 0 where
+  pub identity : IsIdentity (standing_in e.store).identity
+  pub channels : AreChannels e.tx e.rx (standing_in e.store)
+  pub within : AreWithin e.tx e.rx (standing_in e.store).identity
+  pub idle : e.store.journal.stopped ≡ false → e.in_hand ≡ None
+
+-- ---- what its disk holds
+
+abbrev pub disk_in : {D : Type 0} → (D → Disk) → Kept D → Disk
+disk_in disk_of e = disk_of e.store.journal.disk
+
+-- The disk, by what a disk of this kind is, holds what stands in memory, unless a device call failed; and what a power loss
+-- leaves now fits the state
+pub record IsBacked {D : Type 0} (disk_of : D → Disk) (e : Kept D) : Type 0 where
+  pub size : least_sectors ≤ (disk_in disk_of e).sectors
+  pub stored : e.store.journal.stopped ≡ false → IsStored disk_of e.store
+  pub fits : (logs : Logs) (image : Image) → MayLeave (disk_in disk_of e) image
+      → Fits (disk_in disk_of e).sectors image (state_of e logs)

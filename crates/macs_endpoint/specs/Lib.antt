@@ -1,0 +1,14 @@
+pub mod Faults
+pub mod Formatting
+pub mod State
+pub mod Step
+pub mod Restart
+pub mod Kept
+pub mod Ceilings
+pub mod Limits
+pub mod Counting
+pub mod Calls
+pub mod Reserving
+pub mod Lives
+pub mod Serving
+pub mod Rooms

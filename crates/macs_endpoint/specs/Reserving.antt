@@ -1,0 +1,30 @@
+-- Reservations of packet numbers, whichever are made.
+use Rattle.std.specs.Prelude.{◌≡◌, Result}
+use Rattle.macs_disk.specs.Disk.{Disk, IsHonest, Works}
+use Rattle.macs_disk.specs.Runs.{Leaves}
+use Rattle.macs_disk.specs.States.{Image}
+use Rattle.macs_txsc.specs.View as txsc
+use Rattle.macs_rxsc.specs.View as rxsc
+use Rattle.macs_endpoint.specs.Calls.{Fails}
+use Rattle.macs_endpoint.specs.Kept.{IsBacked, Kept, disk_in, state_of}
+use Rattle.macs_endpoint.specs.Limits.{IsLimited}
+use Rattle.macs_endpoint.specs.Restart.{Fits}
+use Rattle.macs_endpoint.specs.State.{Logs, Refilled, Refills, State}
+use Rattle.macs_endpoint.specs.Step.{Refilling}
+use Rattle.macs_endpoint.specs.declared.fault.RefillFault.{RefillFault}
+
+abbrev pub FitsState : State → Disk → Image → Type 0
+FitsState s disk image = Fits disk.sectors image s
+
+-- Whatever is raised: the step that it is, what it does with the disk, and what a power loss leaves at any moment since it began
+pub record Reserves {D : Type 0} (disk_of : D → Disk) (old : Kept D) (result : Result (Unit {0}) RefillFault) (new : Kept D) : Type 0 where
+  pub step : (logs : Logs) → Refilling (state_of old logs) result (state_of new logs)
+  pub works : Works (disk_in disk_of old) (disk_in disk_of new)
+  pub fails : Fails (disk_in disk_of old) (disk_in disk_of new) (Refilled result)
+  pub any_moment : IsHonest (disk_in disk_of new) → IsBacked disk_of old → (logs : Logs)
+      → Leaves (disk_in disk_of old) (disk_in disk_of new) (FitsState (state_of old logs) (disk_in disk_of old))
+  pub backed : IsHonest (disk_in disk_of new) → IsBacked disk_of old → IsBacked disk_of new
+  pub limited : IsLimited old Refills (Refilled result) new
+  pub tx_counters : txsc.counters_of new.tx ≡ txsc.counters_of old.tx
+  pub rx_counters : rxsc.counters_of new.rx ≡ rxsc.counters_of old.rx
+  pub channel_counters : rxsc.channel_counters_of new.rx ≡ rxsc.channel_counters_of old.rx

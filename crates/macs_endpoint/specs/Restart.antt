@@ -1,0 +1,78 @@
+-- What a restart may find.
+use Rattle.std.specs.Prelude.{◌≡◌, ◌⊎◌, ◌≤◌, ◌+◌, ◌/◌, ◌^◌, ℕ, min, max, is_ok, not, false, ◌&&◌, if◌then◌else◌, List, Option, Some, None, Ok}
+use Rattle.std.specs.Option.{option_map}
+use Rattle.macs_config.specs.Apply.{apply}
+use Rattle.macs_config.specs.Config.{first_edition}
+use Rattle.macs_config.specs.declared.command.Command.{Command}
+use Rattle.macs_disk.specs.States.{Image}
+use Rattle.macs_rxsc.specs.Receive.{Numbers, started}
+use Rattle.macs_store.specs.Found.{IsFound}
+use Rattle.macs_store.specs.Standing.{Standing}
+use Rattle.macs_endpoint.specs.State.{Call, Commands, Logs, State, holding}
+use Rattle.macs_endpoint.specs.Step.{Makes}
+
+-- ---- numbers rise
+
+-- A transmit number rises by at most a block and a half, and not beyond the last one; where there is none, there is none
+abbrev pub TxRises : ℕ → Option ℕ → Option ℕ → Type 0
+TxRises block None found = found ≡ None
+TxRises block (Some next) found =
+    (later : ℕ) × (found ≡ Some later) × (next ≤ later) × (later ≤ next + (block + block / 2)) × (later ≤ 2 ^ 32)
+
+-- how far receive numbers may rise: to a block beyond the greatest number that was seen
+abbrev pub rx_limit : ℕ → ℕ → Option ℕ → ℕ
+rx_limit block next None = next
+rx_limit block next (Some seen) = max next (min (seen + block) (2 ^ 32))
+
+-- next and lowest become one number, and nothing was seen
+abbrev pub RxRises : ℕ → Option Numbers → Option Numbers → Type 0
+RxRises block None found = found ≡ None
+RxRises block (Some numbers) found =
+    (later : ℕ) × (found ≡ Some (started later)) × (numbers.next ≤ later) × (later ≤ rx_limit block numbers.next numbers.seen)
+
+-- ---- a restart
+
+-- the same configuration and logs, with numbers that rose, and nothing in hand
+pub record Resumes (old new : State) : Type 0 where
+  pub identity : new.identity ≡ old.identity
+  pub config : new.config ≡ old.config
+  pub next : (an : ℕ) → TxRises old.identity.tx_block (old.next an) (new.next an)
+  pub numbers : (sci : List ℕ) (an : ℕ) → RxRises old.identity.rx_block (old.numbers sci an) (new.numbers sci an)
+  pub logs : new.logs ≡ old.logs
+  pub running : new.stopped ≡ false
+  pub idle : new.in_hand ≡ None
+
+-- the state is resumed, or the state after the command in hand
+abbrev pub Restart : State → State → Type 0
+Restart old new = Resumes old new
+    ⊎ ((command : Command) × (mid : State) × (old.in_hand ≡ Some command) × Makes old command mid × Resumes mid new)
+
+-- ---- what an image stands for
+
+-- an endpoint that opened a disk which stands for this
+abbrev pub opening : Standing → Logs → State
+opening found logs = record {
+  identity = found.identity;
+  config = found.config;
+  next = found.ceilings.tx;
+  numbers = λ sci an. option_map started (found.ceilings.rx sci an);
+  logs = logs;
+  stopped = false;
+  in_hand = None;
+}
+
+-- opening a disk of so many sectors with this image is a restart of the state
+pub record Fits (sectors : ℕ) (image : Image) (s : State) : Type 0 where
+  pub found : Standing
+  pub is_found : IsFound sectors image (Ok found)
+  pub restart : Restart s (opening found s.logs)
+
+-- The state while a call is under way: a command is in hand where work on it may have begun
+abbrev pub during : State → Call → State
+during s (Commands command) =
+    if not s.stopped && is_ok (apply first_edition s.identity s.config command) then holding s command else s
+during s call = s
+
+-- what a power loss during a call or after it leaves
+abbrev pub FitsCall : ℕ → State → Call → State → Image → Type 0
+FitsCall sectors old call new image = Fits sectors image (during old call) ⊎ Fits sectors image new

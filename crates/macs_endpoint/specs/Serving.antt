@@ -1,0 +1,75 @@
+-- Events taken from a source, and answers given to a sink.
+use Rattle.std.specs.Prelude.{◌≡◌, ◌≤◌, ℕ, Bool, true, false, List, [], ◌∷◌, ◌++◌, map, length, Option, Some, None, Err}
+use Rattle.macs_disk.specs.Disk.{Disk, IsHonest}
+use Rattle.macs_store.specs.declared.fault.CommitFault.TheVariants as commit
+use Rattle.macs_endpoint.specs.Kept.{IsBacked, Kept, disk_in, state_of}
+use Rattle.macs_endpoint.specs.Lives.{LeavesLife, Lives, Turn, event_of}
+use Rattle.macs_endpoint.specs.State.{Call, Commands, Logs, Protects, Protected, Ran, Received, Receives, Refilled, Refills, Reply}
+use Rattle.macs_endpoint.specs.Step.{Run}
+use Rattle.macs_endpoint.specs.declared.event.Answer.{Answer}
+use Rattle.macs_endpoint.specs.declared.event.Answer.TheVariants as answer
+use Rattle.macs_endpoint.specs.declared.event.Event.{Event}
+use Rattle.macs_endpoint.specs.declared.event.Event.TheVariants as event
+use Rattle.macs_endpoint.specs.declared.event.ServeEnd.{ServeEnd}
+use Rattle.macs_endpoint.specs.declared.event.ServeEnd.TheVariants.{Ended, Halted, TurnsSpent}
+use Rattle.macs_endpoint.specs.declared.fault.ProtectFault.TheVariants as protect
+use Rattle.macs_endpoint.specs.declared.fault.RefillFault.TheVariants as refill
+
+-- the call that an event asks for
+abbrev pub call_of : Event → Call
+call_of (event.Operator command) = Commands command
+call_of (event.Controlled frame) = Protects frame.items
+call_of (event.Common frame) = Receives frame.items
+call_of event.Work = Refills
+
+-- what an answer says
+abbrev pub reply_of : Answer → Reply
+reply_of (answer.Ran result) = Ran result
+reply_of (answer.Protected result out) = Protected result out.items
+reply_of (answer.Received result out) = Received result out.items
+reply_of (answer.Refilled result) = Refilled result
+
+-- a device call failed, in this call or before
+abbrev pub halts : Reply → Bool
+halts (Ran (Err commit.Stopped)) = true
+halts (Ran (Err commit.Disk)) = true
+halts (Refilled (Err refill.Stopped)) = true
+halts (Refilled (Err refill.Disk)) = true
+halts (Protected (Err protect.Stopped) out) = true
+halts (Received (Err stopped) out) = true
+halts reply = false
+
+-- the next of the events that are left, if any is
+abbrev pub Takes : List Event → Option Event → List Event → Type 0
+Takes old None new = (old ≡ []) × (new ≡ [])
+Takes old (Some event) new = old ≡ event ∷ new
+
+-- Halted is the end exactly where the last answer says that a device call failed, and no answer before it says so
+abbrev pub Ends : List Reply → ServeEnd → Type 0
+Ends [] Halted = ⊥
+Ends [] end = Unit {0}
+Ends (reply ∷ []) Halted = halts reply ≡ true
+Ends (reply ∷ replies) end = (halts reply ≡ false) × Ends replies end
+
+-- what a source tells of the events that it has left, if it tells, and a sink of the answers that it took
+pub record Told : Type 0 where
+  pub source_tells : Bool
+  pub left : List Event
+  pub sink_tells : Bool
+  pub took : List Answer
+
+-- What was served in at most so many turns
+pub record IsServed {D : Type 0} (disk_of : D → Disk) (most : ℕ) (old : Kept D) (told : Told) (end : ServeEnd) (new : Kept D) (tells : Told) : Type 0 where
+  pub turns : List (Turn D)
+  pub lives : Lives disk_of old turns new
+  pub few : length turns ≤ most
+  pub run : (logs : Logs) → (after : Logs) × Run (state_of old logs) (map event_of turns) (state_of new after)
+  pub any_moment : IsHonest (disk_in disk_of new) → IsBacked disk_of old → LeavesLife disk_of (disk_in disk_of new) old turns
+  pub backed : IsHonest (disk_in disk_of new) → IsBacked disk_of old → IsBacked disk_of new
+  pub taken : told.source_tells ≡ true → (events : List Event)
+      × (told.left ≡ events ++ tells.left) × (map call_of events ≡ map (λ turn. turn.call) turns)
+  pub given : told.sink_tells ≡ true → (answers : List Answer)
+      × (tells.took ≡ told.took ++ answers) × (map reply_of answers ≡ map (λ turn. turn.reply) turns)
+  pub ended : end ≡ Ended → told.source_tells ≡ true → tells.left ≡ []
+  pub spent : end ≡ TurnsSpent → length turns ≡ most
+  pub ends : Ends (map (λ turn. turn.reply) turns) end

@@ -1,0 +1,100 @@
+-- What an endpoint is at a moment, what it is asked, and what it answers.
+use Rattle.std.specs.Prelude.{ℕ, Bool, true, List, [], Option, Some, Result, IsOk}
+use Rattle.macs_config.specs.Apply.{apply}
+use Rattle.macs_config.specs.Config.{Config, first_edition}
+use Rattle.macs_config.specs.Identity.{Identity}
+use Rattle.macs_config.specs.declared.command.Command.{Command}
+use Rattle.macs_txsc.specs.Transmit.{TxSide}
+use Rattle.macs_rxsc.specs.Receive.{Numbers, RxSide}
+use Rattle.macs_rxsc.specs.declared.verdict.Kind.{Kind}
+use Rattle.macs_rxsc.specs.declared.verdict.Verdict.{Verdict}
+use Rattle.macs_store.specs.declared.fault.CommitFault.{CommitFault}
+use Rattle.macs_endpoint.specs.declared.fault.ProtectFault.{ProtectFault}
+use Rattle.macs_endpoint.specs.declared.fault.RefillFault.{RefillFault}
+use Rattle.macs_endpoint.specs.declared.fault.Stopped.{Stopped}
+
+-- ---- what happened, over all lives
+
+-- a frame went out under this key with this packet number
+pub record Use : Type 0 where
+  pub key : List ℕ
+  pub pn : ℕ
+
+-- a frame was delivered as Ok or Delayed
+pub record Delivery : Type 0 where
+  pub sci : List ℕ
+  pub key : List ℕ
+  pub pn : ℕ
+  pub kind : Kind
+
+-- the newest first
+pub record Logs : Type 0 where
+  pub used : List Use
+  pub given : List Delivery
+
+abbrev pub no_logs : Logs
+no_logs = record { used = []; given = [] }
+
+-- ---- a moment
+
+-- Next packet numbers of transmit associations by their numbers, numbers of receive associations by SCI and number; the
+-- command whose work a device fault cut short
+pub record State : Type 0 where
+  pub identity : Identity
+  pub config : Config
+  pub next : ℕ → Option ℕ
+  pub numbers : List ℕ → ℕ → Option Numbers
+  pub logs : Logs
+  pub stopped : Bool
+  pub in_hand : Option Command
+
+-- the transmit channel of a configuration, with these next numbers
+abbrev pub transmitting : Identity → Config → (ℕ → Option ℕ) → TxSide
+transmitting identity config next = record {
+  sci = identity.sci;
+  mode = config.mode;
+  encoding = config.encoding;
+  tx = config.tx;
+  next = next;
+}
+
+-- and its receive channels, with these numbers
+abbrev pub receiving : Config → (List ℕ → ℕ → Option Numbers) → RxSide
+receiving config numbers = record {
+  validate = config.validate;
+  replay = config.replay;
+  channels = config.channels;
+  rx = config.rx;
+  numbers = numbers;
+}
+
+abbrev pub tx_side : State → TxSide
+tx_side s = transmitting s.identity s.config s.next
+
+abbrev pub rx_side : State → RxSide
+rx_side s = receiving s.config s.numbers
+
+abbrev pub holding : State → Command → State
+holding s command = record s { in_hand = Some command }
+
+abbrev pub halted : State → State
+halted s = record s { stopped = true }
+
+-- a command would not be refused
+abbrev pub Accepts : State → Command → Type 0
+Accepts s command = IsOk (apply first_edition s.identity s.config command)
+
+-- ---- calls
+
+pub data Call : Type 0 where
+  Commands : Command → Call
+  Refills : Call
+  Protects : (plain : List ℕ) → Call
+  Receives : (frame : List ℕ) → Call
+
+-- what is answered, with what stands in `out` then
+pub data Reply : Type 0 where
+  Ran : Result (Unit {0}) CommitFault → Reply
+  Refilled : Result (Unit {0}) RefillFault → Reply
+  Protected : Result ℕ ProtectFault → (out : List ℕ) → Reply
+  Received : Result Verdict Stopped → (out : List ℕ) → Reply

@@ -1,0 +1,127 @@
+//! The channels of an endpoint, as its store has them.
+
+ghost use Rattle.std.specs.Prelude.{◌≡◌, ◌≤◌, true, Some, None, Ok, IsSome, IfSome};
+ghost use Rattle.std.specs.Option.{option_map};
+ghost use Rattle.macs_config.specs.Tables.{put, put_at};
+ghost use Rattle.macs_txsc.specs.View as txsc;
+ghost use Rattle.macs_rxsc.specs.View as rxsc;
+ghost use Rattle.macs_rxsc.specs.Receive.{has_channel, put_numbers, started, windowed};
+ghost use Rattle.macs_store.specs.Kept.{standing_in};
+ghost use Rattle.macs_store.specs.Standing.{Standing, accept};
+ghost use Rattle.macs_endpoint.specs.Counting.{channels_after};
+ghost use Rattle.macs_endpoint.specs.Kept.{AreChannels};
+ghost use Rattle.macs_endpoint.specs.Step.{next_after, numbers_after};
+
+use macs_config::Command;
+use macs_disk::SectorDisk;
+use macs_frame::{An, Sci};
+use macs_rxsc::Rx;
+use macs_store::Store;
+use macs_txsc::Tx;
+
+/// The transmit channel and the receive channels.
+#[derive(Drop)]
+pub(crate) struct Channels {
+    pub tx: Tx,
+    pub rx: Rx,
+}
+
+impl Channels {
+    /// Follows a command that the store keeps.
+    pub(crate) fn follow<D: SectorDisk>(&mut self, command: &Command, store: &Store<D>)
+        requires { (before : Standing) × AreChannels self.old.tx self.old.rx before
+            × (accept before command.now ≡ Ok (standing_in store.now)) }
+        ensures channels { AreChannels self.new.tx self.new.rx (standing_in store.now) }
+        ensures next { (txsc.side_of self.new.tx).next ≡ next_after command.now (txsc.side_of self.old.tx).next }
+        ensures numbers { (rxsc.side_of self.new.rx).numbers ≡ numbers_after command.now (rxsc.side_of self.old.rx).numbers }
+        ensures tx_counters { txsc.counters_of self.new.tx ≡ txsc.counters_of self.old.tx }
+        ensures rx_counters { rxsc.counters_of self.new.rx ≡ rxsc.counters_of self.old.rx }
+        ensures channel_counters { rxsc.channel_counters_of self.new.rx
+            ≡ channels_after command.now (rxsc.channel_counters_of self.old.rx) }
+    {
+        match command {
+            Command::SetValidate(_) | Command::SetReplay { .. } => set_policy(&mut self.rx, store),
+            Command::SetSciMode(mode) => self.tx.set_mode(*mode),
+            Command::TxInstall { an, start, .. } => {
+                install_tx(&mut self.tx, store, *an, u64::from(*start));
+            }
+            Command::TxUse { an } => self.tx.select(*an),
+            Command::TxRemove { an } => self.tx.remove(*an),
+            Command::RxAdd { sci } => self.rx.add(*sci),
+            Command::RxDrop { sci } => self.rx.drop_channel(*sci),
+            Command::RxInstall { sci, an, start, .. } => {
+                install_rx(&mut self.rx, store, *sci, *an, u64::from(*start));
+            }
+            Command::RxRemove { sci, an } => self.rx.remove(*sci, *an),
+        }
+    }
+}
+
+/// Sets how received frames are validated, and the replay window. The window that was set before
+/// moves no number.
+pub(crate) fn set_policy<D: SectorDisk>(rx: &mut Rx, store: &Store<D>)
+    ensures side { rxsc.side_of rx.new ≡ record (rxsc.side_of rx.old) {
+      validate = (standing_in store.now).config.validate;
+      replay = (standing_in store.now).config.replay;
+      numbers = λ sci an. option_map (windowed (standing_in store.now).config.replay.window) ((rxsc.side_of rx.old).numbers sci an);
+    } }
+    ensures same_window { (rxsc.side_of rx.old).replay.window ≡ (standing_in store.now).config.replay.window
+        → (rxsc.side_of rx.new).numbers ≡ (rxsc.side_of rx.old).numbers }
+    ensures ceilings { rxsc.ceilings_of rx.new ≡ rxsc.ceilings_of rx.old }
+    ensures counters { rxsc.counters_of rx.new ≡ rxsc.counters_of rx.old }
+    ensures channel_counters { rxsc.channel_counters_of rx.new ≡ rxsc.channel_counters_of rx.old }
+{
+    rx.facts();
+    let replay = store.config().replay();
+    rx.set_policy(store.config().validate(), replay.on, replay.window);
+}
+
+/// Installs a transmit association that the store has, where none stands. `next` is its next packet
+/// number, 1 to the ceiling.
+pub(crate) fn install_tx<D: SectorDisk>(tx: &mut Tx, store: &Store<D>, an: An, next: u64)
+    requires stands { IsSome ((standing_in store.now).config.tx an) }
+    requires empty { (txsc.side_of tx.old).tx an ≡ None }
+    requires numbered { 1 ≤ next }
+    requires ordered { IfSome ((standing_in store.now).ceilings.tx an) (λ ceiling. next ≤ ceiling) }
+    ensures side { txsc.side_of tx.new ≡ record (txsc.side_of tx.old) {
+      tx = put (txsc.side_of tx.old).tx an ((standing_in store.now).config.tx an);
+      next = put (txsc.side_of tx.old).next an (Some next);
+    } }
+    ensures ceilings { txsc.ceilings_of tx.new ≡ put (txsc.ceilings_of tx.old) an ((standing_in store.now).ceilings.tx an) }
+    ensures counters { txsc.counters_of tx.new ≡ txsc.counters_of tx.old }
+{
+    store.facts();
+    let sa = store.config().tx(an).unwrap();
+    let ceiling = store.tx_ceiling(an).unwrap();
+    tx.install(
+        an,
+        &sa.key,
+        sa.protection.is_confidential(),
+        sa.protection.offset(),
+        next,
+        ceiling.get(),
+    );
+}
+
+/// Installs a receive association that the store has on a channel that stands, where none does.
+/// `next` is its next and lowest acceptable packet number, 1 to the ceiling.
+pub(crate) fn install_rx<D: SectorDisk>(rx: &mut Rx, store: &Store<D>, sci: Sci, an: An, next: u64)
+    requires stands { IsSome ((standing_in store.now).config.rx sci an) }
+    requires channel { has_channel (rxsc.side_of rx.old) sci ≡ true }
+    requires empty { (rxsc.side_of rx.old).rx sci an ≡ None }
+    requires numbered { 1 ≤ next }
+    requires ordered { IfSome ((standing_in store.now).ceilings.rx sci an) (λ ceiling. next ≤ ceiling) }
+    ensures side { rxsc.side_of rx.new ≡ record (rxsc.side_of rx.old) {
+      rx = put_at (rxsc.side_of rx.old).rx sci (put ((rxsc.side_of rx.old).rx sci) an ((standing_in store.now).config.rx sci an));
+      numbers = put_numbers (rxsc.side_of rx.old).numbers sci an (Some (started next));
+    } }
+    ensures ceilings { rxsc.ceilings_of rx.new ≡ put_at (rxsc.ceilings_of rx.old) sci
+        (put (rxsc.ceilings_of rx.old sci) an ((standing_in store.now).ceilings.rx sci an)) }
+    ensures counters { rxsc.counters_of rx.new ≡ rxsc.counters_of rx.old }
+    ensures channel_counters { rxsc.channel_counters_of rx.new ≡ rxsc.channel_counters_of rx.old }
+{
+    store.facts();
+    let sa = store.config().rx(sci, an).unwrap();
+    let ceiling = store.rx_ceiling(sci, an).unwrap();
+    rx.install(sci, an, &sa.key, sa.offset, next, ceiling.get());
+}

@@ -1,0 +1,52 @@
+//! What an endpoint counted.
+
+ghost use Rattle.std.specs.Prelude.{◌≡◌};
+ghost use Rattle.std.specs.Option.{option_map};
+ghost use Rattle.macs_txsc.specs.Transmit.{fault_count};
+ghost use Rattle.macs_txsc.specs.View as txsc;
+ghost use Rattle.macs_rxsc.specs.Counting.{channel_count_of, count_of};
+ghost use Rattle.macs_rxsc.specs.View as rxsc;
+
+use macs_frame::Sci;
+use macs_rxsc::{Rx, Verdict};
+use macs_txsc::{Tx, TxFault};
+
+/// How often each answer was given since the disk was opened: 2^64 - 1 times at most. Answers that
+/// the endpoint is stopped are not counted.
+#[derive(Clone, Copy)]
+pub struct Counters<'a> {
+    pub(crate) tx: &'a Tx,
+    pub(crate) rx: &'a Rx,
+}
+
+impl Counters<'_> {
+    /// How many plain frames met this fault.
+    pub fn tx_fault(&self, fault: TxFault) -> u64
+        ensures { result ≡ fault_count fault (txsc.counters_of self.now.tx.now) }
+    {
+        self.tx.fault_count(fault)
+    }
+
+    /// How many plain frames were protected.
+    pub fn protected(&self) -> u64
+        ensures { result ≡ (txsc.counters_of self.now.tx.now).protected }
+    {
+        self.tx.protected_count()
+    }
+
+    /// How often a verdict was given; a frame that is held back is not counted.
+    pub fn verdict(&self, verdict: Verdict) -> u64
+        ensures { result ≡ count_of verdict (rxsc.counters_of self.now.rx.now) }
+    {
+        self.rx.count(verdict)
+    }
+
+    /// How often a verdict was given on frames of a channel, since the channel was added or the disk
+    /// was opened. It is 0 for a verdict that is not counted for channels, and `None` where the
+    /// channel does not stand.
+    pub fn channel(&self, sci: Sci, verdict: Verdict) -> Option<u64>
+        ensures { result ≡ option_map (channel_count_of verdict) (rxsc.channel_counters_of self.now.rx.now sci) }
+    {
+        self.rx.channel_count(sci, verdict)
+    }
+}

@@ -1,0 +1,220 @@
+//! An endpoint: its channels and its store.
+
+ghost use Rattle.std.specs.Prelude.{◌≡◌, ◌≢◌, ◌<◌, ◌≤◌, ◌+◌, ◌↔◌, ℕ, List, false, true, Some, Ok, Err, IfOk, IfErr};
+ghost use Rattle.std.specs.Option.{option_map};
+ghost use Rattle.macs_config.specs.Stored.{config_of};
+ghost use Rattle.macs_disk.specs.Disk.{IsHonest, MayLeave, Works, now};
+ghost use Rattle.macs_disk.specs.Runs.{LeavesNothingNew};
+ghost use Rattle.macs_disk.specs.States.{Image, synced};
+ghost use Rattle.macs_journal.specs.Recovery.{IsLeftBy, IsRecoverName};
+ghost use Rattle.macs_journal.specs.Work.{FailsWith};
+ghost use Rattle.macs_journal.specs.declared.fault.JournalFault.TheVariants.{Disk, TooSmall};
+ghost use Rattle.macs_txsc.specs.Transmit as transmit;
+ghost use Rattle.macs_txsc.specs.View as txsc;
+ghost use Rattle.macs_rxsc.specs.Counting as counting;
+ghost use Rattle.macs_rxsc.specs.Receive.{Numbers};
+ghost use Rattle.macs_rxsc.specs.View as rxsc;
+ghost use Rattle.macs_store.specs.Found.{IsFound};
+ghost use Rattle.macs_store.specs.Kept.{standing_in};
+ghost use Rattle.macs_endpoint.specs.Calls.{IsCall};
+ghost use Rattle.macs_endpoint.specs.Counting.{new_channels};
+ghost use Rattle.macs_endpoint.specs.Kept.{IsBacked, IsKept, Kept, disk_in, state_of};
+ghost use Rattle.macs_endpoint.specs.Restart.{Fits, opening};
+ghost use Rattle.macs_endpoint.specs.State.{Commands, Logs, Protects, Protected, Ran, Received, Receives, State, no_logs};
+
+use crate::channels::Channels;
+use crate::counters::Counters;
+use crate::fault::{CommandFault, ProtectFault, Stopped};
+use macs_config::laws::{command_in_range, identity_in_range};
+use macs_config::{Command, Config, Identity};
+use macs_disk::SectorDisk;
+use macs_frame::{An, FrameBuf, Pn, Sci};
+use macs_rxsc::{RxNumbers, Verdict};
+use macs_store::{OpenRefused, Store};
+use std::marker::Model;
+
+/// An endpoint of MACsec on a disk of its own. Only packet numbers below ceilings that are durable
+/// are used, or delivered as verified; a command takes effect once it is durable. After a device fault
+/// every call answers `Stopped` until the disk is opened again; readers go on to answer.
+#[derive(Drop)]
+pub struct Endpoint<D: SectorDisk> {
+    pub(crate) store: Store<D>,
+    pub(crate) channels: Channels,
+    pub(crate) in_hand: Option<Command>,
+}
+
+impl<D: SectorDisk> Model for Endpoint<D> {
+    ghost Value = { Kept D };
+
+    ghost view = { λ e. record { store = e.store; tx = e.channels.tx; rx = e.channels.rx; in_hand = e.in_hand } };
+
+    ghost invariant = { λ e. IsKept (record { store = e.store; tx = e.channels.tx; rx = e.channels.rx; in_hand = e.in_hand }) };
+}
+
+impl<D: SectorDisk> Endpoint<D> {
+    /// Opens a disk: makes sure of what reads give by one sync, and then only reads. The packet numbers
+    /// of each association begin at its ceiling, and nothing is counted. Refused as `TooSmall`, then as
+    /// `Disk` at the first call that fails, `NotFormatted` and `BadJournal`; the disk is given back.
+    pub fn open(disk: D) -> Result<Endpoint<D>, OpenRefused<D>>
+        ensures found { IfOk result (λ e. IsHonest (disk_in D.disk e)
+            → IsFound (D.disk disk).sectors (now (D.disk disk)).seen (Ok (standing_in e.store))) }
+        ensures state { IfOk result (λ e. (logs : Logs) → state_of e logs ≡ opening (standing_in e.store) logs) }
+        ensures backed { IfOk result (λ e. IsHonest (disk_in D.disk e) → IsBacked D.disk e) }
+        ensures settled { IfOk result (λ e. IsHonest (disk_in D.disk e) → now (disk_in D.disk e) ≡ synced (now (D.disk disk))) }
+        ensures work { IfOk result (λ e. Works (D.disk disk) (disk_in D.disk e)
+            × ((disk_in D.disk e).failures ≡ (D.disk disk).failures)) }
+        ensures any_moment { IfOk result (λ e. IsHonest (disk_in D.disk e) → LeavesNothingNew (D.disk disk) (disk_in D.disk e)) }
+        ensures tx_counters { IfOk result (λ e. txsc.counters_of e.tx ≡ transmit.none_counted) }
+        ensures rx_counters { IfOk result (λ e. rxsc.counters_of e.rx ≡ counting.none_counted) }
+        ensures channel_counters { IfOk result (λ e.
+            rxsc.channel_counters_of e.rx ≡ new_channels (standing_in e.store).config.channels) }
+        ensures names { IfErr result (λ e. IsRecoverName e.fault) }
+        ensures too_small { IfErr result (λ e. e.fault ≡ TooSmall → e.disk ≡ disk) }
+        ensures small { IfErr result (λ e. (e.fault ≡ TooSmall) ↔ ((D.disk disk).sectors < 1028)) }
+        ensures refused { IfErr result (λ e. e.fault ≢ Disk → IsHonest (D.disk e.disk)
+            → IsFound (D.disk disk).sectors (now (D.disk disk)).seen (Err e.fault)) }
+        ensures opens { IfErr result (λ e. IsHonest (D.disk e.disk) → ((image : Image) → MayLeave (D.disk disk) image
+            → (s : State) × Fits (D.disk disk).sectors image s) → e.fault ≡ Disk) }
+        ensures unwritten { IfErr result (λ e. IsHonest (D.disk e.disk)
+            → IsLeftBy e.fault (now (D.disk disk)) (now (D.disk e.disk))) }
+        ensures work_refused { IfErr result (λ e. Works (D.disk disk) (D.disk e.disk)
+            × FailsWith (D.disk disk) (D.disk e.disk) e.fault) }
+        ensures any_moment_refused { IfErr result (λ e. IsHonest (D.disk e.disk)
+            → LeavesNothingNew (D.disk disk) (D.disk e.disk)) }
+    {
+        let store = Store::open(disk)?;
+        let channels = Channels::opened(&store);
+        identity_in_range(&store.identity());
+        channels.tx.facts();
+        Ok(Endpoint {
+            store,
+            channels,
+            in_hand: None,
+        })
+    }
+
+    /// Keeps a command and follows it. Refused as `Stopped`, then as `Refused` with the first refusal
+    /// that holds, then as `AreaFull`; these change nothing. `Disk` at the first device call that
+    /// fails: the endpoint is stopped, and after a power loss it is found with the command or without.
+    pub fn command(&mut self, command: Command) -> Result<(), CommandFault>
+        ensures call { IsCall D.disk self.old (Commands command) (Ran result) self.new }
+        ensures four { (disk_in D.disk self.new).clock ≤ (disk_in D.disk self.old).clock + 4 }
+    {
+        command_in_range(&command);
+        let outcome = self.store.commit(&command);
+        match outcome {
+            Ok(()) => self.channels.follow(&command, &self.store),
+            Err(fault) => match fault {
+                CommandFault::Disk => self.in_hand = Some(command),
+                _ => {}
+            },
+        }
+        outcome
+    }
+
+    /// Protects a plain frame, writes the frame that goes out on the common side to `out`, and answers
+    /// its packet number, which is then used. Refused as `Stopped`, then as the first fault of the
+    /// transmit channel; then `out` is empty, and no number is used. No device call is made. On
+    /// `NoNumber` call `refill` and hand the frame in again.
+    pub fn protect(&mut self, plain: &[u8], out: &mut FrameBuf) -> Result<Pn, ProtectFault>
+        ensures call { IsCall D.disk self.old (Protects plain.now) (Protected result out.new.items) self.new }
+        ensures store { self.new.store ≡ self.old.store }
+    {
+        if self.is_stopped() {
+            out.clear();
+            return Err(ProtectFault::Stopped);
+        }
+        match self.channels.tx.protect(plain, out) {
+            Ok(pn) => Ok(pn),
+            Err(fault) => Err(ProtectFault::Tx(fault)),
+        }
+    }
+
+    /// The verdict on a frame from the common side, of any number of octets. What is delivered is
+    /// written to `out`, which is empty unless the verdict is `Delivered`. No device call is made. On
+    /// `HeldBack` call `refill` and hand the same frame in again.
+    pub fn receive(&mut self, frame: &[u8], out: &mut FrameBuf) -> Result<Verdict, Stopped>
+        ensures call { IsCall D.disk self.old (Receives frame.now) (Received result out.new.items) self.new }
+        ensures store { self.new.store ≡ self.old.store }
+    {
+        if self.is_stopped() {
+            out.clear();
+            return Err(Stopped);
+        }
+        Ok(self.channels.rx.receive(frame, out))
+    }
+
+    /// Whether a device call failed: the disk is to be opened again.
+    pub fn is_stopped(&self) -> bool
+        ensures { result ≡ (state_of self.now no_logs).stopped }
+    {
+        self.store.is_stopped()
+    }
+
+    /// The command whose work a device fault cut short, if one was: after the disk is opened again it
+    /// is found or not.
+    pub fn in_hand(&self) -> Option<Command>
+        ensures { result ≡ (state_of self.now no_logs).in_hand }
+    {
+        self.in_hand
+    }
+
+    /// The configuration.
+    pub fn config(&self) -> &Config
+        ensures config { config_of result.now ≡ (state_of self.now no_logs).config }
+        ensures identity { result.now.identity ≡ (state_of self.now no_logs).identity }
+    {
+        self.store.config()
+    }
+
+    /// What the disk was formatted with.
+    pub fn identity(&self) -> Identity
+        ensures { result ≡ (state_of self.now no_logs).identity }
+    {
+        self.store.identity()
+    }
+
+    /// What was counted since the disk was opened.
+    pub fn counters(&self) -> Counters<'_>
+        ensures tx { result.tx.now ≡ self.now.tx }
+        ensures rx { result.rx.now ≡ self.now.rx }
+    {
+        Counters {
+            tx: &self.channels.tx,
+            rx: &self.channels.rx,
+        }
+    }
+
+    /// The next packet number of a transmit association, 1 to 2^32, `None` where none stands at that
+    /// number.
+    pub fn next_number(&self, an: An) -> Option<u64>
+        ensures { result ≡ (state_of self.now no_logs).next an }
+    {
+        self.channels.tx.next_number(an)
+    }
+
+    /// The next and the lowest acceptable packet number of a receive association, `None` where none
+    /// stands.
+    pub fn numbers(&self, sci: Sci, an: An) -> Option<RxNumbers>
+        ensures { result ≡ option_map (λ (n : Numbers). record { next = n.next; lowest = n.lowest })
+            ((state_of self.now no_logs).numbers sci an) }
+    {
+        self.channels.rx.numbers(sci, an)
+    }
+
+    /// What holds of every endpoint: its channels are those of what stands on its disk, no ceiling is too
+    /// far ahead, and nothing is in hand unless a device call failed.
+    pub fn facts(&self)
+        ensures { IsKept self.now }
+    {
+        let _store = &self.store;
+    }
+
+    /// The disk, as it stands.
+    pub fn into_disk(self) -> D
+        ensures { result ≡ self.store.journal.disk }
+    {
+        let Endpoint { store, .. } = self;
+        store.into_disk()
+    }
+}

@@ -1,0 +1,44 @@
+//! What an endpoint is asked, and what it answers.
+
+use crate::fault::{CommandFault, ProtectFault, RefillFault, Stopped};
+use macs_config::Command;
+use macs_frame::{FrameBuf, Pn};
+use macs_rxsc::Verdict;
+
+/// What an endpoint is asked.
+#[derive(Drop)]
+pub enum Event {
+    /// The operator asks for a command.
+    Operator(Command),
+    /// A plain frame comes from the controlled side.
+    Controlled(FrameBuf),
+    /// A frame comes from the common side.
+    Common(FrameBuf),
+    /// There is time for work on the disk: reservations of packet numbers.
+    Work,
+}
+
+/// What an endpoint answers; with a frame's answer comes what is sent or delivered for it, which is
+/// empty where nothing is.
+#[derive(Drop)]
+pub enum Answer {
+    /// To `Event::Operator`.
+    Ran(Result<(), CommandFault>),
+    /// To `Event::Controlled`.
+    Protected(Result<Pn, ProtectFault>, FrameBuf),
+    /// To `Event::Common`.
+    Received(Result<Verdict, Stopped>, FrameBuf),
+    /// To `Event::Work`.
+    Refilled(Result<(), RefillFault>),
+}
+
+/// Why events are served no longer.
+#[derive(Clone, Copy, Debug, PartialEq, Eq)]
+pub enum ServeEnd {
+    /// The source has no further event.
+    Ended,
+    /// As many events were served as were asked for.
+    TurnsSpent,
+    /// A device call failed: the last answer says so, and the disk is to be opened again.
+    Halted,
+}

@@ -1,0 +1,25 @@
+//! An endpoint of MACsec (IEEE Std 802.1AE-2018): its channels and its store in one object, so that no
+//! packet number goes out twice under one key, wherever power fails.
+#![tactic(auto)]
+
+mod channels;
+mod counters;
+mod endpoint;
+mod event;
+mod fault;
+mod formatting;
+pub mod laws;
+mod opening;
+mod ports;
+mod refilling;
+mod serving;
+#[cfg(test)]
+mod tests;
+
+pub use counters::Counters;
+pub use endpoint::Endpoint;
+pub use event::{Answer, Event, ServeEnd};
+pub use fault::{CommandFault, ProtectFault, RefillFault, Stopped};
+pub use formatting::format;
+pub use opening::OpenRefused;
+pub use ports::{AnswerSink, EventSource};

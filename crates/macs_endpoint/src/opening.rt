@@ -1,0 +1,114 @@
+//! The channels of a disk that was opened.
+
+ghost use Rattle.std.specs.Prelude.{◌≡◌, ◌≤◌, ◌<◌, ℕ, List, true, None, IsSome};
+ghost use Rattle.std.specs.Option.{option_map};
+ghost use Rattle.macs_config.specs.Config.{is_among};
+ghost use Rattle.macs_config.specs.Tables.{put_at};
+ghost use Rattle.macs_txsc.specs.Transmit as transmit;
+ghost use Rattle.macs_txsc.specs.View as txsc;
+ghost use Rattle.macs_rxsc.specs.Counting as counting;
+ghost use Rattle.macs_rxsc.specs.Receive.{has_channel, started};
+ghost use Rattle.macs_rxsc.specs.View as rxsc;
+ghost use Rattle.macs_store.specs.Kept.{standing_in};
+ghost use Rattle.macs_endpoint.specs.Counting.{new_channels};
+ghost use Rattle.macs_endpoint.specs.State.{receiving, transmitting};
+
+use crate::channels::{Channels, install_rx, install_tx, set_policy};
+use macs_disk::SectorDisk;
+use macs_frame::{An, Sci};
+use macs_rxsc::Rx;
+use macs_store::Store;
+use macs_txsc::Tx;
+
+/// A disk that is not opened, and why.
+pub use macs_store::OpenRefused;
+
+/// How many associations a channel may have.
+const ASSOCIATIONS: u8 = 4;
+
+impl Channels {
+    /// The channels that a store has. The packet numbers of each association begin at its ceiling.
+    pub(crate) fn opened<D: SectorDisk>(store: &Store<D>) -> Channels
+        ensures tx { txsc.side_of result.tx
+            ≡ transmitting (standing_in store.now).identity (standing_in store.now).config (standing_in store.now).ceilings.tx }
+        ensures rx { rxsc.side_of result.rx ≡ receiving (standing_in store.now).config
+            (λ sci an. option_map started ((standing_in store.now).ceilings.rx sci an)) }
+        ensures tx_ceilings { txsc.ceilings_of result.tx ≡ (standing_in store.now).ceilings.tx }
+        ensures rx_ceilings { rxsc.ceilings_of result.rx ≡ (standing_in store.now).ceilings.rx }
+        ensures tx_counters { txsc.counters_of result.tx ≡ transmit.none_counted }
+        ensures rx_counters { rxsc.counters_of result.rx ≡ counting.none_counted }
+        ensures channel_counters { rxsc.channel_counters_of result.rx ≡ new_channels (standing_in store.now).config.channels }
+    {
+        Channels {
+            tx: opened_tx(store),
+            rx: opened_rx(store),
+        }
+    }
+}
+
+/// The transmit channel that a store has.
+fn opened_tx<D: SectorDisk>(store: &Store<D>) -> Tx
+    ensures side { txsc.side_of result
+        ≡ transmitting (standing_in store.now).identity (standing_in store.now).config (standing_in store.now).ceilings.tx }
+    ensures ceilings { txsc.ceilings_of result ≡ (standing_in store.now).ceilings.tx }
+    ensures counters { txsc.counters_of result ≡ transmit.none_counted }
+{
+    let config = store.config();
+    config.facts();
+    store.facts();
+    let mut tx = Tx::new(store.identity().sci());
+    tx.set_mode(config.sci_mode());
+    for number in 0..ASSOCIATIONS {
+        let an = An::new(number).unwrap();
+        if let Some(ceiling) = store.tx_ceiling(an) {
+            install_tx(&mut tx, store, an, ceiling.get());
+        }
+    }
+    if let Some(an) = config.encoding() {
+        tx.select(an);
+    }
+    tx
+}
+
+/// The receive channels that a store has.
+fn opened_rx<D: SectorDisk>(store: &Store<D>) -> Rx
+    ensures side { rxsc.side_of result ≡ receiving (standing_in store.now).config
+        (λ sci an. option_map started ((standing_in store.now).ceilings.rx sci an)) }
+    ensures ceilings { rxsc.ceilings_of result ≡ (standing_in store.now).ceilings.rx }
+    ensures counters { rxsc.counters_of result ≡ counting.none_counted }
+    ensures channel_counters { rxsc.channel_counters_of result ≡ new_channels (standing_in store.now).config.channels }
+{
+    let config = store.config();
+    config.facts();
+    store.facts();
+    let mut rx = Rx::new();
+    set_policy(&mut rx, store);
+    for sci in config.channels().iter() {
+        rx.add(*sci);
+        install_channel(&mut rx, store, *sci);
+    }
+    rx
+}
+
+/// Installs the associations that a store has on a channel, which stands without one.
+fn install_channel<D: SectorDisk>(rx: &mut Rx, store: &Store<D>, sci: Sci)
+    requires stands { has_channel (rxsc.side_of rx.old) sci ≡ true }
+    requires empty { (an : ℕ) → (rxsc.side_of rx.old).rx sci an ≡ None }
+    ensures side { rxsc.side_of rx.new ≡ record (rxsc.side_of rx.old) {
+      rx = put_at (rxsc.side_of rx.old).rx sci ((standing_in store.now).config.rx sci);
+      numbers = put_at (rxsc.side_of rx.old).numbers sci (λ an. option_map started ((standing_in store.now).ceilings.rx sci an));
+    } }
+    ensures ceilings { rxsc.ceilings_of rx.new ≡ put_at (rxsc.ceilings_of rx.old) sci ((standing_in store.now).ceilings.rx sci) }
+    ensures counters { rxsc.counters_of rx.new ≡ rxsc.counters_of rx.old }
+    ensures channel_counters { rxsc.channel_counters_of rx.new ≡ rxsc.channel_counters_of rx.old }
+{
+    store.config().facts();
+    store.facts();
+    rx.facts();
+    for number in 0..ASSOCIATIONS {
+        let an = An::new(number).unwrap();
+        if let Some(ceiling) = store.rx_ceiling(sci, an) {
+            install_rx(rx, store, sci, an, ceiling.get());
+        }
+    }
+}
