@@ -263,6 +263,8 @@ module _ {D : Type 0} (disk_of : D → Disk) (old : Kept D) (told : Told) where
       run = are.run;
       any_moment = are.any_moment;
       backed = are.backed;
+      source = are.source;
+      sink = are.sink;
       taken = are.taken;
       given = are.given;
       ended = ended;

@@ -15,7 +15,7 @@ use Rattle.macs_endpoint.specs.declared.fault.RefillFault.TheVariants as refill
 -- AreaFull only where all slots of the current area are used, NoNumber only where the next number is the ceiling, HeldBack only
 -- where a number is not below it
 abbrev pub IsLimited : {D : Type 0} → Kept D → Call → Reply → Kept D → Type 0
-IsLimited old (Commands command) (Ran (Err commit.AreaFull)) new = new.store.journal.place.free ≡ slots
+IsLimited old (Commands command) (Ran (Err commit.AreaFull)) new = old.store.journal.place.free ≡ slots
 IsLimited old Refills (Refilled (Err refill.AreaFull)) new = new.store.journal.place.free ≡ slots
 IsLimited old (Protects plain) (Protected (Err (Tx NoNumber)) out) new =
     is_at_ceiling (standing_in old.store).ceilings.tx (outgoing (tx_side (state_of old no_logs))) ≡ true

@@ -66,6 +66,8 @@ pub record IsServed {D : Type 0} (disk_of : D → Disk) (most : ℕ) (old : Kept
   pub run : (logs : Logs) → (after : Logs) × Run (state_of old logs) (map event_of turns) (state_of new after)
   pub any_moment : IsHonest (disk_in disk_of new) → IsBacked disk_of old → LeavesLife disk_of (disk_in disk_of new) old turns
   pub backed : IsHonest (disk_in disk_of new) → IsBacked disk_of old → IsBacked disk_of new
+  pub source : tells.source_tells ≡ told.source_tells
+  pub sink : tells.sink_tells ≡ told.sink_tells
   pub taken : told.source_tells ≡ true → (events : List Event)
       × (told.left ≡ events ++ tells.left) × (map call_of events ≡ map (λ turn. turn.call) turns)
   pub given : told.sink_tells ≡ true → (answers : List Answer)

@@ -57,8 +57,7 @@ impl Channels {
     }
 }
 
-/// Sets how received frames are validated, and the replay window. The window that was set before
-/// moves no number.
+/// Sets how received frames are validated, and the replay window. An unchanged window moves no number.
 pub(crate) fn set_policy<D: SectorDisk>(rx: &mut Rx, store: &Store<D>)
     ensures side { rxsc.side_of rx.new ≡ record (rxsc.side_of rx.old) {
       validate = (standing_in store.now).config.validate;

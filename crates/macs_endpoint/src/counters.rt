@@ -20,7 +20,7 @@ pub struct Counters<'a> {
 }
 
 impl Counters<'_> {
-    /// How many plain frames met this fault.
+    /// How often this fault was answered.
     pub fn tx_fault(&self, fault: TxFault) -> u64
         ensures { result ≡ fault_count fault (txsc.counters_of self.now.tx.now) }
     {

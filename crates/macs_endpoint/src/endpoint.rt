@@ -35,7 +35,7 @@ use std::marker::Model;
 
 /// An endpoint of MACsec on a disk of its own. Only packet numbers below ceilings that are durable
 /// are used, or delivered as verified; a command takes effect once it is durable. After a device fault
-/// every call answers `Stopped` until the disk is opened again; readers go on to answer.
+/// every call that can answer `Stopped` does so until the disk is opened again; readers go on to answer.
 #[derive(Drop)]
 pub struct Endpoint<D: SectorDisk> {
     pub(crate) store: Store<D>,
@@ -68,6 +68,7 @@ impl<D: SectorDisk> Endpoint<D> {
         ensures rx_counters { IfOk result (λ e. rxsc.counters_of e.rx ≡ counting.none_counted) }
         ensures channel_counters { IfOk result (λ e.
             rxsc.channel_counters_of e.rx ≡ new_channels (standing_in e.store).config.channels) }
+        ensures large { IfOk result (λ e. 1028 ≤ (D.disk disk).sectors) }
         ensures names { IfErr result (λ e. IsRecoverName e.fault) }
         ensures too_small { IfErr result (λ e. e.fault ≡ TooSmall → e.disk ≡ disk) }
         ensures small { IfErr result (λ e. (e.fault ≡ TooSmall) ↔ ((D.disk disk).sectors < 1028)) }
@@ -95,7 +96,7 @@ impl<D: SectorDisk> Endpoint<D> {
 
     /// Keeps a command and follows it. Refused as `Stopped`, then as `Refused` with the first refusal
     /// that holds, then as `AreaFull`; these change nothing. `Disk` at the first device call that
-    /// fails: the endpoint is stopped, and after a power loss it is found with the command or without.
+    /// fails: the endpoint is stopped, and the next opening finds it with the command or without.
     pub fn command(&mut self, command: Command) -> Result<(), CommandFault>
         ensures call { IsCall D.disk self.old (Commands command) (Ran result) self.new }
         ensures four { (disk_in D.disk self.new).clock ≤ (disk_in D.disk self.old).clock + 4 }
@@ -112,7 +113,7 @@ impl<D: SectorDisk> Endpoint<D> {
         outcome
     }
 
-    /// Protects a plain frame, writes the frame that goes out on the common side to `out`, and answers
+    /// Protects a plain frame, of 14 octets to 9,216 less SecTAG and ICV, writes the frame that goes out on the common side to `out`, and answers
     /// its packet number, which is then used. Refused as `Stopped`, then as the first fault of the
     /// transmit channel; then `out` is empty, and no number is used. No device call is made. On
     /// `NoNumber` call `refill` and hand the frame in again.
@@ -193,8 +194,8 @@ impl<D: SectorDisk> Endpoint<D> {
         self.channels.tx.next_number(an)
     }
 
-    /// The next and the lowest acceptable packet number of a receive association, `None` where none
-    /// stands.
+    /// The next and the lowest acceptable packet number of a receive association, 1 to 2^32, the lowest not
+    /// above the next; `None` where none stands.
     pub fn numbers(&self, sci: Sci, an: An) -> Option<RxNumbers>
         ensures { result ≡ option_map (λ (n : Numbers). record { next = n.next; lowest = n.lowest })
             ((state_of self.now no_logs).numbers sci an) }
@@ -202,7 +203,7 @@ impl<D: SectorDisk> Endpoint<D> {
         self.channels.rx.numbers(sci, an)
     }
 
-    /// What holds of every endpoint: its channels are those of what stands on its disk, no ceiling is too
+    /// What holds of every endpoint: its channels are those of what stands in its store, no ceiling is too
     /// far ahead, and nothing is in hand unless a device call failed.
     pub fn facts(&self)
         ensures { IsKept self.now }

@@ -39,6 +39,6 @@ pub enum ServeEnd {
     Ended,
     /// As many events were served as were asked for.
     TurnsSpent,
-    /// A device call failed: the last answer says so, and the disk is to be opened again.
+    /// A device call failed, now or before: the last answer says so, and the disk is to be opened again.
     Halted,
 }

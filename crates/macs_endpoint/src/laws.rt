@@ -18,8 +18,8 @@ use macs_disk::SectorDisk;
 /// How many frames go out under an association before `NoNumber` may be answered.
 ///
 /// After `refill` answered Ok it is one more than half a transmit block, rounded down, under the
-/// association that frames go out under; after an install it is a block. It is one less for each frame
-/// that goes out under the association while it stands.
+/// association that frames go out under; after an install it is a block; or until the numbers end, when
+/// `Exhausted` comes. It is one less for each frame that goes out under the association while it stands.
 pub fn frames_before_no_number<D: SectorDisk>()
     ensures refilled { (old new : Kept D) (an : ℕ) → IsKept old → IsCall D.disk old Refills (Refilled (Ok tt)) new → IsEncoding new an
         → HasRoom new an ((standing_in new.store).identity.tx_block / 2 + 1) }
@@ -34,10 +34,9 @@ pub fn frames_before_no_number<D: SectorDisk>()
 
 /// Which frames are not held back.
 ///
-/// After `refill` answered Ok these are those of an association on which a frame was seen, whose
-/// numbers are not above the greatest that was seen, or are below a number and a block, whichever is
-/// less: the next one, half a block, rounded down, and one; or the greatest seen and a block. They
-/// are not while the association stands.
+/// After `refill` answered Ok these are the frames of an association on which a frame was seen, whose
+/// numbers are not above the greatest seen, or below both `next + rx_block / 2 + 1` and
+/// `seen + rx_block`, as they are then. They are not held back while the association stands.
 pub fn frames_not_held_back<D: SectorDisk>()
     ensures refilled { (old new : Kept D) (sci : List ℕ) (an next lowest seen pn : ℕ) → IsKept new
         → IsCall D.disk old Refills (Refilled (Ok tt)) new

@@ -1,5 +1,5 @@
-//! An endpoint of MACsec (IEEE Std 802.1AE-2018): its channels and its store in one object, so that no
-//! packet number goes out twice under one key, wherever power fails.
+//! An endpoint of MACsec (IEEE Std 802.1AE-2018): its channels and its store in one object. Packet
+//! numbers are found again above all that were used, wherever power fails.
 #![tactic(auto)]
 
 mod channels;
