@@ -25,7 +25,7 @@ use Rattle.macs_store.specs.declared.fault.CommitFault.TheVariants.{AreaFull, Di
 use Rattle.macs_endpoint.specs.Calls.{Fails, IsCall}
 use Rattle.macs_endpoint.specs.Counting.{channels_after}
 use Rattle.macs_endpoint.specs.Kept.{AreChannels, AreWithin, IsBacked, IsKept, Kept, disk_in, state_of}
-use Rattle.macs_endpoint.specs.Limits.{IsLimited}
+use Rattle.macs_endpoint.specs.Limits.{IsLimited, IsStill}
 use Rattle.macs_endpoint.specs.Restart.{Fits, FitsCall, during}
 use Rattle.macs_endpoint.specs.State.{Accepts, Commands, Logs, Ran, State, halted, holding}
 use Rattle.macs_endpoint.specs.Step.{Step, next_after, numbers_after}
@@ -88,8 +88,8 @@ module _ {D : Type 0} (disk_of : D → disk.Disk) (e : Kept D) (kept : IsKept e)
 
   unchanged : (fault : CommitFault) → ((logs : Logs) → Step (state_of e logs) (Commands command) (Ran (Err fault)) (state_of e logs))
       → Fails (disk_in disk_of e) (disk_in disk_of e) (Ran (Err fault)) → IsLimited e (Commands command) (Ran (Err fault)) e
-      → IsCall disk_of e (Commands command) (Ran (Err fault)) e
-  unchanged fault step fails limited = record {
+      → IsStill e (Commands command) (Ran (Err fault)) e → IsCall disk_of e (Commands command) (Ran (Err fault)) e
+  unchanged fault step fails limited still = record {
     step = λ logs. (logs, step logs);
     works = Works-start (disk_in disk_of e);
     fails = fails;
@@ -99,6 +99,7 @@ module _ {D : Type 0} (disk_of : D → disk.Disk) (e : Kept D) (kept : IsKept e)
     backed = λ honest backed. backed;
     stands = refl;
     limited = limited;
+    still = still;
     tx_counters = refl;
     rx_counters = refl;
     channel_counters = refl;
@@ -107,18 +108,18 @@ module _ {D : Type 0} (disk_of : D → disk.Disk) (e : Kept D) (kept : IsKept e)
   unchanged_by : (fault : CommitFault) → (fault ≡ Disk → ⊥) → Commits disk_of e.store command (Err fault) e.store
       → IsCall disk_of e (Commands command) (Ran (Err fault)) e
   unchanged_by Disk other commits = absurd (other refl)
-  unchanged_by Stopped other commits = unchanged Stopped (λ logs. inl (commits.stopped.0 refl, tt, refl)) refl tt
+  unchanged_by Stopped other commits = unchanged Stopped (λ logs. inl (commits.stopped.0 refl, tt, refl)) refl tt refl
   unchanged_by (Refused refusal) other commits =
       let is = commits.refused refusal in
       let both = is.0 refl in
       let s = standing_in e.store in
       unchanged (Refused refusal)
-      (λ logs. inr (both.0, (by_refused s command (apply first_edition s.identity s.config command) refusal both.1, refl))) refl tt
+      (λ logs. inr (both.0, (by_refused s command (apply first_edition s.identity s.config command) refusal both.1, refl))) refl tt refl
   unchanged_by AreaFull other commits =
       let all = commits.full.0 refl in
       let s = standing_in e.store in
       unchanged AreaFull
-      (λ logs. inr (all.0, (by_accepted s command (apply first_edition s.identity s.config command) all.1, refl))) refl all.2
+      (λ logs. inr (all.0, (by_accepted s command (apply first_edition s.identity s.config command) all.1, refl))) refl all.2 refl
 
   not_disk : (fault : CommitFault) (s : store.Kept D) → (fault ≡ Disk → ⊥) → IsErrOf {T = Unit {0}} (Err fault) Disk ⊎ (s ≡ e.store) → s ≡ e.store
   not_disk fault s other either = elim either [
@@ -212,6 +213,7 @@ module _ {D : Type 0} (disk_of : D → disk.Disk) (e : Kept D) (kept : IsKept e)
       backed = cut_backed;
       stands = cut_same;
       limited = tt;
+      still = tt;
       tx_counters = refl;
       rx_counters = refl;
       channel_counters = refl;
@@ -291,6 +293,7 @@ module _ {D : Type 0} (disk_of : D → disk.Disk) (e : Kept D) (kept : IsKept e)
               (commits.stored honest (backed.stored done_running));
           stands = commits.done;
           limited = tt;
+          still = tt;
           tx_counters = tx_counters;
           rx_counters = rx_counters;
           channel_counters = channel_counters;

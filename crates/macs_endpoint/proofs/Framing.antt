@@ -291,6 +291,7 @@ module _ {D : Type 0} (disk_of : D → Disk) (old : Kept D) (tx : Tx) (plain : L
         backed = λ honest backed. kept-backed disk_of (with_tx old tx) protected-kept backed.size (backed.stored running);
         stands = refl;
         limited = protect_limited old tx plain (txsc.side_of tx) result out standing;
+        still = refl;
         tx_counters = counted_after result counters;
         rx_counters = refl;
         channel_counters = refl;
@@ -311,6 +312,7 @@ protect-stopped disk_of old plain out stopped empty =
       backed = λ honest backed. backed;
       stands = refl;
       limited = tt;
+      still = refl;
       tx_counters = refl;
       rx_counters = refl;
       channel_counters = refl;
@@ -524,6 +526,7 @@ module _ {D : Type 0} (disk_of : D → Disk) (old : Kept D) (r : rxsc.Kept) (fra
         stands = refl;
         limited = receive_limited old (with_rx old r) frame verdict out
             (held_at_ceiling (rx_side (state_of old no_logs)) s.ceilings.rx frame outcome standing_receives);
+        still = refl;
         tx_counters = refl;
         rx_counters = counters;
         channel_counters = channel_counters
@@ -544,6 +547,7 @@ receive-stopped disk_of old frame out fault stopped empty =
       backed = λ honest backed. backed;
       stands = refl;
       limited = tt;
+      still = refl;
       tx_counters = refl;
       rx_counters = refl;
       channel_counters = refl;

@@ -40,7 +40,7 @@ use Rattle.macs_endpoint.specs.Calls.{Fails, IsCall}
 use Rattle.macs_endpoint.specs.Ceilings.{IsPartlyRefilled, IsRefilled, Stands, rx_refilled, rx_served, tx_refilled, tx_served}
 use Rattle.macs_endpoint.specs.Faults.{refill_fault_of}
 use Rattle.macs_endpoint.specs.Kept.{AreChannels, AreWithin, IsBacked, IsKept, IsRxWithin, IsTxWithin, Kept, disk_in, state_of}
-use Rattle.macs_endpoint.specs.Limits.{IsLimited}
+use Rattle.macs_endpoint.specs.Limits.{IsLimited, IsStill}
 use Rattle.macs_endpoint.specs.Reserving.{FitsState, Reserves}
 use Rattle.macs_endpoint.specs.Restart.{Fits, FitsCall, rx_limit}
 use Rattle.macs_endpoint.specs.State.{Logs, Refilled, Refills, State, halted, no_logs, receiving, rx_side, transmitting, tx_side}
@@ -210,10 +210,18 @@ module _ {D : Type 0} (disk_of : D → disk.Disk) where
     backed = λ honest backed. backed;
     stands = record { identity = refl; config = refl; either = inl refl; rx = λ sci an. inl refl };
     limited = tt;
+    still = refl;
     tx_counters = refl;
     rx_counters = refl;
     channel_counters = refl;
   }
+
+  still_by : (old new : Kept D) (result : Result (Unit {0}) RefillFault) → Refilling (state_of old no_logs) result (state_of new no_logs)
+      → IsStill old Refills (Refilled result) new
+  still_by old new (Ok done) step = tt
+  still_by old new (Err refill.AreaFull) step = tt
+  still_by old new (Err refill.Disk) step = tt
+  still_by old new (Err refill.Stopped) step = absurd step
 
   pub reserved-call : (old new : Kept D) (result : Result (Unit {0}) RefillFault) → old.store.journal.stopped ≡ false → Reserves disk_of old result new
       → Stands (tx_side (state_of old no_logs)) (rx_side (state_of old no_logs)) (standing_in old.store) Refills (Refilled result) (standing_in new.store)
@@ -229,6 +237,7 @@ module _ {D : Type 0} (disk_of : D → disk.Disk) where
     backed = reserves.backed;
     stands = stands;
     limited = reserves.limited;
+    still = still_by old new result (reserves.step no_logs);
     tx_counters = reserves.tx_counters;
     rx_counters = reserves.rx_counters;
     channel_counters = reserves.channel_counters;

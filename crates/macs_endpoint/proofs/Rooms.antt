@@ -381,9 +381,9 @@ module _ {D : Type 0} (disk_of : D → Disk) where
   under_lives sci an pn [] old new lives stays under =
       subst (λ (e : Kept D). IsUnder ((standing_in e.store).ceilings.rx sci an) pn) (sym lives) under
   under_lives sci an pn (turn ∷ turns) old new lives stays under =
-      under_lives sci an pn turns turn.after new lives.1 stays.1
+      under_lives sci an pn turns turn.after new lives.2 stays.1
       (under_stands sci an pn (tx_side (state_of old no_logs)) (rx_side (state_of old no_logs)) (standing_in old.store) (standing_in turn.after.store)
-      turn.call turn.reply lives.0.stands stays.0 under)
+      turn.call turn.reply lives.1.stands stays.0 under)
 
   pub below-stays : (old new : Kept D) (turns : List (Turn D)) (sci : List ℕ) (an pn : ℕ) → Lives disk_of old turns new → RxStays sci an turns
       → IsBelow old sci an pn → IsBelow new sci an pn
@@ -442,13 +442,13 @@ module _ {D : Type 0} (disk_of : D → Disk) where
   covers_lives count an (turn ∷ turns) used old new lives stays covers =
       let one = one_if (standing_in old.store).config.encoding an turn.reply in
       let rest = written an turn.after turns in
-      let ended = lives.0.step no_logs in
+      let ended = lives.1.step no_logs in
       let here : Covers count (used + one) ((state_of turn.after no_logs).next an) ((standing_in turn.after.store).ceilings.tx an) =
       covers_step count used an (state_of old no_logs) (state_of turn.after ended.0) (standing_in old.store) (standing_in turn.after.store)
-      turn.call turn.reply ended.1 lives.0.stands stays.0 covers in
+      turn.call turn.reply ended.1 lives.1.stands stays.0 covers in
       let sum : (used + one) + rest ≡ used + (one + rest) = omega arith in
       covers_same count ((used + one) + rest) (used + (one + rest)) ((state_of new no_logs).next an) ((standing_in new.store).ceilings.tx an) sum
-      (covers_lives count an turns (used + one) turn.after new lives.1 stays.1 here)
+      (covers_lives count an turns (used + one) turn.after new lives.2 stays.1 here)
 
   room_of : (e : Kept D) (an count used block : ℕ) (n c : Option ℕ) → (state_of e no_logs).next an ≡ n → (standing_in e.store).ceilings.tx an ≡ c
       → IsTxWithin block n c → Covers count used n c → HasRoom e an (count - used)

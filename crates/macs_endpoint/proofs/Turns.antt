@@ -9,7 +9,7 @@ use Rattle.macs_disk.specs.Disk.{Disk, IsHonest, LeftSince}
 use Rattle.macs_disk.specs.States.{Image, IsImage}
 use Rattle.macs_disk.proofs.Moments.{Left-before}
 use Rattle.macs_endpoint.specs.Calls.{IsCall}
-use Rattle.macs_endpoint.specs.Kept.{IsBacked, Kept, disk_in, state_of}
+use Rattle.macs_endpoint.specs.Kept.{IsBacked, IsKept, Kept, disk_in, state_of}
 use Rattle.macs_endpoint.specs.Lives.{FitsLife, LeavesLife, Lives, Turn, event_of}
 use Rattle.macs_endpoint.specs.Restart.{Fits, FitsCall, during}
 use Rattle.macs_endpoint.specs.Serving.{Ends, IsServed, Takes, Told, call_of, halts, reply_of}
@@ -85,10 +85,12 @@ IsIdle e = e.store.journal.stopped ≡ false → e.in_hand ≡ None
 module _ {D : Type 0} (disk_of : D → Disk) (turn : Turn D) where
   -- ---- calls and their steps
 
-  lives_more : (turns : List (Turn D)) (old mid : Kept D) → Lives disk_of old turns mid → IsCall disk_of mid turn.call turn.reply turn.after
+  lives_more : (turns : List (Turn D)) (old mid : Kept D) → Lives disk_of old turns mid → IsKept mid
+      → IsCall disk_of mid turn.call turn.reply turn.after
       → Lives disk_of old (turns ++ turn ∷ []) turn.after
-  lives_more [] old mid lives call = (subst (λ (e : Kept D). IsCall disk_of e turn.call turn.reply turn.after) lives call, refl)
-  lives_more (first ∷ turns) old mid lives call = (lives.0, lives_more turns first.after mid lives.1 call)
+  lives_more [] old mid lives kept call =
+      (subst (λ (e : Kept D). IsKept e) lives kept, subst (λ (e : Kept D). IsCall disk_of e turn.call turn.reply turn.after) lives call, refl)
+  lives_more (first ∷ turns) old mid lives kept call = (lives.0, lives.1, lives_more turns first.after mid lives.2 kept call)
 
   run_more : (turns : List (Turn D)) (s mid new : State) → Run s (map event_of turns) mid → Step mid turn.call turn.reply new
       → Run s (map event_of (turns ++ turn ∷ [])) new
@@ -109,14 +111,14 @@ module _ {D : Type 0} (disk_of : D → Disk) (turn : Turn D) where
       inl (fits_during sectors image (state_of old no_logs) turn.call (subst (λ (e : Kept D). IsIdle e) lives idle) fits)
   fits_wider sectors image (first ∷ turns) old mid lives idle fits = elim fits [
     | inl here ↦ inl here
-    | inr later ↦ inr (fits_wider sectors image turns first.after mid lives.1 idle later)
+    | inr later ↦ inr (fits_wider sectors image turns first.after mid lives.2 idle later)
   ]
 
   fits_last : (sectors : ℕ) (image : Image) (turns : List (Turn D)) (old mid : Kept D) → Lives disk_of old turns mid
       → FitsCall sectors (state_of mid no_logs) turn.call (state_of turn.after no_logs) image → FitsLife sectors old (turns ++ turn ∷ []) image
   fits_last sectors image [] old mid lives fits =
       subst (λ (e : Kept D). FitsCall sectors (state_of e no_logs) turn.call (state_of turn.after no_logs) image) lives fits
-  fits_last sectors image (first ∷ turns) old mid lives fits = inr (fits_last sectors image turns first.after mid lives.1 fits)
+  fits_last sectors image (first ∷ turns) old mid lives fits = inr (fits_last sectors image turns first.after mid lives.2 fits)
 
   module _ (mid : Kept D) (call : IsCall disk_of mid turn.call turn.reply turn.after) (idle : IsIdle mid)
       (honest : IsHonest (disk_in disk_of turn.after)) (backed : IsBacked disk_of mid) where
@@ -148,7 +150,7 @@ module _ {D : Type 0} (disk_of : D → Disk) (turn : Turn D) where
         → LeavesLife disk_of (disk_in disk_of turn.after) old (turns ++ turn ∷ [])
     leaves_more [] old lives leaves = (left_more (disk_in disk_of old).clock [] old lives leaves, left_last)
     leaves_more (first ∷ turns) old lives leaves =
-        (left_more (disk_in disk_of old).clock (first ∷ turns) old lives leaves.0, leaves_more turns first.after lives.1 leaves.1)
+        (left_more (disk_in disk_of old).clock (first ∷ turns) old lives leaves.0, leaves_more turns first.after lives.2 leaves.1)
 
 -- ---- turns
 
@@ -215,14 +217,14 @@ module _ {D : Type 0} (disk_of : D → Disk) (old : Kept D) (told : Told) where
     )
 
     -- and where it has one, which is answered
-    pub turns-more : (event : Event) (answer : Answer) (new : Kept D) (later : Told) → IsCall disk_of mid (call_of event) (reply_of answer) new → IsIdle mid
+    pub turns-more : (event : Event) (answer : Answer) (new : Kept D) (later : Told) → IsCall disk_of mid (call_of event) (reply_of answer) new → IsKept mid
         → HasTaken tells (Some event) later → HasGiven tells answer later
         → AreTurns disk_of (turns ++ record { call = call_of event; reply = reply_of answer; after = new } ∷ []) old told new later
-    turns-more event answer new later call idle taken given =
+    turns-more event answer new later call kept taken given =
         let turn : Turn D = record { call = call_of event; reply = reply_of answer; after = new } in
         let same : (disk_in disk_of new).honest ≡ (disk_in disk_of mid).honest = call.works.honest in
         record {
-          lives = lives_more disk_of turn turns old mid are.lives call;
+          lives = lives_more disk_of turn turns old mid are.lives kept call;
           run = λ logs.
               let first = are.run logs in
               let last = call.step first.0 in
@@ -230,7 +232,7 @@ module _ {D : Type 0} (disk_of : D → Disk) (old : Kept D) (told : Told) where
           honest = same ∙ are.honest;
           any_moment = λ honest backed.
               let before : IsHonest (disk_in disk_of mid) = sym same ∙ honest in
-              leaves_more disk_of turn mid call idle honest (are.backed before backed) turns old are.lives (are.any_moment before backed);
+              leaves_more disk_of turn mid call kept.idle honest (are.backed before backed) turns old are.lives (are.any_moment before backed);
           backed = λ honest backed. call.backed honest (are.backed (sym same ∙ honest) backed);
           source = taken.1 ∙ are.source;
           sink = given.1 ∙ are.sink;
@@ -301,7 +303,7 @@ module _ {D : Type 0} (disk_of : D → Disk) (old : Kept D) (told : Told) where
         (ends-ended (map (λ (t : Turn D). t.reply) serving.turns) serving.go)
 
     module _ (event : Event) (answer : Answer) (new : Kept D) (later : Told) (call : IsCall disk_of mid (call_of event) (reply_of answer) new)
-        (idle : IsIdle mid) (taken : HasTaken tells (Some event) later) (given : HasGiven tells answer later) where
+        (kept : IsKept mid) (taken : HasTaken tells (Some event) later) (given : HasGiven tells answer later) where
       -- one more
       pub serving-more : halts (reply_of answer) ≡ false → IsServing disk_of (count + 1) old told new later
       serving-more goes =
@@ -310,7 +312,7 @@ module _ {D : Type 0} (disk_of : D → Disk) (old : Kept D) (told : Told) where
             turns = serving.turns ++ turn ∷ [];
             number = length_push serving.turns turn ∙ ap (λ (n : ℕ). n + 1) serving.number;
             go = go_more disk_of turn serving.turns serving.go goes;
-            are = turns-more disk_of old told serving.turns mid tells serving.are event answer new later call idle taken given;
+            are = turns-more disk_of old told serving.turns mid tells serving.are event answer new later call kept taken given;
           }
 
       -- a device call failed
@@ -322,5 +324,5 @@ module _ {D : Type 0} (disk_of : D → Disk) (old : Kept D) (told : Told) where
           subst (λ (l : List Reply). Ends l Halted) (sym (map-append (λ (t : Turn D). t.reply) serving.turns (turn ∷ [])))
           (ends_last (replies serving.turns) (reply_of answer) serving.go halt) in
           turns-served disk_of old told (serving.turns ++ turn ∷ []) new later
-          (turns-more disk_of old told serving.turns mid tells serving.are event answer new later call idle taken given) most Halted
+          (turns-more disk_of old told serving.turns mid tells serving.are event answer new later call kept taken given) most Halted
           (omega (arith, length_push serving.turns turn, serving.number, few)) (λ is. absurd cc) (λ is. absurd cc) ends

@@ -9,7 +9,7 @@ use Rattle.macs_store.specs.declared.fault.CommitFault.TheVariants as commit
 use Rattle.macs_endpoint.specs.Ceilings.{Stands}
 use Rattle.macs_endpoint.specs.Counting.{channel_counters_after, rx_counters_after, tx_counters_after}
 use Rattle.macs_endpoint.specs.Kept.{IsBacked, Kept, disk_in, state_of}
-use Rattle.macs_endpoint.specs.Limits.{IsLimited}
+use Rattle.macs_endpoint.specs.Limits.{IsLimited, IsStill}
 use Rattle.macs_endpoint.specs.Restart.{FitsCall}
 use Rattle.macs_endpoint.specs.State.{Call, Logs, Ran, Refilled, Reply, no_logs, rx_side, tx_side}
 use Rattle.macs_endpoint.specs.Step.{Step}
@@ -33,6 +33,7 @@ pub record IsCall {D : Type 0} (disk_of : D → Disk) (old : Kept D) (call : Cal
   pub backed : IsHonest (disk_in disk_of new) → IsBacked disk_of old → IsBacked disk_of new
   pub stands : Stands (tx_side (state_of old no_logs)) (rx_side (state_of old no_logs)) (standing_in old.store) call reply (standing_in new.store)
   pub limited : IsLimited old call reply new
+  pub still : IsStill old call reply new
   pub tx_counters : txsc.counters_of new.tx ≡ tx_counters_after reply (txsc.counters_of old.tx)
   pub rx_counters : rxsc.counters_of new.rx ≡ rx_counters_after reply (rxsc.counters_of old.rx)
   pub channel_counters : rxsc.channel_counters_of new.rx

@@ -1,4 +1,4 @@
--- Where the answers that a step leaves to the endpoint come.
+-- Where the answers that a step leaves to the endpoint come, and which calls make no device call.
 use Rattle.std.specs.Prelude.{◌≡◌, true, false, Ok, Err}
 use Rattle.macs_txsc.specs.Transmit.{is_at_ceiling, outgoing}
 use Rattle.macs_txsc.specs.declared.fault.TxFault.TheVariants.{NoNumber}
@@ -22,3 +22,12 @@ IsLimited old (Protects plain) (Protected (Err (Tx NoNumber)) out) new =
 IsLimited old (Receives frame) (Received (Ok HeldBack) out) new =
     (a : Arrival) × Arrives (rx_side (state_of old no_logs)) frame a × (is_below ((standing_in old.store).ceilings.rx a.sci a.an) a.pn ≡ false)
 IsLimited old call reply new = Unit {0}
+
+-- frames, refused commands and a stopped endpoint leave the store as it was, and with it the disk and its clock
+abbrev pub IsStill : {D : Type 0} → Kept D → Call → Reply → Kept D → Type 0
+IsStill old (Commands command) (Ran (Err commit.Disk)) new = Unit {0}
+IsStill old (Commands command) (Ran (Err fault)) new = new.store ≡ old.store
+IsStill old Refills (Refilled (Err refill.Stopped)) new = new.store ≡ old.store
+IsStill old (Protects plain) (Protected result out) new = new.store ≡ old.store
+IsStill old (Receives frame) (Received result out) new = new.store ≡ old.store
+IsStill old call reply new = Unit {0}

@@ -3,7 +3,7 @@ use Rattle.std.specs.Prelude.{◌≡◌, ◌⊎◌, ℕ, List, [], ◌∷◌}
 use Rattle.macs_disk.specs.Disk.{Disk, LeftSince}
 use Rattle.macs_disk.specs.States.{Image}
 use Rattle.macs_endpoint.specs.Calls.{IsCall}
-use Rattle.macs_endpoint.specs.Kept.{Kept, disk_in, state_of}
+use Rattle.macs_endpoint.specs.Kept.{IsKept, Kept, disk_in, state_of}
 use Rattle.macs_endpoint.specs.Restart.{Fits, during}
 use Rattle.macs_endpoint.specs.State.{Call, Reply, no_logs}
 use Rattle.macs_endpoint.specs.Step.{Event}
@@ -17,11 +17,11 @@ pub record Turn (D : Type 0) : Type 0 where
 abbrev pub event_of : {D : Type 0} → Turn D → Event
 event_of turn = record { call = turn.call; reply = turn.reply }
 
--- these calls lead from old to new
+-- these calls lead from old to new, each of them made of an endpoint of which holds what holds of every one
 abbrev pub Lives : {D : Type 0} → (D → Disk) → Kept D → List (Turn D) → Kept D → Type 0
 Lives disk_of old [] new = new ≡ old
 Lives disk_of old (turn ∷ turns) new =
-    IsCall disk_of old turn.call turn.reply turn.after × Lives disk_of turn.after turns new
+    IsKept old × IsCall disk_of old turn.call turn.reply turn.after × Lives disk_of turn.after turns new
 
 -- an image fits the state before one of these calls, with its command in hand, or the one after the last
 abbrev pub FitsLife : {D : Type 0} → ℕ → Kept D → List (Turn D) → Image → Type 0

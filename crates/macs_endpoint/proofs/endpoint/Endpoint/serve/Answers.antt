@@ -30,7 +30,7 @@ pub returns-then-is_halt : goal.returns-then-is_halt
 returns-then-is_halt g c =
     served-halted g.D.SectorDisk.disk c.args.self.now (tells g c.args.source.now c.args.sink.now) c.loop.counter c.loop.self
     (tells g c.loop.source c.loop.sink) c.loop.invariant.serving c.in-Some.event c.answer-answer.result c.answer-answer.new.self
-    (tells g c.next_event.new.self c.put.new.self) c.answer-answer.ensures c.facts.ensures.idle
+    (tells g c.next_event.new.self c.put.new.self) c.answer-answer.ensures c.facts.ensures
     (c.in-Some.ensures.taken, c.in-Some.ensures.telling) (c.put.ensures.given, c.put.ensures.telling) c.args.turns c.loop-test.true
     (sym c.is_halt-is_halt.ensures ∙ c.if-is_halt.true)
 
@@ -38,7 +38,7 @@ pub loop-preserved : goal.loop-preserved
 loop-preserved g c = record {
   serving = serving-more g.D.SectorDisk.disk c.args.self.now (tells g c.args.source.now c.args.sink.now) c.loop.counter c.loop.self
       (tells g c.loop.source c.loop.sink) c.loop.invariant.serving c.in-Some.event c.answer-answer.result c.answer-answer.new.self
-      (tells g c.next_event.new.self c.put.new.self) c.answer-answer.ensures c.facts.ensures.idle
+      (tells g c.next_event.new.self c.put.new.self) c.answer-answer.ensures c.facts.ensures
       (c.in-Some.ensures.taken, c.in-Some.ensures.telling) (c.put.ensures.given, c.put.ensures.telling)
       (sym c.is_halt-is_halt.ensures ∙ c.if-is_halt.false);
   within = omega (arith, c.loop-test.true);
