@@ -9,14 +9,14 @@ use clap::{ArgMatches, Command};
 use std::alloc::{AllocError, Global};
 
 /// What the program is to do.
-#[derive(Debug, Clone, Copy, PartialEq, Eq)]
+#[derive(Clone, Copy)]
 pub enum Action {
     /// Opens one protected frame: `open`, or no word.
     Open,
 }
 
 /// Why the words name no action.
-#[derive(Debug, Drop)]
+#[derive(Drop)]
 pub enum UsageFault {
     /// They are none that the program knows, for this cause.
     Usage(String),

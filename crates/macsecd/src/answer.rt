@@ -13,7 +13,7 @@ use macs_gcm::GcmKey;
 use std::fmt;
 
 /// What opening a frame came to. It is displayed as the line that the program prints.
-#[derive(Debug, Drop)]
+#[derive(Drop)]
 pub enum Answer {
     /// The frame is genuine: its AN, its PN and the plain frame.
     Valid { an: An, pn: Pn, plain: FrameBuf },

@@ -6,7 +6,7 @@ use crate::status::Status;
 use std::alloc::AllocError;
 
 /// What ends a run before its answer.
-#[derive(Debug, Drop)]
+#[derive(Drop)]
 pub enum Failure {
     /// The words name no action, for this cause.
     Usage(String),

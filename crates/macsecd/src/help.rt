@@ -4,7 +4,7 @@ ghost use Rattle.std.specs.Prelude.{◌≡◌, ◌↔◌, IsTrue};
 ghost use Rattle.macsecd.specs.Words.{AsksFor, AsksForHelp, AsksForVersion, IsHelpFlag, IsSubcommand, IsVersionFlag, texts};
 
 /// What is asked for in place of an action.
-#[derive(Debug, Clone, Copy, PartialEq, Eq)]
+#[derive(Clone, Copy)]
 pub enum Topic {
     /// What the program does, and how: `--help` or `-h`, alone or after a subcommand.
     Help,

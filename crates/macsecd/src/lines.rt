@@ -4,7 +4,7 @@ ghost use Rattle.std.specs.Prelude.{◌≡◌, ◌==◌, ◌↔◌, [], ◌∷�
 ghost use Rattle.macsecd.specs.Lines.{line_at, lines, trimmed};
 
 /// The four lines of a text, each without its end, in octets.
-#[derive(Debug, Clone, Copy)]
+#[derive(Clone, Copy)]
 pub struct FourLines<'a> {
     pub first: &'a [u8],
     pub second: &'a [u8],

@@ -33,7 +33,7 @@ pub struct Request {
 }
 
 /// Why an input spells no request, in the order in which the faults are looked for.
-#[derive(Debug, Clone, Copy, PartialEq, Eq)]
+#[derive(Clone, Copy)]
 pub enum InputFault {
     /// It has more than 20,000 octets, or is not four lines.
     Input,

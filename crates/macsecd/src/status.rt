@@ -1,7 +1,7 @@
 //! How the program ends.
 
 /// How a run ends, and the status of the process.
-#[derive(Debug, Clone, Copy, PartialEq, Eq)]
+#[derive(Clone, Copy)]
 pub enum Status {
     /// It is done: 0.
     Done,

@@ -8,7 +8,8 @@ mod streams;
 mod words;
 
 use crate::run::run;
-use std::alloc::Global;
+use std::alloc::{AllocError, Global};
+use std::io::{Read, Write};
 use std::process::Abort;
 use std::test::Fail;
 
@@ -25,44 +26,95 @@ const INTEGRITY: &str =
 const INTEGRITY_LINE: &str =
     "valid an=2 pn=b2c28465 plain=d609b1f056637a0d46df998d08000f101112131415161718191a1b1c1d1e1f202122232425262728292a2b2c2d2e2f30313233340001\n";
 
-/// What a run answers: its status, and what it writes to standard output and standard error.
-#[derive(Drop)]
-struct Outcome {
-    status: u8,
-    out: Vec<u8>,
-    err: Vec<u8>,
+/// What a run is to come to: a status, and one text on standard output or on standard error.
+#[derive(Clone, Copy)]
+enum Outcome {
+    /// Status 0, and what is printed.
+    Done(&'static str),
+    /// Status 3, and the line that is printed.
+    Refused(&'static str),
+    /// Status 2, and the line on standard error.
+    Usage(&'static str),
+    /// Status 5, and the line on standard error.
+    Fault(&'static str),
 }
 
-fn outcome_of(alloc: Global, words: &[&str], input: &str) -> Outcome {
-    let mut out = Vec::new(alloc);
-    let mut err = Vec::new(alloc);
-    let status = run(alloc, words, &mut input.as_bytes(), &mut out, &mut err);
-    Outcome { status, out, err }
+impl Outcome {
+    /// The status, standard output and standard error.
+    fn parts(self) -> (u8, &'static str, &'static str) {
+        match self {
+            Outcome::Done(out) => (0, out, ""),
+            Outcome::Refused(out) => (3, out, ""),
+            Outcome::Usage(err) => (2, "", err),
+            Outcome::Fault(err) => (5, "", err),
+        }
+    }
 }
 
-/// Runs the words on the input, and asserts the whole outcome.
-fn assert_run(
+/// The frame under integrity is opened.
+const OPENED: Outcome = Outcome::Done(INTEGRITY_LINE);
+
+/// Runs the program. What is proved of a run stays behind: the tests look at what it does.
+fn status_of<R: Read, W: Write, E: Write>(
+    alloc: Global,
+    words: &[&str],
+    input: &mut R,
+    out: &mut W,
+    err: &mut E,
+) -> u8 {
+    run(alloc, words, input, out, err)
+}
+
+/// Runs the words on what a reader gives, and asserts the whole outcome.
+fn expect_of<R: Read>(
     rt: &impl Abort,
     alloc: Global,
     words: &[&str],
-    input: &str,
-    status: u8,
-    out: &str,
-    err: &str,
+    input: &mut R,
+    outcome: Outcome,
 ) {
-    let outcome = outcome_of(alloc, words, input);
-    assert_eq!(rt; outcome.out.as_slice(), out.as_bytes(), "on {input:?}");
-    assert_eq!(rt; outcome.err.as_slice(), err.as_bytes(), "on {input:?}");
-    assert_eq!(rt; outcome.status, status, "on {input:?}");
+    let mut out = Vec::new(alloc);
+    let mut err = Vec::new(alloc);
+    let status = status_of(alloc, words, input, &mut out, &mut err);
+    let (wanted, printed, complained) = outcome.parts();
+    assert_eq!(rt; out.as_slice(), printed.as_bytes());
+    assert_eq!(rt; err.as_slice(), complained.as_bytes());
+    assert_eq!(rt; status, wanted);
 }
 
-/// An input of a key, an SCI, an offset and a frame, each line with its end.
-fn input_of(
+/// Runs the words on an input, and asserts the whole outcome.
+fn expect(rt: &impl Abort, alloc: Global, words: &[&str], input: &str, outcome: Outcome) {
+    expect_of(rt, alloc, words, &mut input.as_bytes(), outcome);
+}
+
+/// The texts, one behind the other.
+fn joined(alloc: Global, texts: &[&str]) -> Result<String, AllocError> {
+    let mut whole = String::new(alloc);
+    for text in texts {
+        whole.push_str(text)?;
+    }
+    Ok(whole)
+}
+
+/// Opens an input of these texts, one behind the other, and asserts the whole outcome.
+fn expect_texts(
+    rt: &impl Abort,
     alloc: Global,
-    key: &str,
-    sci: &str,
-    offset: &str,
-    frame: &str,
-) -> Result<String, Fail> {
-    Ok(format!(in alloc; "{key}\n{sci}\n{offset}\n{frame}\n")?)
+    texts: &[&str],
+    outcome: Outcome,
+) -> Result<(), Fail> {
+    let input = joined(alloc, texts)?;
+    expect(rt, alloc, &["open"], input.as_str(), outcome);
+    Ok(())
+}
+
+/// Opens an input of a key, an SCI, an offset and a frame, each line with its end.
+fn expect_lines(
+    rt: &impl Abort,
+    alloc: Global,
+    [key, sci, offset, frame]: [&str; 4],
+    outcome: Outcome,
+) -> Result<(), Fail> {
+    let texts = [key, "\n", sci, "\n", offset, "\n", frame, "\n"];
+    expect_texts(rt, alloc, &texts, outcome)
 }

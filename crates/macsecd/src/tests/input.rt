@@ -1,16 +1,42 @@
 //! Inputs: their lines, and each fault.
 
-use super::{INTEGRITY, INTEGRITY_LINE, KEY, SCI, assert_run, input_of};
+use super::{INTEGRITY, KEY, OPENED, Outcome, SCI, expect, expect_lines, expect_texts, joined};
 use std::test::Fail;
 
+const INPUT_FAULT: Outcome = Outcome::Fault("macsecd: input\n");
+
+const KEY_FAULT: Outcome = Outcome::Fault("macsecd: key\n");
+
+const SCI_FAULT: Outcome = Outcome::Fault("macsecd: sci\n");
+
+const OFFSET_FAULT: Outcome = Outcome::Fault("macsecd: offset\n");
+
+const FRAME_FAULT: Outcome = Outcome::Fault("macsecd: frame\n");
+
+/// Inputs of texts that stand one behind the other, and what they come to.
+const INPUTS: &[(&[&str], Outcome)] = &[
+    // Lines however they end.
+    (&[KEY, "\n", SCI, "\n0\n", INTEGRITY], OPENED),
+    (&[KEY, "\r\n", SCI, "\r\n0\r\n", INTEGRITY, "\r\n"], OPENED),
+    (&[KEY, "\n", SCI, "\r\n0\n", INTEGRITY, "\r"], OPENED),
+    // Fewer lines than four, and more.
+    (&[], INPUT_FAULT),
+    (&["\n"], INPUT_FAULT),
+    (&[KEY, "\n", SCI, "\n0"], INPUT_FAULT),
+    (&[KEY, "\n", SCI, "\n0\n"], INPUT_FAULT),
+    (&[KEY, "\n", SCI, "\n0\n", INTEGRITY, "\n\n"], INPUT_FAULT),
+    (&[KEY, "\n", SCI, "\n0\n", INTEGRITY, "\n\r"], INPUT_FAULT),
+    (&[KEY, "\n", SCI, "\n0\n", INTEGRITY, "\n00"], INPUT_FAULT),
+    // The fourth line is empty: a frame of no octets.
+    (&[KEY, "\n", SCI, "\n0\n\n"], Outcome::Refused("runt\n")),
+    (&[KEY, "\n", SCI, "\n0\n\r\n"], Outcome::Refused("runt\n")),
+    (&[KEY, "\n", SCI, "\n0\n\r"], Outcome::Refused("runt\n")),
+];
+
 #[test]
-fn reads_lines_however_they_end(rt: HostRuntime) -> Result<(), Fail> {
-    let alloc = rt.alloc();
-    let no_end = format!(in alloc; "{KEY}\n{SCI}\n0\n{INTEGRITY}")?;
-    let returns = format!(in alloc; "{KEY}\r\n{SCI}\r\n0\r\n{INTEGRITY}\r\n")?;
-    let return_at_the_end = format!(in alloc; "{KEY}\n{SCI}\r\n0\n{INTEGRITY}\r")?;
-    for input in [no_end, returns, return_at_the_end] {
-        assert_run(&rt, rt.alloc(), &[], input.as_str(), 0, INTEGRITY_LINE, "");
+fn reads_four_lines_however_they_end(rt: HostRuntime) -> Result<(), Fail> {
+    for (texts, outcome) in INPUTS {
+        expect_texts(&rt, rt.alloc(), texts, *outcome)?;
     }
     Ok(())
 }
@@ -19,143 +45,95 @@ fn reads_lines_however_they_end(rt: HostRuntime) -> Result<(), Fail> {
 fn reads_digits_of_either_case(rt: HostRuntime) {
     let input =
         "AD7A2BD03EAC835A6F620FDCB506B345\n12153524C0895E81\n0\nD609B1F056637A0D46DF998D88E5222AB2C2846512153524C0895E8108000F101112131415161718191A1B1C1D1E1F202122232425262728292A2B2C2D2E2F30313233340001F09478A9B09007D06F46E9B6A1DA25DD\n";
-    assert_run(&rt, rt.alloc(), &["open"], input, 0, INTEGRITY_LINE, "");
-}
-
-#[test]
-fn counts_lines(rt: HostRuntime) -> Result<(), Fail> {
-    let alloc = rt.alloc();
-    let wrong = [
-        String::new(alloc),
-        String::from_str(alloc, "\n")?,
-        format!(in alloc; "{KEY}\n{SCI}\n0")?,
-        format!(in alloc; "{KEY}\n{SCI}\n0\n")?,
-        format!(in alloc; "{KEY}\n{SCI}\n0\n{INTEGRITY}\n\n")?,
-        format!(in alloc; "{KEY}\n{SCI}\n0\n{INTEGRITY}\n\r")?,
-        format!(in alloc; "{KEY}\n{SCI}\n0\n{INTEGRITY}\n00")?,
-    ];
-    for input in wrong {
-        assert_run(
-            &rt,
-            rt.alloc(),
-            &["open"],
-            input.as_str(),
-            5,
-            "",
-            "macsecd: input\n",
-        );
-    }
-    // The fourth line is empty: a frame of no octets.
-    for end in ["\n", "\r\n", "\r"] {
-        let input = format!(in alloc; "{KEY}\n{SCI}\n0\n{end}")?;
-        assert_run(&rt, rt.alloc(), &["open"], input.as_str(), 3, "runt\n", "");
-    }
-    Ok(())
+    expect(&rt, rt.alloc(), &["open"], input, OPENED);
 }
 
 /// Lines that are wrong in a single respect.
+const WRONG_LINES: &[([&str; 4], Outcome)] = &[
+    // Each line of a key ends in a carriage return, which is dropped: of two the first stays.
+    (["\r", SCI, "0", INTEGRITY], KEY_FAULT),
+    (
+        ["ad7a2bd03eac835a6f620fdcb506b34\r", SCI, "0", INTEGRITY],
+        KEY_FAULT,
+    ),
+    (
+        ["ad7a2bd03eac835a6f620fdcb506b34500\r", SCI, "0", INTEGRITY],
+        KEY_FAULT,
+    ),
+    (
+        ["ad7a2bd03eac835a6f620fdcb506b34g\r", SCI, "0", INTEGRITY],
+        KEY_FAULT,
+    ),
+    (
+        [" ad7a2bd03eac835a6f620fdcb506b345\r", SCI, "0", INTEGRITY],
+        KEY_FAULT,
+    ),
+    (
+        ["ad7a2bd03eac835a6f620fdcb506b345\r\r", SCI, "0", INTEGRITY],
+        KEY_FAULT,
+    ),
+    ([KEY, "", "0", INTEGRITY], SCI_FAULT),
+    ([KEY, "12153524c0895e8", "0", INTEGRITY], SCI_FAULT),
+    ([KEY, "12153524c0895e8100", "0", INTEGRITY], SCI_FAULT),
+    ([KEY, "12153524c0895e8x", "0", INTEGRITY], SCI_FAULT),
+    ([KEY, SCI, "", INTEGRITY], OFFSET_FAULT),
+    ([KEY, SCI, "00", INTEGRITY], OFFSET_FAULT),
+    ([KEY, SCI, "1", INTEGRITY], OFFSET_FAULT),
+    ([KEY, SCI, "31", INTEGRITY], OFFSET_FAULT),
+    ([KEY, SCI, "030", INTEGRITY], OFFSET_FAULT),
+    ([KEY, SCI, "30 ", INTEGRITY], OFFSET_FAULT),
+    ([KEY, SCI, "+30", INTEGRITY], OFFSET_FAULT),
+    ([KEY, SCI, "500", INTEGRITY], OFFSET_FAULT),
+    ([KEY, SCI, "0", "0"], FRAME_FAULT),
+    ([KEY, SCI, "0", "000"], FRAME_FAULT),
+    ([KEY, SCI, "0", "0g"], FRAME_FAULT),
+    ([KEY, SCI, "0", " 00"], FRAME_FAULT),
+    ([KEY, SCI, "0", "0x00"], FRAME_FAULT),
+];
+
 #[test]
 fn refuses_each_wrong_line(rt: HostRuntime) -> Result<(), Fail> {
-    let alloc = rt.alloc();
-    let keys = [
-        "",
-        "ad7a2bd03eac835a6f620fdcb506b34",
-        "ad7a2bd03eac835a6f620fdcb506b34500",
-        "ad7a2bd03eac835a6f620fdcb506b34g",
-        " ad7a2bd03eac835a6f620fdcb506b345",
-        "ad7a2bd03eac835a6f620fdcb506b345\r",
-    ];
-    for key in keys {
-        // The line's end has a carriage return of its own, so one that is in the line stays.
-        let input = format!(in alloc; "{key}\r\n{SCI}\n0\n{INTEGRITY}\n")?;
-        assert_run(
-            &rt,
-            rt.alloc(),
-            &["open"],
-            input.as_str(),
-            5,
-            "",
-            "macsecd: key\n",
-        );
-    }
-    for sci in [
-        "",
-        "12153524c0895e8",
-        "12153524c0895e8100",
-        "12153524c0895e8x",
-    ] {
-        let input = input_of(alloc, KEY, sci, "0", INTEGRITY)?;
-        assert_run(
-            &rt,
-            rt.alloc(),
-            &["open"],
-            input.as_str(),
-            5,
-            "",
-            "macsecd: sci\n",
-        );
-    }
-    for offset in ["", "00", "1", "31", "030", "30 ", "+30", "500"] {
-        let input = input_of(alloc, KEY, SCI, offset, INTEGRITY)?;
-        assert_run(
-            &rt,
-            rt.alloc(),
-            &["open"],
-            input.as_str(),
-            5,
-            "",
-            "macsecd: offset\n",
-        );
-    }
-    for frame in ["0", "000", "0g", " 00", "0x00"] {
-        let input = input_of(alloc, KEY, SCI, "0", frame)?;
-        assert_run(
-            &rt,
-            rt.alloc(),
-            &["open"],
-            input.as_str(),
-            5,
-            "",
-            "macsecd: frame\n",
-        );
+    for (lines, outcome) in WRONG_LINES {
+        expect_lines(&rt, rt.alloc(), *lines, *outcome)?;
     }
     Ok(())
 }
 
-/// Of two and more faults the first is told.
+/// Every choice of wrong lines: of two and more faults the first is told.
+const SEVERAL_WRONG_LINES: &[([&str; 4], Outcome)] = &[
+    ([KEY, SCI, "0", "f"], FRAME_FAULT),
+    ([KEY, SCI, "o", INTEGRITY], OFFSET_FAULT),
+    ([KEY, SCI, "o", "f"], OFFSET_FAULT),
+    ([KEY, "s", "0", INTEGRITY], SCI_FAULT),
+    ([KEY, "s", "0", "f"], SCI_FAULT),
+    ([KEY, "s", "o", INTEGRITY], SCI_FAULT),
+    ([KEY, "s", "o", "f"], SCI_FAULT),
+    (["k", SCI, "0", INTEGRITY], KEY_FAULT),
+    (["k", SCI, "0", "f"], KEY_FAULT),
+    (["k", SCI, "o", INTEGRITY], KEY_FAULT),
+    (["k", SCI, "o", "f"], KEY_FAULT),
+    (["k", "s", "0", INTEGRITY], KEY_FAULT),
+    (["k", "s", "0", "f"], KEY_FAULT),
+    (["k", "s", "o", INTEGRITY], KEY_FAULT),
+    (["k", "s", "o", "f"], KEY_FAULT),
+];
+
 #[test]
 fn tells_the_first_fault(rt: HostRuntime) -> Result<(), Fail> {
-    let alloc = rt.alloc();
-    for key in [KEY, "k"] {
-        for sci in [SCI, "s"] {
-            for offset in ["0", "o"] {
-                for frame in [INTEGRITY, "f"] {
-                    let fault = if key == "k" {
-                        "macsecd: key\n"
-                    } else if sci == "s" {
-                        "macsecd: sci\n"
-                    } else if offset == "o" {
-                        "macsecd: offset\n"
-                    } else {
-                        "macsecd: frame\n"
-                    };
-                    let input = input_of(alloc, key, sci, offset, frame)?;
-                    if frame == "f" || fault != "macsecd: frame\n" {
-                        assert_run(&rt, rt.alloc(), &["open"], input.as_str(), 5, "", fault);
-                    }
-                    let longer = format!(in alloc; "{input}\n")?;
-                    assert_run(
-                        &rt,
-                        rt.alloc(),
-                        &["open"],
-                        longer.as_str(),
-                        5,
-                        "",
-                        "macsecd: input\n",
-                    );
-                }
-            }
-        }
+    for (lines, outcome) in SEVERAL_WRONG_LINES {
+        expect_lines(&rt, rt.alloc(), *lines, *outcome)?;
+    }
+    Ok(())
+}
+
+/// A fifth line goes before every other fault.
+#[test]
+fn counts_lines_first(rt: HostRuntime) -> Result<(), Fail> {
+    let longer = [KEY, "\n", SCI, "\n0\n", INTEGRITY, "\n\n"];
+    expect_texts(&rt, rt.alloc(), &longer, INPUT_FAULT)?;
+    for ([key, sci, offset, frame], _) in SEVERAL_WRONG_LINES {
+        let longer = [*key, "\n", *sci, "\n", *offset, "\n", *frame, "\n\n"];
+        expect_texts(&rt, rt.alloc(), &longer, INPUT_FAULT)?;
     }
     Ok(())
 }
@@ -163,28 +141,13 @@ fn tells_the_first_fault(rt: HostRuntime) -> Result<(), Fail> {
 #[test]
 fn takes_at_most_twenty_thousand_octets(rt: HostRuntime) -> Result<(), Fail> {
     let alloc = rt.alloc();
-    let mut input = format!(in alloc; "{KEY}\n{SCI}\n0\n")?;
+    let mut input = joined(alloc, &[KEY, "\n", SCI, "\n0\n"])?;
     for _ in input.len()..20_000 {
         input.push_str("0")?;
     }
-    assert_run(
-        &rt,
-        rt.alloc(),
-        &["open"],
-        input.as_str(),
-        3,
-        "oversize\n",
-        "",
-    );
+    let oversize = Outcome::Refused("oversize\n");
+    expect(&rt, alloc, &["open"], input.as_str(), oversize);
     input.push_str("\n")?;
-    assert_run(
-        &rt,
-        rt.alloc(),
-        &["open"],
-        input.as_str(),
-        5,
-        "",
-        "macsecd: input\n",
-    );
+    expect(&rt, alloc, &["open"], input.as_str(), INPUT_FAULT);
     Ok(())
 }

@@ -1,11 +1,17 @@
 //! Readers and writers that fail, and memory that is refused.
 
-use super::{INTEGRITY, INTEGRITY_LINE, KEY, SCI, input_of};
-use crate::answer::answer_of;
-use crate::run::{line_of, run};
+use super::{INTEGRITY_LINE, KEY, OPENED, Outcome, expect_of, status_of};
+use crate::answer::{Answer, answer_of};
+use crate::run::line_of;
 use linked_list_allocator::LocalHeap;
+use std::alloc::Global;
 use std::io::{self, Read, Write};
+use std::process::Abort;
 use std::test::Fail;
+
+/// The input of the frame under integrity.
+const INPUT: &str =
+    "ad7a2bd03eac835a6f620fdcb506b345\n12153524c0895e81\n0\nd609b1f056637a0d46df998d88e5222ab2c2846512153524c0895e8108000f101112131415161718191a1b1c1d1e1f202122232425262728292a2b2c2d2e2f30313233340001f09478a9b09007d06f46e9b6a1da25dd\n";
 
 /// A reader that gives some octets and then fails.
 #[derive(Drop)]
@@ -88,136 +94,111 @@ impl Write for Failing {
     }
 }
 
+/// At once, in mid-stream, and where the input would end.
 #[test]
-fn a_failed_read_is_input(rt: HostRuntime) -> Result<(), Fail> {
-    let alloc = rt.alloc();
-    let input = input_of(alloc, KEY, SCI, "0", INTEGRITY)?;
-    // At once, in mid-stream, and where the input would end.
-    for given in ["", KEY, input.as_str()] {
-        let mut out = Vec::new(alloc);
-        let mut err = Vec::new(alloc);
-        let status = run(
-            alloc,
+fn a_failed_read_is_input(rt: HostRuntime) {
+    for given in ["", KEY, INPUT] {
+        let mut reader = Broken(given.as_bytes());
+        expect_of(
+            &rt,
+            rt.alloc(),
             &[],
-            &mut Broken(given.as_bytes()),
-            &mut out,
-            &mut err,
-        );
-        assert_eq!(rt; status, 5, "after {given}");
-        assert!(rt; out.is_empty(), "after {given}");
-        assert_eq!(rt;
-            err.as_slice(),
-            b"macsecd: input\n".as_slice(),
-            "after {given}"
+            &mut reader,
+            Outcome::Fault("macsecd: input\n"),
         );
     }
-    Ok(())
 }
 
 #[test]
-fn a_slow_reader_is_read_whole(rt: HostRuntime) -> Result<(), Fail> {
-    let alloc = rt.alloc();
-    let input = input_of(alloc, KEY, SCI, "0", INTEGRITY)?;
+fn a_slow_reader_is_read_whole(rt: HostRuntime) {
     let mut reader = Slow {
-        rest: input.as_bytes(),
+        rest: INPUT.as_bytes(),
         is_interrupted: false,
     };
-    let mut out = Vec::new(alloc);
+    expect_of(&rt, rt.alloc(), &[], &mut reader, OPENED);
+}
+
+/// A word on the input over a writer ends with this status and this line on standard error.
+fn expect_written<W: Write>(
+    rt: &impl Abort,
+    alloc: Global,
+    word: &str,
+    out: &mut W,
+    status: u8,
+    message: &str,
+) {
     let mut err = Vec::new(alloc);
-    let status = run(alloc, &[], &mut reader, &mut out, &mut err);
-    assert_eq!(rt; status, 0);
-    assert_eq!(rt; out.as_slice(), INTEGRITY_LINE.as_bytes());
-    assert!(rt; err.is_empty());
-    Ok(())
+    let answer = status_of(alloc, &[word], &mut INPUT.as_bytes(), out, &mut err);
+    assert_eq!(rt; answer, status, "on {word}");
+    assert_eq!(rt; err.as_slice(), message.as_bytes(), "on {word}");
+}
+
+/// The line goes out as far as there is room for it.
+fn expect_narrow(rt: &impl Abort, alloc: Global, room: usize, status: u8, message: &str) {
+    let mut out = Narrow {
+        taken: Vec::new(alloc),
+        room,
+    };
+    expect_written(rt, alloc, "open", &mut out, status, message);
+    assert!(rt; INTEGRITY_LINE.as_bytes().starts_with(out.taken.as_slice()));
+    assert_eq!(rt; out.taken.len(), room);
 }
 
 #[test]
-fn a_writer_that_stops_is_output(rt: HostRuntime) -> Result<(), Fail> {
-    let alloc = rt.alloc();
-    let input = input_of(alloc, KEY, SCI, "0", INTEGRITY)?;
-    let line = INTEGRITY_LINE.as_bytes();
-    for room in [0, 1, line.len() - 1, line.len()] {
-        let mut out = Narrow {
-            taken: Vec::new(alloc),
-            room,
-        };
-        let mut err = Vec::new(alloc);
-        let status = run(alloc, &[], &mut input.as_bytes(), &mut out, &mut err);
-        let is_whole = room == line.len();
-        let message = if is_whole { "" } else { "macsecd: output\n" };
-        assert_eq!(rt;
-            status,
-            if is_whole { 0 } else { 5 },
-            "with room for {room}"
-        );
-        assert_eq!(rt; err.as_slice(), message.as_bytes(), "with room for {room}");
-        assert!(rt;
-            line.starts_with(out.taken.as_slice()),
-            "with room for {room}"
-        );
-        assert_eq!(rt; out.taken.len(), room);
+fn a_writer_that_stops_is_output(rt: HostRuntime) {
+    let whole = INTEGRITY_LINE.len();
+    for room in [0, 1, whole - 1] {
+        expect_narrow(&rt, rt.alloc(), room, 5, "macsecd: output\n");
     }
-    Ok(())
+    expect_narrow(&rt, rt.alloc(), whole, 0, "");
 }
 
 #[test]
-fn a_writer_that_fails_is_output(rt: HostRuntime) -> Result<(), Fail> {
-    let alloc = rt.alloc();
-    let input = input_of(alloc, KEY, SCI, "0", INTEGRITY)?;
+fn a_writer_that_fails_is_output(rt: HostRuntime) {
     for is_written in [false, true] {
         for word in ["open", "--help", "--version"] {
-            let mut err = Vec::new(alloc);
             let mut out = Failing { is_written };
-            let status = run(alloc, &[word], &mut input.as_bytes(), &mut out, &mut err);
-            assert_eq!(rt; status, 5, "on {word}");
-            assert_eq!(rt;
-                err.as_slice(),
-                b"macsecd: output\n".as_slice(),
-                "on {word}"
-            );
+            expect_written(&rt, rt.alloc(), word, &mut out, 5, "macsecd: output\n");
         }
     }
-    Ok(())
 }
 
 /// Where standard error fails too, the status still tells.
 #[test]
 fn the_status_tells_without_standard_error(rt: HostRuntime) {
-    let alloc = rt.alloc();
-    let mut out = Vec::new(alloc);
-    let mut err = Failing { is_written: false };
-    let status = run(
-        alloc,
-        &["frobnicate"],
-        &mut b"".as_slice(),
-        &mut out,
-        &mut err,
-    );
-    assert_eq!(rt; status, 2);
-    let status = run(alloc, &[], &mut b"".as_slice(), &mut out, &mut err);
-    assert_eq!(rt; status, 5);
-    assert!(rt; out.is_empty());
+    for (words, status) in [(["frobnicate"].as_slice(), 2), ([].as_slice(), 5)] {
+        let mut out = Vec::new(rt.alloc());
+        let mut err = Failing { is_written: false };
+        let answer = status_of(rt.alloc(), words, &mut b"".as_slice(), &mut out, &mut err);
+        assert_eq!(rt; answer, status);
+        assert!(rt; out.is_empty());
+    }
+}
+
+/// Whether a heap of so many octets has room for the line, which is then whole.
+fn has_room(rt: &impl Abort, alloc: Global, answer: &Answer, octets: usize) -> Result<bool, Fail> {
+    let heap = LocalHeap::new(alloc, octets)?;
+    match line_of(&heap, answer) {
+        Ok(line) => {
+            assert_eq!(rt; line.as_str(), INTEGRITY_LINE);
+            Ok(true)
+        }
+        Err(_) => Ok(false),
+    }
 }
 
 /// In heaps of growing size the line is refused or whole.
 #[test]
 fn refused_memory_gives_no_line(rt: HostRuntime) -> Result<(), Fail> {
-    let alloc = rt.alloc();
-    let input = input_of(alloc, KEY, SCI, "0", INTEGRITY)?;
-    let Ok(answer) = answer_of(input.as_bytes()) else {
+    let Ok(answer) = answer_of(INPUT.as_bytes()) else {
         return Err(Fail::from(io::Error::from(io::ErrorKind::Other)));
     };
     let mut is_ever_whole = false;
     let mut is_ever_refused = false;
     for blocks in 1..64 {
-        let heap = LocalHeap::new(alloc, 32 * blocks)?;
-        match line_of(&heap, &answer) {
-            Ok(line) => {
-                assert_eq!(rt; line.as_str(), INTEGRITY_LINE);
-                is_ever_whole = true;
-            }
-            Err(_) => is_ever_refused = true,
-        }
+        let is_whole = has_room(&rt, rt.alloc(), &answer, 32 * blocks)?;
+        is_ever_whole |= is_whole;
+        is_ever_refused |= !is_whole;
     }
     assert!(rt; is_ever_whole && is_ever_refused);
     Ok(())

@@ -1,108 +1,110 @@
 //! Words: the actions, what is refused, and what asks for help.
 
-use super::{INTEGRITY, INTEGRITY_LINE, KEY, SCI, assert_run, input_of, outcome_of};
+use super::{INTEGRITY, KEY, OPENED, Outcome, SCI, expect, expect_lines, joined, status_of};
+use std::alloc::Global;
+use std::process::Abort;
 use std::test::Fail;
 
+/// `open` is also what no word asks for.
 #[test]
 fn opens_with_and_without_its_name(rt: HostRuntime) -> Result<(), Fail> {
-    let input = input_of(rt.alloc(), KEY, SCI, "0", INTEGRITY)?;
-    assert_run(&rt, rt.alloc(), &[], input.as_str(), 0, INTEGRITY_LINE, "");
-    assert_run(
-        &rt,
-        rt.alloc(),
-        &["open"],
-        input.as_str(),
-        0,
-        INTEGRITY_LINE,
-        "",
-    );
+    let alloc = rt.alloc();
+    expect_lines(&rt, alloc, [KEY, SCI, "0", INTEGRITY], OPENED)?;
+    let input = joined(alloc, &[KEY, "\n", SCI, "\n0\n", INTEGRITY, "\n"])?;
+    expect(&rt, alloc, &[], input.as_str(), OPENED);
     Ok(())
 }
 
+/// Words that are refused, and the line that says why.
+const OTHER_WORDS: &[(&[&str], Outcome)] = &[
+    (
+        &["frobnicate"],
+        Outcome::Usage("macsecd: unrecognized subcommand 'frobnicate'\n"),
+    ),
+    (
+        &["Open"],
+        Outcome::Usage("macsecd: unrecognized subcommand 'Open'\n"),
+    ),
+    (
+        &[""],
+        Outcome::Usage("macsecd: unrecognized subcommand ''\n"),
+    ),
+    (
+        &["frob\nnicate"],
+        Outcome::Usage("macsecd: unrecognized subcommand 'frob\n"),
+    ),
+    (
+        &["help"],
+        Outcome::Usage("macsecd: unrecognized subcommand 'help'\n"),
+    ),
+    (
+        &["open", "open"],
+        Outcome::Usage("macsecd: unexpected argument 'open' found\n"),
+    ),
+    (
+        &["open", "--frob"],
+        Outcome::Usage("macsecd: unexpected argument '--frob' found\n"),
+    ),
+    (
+        &["open", "help"],
+        Outcome::Usage("macsecd: unexpected argument 'help' found\n"),
+    ),
+    (
+        &["-V"],
+        Outcome::Usage("macsecd: unexpected argument '-V' found\n"),
+    ),
+    (
+        &["--help", "open"],
+        Outcome::Usage("macsecd: unexpected argument '--help' found\n"),
+    ),
+    (
+        &["--help", "--help"],
+        Outcome::Usage("macsecd: unexpected argument '--help' found\n"),
+    ),
+    (
+        &["open", "-h", "x"],
+        Outcome::Usage("macsecd: unexpected argument '-h' found\n"),
+    ),
+    (
+        &["open", "--version"],
+        Outcome::Usage("macsecd: unexpected argument '--version' found\n"),
+    ),
+    (
+        &["--version", "x"],
+        Outcome::Usage("macsecd: unexpected argument '--version' found\n"),
+    ),
+];
+
+/// The words come first: the input, which is wrong too, is not told.
 #[test]
-fn refuses_other_words(rt: HostRuntime) -> Result<(), Fail> {
-    let cases = [
-        (
-            ["frobnicate"].as_slice(),
-            "unrecognized subcommand 'frobnicate'",
-        ),
-        (["Open"].as_slice(), "unrecognized subcommand 'Open'"),
-        ([""].as_slice(), "unrecognized subcommand ''"),
-        (["frob\nnicate"].as_slice(), "unrecognized subcommand 'frob"),
-        (["help"].as_slice(), "unrecognized subcommand 'help'"),
-        (
-            ["open", "open"].as_slice(),
-            "unexpected argument 'open' found",
-        ),
-        (
-            ["open", "--frob"].as_slice(),
-            "unexpected argument '--frob' found",
-        ),
-        (
-            ["open", "help"].as_slice(),
-            "unexpected argument 'help' found",
-        ),
-        (["-V"].as_slice(), "unexpected argument '-V' found"),
-        (
-            ["--help", "open"].as_slice(),
-            "unexpected argument '--help' found",
-        ),
-        (
-            ["--help", "--help"].as_slice(),
-            "unexpected argument '--help' found",
-        ),
-        (
-            ["open", "-h", "x"].as_slice(),
-            "unexpected argument '-h' found",
-        ),
-        (
-            ["open", "--version"].as_slice(),
-            "unexpected argument '--version' found",
-        ),
-        (
-            ["--version", "x"].as_slice(),
-            "unexpected argument '--version' found",
-        ),
-    ];
-    for (words, cause) in cases {
-        let line = format!(in rt.alloc(); "macsecd: {cause}\n")?;
-        // The words come first: the input, which is wrong too, is not told.
-        assert_run(&rt, rt.alloc(), words, "", 2, "", line.as_str());
+fn refuses_other_words(rt: HostRuntime) {
+    for (words, outcome) in OTHER_WORDS {
+        expect(&rt, rt.alloc(), words, "", *outcome);
     }
-    Ok(())
 }
+
+/// The words print the help and nothing else.
+fn expect_help(rt: &impl Abort, alloc: Global, words: &[&str]) {
+    let mut out = Vec::new(alloc);
+    let mut err = Vec::new(alloc);
+    let status = status_of(alloc, words, &mut b"".as_slice(), &mut out, &mut err);
+    assert_eq!(rt; status, 0);
+    assert!(rt; out.as_slice().starts_with(b"usage: macsecd [open]\n"));
+    assert!(rt; out.as_slice().ends_with(b"\n"));
+    assert!(rt; err.is_empty());
+}
+
+const HELP_WORDS: &[&[&str]] = &[&["--help"], &["-h"], &["open", "--help"], &["open", "-h"]];
 
 #[test]
 fn prints_help(rt: HostRuntime) {
-    let cases = [
-        ["--help"].as_slice(),
-        ["-h"].as_slice(),
-        ["open", "--help"].as_slice(),
-        ["open", "-h"].as_slice(),
-    ];
-    for words in cases {
-        let outcome = outcome_of(rt.alloc(), words, "");
-        assert_eq!(rt; outcome.status, 0);
-        assert!(rt;
-            outcome
-                .out
-                .as_slice()
-                .starts_with(b"usage: macsecd [open]\n")
-        );
-        assert!(rt; outcome.out.as_slice().ends_with(b"\n"));
-        assert!(rt; outcome.err.is_empty());
+    for words in HELP_WORDS {
+        expect_help(&rt, rt.alloc(), words);
     }
 }
 
 #[test]
 fn prints_its_version(rt: HostRuntime) {
-    assert_run(
-        &rt,
-        rt.alloc(),
-        &["--version"],
-        "",
-        0,
-        "macsecd 0.1.0\n",
-        "",
-    );
+    let version = Outcome::Done("macsecd 0.1.0\n");
+    expect(&rt, rt.alloc(), &["--version"], "", version);
 }
