@@ -1,5 +1,5 @@
 #!/usr/bin/env python3
-"""Prints crates/macs_frame/src/tests/vectors.rt: protected frames by Python's `cryptography`.
+"""Prints crates/macs_frame_tests/src/tests/vectors.rt: protected frames by Python's `cryptography`.
 
 The inputs follow rules, which the tests of the crate repeat, so that the table holds protected frames
 alone. Each way to name the channel is taken with each protection and each length of User Data, in the
@@ -11,12 +11,13 @@ order of NAMES, PROTECTIONS and LENGTHS below. Of frame n, counted from 0,
     the packet number is                 0x89abcdef + n.
 Octet i of the SCI is (19 i + 4) mod 256; an end station's is its source address with port 00-01.
 
-Of a frame of more than 1,000 octets the table has the first 64 and the last 32. User Data of 0 or 1
-octets make a plain frame of 12 or 13, which is too short to be protected. With 1 octet the protected
-frame is one that a receiver takes, and the tests open it. With none it is a bad tag, since an SL of 0
-says that 48 octets or more follow.
+A frame is written in 6 blocks of 16 octets, filled up with zero octets. Of a frame of more than 1,000
+octets the table has the first 64 and the last 32. User Data of 0 or 1 octets make a
+plain frame of 12 or 13, which is too short to be protected. With 1 octet the protected frame is one
+that a receiver takes, and the tests open it. With none it is a bad tag, since an SL of 0 says that 48
+octets or more follow.
 
-Run:  python3 tools/frame_vectors.py > crates/macs_frame/src/tests/vectors.rt
+Run:  python3 tools/frame_vectors.py > crates/macs_frame_tests/src/tests/vectors.rt
 """
 
 from cryptography.hazmat.primitives.ciphers.aead import AESGCM
@@ -24,6 +25,7 @@ from cryptography.hazmat.primitives.ciphers.aead import AESGCM
 NAMES = ["Explicit", "EndStation", "Implicit"]
 PROTECTIONS = [None, 0, 30, 50]
 OFFSETS = {0: "Zero", 30: "Thirty", 50: "Fifty"}
+BLOCKS = 6
 LENGTHS = [0, 1, 29, 30, 31, 46, 47, 48, 50, 51, 1486]
 
 
@@ -36,11 +38,12 @@ def sci_of(name):
 
 
 def written_sci(name):
-    return "[" + ", ".join("0x%02x" % octet for octet in sci_of(name)) + "]"
+    return "0x" + sci_of(name).hex()
 
 
-def escaped(frame):
-    return "".join("\\x%02x" % octet for octet in frame)
+def blocks(frame):
+    filled = frame.ljust(16 * BLOCKS, b"\0")
+    return [f"0x{filled[i:i + 16].hex()}" for i in range(0, len(filled), 16)]
 
 
 def sec_tag(name, encrypted, association, number, secure_length, sci):
@@ -70,34 +73,26 @@ def main():
         f"""//! Protected frames by Python's `cryptography`, printed by tools/frame_vectors.py, which has the rules
 //! of the inputs.
 
-use crate::Offset;
+use super::Naming;
+use macs_frame::Offset;
 
 /// How many octets of User Data the frames of a group protect.
 pub const LENGTHS: [u16; {len(LENGTHS)}] = {LENGTHS};
 
-/// How the SecTAG names the channel.
-#[derive(Clone, Copy)]
-pub enum Naming {{
-    Explicit,
-    EndStation,
-    Implicit,
-}}
-
 /// Frames of one way to name the channel and of one protection.
-#[derive(Clone, Copy)]
 pub struct Group {{
     pub naming: Naming,
-    pub sci: [u8; 8],
+    pub sci: u64,
     /// Of confidentiality, `None` under integrity alone.
     pub offset: Option<Offset>,
-    /// One for each of the lengths. Of a frame of more than 1,000 octets, the first 64 and the last
-    /// 32.
-    pub frames: [&'static [u8]; {len(LENGTHS)}],
+    /// One for each of the lengths, in blocks of 16 octets, filled up with zero octets. Of a frame of
+    /// more than 1,000 octets, the first 64 and the last 32.
+    pub frames: [[u128; {BLOCKS}]; {len(LENGTHS)}],
 }}
 
-const STATION: [u8; 8] = {written_sci("EndStation")};
+const STATION: u64 = {written_sci("EndStation")};
 
-const CHANNEL: [u8; 8] = {written_sci("Explicit")};
+const CHANNEL: u64 = {written_sci("Explicit")};
 
 pub const GROUPS: &[Group] = &["""
     )
@@ -112,7 +107,10 @@ pub const GROUPS: &[Group] = &["""
             for length in LENGTHS:
                 frame = protected(n, name, offset, length)
                 shown = frame if len(frame) <= 1000 else frame[:64] + frame[-32:]
-                print(f'            b"{escaped(shown)}",')
+                print("            [")
+                for block in blocks(shown):
+                    print(f"                {block},")
+                print("            ],")
                 n += 1
             print("        ],")
             print("    },")

@@ -34,45 +34,46 @@ def blocks(text):
     return [f"0x{text[i:i + 16].ljust(16, bytes(1)).hex()}" for i in range(0, len(text), 16)]
 
 
-def vector(n, extra, text):
-    sealed = AESGCM(octets(13, n, 16)).encrypt(
+def sealed(n, extra, text):
+    octets_sealed = AESGCM(octets(13, n, 16)).encrypt(
         octets(17, 2 * n + 1, 12), octets(7, 3, text), octets(11, 5, extra)
     )
-    ciphertext, tag = sealed[:-16], sealed[-16:]
-    written = blocks(ciphertext)
-    print("    Vector {")
-    print(f"        extra_length: {extra},")
-    print(f"        text_length: {text},")
-    if len(written) < 2:
-        print(f"        ciphertext: &[{''.join(written)}],")
-    else:
-        print("        ciphertext: &[")
-        for block in written:
-            print(f"            {block},")
-        print("        ],")
-    print(f"        tag: 0x{tag.hex()},")
-    print("    },")
+    return octets_sealed[:-16], octets_sealed[-16:]
 
 
 def main():
-    table = list(lengths())
+    table = [(extra, text, *sealed(n, extra, text)) for n, (extra, text) in enumerate(lengths())]
     print(
         """//! AES-128-GCM by Python's `cryptography`, printed by tools/gcm_vectors.py, which has the rules of
 //! the inputs.
 
 /// What a plaintext and additional data of these lengths, in octets, are sealed to.
 pub struct Vector {
-    pub extra_length: u16,
-    pub text_length: u16,
-    /// In blocks of 16 octets, the last filled up with zero octets.
-    pub ciphertext: &'static [u128],
+    pub extra_length: usize,
+    pub text_length: usize,
+    /// The place of the ciphertext's first block in `BLOCKS`.
+    pub first_block: usize,
     pub tag: u128,
 }
 """
     )
-    print(f"pub const VECTORS: [Vector; {len(table)}] = [")
-    for n, (extra, text) in enumerate(table):
-        vector(n, extra, text)
+    print("pub const VECTORS: &[Vector] = &[")
+    first = 0
+    for extra, text, ciphertext, tag in table:
+        print("    Vector {")
+        print(f"        extra_length: {extra},")
+        print(f"        text_length: {text},")
+        print(f"        first_block: {first},")
+        print(f"        tag: 0x{tag.hex()},")
+        print("    },")
+        first += len(blocks(ciphertext))
+    print("];")
+    print()
+    print("/// The ciphertexts, each in blocks of 16 octets, the last filled up with zero octets.")
+    print("pub const BLOCKS: &[u128] = &[")
+    for _, _, ciphertext, _ in table:
+        for block in blocks(ciphertext):
+            print(f"    {block},")
     print("];")
 
 

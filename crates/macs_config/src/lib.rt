@@ -23,6 +23,3 @@ pub use fingerprint::Fingerprint;
 pub use identity::Identity;
 pub use part::{Fingerprints, MAX_FINGERPRINTS, Part};
 pub use refusal::Refusal;
-
-#[cfg(test)]
-mod tests;

@@ -6,8 +6,6 @@ mod fuse;
 pub mod laws;
 mod memory;
 mod record;
-#[cfg(test)]
-mod tests;
 
 pub use disk::{DeviceFault, SectorDisk};
 pub use fuse::Fuse;

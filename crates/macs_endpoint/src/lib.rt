@@ -13,8 +13,6 @@ mod opening;
 mod ports;
 mod refilling;
 mod serving;
-#[cfg(test)]
-mod tests;
 
 pub use counters::Counters;
 pub use endpoint::Endpoint;

@@ -9,8 +9,6 @@ mod reading;
 mod sealing;
 mod shared;
 mod tag;
-#[cfg(test)]
-mod tests;
 
 pub use fields::{An, Offset, Pn, Sci};
 pub use opening::{OpenFault, open_frame, open_parts};

@@ -11,8 +11,6 @@
 mod block;
 pub mod laws;
 mod octet;
-#[cfg(test)]
-mod tests;
 
 pub use block::{mul128, xtime128};
 pub use octet::mul8;

@@ -15,7 +15,7 @@ pub(crate) const SLOTS: u64 = 256;
 const AREA_SECTORS: u64 = 2 + 2 * SLOTS;
 
 /// One of the two areas of a disk, 0 or 1.
-#[derive(Debug, Clone, Copy, PartialEq, Eq)]
+#[derive(Clone, Copy)]
 pub struct Area(u64);
 
 impl Model for Area {

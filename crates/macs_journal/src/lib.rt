@@ -13,8 +13,6 @@ pub mod laws;
 mod place;
 mod recovery;
 mod slots;
-#[cfg(test)]
-mod tests;
 
 pub use fault::JournalFault;
 pub use formatting::format;

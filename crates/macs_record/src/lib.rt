@@ -11,8 +11,6 @@ pub mod laws;
 mod protection;
 mod reading;
 mod record;
-#[cfg(test)]
-mod tests;
 mod writing;
 
 pub use ceiling::Ceiling;

@@ -1,6 +1,6 @@
 //! Receive channels, and what becomes of received frames (IEEE Std 802.1AE-2018, 10.6 and 10.7).
 
-ghost use Rattle.std.specs.Prelude.{◌≡◌, ◌≤◌, ◌<◌, ◌^◌, ℕ, List, [], length, not, true, false, Some, None, IsSome, IfSome};
+ghost use Rattle.std.specs.Prelude.{◌≡◌, ◌≤◌, ◌<◌, ◌^◌, ℕ, List, [], length, nat_lt, not, true, false, Some, None, IsSome, IfSome};
 ghost use Rattle.std.specs.List.{filter};
 ghost use Rattle.std.specs.Option.{is_some, option_map};
 ghost use Rattle.std.specs.Str.{bytes_eq};
@@ -244,6 +244,14 @@ impl Rx {
     {
         let channel = self.table.channel(sci)?;
         Some(channel.counters.of(verdict))
+    }
+
+    /// Whether another channel may be added, as the tests have to ask.
+    #[cfg(test)]
+    pub(crate) fn has_room(&self) -> bool
+        ensures { result ≡ nat_lt (length (side_of self.now).channels) first_edition.channels }
+    {
+        self.table.channels.len() < macs_config::MAX_CHANNELS
     }
 
     /// What holds of all receive channels.

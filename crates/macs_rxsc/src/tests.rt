@@ -2,17 +2,21 @@
 
 mod channels;
 mod counting;
+mod fixture;
 mod frames;
 mod names;
 mod needs;
 mod published;
-mod receiver;
+mod story;
 mod streams;
 mod tags;
 mod verdicts;
 mod windows;
 
 use crate::{Kind, Reason, Verdict};
+
+/// The end of the packet numbers.
+const END: u64 = 4_294_967_296;
 
 const OK: Verdict = Verdict::Delivered(Kind::Ok);
 

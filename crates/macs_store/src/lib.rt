@@ -10,8 +10,6 @@ mod reading;
 mod standing;
 mod store;
 mod table;
-#[cfg(test)]
-mod tests;
 
 pub use fault::CommitFault;
 pub use opening::OpenRefused;

@@ -7,12 +7,17 @@ use Rattle.macs_config.specs.Tables.{put}
 use Rattle.macs_config.specs.declared.association.TxSa.{TxSa}
 use Rattle.macs_txsc.specs.declared.association.Association.{Association}
 use Rattle.macs_txsc.specs.declared.channel.Tx.{Tx}
-use Rattle.macs_txsc.specs.Transmit.{TxSide, outgoing, sent_at, sent_side}
+use Rattle.macs_txsc.proofs.Faults.{chosen}
+use Rattle.macs_txsc.specs.Transmit.{TxSide, sent_at, sent_side}
 use Rattle.macs_txsc.specs.View.{sa_of, side_of}
 
 -- what each place says of what stands there
 abbrev pub said : {A B : Type 0} → (A → B) → List (Option A) → ℕ → Option B
 said f xs j = option_map f (get_or xs j None)
+
+-- nothing stands at a place, whatever is read where nothing does
+pub is_free : {A : Type 0} (xs : List (Option A)) (i : ℕ) (otherwise : Option A) → i < length xs → get_or xs i otherwise ≡ None → get_or xs i None ≡ None
+is_free xs i otherwise within is = get_or_default xs i None otherwise within ∙ is
 
 -- what stands at a place, whatever is read where nothing does
 pub stands : {A : Type 0} (xs : List (Option A)) (i : ℕ) (otherwise : Option A) (a : A) → i < length xs → get_or xs i otherwise ≡ Some a
@@ -35,7 +40,7 @@ pub sent : (t : Tx) (an : ℕ) (old new : Association) → t.encoding ≡ Some a
     → side_of (record t { associations = slice_set t.associations an (Some new) }) ≡ sent_side (side_of t)
 sent t an old new encoding within place sa next =
     let side : TxSide = side_of t in
-    let outgoing_is : outgoing side ≡ Some (record { an = an; sa = sa_of old; pn = old.next }) = rw (encoding, place) refl in
+    let outgoing_is = chosen t an old encoding place in
     let sas : said sa_of (slice_set t.associations an (Some new)) ≡ said sa_of t.associations = kept sa_of t.associations an old new within place sa in
     let numbers : said (λ (a : Association). a.next) (slice_set t.associations an (Some new)) ≡ put side.next an (Some (old.next + 1)) =
     placed (λ (a : Association). a.next) t.associations an new within ∙ ap (λ n. put side.next an (Some n)) next in

@@ -1,11 +1,16 @@
 //! A transmit association.
 
-ghost use Rattle.std.specs.Prelude.{◌≡◌, ◌≢◌, ◌≤◌, ◌<◌, ◌^◌, ◌↔◌, ◌⊎◌, Err, IfErr, IfOk, OnOk};
+ghost use Rattle.std.specs.Prelude.{◌≡◌, ◌≤◌, ◌<◌, ◌+◌, ◌^◌, ◌==◌, ◌∷◌, [], None, Some, IfErr, IfOk, OnOk, length};
+ghost use Rattle.macs_config.specs.Association.{is_confidential, offset_of};
+ghost use Rattle.macs_frame.specs.Fields.{octets_of};
+ghost use Rattle.macs_frame.specs.First.{first};
+ghost use Rattle.macs_frame.specs.Protection.{overhead, protected};
+ghost use Rattle.macs_frame.specs.declared.tag.SecTag.{SecTag};
 ghost use Rattle.macs_txsc.specs.declared.fault.TxFault.TheVariants.{Exhausted, NoNumber};
 
 use crate::fault::TxFault;
 use macs_config::Protection;
-use macs_frame::Pn;
+use macs_frame::{An, FrameBuf, Pn, ScName, Sci, SecTag, seal_frame};
 use macs_gcm::GcmKey;
 
 /// A transmit association: its key, what it does with User Data, the next packet number, 1 to 2^32,
@@ -24,9 +29,10 @@ pub struct Association {
 impl Association {
     /// The next packet number, or why there is none: every one is used, or the next is not reserved.
     pub fn packet_number(&self) -> Result<Pn, TxFault>
-        ensures exhausted { (result ≡ Err Exhausted) ↔ (self.now.next ≡ 2 ^ 32) }
-        ensures no_number { (result ≡ Err NoNumber) ↔ ((self.now.next ≢ 2 ^ 32) × (self.now.next ≡ self.now.ceiling)) }
-        ensures only { IfErr result (λ fault. (fault ≡ Exhausted) ⊎ (fault ≡ NoNumber)) }
+        ensures fault { IfErr result (λ fault. first ((Exhausted, self.now.next == 2 ^ 32)
+            ∷ (NoNumber, self.now.ceiling == self.now.next) ∷ []) ≡ Some fault) }
+        ensures none { OnOk result (first ((Exhausted, self.now.next == 2 ^ 32)
+            ∷ (NoNumber, self.now.ceiling == self.now.next) ∷ []) ≡ None) }
         ensures value { IfOk result (λ pn. pn ≡ self.now.next) }
         ensures below { OnOk result (self.now.next < self.now.ceiling) }
     {
@@ -37,5 +43,36 @@ impl Association {
             return Err(TxFault::NoNumber);
         }
         Ok(pn)
+    }
+
+    /// Protects a plain frame under the next packet number, which is then used. `sci` is that of the
+    /// transmit channel, `an` the association's number in it, and `name` how frames name the channel.
+    pub fn seal(&mut self, sci: Sci, an: An, pn: Pn, name: ScName, plain: &[u8], out: &mut FrameBuf)
+        requires next { pn ≡ self.old.next }
+        requires below { self.old.next < self.old.ceiling }
+        requires long_enough { 14 ≤ length plain.now }
+        requires fits { length plain.now + overhead name ≤ 9216 }
+        ensures frame { out.new.items ≡ protected self.old.key sci (record {
+          an = an;
+          pn = pn;
+          name = name;
+          encrypted = is_confidential self.old.protection;
+          changed = is_confidential self.old.protection;
+        }) (octets_of (offset_of self.old.protection)) plain.now }
+        ensures next { self.new.next ≡ self.old.next + 1 }
+        ensures key { self.new.key ≡ self.old.key }
+        ensures protection { self.new.protection ≡ self.old.protection }
+        ensures ceiling { self.new.ceiling ≡ self.old.ceiling }
+    {
+        let is_confidential = self.protection.is_confidential();
+        let tag = SecTag {
+            an,
+            pn,
+            name,
+            encrypted: is_confidential,
+            changed: is_confidential,
+        };
+        seal_frame(&self.key, sci, &tag, self.protection.offset(), plain, out);
+        self.next += 1;
     }
 }

@@ -16,7 +16,7 @@ use crate::association::Association;
 use crate::counters::TxCounters;
 use crate::fault::TxFault;
 use macs_config::{Protection, SciMode};
-use macs_frame::{An, FrameBuf, MAX_FRAME, MIN_FRAME, Offset, Pn, ScName, Sci, SecTag, seal_frame};
+use macs_frame::{An, FrameBuf, MAX_FRAME, MIN_FRAME, Offset, Pn, ScName, Sci};
 use macs_gcm::GcmKey;
 
 /// The end of the packet numbers: the first number that is none.
@@ -212,23 +212,7 @@ impl Tx {
             return Err(TxFault::NoEncodingSa);
         };
         let pn = association.packet_number()?;
-        let is_confidential = association.protection.is_confidential();
-        let tag = SecTag {
-            an,
-            pn,
-            name,
-            encrypted: is_confidential,
-            changed: is_confidential,
-        };
-        seal_frame(
-            &association.key,
-            self.sci,
-            &tag,
-            association.protection.offset(),
-            plain,
-            out,
-        );
-        association.next += 1;
+        association.seal(self.sci, an, pn, name, plain, out);
         Ok(pn)
     }
 

@@ -6,13 +6,13 @@ use macs_gcm::{GcmKey, seal};
 use std::process::Abort;
 
 /// The SCI of a channel.
-pub(super) const CHANNEL: Sci = Sci([0x12, 0x15, 0x35, 0x24, 0xc0, 0x89, 0x5e, 0x81]);
+pub(super) const CHANNEL: [u8; 8] = [0x12, 0x15, 0x35, 0x24, 0xc0, 0x89, 0x5e, 0x81];
 
 /// The key of its association 2.
 pub(super) const CHANNEL_KEY: u128 = 0xad7a_2bd0_3eac_835a_6f62_0fdc_b506_b345;
 
 /// The SCI of an end station: its address with port 00-01.
-pub(super) const STATION: Sci = Sci([0xf0, 0x76, 0x1e, 0x8d, 0xcd, 0x3d, 0, 1]);
+pub(super) const STATION: [u8; 8] = [0xf0, 0x76, 0x1e, 0x8d, 0xcd, 0x3d, 0, 1];
 
 /// The key of its association 0.
 pub(super) const STATION_KEY: u128 = 0x071b_113b_0ca7_43fe_cccf_3d05_1f73_7382;
@@ -26,6 +26,12 @@ pub(super) const INTEGRITY: &[u8] = b"\xd6\x09\xb1\xf0\x56\x63\x7a\x0d\x46\xdf\x
 /// The plain frame of it.
 pub(super) const INTEGRITY_PLAIN: &[u8] = b"\xd6\x09\xb1\xf0\x56\x63\x7a\x0d\x46\xdf\x99\x8d\
 \x08\x00\x0f\x10\x11\x12\x13\x14\x15\x16\x17\x18\x19\x1a\x1b\x1c\x1d\x1e\x1f\x20\x21\x22\x23\x24\x25\x26\x27\x28\x29\x2a\x2b\x2c\x2d\x2e\x2f\x30\x31\x32\x33\x34\x00\x01";
+
+/// The first frame with packet number 0.
+pub(super) const NO_NUMBER: &[u8] = b"\xd6\x09\xb1\xf0\x56\x63\x7a\x0d\x46\xdf\x99\x8d\
+\x88\xe5\x22\x2a\x00\x00\x00\x00\x12\x15\x35\x24\xc0\x89\x5e\x81\
+\x08\x00\x0f\x10\x11\x12\x13\x14\x15\x16\x17\x18\x19\x1a\x1b\x1c\x1d\x1e\x1f\x20\x21\x22\x23\x24\x25\x26\x27\x28\x29\x2a\x2b\x2c\x2d\x2e\x2f\x30\x31\x32\x33\x34\x00\x01\
+\xf0\x94\x78\xa9\xb0\x90\x07\xd0\x6f\x46\xe9\xb6\xa1\xda\x25\xdd";
 
 /// Annex C: confidentiality protection of a frame of the channel, under association 2.
 pub(super) const CONFIDENTIALITY: &[u8] = b"\xd6\x09\xb1\xf0\x56\x63\x7a\x0d\x46\xdf\x99\x8d\
@@ -61,7 +67,13 @@ pub(super) const SHORTEST: &[u8] = b"\xe2\x01\x06\xd7\xcd\x0d\xf0\x76\x1e\x8d\xc
 \xe4\xf1\
 \x48\xf7\xa7\x49\x33\xdf\xe6\x6f\x0e\xe1\x47\x9b\x43\xdf\x50\x26";
 
-/// The plain frame of both.
+/// The same with C clear.
+pub(super) const UNVERIFIED: &[u8] = b"\xe2\x01\x06\xd7\xcd\x0d\xf0\x76\x1e\x8d\xcd\x3d\
+\x88\xe5\x23\x02\x00\x00\x00\x01\xf0\x76\x1e\x8d\xcd\x3d\x00\x01\
+\xe4\xf1\
+\x48\xf7\xa7\x49\x33\xdf\xe6\x6f\x0e\xe1\x47\x9b\x43\xdf\x50\x26";
+
+/// The plain frame of `IMPLICIT` and of `SHORTEST`.
 pub(super) const SHORTEST_PLAIN: &[u8] =
     b"\xe2\x01\x06\xd7\xcd\x0d\xf0\x76\x1e\x8d\xcd\x3d\x08\x00";
 
@@ -100,97 +112,131 @@ pub(super) fn number_of(rt: &impl Abort, association: u8) -> An {
 }
 
 /// How a frame is protected: E and C are clear, or both are set.
-#[derive(Clone, Copy, PartialEq, Eq)]
+#[derive(Clone, Copy)]
 pub(super) enum Security {
     Integrity,
     Confidentiality,
 }
 
-/// A frame under the channel's key, whose tag spells an SCI out.
-pub(super) fn sealed_as(
-    rt: &impl Abort,
-    sci: Sci,
-    association: u8,
-    number: u32,
-    security: Security,
-    plain: &[u8],
-) -> FrameBuf {
-    let is_encrypted = security == Security::Confidentiality;
-    let tag = SecTag {
-        an: number_of(rt, association),
-        pn: Pn::new(number).expect(rt, "packet number"),
-        name: ScName::Explicit(sci),
-        encrypted: is_encrypted,
-        changed: is_encrypted,
+/// Where a frame comes from.
+#[derive(Clone, Copy)]
+pub(super) enum Source {
+    These(&'static [u8]),
+    /// It is sealed under the channel's key. Its tag spells this SCI out, and has this association
+    /// and this number. Its plain frame has so many octets of 7.
+    Sealed([u8; 8], u8, u32, Security, usize),
+    /// It is one of the channel under association 2 and number 5 whose SL says 50. A sender writes 0
+    /// there (9.7). It has 50 octets of Secure Data in the clear.
+    LongSl,
+}
+
+/// What becomes of a frame before it is received.
+#[derive(Clone, Copy)]
+pub(super) enum Change {
+    Nothing,
+    /// The octet at this place is this one.
+    Octet(usize, u8),
+    /// The last bit of its ICV is the other one.
+    LastBit,
+    /// Its last octet is missing.
+    Cut,
+    /// So many octets of padding follow.
+    Padding(usize),
+}
+
+/// A frame of the channel under association 2 and this number, encrypted, whose plain frame is
+/// `PLAIN`.
+pub(super) fn numbered(number: u32) -> Source {
+    Source::Sealed(CHANNEL, 2, number, Security::Confidentiality, 62)
+}
+
+/// The frame, after the change.
+pub(super) fn frame_of(rt: &impl Abort, source: Source, change: Change) -> FrameBuf {
+    let frame = match source {
+        Source::These(octets) => copied(rt, octets),
+        Source::Sealed(sci, association, number, security, octets) => {
+            let tag = tag_of(rt, sci, association, number, security);
+            sealed(rt, &tag, sci, octets)
+        }
+        Source::LongSl => with_long_sl(rt),
     };
-    assert!(rt; plain.len() >= MIN_FRAME);
-    assert!(rt; plain.len() <= MAX_FRAME - tag.name.overhead());
-    let key = GcmKey::new(&CHANNEL_KEY.to_be_bytes());
-    let mut frame = FrameBuf::new();
-    seal_frame(&key, sci, &tag, Offset::Zero, plain, &mut frame);
+    changed(rt, frame, change)
+}
+
+fn changed(rt: &impl Abort, mut frame: FrameBuf, change: Change) -> FrameBuf {
+    match change {
+        Change::Nothing => {}
+        Change::Octet(place, octet) => {
+            assert!(rt; place < frame.len());
+            frame[place] = octet;
+        }
+        Change::LastBit => {
+            let last = frame.pop().expect(rt, "octet");
+            append(rt, &mut frame, &[last ^ 1]);
+        }
+        Change::Cut => {
+            let _last = frame.pop();
+        }
+        Change::Padding(octets) => pad(rt, &mut frame, octets),
+    }
     frame
 }
 
-/// A frame of the channel under association 2.
-pub(super) fn sealed(rt: &impl Abort, number: u32, security: Security) -> FrameBuf {
-    sealed_as(rt, CHANNEL, 2, number, security, PLAIN)
-}
-
-/// These octets.
-fn copied(rt: &impl Abort, octets: &[u8]) -> FrameBuf {
-    assert!(rt; octets.len() <= MAX_FRAME);
-    let mut frame = FrameBuf::new();
-    append(rt, &mut frame, octets);
-    frame
+fn pad(rt: &impl Abort, frame: &mut FrameBuf, octets: usize) {
+    for _ in 0..octets {
+        append(rt, frame, &[0]);
+    }
 }
 
 fn append(rt: &impl Abort, frame: &mut FrameBuf, octets: &[u8]) {
     frame.try_extend_from_slice(octets).expect(rt, "room");
 }
 
-/// A frame with one octet changed.
-pub(super) fn with_octet(rt: &impl Abort, frame: &[u8], place: usize, octet: u8) -> FrameBuf {
-    let mut changed = copied(rt, frame);
-    assert!(rt; place < changed.len());
-    changed[place] = octet;
-    changed
+/// These octets.
+fn copied(rt: &impl Abort, octets: &[u8]) -> FrameBuf {
+    let mut frame = FrameBuf::new();
+    append(rt, &mut frame, octets);
+    frame
 }
 
-/// A frame with the last bit of its ICV changed.
-pub(super) fn broken(rt: &impl Abort, frame: &[u8]) -> FrameBuf {
-    let mut changed = copied(rt, frame);
-    let last = changed.pop().expect(rt, "octet");
-    changed.push(last ^ 1);
-    changed
-}
-
-/// A frame without its last octet.
-pub(super) fn cut(rt: &impl Abort, frame: &[u8]) -> FrameBuf {
-    let mut shorter = copied(rt, frame);
-    let _last = shorter.pop();
-    shorter
-}
-
-/// A frame with so many octets of padding.
-pub(super) fn padded(rt: &impl Abort, frame: &[u8], octets: usize) -> FrameBuf {
-    let mut longer = copied(rt, frame);
-    for _ in 0..octets {
-        append(rt, &mut longer, &[0]);
+fn tag_of(
+    rt: &impl Abort,
+    sci: [u8; 8],
+    association: u8,
+    number: u32,
+    security: Security,
+) -> SecTag {
+    let is_encrypted = matches!(security, Security::Confidentiality);
+    SecTag {
+        an: number_of(rt, association),
+        pn: Pn::new(number).expect(rt, "packet number"),
+        name: ScName::Explicit(Sci(sci)),
+        encrypted: is_encrypted,
+        changed: is_encrypted,
     }
-    longer
 }
 
-/// A frame of the channel under association 2 and number 5 whose SL says 50. A sender writes 0
-/// there (9.7). It has 50 octets of Secure Data in the clear.
-pub(super) fn with_long_sl(rt: &impl Abort) -> FrameBuf {
-    let mut frame = copied(rt, &INTEGRITY[..14]);
-    append(rt, &mut frame, &[0x22, 50, 0, 0, 0, 5]);
-    append(rt, &mut frame, &CHANNEL.get());
-    append(rt, &mut frame, &[7; 50]);
-    let [a, b, c, d, e, f, g, h] = CHANNEL.get();
-    let iv = [a, b, c, d, e, f, g, h, 0, 0, 0, 5];
+/// A frame with this tag under the channel's key. Its plain frame has so many octets of 7.
+fn sealed(rt: &impl Abort, tag: &SecTag, sci: [u8; 8], octets: usize) -> FrameBuf {
+    let plain = PLAIN.get(..octets).expect(rt, "octets");
+    assert!(rt; plain.len() >= MIN_FRAME);
+    assert!(rt; plain.len() <= MAX_FRAME - tag.name.overhead());
+    assert!(rt; tag.encrypted == tag.changed);
     let key = GcmKey::new(&CHANNEL_KEY.to_be_bytes());
-    let icv = seal(&key, &iv, frame.as_slice(), &mut []);
+    let mut frame = FrameBuf::new();
+    seal_frame(&key, Sci(sci), tag, Offset::Zero, plain, &mut frame);
+    frame
+}
+
+/// The frame whose SL says 50.
+fn with_long_sl(rt: &impl Abort) -> FrameBuf {
+    const BEFORE: &[u8] = b"\xd6\x09\xb1\xf0\x56\x63\x7a\x0d\x46\xdf\x99\x8d\
+\x88\xe5\x22\x32\x00\x00\x00\x05\x12\x15\x35\x24\xc0\x89\x5e\x81";
+    const IV: [u8; 12] = [0x12, 0x15, 0x35, 0x24, 0xc0, 0x89, 0x5e, 0x81, 0, 0, 0, 5];
+    let mut frame = copied(rt, BEFORE);
+    append(rt, &mut frame, &[7; 50]);
+    let key = GcmKey::new(&CHANNEL_KEY.to_be_bytes());
+    let icv = seal(&key, &IV, frame.as_slice(), &mut []);
     append(rt, &mut frame, &icv);
     frame
 }

@@ -1,9 +1,9 @@
 //! Packet numbers in disorder and with duplicates, against the rules in plain numbers.
 
 use super::frames::CHANNEL;
-use super::receiver::{END, Receiver};
-use super::{LATE, OK};
-use crate::Verdict;
+use super::story::{Step, ready, take};
+use super::{END, LATE, OK};
+use crate::{Rx, Verdict};
 use macs_config::Validate;
 use std::process::Abort;
 
@@ -50,29 +50,33 @@ impl Rules {
     }
 }
 
+/// The number has this verdict, and the numbers of the association are then those of the rules.
+fn expect_number(rt: &impl Abort, rx: &mut Rx, rules: &Rules, number: u32, verdict: Verdict) {
+    take(rt, rx, Step::Number(number, verdict));
+    take(rt, rx, Step::Numbers(rules.next, rules.lowest));
+}
+
 /// The number has the verdict of the rules. Where it is held back, the ceiling is raised and it
 /// comes again.
-fn expect_step(rt: &impl Abort, receiver: &mut Receiver, rules: &mut Rules, number: u32) {
+fn expect_step(rt: &impl Abort, rx: &mut Rx, rules: &mut Rules, number: u32) {
     let verdict = rules.receive(number);
-    receiver.expect_number(rt, number, verdict);
-    receiver.expect_numbers(rt, rules.next, rules.lowest);
+    expect_number(rt, rx, rules, number, verdict);
     let Some(raised) = rules.raised() else {
-        receiver.expect_need(rt, BLOCK, None);
+        take(rt, rx, Step::Need(BLOCK, None));
         return;
     };
-    receiver.expect_need(rt, BLOCK, Some((CHANNEL, 2, rules.seen)));
+    take(rt, rx, Step::Need(BLOCK, Some((CHANNEL, 2, rules.seen))));
     if verdict == Verdict::HeldBack {
-        receiver.raise(rt, BLOCK, CHANNEL, 2, rules.seen);
+        take(rt, rx, Step::Raise(BLOCK, CHANNEL, 2, rules.seen));
         rules.ceiling = raised;
         assert_eq!(rt; rules.receive(number), OK);
-        receiver.expect_number(rt, number, OK);
-        receiver.expect_numbers(rt, rules.next, rules.lowest);
+        expect_number(rt, rx, rules, number, OK);
     }
 }
 
 fn expect_stream(rt: &impl Abort, window: u32) {
-    let mut receiver = Receiver::ready(rt, 1, 1);
-    receiver.set_policy(Validate::Strict, true, window);
+    let mut rx = ready(rt, 1, 1);
+    take(rt, &mut rx, Step::Policy(Validate::Strict, true, window));
     let mut rules = Rules {
         window: u64::from(window),
         next: 1,
@@ -83,7 +87,7 @@ fn expect_stream(rt: &impl Abort, window: u32) {
     for round in ROUNDS {
         for place in ORDER {
             let number = round.saturating_add(place);
-            expect_step(rt, &mut receiver, &mut rules, number);
+            expect_step(rt, &mut rx, &mut rules, number);
         }
     }
 }

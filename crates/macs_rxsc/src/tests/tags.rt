@@ -2,104 +2,118 @@
 //! and 9.12).
 
 use super::frames::{
-    CHANNEL, INTEGRITY, INTEGRITY_PLAIN, ONE_OCTET, ONE_OCTET_PLAIN, PLAIN, SHORTEST,
-    SHORTEST_PLAIN, STATION, STATION_KEY, Security, cut, padded, sealed_as, with_long_sl,
-    with_octet,
+    CHANNEL, Change, INTEGRITY, INTEGRITY_PLAIN, NO_NUMBER, ONE_OCTET, ONE_OCTET_PLAIN, SHORTEST,
+    SHORTEST_PLAIN, STATION, STATION_KEY, Security, Source, UNVERIFIED,
 };
-use super::receiver::{END, Receiver};
+use super::story::{Step, expect_story, play, ready, take};
 use super::{
-    BAD_TAG, FOR_KAY, INVALID, NO_TAG, OK, OVERSIZE, RUNT, UNKNOWN_SCI, UNTAGGED, UNUSED_SA,
+    BAD_TAG, END, FOR_KAY, INVALID, NO_TAG, OK, OVERSIZE, RUNT, UNKNOWN_SCI, UNTAGGED, UNUSED_SA,
 };
-use crate::Verdict;
+use crate::{Rx, Verdict};
 use macs_config::Validate;
-use macs_frame::FrameBuf;
 use std::process::Abort;
 
-/// The published frame with packet number 0.
-fn without_number(rt: &impl Abort) -> FrameBuf {
-    let mut frame = with_octet(rt, INTEGRITY, 16, 0);
-    assert!(rt; frame.len() >= 20);
-    frame[17] = 0;
-    frame[18] = 0;
-    frame[19] = 0;
-    frame
-}
+const PUBLISHED: Source = Source::These(INTEGRITY);
 
-/// The published frame with one octet of its SecTAG changed, cut or with packet number 0.
+/// The published frame with one octet of its SecTAG changed, with packet number 0 or cut.
+const FAULTS: &[Step] = &[
+    Step::Receive(PUBLISHED, Change::Octet(14, 0xa2), BAD_TAG, &[]),
+    Step::Receive(PUBLISHED, Change::Octet(14, 0x62), BAD_TAG, &[]),
+    Step::Receive(PUBLISHED, Change::Octet(14, 0x32), BAD_TAG, &[]),
+    Step::Receive(PUBLISHED, Change::Octet(15, 0x40), BAD_TAG, &[]),
+    Step::Receive(PUBLISHED, Change::Octet(15, 0x80), BAD_TAG, &[]),
+    Step::Receive(Source::These(NO_NUMBER), Change::Nothing, BAD_TAG, &[]),
+    Step::Receive(PUBLISHED, Change::Cut, BAD_TAG, &[]),
+    Step::Receive(PUBLISHED, Change::Octet(14, 0x2a), FOR_KAY, &[]),
+];
+
 #[test]
 fn faults_of_the_tag(rt: HostRuntime) {
-    let mut receiver = Receiver::ready(&rt, 1, END);
+    const COUNTS: &[Step] = &[
+        Step::Count(BAD_TAG, 14),
+        Step::Count(FOR_KAY, 2),
+        Step::Numbers(1, 1),
+    ];
+    let mut rx = ready(&rt, 1, END);
     for validate in [Validate::Strict, Validate::Check] {
-        receiver.set_policy(validate, true, 0);
-        for (place, octet) in [(14, 0xa2), (14, 0x62), (14, 0x32), (15, 0x40), (15, 0x80)] {
-            let frame = with_octet(&rt, INTEGRITY, place, octet);
-            receiver.expect(&rt, frame.as_slice(), BAD_TAG, &[]);
-        }
-        receiver.expect(&rt, without_number(&rt).as_slice(), BAD_TAG, &[]);
-        receiver.expect(&rt, cut(&rt, INTEGRITY).as_slice(), BAD_TAG, &[]);
-        let for_kay = with_octet(&rt, INTEGRITY, 14, 0x2a);
-        receiver.expect(&rt, for_kay.as_slice(), FOR_KAY, &[]);
+        take(&rt, &mut rx, Step::Policy(validate, true, 0));
+        play(&rt, &mut rx, FAULTS);
     }
-    receiver.expect_count(&rt, BAD_TAG, 14);
-    receiver.expect_count(&rt, FOR_KAY, 2);
-    receiver.expect_numbers(&rt, 1, 1);
+    play(&rt, &mut rx, COUNTS);
 }
 
 #[test]
 fn untagged_frames(rt: HostRuntime) {
-    let mut receiver = Receiver::new();
-    receiver.expect(&rt, INTEGRITY_PLAIN, NO_TAG, &[]);
-    receiver.set_policy(Validate::Check, false, 0);
-    receiver.expect(&rt, INTEGRITY_PLAIN, UNTAGGED, INTEGRITY_PLAIN);
-    receiver.expect(&rt, INTEGRITY_PLAIN, UNTAGGED, INTEGRITY_PLAIN);
-    receiver.expect_count(&rt, NO_TAG, 1);
-    receiver.expect_count(&rt, UNTAGGED, 2);
+    const FRAME: Source = Source::These(INTEGRITY_PLAIN);
+    const STEPS: &[Step] = &[
+        Step::Receive(FRAME, Change::Nothing, NO_TAG, &[]),
+        Step::Policy(Validate::Check, false, 0),
+        Step::Receive(FRAME, Change::Nothing, UNTAGGED, INTEGRITY_PLAIN),
+        Step::Receive(FRAME, Change::Nothing, UNTAGGED, INTEGRITY_PLAIN),
+        Step::Count(NO_TAG, 1),
+        Step::Count(UNTAGGED, 2),
+        // The shortest and the longest frame, and those beyond.
+        Step::Anew,
+        Step::Policy(Validate::Check, true, 0),
+        Step::Untagged(0, RUNT),
+        Step::Untagged(13, RUNT),
+        Step::Untagged(14, UNTAGGED),
+        Step::Untagged(9216, UNTAGGED),
+        Step::Untagged(9217, OVERSIZE),
+        Step::Count(RUNT, 2),
+        Step::Count(OVERSIZE, 1),
+    ];
+    expect_story(&rt, STEPS);
 }
 
-/// The shortest and the longest frame, and those beyond.
 #[test]
-fn lengths(rt: HostRuntime) {
-    let mut receiver = Receiver::new();
-    receiver.set_policy(Validate::Check, true, 0);
-    receiver.expect(&rt, &[], RUNT, &[]);
-    receiver.expect(&rt, &[7; 13], RUNT, &[]);
-    receiver.expect(&rt, &[7; 14], UNTAGGED, &[7; 14]);
-    receiver.expect(&rt, &[7; 9216], UNTAGGED, &[7; 9216]);
-    receiver.expect(&rt, &[7; 9217], OVERSIZE, &[]);
-    receiver.expect_count(&rt, RUNT, 2);
-    receiver.expect_count(&rt, OVERSIZE, 1);
+fn lengths_of_secure_data(rt: HostRuntime) {
+    const LONG: Source = Source::Sealed(CHANNEL, 2, 5, Security::Confidentiality, 60);
+    const LONG_SL_PLAIN: &[u8] = b"\xd6\x09\xb1\xf0\x56\x63\x7a\x0d\x46\xdf\x99\x8d\
+\x07\x07\x07\x07\x07\x07\x07\x07\x07\x07\x07\x07\x07\x07\x07\x07\x07\x07\x07\x07\x07\x07\x07\x07\x07\
+\x07\x07\x07\x07\x07\x07\x07\x07\x07\x07\x07\x07\x07\x07\x07\x07\x07\x07\x07\x07\x07\x07\x07\x07\x07";
+    const STEPS: &[Step] = &[
+        // SL 0 says 48 octets of Secure Data or more.
+        Step::Ready(1, END),
+        Step::Length(LONG, Change::Nothing, 92),
+        Step::Receive(LONG, Change::Cut, BAD_TAG, &[]),
+        Step::Receive(LONG, Change::Nothing, OK, &[7; 60]),
+        // An SL that says as many octets as there are is taken also where a sender writes 0.
+        Step::Ready(1, END),
+        Step::Length(Source::LongSl, Change::Nothing, 94),
+        Step::Receive(Source::LongSl, Change::Cut, BAD_TAG, &[]),
+        Step::Receive(Source::LongSl, Change::Padding(1), BAD_TAG, &[]),
+        Step::Receive(Source::LongSl, Change::Nothing, OK, LONG_SL_PLAIN),
+        Step::Numbers(6, 6),
+        // A plain frame of 13 octets is given, though none so short is protected or taken without a
+        // tag.
+        Step::Ready(1, 9),
+        Step::Receive(
+            Source::These(ONE_OCTET),
+            Change::Nothing,
+            OK,
+            ONE_OCTET_PLAIN,
+        ),
+        Step::Receive(Source::These(ONE_OCTET_PLAIN), Change::Nothing, RUNT, &[]),
+    ];
+    expect_story(&rt, STEPS);
 }
 
-/// SL 0 says 48 octets of Secure Data or more.
-#[test]
-fn secure_data_below_48_octets(rt: HostRuntime) {
-    let long = sealed_as(&rt, CHANNEL, 2, 5, Security::Confidentiality, &PLAIN[..60]);
-    let mut receiver = Receiver::ready(&rt, 1, END);
-    assert_eq!(rt; long.len(), 92);
-    receiver.expect(&rt, cut(&rt, long.as_slice()).as_slice(), BAD_TAG, &[]);
-    receiver.expect(&rt, long.as_slice(), OK, &[7; 60]);
-}
-
-/// An SL that says as many octets as there are is taken also where a sender writes 0.
-#[test]
-fn secure_data_of_50_octets(rt: HostRuntime) {
-    let frame = with_long_sl(&rt);
-    assert_eq!(rt; frame.len(), 94);
-    let mut plain = [7; 62];
-    plain[..12].copy_from_slice(&INTEGRITY[..12]);
-    let mut receiver = Receiver::ready(&rt, 1, END);
-    receiver.expect(&rt, cut(&rt, frame.as_slice()).as_slice(), BAD_TAG, &[]);
-    receiver.expect(
-        &rt,
-        padded(&rt, frame.as_slice(), 1).as_slice(),
-        BAD_TAG,
-        &[],
+/// A frame of 46 octets with so much padding has this verdict.
+fn expect_padded(rt: &impl Abort, padding: usize, verdict: Verdict) {
+    let given = if verdict == OK { SHORTEST_PLAIN } else { &[] };
+    let source = Source::These(SHORTEST);
+    let mut rx = Rx::new();
+    take(rt, &mut rx, Step::Add(STATION));
+    take(rt, &mut rx, Step::Install(STATION, 3, STATION_KEY, 1, 2));
+    take(
+        rt,
+        &mut rx,
+        Step::Receive(source, Change::Padding(padding), verdict, given),
     );
-    receiver.expect(&rt, frame.as_slice(), OK, &plain);
-    receiver.expect_numbers(&rt, 6, 6);
 }
 
-/// A frame of 46 octets is taken as it is or with padding to 60 octets.
+/// A frame is taken as it is or with padding to 60 octets.
 #[test]
 fn padding_to_60_octets(rt: HostRuntime) {
     for (padding, verdict) in [
@@ -113,49 +127,31 @@ fn padding_to_60_octets(rt: HostRuntime) {
     }
 }
 
-/// The frame with so much padding has this verdict.
-fn expect_padded(rt: &impl Abort, padding: usize, verdict: Verdict) {
-    let mut receiver = Receiver::new();
-    receiver.add(rt, STATION);
-    receiver.install(rt, STATION, 3, STATION_KEY, 1, 2);
-    let frame = padded(rt, SHORTEST, padding);
-    let given = if verdict == OK { SHORTEST_PLAIN } else { &[] };
-    receiver.expect(rt, frame.as_slice(), verdict, given);
-}
-
-/// 16 octets of Secure Data fill a frame of 60 octets, 15 leave one octet of padding.
 #[test]
 fn frames_of_60_octets(rt: HostRuntime) {
-    let mut receiver = Receiver::ready(&rt, 1, END);
-    let full = sealed_as(&rt, CHANNEL, 2, 5, Security::Integrity, &PLAIN[..28]);
-    assert_eq!(rt; full.len(), 60);
-    receiver.expect(&rt, full.as_slice(), OK, &PLAIN[..28]);
-    let short = sealed_as(&rt, CHANNEL, 2, 6, Security::Integrity, &PLAIN[..27]);
-    let filled = padded(&rt, short.as_slice(), 1);
-    assert_eq!(rt; filled.len(), 60);
-    receiver.expect(&rt, filled.as_slice(), OK, &PLAIN[..27]);
-    receiver.expect_numbers(&rt, 7, 7);
-}
-
-/// A padded frame that does not verify is given without padding, SecTAG and ICV. C is clear in it.
-#[test]
-fn padding_is_not_given(rt: HostRuntime) {
-    let frame = padded(&rt, with_octet(&rt, SHORTEST, 14, 0x23).as_slice(), 14);
-    assert_eq!(rt; frame.len(), 60);
-    let bare = b"\xe2\x01\x06\xd7\xcd\x0d\xf0\x76\x1e\x8d\xcd\x3d\xe4\xf1";
-    let mut receiver = Receiver::new();
-    receiver.set_policy(Validate::Check, true, 0);
-    receiver.expect(&rt, frame.as_slice(), UNKNOWN_SCI, bare);
-    receiver.add(&rt, STATION);
-    receiver.expect(&rt, frame.as_slice(), UNUSED_SA, bare);
-    receiver.install(&rt, STATION, 3, STATION_KEY, 1, 2);
-    receiver.expect(&rt, frame.as_slice(), INVALID, bare);
-}
-
-/// A plain frame of 13 octets is given, though none so short is protected or taken without a tag.
-#[test]
-fn secure_data_of_one_octet(rt: HostRuntime) {
-    let mut receiver = Receiver::ready(&rt, 1, 9);
-    receiver.expect(&rt, ONE_OCTET, OK, ONE_OCTET_PLAIN);
-    receiver.expect(&rt, ONE_OCTET_PLAIN, RUNT, &[]);
+    const FULL: Source = Source::Sealed(CHANNEL, 2, 5, Security::Integrity, 28);
+    const SHORT: Source = Source::Sealed(CHANNEL, 2, 6, Security::Integrity, 27);
+    const FRAME: Source = Source::These(UNVERIFIED);
+    const PADDED: Change = Change::Padding(14);
+    const BARE: &[u8] = b"\xe2\x01\x06\xd7\xcd\x0d\xf0\x76\x1e\x8d\xcd\x3d\xe4\xf1";
+    const STEPS: &[Step] = &[
+        // 16 octets of Secure Data fill a frame of 60 octets, 15 leave one octet of padding.
+        Step::Ready(1, END),
+        Step::Length(FULL, Change::Nothing, 60),
+        Step::Receive(FULL, Change::Nothing, OK, &[7; 28]),
+        Step::Length(SHORT, Change::Padding(1), 60),
+        Step::Receive(SHORT, Change::Padding(1), OK, &[7; 27]),
+        Step::Numbers(7, 7),
+        // A padded frame that does not verify is given without padding, SecTAG and ICV. C is clear
+        // in it.
+        Step::Anew,
+        Step::Length(FRAME, PADDED, 60),
+        Step::Policy(Validate::Check, true, 0),
+        Step::Receive(FRAME, PADDED, UNKNOWN_SCI, BARE),
+        Step::Add(STATION),
+        Step::Receive(FRAME, PADDED, UNUSED_SA, BARE),
+        Step::Install(STATION, 3, STATION_KEY, 1, 2),
+        Step::Receive(FRAME, PADDED, INVALID, BARE),
+    ];
+    expect_story(&rt, STEPS);
 }

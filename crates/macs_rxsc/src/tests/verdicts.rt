@@ -1,20 +1,21 @@
 //! Every verdict, under strict validation and where validation only checks.
 
-use super::frames::Security::{self, Confidentiality, Integrity};
-use super::frames::{CHANNEL, INTEGRITY, PLAIN, STATION, broken, sealed, sealed_as, with_octet};
-use super::receiver::Receiver;
+use super::frames::Security::{Confidentiality, Integrity};
+use super::frames::{CHANNEL, Change, INTEGRITY, STATION, Security, Source};
+use super::story::{Step, ready, take};
 use super::{
     ALL_VERDICTS, BAD_TAG, CHANNEL_VERDICTS, DELAYED, FOR_KAY, INVALID, LATE, NO_SCI, NO_TAG,
     NOT_USING_SA, NOT_VALID, OK, OVERSIZE, RUNT, UNKNOWN_SCI, UNTAGGED, UNUSED_SA,
 };
-use crate::Verdict;
+use crate::{Rx, Verdict};
 use macs_config::Validate;
-use macs_frame::FrameBuf;
 use std::process::Abort;
 
-/// A tagged frame. It is one of the channel under association 2, where nothing else is said.
+/// A frame. It is one of the channel under association 2, where nothing else is said.
 #[derive(Clone, Copy)]
 enum Sent {
+    /// So many octets without a SecTAG.
+    Untagged(usize),
     /// Octet 3 of its SecTAG is this one.
     Control(u8),
     OtherChannel(Security),
@@ -24,13 +25,37 @@ enum Sent {
     Broken(u32, Security),
 }
 
-fn frame_of(rt: &impl Abort, sent: Sent) -> FrameBuf {
-    match sent {
-        Sent::Control(octet) => with_octet(rt, INTEGRITY, 14, octet),
-        Sent::OtherChannel(security) => sealed_as(rt, STATION, 2, 5, security, PLAIN),
-        Sent::OtherAssociation(security) => sealed_as(rt, CHANNEL, 3, 5, security, PLAIN),
-        Sent::Numbered(number, security) => sealed(rt, number, security),
-        Sent::Broken(number, security) => broken(rt, sealed(rt, number, security).as_slice()),
+/// The frame has this verdict.
+fn step_of(sent: Sent, verdict: Verdict) -> Step {
+    let (source, change) = match sent {
+        Sent::Untagged(octets) => return Step::Untagged(octets, verdict),
+        Sent::Control(octet) => (Source::These(INTEGRITY), Change::Octet(14, octet)),
+        Sent::OtherChannel(security) => (sealed(STATION, 2, 5, security), Change::Nothing),
+        Sent::OtherAssociation(security) => (sealed(CHANNEL, 3, 5, security), Change::Nothing),
+        Sent::Numbered(number, security) => (sealed(CHANNEL, 2, number, security), Change::Nothing),
+        Sent::Broken(number, security) => (sealed(CHANNEL, 2, number, security), Change::LastBit),
+    };
+    Step::Plain(source, change, verdict)
+}
+
+/// A frame whose plain frame is `PLAIN`.
+fn sealed(sci: [u8; 8], association: u8, number: u32, security: Security) -> Source {
+    Source::Sealed(sci, association, number, security, 62)
+}
+
+/// The verdict is counted, and no other.
+fn expect_counts(rt: &impl Abort, rx: &mut Rx, verdict: Verdict) {
+    for counted in ALL_VERDICTS {
+        take(rt, rx, Step::Count(counted, u64::from(counted == verdict)));
+    }
+    take(rt, rx, Step::Count(Verdict::HeldBack, 0));
+}
+
+/// The verdict is counted for the channel where it is one of a channel, and no other.
+fn expect_channel_counts(rt: &impl Abort, rx: &mut Rx, verdict: Verdict) {
+    for counted in CHANNEL_VERDICTS {
+        let count = Some(u64::from(counted == verdict));
+        take(rt, rx, Step::ChannelCount(CHANNEL, counted, count));
     }
 }
 
@@ -39,45 +64,41 @@ fn frame_of(rt: &impl Abort, sent: Sent) -> FrameBuf {
 /// where the frame is delivered as verified.
 fn expect_verdict(
     rt: &impl Abort,
-    frame: &[u8],
+    sent: Sent,
     validate: Validate,
     on: bool,
     verdict: Verdict,
     next: u64,
 ) {
-    let mut receiver = Receiver::ready(rt, 3, 9);
-    receiver.set_policy(validate, on, 0);
-    receiver.expect_plain(rt, frame, verdict);
-    receiver.expect_numbers(rt, next, next);
-    for counted in ALL_VERDICTS {
-        receiver.expect_count(rt, counted, u64::from(counted == verdict));
-    }
-    receiver.expect_count(rt, Verdict::HeldBack, 0);
-    for counted in CHANNEL_VERDICTS {
-        let count = u64::from(counted == verdict);
-        receiver.expect_channel_count(rt, CHANNEL, counted, Some(count));
-    }
+    let mut rx = ready(rt, 3, 9);
+    take(rt, &mut rx, Step::Policy(validate, on, 0));
+    take(rt, &mut rx, step_of(sent, verdict));
+    take(rt, &mut rx, Step::Numbers(next, next));
+    expect_counts(rt, &mut rx, verdict);
+    expect_channel_counts(rt, &mut rx, verdict);
 }
 
 /// The verdicts on a frame, under strict validation and else.
-fn expect_verdicts(rt: &impl Abort, frame: &[u8], on: bool, verdicts: [Verdict; 2], next: u64) {
+fn expect_verdicts(rt: &impl Abort, sent: Sent, on: bool, verdicts: [Verdict; 2], next: u64) {
     let [strict, check] = verdicts;
-    expect_verdict(rt, frame, Validate::Strict, on, strict, next);
-    expect_verdict(rt, frame, Validate::Check, on, check, next);
+    expect_verdict(rt, sent, Validate::Strict, on, strict, next);
+    expect_verdict(rt, sent, Validate::Check, on, check, next);
 }
 
-#[test]
-fn untagged_frames(rt: HostRuntime) {
+/// The same with replay protection on and off.
+fn expect_always(rt: &impl Abort, sent: Sent, verdicts: [Verdict; 2], next: u64) {
     for on in [true, false] {
-        expect_verdicts(&rt, &[7; 13], on, [RUNT, RUNT], 3);
-        expect_verdicts(&rt, &[7; 9217], on, [OVERSIZE, OVERSIZE], 3);
-        expect_verdicts(&rt, PLAIN, on, [NO_TAG, UNTAGGED], 3);
+        expect_verdicts(rt, sent, on, verdicts, next);
     }
 }
 
+/// Frames without a SecTAG, and with one whose number is not below the lowest acceptable.
 #[test]
-fn tagged_frames(rt: HostRuntime) {
+fn frames_in_order(rt: HostRuntime) {
     let cases = [
+        (Sent::Untagged(13), [RUNT, RUNT], 3),
+        (Sent::Untagged(9217), [OVERSIZE, OVERSIZE], 3),
+        (Sent::Untagged(62), [NO_TAG, UNTAGGED], 3),
         (Sent::Control(0x32), [BAD_TAG, BAD_TAG], 3),
         (Sent::Control(0x2a), [FOR_KAY, FOR_KAY], 3),
         (Sent::OtherChannel(Integrity), [NO_SCI, UNKNOWN_SCI], 3),
@@ -110,10 +131,7 @@ fn tagged_frames(rt: HostRuntime) {
         (Sent::Numbered(8, Confidentiality), [OK, OK], 9),
     ];
     for (sent, verdicts, next) in cases {
-        for on in [true, false] {
-            let frame = frame_of(&rt, sent);
-            expect_verdicts(&rt, frame.as_slice(), on, verdicts, next);
-        }
+        expect_always(&rt, sent, verdicts, next);
     }
 }
 
@@ -138,7 +156,6 @@ fn late_frames(rt: HostRuntime) {
         ),
     ];
     for (sent, on, verdicts) in cases {
-        let frame = frame_of(&rt, sent);
-        expect_verdicts(&rt, frame.as_slice(), on, verdicts, 3);
+        expect_verdicts(&rt, sent, on, verdicts, 3);
     }
 }

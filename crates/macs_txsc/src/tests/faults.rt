@@ -1,149 +1,134 @@
 //! Which plain frames do not go out, which fault comes first, and what is counted.
 
-use super::{END, HIDDEN, PLAIN, STATION, channel, install, number_of, protect};
+use super::fixture::{channel, protect};
+use super::story::{Plain, Step, plain_frame, play, take};
+use super::{END, STATION};
 use crate::counters::TxCounters;
 use crate::{Tx, TxFault};
 use macs_config::SciMode;
-use macs_frame::{FrameBuf, MAX_FRAME, Pn};
+use macs_frame::{FrameBuf, MAX_FRAME};
 use std::process::Abort;
-use std::test::Fail;
-
-/// An end station, with an association from this number on, below this ceiling, where one is given.
-fn station(rt: &impl Abort, numbers: Option<(u64, u64)>) -> Tx {
-    match numbers {
-        Some((next, ceiling)) => sending(rt, SciMode::EndStation, next, ceiling),
-        None => channel(STATION, SciMode::EndStation),
-    }
-}
 
 /// A channel that sends under an association from this number on, below this ceiling.
 fn sending(rt: &impl Abort, mode: SciMode, next: u64, ceiling: u64) -> Tx {
-    let an = number_of(rt, 0);
-    let mut tx = channel(STATION, mode);
-    install(rt, &mut tx, an, HIDDEN, next, ceiling);
-    tx.select(an);
+    let mut tx = channel(rt, STATION, mode);
+    take(rt, &mut tx, Step::Install(0, next, ceiling));
+    take(rt, &mut tx, Step::Select(0));
     tx
 }
 
-/// A plain frame of so many octets that the end station sends.
-fn own_frame(octets: usize) -> Result<FrameBuf, Fail> {
-    let mut plain = FrameBuf::new();
-    plain.try_extend_from_slice(&PLAIN[..12])?;
-    for _ in plain.len()..octets {
-        plain.try_push(0)?;
-    }
-    Ok(plain)
+/// Every fault that a frame has, and then the answer to a frame without one.
+fn expect_first_faults(rt: &impl Abort, tx: &mut Tx, answer: Result<u32, TxFault>) {
+    const FAULTS: &[Step] = &[
+        Step::Sends(Plain::Own(13), Err(TxFault::Runt)),
+        Step::Sends(Plain::Foreign(13), Err(TxFault::Runt)),
+        Step::Sends(Plain::Foreign(9193), Err(TxFault::TooLong)),
+        Step::Sends(Plain::Foreign(9192), Err(TxFault::ForeignSource)),
+    ];
+    const COUNTS: &[Step] = &[
+        Step::Faults(TxFault::Runt, 2),
+        Step::Faults(TxFault::TooLong, 1),
+        Step::Faults(TxFault::ForeignSource, 1),
+    ];
+    play(rt, tx, FAULTS);
+    take(rt, tx, Step::Sends(Plain::Published, answer));
+    play(rt, tx, COUNTS);
 }
 
 /// Every fault that a frame has beside every state of the association.
 #[test]
 fn answers_the_first_fault(rt: HostRuntime) {
-    let states = [
-        (None, Err(TxFault::NoEncodingSa)),
-        (Some((END, END)), Err(TxFault::Exhausted)),
-        (Some((5, 5)), Err(TxFault::NoNumber)),
-        (Some((5, 6)), Ok(5)),
+    let mut unset = channel(&rt, STATION, SciMode::EndStation);
+    expect_first_faults(&rt, &mut unset, Err(TxFault::NoEncodingSa));
+    for (next, ceiling, answer) in [
+        (END, END, Err(TxFault::Exhausted)),
+        (5, 5, Err(TxFault::NoNumber)),
+        (5, 6, Ok(5)),
+    ] {
+        let mut tx = sending(&rt, SciMode::EndStation, next, ceiling);
+        expect_first_faults(&rt, &mut tx, answer);
+    }
+}
+
+/// Each octet of the source counts, and only where frames name an end station.
+#[test]
+fn compares_the_source(rt: HostRuntime) {
+    const STEPS: &[Step] = &[
+        Step::Sends(Plain::Differs(6), Err(TxFault::ForeignSource)),
+        Step::Sends(Plain::Differs(7), Err(TxFault::ForeignSource)),
+        Step::Sends(Plain::Differs(8), Err(TxFault::ForeignSource)),
+        Step::Sends(Plain::Differs(9), Err(TxFault::ForeignSource)),
+        Step::Sends(Plain::Differs(10), Err(TxFault::ForeignSource)),
+        Step::Sends(Plain::Differs(11), Err(TxFault::ForeignSource)),
+        Step::Next(Some(0x76d4_57ed), None, None, None),
+        Step::Mode(SciMode::Implicit),
+        Step::Sends(Plain::Differs(11), Ok(0x76d4_57ed)),
     ];
-    for (numbers, answer) in states {
-        let mut tx = station(&rt, numbers);
-        assert_eq!(rt; protect(&rt, &mut tx, &PLAIN[..13]), Err(TxFault::Runt));
-        assert_eq!(rt; protect(&rt, &mut tx, &[0; 13]), Err(TxFault::Runt));
-        assert_eq!(rt; protect(&rt, &mut tx, &[0; 9193]), Err(TxFault::TooLong));
-        assert_eq!(rt;
-            protect(&rt, &mut tx, &[0; 9192]),
-            Err(TxFault::ForeignSource)
-        );
-        assert_eq!(rt; protect(&rt, &mut tx, PLAIN), answer);
-        assert_eq!(rt; tx.fault_count(TxFault::Runt), 2);
-        assert_eq!(rt; tx.fault_count(TxFault::TooLong), 1);
-        assert_eq!(rt; tx.fault_count(TxFault::ForeignSource), 1);
-    }
-}
-
-#[test]
-fn compares_the_source(rt: HostRuntime) -> Result<(), Fail> {
     let mut tx = sending(&rt, SciMode::EndStation, 0x76d4_57ed, END);
-    for place in 6..12 {
-        let plain = foreign_frame(&rt, place)?;
-        assert_eq!(rt;
-            protect(&rt, &mut tx, plain.as_slice()),
-            Err(TxFault::ForeignSource),
-            "octet {place}"
-        );
-    }
-    assert_eq!(rt; tx.next_number(number_of(&rt, 0)), Some(0x76d4_57ed));
-    tx.set_mode(SciMode::Implicit);
-    let plain = foreign_frame(&rt, 11)?;
-    assert_eq!(rt; protect(&rt, &mut tx, plain.as_slice()), Ok(0x76d4_57ed));
-    Ok(())
-}
-
-/// A plain frame of 14 octets whose source differs from the end station's in one octet.
-fn foreign_frame(rt: &impl Abort, place: usize) -> Result<FrameBuf, Fail> {
-    let mut plain = own_frame(14)?;
-    assert!(rt; place < plain.len());
-    plain[place] ^= 3;
-    Ok(plain)
+    play(&rt, &mut tx, STEPS);
 }
 
 #[test]
-fn counts_faults_apart(rt: HostRuntime) -> Result<(), Fail> {
+fn counts_faults_apart(rt: HostRuntime) {
+    const STEPS: &[Step] = &[
+        Step::Sends(Plain::Own(9193), Err(TxFault::TooLong)),
+        Step::Sends(Plain::Differs(6), Err(TxFault::ForeignSource)),
+        Step::Sends(Plain::Differs(6), Err(TxFault::ForeignSource)),
+        Step::Faults(TxFault::TooLong, 1),
+        Step::Faults(TxFault::ForeignSource, 2),
+        Step::Faults(TxFault::Runt, 0),
+        Step::Protected(0),
+    ];
     let mut tx = sending(&rt, SciMode::EndStation, 1, END);
-    let long = own_frame(9193)?;
-    let foreign = foreign_frame(&rt, 6)?;
-    assert!(rt; protect(&rt, &mut tx, long.as_slice()).is_err());
-    assert!(rt; protect(&rt, &mut tx, foreign.as_slice()).is_err());
-    assert!(rt; protect(&rt, &mut tx, foreign.as_slice()).is_err());
-    assert_eq!(rt; tx.fault_count(TxFault::TooLong), 1);
-    assert_eq!(rt; tx.fault_count(TxFault::ForeignSource), 2);
-    assert_eq!(rt; tx.fault_count(TxFault::Runt), 0);
-    assert_eq!(rt; tx.protected_count(), 0);
-    Ok(())
+    play(&rt, &mut tx, STEPS);
+}
+
+/// A plain frame of so many octets makes the longest frame that goes out.
+fn expect_longest(rt: &impl Abort, tx: &mut Tx, octets: usize) {
+    let plain = plain_frame(rt, Plain::Own(octets));
+    let mut out = FrameBuf::new();
+    assert_eq!(rt; protect(rt, tx, plain.as_slice(), &mut out), Ok(1));
+    assert_eq!(rt; out.len(), MAX_FRAME);
 }
 
 /// The longest plain frame that fits, and one octet more.
 #[test]
-fn bounds_lengths(rt: HostRuntime) -> Result<(), Fail> {
-    for (mode, longest) in [
-        (SciMode::Explicit, 9184),
-        (SciMode::Implicit, 9192),
-        (SciMode::EndStation, 9192),
+fn bounds_lengths(rt: HostRuntime) {
+    for (mode, longest, beyond) in [
+        (SciMode::Explicit, 9184, 9185),
+        (SciMode::Implicit, 9192, 9193),
+        (SciMode::EndStation, 9192, 9193),
     ] {
         let mut tx = sending(&rt, mode, 1, END);
-        let mut plain = own_frame(longest)?;
-        let mut out = FrameBuf::new();
-        assert_eq!(rt; tx.protect(plain.as_slice(), &mut out).map(Pn::get), Ok(1));
-        assert_eq!(rt; out.len(), MAX_FRAME);
-        plain.try_push(0)?;
-        assert_eq!(rt;
-            protect(&rt, &mut tx, plain.as_slice()),
-            Err(TxFault::TooLong)
-        );
+        expect_longest(&rt, &mut tx, longest);
+        let too_long = Step::Sends(Plain::Own(beyond), Err(TxFault::TooLong));
+        take(&rt, &mut tx, too_long);
     }
-    Ok(())
 }
 
 #[test]
 fn counts_answers(rt: HostRuntime) {
-    let mut tx = sending(&rt, SciMode::EndStation, END - 2, END);
-    let answers = [
-        Ok(4_294_967_294),
-        Ok(4_294_967_295),
-        Err(TxFault::Exhausted),
+    const LAST_NUMBERS: &[Step] = &[
+        Step::Sends(Plain::Published, Ok(4_294_967_294)),
+        Step::Sends(Plain::Published, Ok(4_294_967_295)),
+        Step::Sends(Plain::Published, Err(TxFault::Exhausted)),
+        Step::Protected(2),
+        Step::Faults(TxFault::Exhausted, 1),
+        Step::Faults(TxFault::NoNumber, 0),
     ];
-    for answer in answers {
-        assert_eq!(rt; protect(&rt, &mut tx, PLAIN), answer);
-    }
-    assert_eq!(rt; tx.protected_count(), 2);
-    assert_eq!(rt; tx.fault_count(TxFault::Exhausted), 1);
-    assert_eq!(rt; tx.fault_count(TxFault::NoNumber), 0);
-    let mut held = sending(&rt, SciMode::EndStation, 5, 5);
-    assert_eq!(rt; protect(&rt, &mut held, PLAIN), Err(TxFault::NoNumber));
-    assert_eq!(rt; held.fault_count(TxFault::NoNumber), 1);
-    let mut unset = channel(STATION, SciMode::EndStation);
-    assert_eq!(rt; protect(&rt, &mut unset, PLAIN), Err(TxFault::NoEncodingSa));
-    assert_eq!(rt; unset.fault_count(TxFault::NoEncodingSa), 1);
-    assert_eq!(rt; unset.protected_count(), 0);
+    const AT_THE_CEILING: &[Step] = &[
+        Step::Sends(Plain::Published, Err(TxFault::NoNumber)),
+        Step::Faults(TxFault::NoNumber, 1),
+    ];
+    const UNSET: &[Step] = &[
+        Step::Sends(Plain::Published, Err(TxFault::NoEncodingSa)),
+        Step::Faults(TxFault::NoEncodingSa, 1),
+        Step::Protected(0),
+    ];
+    let mode = SciMode::EndStation;
+    play(&rt, &mut sending(&rt, mode, END - 2, END), LAST_NUMBERS);
+    play(&rt, &mut sending(&rt, mode, 5, 5), AT_THE_CEILING);
+    play(&rt, &mut channel(&rt, STATION, mode), UNSET);
 }
 
 #[test]

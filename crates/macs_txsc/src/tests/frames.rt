@@ -1,8 +1,10 @@
 //! Frames that go out: IEEE Std 802.1AE-2018, Annex C, and Python's `cryptography`.
 
-use super::{END, HIDDEN, KEY, PLAIN, STATION, Security, channel, install, number_of};
+use super::fixture::{channel, install, number_of, protect, select};
+use super::{END, HIDDEN, KEY, PLAIN, STATION, Security};
+use crate::Tx;
 use macs_config::SciMode;
-use macs_frame::{FrameBuf, Offset, Pn};
+use macs_frame::{FrameBuf, Offset};
 use std::process::Abort;
 
 /// What a frame goes out under, and the frame. A line of it is its addresses, its SecTAG, its Secure
@@ -155,29 +157,42 @@ pub(super) const LAST_NUMBER: Case = Case {
 \x88\x7e\xc9\xb7\x6e\x74\xa4\x88\xaa\x2d\x6c\x69\xd2\xfe\xfe\xbb",
 };
 
-/// The frame goes out, and its number is used.
-fn check_case(rt: &impl Abort, case: &Case) {
+/// Every frame that goes out.
+const CASES: &[Case] = &[
+    INTEGRITY,
+    CONFIDENTIALITY,
+    END_STATION,
+    ALL_CLEAR,
+    ONE_HIDDEN,
+    SHORTEST,
+    IMPLICIT,
+    LAST_NUMBER,
+];
+
+/// The channel of a case, which sends under its association.
+fn channel_of(rt: &impl Abort, case: &Case) -> Tx {
     let an = number_of(rt, case.association);
-    let number = u64::from(case.number);
-    let mut tx = channel(case.sci, case.mode);
-    install(rt, &mut tx, an, case.security, number, END);
-    tx.select(an);
-    let mut out = FrameBuf::new();
-    out.push(0);
-    let answer = tx.protect(case.plain, &mut out);
-    assert_eq!(rt; answer.map(Pn::get), Ok(case.number));
-    assert_eq!(rt; out.as_slice(), case.frame);
-    assert_eq!(rt; tx.next_number(an), Some(number + 1));
+    let mut tx = channel(rt, case.sci, case.mode);
+    install(rt, &mut tx, an, &case.security, u64::from(case.number), END);
+    select(rt, &mut tx, an);
+    tx
 }
 
+/// The frame of a case goes out under its number.
+pub(super) fn expect_frame(rt: &impl Abort, tx: &mut Tx, case: &Case) {
+    let mut out = FrameBuf::new();
+    let answer = protect(rt, tx, case.plain, &mut out);
+    assert_eq!(rt; answer, Ok(case.number));
+    assert_eq!(rt; out.as_slice(), case.frame);
+}
+
+/// The frame goes out, and its number is used.
 #[test]
 fn protects_frames(rt: HostRuntime) {
-    check_case(&rt, &INTEGRITY);
-    check_case(&rt, &CONFIDENTIALITY);
-    check_case(&rt, &END_STATION);
-    check_case(&rt, &ALL_CLEAR);
-    check_case(&rt, &ONE_HIDDEN);
-    check_case(&rt, &SHORTEST);
-    check_case(&rt, &IMPLICIT);
-    check_case(&rt, &LAST_NUMBER);
+    for case in CASES {
+        let mut tx = channel_of(&rt, case);
+        expect_frame(&rt, &mut tx, case);
+        let an = number_of(&rt, case.association);
+        assert_eq!(rt; tx.next_number(an), Some(u64::from(case.number) + 1));
+    }
 }

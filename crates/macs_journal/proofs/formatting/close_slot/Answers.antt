@@ -3,7 +3,7 @@ use Rattle.macs_disk.specs.States.{State}
 use Rattle.macs_disk.specs.Disk.{IsHonest, now}
 use Rattle.macs_disk.specs.Runs.{Leaves}
 use Rattle.macs_disk.proofs.Images.{put-same}
-use Rattle.macs_disk.proofs.Moments.{Leaves-call, Leaves-start}
+use Rattle.macs_disk.proofs.Moments.{Leaves-call, Leaves-start, Works-on}
 use Rattle.macs_record.specs.Gates.{IsOpen}
 use Rattle.macs_journal.specs.Areas.{gate}
 use Rattle.macs_journal.specs.Found.{IsGateOpen, IsNotFormatted}
@@ -12,6 +12,7 @@ use Rattle.macs_journal.specs.Work.{IsSpared}
 use Rattle.macs_journal.proofs.Appends.{wrote}
 use Rattle.macs_journal.proofs.Blank.{blank-image, blank-wrote, formatting-close, formatting-skip, zeros-closed}
 use Rattle.macs_journal.proofs.Spared.{Spared-on, Spared-read, Spared-write}
+use Rattle.macs_journal.proofs.Working.{failed, failed-later}
 use Rattle.macs_journal.proofs.formatting.close_slot.Given.{Over}
 use Rattle.macs_journal.proofs.formatting.close_slot.Goals as goal
 use Rattle.macs_journal.proofs.formatting.close_slot.Goals.{After-is_open, After-write}
@@ -97,3 +98,55 @@ returns-else-is_open-clause-done g c honest identity f =
     λ opens. not_both (sym (c.is_open.ensures.1 (subst IsOpen (sym (gate-read g path honest)) opens)) ∙ c.if-is_open.false) in
     subst (λ (s : State). IsFormatting s identity (c.args.slot + 1)) (sym (c.read.ensures.effect honest).same)
     (formatting-skip _ identity c.args.slot shut f)
+
+pub returns-in_err-read-clause-work : goal.returns-in_err-read-clause-work
+returns-in_err-read-clause-work g c =
+    let d = g.D.SectorDisk.disk in
+    failed (d c.args.disk.now) (d c.read.new.self) c.from_residual.result c.from_residual.ensures.0 c.read.ensures.call.work.works c.in_err-read.ensures.call.work.err
+
+pub returns-in_err-read-clause-closed : goal.returns-in_err-read-clause-closed
+returns-in_err-read-clause-closed g c honest shut i = Spared-read _ _ _ _ c.read.result i c.read.ensures.call (c.read.ensures.effect honest)
+
+pub returns-in_err-read-clause-others : goal.returns-in_err-read-clause-others
+returns-in_err-read-clause-others g c honest i apart = Spared-read _ _ _ _ c.read.result i c.read.ensures.call (c.read.ensures.effect honest)
+
+pub returns-in_err-read-clause-images : goal.returns-in_err-read-clause-images
+returns-in_err-read-clause-images g c honest blank =
+    let d = g.D.SectorDisk.disk in
+    let start = Leaves-start (d c.args.disk.now) IsNotFormatted (blank-image _ blank) in
+    let after : IsBlank (now (d c.read.new.self)) = subst IsBlank (sym (c.read.ensures.effect honest).same) blank in
+    Leaves-call _ _ (d c.read.new.self) c.read.result IsNotFormatted start c.read.ensures.call (blank-image _ after)
+
+pub returns-in_err-write-clause-work : goal.returns-in_err-write-clause-work
+returns-in_err-write-clause-work g c =
+    let d = g.D.SectorDisk.disk in
+    failed-later (d c.args.disk.now) (d c.read.new.self) (d c.write.new.self) c.from_residual-in_err-write.result c.from_residual-in_err-write.ensures.0
+    c.read.ensures.call.work.works c.write.ensures.call.work.works c.in_err-write.ensures.call.work.err
+
+pub returns-in_ok-write-clause-work : goal.returns-in_ok-write-clause-work
+returns-in_ok-write-clause-work g c =
+    let d = g.D.SectorDisk.disk in
+    record {
+      works = Works-on (d c.args.disk.now) (d c.read.new.self) (d c.write.new.self) c.read.ensures.call.work.works c.write.ensures.call.work.works;
+      ok = c.in_ok-write.ensures.call.work.ok ∙ c.in_ok-read.ensures.call.work.ok;
+      err = tt;
+    }
+
+pub returns-in_ok-write-clause-blank : goal.returns-in_ok-write-clause-blank
+returns-in_ok-write-clause-blank g c honest = blank-written g (goal.at.returns-in_ok-write-clause-blank g c).After-write honest
+
+pub returns-else-is_open-clause-work : goal.returns-else-is_open-clause-work
+returns-else-is_open-clause-work g c = record { works = c.read.ensures.call.work.works; ok = c.in_ok-read.ensures.call.work.ok; err = tt }
+
+pub returns-else-is_open-clause-closed : goal.returns-else-is_open-clause-closed
+returns-else-is_open-clause-closed g c honest shut i = Spared-read _ _ _ _ c.read.result i c.read.ensures.call (c.read.ensures.effect honest)
+
+pub returns-else-is_open-clause-others : goal.returns-else-is_open-clause-others
+returns-else-is_open-clause-others g c honest i apart = Spared-read _ _ _ _ c.read.result i c.read.ensures.call (c.read.ensures.effect honest)
+
+pub returns-else-is_open-clause-images : goal.returns-else-is_open-clause-images
+returns-else-is_open-clause-images g c honest blank =
+    let d = g.D.SectorDisk.disk in
+    let start = Leaves-start (d c.args.disk.now) IsNotFormatted (blank-image _ blank) in
+    let after : IsBlank (now (d c.read.new.self)) = subst IsBlank (sym (c.read.ensures.effect honest).same) blank in
+    Leaves-call _ _ (d c.read.new.self) c.read.result IsNotFormatted start c.read.ensures.call (blank-image _ after)

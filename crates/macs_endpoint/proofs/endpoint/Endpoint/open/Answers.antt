@@ -49,6 +49,43 @@ returns-in_err-store-clause-opens g c =
     by_device before.sectors (now before).seen refused.fault (λ other. c.in_err-store.ensures.refused other honest)
     (fits (now before).seen (g.met.D.SectorDisk.sound c.args.disk (sym c.in_err-store.ensures.work_refused.0.honest ∙ honest)).fit))
 
+-- ---- what the store says of a disk that is refused
+
+pub returns-in_err-store-clause-names : goal.returns-in_err-store-clause-names
+returns-in_err-store-clause-names g c =
+    let risen = err_from_is_err_and c.from_residual.result c.from_residual.ensures.1 in
+    rw (risen.1, risen.2) c.in_err-store.ensures.names
+
+pub returns-in_err-store-clause-too_small : goal.returns-in_err-store-clause-too_small
+returns-in_err-store-clause-too_small g c =
+    let risen = err_from_is_err_and c.from_residual.result c.from_residual.ensures.1 in
+    rw (risen.1, risen.2) c.in_err-store.ensures.too_small
+
+pub returns-in_err-store-clause-small : goal.returns-in_err-store-clause-small
+returns-in_err-store-clause-small g c =
+    let risen = err_from_is_err_and c.from_residual.result c.from_residual.ensures.1 in
+    rw (risen.1, risen.2) c.in_err-store.ensures.small
+
+pub returns-in_err-store-clause-refused : goal.returns-in_err-store-clause-refused
+returns-in_err-store-clause-refused g c =
+    let risen = err_from_is_err_and c.from_residual.result c.from_residual.ensures.1 in
+    rw (risen.1, risen.2) c.in_err-store.ensures.refused
+
+pub returns-in_err-store-clause-unwritten : goal.returns-in_err-store-clause-unwritten
+returns-in_err-store-clause-unwritten g c =
+    let risen = err_from_is_err_and c.from_residual.result c.from_residual.ensures.1 in
+    rw (risen.1, risen.2) c.in_err-store.ensures.unwritten
+
+pub returns-in_err-store-clause-work_refused : goal.returns-in_err-store-clause-work_refused
+returns-in_err-store-clause-work_refused g c =
+    let risen = err_from_is_err_and c.from_residual.result c.from_residual.ensures.1 in
+    rw (risen.1, risen.2) c.in_err-store.ensures.work_refused
+
+pub returns-in_err-store-clause-any_moment_refused : goal.returns-in_err-store-clause-any_moment_refused
+returns-in_err-store-clause-any_moment_refused g c =
+    let risen = err_from_is_err_and c.from_residual.result c.from_residual.ensures.1 in
+    rw (risen.1, risen.2) c.in_err-store.ensures.any_moment_refused
+
 -- ---- numbers begin at their ceilings
 
 tx_begins : (block : ℕ) (next ceiling : Option ℕ) → next ≡ ceiling → InOrder next ceiling → IsTxWithin block next ceiling

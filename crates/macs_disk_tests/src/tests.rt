@@ -1,0 +1,169 @@
+//! Stories of calls, choices and power losses, with what is to be found worked out by hand.
+
+mod forgetful;
+mod fuses;
+mod memory;
+mod promises;
+mod stories;
+mod tearing;
+
+use macs_disk::{DeviceFault, Fuse, MemDisk, SectorDisk};
+use std::alloc::{Allocator, Global};
+use std::process::Abort;
+use std::test::Fail;
+
+/// A call of a disk.
+#[derive(Clone, Copy)]
+enum Call {
+    /// Fills a sector with an octet.
+    Fill(u64, u8),
+    /// Reads a sector, which is full of this octet.
+    Read(u64, u8),
+    Sync,
+}
+
+use Call::{Fill, Read, Sync};
+
+/// What is found of a sector: the octet that reads give, the one that is durable, and whether the
+/// sector is pending.
+type Found = (u8, u8, bool);
+
+/// A step of a story of a disk in memory.
+#[derive(Clone, Copy)]
+enum Step {
+    /// A call that is done.
+    Make(Call),
+    /// Chooses that a power loss fills a sector with an octet; whether that sector is pending.
+    Tear(u64, u8, bool),
+    Crash,
+    /// What is found of a sector.
+    Find(u64, Found),
+}
+
+/// A sector full of an octet.
+fn full(octet: u8) -> [u8; 512] {
+    let mut sector = [0; 512];
+    sector.fill(octet);
+    sector
+}
+
+/// The octet that a sector is full of.
+fn octet_of(rt: &impl Abort, sector: &[u8; 512]) -> u8 {
+    assert!(rt; *sector == full(sector[0]));
+    sector[0]
+}
+
+fn fill<D: SectorDisk>(
+    rt: &impl Abort,
+    disk: &mut D,
+    at: u64,
+    octet: u8,
+) -> Result<(), DeviceFault> {
+    assert!(rt; at < disk.sectors());
+    disk.write(at, &full(octet))
+}
+
+/// The octet that a sector is full of, as a read gives it.
+fn seen<D: SectorDisk>(rt: &impl Abort, disk: &mut D, at: u64) -> Result<u8, DeviceFault> {
+    assert!(rt; at < disk.sectors());
+    let mut sector = [0; 512];
+    disk.read(at, &mut sector)?;
+    Ok(octet_of(rt, &sector))
+}
+
+/// Makes one call.
+fn make<D: SectorDisk>(rt: &impl Abort, disk: &mut D, call: Call) -> Result<(), DeviceFault> {
+    match call {
+        Fill(at, octet) => fill(rt, disk, at, octet),
+        Read(at, octet) => {
+            assert_eq!(rt; seen(rt, disk, at)?, octet);
+            Ok(())
+        }
+        Sync => disk.sync(),
+    }
+}
+
+/// Makes calls. So many are done, and those behind them fail.
+fn answers<D: SectorDisk>(rt: &impl Abort, disk: &mut D, calls: &[Call], done: usize) {
+    for (i, call) in calls.iter().enumerate() {
+        assert_eq!(rt; make(rt, disk, *call).is_ok(), i < done, "call {i}");
+    }
+}
+
+/// Makes calls of a disk behind a fuse that passes so many of them, and gives the disk back.
+fn stopped<D: SectorDisk>(rt: &impl Abort, disk: D, calls: &[Call], done: usize) -> D {
+    let sectors = disk.sectors();
+    let mut fuse = Fuse::new(disk, done as u64);
+    assert!(rt; fuse.sectors() == sectors);
+    answers(rt, &mut fuse, calls, done);
+    fuse.into_inner()
+}
+
+/// The octet that a sector is full of durably.
+fn durable<A: Allocator>(rt: &impl Abort, disk: &MemDisk<A>, at: u64) -> u8 {
+    assert!(rt; at < disk.sectors());
+    let mut sector = [0; 512];
+    disk.durable(at, &mut sector);
+    octet_of(rt, &sector)
+}
+
+fn is_pending<A: Allocator>(rt: &impl Abort, disk: &MemDisk<A>, at: u64) -> bool {
+    assert!(rt; at < disk.sectors());
+    disk.is_pending(at)
+}
+
+fn found<A: Allocator>(
+    rt: &impl Abort,
+    disk: &mut MemDisk<A>,
+    at: u64,
+) -> Result<Found, DeviceFault> {
+    let read = seen(rt, disk, at)?;
+    Ok((read, durable(rt, disk, at), is_pending(rt, disk, at)))
+}
+
+/// Chooses that a power loss fills a sector with an octet.
+fn tear<A: Allocator>(rt: &impl Abort, disk: &mut MemDisk<A>, at: u64, octet: u8) -> bool {
+    assert!(rt; at < disk.sectors());
+    disk.tear(at, &full(octet))
+}
+
+/// Takes one step.
+fn take<A: Allocator>(
+    rt: &impl Abort,
+    disk: &mut MemDisk<A>,
+    step: Step,
+) -> Result<(), DeviceFault> {
+    match step {
+        Step::Make(call) => make(rt, disk, call)?,
+        Step::Tear(at, octet, pending) => assert_eq!(rt; tear(rt, disk, at, octet), pending),
+        Step::Crash => disk.crash(),
+        Step::Find(at, wanted) => assert_eq!(rt; found(rt, disk, at)?, wanted, "sector {at}"),
+    }
+    Ok(())
+}
+
+/// Takes steps, one after the other.
+fn play<A: Allocator>(
+    rt: &impl Abort,
+    disk: &mut MemDisk<A>,
+    story: &[Step],
+) -> Result<(), DeviceFault> {
+    for step in story {
+        take(rt, disk, *step)?;
+    }
+    Ok(())
+}
+
+/// A new disk.
+fn blank(rt: &impl Abort, alloc: Global, sectors: u64) -> Result<MemDisk, Fail> {
+    let disk = MemDisk::new(alloc, sectors)?;
+    assert!(rt; disk.sectors() == sectors);
+    Ok(disk)
+}
+
+/// Takes steps on a new disk.
+fn begin(rt: &impl Abort, alloc: Global, sectors: u64, story: &[Step]) -> Result<(), Fail> {
+    let mut disk = blank(rt, alloc, sectors)?;
+    play(rt, &mut disk, story)?;
+    Ok(())
+}

@@ -1,0 +1,153 @@
+//! Endpoints on disks in memory: what they answer, and what is found after a power loss. Blocks are 4
+//! packet numbers on either side.
+
+mod commands;
+mod counting;
+mod formatting;
+mod frames;
+mod receiving;
+mod sending;
+mod serving;
+mod steps;
+mod stops;
+
+use frames::{PEER, PEER_KEY};
+use macs_config::{Command, Identity};
+use macs_disk::{Fuse, MemDisk, SectorDisk};
+use macs_endpoint::{Endpoint, format};
+use macs_frame::{An, Sci};
+use macs_rxsc::{Kind, Reason, Verdict};
+use std::alloc::Global;
+use std::process::Abort;
+use steps::{keeps, play};
+
+/// How many sectors a disk needs.
+const SECTORS: u64 = 1_028;
+
+/// How many calls an opening makes of a disk with a new journal: a sync, the reads of two head gates
+/// and a head body, of 255 gates behind the snapshot and of a body. It reads one more for each record.
+const OPENING: u64 = 1 + 3 + 255 + 1;
+
+/// The end of the packet numbers.
+const END: u64 = 4_294_967_296;
+
+/// The endpoint of most tests.
+const OWN: Sci = Sci([2, 0, 0, 0, 0, 1, 0, 1]);
+
+/// Another channel than the peer's.
+const OTHER: Sci = Sci([9; 8]);
+
+/// The command that adds the peer's channel.
+const ADD: Command = Command::RxAdd { sci: PEER };
+
+const OK: Verdict = Verdict::Delivered(Kind::Ok);
+
+const LATE: Verdict = Verdict::Discarded(Reason::Late);
+
+const NO_TAG: Verdict = Verdict::Discarded(Reason::NoTag);
+
+fn number_of(rt: &impl Abort, association: u8) -> An {
+    An::new(association).expect(rt, "association number")
+}
+
+fn window(window: u32) -> Command {
+    Command::SetReplay { on: true, window }
+}
+
+/// A transmit association with confidentiality.
+fn tx_install(an: An, key: u128, start: u32) -> Command {
+    Command::TxInstall {
+        an,
+        key: key.to_be_bytes(),
+        start,
+        confidential: true,
+        offset: 0,
+    }
+}
+
+/// A receive association of the peer's channel.
+fn rx_install(an: An, start: u32) -> Command {
+    Command::RxInstall {
+        sci: PEER,
+        an,
+        key: PEER_KEY.to_be_bytes(),
+        start,
+        offset: 0,
+    }
+}
+
+/// A disk in memory of so many sectors.
+fn blank(rt: &impl Abort, alloc: Global, sectors: u64) -> MemDisk {
+    match MemDisk::new(alloc, sectors) {
+        Ok(disk) => disk,
+        Err(_) => panic!(rt; "no disk"),
+    }
+}
+
+/// A disk in memory with the journal of a new endpoint.
+fn formatted(rt: &impl Abort, alloc: Global, sci: Sci) -> MemDisk {
+    let identity = Identity::new(sci, 4, 4).expect(rt, "identity");
+    let mut disk = blank(rt, alloc, SECTORS);
+    assert!(rt; format(&mut disk, &identity).is_ok());
+    disk
+}
+
+/// The endpoint of a disk.
+fn opened<D: SectorDisk + Drop>(rt: &impl Abort, disk: D) -> Endpoint<D> {
+    match Endpoint::open(disk) {
+        Ok(endpoint) => endpoint,
+        Err(_) => panic!(rt; "not opened"),
+    }
+}
+
+/// A new endpoint.
+fn made(rt: &impl Abort, alloc: Global, sci: Sci) -> Endpoint<MemDisk> {
+    opened(rt, formatted(rt, alloc, sci))
+}
+
+/// An endpoint whose frames go out under association 0, from a first packet number on.
+fn sender(rt: &impl Abort, alloc: Global, start: u32) -> Endpoint<MemDisk> {
+    let an = number_of(rt, 0);
+    let steps = [
+        keeps(tx_install(an, 1, start)),
+        keeps(Command::TxUse { an }),
+    ];
+    let mut endpoint = made(rt, alloc, OWN);
+    play(rt, &mut endpoint, &steps);
+    endpoint
+}
+
+/// Gives an endpoint the peer's channel and its association 2, from packet number 1 on.
+fn add_peer(rt: &impl Abort, endpoint: &mut Endpoint<MemDisk>) {
+    let steps = [keeps(ADD), keeps(rx_install(number_of(rt, 2), 1))];
+    play(rt, endpoint, &steps);
+}
+
+/// An endpoint with the peer's channel and its association 2, from packet number 1 on.
+fn receiver(rt: &impl Abort, alloc: Global) -> Endpoint<MemDisk> {
+    let mut endpoint = made(rt, alloc, OWN);
+    add_peer(rt, &mut endpoint);
+    endpoint
+}
+
+/// The endpoint of a disk after a power loss.
+fn crashed(rt: &impl Abort, disk: MemDisk) -> Endpoint<MemDisk> {
+    let mut disk = disk;
+    disk.crash();
+    opened(rt, disk)
+}
+
+/// The endpoint after a power loss.
+fn reopened(rt: &impl Abort, endpoint: Endpoint<MemDisk>) -> Endpoint<MemDisk> {
+    crashed(rt, endpoint.into_disk())
+}
+
+/// A disk behind a fuse that passes the calls of an opening and so many.
+fn fuse(disk: MemDisk, calls: u64) -> Fuse<MemDisk> {
+    Fuse::new(disk, OPENING.saturating_add(calls))
+}
+
+/// The disk behind the fuse.
+fn unfused(endpoint: Endpoint<Fuse<MemDisk>>) -> MemDisk {
+    endpoint.into_disk().into_inner()
+}
