@@ -2,7 +2,7 @@ use Rattle.std.proofs.Common.{sym, ◌∙◌}
 use Rattle.macs_disk.specs.Disk.{IsHonest}
 use Rattle.macs_disk.proofs.Calls.{read-leaves}
 use Rattle.macs_disk.proofs.Moments.{Nothing-join, Works-on}
-use Rattle.macs_journal.proofs.Working.{failed, failed-later}
+use Rattle.macs_journal.proofs.Working.{failed, failed-later, not-owed}
 use Rattle.macs_journal.proofs.heads.read_head.Goals as goal
 
 pub returns-in_err-read-clause-work : goal.returns-in_err-read-clause-work
@@ -79,3 +79,9 @@ returns-in-None-clause-nothing g c honest =
     Nothing-join old mid new
     (read-leaves old mid c.head_gate.result c.read.new.into c.read.result c.read.ensures.call (c.read.ensures.effect before))
     (read-leaves mid new c.head_body.result c.read-2.new.into c.read-2.result c.read-2.ensures.call (c.read-2.ensures.effect honest))
+
+pub returns-in_err-read-clause-head : goal.returns-in_err-read-clause-head
+returns-in_err-read-clause-head g c = not-owed _ c.from_residual.result c.from_residual.ensures.0
+
+pub returns-in_err-read-2-clause-head : goal.returns-in_err-read-2-clause-head
+returns-in_err-read-2-clause-head g c = not-owed _ c.from_residual-in_err-read-2.result c.from_residual-in_err-read-2.ensures.0

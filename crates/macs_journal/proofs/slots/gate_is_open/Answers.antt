@@ -3,7 +3,7 @@ use Rattle.macs_disk.specs.Disk.{now}
 use Rattle.macs_disk.proofs.Calls.{read-leaves}
 use Rattle.macs_record.specs.Gates.{IsOpen}
 use Rattle.macs_journal.specs.Areas.{gate}
-use Rattle.macs_journal.proofs.Working.{failed}
+use Rattle.macs_journal.proofs.Working.{failed, not-owed}
 use Rattle.macs_journal.proofs.slots.gate_is_open.Goals as goal
 
 pub returns-in_err-read-clause-work : goal.returns-in_err-read-clause-work
@@ -39,3 +39,6 @@ returns-in_err-read-clause-same g c honest = (c.read.ensures.effect honest).same
 
 pub returns-clause-same : goal.returns-clause-same
 returns-clause-same g c honest = (c.read.ensures.effect honest).same
+
+pub returns-in_err-read-clause-gate : goal.returns-in_err-read-clause-gate
+returns-in_err-read-clause-gate g c = not-owed _ c.from_residual.result c.from_residual.ensures.0

@@ -1,6 +1,6 @@
 use Rattle.std.proofs.Common.{arith}
 use Rattle.macs_disk.proofs.Calls.{read-leaves}
-use Rattle.macs_journal.proofs.Working.{failed}
+use Rattle.macs_journal.proofs.Working.{failed, not-owed}
 use Rattle.macs_journal.proofs.slots.read_record.Goals as goal
 
 pub returns-in_err-read-clause-work : goal.returns-in_err-read-clause-work
@@ -29,3 +29,6 @@ returns-in_err-read-clause-same g c honest = (c.read.ensures.effect honest).same
 
 pub returns-clause-same : goal.returns-clause-same
 returns-clause-same g c honest = (c.read.ensures.effect honest).same
+
+pub returns-in_err-read-clause-value : goal.returns-in_err-read-clause-value
+returns-in_err-read-clause-value g c = not-owed _ c.from_residual.result c.from_residual.ensures.0
