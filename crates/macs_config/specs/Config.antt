@@ -24,6 +24,15 @@ pub record Edition : Type 0 where
 abbrev pub first_edition : Edition
 first_edition = record { channels = 8; long_keys = false }
 
+-- the edition that this program is of
+abbrev pub this_edition : Edition
+this_edition = first_edition
+
+-- whatever the smaller edition takes the larger takes too
+pub record IsUpTo (small large : Edition) : Type 0 where
+  pub channels : small.channels ≤ large.channels
+  pub long_keys : small.long_keys ≡ true → large.long_keys ≡ true
+
 -- how many keys may be spent on a side
 abbrev pub max_spent : ℕ
 max_spent = 512

@@ -4,7 +4,7 @@ use Rattle.std.specs.Prelude.{None, Option}
 use Rattle.std.proofs.lemmas.Bool.{cases_lt}
 use Rattle.std.proofs.lemmas.List.{length-replicate, get_or-replicate, get_or_past}
 use Rattle.macs_disk.specs.States.{IsSector, settled, zero_sector}
-use Rattle.macs_disk.specs.Recorded.{held, choice, recorded}
+use Rattle.macs_disk.specs.Recorded.{sectors_in, choice_at, recorded}
 use Rattle.macs_disk.specs.Memory.{blank}
 use Rattle.macs_disk.specs.declared.record.Entry.{Entry}
 
@@ -22,12 +22,12 @@ zero-sector : IsSector zero_sector
 unfolding zero_sector
 zero-sector = record { size = length-replicate {A = ℕ} 512 0; octets = λ i. rw (get_or-same {X = ℕ} 512 i 0) (lit< tt) }
 
-pub held-zeros : (n i : ℕ) → IsSector (held (replicate n zero_sector) i)
+pub held-zeros : (n i : ℕ) → IsSector (sectors_in (replicate n zero_sector) i)
 held-zeros n i = subst IsSector (sym (get_or-same n i zero_sector)) zero-sector
 
 pub blank-memory : (n : ℕ) (first seen : List (List ℕ)) (choices : List (Option (List ℕ))) (es : List Entry) (c f : ℕ) → first ≡ replicate n zero_sector → seen ≡ replicate n zero_sector
     → choices ≡ replicate n None → es ≡ [] → c ≡ 0 → f ≡ 0
-    → record { disk = recorded (length seen) (settled (held first)) es c f; chosen = choice choices } ≡ blank n
+    → record { disk = recorded (length seen) (settled (sectors_in first)) es c f; chosen = choice_at choices } ≡ blank n
 blank-memory n first seen choices es c f is_first is_seen is_choices empty is_clock is_failures =
     let size : length seen ≡ n = ap length is_seen ∙ length-replicate n zero_sector in
     rw (empty, is_clock, is_failures) (λ j. record {

@@ -1,8 +1,8 @@
 -- How calls of a disk follow one another.
 use Rattle.std.proofs.Common.{◌≡◌, ◌≤◌, inl, inr, ℕ, refl, ◌∙◌, subst, arith, Result, Ok, Err}
 use Rattle.std.proofs.lemmas.Bool.{cases_lt}
-use Rattle.macs_disk.specs.States.{Image, State, IsImage}
-use Rattle.macs_disk.specs.Disk.{Disk, now, LeftSince, Works, Rose, IsWork, IsCall}
+use Rattle.macs_disk.specs.States.{Image, DiskState, IsImage}
+use Rattle.macs_disk.specs.Disk.{Disk, now, LeftSince, Works, FailsOnce, IsWork, IsDeviceCall}
 use Rattle.macs_disk.specs.Runs.{Leaves, LeavesNothingNew}
 
 -- before the first call
@@ -27,23 +27,23 @@ Works-on old mid new first second = record {
   honest = second.honest ∙ first.honest;
 }
 
--- a fault stays one, whatever came before and comes after
-pub Rose-on : (old mid new : Disk) → Rose old mid → Works mid new → Rose old new
-Rose-on old mid new rose works = elim rose [
-  | inl counted ↦ inl (omega (arith, counted, works.failures))
+-- one fault stays one, where none came before, and where none comes after
+pub FailsOnce-on : (old mid new : Disk) → FailsOnce old mid → Works mid new → new.failures ≡ mid.failures → FailsOnce old new
+FailsOnce-on old mid new once works steady = elim once [
+  | inl counted ↦ inl (steady ∙ counted)
   | inr is_worn ↦ inr (works.worn is_worn)
 ]
 
-pub Rose-before : (old mid new : Disk) → Works old mid → Rose mid new → Rose old new
-Rose-before old mid new works rose = elim rose [
-  | inl counted ↦ inl (omega (arith, counted, works.failures))
+pub FailsOnce-before : (old mid new : Disk) → mid.failures ≡ old.failures → FailsOnce mid new → FailsOnce old new
+FailsOnce-before old mid new steady once = elim once [
+  | inl counted ↦ inl (omega (arith, counted, steady))
   | inr is_worn ↦ inr is_worn
 ]
 
 -- work without a fault, and then more
 pub Work-on : {T E : Type 0} (old mid new : Disk) (result : Result T E) → Works old mid → mid.failures ≡ old.failures → IsWork mid new result → IsWork old new result
 Work-on old mid new (Ok x) before steady work = record { works = Works-on old mid new before work.works; ok = work.ok ∙ steady; err = tt }
-Work-on old mid new (Err e) before steady work = record { works = Works-on old mid new before work.works; ok = tt; err = Rose-before old mid new before work.err }
+Work-on old mid new (Err e) before steady work = record { works = Works-on old mid new before work.works; ok = tt; err = FailsOnce-before old mid new steady work.err }
 
 -- an image that is left since a moment is left since each earlier one
 pub Left-earlier : (d : Disk) (since until : ℕ) (image : Image) → since ≤ until → LeftSince d until image → LeftSince d since image
@@ -55,7 +55,7 @@ Left-now d since image le left = (d.clock, le, omega arith, left)
 
 -- what was left up to a moment is left of the disk as it was then
 pub Left-before : (old new : Disk) (since : ℕ) (image : Image) → Works old new → (left : LeftSince new since image) → left.0 ≤ old.clock → LeftSince old since image
-Left-before old new since image works left le = (left.0, left.1, le, subst (λ (s : State). IsImage s image) (works.past left.0 le) left.3)
+Left-before old new since image works left le = (left.0, left.1, le, subst (λ (s : DiskState). IsImage s image) (works.past left.0 le) left.3)
 
 -- before the first call
 pub Leaves-start : (d : Disk) (P : Image → Type 0) → ((image : Image) → IsImage (now d) image → P image) → Leaves d d P
@@ -73,7 +73,7 @@ Leaves-join old mid new P Q R first second from_p from_q = record {
   works = Works-on old mid new first.works second.works;
   each = λ image left. elim (cases_lt mid.clock left.0) [
     | inl after ↦ from_q image (second.each image (left.0, omega (arith, after), left.2, left.3))
-    | inr before ↦ from_p image (first.each image (left.0, left.1, before, subst (λ (s : State). IsImage s image) (second.works.past left.0 before) left.3))
+    | inr before ↦ from_p image (first.each image (left.0, left.1, before, subst (λ (s : DiskState). IsImage s image) (second.works.past left.0 before) left.3))
   ];
 }
 
@@ -81,7 +81,7 @@ pub Leaves-more : (old mid new : Disk) (P : Image → Type 0) → Leaves old mid
 Leaves-more old mid new P first second = Leaves-join old mid new P P P first second (λ image p. p) (λ image p. p)
 
 -- one call more
-pub Leaves-call : {T E : Type 0} (old mid new : Disk) (result : Result T E) (P : Image → Type 0) → Leaves old mid P → IsCall mid new result
+pub Leaves-call : {T E : Type 0} (old mid new : Disk) (result : Result T E) (P : Image → Type 0) → Leaves old mid P → IsDeviceCall mid new result
     → ((image : Image) → IsImage (now new) image → P image) → Leaves old new P
 Leaves-call old mid new result P so_far call here = record {
   works = Works-on old mid new so_far.works call.work.works;
@@ -89,7 +89,7 @@ Leaves-call old mid new result P so_far call here = record {
     | inl after ↦
         let at_new : left.0 ≡ new.clock = omega (arith, left.2, after, call.at_most_one) in
         here image (subst (λ (k : ℕ). IsImage (new.past k) image) at_new left.3)
-    | inr before ↦ so_far.each image (left.0, left.1, before, subst (λ (s : State). IsImage s image) (call.work.works.past left.0 before) left.3)
+    | inr before ↦ so_far.each image (left.0, left.1, before, subst (λ (s : DiskState). IsImage s image) (call.work.works.past left.0 before) left.3)
   ];
 }
 
@@ -104,7 +104,7 @@ Leaves-now old new P leaves image left = leaves.each image (Left-now new old.clo
 pub Nothing-start : (d : Disk) → LeavesNothingNew d d
 Nothing-start d = Leaves-start d (IsImage (now d)) (λ image left. left)
 
-pub Nothing-call : {T E : Type 0} (old mid new : Disk) (result : Result T E) → LeavesNothingNew old mid → IsCall mid new result
+pub Nothing-call : {T E : Type 0} (old mid new : Disk) (result : Result T E) → LeavesNothingNew old mid → IsDeviceCall mid new result
     → ((image : Image) → IsImage (now new) image → IsImage (now old) image) → LeavesNothingNew old new
 Nothing-call old mid new result so_far call here = Leaves-call old mid new result (IsImage (now old)) so_far call here
 

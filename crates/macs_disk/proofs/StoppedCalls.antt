@@ -2,8 +2,9 @@
 use Rattle.std.proofs.Common.{◌≡◌, ◌<◌, ◌≤◌, ◌+◌, ◌-◌, ◌^◌, ◌==◌, ◌||◌, ◌∙◌, ℕ, Bool, true, false, inl, inr, min, refl, sym, subst, arith, Result, Ok, Err, IsErr}
 use Rattle.std.proofs.lemmas.Bool.{cases_eq, eq-eqb}
 use Rattle.std.proofs.lemmas.Bool.Decides.{nat_tests}
-use Rattle.macs_disk.specs.Disk.{Disk, Rose, IsCall}
-use Rattle.macs_disk.specs.Fused.{Fused, stopped, fused, fuse_disk, fused-now}
+use Rattle.macs_disk.specs.Disk.{Disk, FailsOnce, IsDeviceCall}
+use Rattle.macs_disk.specs.Fused.{FuseValue, stopped, fused, fuse_disk}
+use Rattle.macs_disk.specs.Evidence.{fused-now}
 
 abbrev most : ℕ
 most = 2 ^ 64 - 1
@@ -21,8 +22,8 @@ module _ (disk : Disk) (n m : ℕ) (fits : n ≤ most) (next : m ≡ min (n + 1)
   full : n ≡ most → (fused disk m).worn ≡ true
   full is = or_true disk.worn (m == most) (eq-eqb m most (omega (arith, is, next)))
 
-  rose : Rose (fused disk n) (fused disk m)
-  rose = elim (cases_eq n most) [
+  once : FailsOnce (fused disk n) (fused disk m)
+  once = elim (cases_eq n most) [
     | inl is ↦ inr (full is)
     | inr other ↦ inl (omega (arith, other, fits, next))
   ]
@@ -40,7 +41,7 @@ module _ (disk : Disk) (n m : ℕ) (fits : n ≤ most) (next : m ≡ min (n + 1)
     | inr other ↦ absurd (let no : (n == most) ≡ false = grind (arith, nat_tests) in let h : (fused disk n).worn ≡ false = rw (is, no) refl in cc)
   ])
 
-  pub stopped-call : {T E : Type 0} (e : E) → IsCall {T = T} (fused disk n) (fused disk m) (Err e)
+  pub stopped-call : {T E : Type 0} (e : E) → IsDeviceCall {T = T} (fused disk n) (fused disk m) (Err e)
   stopped-call e = record {
     work = record {
       works = record {
@@ -52,7 +53,7 @@ module _ (disk : Disk) (n m : ℕ) (fits : n ≤ most) (next : m ≡ min (n + 1)
         honest = refl;
       };
       ok = tt;
-      err = rose;
+      err = once;
     };
     at_most_one = omega (arith, next);
     one = λ fresh. let lt = not_full fresh in omega (arith, lt, next);
@@ -62,9 +63,9 @@ module _ (disk : Disk) (n m : ℕ) (fits : n ≤ most) (next : m ≡ min (n + 1)
     alike = λ _. omega arith;
   }
 
-pub stop-call : {D T E : Type 0} (disk : D → Disk) (old new : Fused D) (result : Result T E) → IsErr result → old.failed < 2 ^ 64 → new ≡ stopped old
-    → IsCall (fuse_disk disk old) (fuse_disk disk new) result
+pub stop-call : {D T E : Type 0} (disk : D → Disk) (old new : FuseValue D) (result : Result T E) → IsErr result → old.failed < 2 ^ 64 → new ≡ stopped old
+    → IsDeviceCall (fuse_disk disk old) (fuse_disk disk new) result
 stop-call disk old new (Ok x) is fits stop = absurd cc
 stop-call {D} {T} disk old new (Err e) is fits stop =
-    subst (λ (f : Fused D). IsCall {T = T} (fuse_disk disk old) (fuse_disk disk f) (Err e)) (sym stop)
+    subst (λ (f : FuseValue D). IsDeviceCall {T = T} (fuse_disk disk old) (fuse_disk disk f) (Err e)) (sym stop)
     (stopped-call (disk old.inner) old.failed (min (old.failed + 1) most) (omega (arith, fits)) refl e)

@@ -1,19 +1,19 @@
 -- A disk through time, and what one call of it does.
 use Rattle.std.specs.Prelude.{◌≡◌, ◌≤◌, ◌<◌, ◌+◌, ◌⊎◌, ℕ, Bool, true, false, List, Result, IsErr, OnOk, OnErr}
-use Rattle.macs_disk.specs.States.{IsSector, Image, State, IsImage, settled, written, synced}
+use Rattle.macs_disk.specs.States.{IsSector, Image, DiskState, IsImage, settled, written, synced}
 
 -- a disk through time. `past k` is its state at moment k, for each k up to the clock. A worn disk
 -- fails each call. Whether it is honest says whether its calls do what is said of an honest disk.
 pub record Disk : Type 0 where
   pub sectors : ℕ
-  pub past : ℕ → State
+  pub past : ℕ → DiskState
   pub clock : ℕ
   pub failures : ℕ
   pub honest : Bool
   pub worn : Bool
 
 -- its state at this moment
-abbrev pub now : Disk → State
+abbrev pub now : Disk → DiskState
 now disk = disk.past disk.clock
 
 abbrev pub IsHonest : Disk → Type 0
@@ -50,20 +50,20 @@ pub record Works (old new : Disk) : Type 0 where
   pub sectors : new.sectors ≡ old.sectors
   pub honest : new.honest ≡ old.honest
 
--- a failure was counted, or the disk is worn, so that one may have failed uncounted
-abbrev pub Rose : Disk → Disk → Type 0
-Rose old new = (old.failures < new.failures) ⊎ (new.worn ≡ true)
+-- one failure was counted and no more, or the disk is worn, so that one may have failed uncounted
+abbrev pub FailsOnce : Disk → Disk → Type 0
+FailsOnce old new = (new.failures ≡ old.failures + 1) ⊎ (new.worn ≡ true)
 
--- calls, and a result that tells whether one of them failed
+-- calls, and a result that tells whether the last of them failed: no call comes behind a failed one
 pub record IsWork {T E : Type 0} (old new : Disk) (result : Result T E) : Type 0 where
   pub works : Works old new
   pub ok : OnOk result (new.failures ≡ old.failures)
-  pub err : OnErr result (Rose old new)
+  pub err : OnErr result (FailsOnce old new)
 
 -- what each call does on every disk, honest or not: a moment passes, and a failure is counted exactly
 -- where one is answered. A worn disk fails the call and its state stands; its clock and its failures
 -- stand as well, or both rise by one (those of a fuse, which counts the calls that it fails itself).
-pub record IsCall {T E : Type 0} (old new : Disk) (result : Result T E) : Type 0 where
+pub record IsDeviceCall {T E : Type 0} (old new : Disk) (result : Result T E) : Type 0 where
   pub work : IsWork old new result
   pub at_most_one : new.clock ≤ old.clock + 1
   pub one : old.worn ≡ false → new.clock ≡ old.clock + 1
@@ -73,16 +73,16 @@ pub record IsCall {T E : Type 0} (old new : Disk) (result : Result T E) : Type 0
   pub alike : old.worn ≡ true → new.clock + old.failures ≡ old.clock + new.failures
 
 -- what a read does on an honest disk
-pub record Reads {T E : Type 0} (old new : State) (at : ℕ) (into : List ℕ) (result : Result T E) : Type 0 where
+pub record Reads {T E : Type 0} (old new : DiskState) (at : ℕ) (into : List ℕ) (result : Result T E) : Type 0 where
   pub same : new ≡ old
   pub ok : OnOk result (into ≡ old.seen at)
 
 -- what a write does on an honest disk: where it fails nothing was written, or some 512 octets were
-pub record Writes {T E : Type 0} (old new : State) (at : ℕ) (octets : List ℕ) (result : Result T E) : Type 0 where
+pub record Writes {T E : Type 0} (old new : DiskState) (at : ℕ) (octets : List ℕ) (result : Result T E) : Type 0 where
   pub ok : OnOk result (new ≡ written old at octets)
   pub err : OnErr result ((new ≡ old) ⊎ ((other : List ℕ) × IsSector other × (new ≡ written old at other)))
 
 -- what a sync does on an honest disk: where it fails nothing is durable that was not
-pub record Syncs {T E : Type 0} (old new : State) (result : Result T E) : Type 0 where
+pub record Syncs {T E : Type 0} (old new : DiskState) (result : Result T E) : Type 0 where
   pub ok : OnOk result (new ≡ synced old)
   pub err : OnErr result (new ≡ old)

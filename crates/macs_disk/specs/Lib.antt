@@ -5,3 +5,4 @@ pub mod Fused
 pub mod Recorded
 pub mod Memory
 pub mod MemDisks
+pub mod Evidence

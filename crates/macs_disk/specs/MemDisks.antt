@@ -2,12 +2,12 @@
 use Rattle.std.specs.Prelude.{length}
 use Rattle.macs_disk.specs.States.{settled}
 use Rattle.macs_disk.specs.Disk.{Disk}
-use Rattle.macs_disk.specs.Recorded.{held, choice, recorded}
+use Rattle.macs_disk.specs.Recorded.{sectors_in, choice_at, recorded}
 use Rattle.macs_disk.specs.Memory.{Memory}
 use Rattle.macs_disk.specs.declared.memory.MemDisk.{MemDisk}
 
 abbrev pub disk_of : {A : Type 0} → MemDisk A → Disk
-disk_of m = recorded (length m.seen.items) (settled (held m.first.items)) m.calls.entries.items m.calls.clock m.calls.failures
+disk_of m = recorded (length m.seen.items) (settled (sectors_in m.first.items)) m.calls.entries.items m.calls.clock m.calls.failures
 
 abbrev pub memory_of : {A : Type 0} → MemDisk A → Memory
-memory_of m = record { disk = disk_of m; chosen = choice m.choices.items }
+memory_of m = record { disk = disk_of m; chosen = choice_at m.choices.items }

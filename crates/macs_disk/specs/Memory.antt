@@ -1,6 +1,6 @@
 -- A disk in memory, as its callers see it.
 use Rattle.std.specs.Prelude.{ℕ, true, false, List, Option, Some, None, unwrap_or}
-use Rattle.macs_disk.specs.States.{Image, put, settled, zero_sector}
+use Rattle.macs_disk.specs.States.{Image, put_sector, settled, zero_sector}
 use Rattle.macs_disk.specs.Disk.{Disk, now, restarted}
 
 -- a disk in memory: the disk, and what was chosen that a power loss leaves in its sectors
@@ -26,7 +26,7 @@ blank sectors =
 
 -- after this was chosen for a sector
 abbrev pub torn : Memory → ℕ → List ℕ → Memory
-torn memory at octets = record { disk = memory.disk; chosen = put memory.chosen at (Some octets) }
+torn memory at octets = record { disk = memory.disk; chosen = put_sector memory.chosen at (Some octets) }
 
 -- what a power loss leaves now: the choices, and the last writes where none was made
 abbrev pub image_left : Memory → Image

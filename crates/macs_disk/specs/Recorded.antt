@@ -1,36 +1,35 @@
 -- What a disk in memory keeps: its record of writes and syncs, and what these made of its sectors.
 use Rattle.std.specs.Prelude.{◌≡◌, ◌≤◌, ◌-◌, ◌^◌, ◌==◌, ℕ, if◌then◌else◌, Bool, true, false, List, [], ◌∷◌, length, get_or, nat_le, Option, Some, None}
-use Rattle.std.proofs.Common.{arith, inl, inr}
-use Rattle.std.proofs.lemmas.Bool.{cases_eq}
-use Rattle.std.proofs.lemmas.Bool.Decides.{nat_tests}
-use Rattle.macs_disk.specs.States.{IsSector, IsSound, Image, State, settled, written, synced, zero_sector}
+use Rattle.macs_disk.specs.States.{IsSector, Image, DiskState, settled, written, synced, zero_sector}
 use Rattle.macs_disk.specs.Disk.{Disk}
 use Rattle.macs_disk.specs.declared.record.Entry.{Entry}
 use Rattle.macs_disk.specs.declared.record.Call.{Call}
 use Rattle.macs_disk.specs.declared.record.Call.TheVariants.{Write, Sync}
 
 -- an image by the list of its sectors, and zeros behind them
-abbrev pub held : List (List ℕ) → Image
-held sectors i = get_or sectors i zero_sector
+abbrev pub sectors_in : List (List ℕ) → Image
+sectors_in sectors i = get_or sectors i zero_sector
 
-abbrev pub flag : List Bool → ℕ → Bool
-flag pending i = get_or pending i false
+-- whether a sector is pending, by the list of flags
+abbrev pub flag_at : List Bool → ℕ → Bool
+flag_at pending i = get_or pending i false
 
-abbrev pub choice : List (Option (List ℕ)) → ℕ → Option (List ℕ)
-choice choices i = get_or choices i None
+-- what was chosen for a sector, by the list of choices
+abbrev pub choice_at : List (Option (List ℕ)) → ℕ → Option (List ℕ)
+choice_at choices i = get_or choices i None
 
 -- after a call that was kept
-abbrev pub after : State → Call → State
-after state (Write at octets) = written state at octets
-after state Sync = synced state
+abbrev pub state_after : DiskState → Call → DiskState
+state_after state (Write at octets) = written state at octets
+state_after state Sync = synced state
 
 -- the state at moment k: what the calls up to k made of the state that the record began with
-abbrev pub replayed : State → List Entry → ℕ → State
+abbrev pub replayed : DiskState → List Entry → ℕ → DiskState
 replayed state [] k = state
-replayed state (e ∷ es) k = replayed (if nat_le e.clock k then after state e.call else state) es k
+replayed state (e ∷ es) k = replayed (if nat_le e.clock k then state_after state e.call else state) es k
 
 -- a disk by what it keeps: it is worn once its clock is full
-abbrev pub recorded : ℕ → State → List Entry → ℕ → ℕ → Disk
+abbrev pub recorded : ℕ → DiskState → List Entry → ℕ → ℕ → Disk
 recorded sectors state calls clock failures =
     record {
       sectors = sectors;
@@ -41,36 +40,21 @@ recorded sectors state calls clock failures =
       worn = clock == 2 ^ 64 - 1;
     }
 
-pub full-clock : (clock : ℕ) → (clock == 2 ^ 64 - 1) ≡ true → 2 ^ 64 - 1 ≤ clock
-full-clock clock is = elim (cases_eq clock (2 ^ 64 - 1)) [
-  | inl same ↦ omega (arith, same)
-  | inr other ↦ absurd (let no : (clock == 2 ^ 64 - 1) ≡ false = grind (arith, nat_tests) in cc)
-]
-
 -- the record of the calls so far gives what the disk holds
-pub record IsKept (first seen durable : List (List ℕ)) (pending : List Bool) (calls : List Entry) (clock : ℕ)
+pub record IsSoundMemory (first seen durable : List (List ℕ)) (pending : List Bool) (calls : List Entry) (clock : ℕ)
     : Type 0 where
-  pub is_now : replayed (settled (held first)) calls clock
-      ≡ record { seen = held seen; durable = held durable; pending = flag pending }
+  pub is_now : replayed (settled (sectors_in first)) calls clock
+      ≡ record { seen = sectors_in seen; durable = sectors_in durable; pending = flag_at pending }
   pub as_first : length first ≡ length seen
   pub as_durable : length durable ≡ length seen
   pub as_pending : length pending ≡ length seen
   pub small : length seen ≤ 65536
-  pub clean : (i : ℕ) → flag pending i ≡ false → held seen i ≡ held durable i
-  pub whole_seen : (i : ℕ) → IsSector (held seen i)
-  pub whole_durable : (i : ℕ) → IsSector (held durable i)
-
-pub kept-sound : (first seen durable : List (List ℕ)) (pending : List Bool) (calls : List Entry) (clock : ℕ)
-    → IsKept first seen durable pending calls clock → IsSound (replayed (settled (held first)) calls clock)
-kept-sound first seen durable pending calls clock kept =
-    rw kept.is_now (record {
-      fit = record { kept = kept.clean; whole = λ i _. kept.whole_seen i };
-      seen = kept.whole_seen;
-      durable = kept.whole_durable;
-    })
+  pub clean : (i : ℕ) → flag_at pending i ≡ false → sectors_in seen i ≡ sectors_in durable i
+  pub whole_seen : (i : ℕ) → IsSector (sectors_in seen i)
+  pub whole_durable : (i : ℕ) → IsSector (sectors_in durable i)
 
 -- what a power loss is to leave in some of the pending sectors
-pub record AreChoices (seen : List (List ℕ)) (pending : List Bool) (choices : List (Option (List ℕ))) : Type 0 where
+pub record AreChosen (seen : List (List ℕ)) (pending : List Bool) (choices : List (Option (List ℕ))) : Type 0 where
   pub as_choices : length choices ≡ length seen
-  pub sectors : (i : ℕ) (s : List ℕ) → choice choices i ≡ Some s → IsSector s
-  pub only_pending : (i : ℕ) (s : List ℕ) → choice choices i ≡ Some s → flag pending i ≡ true
+  pub sectors : (i : ℕ) (s : List ℕ) → choice_at choices i ≡ Some s → IsSector s
+  pub only_pending : (i : ℕ) (s : List ℕ) → choice_at choices i ≡ Some s → flag_at pending i ≡ true

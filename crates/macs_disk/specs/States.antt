@@ -12,42 +12,42 @@ Image = ℕ → List ℕ
 
 -- a disk at one moment: what reads give, what is durable, and which sectors are pending,
 -- that is, were written since the last sync that succeeded
-pub record State : Type 0 where
+pub record DiskState : Type 0 where
   pub seen : Image
   pub durable : Image
   pub pending : ℕ → Bool
 
 -- a power loss at that moment may leave this image: the durable octets of each sector that is not
 -- pending, and any 512 octets in each that is, each for itself
-pub record IsImage (state : State) (image : Image) : Type 0 where
+pub record IsImage (state : DiskState) (image : Image) : Type 0 where
   pub kept : (i : ℕ) → state.pending i ≡ false → image i ≡ state.durable i
   pub whole : (i : ℕ) → state.pending i ≡ true → IsSector (image i)
 
 -- sectors have 512 octets, and what reads give is one of the images
-pub record IsSound (state : State) : Type 0 where
+pub record IsSound (state : DiskState) : Type 0 where
   pub fit : IsImage state state.seen
   pub seen : (i : ℕ) → IsSector (state.seen i)
   pub durable : (i : ℕ) → IsSector (state.durable i)
 
 -- f, but x at one place
-abbrev pub put : {X : Type 0} → (ℕ → X) → ℕ → X → ℕ → X
-put f at x i = if i == at then x else f i
+abbrev pub put_sector : {X : Type 0} → (ℕ → X) → ℕ → X → ℕ → X
+put_sector f at x i = if i == at then x else f i
 
 -- after a write of these octets to a sector
-abbrev pub written : State → ℕ → List ℕ → State
+abbrev pub written : DiskState → ℕ → List ℕ → DiskState
 written state at octets =
     record {
-      seen = put state.seen at octets;
+      seen = put_sector state.seen at octets;
       durable = state.durable;
-      pending = put state.pending at true;
+      pending = put_sector state.pending at true;
     }
 
 -- reads give this image, all of it is durable, and nothing is pending
-abbrev pub settled : Image → State
+abbrev pub settled : Image → DiskState
 settled image = record { seen = image; durable = image; pending = λ _. false }
 
 -- after a sync
-abbrev pub synced : State → State
+abbrev pub synced : DiskState → DiskState
 synced state = settled state.seen
 
 -- a sector of zeros

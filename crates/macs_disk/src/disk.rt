@@ -2,7 +2,7 @@
 
 ghost use Rattle.std.specs.Prelude.{◌≡◌, ◌<◌, ◌≤◌, ◌-◌, ◌^◌, true};
 ghost use Rattle.macs_disk.specs.States.{IsSound};
-ghost use Rattle.macs_disk.specs.Disk.{Disk, IsCall, IsHonest, Reads, Syncs, Writes, now};
+ghost use Rattle.macs_disk.specs.Disk.{Disk, IsDeviceCall, IsHonest, Reads, Syncs, Writes, now};
 
 /// A call of the device failed.
 #[derive(Clone, Copy, Debug, PartialEq, Eq)]
@@ -30,7 +30,7 @@ pub trait SectorDisk {
     /// not, it changes nothing on the disk.
     fn read(&mut self, at: u64, into: &mut [u8; 512]) -> Result<(), DeviceFault>
         requires { at < (disk self.old).sectors }
-        ensures call { IsCall (disk self.old) (disk self.new) result }
+        ensures call { IsDeviceCall (disk self.old) (disk self.new) result }
         ensures effect { IsHonest (disk self.new)
             → Reads (now (disk self.old)) (now (disk self.new)) at into.new result };
 
@@ -38,14 +38,14 @@ pub trait SectorDisk {
     /// was, or its sector pending with some 512 octets that reads give from then on.
     fn write(&mut self, at: u64, from: &[u8; 512]) -> Result<(), DeviceFault>
         requires { at < (disk self.old).sectors }
-        ensures call { IsCall (disk self.old) (disk self.new) result }
+        ensures call { IsDeviceCall (disk self.old) (disk self.new) result }
         ensures effect { IsHonest (disk self.new)
             → Writes (now (disk self.old)) (now (disk self.new)) at from.now result };
 
     /// Makes every sector durable as reads give it: nothing is pending then. A sync that fails
     /// changes nothing, and all that was pending still is.
     fn sync(&mut self) -> Result<(), DeviceFault>
-        ensures call { IsCall (disk self.old) (disk self.new) result }
+        ensures call { IsDeviceCall (disk self.old) (disk self.new) result }
         ensures effect { IsHonest (disk self.new)
             → Syncs (now (disk self.old)) (now (disk self.new)) result };
 

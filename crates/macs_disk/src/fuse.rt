@@ -1,8 +1,8 @@
 //! A disk that stops after some calls.
 
 ghost use Rattle.std.specs.Prelude.{◌≡◌, ◌<◌, ◌+◌, ◌^◌, IsErr, OnOk, OnErr};
-ghost use Rattle.macs_disk.specs.Disk.{IsCall, IsHonest, Reads, Syncs, Writes, now};
-ghost use Rattle.macs_disk.specs.Fused.{Fused, fuse_disk, stopped};
+ghost use Rattle.macs_disk.specs.Disk.{IsDeviceCall, IsHonest, Reads, Syncs, Writes, now};
+ghost use Rattle.macs_disk.specs.Fused.{FuseValue, fuse_disk, stopped};
 
 use crate::disk::{DeviceFault, SectorDisk};
 use std::marker::Model;
@@ -17,7 +17,7 @@ pub struct Fuse<D> {
 }
 
 impl<D> Model for Fuse<D> {
-    ghost Value = { Fused D };
+    ghost Value = { FuseValue D };
 
     ghost view = { λ fuse. record { inner = fuse.disk; left = fuse.left; failed = fuse.failed } };
 
@@ -62,7 +62,7 @@ impl<D: SectorDisk> Fuse<D> {
 }
 
 impl<D: SectorDisk> SectorDisk for Fuse<D> {
-    ghost use Rattle.macs_disk.specs.Fused.{fused-sound, fused-wear};
+    ghost use Rattle.macs_disk.specs.Evidence.{fused-sound, fused-wear};
 
     ghost disk = { fuse_disk D.disk };
 
@@ -76,11 +76,11 @@ impl<D: SectorDisk> SectorDisk for Fuse<D> {
 
     fn read(&mut self, at: u64, into: &mut [u8; 512]) -> Result<(), DeviceFault>
         requires { at < (fuse_disk D.disk self.old).sectors }
-        ensures call { IsCall (fuse_disk D.disk self.old) (fuse_disk D.disk self.new) result }
+        ensures call { IsDeviceCall (fuse_disk D.disk self.old) (fuse_disk D.disk self.new) result }
         ensures effect { IsHonest (fuse_disk D.disk self.new)
             → Reads (now (fuse_disk D.disk self.old)) (now (fuse_disk D.disk self.new)) at into.new result }
         ensures passed { 0 < self.old.left → (self.new.left + 1 ≡ self.old.left)
-            × IsCall (D.disk self.old.inner) (D.disk self.new.inner) result }
+            × IsDeviceCall (D.disk self.old.inner) (D.disk self.new.inner) result }
         ensures stopped { self.old.left ≡ 0 → IsErr result × (self.new ≡ stopped self.old) }
     {
         self.pass()?;
@@ -89,11 +89,11 @@ impl<D: SectorDisk> SectorDisk for Fuse<D> {
 
     fn write(&mut self, at: u64, from: &[u8; 512]) -> Result<(), DeviceFault>
         requires { at < (fuse_disk D.disk self.old).sectors }
-        ensures call { IsCall (fuse_disk D.disk self.old) (fuse_disk D.disk self.new) result }
+        ensures call { IsDeviceCall (fuse_disk D.disk self.old) (fuse_disk D.disk self.new) result }
         ensures effect { IsHonest (fuse_disk D.disk self.new)
             → Writes (now (fuse_disk D.disk self.old)) (now (fuse_disk D.disk self.new)) at from.now result }
         ensures passed { 0 < self.old.left → (self.new.left + 1 ≡ self.old.left)
-            × IsCall (D.disk self.old.inner) (D.disk self.new.inner) result }
+            × IsDeviceCall (D.disk self.old.inner) (D.disk self.new.inner) result }
         ensures stopped { self.old.left ≡ 0 → IsErr result × (self.new ≡ stopped self.old) }
     {
         self.pass()?;
@@ -101,11 +101,11 @@ impl<D: SectorDisk> SectorDisk for Fuse<D> {
     }
 
     fn sync(&mut self) -> Result<(), DeviceFault>
-        ensures call { IsCall (fuse_disk D.disk self.old) (fuse_disk D.disk self.new) result }
+        ensures call { IsDeviceCall (fuse_disk D.disk self.old) (fuse_disk D.disk self.new) result }
         ensures effect { IsHonest (fuse_disk D.disk self.new)
             → Syncs (now (fuse_disk D.disk self.old)) (now (fuse_disk D.disk self.new)) result }
         ensures passed { 0 < self.old.left → (self.new.left + 1 ≡ self.old.left)
-            × IsCall (D.disk self.old.inner) (D.disk self.new.inner) result }
+            × IsDeviceCall (D.disk self.old.inner) (D.disk self.new.inner) result }
         ensures stopped { self.old.left ≡ 0 → IsErr result × (self.new ≡ stopped self.old) }
     {
         self.pass()?;

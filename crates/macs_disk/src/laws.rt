@@ -2,11 +2,11 @@
 //! several, and how the promises of calls that follow one another are put together.
 
 ghost use Rattle.std.specs.Prelude.{◌≡◌, ◌≢◌, ◌≤◌, ◌+◌, ◌⊎◌, ℕ, false, true, List, Result, IsErr, IsOk};
-ghost use Rattle.macs_disk.specs.States.{Image, IsImage, IsSector, IsSound, State, synced, written};
-ghost use Rattle.macs_disk.specs.Disk.{Disk, IsCall, IsHonest, IsWork, LeftSince, MayLeave, Reads, Rose, Syncs};
+ghost use Rattle.macs_disk.specs.States.{Image, IsImage, IsSector, IsSound, DiskState, synced, written};
+ghost use Rattle.macs_disk.specs.Disk.{Disk, FailsOnce, IsDeviceCall, IsHonest, IsWork, LeftSince, MayLeave, Reads, Syncs};
 ghost use Rattle.macs_disk.specs.Disk.{Works, Writes, now};
 ghost use Rattle.macs_disk.specs.Runs.{Leaves, LeavesNothingNew};
-ghost use Rattle.macs_disk.specs.Fused.{Fused, fuse_disk};
+ghost use Rattle.macs_disk.specs.Fused.{FuseValue, fuse_disk};
 ghost use Rattle.macs_disk.specs.MemDisks.{disk_of};
 ghost use Rattle.macs_disk.specs.declared.memory.MemDisk.{MemDisk};
 
@@ -21,26 +21,26 @@ pub trait Property {
 
 /// Where nothing is pending, a power loss leaves what reads give and nothing else.
 pub fn one_image_without_pending()
-    ensures { (state : State) (image : Image) → IsSound state → ((i : ℕ) → state.pending i ≡ false)
+    ensures { (state : DiskState) (image : Image) → IsSound state → ((i : ℕ) → state.pending i ≡ false)
         → IsImage state image → (i : ℕ) → image i ≡ state.seen i }
 {}
 
 /// A power loss leaves sectors of 512 octets.
 pub fn images_are_sectors()
-    ensures { (state : State) (image : Image) → IsSound state → IsImage state image
+    ensures { (state : DiskState) (image : Image) → IsSound state → IsImage state image
         → (i : ℕ) → IsSector (image i) }
 {}
 
 /// What a power loss may leave after a sync, it could leave before.
 pub fn a_sync_leaves_nothing_new()
-    ensures { (state : State) (image : Image) → IsSound state → IsImage (synced state) image
+    ensures { (state : DiskState) (image : Image) → IsSound state → IsImage (synced state) image
         → IsImage state image }
 {}
 
 /// What a power loss may leave after a write, it could leave before, but for the sector that was
 /// written.
 pub fn a_write_leaves_one_sector()
-    ensures { (state : State) (at : ℕ) (octets : List ℕ) (image : Image) → IsSound state
+    ensures { (state : DiskState) (at : ℕ) (octets : List ℕ) (image : Image) → IsSound state
         → IsImage (written state at octets) image
         → (before : Image) × IsImage state before × ((i : ℕ) → i ≢ at → image i ≡ before i) }
 {}
@@ -49,30 +49,30 @@ pub fn a_write_leaves_one_sector()
 /// where it is answered. On a worn disk the call fails, the state stands, and so do both counts, or both
 /// rise by one.
 pub fn calls_are_counted<T, E>()
-    ensures clock { (old new : Disk) (result : Result T E) → IsCall old new result
+    ensures clock { (old new : Disk) (result : Result T E) → IsDeviceCall old new result
         → old.worn ≡ false → new.clock ≡ old.clock + 1 }
-    ensures failed { (old new : Disk) (result : Result T E) → IsCall old new result
+    ensures failed { (old new : Disk) (result : Result T E) → IsDeviceCall old new result
         → old.worn ≡ false → IsErr result → new.failures ≡ old.failures + 1 }
-    ensures done { (old new : Disk) (result : Result T E) → IsCall old new result
+    ensures done { (old new : Disk) (result : Result T E) → IsDeviceCall old new result
         → IsOk result → new.failures ≡ old.failures }
-    ensures worn { (old new : Disk) (result : Result T E) → IsCall old new result
+    ensures worn { (old new : Disk) (result : Result T E) → IsDeviceCall old new result
         → old.worn ≡ true → IsErr result × (now new ≡ now old) }
-    ensures alike { (old new : Disk) (result : Result T E) → IsCall old new result → old.worn ≡ true
+    ensures alike { (old new : Disk) (result : Result T E) → IsDeviceCall old new result → old.worn ≡ true
         → ((new.clock ≡ old.clock) × (new.failures ≡ old.failures))
         ⊎ ((new.clock ≡ old.clock + 1) × (new.failures ≡ old.failures + 1)) }
 {}
 
 /// A read, done or failed, leaves nothing new.
 pub fn a_read_call_leaves_nothing_new<T, E>()
-    ensures { (old new : Disk) (at : ℕ) (into : List ℕ) (result : Result T E) → IsCall old new result
+    ensures { (old new : Disk) (at : ℕ) (into : List ℕ) (result : Result T E) → IsDeviceCall old new result
         → Reads (now old) (now new) at into result → LeavesNothingNew old new }
 {}
 
 /// A sync, done or failed, leaves nothing new, and a failed one changes nothing.
 pub fn a_sync_call_leaves_nothing_new<T, E>()
-    ensures nothing_new { (old new : Disk) (result : Result T E) → IsSound (now old) → IsCall old new result
+    ensures nothing_new { (old new : Disk) (result : Result T E) → IsSound (now old) → IsDeviceCall old new result
         → Syncs (now old) (now new) result → LeavesNothingNew old new }
-    ensures failed { (old new : State) (result : Result T E) → Syncs old new result
+    ensures failed { (old new : DiskState) (result : Result T E) → Syncs old new result
         → IsErr result → new ≡ old }
 {}
 
@@ -80,7 +80,7 @@ pub fn a_sync_call_leaves_nothing_new<T, E>()
 /// before it has the property, and each that a write of some 512 octets to that sector leaves.
 pub fn a_write_call_leaves<P: Property, T, E>()
     ensures { (old new : Disk) (at : ℕ) (octets : List ℕ) (result : Result T E) → IsSector octets
-        → IsCall old new result → Writes (now old) (now new) at octets result
+        → IsDeviceCall old new result → Writes (now old) (now new) at octets result
         → ((image : Image) → MayLeave old image → P.holds image)
         → ((sector : List ℕ) (image : Image) → IsSector sector
         → IsImage (written (now old) at sector) image → P.holds image)
@@ -99,10 +99,12 @@ pub fn work_goes_on<T, E>()
         → IsWork mid new result → IsWork old new result }
 {}
 
-/// A fault stays one, whatever comes after and came before.
-pub fn a_fault_stays()
-    ensures after { (old mid new : Disk) → Rose old mid → Works mid new → Rose old new }
-    ensures before { (old mid new : Disk) → Works old mid → Rose mid new → Rose old new }
+/// One fault stays one, where no call fails after it and none failed before.
+pub fn one_fault_stays()
+    ensures after { (old mid new : Disk) → FailsOnce old mid → Works mid new → new.failures ≡ mid.failures
+        → FailsOnce old new }
+    ensures before { (old mid new : Disk) → mid.failures ≡ old.failures → FailsOnce mid new
+        → FailsOnce old new }
 {}
 
 /// What might be left since a moment, might be left since each earlier one; and what may be left now,
@@ -122,7 +124,7 @@ pub fn leaves_none<P: Property>()
 
 /// A call more: what it adds is what a power loss may leave after it.
 pub fn leaves_call<P: Property, T, E>()
-    ensures { (old mid new : Disk) (result : Result T E) → Leaves old mid P.holds → IsCall mid new result
+    ensures { (old mid new : Disk) (result : Result T E) → Leaves old mid P.holds → IsDeviceCall mid new result
         → ((image : Image) → MayLeave new image → P.holds image) → Leaves old new P.holds }
 {}
 
@@ -165,5 +167,5 @@ pub fn memory_is_honest<A: Allocator>()
 
 /// A fuse in front of an honest disk is an honest disk.
 pub fn fuses_are_honest<D: SectorDisk>()
-    ensures { (fuse : Fused D) → IsHonest (D.disk fuse.inner) → IsHonest (fuse_disk D.disk fuse) }
+    ensures { (fuse : FuseValue D) → IsHonest (D.disk fuse.inner) → IsHonest (fuse_disk D.disk fuse) }
 {}

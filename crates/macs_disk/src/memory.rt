@@ -2,7 +2,7 @@
 
 ghost use Rattle.std.specs.Prelude.{◌≡◌, ◌<◌, ℕ, false, length, IfOk, replicate, slice_index_or, unwrap_or, None};
 ghost use Rattle.macs_disk.specs.States.{zero_sector};
-ghost use Rattle.macs_disk.specs.Recorded.{AreChoices, IsKept, choice, flag, held};
+ghost use Rattle.macs_disk.specs.Recorded.{AreChosen, IsSoundMemory, choice_at, flag_at, sectors_in};
 ghost use Rattle.macs_disk.specs.declared.memory.MemFault.TheVariants.{Memory as OutOfMemory};
 
 use crate::disk::{DeviceFault, SectorDisk};
@@ -39,8 +39,8 @@ pub struct MemDisk<A: Allocator = Global> {
     durable: Vec<[u8; 512], A>,
     pending: Vec<bool, A>,
     choices: Vec<Option<[u8; 512]>, A>,
-    ghost kept: { IsKept first.items seen.items durable.items pending.items calls.entries.items calls.clock },
-    ghost chosen: { AreChoices seen.items pending.items choices.items },
+    ghost kept: { IsSoundMemory first.items seen.items durable.items pending.items calls.entries.items calls.clock },
+    ghost chosen: { AreChosen seen.items pending.items choices.items },
 }
 
 // Makes every sector durable as reads give it: nothing is pending, and no choice stands.
@@ -53,9 +53,9 @@ fn settle<A: Allocator>(
     requires { length durable.old.items ≡ length seen.now }
     ensures durable { durable.new.items ≡ seen.now }
     ensures flags { length pending.new.items ≡ length pending.old.items }
-    ensures clear { (i : ℕ) → flag pending.new.items i ≡ false }
+    ensures clear { (i : ℕ) → flag_at pending.new.items i ≡ false }
     ensures choices { length choices.new.items ≡ length choices.old.items }
-    ensures none { (i : ℕ) → choice choices.new.items i ≡ None }
+    ensures none { (i : ℕ) → choice_at choices.new.items i ≡ None }
 {
     durable.copy_from_slice(seen);
     pending.fill(false);
@@ -69,7 +69,7 @@ fn choose<A: Allocator>(sectors: &mut Vec<[u8; 512], A>, choices: &[Option<[u8; 
     requires { length choices.now ≡ length sectors.old.items }
     ensures length { length sectors.new.items ≡ length sectors.old.items }
     ensures chosen { (i : ℕ) → i < length sectors.old.items
-        → held sectors.new.items i ≡ unwrap_or (choice choices.now i) (held sectors.old.items i) }
+        → sectors_in sectors.new.items i ≡ unwrap_or (choice_at choices.now i) (sectors_in sectors.old.items i) }
 {
     for (i, choice) in choices.iter().enumerate() {
         if let Some(sector) = choice {
@@ -102,8 +102,8 @@ fn nones<A: Allocator>(alloc: A, count: usize) -> Result<Vec<Option<[u8; 512]>, 
 
 impl<A: Allocator> SectorDisk for MemDisk<A> {
     ghost use Rattle.std.specs.Prelude.{◌≡◌, ◌<◌, ◌↔◌, IsErr, OnErr, OnOk, true};
-    ghost use Rattle.macs_disk.specs.Disk.{IsCall, IsHonest, Reads, Syncs, Writes, now};
-    ghost use Rattle.macs_disk.specs.Recorded.{full-clock, kept-sound};
+    ghost use Rattle.macs_disk.specs.Disk.{IsDeviceCall, IsHonest, Reads, Syncs, Writes, now};
+    ghost use Rattle.macs_disk.specs.Evidence.{full-clock, kept-sound};
     ghost use Rattle.macs_disk.specs.MemDisks.{disk_of, memory_of};
 
     ghost disk = { disk_of };
@@ -118,7 +118,7 @@ impl<A: Allocator> SectorDisk for MemDisk<A> {
 
     fn read(&mut self, at: u64, into: &mut [u8; 512]) -> Result<(), DeviceFault>
         requires { at < (disk_of self.old).sectors }
-        ensures call { IsCall (disk_of self.old) (disk_of self.new) result }
+        ensures call { IsDeviceCall (disk_of self.old) (disk_of self.new) result }
         ensures effect { IsHonest (disk_of self.new)
             → Reads (now (disk_of self.old)) (now (disk_of self.new)) at into.new result }
         ensures chosen { (memory_of self.new).chosen ≡ (memory_of self.old).chosen }
@@ -131,7 +131,7 @@ impl<A: Allocator> SectorDisk for MemDisk<A> {
 
     fn write(&mut self, at: u64, from: &[u8; 512]) -> Result<(), DeviceFault>
         requires { at < (disk_of self.old).sectors }
-        ensures call { IsCall (disk_of self.old) (disk_of self.new) result }
+        ensures call { IsDeviceCall (disk_of self.old) (disk_of self.new) result }
         ensures effect { IsHonest (disk_of self.new)
             → Writes (now (disk_of self.old)) (now (disk_of self.new)) at from.now result }
         ensures chosen { (memory_of self.new).chosen ≡ (memory_of self.old).chosen }
@@ -144,7 +144,7 @@ impl<A: Allocator> SectorDisk for MemDisk<A> {
     }
 
     fn sync(&mut self) -> Result<(), DeviceFault>
-        ensures call { IsCall (disk_of self.old) (disk_of self.new) result }
+        ensures call { IsDeviceCall (disk_of self.old) (disk_of self.new) result }
         ensures effect { IsHonest (disk_of self.new)
             → Syncs (now (disk_of self.old)) (now (disk_of self.new)) result }
         ensures chosen { OnOk result ((i : ℕ) → (memory_of self.new).chosen i ≡ None) }

@@ -2,7 +2,7 @@
 use Rattle.std.proofs.Common.{◌≡◌, ◌≤◌, ◌↔◌, ◌⊎◌, inl, inr, ℕ, Bool, true, false, not, ◌&&◌, if◌then◌else◌, List, Option, Some, None, Result, Ok, Err, is_ok, IsOk, refl, sym, ◌∙◌, ap, subst}
 use Rattle.std.specs.Prelude.{OnErr, OnOk, IsErrOf}
 use Rattle.macs_config.specs.Apply.{IsCommand, apply}
-use Rattle.macs_config.specs.Config.{Config, first_edition}
+use Rattle.macs_config.specs.Config.{Config, this_edition}
 use Rattle.macs_config.specs.Identity.{IsIdentity}
 use Rattle.macs_config.specs.declared.command.Command.{Command}
 use Rattle.macs_config.specs.declared.refusal.Refusal.{Refusal}
@@ -10,41 +10,42 @@ use Rattle.macs_disk.specs.Disk.{IsHonest}
 use Rattle.macs_disk.specs.Disk as disk
 use Rattle.macs_disk.specs.Runs.{Leaves}
 use Rattle.macs_disk.proofs.Moments.{Leaves-now, Leaves-start, Leaves-weaker, Works-start}
-use Rattle.macs_journal.specs.Areas.{least_sectors}
+use Rattle.macs_journal.specs.Areas.{least_sectors, slots}
 use Rattle.macs_txsc.specs.View as txsc
 use Rattle.macs_txsc.specs.declared.channel.Tx.{Tx}
 use Rattle.macs_rxsc.specs.Receive.{Numbers}
 use Rattle.macs_rxsc.specs.View as rxsc
 use Rattle.macs_store.specs.Found.{CommitLeaves}
-use Rattle.macs_store.specs.Kept.{IsCommitOf, IsStored, standing_in}
-use Rattle.macs_store.specs.Kept as store
+use Rattle.macs_store.specs.Value.{IsCommitOf, IsStored, standing_in}
+use Rattle.macs_store.specs.Value as store
 use Rattle.macs_store.specs.Standing.{Standing, accept, accepted, ceilings_after}
-use Rattle.macs_store.specs.Table.{standing_at}
+use Rattle.macs_store.specs.Table.{standing_of}
 use Rattle.macs_store.specs.declared.fault.CommitFault.{CommitFault}
 use Rattle.macs_store.specs.declared.fault.CommitFault.TheVariants.{AreaFull, Disk, Refused, Stopped}
 use Rattle.macs_endpoint.specs.Calls.{Fails, IsCall}
 use Rattle.macs_endpoint.specs.Counting.{channels_after}
-use Rattle.macs_endpoint.specs.Kept.{AreChannels, AreWithin, IsBacked, IsKept, Kept, disk_in, state_of}
+use Rattle.macs_endpoint.specs.Value.{AreChannels, AreWithin, EndpointValue, IsBacked, IsSoundEndpoint, disk_in, is_stopped, state_of}
 use Rattle.macs_endpoint.specs.Limits.{IsLimited, IsStill}
 use Rattle.macs_endpoint.specs.Restart.{Fits, FitsCall, during}
 use Rattle.macs_endpoint.specs.State.{Accepts, Commands, Logs, Ran, State, halted, holding}
 use Rattle.macs_endpoint.specs.Step.{Step, next_after, numbers_after}
+use Rattle.macs_endpoint.proofs.Alone.{alone-call}
 use Rattle.macs_endpoint.proofs.Fitting.{AreAhead, accept-parts, ahead-within, command-ahead, fits-commit, kept-ahead, kept-backed}
 
 -- what a store says of a commit
-pub record Commits {D : Type 0} (disk_of : D → disk.Disk) (old : store.Kept D) (command : Command) (result : Result (Unit {0}) CommitFault) (new : store.Kept D) : Type 0 where
-  pub stopped : IsErrOf result Stopped ↔ (old.journal.stopped ≡ true)
+pub record Commits {D : Type 0} (disk_of : D → disk.Disk) (old : store.StoreValue D) (command : Command) (result : Result (Unit {0}) CommitFault) (new : store.StoreValue D) : Type 0 where
+  pub stopped : IsErrOf result Stopped ↔ (store.is_stopped old ≡ true)
   pub refused : (refusal : Refusal) → (result ≡ Err (Refused refusal))
-      ↔ ((old.journal.stopped ≡ false) × (accept (standing_in old) command ≡ Err refusal))
-  pub full : IsErrOf result AreaFull ↔ ((old.journal.stopped ≡ false) × IsOk (accept (standing_in old) command) × (old.journal.place.free ≡ 256))
+      ↔ ((store.is_stopped old ≡ false) × (accept (standing_in old) command ≡ Err refusal))
+  pub full : IsErrOf result AreaFull ↔ ((store.is_stopped old ≡ false) × IsOk (accept (standing_in old) command) × (store.used_slots old ≡ slots))
   pub same : OnErr result (IsErrOf result Disk ⊎ (new ≡ old))
-  pub halted : IsErrOf result Disk → (new.journal.stopped ≡ true) × (new.held ≡ old.held)
-  pub running : OnOk result (new.journal.stopped ≡ false)
+  pub halted : IsErrOf result Disk → (store.is_stopped new ≡ true) × (new.held ≡ old.held)
+  pub running : OnOk result (store.is_stopped new ≡ false)
   pub done : OnOk result (accept (standing_in old) command ≡ Ok (standing_in new))
-  pub work : IsCommitOf (disk_of old.journal.disk) (disk_of new.journal.disk) result
-  pub any_moment : IsHonest (disk_of new.journal.disk) → IsStored disk_of old
-      → Leaves (disk_of old.journal.disk) (disk_of new.journal.disk) (CommitLeaves (standing_in old) command)
-  pub stored : OnOk result (IsHonest (disk_of new.journal.disk) → IsStored disk_of old → IsStored disk_of new)
+  pub work : IsCommitOf (store.disk_in disk_of old) (store.disk_in disk_of new) result
+  pub any_moment : IsHonest (store.disk_in disk_of new) → IsStored disk_of old
+      → Leaves (store.disk_in disk_of old) (store.disk_in disk_of new) (CommitLeaves (standing_in old) command)
+  pub stored : OnOk result (IsHonest (store.disk_in disk_of new) → IsStored disk_of old → IsStored disk_of new)
 
 -- ---- refusals
 
@@ -74,8 +75,8 @@ during-held s command running accepts = λ i. if not (running i) && accepts i th
 -- ---- what does not change
 
 -- another store under the same channels
-pub kept-held : {D : Type 0} (e : Kept D) → IsKept e → (s : store.Kept D) (in_hand : Option Command) → standing_in s ≡ standing_in e.store
-    → (s.journal.stopped ≡ false → in_hand ≡ None) → IsKept {D = D} (record { store = s; tx = e.tx; rx = e.rx; in_hand = in_hand })
+pub kept-held : {D : Type 0} (e : EndpointValue D) → IsSoundEndpoint e → (s : store.StoreValue D) (in_hand : Option Command) → standing_in s ≡ standing_in e.store
+    → (store.is_stopped s ≡ false → in_hand ≡ None) → IsSoundEndpoint {D = D} (record { store = s; tx = e.tx; rx = e.rx; in_hand = in_hand })
 kept-held e kept s in_hand same idle = record {
   identity = subst (λ (x : Standing). IsIdentity x.identity) (sym same) kept.identity;
   channels = subst (λ (x : Standing). AreChannels e.tx e.rx x) (sym same) kept.channels;
@@ -83,27 +84,21 @@ kept-held e kept s in_hand same idle = record {
   idle = idle;
 }
 
-module _ {D : Type 0} (disk_of : D → disk.Disk) (e : Kept D) (kept : IsKept e) (command : Command) (ranges : IsCommand first_edition command) where
+module _ {D : Type 0} (disk_of : D → disk.Disk) (e : EndpointValue D) (kept : IsSoundEndpoint e) (command : Command) (ranges : IsCommand this_edition command) where
   -- ---- a refusal
 
   unchanged : (fault : CommitFault) → ((logs : Logs) → Step (state_of e logs) (Commands command) (Ran (Err fault)) (state_of e logs))
       → Fails (disk_in disk_of e) (disk_in disk_of e) (Ran (Err fault)) → IsLimited e (Commands command) (Ran (Err fault)) e
       → IsStill e (Commands command) (Ran (Err fault)) e → IsCall disk_of e (Commands command) (Ran (Err fault)) e
-  unchanged fault step fails limited still = record {
+  unchanged fault step fails limited still = alone-call disk_of e e.tx e.rx (Commands command) (Ran (Err fault)) fails (λ backed. backed) (record {
     step = λ logs. (logs, step logs);
-    works = Works-start (disk_in disk_of e);
-    fails = fails;
-    any_moment = λ honest backed logs later. Leaves-start (disk_in disk_of e)
-        (FitsCall (disk_in disk_of e).sectors (state_of e logs) (Commands command) (state_of e later))
-        (λ image left. inr (backed.fits later image left));
-    backed = λ honest backed. backed;
-    stands = refl;
+    ceilings = refl;
     limited = limited;
     still = still;
     tx_counters = refl;
     rx_counters = refl;
     channel_counters = refl;
-  }
+  })
 
   unchanged_by : (fault : CommitFault) → (fault ≡ Disk → ⊥) → Commits disk_of e.store command (Err fault) e.store
       → IsCall disk_of e (Commands command) (Ran (Err fault)) e
@@ -114,72 +109,73 @@ module _ {D : Type 0} (disk_of : D → disk.Disk) (e : Kept D) (kept : IsKept e)
       let both = is.0 refl in
       let s = standing_in e.store in
       unchanged (Refused refusal)
-      (λ logs. inr (both.0, (by_refused s command (apply first_edition s.identity s.config command) refusal both.1, refl))) refl tt refl
+      (λ logs. inr (both.0, (by_refused s command (apply s.edition s.identity s.config command) refusal both.1, refl))) refl tt refl
   unchanged_by AreaFull other commits =
       let all = commits.full.0 refl in
       let s = standing_in e.store in
       unchanged AreaFull
-      (λ logs. inr (all.0, (by_accepted s command (apply first_edition s.identity s.config command) all.1, refl))) refl all.2 refl
+      (λ logs. inr (all.0, (by_accepted s command (apply s.edition s.identity s.config command) all.1, refl))) refl all.2 refl
 
-  not_disk : (fault : CommitFault) (s : store.Kept D) → (fault ≡ Disk → ⊥) → IsErrOf {T = Unit {0}} (Err fault) Disk ⊎ (s ≡ e.store) → s ≡ e.store
+  not_disk : (fault : CommitFault) (s : store.StoreValue D) → (fault ≡ Disk → ⊥) → IsErrOf {T = Unit {0}} (Err fault) Disk ⊎ (s ≡ e.store) → s ≡ e.store
   not_disk fault s other either = elim either [
     | inl is ↦ absurd (other (let same : fault ≡ Disk = cc in same))
     | inr same ↦ same
   ]
 
-  same_store : (fault : CommitFault) (s : store.Kept D) → (fault ≡ Disk → ⊥) → Commits disk_of e.store command (Err fault) s → s ≡ e.store
+  same_store : (fault : CommitFault) (s : store.StoreValue D) → (fault ≡ Disk → ⊥) → Commits disk_of e.store command (Err fault) s → s ≡ e.store
   same_store fault s other commits = not_disk fault s other commits.same
 
-  pub refused-call : (fault : CommitFault) (s : store.Kept D) → (fault ≡ Disk → ⊥) → Commits disk_of e.store command (Err fault) s
+  pub refused-call : (fault : CommitFault) (s : store.StoreValue D) → (fault ≡ Disk → ⊥) → Commits disk_of e.store command (Err fault) s
       → IsCall disk_of e (Commands command) (Ran (Err fault)) (record { store = s; tx = e.tx; rx = e.rx; in_hand = e.in_hand })
   refused-call fault s other commits =
       let same = same_store fault s other commits in
-      subst (λ (x : store.Kept D). IsCall disk_of e (Commands command) (Ran (Err fault)) (record { store = x; tx = e.tx; rx = e.rx; in_hand = e.in_hand }))
+      subst (λ (x : store.StoreValue D). IsCall disk_of e (Commands command) (Ran (Err fault)) (record { store = x; tx = e.tx; rx = e.rx; in_hand = e.in_hand }))
       (sym same)
-      (unchanged_by fault other (subst (λ (x : store.Kept D). Commits disk_of e.store command (Err fault) x) same commits))
+      (unchanged_by fault other (subst (λ (x : store.StoreValue D). Commits disk_of e.store command (Err fault) x) same commits))
 
-  pub refused-kept : (fault : CommitFault) (s : store.Kept D) → (fault ≡ Disk → ⊥) → Commits disk_of e.store command (Err fault) s
-      → IsKept {D = D} (record { store = s; tx = e.tx; rx = e.rx; in_hand = e.in_hand })
+  pub refused-kept : (fault : CommitFault) (s : store.StoreValue D) → (fault ≡ Disk → ⊥) → Commits disk_of e.store command (Err fault) s
+      → IsSoundEndpoint {D = D} (record { store = s; tx = e.tx; rx = e.rx; in_hand = e.in_hand })
   refused-kept fault s other commits =
       let same = same_store fault s other commits in
-      kept-held e kept s e.in_hand (ap (λ (x : store.Kept D). standing_in x) same)
-      (λ running. kept.idle (subst (λ (x : store.Kept D). x.journal.stopped ≡ false) same running))
+      kept-held e kept s e.in_hand (ap (λ (x : store.StoreValue D). standing_in x) same)
+      (λ running. kept.idle (subst (λ (x : store.StoreValue D). store.is_stopped x ≡ false) same running))
 
   -- ---- while the command is kept
 
-  commit_moments : (new : disk.Disk) (later : State) (logs : Logs) → IsBacked disk_of e → e.store.journal.stopped ≡ false
+  commit_moments : (new : disk.Disk) (later : State) (logs : Logs) → IsBacked disk_of e → is_stopped e ≡ false
       → Accepts (state_of e logs) command → Leaves (disk_in disk_of e) new (CommitLeaves (standing_in e.store) command)
       → Leaves (disk_in disk_of e) new (FitsCall (disk_in disk_of e).sectors (state_of e logs) (Commands command) later)
   commit_moments new later logs backed running accepts leaves =
       let sectors = (disk_in disk_of e).sectors in
       let old = state_of e logs in
       Leaves-weaker (disk_in disk_of e) new (CommitLeaves (standing_in e.store) command) (FitsCall sectors old (Commands command) later)
-      (λ image left. inl (subst (λ (s : State). Fits sectors image s) (sym (during-held old command running accepts))
+      (λ image left. inl (subst (λ (s : State). Fits this_edition sectors image s) (sym (during-held old command running accepts))
       (fits-commit sectors image backed.size (holding old command) (standing_in e.store).ceilings command (kept-ahead e kept) ranges refl left)))
       leaves
 
   -- ---- a device call failed
 
-  module _ (s : store.Kept D) (commits : Commits disk_of e.store command (Err Disk) s) where
-    abbrev cut : Kept D
+  module _ (s : store.StoreValue D) (commits : Commits disk_of e.store command (Err Disk) s) where
+    abbrev cut : EndpointValue D
     cut = record { store = s; tx = e.tx; rx = e.rx; in_hand = Some command }
 
-    cut_running : e.store.journal.stopped ≡ false
-    cut_running = not_true e.store.journal.stopped (λ is. let same = commits.stopped.1 is in cc)
+    cut_running : is_stopped e ≡ false
+    cut_running = not_true (is_stopped e) (λ is. let same = commits.stopped.1 is in cc)
 
-    cut_accepts : IsOk (apply first_edition (standing_in e.store).identity (standing_in e.store).config command)
+    cut_accepts : IsOk (apply this_edition (standing_in e.store).identity (standing_in e.store).config command)
     cut_accepts =
-        unrefused (standing_in e.store) command (apply first_edition (standing_in e.store).identity (standing_in e.store).config command)
+        unrefused (standing_in e.store) command (apply this_edition (standing_in e.store).identity (standing_in e.store).config command)
         (λ refusal is. let parts = commits.refused refusal in let same = parts.1 (cut_running, is) in cc)
 
     cut_same : standing_in s ≡ standing_in e.store
-    cut_same = ap standing_at (commits.halted refl).1
+    cut_same = ap standing_of (commits.halted refl).1
 
-    pub cut-kept : IsKept cut
+    pub cut-kept : IsSoundEndpoint cut
     cut-kept = kept-held e kept s (Some command) cut_same (λ running. absurd (let stopped = (commits.halted refl).0 in cc))
 
     cut_state : (logs : Logs) → state_of cut logs ≡ halted (holding (state_of e logs) command)
     cut_state logs = λ i. record {
+      edition = this_edition;
       identity = (cut_same i).identity;
       config = (cut_same i).config;
       next = (txsc.side_of e.tx).next;
@@ -197,44 +193,47 @@ module _ {D : Type 0} (disk_of : D → disk.Disk) (e : Kept D) (kept : IsKept e)
         record {
           size = size;
           stored = λ running. absurd (let stopped = (commits.halted refl).0 in cc);
-          fits = λ logs image left. subst (λ (x : State). Fits sectors image x) (sym (cut_state logs))
+          fits = λ logs image left. subst (λ (x : State). Fits this_edition sectors image x) (sym (cut_state logs))
               (fits-commit sectors image size (halted (holding (state_of e logs) command)) (standing_in e.store).ceilings command (kept-ahead e kept) ranges refl
               (Leaves-now (disk_in disk_of e) (disk_in disk_of cut) (CommitLeaves (standing_in e.store) command) leaves image left));
         }
 
     pub cut-call : IsCall disk_of e (Commands command) (Ran (Err Disk)) cut
     cut-call = record {
-      step = λ logs. (logs, inr (cut_running, (cut_accepts, cut_state logs)));
-      works = commits.work.works;
-      fails = commits.work.fails;
-      any_moment = λ honest backed logs later.
-          commit_moments (disk_in disk_of cut) (state_of cut later) logs backed cut_running cut_accepts
-          (commits.any_moment honest (backed.stored cut_running));
-      backed = cut_backed;
-      stands = cut_same;
-      limited = tt;
-      still = tt;
-      tx_counters = refl;
-      rx_counters = refl;
-      channel_counters = refl;
+      behaves = record {
+        step = λ logs. (logs, inr (cut_running, (cut_accepts, cut_state logs)));
+        ceilings = cut_same;
+        limited = tt;
+        still = tt;
+        tx_counters = refl;
+        rx_counters = refl;
+        channel_counters = refl;
+      };
+      device = record { works = commits.work.works; fails = commits.work.fails };
+      survives = λ honest backed. record {
+        any_moment = λ logs later.
+            commit_moments (disk_in disk_of cut) (state_of cut later) logs backed cut_running cut_accepts
+            (commits.any_moment honest (backed.stored cut_running));
+        backed = cut_backed honest backed;
+      };
     }
 
   -- ---- the command was kept
 
-  module _ (s : store.Kept D) (commits : Commits disk_of e.store command (Ok tt) s) (tx : Tx) (rx : rxsc.Kept)
+  module _ (s : store.StoreValue D) (commits : Commits disk_of e.store command (Ok tt) s) (tx : Tx) (rx : rxsc.Kept)
       (channels : AreChannels tx rx (standing_in s))
       (next : (txsc.side_of tx).next ≡ next_after command (txsc.side_of e.tx).next)
       (numbers : (rxsc.side_of rx).numbers ≡ numbers_after command (rxsc.side_of e.rx).numbers) where
-    abbrev done : Kept D
+    abbrev done : EndpointValue D
     done = record { store = s; tx = tx; rx = rx; in_hand = e.in_hand }
 
-    done_running : e.store.journal.stopped ≡ false
-    done_running = not_true e.store.journal.stopped (λ is. let same = commits.stopped.1 is in cc)
+    done_running : is_stopped e ≡ false
+    done_running = not_true (is_stopped e) (λ is. let same = commits.stopped.1 is in cc)
 
     done_idle : e.in_hand ≡ None
     done_idle = kept.idle done_running
 
-    pub done-kept : IsKept done
+    pub done-kept : IsSoundEndpoint done
     done-kept =
         let old = standing_in e.store in
         let parts = accept-parts old command (standing_in s) commits.done in
@@ -255,7 +254,7 @@ module _ {D : Type 0} (disk_of : D → disk.Disk) (e : Kept D) (kept : IsKept e)
           idle = λ running. done_idle;
         }
 
-    done_accepts : IsOk (apply first_edition (standing_in e.store).identity (standing_in e.store).config command)
+    done_accepts : IsOk (apply this_edition (standing_in e.store).identity (standing_in e.store).config command)
     done_accepts = ap is_ok (accept-parts (standing_in e.store) command (standing_in s) commits.done).1
 
     pub done-call : txsc.counters_of tx ≡ txsc.counters_of e.tx → rxsc.counters_of rx ≡ rxsc.counters_of e.rx
@@ -264,37 +263,41 @@ module _ {D : Type 0} (disk_of : D → disk.Disk) (e : Kept D) (kept : IsKept e)
     done-call tx_counters rx_counters channel_counters =
         let parts = accept-parts (standing_in e.store) command (standing_in s) commits.done in
         record {
-          step = λ logs. (
-            logs,
-            inr (
-              done_running,
-              (
-                parts.0,
-                parts.1,
-                λ i. record {
-                  identity = (parts.2 i).identity;
-                  config = (parts.2 i).config;
-                  next = next i;
-                  numbers = numbers i;
-                  logs = logs;
-                  stopped = (commits.running ∙ sym done_running) i;
-                  in_hand = done_idle i;
-                },
+          behaves = record {
+            step = λ logs. (
+              logs,
+              inr (
+                done_running,
+                (
+                  parts.0,
+                  parts.1,
+                  λ i. record {
+                    edition = this_edition;
+                    identity = (parts.2 i).identity;
+                    config = (parts.2 i).config;
+                    next = next i;
+                    numbers = numbers i;
+                    logs = logs;
+                    stopped = (commits.running ∙ sym done_running) i;
+                    in_hand = done_idle i;
+                  },
+                ),
               ),
-            ),
-          );
-          works = commits.work.works;
-          fails = commits.work.fails;
-          any_moment = λ honest backed logs later.
-              commit_moments (disk_in disk_of done) (state_of done later) logs backed done_running done_accepts
-              (commits.any_moment honest (backed.stored done_running));
-          backed = λ honest backed. kept-backed disk_of done done-kept
-              (subst (λ (n : ℕ). least_sectors ≤ n) (sym commits.work.works.sectors) backed.size)
-              (commits.stored honest (backed.stored done_running));
-          stands = commits.done;
-          limited = tt;
-          still = tt;
-          tx_counters = tx_counters;
-          rx_counters = rx_counters;
-          channel_counters = channel_counters;
+            );
+            ceilings = commits.done;
+            limited = tt;
+            still = tt;
+            tx_counters = tx_counters;
+            rx_counters = rx_counters;
+            channel_counters = channel_counters;
+          };
+          device = record { works = commits.work.works; fails = commits.work.fails };
+          survives = λ honest backed. record {
+            any_moment = λ logs later.
+                commit_moments (disk_in disk_of done) (state_of done later) logs backed done_running done_accepts
+                (commits.any_moment honest (backed.stored done_running));
+            backed = kept-backed disk_of done done-kept
+                (subst (λ (n : ℕ). least_sectors ≤ n) (sym commits.work.works.sectors) backed.size)
+                (commits.stored honest (backed.stored done_running));
+          };
         }

@@ -2,7 +2,7 @@
 use Rattle.std.proofs.Common.{◌≡◌, ◌≤◌, ◌<◌, ◌^◌, ◌==◌, ℕ, Bool, true, false, cond, inl, inr, List, bytes_eq, Option, Some, None, Result, Ok, Err, refl, sym, subst, arith}
 use Rattle.std.specs.Option.{option_map}
 use Rattle.macs_config.specs.Apply.{IsCommand, apply}
-use Rattle.macs_config.specs.Config.{Config, first_edition}
+use Rattle.macs_config.specs.Config.{Config, this_edition}
 use Rattle.macs_config.specs.Identity.{Identity}
 use Rattle.macs_config.specs.Tables.{put, put_at}
 use Rattle.macs_config.specs.declared.command.Command.{Command}
@@ -16,10 +16,10 @@ use Rattle.macs_txsc.specs.declared.channel.Tx.{Tx}
 use Rattle.macs_rxsc.specs.Receive.{Numbers, put_numbers, started, windowed}
 use Rattle.macs_rxsc.specs.View as rxsc
 use Rattle.macs_store.specs.Found.{CommitLeaves, Finds}
-use Rattle.macs_store.specs.Kept.{IsStored, standing_in}
+use Rattle.macs_store.specs.Value.{IsStored, standing_in}
 use Rattle.macs_store.specs.Standing.{Ceilings, Standing, accept, accepted, ahead, ceilings_after}
 use Rattle.macs_store.proofs.Keeping.{stored-image}
-use Rattle.macs_endpoint.specs.Kept.{AreChannels, AreWithin, IsBacked, IsKept, IsRxWithin, IsTxWithin, Kept, disk_in, state_of}
+use Rattle.macs_endpoint.specs.Value.{AreChannels, AreWithin, IsBacked, IsSoundEndpoint, IsRxWithin, IsTxWithin, EndpointValue, disk_in, state_of}
 use Rattle.macs_endpoint.specs.Restart.{Fits, Resumes, RxRises, TxRises, opening}
 use Rattle.macs_endpoint.specs.State.{Logs, State}
 use Rattle.macs_endpoint.specs.Step.{next_after, numbers_after}
@@ -50,7 +50,7 @@ ahead-within tx rx s channels are = record {
       → IsRxWithin s.identity.rx_block ((rxsc.side_of rx).numbers sci an) (c sci an)) (sym channels.rx_ceilings) are.rx_ahead;
 }
 
-pub kept-ahead : {D : Type 0} (e : Kept D) → IsKept e
+pub kept-ahead : {D : Type 0} (e : EndpointValue D) → IsSoundEndpoint e
     → AreAhead (standing_in e.store).identity (txsc.side_of e.tx).next (rxsc.side_of e.rx).numbers (standing_in e.store).ceilings
 kept-ahead e kept = channels-ahead e.tx e.rx (standing_in e.store) kept.channels kept.within
 
@@ -101,7 +101,7 @@ started_tx block start below = (omega (arith, below), omega (arith, below), omeg
 
 -- with the numbers that a command makes go the ceilings that it makes
 pub command-ahead : (identity : Identity) (command : Command) (next : ℕ → Option ℕ) (numbers : List ℕ → ℕ → Option Numbers) (c : Ceilings)
-    → IsCommand first_edition command → AreAhead identity next numbers c
+    → IsCommand this_edition command → AreAhead identity next numbers c
     → AreAhead identity (next_after command next) (numbers_after command numbers) (ceilings_after identity command c)
 command-ahead identity (SetValidate validate) next numbers c ranges are = are
 command-ahead identity (SetReplay on window) next numbers c ranges are = record {
@@ -135,15 +135,15 @@ command-ahead identity (RxRemove sci an) next numbers c ranges are = record {
 
 accepted_parts : (s : Standing) (command : Command) (result : Result Config Refusal) (made : Standing) → accepted s command result ≡ Ok made
     → (config : Config) × (result ≡ Ok config)
-    × (made ≡ record { identity = s.identity; config = config; ceilings = ceilings_after s.identity command s.ceilings })
+    × (made ≡ record s { config = config; ceilings = ceilings_after s.identity command s.ceilings })
 accepted_parts s command (Ok config) made is = (config, refl, cc)
 accepted_parts s command (Err refusal) made is = absurd cc
 
 -- what a command that is accepted makes of a configuration and its ceilings
 pub accept-parts : (s : Standing) (command : Command) (made : Standing) → accept s command ≡ Ok made
-    → (config : Config) × (apply first_edition s.identity s.config command ≡ Ok config)
-    × (made ≡ record { identity = s.identity; config = config; ceilings = ceilings_after s.identity command s.ceilings })
-accept-parts s command made is = accepted_parts s command (apply first_edition s.identity s.config command) made is
+    → (config : Config) × (apply s.edition s.identity s.config command ≡ Ok config)
+    × (made ≡ record s { config = config; ceilings = ceilings_after s.identity command s.ceilings })
+accept-parts s command made is = accepted_parts s command (apply s.edition s.identity s.config command) made is
 
 -- ---- a restart
 
@@ -161,8 +161,9 @@ rx_rises block (Some numbers) (Some ceiling) within = (ceiling, refl, within.0, 
 
 -- an endpoint goes on from the ceilings of its packet numbers
 pub resumed : (s : State) (c : Ceilings) → AreAhead s.identity s.next s.numbers c
-    → Resumes s (opening (record { identity = s.identity; config = s.config; ceilings = c }) s.logs)
+    → Resumes s (opening (record { edition = s.edition; identity = s.identity; config = s.config; ceilings = c }) s.logs)
 resumed s c are = record {
+  edition = record { channels = omega arith; long_keys = λ is. is };
   identity = refl;
   config = refl;
   next = λ an. tx_rises s.identity.tx_block (s.next an) (c.tx an) (are.tx_ahead an);
@@ -176,17 +177,17 @@ resumed s c are = record {
 
 -- the same configuration with these ceilings
 abbrev pub standing_with : State → Ceilings → Standing
-standing_with s c = record { identity = s.identity; config = s.config; ceilings = c }
+standing_with s c = record { edition = s.edition; identity = s.identity; config = s.config; ceilings = c }
 
 module _ (sectors : ℕ) (image : Image) (size : least_sectors ≤ sectors) where
   -- ceilings that are not too far ahead
-  pub fits-ahead : (s : State) (c : Ceilings) → AreAhead s.identity s.next s.numbers c → Finds image (standing_with s c) → Fits sectors image s
+  pub fits-ahead : (s : State) (c : Ceilings) → AreAhead s.identity s.next s.numbers c → Finds s.edition image (standing_with s c) → Fits s.edition sectors image s
   fits-ahead s c are finds = record { found = standing_with s c; is_found = (size, finds); restart = inl (resumed s c are) }
 
   -- what the command in hand makes of the configuration
   pub fits-command : (s : State) (c : Ceilings) (command : Command) (made : Standing) → AreAhead s.identity s.next s.numbers c
-      → IsCommand first_edition command → s.in_hand ≡ Some command → accept (standing_with s c) command ≡ Ok made → Finds image made
-      → Fits sectors image s
+      → IsCommand this_edition command → s.in_hand ≡ Some command → accept (standing_with s c) command ≡ Ok made → Finds s.edition image made
+      → Fits s.edition sectors image s
   fits-command s c command made are ranges holds accepts finds =
       let parts = accept-parts (standing_with s c) command made accepts in
       let config = parts.0 in
@@ -200,13 +201,13 @@ module _ (sectors : ℕ) (image : Image) (size : least_sectors ≤ sectors) wher
       command-ahead s.identity command s.next s.numbers c ranges are in
       record {
         found = standing_with mid (ceilings_after s.identity command c);
-        is_found = (size, subst (Finds image) parts.2 finds);
+        is_found = (size, subst (Finds s.edition image) parts.2 finds);
         restart = inr (command, mid, holds, (config, parts.1, refl), resumed mid (ceilings_after s.identity command c) later);
       }
 
   -- what a power loss leaves while the command in hand is kept
-  pub fits-commit : (s : State) (c : Ceilings) (command : Command) → AreAhead s.identity s.next s.numbers c → IsCommand first_edition command
-      → s.in_hand ≡ Some command → CommitLeaves (standing_with s c) command image → Fits sectors image s
+  pub fits-commit : (s : State) (c : Ceilings) (command : Command) → AreAhead s.identity s.next s.numbers c → IsCommand this_edition command
+      → s.in_hand ≡ Some command → CommitLeaves (standing_with s c) command image → Fits s.edition sectors image s
   fits-commit s c command are ranges holds left = elim left [
     | inl before ↦ fits-ahead s c are before
     | inr later ↦ fits-command s c command later.0 are ranges holds later.1 later.2
@@ -214,10 +215,10 @@ module _ (sectors : ℕ) (image : Image) (size : least_sectors ≤ sectors) wher
 
 -- ---- an endpoint
 
-module _ {D : Type 0} (disk_of : D → Disk) (e : Kept D) (kept : IsKept e) where
+module _ {D : Type 0} (disk_of : D → Disk) (e : EndpointValue D) (kept : IsSoundEndpoint e) where
   -- an image that stands for what it has in memory
-  pub kept-fits : (sectors : ℕ) → least_sectors ≤ sectors → (logs : Logs) (image : Image) → Finds image (standing_in e.store)
-      → Fits sectors image (state_of e logs)
+  pub kept-fits : (sectors : ℕ) → least_sectors ≤ sectors → (logs : Logs) (image : Image) → Finds this_edition image (standing_in e.store)
+      → Fits this_edition sectors image (state_of e logs)
   kept-fits sectors size logs image finds =
       fits-ahead sectors image size (state_of e logs) (standing_in e.store).ceilings (kept-ahead e kept) finds
 

@@ -7,7 +7,7 @@ use Rattle.std.proofs.Math.Path.{fun_ext}
 use Rattle.macs_frame.specs.declared.fields.Offset.{Offset}
 use Rattle.macs_config.specs.Apply.{apply, changed, chosen, offset_at, refusal_of}
 use Rattle.macs_config.specs.Association.{is_confidential, offset_of, protection_of}
-use Rattle.macs_config.specs.Config.{Config, first_edition}
+use Rattle.macs_config.specs.Config.{Config}
 use Rattle.macs_config.specs.Tables.{put, put_at}
 use Rattle.macs_config.specs.declared.association.Protection.{Protection}
 use Rattle.macs_config.specs.declared.association.Protection.TheVariants.{Confidentiality, Integrity}
@@ -26,7 +26,7 @@ use Rattle.macs_txsc.specs.declared.channel.Tx.{Tx}
 use Rattle.macs_rxsc.specs.Receive.{AreOrdered, Numbers, RxSide, Stands, put_numbers, started, windowed}
 use Rattle.macs_rxsc.specs.View as rxsc
 use Rattle.macs_store.specs.Standing.{Standing, accept, accepted, ahead, ceilings_after}
-use Rattle.macs_endpoint.specs.Kept.{AreChannels}
+use Rattle.macs_endpoint.specs.Value.{AreChannels}
 use Rattle.macs_endpoint.specs.State.{receiving, transmitting}
 use Rattle.macs_endpoint.specs.Step.{numbers_after}
 
@@ -34,7 +34,7 @@ use Rattle.macs_endpoint.specs.Step.{numbers_after}
 
 -- what stands after it
 abbrev with_config : Standing → Command → Config → Standing
-with_config s command config = record { identity = s.identity; config = config; ceilings = ceilings_after s.identity command s.ceilings }
+with_config s command config = record s { config = config; ceilings = ceilings_after s.identity command s.ceilings }
 
 abbrev made : Standing → Command → Standing
 made s command = with_config s command (changed s.config command)
@@ -46,8 +46,8 @@ accepted_by s command (Err refusal) after is = cc
 
 made-is : (s : Standing) (command : Command) (after : Standing) → accept s command ≡ Ok after → made s command ≡ after
 made-is s command after done =
-    let by_config = accepted_by s command (apply first_edition s.identity s.config command) after done in
-    let by_tests = applied_by (refusal_of first_edition s.identity s.config command) (changed s.config command) by_config.0 by_config.1 in
+    let by_config = accepted_by s command (apply s.edition s.identity s.config command) after done in
+    let by_tests = applied_by (refusal_of s.edition s.identity s.config command) (changed s.config command) by_config.0 by_config.1 in
     ap (with_config s command) by_tests.1 ∙ by_config.2
 
 -- ---- tables

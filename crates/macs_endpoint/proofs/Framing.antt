@@ -26,10 +26,10 @@ use Rattle.macs_rxsc.specs.declared.verdict.Reason.{Reason}
 use Rattle.macs_rxsc.specs.declared.verdict.Reason.TheVariants.{NoTag, NoSci, NotUsingSa, NotValid}
 use Rattle.macs_rxsc.specs.declared.verdict.Verdict.{Verdict}
 use Rattle.macs_rxsc.specs.declared.verdict.Verdict.TheVariants.{Delivered, Discarded, HeldBack}
-use Rattle.macs_store.specs.Kept.{standing_in}
+use Rattle.macs_store.specs.Value.{standing_in}
 use Rattle.macs_endpoint.specs.Calls.{IsCall}
 use Rattle.macs_endpoint.specs.Counting.{tx_counters_after}
-use Rattle.macs_endpoint.specs.Kept.{IsKept, IsRxWithin, IsTxWithin, Kept, disk_in, state_of}
+use Rattle.macs_endpoint.specs.Value.{EndpointValue, IsRxWithin, IsSoundEndpoint, IsTxWithin, disk_in, is_stopped, state_of}
 use Rattle.macs_endpoint.specs.Limits.{IsLimited}
 use Rattle.macs_endpoint.specs.Restart.{FitsCall, rx_limit}
 use Rattle.macs_endpoint.specs.State.{Logs, Protects, Protected, Received, State, no_logs, rx_side, transmitting, tx_side}
@@ -38,6 +38,7 @@ use Rattle.macs_endpoint.specs.Step as life
 use Rattle.macs_endpoint.specs.declared.fault.ProtectFault.{ProtectFault}
 use Rattle.macs_endpoint.specs.declared.fault.ProtectFault.TheVariants.{Stopped, Tx as OfTx}
 use Rattle.macs_endpoint.specs.declared.fault.Stopped.{Stopped as StoppedFault}
+use Rattle.macs_endpoint.proofs.Alone.{alone-call}
 use Rattle.macs_endpoint.proofs.Fitting.{kept-ahead, kept-backed}
 
 -- ---- a few words on options and tests
@@ -204,10 +205,10 @@ at_ceiling side later ceilings plain out sends =
     ]
 
 -- an endpoint with another transmit channel
-abbrev pub with_tx : {D : Type 0} → Kept D → Tx → Kept D
+abbrev pub with_tx : {D : Type 0} → EndpointValue D → Tx → EndpointValue D
 with_tx e tx = record { store = e.store; tx = tx; rx = e.rx; in_hand = e.in_hand }
 
-protect_limited : {D : Type 0} (old : Kept D) (tx : Tx) (plain : List ℕ) (later : TxSide) (result : Result ℕ TxFault) (out : List ℕ)
+protect_limited : {D : Type 0} (old : EndpointValue D) (tx : Tx) (plain : List ℕ) (later : TxSide) (result : Result ℕ TxFault) (out : List ℕ)
     → Sends (tx_side (state_of old no_logs)) later (standing_in old.store).ceilings.tx plain result out
     → IsLimited old (Protects plain) (Protected (answered result) out) (with_tx old tx)
 protect_limited old tx plain later (Ok pn) out sends = tt
@@ -219,7 +220,7 @@ protect_limited old tx plain later (Err ForeignSource) out sends = tt
 protect_limited old tx plain later (Err NoEncodingSa) out sends = tt
 protect_limited old tx plain later (Err Exhausted) out sends = tt
 
-module _ {D : Type 0} (old : Kept D) (tx : Tx) (plain : List ℕ) (result : Result ℕ TxFault) (out : List ℕ) (kept : IsKept old)
+module _ {D : Type 0} (old : EndpointValue D) (tx : Tx) (plain : List ℕ) (result : Result ℕ TxFault) (out : List ℕ) (kept : IsSoundEndpoint old)
     (sends : Sends (txsc.side_of old.tx) (txsc.side_of tx) (txsc.ceilings_of old.tx) plain result out)
     (ceilings : txsc.ceilings_of tx ≡ txsc.ceilings_of old.tx) where
   -- the same, in words of what stands
@@ -231,7 +232,7 @@ module _ {D : Type 0} (old : Kept D) (tx : Tx) (plain : List ℕ) (result : Resu
   -- numbers alone change, and stay below their ceilings
   kept_with : (next : ℕ → Option ℕ) → txsc.side_of tx ≡ record (tx_side (state_of old no_logs)) { next = next }
       → ((an : ℕ) → IsTxWithin (standing_in old.store).identity.tx_block (next an) ((standing_in old.store).ceilings.tx an))
-      → IsKept (with_tx old tx)
+      → IsSoundEndpoint (with_tx old tx)
   kept_with next is within =
       let s = standing_in old.store in
       let same : txsc.ceilings_of tx ≡ s.ceilings.tx = ceilings ∙ kept.channels.tx_ceilings in
@@ -251,11 +252,11 @@ module _ {D : Type 0} (old : Kept D) (tx : Tx) (plain : List ℕ) (result : Resu
         idle = kept.idle;
       }
 
-kept_sent : {D : Type 0} (old : Kept D) (tx : Tx) (plain : List ℕ) (result : Result ℕ TxFault) (out : List ℕ) (kept : IsKept old)
+kept_sent : {D : Type 0} (old : EndpointValue D) (tx : Tx) (plain : List ℕ) (result : Result ℕ TxFault) (out : List ℕ) (kept : IsSoundEndpoint old)
     (sends : Sends (txsc.side_of old.tx) (txsc.side_of tx) (txsc.ceilings_of old.tx) plain result out)
     (ceilings : txsc.ceilings_of tx ≡ txsc.ceilings_of old.tx)
     → Sends (tx_side (state_of old no_logs)) (txsc.side_of tx) (standing_in old.store).ceilings.tx plain result out
-    → IsKept (with_tx old tx)
+    → IsSoundEndpoint (with_tx old tx)
 kept_sent old tx plain (Ok pn) out kept sends ceilings standing =
     let side = tx_side (state_of old no_logs) in
     let s = standing_in old.store in
@@ -265,10 +266,10 @@ kept_sent old tx plain (Ok pn) out kept sends ceilings standing =
 kept_sent old tx plain (Err fault) out kept sends ceilings standing =
     kept_with old tx plain (Err fault) out kept sends ceilings (txsc.side_of old.tx).next standing.same (kept-ahead old kept).tx_ahead
 
-module _ {D : Type 0} (disk_of : D → Disk) (old : Kept D) (tx : Tx) (plain : List ℕ) (result : Result ℕ TxFault) (out : List ℕ) (kept : IsKept old)
+module _ {D : Type 0} (disk_of : D → Disk) (old : EndpointValue D) (tx : Tx) (plain : List ℕ) (result : Result ℕ TxFault) (out : List ℕ) (kept : IsSoundEndpoint old)
     (sends : Sends (txsc.side_of old.tx) (txsc.side_of tx) (txsc.ceilings_of old.tx) plain result out)
     (ceilings : txsc.ceilings_of tx ≡ txsc.ceilings_of old.tx) where
-  pub protected-kept : IsKept (with_tx old tx)
+  pub protected-kept : IsSoundEndpoint (with_tx old tx)
   protected-kept = kept_sent old tx plain result out kept sends ceilings (standing_sends old tx plain result out kept sends ceilings)
 
   counted_after : (result : Result ℕ TxFault) → txsc.counters_of tx ≡ tx_counted result (txsc.counters_of old.tx)
@@ -276,47 +277,33 @@ module _ {D : Type 0} (disk_of : D → Disk) (old : Kept D) (tx : Tx) (plain : L
   counted_after (Ok pn) is = is
   counted_after (Err fault) is = is
 
-  pub protected-call : old.store.journal.stopped ≡ false → txsc.counters_of tx ≡ tx_counted result (txsc.counters_of old.tx)
+  pub protected-call : is_stopped old ≡ false → txsc.counters_of tx ≡ tx_counted result (txsc.counters_of old.tx)
       → IsCall disk_of old (Protects plain) (Protected (answered result) out) (with_tx old tx)
   protected-call running counters =
-      let disk = disk_in disk_of old in
       let standing = standing_sends old tx plain result out kept sends ceilings in
-      record {
+      alone-call disk_of old tx old.rx (Protects plain) (Protected (answered result) out) refl (λ backed. kept-backed disk_of (with_tx old tx) protected-kept backed.size (backed.stored running)) (record {
         step = λ logs. protect_step (state_of old logs) (txsc.side_of tx) (standing_in old.store).ceilings.tx plain result out running standing;
-        works = Works-start disk;
-        fails = refl;
-        any_moment = λ honest backed logs after.
-            Leaves-start disk (FitsCall disk.sectors (state_of old logs) (Protects plain) (state_of (with_tx old tx) after))
-            (λ image left. inl (backed.fits logs image left));
-        backed = λ honest backed. kept-backed disk_of (with_tx old tx) protected-kept backed.size (backed.stored running);
-        stands = refl;
+        ceilings = refl;
         limited = protect_limited old tx plain (txsc.side_of tx) result out standing;
         still = refl;
         tx_counters = counted_after result counters;
         rx_counters = refl;
         channel_counters = refl;
-      }
+      })
 
 -- an endpoint that is stopped
-pub protect-stopped : {D : Type 0} (disk_of : D → Disk) (old : Kept D) (plain out : List ℕ) → old.store.journal.stopped ≡ true → out ≡ []
+pub protect-stopped : {D : Type 0} (disk_of : D → Disk) (old : EndpointValue D) (plain out : List ℕ) → is_stopped old ≡ true → out ≡ []
     → IsCall disk_of old (Protects plain) (Protected (Err Stopped) out) old
 protect-stopped disk_of old plain out stopped empty =
-    let disk = disk_in disk_of old in
-    record {
+    alone-call disk_of old old.tx old.rx (Protects plain) (Protected (Err Stopped) out) refl (λ backed. backed) (record {
       step = λ logs. (logs, inl (stopped, empty, refl));
-      works = Works-start disk;
-      fails = refl;
-      any_moment = λ honest backed logs after.
-          Leaves-start disk (FitsCall disk.sectors (state_of old logs) (Protects plain) (state_of old after))
-          (λ image left. inl (backed.fits logs image left));
-      backed = λ honest backed. backed;
-      stands = refl;
+      ceilings = refl;
       limited = tt;
       still = refl;
       tx_counters = refl;
       rx_counters = refl;
       channel_counters = refl;
-    }
+    })
 
 -- ---- a frame that is received
 
@@ -462,10 +449,10 @@ held_at_ceiling side ceilings frame outcome receives held = elim receives [
 ]
 
 -- an endpoint with other receive channels
-abbrev pub with_rx : {D : Type 0} → Kept D → rxsc.Kept → Kept D
+abbrev pub with_rx : {D : Type 0} → EndpointValue D → rxsc.Kept → EndpointValue D
 with_rx e r = record { store = e.store; tx = e.tx; rx = r; in_hand = e.in_hand }
 
-receive_limited : {D : Type 0} (old new : Kept D) (frame : List ℕ) (verdict : Verdict) (out : List ℕ)
+receive_limited : {D : Type 0} (old new : EndpointValue D) (frame : List ℕ) (verdict : Verdict) (out : List ℕ)
     → (verdict ≡ HeldBack → (a : Arrival) × Arrives (rx_side (state_of old no_logs)) frame a
     × (is_below ((standing_in old.store).ceilings.rx a.sci a.an) a.pn ≡ false))
     → IsLimited old (state.Receives frame) (Received (Ok verdict) out) new
@@ -473,7 +460,7 @@ receive_limited old new frame HeldBack out held = held refl
 receive_limited old new frame (Delivered kind) out held = tt
 receive_limited old new frame (Discarded reason) out held = tt
 
-module _ {D : Type 0} (disk_of : D → Disk) (old : Kept D) (r : rxsc.Kept) (frame : List ℕ) (verdict : Verdict) (out : List ℕ) (kept : IsKept old)
+module _ {D : Type 0} (disk_of : D → Disk) (old : EndpointValue D) (r : rxsc.Kept) (frame : List ℕ) (verdict : Verdict) (out : List ℕ) (kept : IsSoundEndpoint old)
     (receives : rx.Receives (rxsc.side_of old.rx) (rxsc.ceilings_of old.rx) frame
     (record { verdict = verdict; given = out; numbers = (rxsc.side_of r).numbers }))
     (side : rxsc.side_of r ≡ record (rxsc.side_of old.rx) { numbers = (rxsc.side_of r).numbers })
@@ -486,7 +473,7 @@ module _ {D : Type 0} (disk_of : D → Disk) (old : Kept D) (r : rxsc.Kept) (fra
       subst (λ (x : RxSide). rx.Receives x (standing_in old.store).ceilings.rx frame outcome) kept.channels.rx_is
       (subst (λ (c : List ℕ → ℕ → Option ℕ). rx.Receives (rxsc.side_of old.rx) c frame outcome) kept.channels.rx_ceilings receives)
 
-  pub received-kept : IsKept (with_rx old r)
+  pub received-kept : IsSoundEndpoint (with_rx old r)
   received-kept =
       let s = standing_in old.store in
       let numbers = (rxsc.side_of r).numbers in
@@ -508,22 +495,15 @@ module _ {D : Type 0} (disk_of : D → Disk) (old : Kept D) (r : rxsc.Kept) (fra
         idle = kept.idle;
       }
 
-  pub received-call : old.store.journal.stopped ≡ false → rxsc.counters_of r ≡ counted verdict (rxsc.counters_of old.rx)
+  pub received-call : is_stopped old ≡ false → rxsc.counters_of r ≡ counted verdict (rxsc.counters_of old.rx)
       → rxsc.channel_counters_of r ≡ counted_at (channel_of (rxsc.side_of old.rx) frame) verdict (rxsc.channel_counters_of old.rx)
       → IsCall disk_of old (state.Receives frame) (Received (Ok verdict) out) (with_rx old r)
   received-call running counters channel_counters =
-      let disk = disk_in disk_of old in
       let s = standing_in old.store in
       let outcome : Outcome = record { verdict = verdict; given = out; numbers = (rxsc.side_of r).numbers } in
-      record {
+      alone-call disk_of old old.tx r (state.Receives frame) (Received (Ok verdict) out) refl (λ backed. kept-backed disk_of (with_rx old r) received-kept backed.size (backed.stored running)) (record {
         step = λ logs. receive_step (state_of old logs) s.ceilings.rx frame outcome running (kept-ahead old kept).rx_ahead standing_receives;
-        works = Works-start disk;
-        fails = refl;
-        any_moment = λ honest backed logs after.
-            Leaves-start disk (FitsCall disk.sectors (state_of old logs) (state.Receives frame) (state_of (with_rx old r) after))
-            (λ image left. inl (backed.fits logs image left));
-        backed = λ honest backed. kept-backed disk_of (with_rx old r) received-kept backed.size (backed.stored running);
-        stands = refl;
+        ceilings = refl;
         limited = receive_limited old (with_rx old r) frame verdict out
             (held_at_ceiling (rx_side (state_of old no_logs)) s.ceilings.rx frame outcome standing_receives);
         still = refl;
@@ -531,24 +511,17 @@ module _ {D : Type 0} (disk_of : D → Disk) (old : Kept D) (r : rxsc.Kept) (fra
         rx_counters = counters;
         channel_counters = channel_counters
             ∙ ap (λ (x : RxSide). counted_at (channel_of x frame) verdict (rxsc.channel_counters_of old.rx)) kept.channels.rx_is;
-      }
+      })
 
-pub receive-stopped : {D : Type 0} (disk_of : D → Disk) (old : Kept D) (frame out : List ℕ) (fault : StoppedFault) → old.store.journal.stopped ≡ true
+pub receive-stopped : {D : Type 0} (disk_of : D → Disk) (old : EndpointValue D) (frame out : List ℕ) (fault : StoppedFault) → is_stopped old ≡ true
     → out ≡ [] → IsCall disk_of old (state.Receives frame) (Received (Err fault) out) old
 receive-stopped disk_of old frame out fault stopped empty =
-    let disk = disk_in disk_of old in
-    record {
+    alone-call disk_of old old.tx old.rx (state.Receives frame) (Received (Err fault) out) refl (λ backed. backed) (record {
       step = λ logs. (logs, inl (stopped, empty, refl));
-      works = Works-start disk;
-      fails = refl;
-      any_moment = λ honest backed logs after.
-          Leaves-start disk (FitsCall disk.sectors (state_of old logs) (state.Receives frame) (state_of old after))
-          (λ image left. inl (backed.fits logs image left));
-      backed = λ honest backed. backed;
-      stands = refl;
+      ceilings = refl;
       limited = tt;
       still = refl;
       tx_counters = refl;
       rx_counters = refl;
       channel_counters = refl;
-    }
+    })

@@ -1,4 +1,5 @@
 pub mod Fitting
+mod Alone
 pub mod Framing
 pub mod Turns
 pub mod Formatted

@@ -8,7 +8,7 @@ use Rattle.std.proofs.lemmas.List.{length-take-le, take_all}
 use Rattle.std.proofs.lemmas.List.Folds.{list_any_more}
 use Rattle.std.proofs.lemmas.Map.Text.{is_eq-slice_cmp}
 use Rattle.std.proofs.Math.Path.{fun_ext}
-use Rattle.macs_config.specs.Config.{Config, IsConfig, comes_before, first_edition, is_among, is_ascending, put_among}
+use Rattle.macs_config.specs.Config.{Config, IsConfig, comes_before, this_edition, is_among, is_ascending, put_among}
 use Rattle.macs_config.specs.Identity.{Identity}
 use Rattle.macs_config.specs.Tables.{put, put_at}
 use Rattle.macs_config.specs.declared.association.RxSa.{RxSa}
@@ -183,7 +183,7 @@ pub record IsNext (scis : List (List ℕ)) (i : ℕ) (sci : List ℕ) : Type 0 w
   pub there : sci ≡ get_or scis i sci
 
 -- the one that a loop over the channels of a configuration is at
-pub is-next : (identity : Identity) (read stands : Config) (items : List (List ℕ)) (i : ℕ) (sci : List ℕ) → IsConfig first_edition identity read
+pub is-next : (identity : Identity) (read stands : Config) (items : List (List ℕ)) (i : ℕ) (sci : List ℕ) → IsConfig this_edition identity read
     → items ≡ read.channels → read ≡ stands → i < length items → sci ≡ get_or items i sci → IsNext stands.channels i sci
 is-next identity read stands items i sci is same_items same within there =
     let channels = same_items ∙ ap (λ (c : Config). c.channels) same in

@@ -5,6 +5,7 @@ use Rattle.std.specs.List.{list_any}
 use Rattle.std.specs.Option.{IfSome, IsSome, is_some, option_map, option_map_or}
 use Rattle.std.proofs.Math.Bool.{and-false}
 use Rattle.std.proofs.lemmas.Bool.{and_parts, cases_lt, eq-eqb, le-ltb, leb-true, ltb-true}
+use Rattle.macs_config.specs.Config.{this_edition}
 use Rattle.macs_config.specs.Identity.{Identity, IsIdentity}
 use Rattle.macs_config.specs.Tables.{put, put_at}
 use Rattle.macs_config.proofs.Channels.{same_octets}
@@ -13,8 +14,8 @@ use Rattle.macs_disk.specs.Disk.{IsHonest}
 use Rattle.macs_disk.specs.Disk as disk
 use Rattle.macs_disk.specs.Runs.{Leaves}
 use Rattle.macs_disk.specs.States.{Image}
-use Rattle.macs_disk.proofs.Moments.{Leaves-join, Leaves-now, Leaves-start, Leaves-weaker, Rose-before, Works-on, Works-start}
-use Rattle.macs_journal.specs.Areas.{least_sectors}
+use Rattle.macs_disk.proofs.Moments.{FailsOnce-before, Leaves-join, Leaves-now, Leaves-start, Leaves-weaker, Works-on, Works-start}
+use Rattle.macs_journal.specs.Areas.{least_sectors, slots}
 use Rattle.macs_journal.specs.Work.{IsWorkOf}
 use Rattle.macs_journal.specs.declared.fault.JournalFault.{JournalFault}
 use Rattle.macs_journal.specs.declared.fault.JournalFault.TheVariants as fault
@@ -32,14 +33,14 @@ use Rattle.macs_rxsc.specs.declared.need.RxNeed.{RxNeed}
 use Rattle.macs_rxsc.proofs.Places.{bytes_eq-same}
 use Rattle.macs_rxsc.proofs.Told.{need_shown}
 use Rattle.macs_store.specs.Found.{IsBeforeOrAfter}
-use Rattle.macs_store.specs.Kept.{IsStored, standing_in}
-use Rattle.macs_store.specs.Kept as store
+use Rattle.macs_store.specs.Value.{IsStored, standing_in, used_slots}
+use Rattle.macs_store.specs.Value as store
 use Rattle.macs_store.specs.Standing.{Ceilings, Standing, ahead, rx_raised}
-use Rattle.macs_store.specs.Table.{standing_at}
+use Rattle.macs_store.specs.Table.{standing_of}
 use Rattle.macs_endpoint.specs.Calls.{Fails, IsCall}
-use Rattle.macs_endpoint.specs.Ceilings.{IsPartlyRefilled, IsRefilled, Stands, rx_refilled, rx_served, tx_refilled, tx_served}
+use Rattle.macs_endpoint.specs.Ceilings.{CeilingsAfter, IsPartlyRefilled, IsRefilled, StandsRefilled, rx_refilled, rx_served, tx_refilled, tx_served}
 use Rattle.macs_endpoint.specs.Faults.{refill_fault_of}
-use Rattle.macs_endpoint.specs.Kept.{AreChannels, AreWithin, IsBacked, IsKept, IsRxWithin, IsTxWithin, Kept, disk_in, state_of}
+use Rattle.macs_endpoint.specs.Value.{AreChannels, AreWithin, EndpointValue, IsBacked, IsRxWithin, IsSoundEndpoint, IsTxWithin, disk_in, is_stopped, state_of}
 use Rattle.macs_endpoint.specs.Limits.{IsLimited, IsStill}
 use Rattle.macs_endpoint.specs.Reserving.{FitsState, Reserves}
 use Rattle.macs_endpoint.specs.Restart.{Fits, FitsCall, rx_limit}
@@ -47,6 +48,7 @@ use Rattle.macs_endpoint.specs.State.{Logs, Refilled, Refills, State, halted, no
 use Rattle.macs_endpoint.specs.Step.{Refilling}
 use Rattle.macs_endpoint.specs.declared.fault.RefillFault.{RefillFault}
 use Rattle.macs_endpoint.specs.declared.fault.RefillFault.TheVariants as refill
+use Rattle.macs_endpoint.proofs.Alone.{alone-call}
 use Rattle.macs_endpoint.proofs.Commanding.{kept-held}
 use Rattle.macs_endpoint.proofs.Fitting.{AreAhead, ahead-within, fits-ahead, kept-ahead, kept-backed, standing_with}
 
@@ -148,7 +150,7 @@ module _ (block : ℕ) (sci : List ℕ) (an : ℕ) where
 
 module _ {D : Type 0} (disk_of : D → disk.Disk) where
   -- nothing is to be done
-  pub reserves-none : (e : Kept D) → Reserves disk_of e (Ok tt) e
+  pub reserves-none : (e : EndpointValue D) → Reserves disk_of e (Ok tt) e
   reserves-none e = record {
     step = λ logs. refl;
     works = Works-start (disk_in disk_of e);
@@ -162,26 +164,26 @@ module _ {D : Type 0} (disk_of : D → disk.Disk) where
     channel_counters = refl;
   }
 
-  fails_on : (old mid new : disk.Disk) (result : Result (Unit {0}) RefillFault) → disk.Works old mid → mid.failures ≡ old.failures
+  fails_on : (old mid new : disk.Disk) (result : Result (Unit {0}) RefillFault) → mid.failures ≡ old.failures
       → Fails mid new (Refilled result) → Fails old new (Refilled result)
-  fails_on old mid new (Ok done) works steady fails = fails ∙ steady
-  fails_on old mid new (Err refill.Stopped) works steady fails = fails ∙ steady
-  fails_on old mid new (Err refill.AreaFull) works steady fails = fails ∙ steady
-  fails_on old mid new (Err refill.Disk) works steady fails = Rose-before old mid new works fails
+  fails_on old mid new (Ok done) steady fails = fails ∙ steady
+  fails_on old mid new (Err refill.Stopped) steady fails = fails ∙ steady
+  fails_on old mid new (Err refill.AreaFull) steady fails = fails ∙ steady
+  fails_on old mid new (Err refill.Disk) steady fails = FailsOnce-before old mid new steady fails
 
-  limited_on : (old mid new : Kept D) (result : Result (Unit {0}) RefillFault) → IsLimited mid Refills (Refilled result) new
+  limited_on : (old mid new : EndpointValue D) (result : Result (Unit {0}) RefillFault) → IsLimited mid Refills (Refilled result) new
       → IsLimited old Refills (Refilled result) new
   limited_on old mid new (Ok done) limited = tt
   limited_on old mid new (Err refill.Stopped) limited = tt
   limited_on old mid new (Err refill.AreaFull) limited = limited
   limited_on old mid new (Err refill.Disk) limited = tt
 
-  pub reserves-on : (old mid new : Kept D) (result : Result (Unit {0}) RefillFault) → Reserves disk_of old (Ok tt) mid → Reserves disk_of mid result new
+  pub reserves-on : (old mid new : EndpointValue D) (result : Result (Unit {0}) RefillFault) → Reserves disk_of old (Ok tt) mid → Reserves disk_of mid result new
       → Reserves disk_of old result new
   reserves-on old mid new result first second = record {
     step = λ logs. subst (λ (s : State). Refilling s result (state_of new logs)) (first.step logs) (second.step logs);
     works = Works-on (disk_in disk_of old) (disk_in disk_of mid) (disk_in disk_of new) first.works second.works;
-    fails = fails_on (disk_in disk_of old) (disk_in disk_of mid) (disk_in disk_of new) result first.works first.fails second.fails;
+    fails = fails_on (disk_in disk_of old) (disk_in disk_of mid) (disk_in disk_of new) result first.fails second.fails;
     any_moment = λ honest backed logs.
         let before : IsHonest (disk_in disk_of mid) = sym second.works.honest ∙ honest in
         let sectors = (disk_in disk_of old).sectors in
@@ -189,8 +191,8 @@ module _ {D : Type 0} (disk_of : D → disk.Disk) where
         (FitsState (state_of old logs) (disk_in disk_of old)) (FitsState (state_of mid logs) (disk_in disk_of mid)) (FitsState (state_of old logs) (disk_in disk_of old))
         (first.any_moment before backed logs) (second.any_moment honest (first.backed before backed) logs)
         (λ image fits. fits)
-        (λ image fits. subst (λ (s : State). Fits sectors image s) (first.step logs)
-        (subst (λ (n : ℕ). Fits n image (state_of mid logs)) first.works.sectors fits));
+        (λ image fits. subst (λ (s : State). Fits this_edition sectors image s) (first.step logs)
+        (subst (λ (n : ℕ). Fits this_edition n image (state_of mid logs)) first.works.sectors fits));
     backed = λ honest backed. second.backed honest (first.backed (sym second.works.honest ∙ honest) backed);
     limited = limited_on old mid new result second.limited;
     tx_counters = second.tx_counters ∙ first.tx_counters;
@@ -200,96 +202,94 @@ module _ {D : Type 0} (disk_of : D → disk.Disk) where
 
   -- ---- a call
 
-  pub stopped-call : (e : Kept D) → e.store.journal.stopped ≡ true → IsCall disk_of e Refills (Refilled (Err refill.Stopped)) e
-  stopped-call e stopped = record {
+  pub stopped-call : (e : EndpointValue D) → is_stopped e ≡ true → IsCall disk_of e Refills (Refilled (Err refill.Stopped)) e
+  stopped-call e stopped = alone-call disk_of e e.tx e.rx Refills (Refilled (Err refill.Stopped)) refl (λ backed. backed) (record {
     step = λ logs. (logs, inl (stopped, tt, refl));
-    works = Works-start (disk_in disk_of e);
-    fails = refl;
-    any_moment = λ honest backed logs later. Leaves-start (disk_in disk_of e)
-        (FitsCall (disk_in disk_of e).sectors (state_of e logs) Refills (state_of e later)) (λ image left. inl (backed.fits logs image left));
-    backed = λ honest backed. backed;
-    stands = record { identity = refl; config = refl; either = inl refl; rx = λ sci an. inl refl };
+    ceilings = record { identity = refl; config = refl; either = inl refl; rx = λ sci an. inl refl };
     limited = tt;
     still = refl;
     tx_counters = refl;
     rx_counters = refl;
     channel_counters = refl;
-  }
+  })
 
-  still_by : (old new : Kept D) (result : Result (Unit {0}) RefillFault) → Refilling (state_of old no_logs) result (state_of new no_logs)
+  still_by : (old new : EndpointValue D) (result : Result (Unit {0}) RefillFault) → Refilling (state_of old no_logs) result (state_of new no_logs)
       → IsStill old Refills (Refilled result) new
   still_by old new (Ok done) step = tt
   still_by old new (Err refill.AreaFull) step = tt
   still_by old new (Err refill.Disk) step = tt
   still_by old new (Err refill.Stopped) step = absurd step
 
-  pub reserved-call : (old new : Kept D) (result : Result (Unit {0}) RefillFault) → old.store.journal.stopped ≡ false → Reserves disk_of old result new
-      → Stands (tx_side (state_of old no_logs)) (rx_side (state_of old no_logs)) (standing_in old.store) Refills (Refilled result) (standing_in new.store)
+  pub reserved-call : (old new : EndpointValue D) (result : Result (Unit {0}) RefillFault) → is_stopped old ≡ false → Reserves disk_of old result new
+      → CeilingsAfter (state_of old no_logs) (standing_in old.store) Refills (Refilled result) (standing_in new.store)
       → IsCall disk_of old Refills (Refilled result) new
-  reserved-call old new result running reserves stands = record {
-    step = λ logs. (logs, inr (running, reserves.step logs));
-    works = reserves.works;
-    fails = reserves.fails;
-    any_moment = λ honest backed logs later. Leaves-weaker (disk_in disk_of old) (disk_in disk_of new)
-        (FitsState (state_of old logs) (disk_in disk_of old))
-        (FitsCall (disk_in disk_of old).sectors (state_of old logs) Refills (state_of new later))
-        (λ image fits. inl fits) (reserves.any_moment honest backed logs);
-    backed = reserves.backed;
-    stands = stands;
-    limited = reserves.limited;
-    still = still_by old new result (reserves.step no_logs);
-    tx_counters = reserves.tx_counters;
-    rx_counters = reserves.rx_counters;
-    channel_counters = reserves.channel_counters;
+  reserved-call old new result running reserves ceilings = record {
+    behaves = record {
+      step = λ logs. (logs, inr (running, reserves.step logs));
+      ceilings = ceilings;
+      limited = reserves.limited;
+      still = still_by old new result (reserves.step no_logs);
+      tx_counters = reserves.tx_counters;
+      rx_counters = reserves.rx_counters;
+      channel_counters = reserves.channel_counters;
+    };
+    device = record { works = reserves.works; fails = reserves.fails };
+    survives = λ honest backed. record {
+      any_moment = λ logs later. Leaves-weaker (disk_in disk_of old) (disk_in disk_of new)
+          (FitsState (state_of old logs) (disk_in disk_of old))
+          (FitsCall (disk_in disk_of old).sectors (state_of old logs) Refills (state_of new later))
+          (λ image fits. inl fits) (reserves.any_moment honest backed logs);
+      backed = reserves.backed honest backed;
+    };
   }
 
 -- ---- one ceiling
 
 -- what a store says of a reservation that makes this of what stands
-pub record Raises {D : Type 0} (disk_of : D → disk.Disk) (old : store.Kept D) (after : Standing) (result : Result (Unit {0}) JournalFault) (new : store.Kept D) : Type 0 where
-  pub stopped : IsErrOf result fault.Stopped ↔ (old.journal.stopped ≡ true)
-  pub full : IsErrOf result fault.AreaFull ↔ ((old.journal.stopped ≡ false) × (old.journal.place.free ≡ 256))
+pub record Raises {D : Type 0} (disk_of : D → disk.Disk) (old : store.StoreValue D) (after : Standing) (result : Result (Unit {0}) JournalFault) (new : store.StoreValue D) : Type 0 where
+  pub stopped : IsErrOf result fault.Stopped ↔ (store.is_stopped old ≡ true)
+  pub full : IsErrOf result fault.AreaFull ↔ ((store.is_stopped old ≡ false) × (store.used_slots old ≡ slots))
   pub names : OnErr result (IsErrOf result fault.Stopped ⊎ (IsErrOf result fault.AreaFull ⊎ IsErrOf result fault.Disk))
   pub same : OnErr result (IsErrOf result fault.Disk ⊎ (new ≡ old))
-  pub halted : IsErrOf result fault.Disk → (new.journal.stopped ≡ true) × (new.held ≡ old.held)
-  pub running : OnOk result (new.journal.stopped ≡ false)
+  pub halted : IsErrOf result fault.Disk → (store.is_stopped new ≡ true) × (new.held ≡ old.held)
+  pub running : OnOk result (store.is_stopped new ≡ false)
   pub done : OnOk result (standing_in new ≡ after)
-  pub work : IsWorkOf (disk_of old.journal.disk) (disk_of new.journal.disk) result
-  pub any_moment : IsHonest (disk_of new.journal.disk) → IsStored disk_of old
-      → Leaves (disk_of old.journal.disk) (disk_of new.journal.disk) (IsBeforeOrAfter (standing_in old) after)
-  pub stored : OnOk result (IsHonest (disk_of new.journal.disk) → IsStored disk_of old → IsStored disk_of new)
+  pub work : IsWorkOf (store.disk_in disk_of old) (store.disk_in disk_of new) result
+  pub any_moment : IsHonest (store.disk_in disk_of new) → IsStored disk_of old
+      → Leaves (store.disk_in disk_of old) (store.disk_in disk_of new) (IsBeforeOrAfter (standing_in old) after)
+  pub stored : OnOk result (IsHonest (store.disk_in disk_of new) → IsStored disk_of old → IsStored disk_of new)
 
 -- an image that stands for either ceilings fits
 either_fits : (sectors : ℕ) (image : Image) → least_sectors ≤ sectors → (s : State) (c d : Ceilings) → AreAhead s.identity s.next s.numbers c
-    → AreAhead s.identity s.next s.numbers d → IsBeforeOrAfter (standing_with s c) (standing_with s d) image → Fits sectors image s
+    → AreAhead s.identity s.next s.numbers d → IsBeforeOrAfter (standing_with s c) (standing_with s d) image → Fits s.edition sectors image s
 either_fits sectors image size s c d first second left = elim left [
   | inl before ↦ fits-ahead sectors image size s c first before
   | inr later ↦ fits-ahead sectors image size s d second later
 ]
 
-module _ {D : Type 0} (disk_of : D → disk.Disk) (e : Kept D) (kept : IsKept e) (running : e.store.journal.stopped ≡ false) (c : Ceilings)
+module _ {D : Type 0} (disk_of : D → disk.Disk) (e : EndpointValue D) (kept : IsSoundEndpoint e) (running : is_stopped e ≡ false) (c : Ceilings)
     (are : AreAhead (standing_in e.store).identity (txsc.side_of e.tx).next (rxsc.side_of e.rx).numbers c) where
   -- what stands with these ceilings
   abbrev pub raised_to : Standing
-  raised_to = record { identity = (standing_in e.store).identity; config = (standing_in e.store).config; ceilings = c }
+  raised_to = record { edition = this_edition; identity = (standing_in e.store).identity; config = (standing_in e.store).config; ceilings = c }
 
-  raise_moments : (s : store.Kept D) (result : Result (Unit {0}) JournalFault) → Raises disk_of e.store raised_to result s
-      → IsHonest (disk_of s.journal.disk) → IsBacked disk_of e → (logs : Logs)
-      → Leaves (disk_in disk_of e) (disk_of s.journal.disk) (FitsState (state_of e logs) (disk_in disk_of e))
+  raise_moments : (s : store.StoreValue D) (result : Result (Unit {0}) JournalFault) → Raises disk_of e.store raised_to result s
+      → IsHonest (store.disk_in disk_of s) → IsBacked disk_of e → (logs : Logs)
+      → Leaves (disk_in disk_of e) (store.disk_in disk_of s) (FitsState (state_of e logs) (disk_in disk_of e))
   raise_moments s result raises honest backed logs =
-      Leaves-weaker (disk_in disk_of e) (disk_of s.journal.disk) (IsBeforeOrAfter (standing_in e.store) raised_to)
+      Leaves-weaker (disk_in disk_of e) (store.disk_in disk_of s) (IsBeforeOrAfter (standing_in e.store) raised_to)
       (FitsState (state_of e logs) (disk_in disk_of e))
       (λ image left. either_fits (disk_in disk_of e).sectors image backed.size (state_of e logs) (standing_in e.store).ceilings c (kept-ahead e kept) are left)
       (raises.any_moment honest (backed.stored running))
 
   -- the ceiling was raised
-  module _ (s : store.Kept D) (raises : Raises disk_of e.store raised_to (Ok tt) s) (tx : Tx) (rx : rxsc.Kept)
+  module _ (s : store.StoreValue D) (raises : Raises disk_of e.store raised_to (Ok tt) s) (tx : Tx) (rx : rxsc.Kept)
       (tx_side : txsc.side_of tx ≡ txsc.side_of e.tx) (rx_side : rxsc.side_of rx ≡ rxsc.side_of e.rx)
       (tx_ceilings : txsc.ceilings_of tx ≡ c.tx) (rx_ceilings : rxsc.ceilings_of rx ≡ c.rx) where
-    abbrev raised_in : Kept D
+    abbrev raised_in : EndpointValue D
     raised_in = record { store = s; tx = tx; rx = rx; in_hand = e.in_hand }
 
-    pub raised-kept : IsKept raised_in
+    pub raised-kept : IsSoundEndpoint raised_in
     raised-kept =
         let old = standing_in e.store in
         let channels : AreChannels tx rx raised_to = record {
@@ -315,6 +315,7 @@ module _ {D : Type 0} (disk_of : D → disk.Disk) (e : Kept D) (kept : IsKept e)
         → rxsc.channel_counters_of rx ≡ rxsc.channel_counters_of e.rx → Reserves disk_of e (Ok tt) raised_in
     raised-reserves tx_counters rx_counters channel_counters = record {
       step = λ logs. λ i. record {
+        edition = this_edition;
         identity = (raises.done i).identity;
         config = (raises.done i).config;
         next = (tx_side i).next;
@@ -336,15 +337,16 @@ module _ {D : Type 0} (disk_of : D → disk.Disk) (e : Kept D) (kept : IsKept e)
     }
 
   -- or not
-  module _ (s : store.Kept D) where
-    abbrev kept_in : Kept D
+  module _ (s : store.StoreValue D) where
+    abbrev kept_in : EndpointValue D
     kept_in = record { store = s; tx = e.tx; rx = e.rx; in_hand = e.in_hand }
 
     cut_reserves : Raises disk_of e.store raised_to (Err fault.Disk) s → Reserves disk_of e (Err refill.Disk) kept_in
     cut_reserves raises =
-        let same : standing_in s ≡ standing_in e.store = ap standing_at (raises.halted refl).1 in
-        let stopped : s.journal.stopped ≡ true = (raises.halted refl).0 in
+        let same : standing_in s ≡ standing_in e.store = ap standing_of (raises.halted refl).1 in
+        let stopped : store.is_stopped s ≡ true = (raises.halted refl).0 in
         let step : (logs : Logs) → state_of kept_in logs ≡ halted (state_of e logs) = λ logs. λ i. record {
+          edition = this_edition;
           identity = (same i).identity;
           config = (same i).config;
           next = (txsc.side_of e.tx).next;
@@ -359,15 +361,15 @@ module _ {D : Type 0} (disk_of : D → disk.Disk) (e : Kept D) (kept : IsKept e)
           fails = raises.work.fails;
           any_moment = λ honest backed logs. raise_moments s (Err fault.Disk) raises honest backed logs;
           backed = λ honest backed.
-              let sectors = (disk_of s.journal.disk).sectors in
+              let sectors = (store.disk_in disk_of s).sectors in
               let size : least_sectors ≤ sectors = subst (λ (n : ℕ). least_sectors ≤ n) (sym raises.work.works.sectors) backed.size in
               let leaves = raises.any_moment honest (backed.stored running) in
               record {
                 size = size;
                 stored = λ going. absurd cc;
-                fits = λ logs image left. subst (λ (x : State). Fits sectors image x) (sym (step logs))
+                fits = λ logs image left. subst (λ (x : State). Fits this_edition sectors image x) (sym (step logs))
                     (either_fits sectors image size (halted (state_of e logs)) (standing_in e.store).ceilings c (kept-ahead e kept) are
-                    (Leaves-now (disk_in disk_of e) (disk_of s.journal.disk) (IsBeforeOrAfter (standing_in e.store) raised_to) leaves image left));
+                    (Leaves-now (disk_in disk_of e) (store.disk_in disk_of s) (IsBeforeOrAfter (standing_in e.store) raised_to) leaves image left));
               };
           limited = tt;
           tx_counters = refl;
@@ -375,10 +377,10 @@ module _ {D : Type 0} (disk_of : D → disk.Disk) (e : Kept D) (kept : IsKept e)
           channel_counters = refl;
         }
 
-    full_reserves : (other : store.Kept D) → e.store ≡ other → e.store.journal.place.free ≡ 256
+    full_reserves : (other : store.StoreValue D) → e.store ≡ other → used_slots e.store ≡ slots
         → Reserves disk_of e (Err refill.AreaFull) (record { store = other; tx = e.tx; rx = e.rx; in_hand = e.in_hand })
     full_reserves other same full =
-        subst (λ (x : store.Kept D). Reserves disk_of e (Err refill.AreaFull) (record { store = x; tx = e.tx; rx = e.rx; in_hand = e.in_hand })) same
+        subst (λ (x : store.StoreValue D). Reserves disk_of e (Err refill.AreaFull) (record { store = x; tx = e.tx; rx = e.rx; in_hand = e.in_hand })) same
         (record {
           step = λ logs. refl;
           works = Works-start (disk_in disk_of e);
@@ -401,7 +403,7 @@ module _ {D : Type 0} (disk_of : D → disk.Disk) (e : Kept D) (kept : IsKept e)
     by_name : (at : JournalFault) → Raises disk_of e.store raised_to (Err at) s
         → (at ≡ fault.Stopped) ⊎ ((at ≡ fault.AreaFull) ⊎ (at ≡ fault.Disk))
         → Reserves disk_of e (Err (refill_fault_of at)) kept_in × (standing_in s ≡ standing_in e.store)
-        × (s.journal.stopped ≡ false → e.in_hand ≡ None)
+        × (store.is_stopped s ≡ false → e.in_hand ≡ None)
     by_name at raises (inl is) = absurd (let told = raises.stopped.0 (ap Err is) in cc)
     by_name at raises (inr (inl is)) =
         let told : Raises disk_of e.store raised_to (Err fault.AreaFull) s =
@@ -409,14 +411,14 @@ module _ {D : Type 0} (disk_of : D → disk.Disk) (e : Kept D) (kept : IsKept e)
         let same = stays fault.AreaFull (λ clash. cc) told.same in (
           subst (λ (x : JournalFault). Reserves disk_of e (Err (refill_fault_of x)) kept_in) (sym is)
               (full_reserves s (sym same) (told.full.0 refl).1),
-          ap (λ (x : store.Kept D). standing_in x) same,
+          ap (λ (x : store.StoreValue D). standing_in x) same,
           λ going. kept.idle running,
         )
     by_name at raises (inr (inr is)) =
         let told : Raises disk_of e.store raised_to (Err fault.Disk) s =
         subst (λ (x : JournalFault). Raises disk_of e.store raised_to (Err x) s) is raises in (
           subst (λ (x : JournalFault). Reserves disk_of e (Err (refill_fault_of x)) kept_in) (sym is) (cut_reserves told),
-          ap standing_at (told.halted refl).1,
+          ap standing_of (told.halted refl).1,
           λ going. kept.idle running,
         )
 
@@ -429,10 +431,10 @@ module _ {D : Type 0} (disk_of : D → disk.Disk) (e : Kept D) (kept : IsKept e)
 
     pub faulted : (at : JournalFault) → Raises disk_of e.store raised_to (Err at) s
         → Reserves disk_of e (Err (refill_fault_of at)) kept_in × (standing_in s ≡ standing_in e.store)
-        × (s.journal.stopped ≡ false → e.in_hand ≡ None)
+        × (store.is_stopped s ≡ false → e.in_hand ≡ None)
     faulted at raises = by_name at raises (named_fault at raises.names)
 
-    pub faulted-kept : (at : JournalFault) → Raises disk_of e.store raised_to (Err at) s → IsKept kept_in
+    pub faulted-kept : (at : JournalFault) → Raises disk_of e.store raised_to (Err at) s → IsSoundEndpoint kept_in
     faulted-kept at raises =
         let told = faulted at raises in
         kept-held e kept s e.in_hand told.1 told.2
@@ -803,7 +805,7 @@ module _ (old mid new : Standing) (tx_side : TxSide) (rx_side mid_side : RxSide)
 
   pub refilled-stands : (result : Result (Unit {0}) RefillFault)
       → OnOk result ((sci : List ℕ) (an : ℕ) → new.ceilings.rx sci an ≡ rx_refilled mid mid_side sci an)
-      → AreSome mid mid_side new.ceilings.rx → Stands tx_side rx_side old Refills (Refilled result) new
+      → AreSome mid mid_side new.ceilings.rx → StandsRefilled tx_side rx_side old result new
   refilled-stands (Ok done) all are = all-refilled all
   refilled-stands (Err at) all are = partly-refilled are
 
@@ -891,7 +893,7 @@ left s c = count (needs_among s.numbers c s.identity.rx_block s.config.channels)
 abbrev pub IsBut : Standing → Standing → Type 0
 IsBut old new = new ≡ record old { ceilings = record old.ceilings { rx = new.ceilings.rx } }
 
-module _ {D : Type 0} (disk_of : D → disk.Disk) (old mid : Kept D) (so_far : Reserves disk_of old (Ok tt) mid)
+module _ {D : Type 0} (disk_of : D → disk.Disk) (old mid : EndpointValue D) (so_far : Reserves disk_of old (Ok tt) mid)
     (but : IsBut (standing_in old.store) (standing_in mid.store))
     (are : AreSome (standing_in old.store) (rx_side (state_of old no_logs)) (standing_in mid.store).ceilings.rx) where
   abbrev c : List ℕ → ℕ → Option ℕ
@@ -905,7 +907,7 @@ module _ {D : Type 0} (disk_of : D → disk.Disk) (old mid : Kept D) (so_far : R
       (subst (λ (s : State). (sci : List ℕ) (an : ℕ) → need_of s.identity.rx_block sci an (s.numbers sci an) (c sci an) ≡ None) (so_far.step no_logs) none)
 
   -- nothing more was raised
-  module _ (new : Kept D) (same : standing_in new.store ≡ standing_in mid.store) where
+  module _ (new : EndpointValue D) (same : standing_in new.store ≡ standing_in mid.store) where
     pub cut-but : IsBut (standing_in old.store) (standing_in new.store)
     cut-but = subst (λ (s : Standing). IsBut (standing_in old.store) s) (sym same) but
 
@@ -914,7 +916,7 @@ module _ {D : Type 0} (disk_of : D → disk.Disk) (old mid : Kept D) (so_far : R
         subst (λ (s : Standing). AreSome (standing_in old.store) (rx_side (state_of old no_logs)) s.ceilings.rx) (sym same) are
 
   -- one ceiling more was raised
-  module _ (need : Need) (first : needs_of (rx_side (state_of mid no_logs)) c (standing_in mid.store).identity.rx_block ≡ Some need) (new : Kept D)
+  module _ (need : Need) (first : needs_of (rx_side (state_of mid no_logs)) c (standing_in mid.store).identity.rx_block ≡ Some need) (new : EndpointValue D)
       (step : Reserves disk_of mid (Ok tt) new) (done : standing_in new.store ≡ rx_raised (standing_in mid.store) need.sci need.an need.pn) where
     pub turn-less : left (state_of new no_logs) (standing_in new.store).ceilings.rx < left (state_of mid no_logs) c
     turn-less =

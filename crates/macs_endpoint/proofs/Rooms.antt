@@ -22,15 +22,15 @@ use Rattle.macs_rxsc.specs.Needs.{Need, is_needed, need_of, needed, raised}
 use Rattle.macs_rxsc.specs.Receive.{Arrival, Arrives, Numbers, RxSide, is_below}
 use Rattle.macs_rxsc.specs.declared.verdict.Verdict.TheVariants.{HeldBack}
 use Rattle.macs_rxsc.proofs.Steps.{arrives_once}
-use Rattle.macs_store.specs.Kept.{standing_in}
+use Rattle.macs_store.specs.Value.{standing_in}
 use Rattle.macs_store.specs.Standing.{Ceilings, Standing, ahead, ceilings_after}
 use Rattle.macs_store.specs.declared.fault.CommitFault.TheVariants as commit
 use Rattle.macs_endpoint.specs.Calls.{IsCall}
-use Rattle.macs_endpoint.specs.Ceilings.{Stands, rx_refilled, rx_served, tx_refilled, tx_served}
-use Rattle.macs_endpoint.specs.Kept.{IsKept, IsRxWithin, IsTxWithin, Kept, state_of}
+use Rattle.macs_endpoint.specs.Ceilings.{CeilingsAfter, rx_refilled, rx_served, tx_refilled, tx_served}
+use Rattle.macs_endpoint.specs.Value.{IsSoundEndpoint, IsRxWithin, IsTxWithin, EndpointValue, state_of}
 use Rattle.macs_endpoint.specs.Lives.{Lives, Turn}
-use Rattle.macs_endpoint.specs.Rooms.{HasRoom, IsBelow, IsEncoding, RxKeeps, RxStays, TxKeeps, TxStays, one_if, written}
-use Rattle.macs_endpoint.specs.State.{Call, Commands, Protects, Protected, Ran, Received, Receives, Refilled, Refills, Reply, State, no_logs, rx_side, tx_side}
+use Rattle.macs_endpoint.specs.Rooms.{HasRoom, IsBelow, IsEncoding, RxStays, SparesRx, SparesTx, TxStays, one_if, written}
+use Rattle.macs_endpoint.specs.State.{Call, Commands, Protects, Protected, Ran, Received, Receives, Refilled, Refills, Reply, State, made, no_logs, rx_side, tx_side}
 use Rattle.macs_endpoint.specs.Step.{Step, next_after}
 use Rattle.macs_endpoint.specs.declared.fault.ProtectFault.TheVariants as protect
 use Rattle.macs_endpoint.specs.declared.fault.RefillFault.TheVariants as refill
@@ -121,7 +121,7 @@ covers_put count used an at next c n ceiling differ covers =
     (subst (λ (x : Option ℕ). Covers count used (next an) x) (sym (put_other c at an ceiling differ)) covers)
 
 covers_command : (count used an : ℕ) (identity : Identity) (command : Command) (done : Unit {0}) (next : ℕ → Option ℕ) (c : Ceilings)
-    → TxKeeps an (Commands command) (Ran (Ok done)) → Covers count used (next an) (c.tx an)
+    → SparesTx an (Some command) → Covers count used (next an) (c.tx an)
     → Covers count used (next_after command next an) ((ceilings_after identity command c).tx an)
 covers_command count used an identity (SetValidate validate) done next c keeps covers = covers
 covers_command count used an identity (SetReplay on window) done next c keeps covers = covers
@@ -195,7 +195,7 @@ module _ (count used an : ℕ) (s t : State) (f g : Standing) where
   next_of x = x.next
 
   -- through a call
-  covers_step : (call : Call) (reply : Reply) → Step s call reply t → Stands (tx_side s) (rx_side s) f call reply g → TxKeeps an call reply
+  covers_step : (call : Call) (reply : Reply) → Step s call reply t → CeilingsAfter s f call reply g → SparesTx an (made s call reply)
       → Covers count used (s.next an) (f.ceilings.tx an)
       → Covers count (used + one_if s.config.encoding an reply) (t.next an) (g.ceilings.tx an)
   covers_step (Commands command) (Ran (Ok done)) (inl step) stands keeps covers = absurd step.1
@@ -279,7 +279,7 @@ IsUnder None pn = ⊥
 IsUnder (Some ceiling) pn = pn < ceiling
 
 under_command : (sci : List ℕ) (an pn : ℕ) (identity : Identity) (command : Command) (done : Unit {0}) (c : Ceilings)
-    → RxKeeps sci an (Commands command) (Ran (Ok done)) → IsUnder (c.rx sci an) pn → IsUnder ((ceilings_after identity command c).rx sci an) pn
+    → SparesRx sci an (Some command) → IsUnder (c.rx sci an) pn → IsUnder ((ceilings_after identity command c).rx sci an) pn
 under_command sci an pn identity (SetValidate validate) done c keeps under = under
 under_command sci an pn identity (SetReplay on window) done c keeps under = under
 under_command sci an pn identity (SetSciMode mode) done c keeps under = under
@@ -313,17 +313,17 @@ under_served block an pn sci numbers None under = absurd under
 under_served block an pn sci None (Some ceiling) under = under
 under_served block an pn sci (Some numbers) (Some ceiling) under = under_seen block an pn sci numbers ceiling numbers.seen under
 
-module _ (sci : List ℕ) (an pn : ℕ) (side : TxSide) (rx : RxSide) (f g : Standing) where
-  under_refilled : g.ceilings.rx sci an ≡ rx_refilled f rx sci an → IsUnder (f.ceilings.rx sci an) pn → IsUnder (g.ceilings.rx sci an) pn
+module _ (sci : List ℕ) (an pn : ℕ) (s : State) (f g : Standing) where
+  under_refilled : g.ceilings.rx sci an ≡ rx_refilled f (rx_side s) sci an → IsUnder (f.ceilings.rx sci an) pn → IsUnder (g.ceilings.rx sci an) pn
   under_refilled is under =
       subst (λ (x : Option ℕ). IsUnder x pn) (sym is)
-      (under_served f.identity.rx_block an pn sci (rx.numbers sci an) (f.ceilings.rx sci an) under)
+      (under_served f.identity.rx_block an pn sci (s.numbers sci an) (f.ceilings.rx sci an) under)
 
   under_same : g ≡ f → IsUnder (f.ceilings.rx sci an) pn → IsUnder (g.ceilings.rx sci an) pn
   under_same same under = subst (λ (x : Standing). IsUnder (x.ceilings.rx sci an) pn) (sym same) under
 
   -- through a call
-  under_stands : (call : Call) (reply : Reply) → Stands side rx f call reply g → RxKeeps sci an call reply → IsUnder (f.ceilings.rx sci an) pn
+  under_stands : (call : Call) (reply : Reply) → CeilingsAfter s f call reply g → SparesRx sci an (made s call reply) → IsUnder (f.ceilings.rx sci an) pn
       → IsUnder (g.ceilings.rx sci an) pn
   under_stands (Commands command) (Ran (Ok done)) stands keeps under =
       let parts = accept-parts f command g stands in
@@ -367,31 +367,31 @@ reach_served block an pn next lowest seen sci (Some ceiling) d least last is wit
 
 -- ---- an endpoint
 
-below_of : {D : Type 0} (e : Kept D) (sci : List ℕ) (an pn : ℕ) (c : Option ℕ) → (standing_in e.store).ceilings.rx sci an ≡ c → IsUnder c pn
+below_of : {D : Type 0} (e : EndpointValue D) (sci : List ℕ) (an pn : ℕ) (c : Option ℕ) → (standing_in e.store).ceilings.rx sci an ≡ c → IsUnder c pn
     → IsBelow e sci an pn
 below_of e sci an pn None is under = absurd under
 below_of e sci an pn (Some ceiling) is under = record { ceiling = ceiling; is_ceiling = is; below = under }
 
-under_of : {D : Type 0} (e : Kept D) (sci : List ℕ) (an pn : ℕ) → IsBelow e sci an pn → IsUnder ((standing_in e.store).ceilings.rx sci an) pn
+under_of : {D : Type 0} (e : EndpointValue D) (sci : List ℕ) (an pn : ℕ) → IsBelow e sci an pn → IsUnder ((standing_in e.store).ceilings.rx sci an) pn
 under_of e sci an pn below = subst (λ (x : Option ℕ). IsUnder x pn) (sym below.is_ceiling) below.below
 
 module _ {D : Type 0} (disk_of : D → Disk) where
-  under_lives : (sci : List ℕ) (an pn : ℕ) (turns : List (Turn D)) (old new : Kept D) → Lives disk_of old turns new → RxStays sci an turns
+  under_lives : (sci : List ℕ) (an pn : ℕ) (turns : List (Turn D)) (old new : EndpointValue D) → Lives disk_of old turns new → RxStays sci an old turns
       → IsUnder ((standing_in old.store).ceilings.rx sci an) pn → IsUnder ((standing_in new.store).ceilings.rx sci an) pn
   under_lives sci an pn [] old new lives stays under =
-      subst (λ (e : Kept D). IsUnder ((standing_in e.store).ceilings.rx sci an) pn) (sym lives) under
+      subst (λ (e : EndpointValue D). IsUnder ((standing_in e.store).ceilings.rx sci an) pn) (sym lives) under
   under_lives sci an pn (turn ∷ turns) old new lives stays under =
       under_lives sci an pn turns turn.after new lives.2 stays.1
-      (under_stands sci an pn (tx_side (state_of old no_logs)) (rx_side (state_of old no_logs)) (standing_in old.store) (standing_in turn.after.store)
-      turn.call turn.reply lives.1.stands stays.0 under)
+      (under_stands sci an pn (state_of old no_logs) (standing_in old.store) (standing_in turn.after.store)
+      turn.call turn.reply lives.1.behaves.ceilings stays.0 under)
 
-  pub below-stays : (old new : Kept D) (turns : List (Turn D)) (sci : List ℕ) (an pn : ℕ) → Lives disk_of old turns new → RxStays sci an turns
+  pub below-stays : (old new : EndpointValue D) (turns : List (Turn D)) (sci : List ℕ) (an pn : ℕ) → Lives disk_of old turns new → RxStays sci an old turns
       → IsBelow old sci an pn → IsBelow new sci an pn
   below-stays old new turns sci an pn lives stays below =
       below_of new sci an pn ((standing_in new.store).ceilings.rx sci an) refl
       (under_lives sci an pn turns old new lives stays (under_of old sci an pn below))
 
-  pub below-refilled : (old new : Kept D) (sci : List ℕ) (an next lowest seen pn : ℕ) → IsKept new → IsCall disk_of old Refills (Refilled (Ok tt)) new
+  pub below-refilled : (old new : EndpointValue D) (sci : List ℕ) (an next lowest seen pn : ℕ) → IsSoundEndpoint new → IsCall disk_of old Refills (Refilled (Ok tt)) new
       → (state_of new no_logs).numbers sci an ≡ Some (record { next = next; lowest = lowest; seen = Some seen }) → pn < 2 ^ 32
       → ((pn ≤ seen) ⊎ ((pn < next + (standing_in new.store).identity.rx_block / 2 + 1)
       × (pn < seen + (standing_in new.store).identity.rx_block)))
@@ -401,7 +401,7 @@ module _ {D : Type 0} (disk_of : D → Disk) where
       let before = standing_in old.store in
       let numbers : Numbers = record { next = next; lowest = lowest; seen = Some seen } in
       let d = (standing_in new.store).ceilings.rx sci an in
-      let ended = call.step no_logs in
+      let ended = call.behaves.step no_logs in
       let same : (state_of new no_logs).numbers ≡ (state_of old no_logs).numbers = elim ended.1 [
         | inl stopped ↦ absurd stopped.1
         | inr ran ↦ ap (λ (x : State). x.numbers) ran.1
@@ -409,21 +409,21 @@ module _ {D : Type 0} (disk_of : D → Disk) where
       let stood : (state_of old no_logs).numbers sci an ≡ Some numbers = sym (ap (λ (x : List ℕ → ℕ → Option Numbers). x sci an) same) ∙ are in
       let served : d ≡ rx_served before.identity.rx_block (before.ceilings.rx sci an)
       (need_of before.identity.rx_block sci an (Some numbers) (before.ceilings.rx sci an)) =
-      call.stands.rx sci an
+      call.behaves.ceilings.rx sci an
       ∙ ap (λ (x : Option Numbers). rx_served before.identity.rx_block (before.ceilings.rx sci an)
       (need_of before.identity.rx_block sci an x (before.ceilings.rx sci an))) stood in
       let served_new : d ≡ rx_served block (before.ceilings.rx sci an) (need_of block sci an (Some numbers) (before.ceilings.rx sci an)) =
       served ∙ ap (λ (i : Identity). rx_served i.rx_block (before.ceilings.rx sci an)
-      (need_of i.rx_block sci an (Some numbers) (before.ceilings.rx sci an))) (sym call.stands.identity) in
+      (need_of i.rx_block sci an (Some numbers) (before.ceilings.rx sci an))) (sym call.behaves.ceilings.identity) in
       let within : IsRxWithin block (Some numbers) d =
       subst (λ (x : Option Numbers). IsRxWithin block x d) are ((kept-ahead new kept).rx_ahead sci an) in
       below_of new sci an pn d refl
       (reach_served block an pn next lowest seen sci (before.ceilings.rx sci an) d kept.identity.rx_block.0 last served_new within reach)
 
-  pub below-delivered : (old new : Kept D) (frame out : List ℕ) (a : Arrival) → IsBelow old a.sci a.an a.pn
+  pub below-delivered : (old new : EndpointValue D) (frame out : List ℕ) (a : Arrival) → IsBelow old a.sci a.an a.pn
       → Arrives (rx_side (state_of old no_logs)) frame a → IsCall disk_of old (Receives frame) (Received (Ok HeldBack) out) new → ⊥
   below-delivered old new frame out a below arrives call =
-      let held = call.limited in
+      let held = call.behaves.limited in
       let same : held.0 ≡ a = arrives_once (rx_side (state_of old no_logs)) frame held.0 a held.1 arrives in
       let above : is_below ((standing_in old.store).ceilings.rx a.sci a.an) a.pn ≡ false =
       subst (λ (x : Arrival). is_below ((standing_in old.store).ceilings.rx x.sci x.an) x.pn ≡ false) same held.2 in
@@ -433,24 +433,24 @@ module _ {D : Type 0} (disk_of : D → Disk) where
 
   -- ---- room of a transmit association
 
-  covers_lives : (count an : ℕ) (turns : List (Turn D)) (used : ℕ) (old new : Kept D) → Lives disk_of old turns new → TxStays an turns
+  covers_lives : (count an : ℕ) (turns : List (Turn D)) (used : ℕ) (old new : EndpointValue D) → Lives disk_of old turns new → TxStays an old turns
       → Covers count used ((state_of old no_logs).next an) ((standing_in old.store).ceilings.tx an)
       → Covers count (used + written an old turns) ((state_of new no_logs).next an) ((standing_in new.store).ceilings.tx an)
   covers_lives count an [] used old new lives stays covers =
-      subst (λ (e : Kept D). Covers count (used + 0) ((state_of e no_logs).next an) ((standing_in e.store).ceilings.tx an)) (sym lives)
+      subst (λ (e : EndpointValue D). Covers count (used + 0) ((state_of e no_logs).next an) ((standing_in e.store).ceilings.tx an)) (sym lives)
       (covers_more count used 0 ((state_of old no_logs).next an) ((standing_in old.store).ceilings.tx an) covers)
   covers_lives count an (turn ∷ turns) used old new lives stays covers =
       let one = one_if (standing_in old.store).config.encoding an turn.reply in
       let rest = written an turn.after turns in
-      let ended = lives.1.step no_logs in
+      let ended = lives.1.behaves.step no_logs in
       let here : Covers count (used + one) ((state_of turn.after no_logs).next an) ((standing_in turn.after.store).ceilings.tx an) =
       covers_step count used an (state_of old no_logs) (state_of turn.after ended.0) (standing_in old.store) (standing_in turn.after.store)
-      turn.call turn.reply ended.1 lives.1.stands stays.0 covers in
+      turn.call turn.reply ended.1 lives.1.behaves.ceilings stays.0 covers in
       let sum : (used + one) + rest ≡ used + (one + rest) = omega arith in
       covers_same count ((used + one) + rest) (used + (one + rest)) ((state_of new no_logs).next an) ((standing_in new.store).ceilings.tx an) sum
       (covers_lives count an turns (used + one) turn.after new lives.2 stays.1 here)
 
-  room_of : (e : Kept D) (an count used block : ℕ) (n c : Option ℕ) → (state_of e no_logs).next an ≡ n → (standing_in e.store).ceilings.tx an ≡ c
+  room_of : (e : EndpointValue D) (an count used block : ℕ) (n c : Option ℕ) → (state_of e no_logs).next an ≡ n → (standing_in e.store).ceilings.tx an ≡ c
       → IsTxWithin block n c → Covers count used n c → HasRoom e an (count - used)
   room_of e an count used block None None is_next is_ceiling within covers = absurd covers
   room_of e an count used block None (Some ceiling) is_next is_ceiling within covers = absurd covers
@@ -467,7 +467,7 @@ module _ {D : Type 0} (disk_of : D → Disk) where
   }
 
   -- where its numbers are in order at the end
-  pub room-stays : (old new : Kept D) (turns : List (Turn D)) (an count : ℕ) → IsKept new → Lives disk_of old turns new → TxStays an turns
+  pub room-stays : (old new : EndpointValue D) (turns : List (Turn D)) (an count : ℕ) → IsSoundEndpoint new → Lives disk_of old turns new → TxStays an old turns
       → HasRoom old an count → HasRoom new an (count - written an old turns)
   room-stays old new turns an count kept lives stays room =
       let n = (state_of new no_logs).next an in
@@ -478,16 +478,16 @@ module _ {D : Type 0} (disk_of : D → Disk) where
       room_of new an count (written an old turns) (standing_in new.store).identity.tx_block n c refl refl ((kept-ahead new kept).tx_ahead an)
       (covers_same count (0 + written an old turns) (written an old turns) n c (omega arith) later)
 
-  pub room-installed : (old new : Kept D) (an : ℕ) (key : List ℕ) (start : ℕ) (confidential : Bool) (offset : ℕ)
+  pub room-installed : (old new : EndpointValue D) (an : ℕ) (key : List ℕ) (start : ℕ) (confidential : Bool) (offset : ℕ)
       → IsCall disk_of old (Commands (TxInstall an key start confidential offset)) (Ran (Ok tt)) new
       → HasRoom new an (standing_in new.store).identity.tx_block
   room-installed old new an key start confidential offset call =
       let command = TxInstall an key start confidential offset in
       let before = standing_in old.store in
-      let parts = accept-parts before command (standing_in new.store) call.stands in
+      let parts = accept-parts before command (standing_in new.store) call.behaves.ceilings in
       let block = (standing_in new.store).identity.tx_block in
       let kept : (standing_in new.store).identity ≡ before.identity = ap (λ (x : Standing). x.identity) parts.2 in
-      let ended = call.step no_logs in
+      let ended = call.behaves.step no_logs in
       let is_next : (state_of new no_logs).next an ≡ Some start = elim ended.1 [
         | inl stopped ↦ absurd stopped.1
         | inr ran ↦ ap (λ (x : State). x.next an) ran.1.2 ∙ put_here (state_of old no_logs).next an (Some start)
@@ -552,13 +552,13 @@ module _ {D : Type 0} (disk_of : D → Disk) where
       next (block / 2 + 1)) (sym stands)
       (served_by s an next ceiling (tx.is_needed block next ceiling) refl least stands ordered bounded)
 
-  pub room-refilled : (old new : Kept D) (an : ℕ) → IsKept old → IsCall disk_of old Refills (Refilled (Ok tt)) new → IsEncoding new an
+  pub room-refilled : (old new : EndpointValue D) (an : ℕ) → IsSoundEndpoint old → IsCall disk_of old Refills (Refilled (Ok tt)) new → IsEncoding new an
       → HasRoom new an ((standing_in new.store).identity.tx_block / 2 + 1)
   room-refilled old new an kept call encodes =
       let before = standing_in old.store in
       let side = tx_side (state_of old no_logs) in
       let block = before.identity.tx_block in
-      let ended = call.step no_logs in
+      let ended = call.behaves.step no_logs in
       let same : (state_of new no_logs).next ≡ side.next = elim ended.1 [
         | inl stopped ↦ absurd stopped.1
         | inr ran ↦ ap (λ (x : State). x.next) ran.1
@@ -571,7 +571,7 @@ module _ {D : Type 0} (disk_of : D → Disk) where
       let ceiling = ceiling_of block one.next (before.ceilings.tx an)
       (subst (λ (x : Option ℕ). IsTxWithin block x (before.ceilings.tx an)) is_next ((kept-ahead old kept).tx_ahead an)) in
       let o : Outgoing = record { an = an; sa = sa_of one; pn = one.next } in
-      let chosen : side.encoding ≡ Some an = sym (ap (λ (x : Config). x.encoding) call.stands.config) ∙ encodes.0 in
+      let chosen : side.encoding ≡ Some an = sym (ap (λ (x : Config). x.encoding) call.behaves.ceilings.config) ∙ encodes.0 in
       let goes : outgoing side ≡ Some o = ap (outgoing_at side) chosen ∙ (λ i. numbered an (is_sa i) (is_next i)) in
       let room : Leaves-room ((tx_refilled before side).ceilings.tx an) one.next (block / 2 + 1) =
       subst (λ (x : Option Outgoing). Leaves-room ((tx_served before (tx.need_at before.ceilings.tx block x)).ceilings.tx an) one.next (block / 2 + 1))
@@ -580,10 +580,10 @@ module _ {D : Type 0} (disk_of : D → Disk) where
         next = one.next;
         ceiling = room.0;
         is_next = said (state_of new no_logs).next side.next an (Some one.next) same is_next;
-        is_ceiling = said (standing_in new.store).ceilings.tx (tx_refilled before side).ceilings.tx an (Some room.0) call.stands.tx room.1;
+        is_ceiling = said (standing_in new.store).ceilings.tx (tx_refilled before side).ceilings.tx an (Some room.0) call.behaves.ceilings.tx room.1;
         room = room.2;
       } in
-      subst (λ (i : Identity). HasRoom new an (i.tx_block / 2 + 1)) (sym call.stands.identity) has
+      subst (λ (i : Identity). HasRoom new an (i.tx_block / 2 + 1)) (sym call.behaves.ceilings.identity) has
 
   -- ---- where no number is left
 
@@ -616,14 +616,14 @@ module _ {D : Type 0} (disk_of : D → Disk) where
         | inr all ↦ (let last = eq-eqb next (2 ^ 32) (omega (arith, same, all)) in cc)
       ]
 
-  pub room-numbered : (old new : Kept D) (an count : ℕ) (plain out : List ℕ) → IsEncoding old an → HasRoom old an count → 1 ≤ count
+  pub room-numbered : (old new : EndpointValue D) (an count : ℕ) (plain out : List ℕ) → IsEncoding old an → HasRoom old an count → 1 ≤ count
       → IsCall disk_of old (Protects plain) (Protected (Err (protect.Tx NoNumber)) out) new → ⊥
   room-numbered old new an count plain out encodes room least call =
       let side = tx_side (state_of old no_logs) in
       let c = (standing_in old.store).ceilings.tx in
       let goes : outgoing side ≡ numbered an (side.tx an) (Some room.next) =
       ap (outgoing_at side) encodes.0 ∙ ap (numbered an (side.tx an)) room.is_next in
-      let ended = call.step no_logs in
+      let ended = call.behaves.step no_logs in
       elim ended.1 [
         | inl stopped ↦ stopped.1
         | inr ran ↦ elim ran.1.0 [
@@ -631,7 +631,7 @@ module _ {D : Type 0} (disk_of : D → Disk) where
           | inr none ↦
               let unused : is_used_up (outgoing side) ≡ false = not_exhausted _ _ _ _ _ none.0 in
               numbers_left an room.next room.ceiling count (side.tx an) c room.is_ceiling room.room least
-              (subst (λ (o : Option Outgoing). is_at_ceiling c o ≡ true) goes call.limited)
+              (subst (λ (o : Option Outgoing). is_at_ceiling c o ≡ true) goes call.behaves.limited)
               (subst (λ (o : Option Outgoing). is_used_up o ≡ false) goes unused)
         ]
       ]

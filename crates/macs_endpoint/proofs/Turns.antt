@@ -3,13 +3,13 @@ use Rattle.std.proofs.Common.{◌≡◌, ◌≤◌, ◌<◌, ◌+◌, ◌&&◌, 
 use Rattle.std.proofs.lemmas.Bool.{cases_lt}
 use Rattle.std.proofs.lemmas.List.{map-append, length_push}
 use Rattle.macs_config.specs.Apply.{apply}
-use Rattle.macs_config.specs.Config.{first_edition}
+use Rattle.macs_config.specs.Config.{Edition, this_edition}
 use Rattle.macs_config.specs.declared.command.Command.{Command}
 use Rattle.macs_disk.specs.Disk.{Disk, IsHonest, LeftSince}
 use Rattle.macs_disk.specs.States.{Image, IsImage}
 use Rattle.macs_disk.proofs.Moments.{Left-before}
 use Rattle.macs_endpoint.specs.Calls.{IsCall}
-use Rattle.macs_endpoint.specs.Kept.{IsBacked, IsKept, Kept, disk_in, state_of}
+use Rattle.macs_endpoint.specs.Value.{EndpointValue, IsBacked, IsSoundEndpoint, disk_in, is_stopped, state_of}
 use Rattle.macs_endpoint.specs.Lives.{FitsLife, LeavesLife, Lives, Turn, event_of}
 use Rattle.macs_endpoint.specs.Restart.{Fits, FitsCall, during}
 use Rattle.macs_endpoint.specs.Serving.{Ends, IsServed, Takes, Told, call_of, halts, reply_of}
@@ -45,13 +45,14 @@ ends_last (first ∷ other ∷ others) reply go halt = (go.0, ends_last (other �
 -- ---- an image that was left before
 
 -- nothing was in hand before a command
-fits_holding : (sectors : ℕ) (image : Image) (s : State) (command : Command) → s.in_hand ≡ None → Fits sectors image s
-    → Fits sectors image (holding s command)
-fits_holding sectors image s command idle fits = record {
+fits_holding : (edition : Edition) (sectors : ℕ) (image : Image) (s : State) (command : Command) → s.in_hand ≡ None → Fits edition sectors image s
+    → Fits edition sectors image (holding s command)
+fits_holding edition sectors image s command idle fits = record {
   found = fits.found;
   is_found = fits.is_found;
   restart = elim fits.restart [
     | inl resumes ↦ inl (record {
+      edition = resumes.edition;
       identity = resumes.identity;
       config = resumes.config;
       next = resumes.next;
@@ -69,27 +70,27 @@ held_or_not P true accepts x y this other = other
 held_or_not P false true x y this other = this refl
 held_or_not P false false x y this other = other
 
-fits_during : (sectors : ℕ) (image : Image) (s : State) (call : Call) → (s.stopped ≡ false → s.in_hand ≡ None) → Fits sectors image s
-    → Fits sectors image (during s call)
-fits_during sectors image s (Commands command) idle fits =
-    held_or_not (Fits sectors image) s.stopped (is_ok (apply first_edition s.identity s.config command)) (holding s command) s
-    (λ running. fits_holding sectors image s command (idle running) fits) fits
-fits_during sectors image s Refills idle fits = fits
-fits_during sectors image s (Protects plain) idle fits = fits
-fits_during sectors image s (Receives frame) idle fits = fits
+fits_during : (edition : Edition) (sectors : ℕ) (image : Image) (s : State) (call : Call) → (s.stopped ≡ false → s.in_hand ≡ None) → Fits edition sectors image s
+    → Fits edition sectors image (during s call)
+fits_during edition sectors image s (Commands command) idle fits =
+    held_or_not (Fits edition sectors image) s.stopped (is_ok (apply s.edition s.identity s.config command)) (holding s command) s
+    (λ running. fits_holding edition sectors image s command (idle running) fits) fits
+fits_during edition sectors image s Refills idle fits = fits
+fits_during edition sectors image s (Protects plain) idle fits = fits
+fits_during edition sectors image s (Receives frame) idle fits = fits
 
 -- nothing is in hand unless a device call failed
-abbrev pub IsIdle : {D : Type 0} → Kept D → Type 0
-IsIdle e = e.store.journal.stopped ≡ false → e.in_hand ≡ None
+abbrev pub IsIdle : {D : Type 0} → EndpointValue D → Type 0
+IsIdle e = is_stopped e ≡ false → e.in_hand ≡ None
 
 module _ {D : Type 0} (disk_of : D → Disk) (turn : Turn D) where
   -- ---- calls and their steps
 
-  lives_more : (turns : List (Turn D)) (old mid : Kept D) → Lives disk_of old turns mid → IsKept mid
+  lives_more : (turns : List (Turn D)) (old mid : EndpointValue D) → Lives disk_of old turns mid → IsSoundEndpoint mid
       → IsCall disk_of mid turn.call turn.reply turn.after
       → Lives disk_of old (turns ++ turn ∷ []) turn.after
   lives_more [] old mid lives kept call =
-      (subst (λ (e : Kept D). IsKept e) lives kept, subst (λ (e : Kept D). IsCall disk_of e turn.call turn.reply turn.after) lives call, refl)
+      (subst (λ (e : EndpointValue D). IsSoundEndpoint e) lives kept, subst (λ (e : EndpointValue D). IsCall disk_of e turn.call turn.reply turn.after) lives call, refl)
   lives_more (first ∷ turns) old mid lives kept call = (lives.0, lives.1, lives_more turns first.after mid lives.2 kept call)
 
   run_more : (turns : List (Turn D)) (s mid new : State) → Run s (map event_of turns) mid → Step mid turn.call turn.reply new
@@ -105,25 +106,25 @@ module _ {D : Type 0} (disk_of : D → Disk) (turn : Turn D) where
   -- ---- what a power loss leaves
 
   -- it fits the state of a moment before, or that of the last call
-  fits_wider : (sectors : ℕ) (image : Image) (turns : List (Turn D)) (old mid : Kept D) → Lives disk_of old turns mid → IsIdle mid
+  fits_wider : (sectors : ℕ) (image : Image) (turns : List (Turn D)) (old mid : EndpointValue D) → Lives disk_of old turns mid → IsIdle mid
       → FitsLife sectors old turns image → FitsLife sectors old (turns ++ turn ∷ []) image
   fits_wider sectors image [] old mid lives idle fits =
-      inl (fits_during sectors image (state_of old no_logs) turn.call (subst (λ (e : Kept D). IsIdle e) lives idle) fits)
+      inl (fits_during this_edition sectors image (state_of old no_logs) turn.call (subst (λ (e : EndpointValue D). IsIdle e) lives idle) fits)
   fits_wider sectors image (first ∷ turns) old mid lives idle fits = elim fits [
     | inl here ↦ inl here
     | inr later ↦ inr (fits_wider sectors image turns first.after mid lives.2 idle later)
   ]
 
-  fits_last : (sectors : ℕ) (image : Image) (turns : List (Turn D)) (old mid : Kept D) → Lives disk_of old turns mid
+  fits_last : (sectors : ℕ) (image : Image) (turns : List (Turn D)) (old mid : EndpointValue D) → Lives disk_of old turns mid
       → FitsCall sectors (state_of mid no_logs) turn.call (state_of turn.after no_logs) image → FitsLife sectors old (turns ++ turn ∷ []) image
   fits_last sectors image [] old mid lives fits =
-      subst (λ (e : Kept D). FitsCall sectors (state_of e no_logs) turn.call (state_of turn.after no_logs) image) lives fits
+      subst (λ (e : EndpointValue D). FitsCall sectors (state_of e no_logs) turn.call (state_of turn.after no_logs) image) lives fits
   fits_last sectors image (first ∷ turns) old mid lives fits = inr (fits_last sectors image turns first.after mid lives.2 fits)
 
-  module _ (mid : Kept D) (call : IsCall disk_of mid turn.call turn.reply turn.after) (idle : IsIdle mid)
+  module _ (mid : EndpointValue D) (call : IsCall disk_of mid turn.call turn.reply turn.after) (idle : IsIdle mid)
       (honest : IsHonest (disk_in disk_of turn.after)) (backed : IsBacked disk_of mid) where
     -- since any moment before
-    left_more : (since : ℕ) (turns : List (Turn D)) (old : Kept D) → Lives disk_of old turns mid
+    left_more : (since : ℕ) (turns : List (Turn D)) (old : EndpointValue D) → Lives disk_of old turns mid
         → ((image : Image) → LeftSince (disk_in disk_of mid) since image → FitsLife (disk_in disk_of mid).sectors old turns image)
         → (image : Image) → LeftSince (disk_in disk_of turn.after) since image
         → FitsLife (disk_in disk_of turn.after).sectors old (turns ++ turn ∷ []) image
@@ -132,11 +133,11 @@ module _ {D : Type 0} (disk_of : D → Disk) (turn : Turn D) where
         let late = disk_in disk_of turn.after in
         let widened : FitsLife early.sectors old (turns ++ turn ∷ []) image = elim (cases_lt early.clock left.0) [
           | inl after ↦ fits_last early.sectors image turns old mid lives
-              ((call.any_moment honest backed no_logs no_logs).each image (left.0, omega (arith, after), left.2, left.3))
+              (((call.survives honest backed).any_moment no_logs no_logs).each image (left.0, omega (arith, after), left.2, left.3))
           | inr earlier ↦ fits_wider early.sectors image turns old mid lives idle
-              (before image (Left-before early late since image call.works left earlier))
+              (before image (Left-before early late since image call.device.works left earlier))
         ] in
-        subst (λ (sectors : ℕ). FitsLife sectors old (turns ++ turn ∷ []) image) (sym call.works.sectors) widened
+        subst (λ (sectors : ℕ). FitsLife sectors old (turns ++ turn ∷ []) image) (sym call.device.works.sectors) widened
 
     -- after the last call
     left_last : (image : Image) → LeftSince (disk_in disk_of turn.after) (disk_in disk_of turn.after).clock image
@@ -144,9 +145,9 @@ module _ {D : Type 0} (disk_of : D → Disk) (turn : Turn D) where
     left_last image left =
         let disk = disk_in disk_of turn.after in
         let at_now : left.0 ≡ disk.clock = omega (arith, left.1, left.2) in
-        (call.backed honest backed).fits no_logs image (subst (λ (k : ℕ). IsImage (disk.past k) image) at_now left.3)
+        (call.survives honest backed).backed.fits no_logs image (subst (λ (k : ℕ). IsImage (disk.past k) image) at_now left.3)
 
-    leaves_more : (turns : List (Turn D)) (old : Kept D) → Lives disk_of old turns mid → LeavesLife disk_of (disk_in disk_of mid) old turns
+    leaves_more : (turns : List (Turn D)) (old : EndpointValue D) → Lives disk_of old turns mid → LeavesLife disk_of (disk_in disk_of mid) old turns
         → LeavesLife disk_of (disk_in disk_of turn.after) old (turns ++ turn ∷ [])
     leaves_more [] old lives leaves = (left_more (disk_in disk_of old).clock [] old lives leaves, left_last)
     leaves_more (first ∷ turns) old lives leaves =
@@ -155,7 +156,7 @@ module _ {D : Type 0} (disk_of : D → Disk) (turn : Turn D) where
 -- ---- turns
 
 -- What so many turns did, between what a source and a sink told before and after
-pub record AreTurns {D : Type 0} (disk_of : D → Disk) (turns : List (Turn D)) (old : Kept D) (told : Told) (new : Kept D) (tells : Told) : Type 0 where
+pub record AreTurns {D : Type 0} (disk_of : D → Disk) (turns : List (Turn D)) (old : EndpointValue D) (told : Told) (new : EndpointValue D) (tells : Told) : Type 0 where
   pub lives : Lives disk_of old turns new
   pub run : (logs : Logs) → (after : Logs) × Run (state_of old logs) (map event_of turns) (state_of new after)
   pub honest : (disk_in disk_of new).honest ≡ (disk_in disk_of old).honest
@@ -176,7 +177,7 @@ abbrev pub HasGiven : Told → Answer → Told → Type 0
 HasGiven told answer tells =
     (told.sink_tells ≡ true → tells.took ≡ told.took ++ answer ∷ []) × (tells.sink_tells ≡ told.sink_tells)
 
-module _ {D : Type 0} (disk_of : D → Disk) (old : Kept D) (told : Told) where
+module _ {D : Type 0} (disk_of : D → Disk) (old : EndpointValue D) (told : Told) where
   -- before the first turn
   pub no-turns : AreTurns disk_of [] old told old told
   no-turns = record {
@@ -194,7 +195,7 @@ module _ {D : Type 0} (disk_of : D → Disk) (old : Kept D) (told : Told) where
     given = λ tells. ([], sym (append-nil told.took), refl);
   }
 
-  module _ (turns : List (Turn D)) (mid : Kept D) (tells : Told) (are : AreTurns disk_of turns old told mid tells) where
+  module _ (turns : List (Turn D)) (mid : EndpointValue D) (tells : Told) (are : AreTurns disk_of turns old told mid tells) where
     -- where the source has no further event
     pub turns-ended : (later : Told) → HasTaken tells None later → later.sink_tells ≡ tells.sink_tells → later.took ≡ tells.took
         → AreTurns disk_of turns old told mid later × (told.source_tells ≡ true → later.left ≡ [])
@@ -217,23 +218,23 @@ module _ {D : Type 0} (disk_of : D → Disk) (old : Kept D) (told : Told) where
     )
 
     -- and where it has one, which is answered
-    pub turns-more : (event : Event) (answer : Answer) (new : Kept D) (later : Told) → IsCall disk_of mid (call_of event) (reply_of answer) new → IsKept mid
+    pub turns-more : (event : Event) (answer : Answer) (new : EndpointValue D) (later : Told) → IsCall disk_of mid (call_of event) (reply_of answer) new → IsSoundEndpoint mid
         → HasTaken tells (Some event) later → HasGiven tells answer later
         → AreTurns disk_of (turns ++ record { call = call_of event; reply = reply_of answer; after = new } ∷ []) old told new later
     turns-more event answer new later call kept taken given =
         let turn : Turn D = record { call = call_of event; reply = reply_of answer; after = new } in
-        let same : (disk_in disk_of new).honest ≡ (disk_in disk_of mid).honest = call.works.honest in
+        let same : (disk_in disk_of new).honest ≡ (disk_in disk_of mid).honest = call.device.works.honest in
         record {
           lives = lives_more disk_of turn turns old mid are.lives kept call;
           run = λ logs.
               let first = are.run logs in
-              let last = call.step first.0 in
+              let last = call.behaves.step first.0 in
               (last.0, run_more disk_of turn turns (state_of old logs) (state_of mid first.0) (state_of new last.0) first.1 last.1);
           honest = same ∙ are.honest;
           any_moment = λ honest backed.
               let before : IsHonest (disk_in disk_of mid) = sym same ∙ honest in
               leaves_more disk_of turn mid call kept.idle honest (are.backed before backed) turns old are.lives (are.any_moment before backed);
-          backed = λ honest backed. call.backed honest (are.backed (sym same ∙ honest) backed);
+          backed = λ honest backed. (call.survives honest (are.backed (sym same ∙ honest) backed)).backed;
           source = taken.1 ∙ are.source;
           sink = given.1 ∙ are.sink;
           taken = λ is.
@@ -277,17 +278,17 @@ module _ {D : Type 0} (disk_of : D → Disk) (old : Kept D) (told : Told) where
 -- ---- a loop over turns
 
 -- so many turns were served, and none of their answers says that a device call failed
-pub record IsServing {D : Type 0} (disk_of : D → Disk) (count : ℕ) (old : Kept D) (told : Told) (new : Kept D) (tells : Told) : Type 0 where
+pub record IsServing {D : Type 0} (disk_of : D → Disk) (count : ℕ) (old : EndpointValue D) (told : Told) (new : EndpointValue D) (tells : Told) : Type 0 where
   pub turns : List (Turn D)
   pub number : length turns ≡ count
   pub go : AllGo (map (λ (t : Turn D). t.reply) turns)
   pub are : AreTurns disk_of turns old told new tells
 
-module _ {D : Type 0} (disk_of : D → Disk) (old : Kept D) (told : Told) where
+module _ {D : Type 0} (disk_of : D → Disk) (old : EndpointValue D) (told : Told) where
   pub serving-start : IsServing disk_of 0 old told old told
   serving-start = record { turns = []; number = refl; go = tt; are = no-turns disk_of old told }
 
-  module _ (count : ℕ) (mid : Kept D) (tells : Told) (serving : IsServing disk_of count old told mid tells) where
+  module _ (count : ℕ) (mid : EndpointValue D) (tells : Told) (serving : IsServing disk_of count old told mid tells) where
     -- as many as were asked for
     pub served-spent : IsServed disk_of count old told TurnsSpent mid tells
     served-spent =
@@ -302,8 +303,8 @@ module _ {D : Type 0} (disk_of : D → Disk) (old : Kept D) (told : Told) where
         turns-served disk_of old told serving.turns mid later end.0 most Ended (omega (arith, serving.number, few)) (λ is. end.1) (λ is. absurd cc)
         (ends-ended (map (λ (t : Turn D). t.reply) serving.turns) serving.go)
 
-    module _ (event : Event) (answer : Answer) (new : Kept D) (later : Told) (call : IsCall disk_of mid (call_of event) (reply_of answer) new)
-        (kept : IsKept mid) (taken : HasTaken tells (Some event) later) (given : HasGiven tells answer later) where
+    module _ (event : Event) (answer : Answer) (new : EndpointValue D) (later : Told) (call : IsCall disk_of mid (call_of event) (reply_of answer) new)
+        (kept : IsSoundEndpoint mid) (taken : HasTaken tells (Some event) later) (given : HasGiven tells answer later) where
       -- one more
       pub serving-more : halts (reply_of answer) ≡ false → IsServing disk_of (count + 1) old told new later
       serving-more goes =

@@ -1,12 +1,14 @@
 -- What a call does to the ceilings of packet numbers.
-use Rattle.std.specs.Prelude.{◌≡◌, ◌⊎◌, ℕ, List, Option, Some, None, Ok, Err}
+use Rattle.std.specs.Prelude.{◌≡◌, ◌⊎◌, ℕ, List, Option, Some, None, Result, Ok, Err}
+use Rattle.macs_config.specs.declared.command.Command.{Command}
 use Rattle.macs_txsc.specs.Transmit.{TxSide}
 use Rattle.macs_txsc.specs.Transmit as tx
 use Rattle.macs_rxsc.specs.Needs.{Need, raised}
 use Rattle.macs_rxsc.specs.Needs as rx
 use Rattle.macs_rxsc.specs.Receive.{RxSide}
 use Rattle.macs_store.specs.Standing.{Standing, accept, tx_raised}
-use Rattle.macs_endpoint.specs.State.{Call, Commands, Ran, Refilled, Refills, Reply}
+use Rattle.macs_endpoint.specs.State.{Call, Refilled, Refills, Reply, State, made, rx_side, tx_side}
+use Rattle.macs_endpoint.specs.declared.fault.RefillFault.{RefillFault}
 
 -- ---- reservations
 
@@ -45,9 +47,17 @@ pub record IsPartlyRefilled (old new : Standing) (tx_side : TxSide) (rx_side : R
 
 -- ---- calls
 
--- what stands after a call
-abbrev pub Stands : TxSide → RxSide → Standing → Call → Reply → Standing → Type 0
-Stands tx_side rx_side old (Commands command) (Ran (Ok done)) new = accept old command ≡ Ok new
-Stands tx_side rx_side old Refills (Refilled (Ok done)) new = IsRefilled old new tx_side rx_side
-Stands tx_side rx_side old Refills (Refilled (Err fault)) new = IsPartlyRefilled old new tx_side rx_side
-Stands tx_side rx_side old call reply new = new ≡ old
+-- what stands after a command that was made durable, if one was
+abbrev pub StandsAfter : Option Command → Standing → Standing → Type 0
+StandsAfter None old new = new ≡ old
+StandsAfter (Some command) old new = accept old command ≡ Ok new
+
+-- what stands after a refill with this answer
+abbrev pub StandsRefilled : TxSide → RxSide → Standing → Result (Unit {0}) RefillFault → Standing → Type 0
+StandsRefilled tx_side rx_side old (Ok done) new = IsRefilled old new tx_side rx_side
+StandsRefilled tx_side rx_side old (Err fault) new = IsPartlyRefilled old new tx_side rx_side
+
+-- what stands, its ceilings included, after a call of an endpoint in this state
+abbrev pub CeilingsAfter : State → Standing → Call → Reply → Standing → Type 0
+CeilingsAfter s old Refills (Refilled result) new = StandsRefilled (tx_side s) (rx_side s) old result new
+CeilingsAfter s old call reply new = StandsAfter (made s call reply) old new

@@ -7,10 +7,10 @@ use Rattle.macs_config.specs.declared.command.Command.TheVariants.{RxAdd, RxDrop
 use Rattle.macs_txsc.specs.Transmit.{tx_counted}
 use Rattle.macs_txsc.specs.declared.counters.TxCounters.{TxCounters}
 use Rattle.macs_rxsc.specs.Counting.{counted, counted_at, none_counted_for_channel}
-use Rattle.macs_rxsc.specs.Receive.{RxSide, channel_of}
+use Rattle.macs_rxsc.specs.Receive.{channel_of}
 use Rattle.macs_rxsc.specs.declared.counters.ChannelCounters.{ChannelCounters}
 use Rattle.macs_rxsc.specs.declared.counters.RxCounters.{RxCounters}
-use Rattle.macs_endpoint.specs.State.{Call, Commands, Protected, Ran, Received, Receives, Reply}
+use Rattle.macs_endpoint.specs.State.{Call, Protected, Received, Receives, Reply, State, made, rx_side}
 use Rattle.macs_endpoint.specs.declared.fault.ProtectFault.TheVariants.{Tx}
 
 -- answers of `protect`, but Stopped
@@ -30,10 +30,15 @@ channels_after (RxAdd sci) table = put_at table sci (Some none_counted_for_chann
 channels_after (RxDrop sci) table = put_at table sci None
 channels_after command table = table
 
-abbrev pub channel_counters_after : RxSide → Call → Reply → (List ℕ → Option ChannelCounters) → List ℕ → Option ChannelCounters
-channel_counters_after side (Commands command) (Ran (Ok done)) table = channels_after command table
-channel_counters_after side (Receives frame) (Received (Ok verdict) out) table = counted_at (channel_of side frame) verdict table
-channel_counters_after side call reply table = table
+-- the same of a command that was made durable, if one was
+abbrev pub channels_made : Option Command → (List ℕ → Option ChannelCounters) → List ℕ → Option ChannelCounters
+channels_made None table = table
+channels_made (Some command) table = channels_after command table
+
+-- what channels count after a call of an endpoint in this state
+abbrev pub channel_counters_after : State → Call → Reply → (List ℕ → Option ChannelCounters) → List ℕ → Option ChannelCounters
+channel_counters_after s (Receives frame) (Received (Ok verdict) out) table = counted_at (channel_of (rx_side s) frame) verdict table
+channel_counters_after s call reply table = channels_made (made s call reply) table
 
 -- the channels of an endpoint that has opened
 abbrev pub new_channels : List (List ℕ) → List ℕ → Option ChannelCounters

@@ -1,5 +1,6 @@
 -- A disk while it is formatted.
 use Rattle.std.specs.Prelude.{◌⊎◌, Ok, Err}
+use Rattle.macs_config.specs.Config.{this_edition}
 use Rattle.macs_config.specs.Identity.{Identity}
 use Rattle.macs_disk.specs.Disk.{Disk, MayLeave}
 use Rattle.macs_disk.specs.States.{Image}
@@ -10,4 +11,5 @@ use Rattle.macs_store.specs.Standing.{new_standing}
 -- an image that the disk could leave before, or one of no journal, or one that stands for what an endpoint is formatted with
 abbrev pub FormatLeaves : Disk → Identity → Image → Type 0
 FormatLeaves old identity image =
-    MayLeave old image ⊎ (IsFound old.sectors image (Err NotFormatted) ⊎ IsFound old.sectors image (Ok (new_standing identity)))
+    MayLeave old image ⊎ (IsFound this_edition old.sectors image (Err NotFormatted)
+    ⊎ IsFound this_edition old.sectors image (Ok (new_standing this_edition identity)))

@@ -3,7 +3,7 @@ pub mod Formatting
 pub mod State
 pub mod Step
 pub mod Restart
-pub mod Kept
+pub mod Value
 pub mod Ceilings
 pub mod Limits
 pub mod Counting

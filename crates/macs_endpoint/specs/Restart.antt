@@ -2,7 +2,7 @@
 use Rattle.std.specs.Prelude.{◌≡◌, ◌⊎◌, ◌≤◌, ◌+◌, ◌/◌, ◌^◌, ℕ, min, max, is_ok, not, false, ◌&&◌, if◌then◌else◌, List, Option, Some, None, Ok}
 use Rattle.std.specs.Option.{option_map}
 use Rattle.macs_config.specs.Apply.{apply}
-use Rattle.macs_config.specs.Config.{first_edition}
+use Rattle.macs_config.specs.Config.{Edition, IsUpTo}
 use Rattle.macs_config.specs.declared.command.Command.{Command}
 use Rattle.macs_disk.specs.States.{Image}
 use Rattle.macs_rxsc.specs.Receive.{Numbers, started}
@@ -32,8 +32,9 @@ RxRises block (Some numbers) found =
 
 -- ---- a restart
 
--- the same configuration and logs, with numbers that rose, and nothing in hand
+-- the same configuration and logs, with numbers that rose, and nothing in hand, in a program of no smaller edition
 pub record Resumes (old new : State) : Type 0 where
+  pub edition : IsUpTo old.edition new.edition
   pub identity : new.identity ≡ old.identity
   pub config : new.config ≡ old.config
   pub next : (an : ℕ) → TxRises old.identity.tx_block (old.next an) (new.next an)
@@ -52,6 +53,7 @@ Restart old new = Resumes old new
 -- an endpoint that opened a disk which stands for this
 abbrev pub opening : Standing → Logs → State
 opening found logs = record {
+  edition = found.edition;
   identity = found.identity;
   config = found.config;
   next = found.ceilings.tx;
@@ -61,18 +63,18 @@ opening found logs = record {
   in_hand = None;
 }
 
--- opening a disk of so many sectors with this image is a restart of the state
-pub record Fits (sectors : ℕ) (image : Image) (s : State) : Type 0 where
+-- opening a disk of so many sectors with this image in a program of an edition is a restart of the state
+pub record Fits (edition : Edition) (sectors : ℕ) (image : Image) (s : State) : Type 0 where
   pub found : Standing
-  pub is_found : IsFound sectors image (Ok found)
+  pub is_found : IsFound edition sectors image (Ok found)
   pub restart : Restart s (opening found s.logs)
 
 -- The state while a call is under way: a command is in hand where work on it may have begun
 abbrev pub during : State → Call → State
 during s (Commands command) =
-    if not s.stopped && is_ok (apply first_edition s.identity s.config command) then holding s command else s
+    if not s.stopped && is_ok (apply s.edition s.identity s.config command) then holding s command else s
 during s call = s
 
 -- what a power loss during a call or after it leaves
 abbrev pub FitsCall : ℕ → State → Call → State → Image → Type 0
-FitsCall sectors old call new image = Fits sectors image (during old call) ⊎ Fits sectors image new
+FitsCall sectors old call new image = Fits old.edition sectors image (during old call) ⊎ Fits new.edition sectors image new

@@ -2,7 +2,7 @@
 use Rattle.std.specs.Prelude.{◌≡◌, ◌≤◌, ℕ, Bool, true, false, List, [], ◌∷◌, ◌++◌, map, length, Option, Some, None, Err}
 use Rattle.macs_disk.specs.Disk.{Disk, IsHonest}
 use Rattle.macs_store.specs.declared.fault.CommitFault.TheVariants as commit
-use Rattle.macs_endpoint.specs.Kept.{IsBacked, Kept, disk_in, state_of}
+use Rattle.macs_endpoint.specs.Value.{IsBacked, EndpointValue, disk_in, state_of}
 use Rattle.macs_endpoint.specs.Lives.{LeavesLife, Lives, Turn, event_of}
 use Rattle.macs_endpoint.specs.State.{Call, Commands, Logs, Protects, Protected, Ran, Received, Receives, Refilled, Refills, Reply}
 use Rattle.macs_endpoint.specs.Step.{Run}
@@ -59,7 +59,7 @@ pub record Told : Type 0 where
   pub took : List Answer
 
 -- What was served in at most so many turns
-pub record IsServed {D : Type 0} (disk_of : D → Disk) (most : ℕ) (old : Kept D) (told : Told) (end : ServeEnd) (new : Kept D) (tells : Told) : Type 0 where
+pub record IsServed {D : Type 0} (disk_of : D → Disk) (most : ℕ) (old : EndpointValue D) (told : Told) (end : ServeEnd) (new : EndpointValue D) (tells : Told) : Type 0 where
   pub turns : List (Turn D)
   pub lives : Lives disk_of old turns new
   pub few : length turns ≤ most

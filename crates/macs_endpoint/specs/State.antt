@@ -1,7 +1,7 @@
 -- What an endpoint is at a moment, what it is asked, and what it answers.
-use Rattle.std.specs.Prelude.{ℕ, Bool, true, List, [], Option, Some, Result, IsOk}
+use Rattle.std.specs.Prelude.{ℕ, Bool, true, List, [], Option, Some, None, Result, Ok, IsOk}
 use Rattle.macs_config.specs.Apply.{apply}
-use Rattle.macs_config.specs.Config.{Config, first_edition}
+use Rattle.macs_config.specs.Config.{Config, Edition}
 use Rattle.macs_config.specs.Identity.{Identity}
 use Rattle.macs_config.specs.declared.command.Command.{Command}
 use Rattle.macs_txsc.specs.Transmit.{TxSide}
@@ -37,9 +37,10 @@ no_logs = record { used = []; given = [] }
 
 -- ---- a moment
 
--- Next packet numbers of transmit associations by their numbers, numbers of receive associations by SCI and number; the
--- command whose work a device fault cut short
+-- The edition of the program; next packet numbers of transmit associations by their numbers, numbers of receive associations by
+-- SCI and number; the command whose work a device fault cut short
 pub record State : Type 0 where
+  pub edition : Edition
   pub identity : Identity
   pub config : Config
   pub next : ℕ → Option ℕ
@@ -82,7 +83,7 @@ halted s = record s { stopped = true }
 
 -- a command would not be refused
 abbrev pub Accepts : State → Command → Type 0
-Accepts s command = IsOk (apply first_edition s.identity s.config command)
+Accepts s command = IsOk (apply s.edition s.identity s.config command)
 
 -- ---- calls
 
@@ -98,3 +99,8 @@ pub data Reply : Type 0 where
   Refilled : Result (Unit {0}) RefillFault → Reply
   Protected : Result ℕ ProtectFault → (out : List ℕ) → Reply
   Received : Result Verdict Stopped → (out : List ℕ) → Reply
+
+-- the command that this call of an endpoint in this state made durable, if it was one: it takes effect now
+abbrev pub made : State → Call → Reply → Option Command
+made s (Commands command) (Ran (Ok done)) = Some command
+made s call reply = None

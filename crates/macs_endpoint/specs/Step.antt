@@ -3,7 +3,7 @@ use Rattle.std.specs.Prelude.{◌≡◌, ◌⊎◌, ◌≤◌, ◌+◌, ℕ, tru
 use Rattle.std.specs.Option.{option_map}
 use Rattle.macs_frame.specs.First.{IsFirst, first}
 use Rattle.macs_config.specs.Apply.{apply}
-use Rattle.macs_config.specs.Config.{Config, first_edition}
+use Rattle.macs_config.specs.Config.{Config}
 use Rattle.macs_config.specs.Tables.{put, put_at}
 use Rattle.macs_config.specs.declared.command.Command.{Command}
 use Rattle.macs_config.specs.declared.command.Command.TheVariants.{SetReplay, TxInstall, TxRemove, RxDrop, RxInstall, RxRemove}
@@ -49,12 +49,12 @@ after s command config = record s {
 
 -- a command is not refused, and leads from old to new
 abbrev pub Makes : State → Command → State → Type 0
-Makes old command new = (config : Config) × (apply first_edition old.identity old.config command ≡ Ok config) × (new ≡ after old command config)
+Makes old command new = (config : Config) × (apply old.edition old.identity old.config command ≡ Ok config) × (new ≡ after old command config)
 
 abbrev pub Commanded : State → Command → Result (Unit {0}) CommitFault → State → Type 0
 Commanded old command (Ok done) new = Makes old command new
 Commanded old command (Err (commit.Refused refusal)) new =
-    (apply first_edition old.identity old.config command ≡ Err refusal) × (new ≡ old)
+    (apply old.edition old.identity old.config command ≡ Err refusal) × (new ≡ old)
 Commanded old command (Err commit.AreaFull) new = Accepts old command × (new ≡ old)
 Commanded old command (Err commit.Disk) new = Accepts old command × (new ≡ halted (holding old command))
 Commanded old command (Err commit.Stopped) new = ⊥

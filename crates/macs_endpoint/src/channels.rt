@@ -6,10 +6,10 @@ ghost use Rattle.macs_config.specs.Tables.{put, put_at};
 ghost use Rattle.macs_txsc.specs.View as txsc;
 ghost use Rattle.macs_rxsc.specs.View as rxsc;
 ghost use Rattle.macs_rxsc.specs.Receive.{has_channel, put_numbers, started, windowed};
-ghost use Rattle.macs_store.specs.Kept.{standing_in};
+ghost use Rattle.macs_store.specs.Value.{standing_in};
 ghost use Rattle.macs_store.specs.Standing.{Standing, accept};
 ghost use Rattle.macs_endpoint.specs.Counting.{channels_after};
-ghost use Rattle.macs_endpoint.specs.Kept.{AreChannels};
+ghost use Rattle.macs_endpoint.specs.Value.{AreChannels};
 ghost use Rattle.macs_endpoint.specs.Step.{next_after, numbers_after};
 
 use macs_config::Command;

@@ -2,10 +2,12 @@
 
 ghost use Rattle.std.specs.Prelude.{◌≡◌, ◌≢◌, ◌<◌, ◌≤◌, ◌+◌, ◌↔◌, ℕ, List, false, true, Some, Ok, Err, IfOk, IfErr};
 ghost use Rattle.std.specs.Option.{option_map};
+ghost use Rattle.macs_config.specs.Config.{this_edition};
 ghost use Rattle.macs_config.specs.Stored.{config_of};
 ghost use Rattle.macs_disk.specs.Disk.{IsHonest, MayLeave, Works, now};
 ghost use Rattle.macs_disk.specs.Runs.{LeavesNothingNew};
 ghost use Rattle.macs_disk.specs.States.{Image, synced};
+ghost use Rattle.macs_journal.specs.Areas.{least_sectors, slots};
 ghost use Rattle.macs_journal.specs.Recovery.{IsLeftBy, IsRecoverName};
 ghost use Rattle.macs_journal.specs.Work.{FailsWith};
 ghost use Rattle.macs_journal.specs.declared.fault.JournalFault.TheVariants.{Disk, TooSmall};
@@ -15,10 +17,10 @@ ghost use Rattle.macs_rxsc.specs.Counting as counting;
 ghost use Rattle.macs_rxsc.specs.Receive.{Numbers};
 ghost use Rattle.macs_rxsc.specs.View as rxsc;
 ghost use Rattle.macs_store.specs.Found.{IsFound};
-ghost use Rattle.macs_store.specs.Kept.{standing_in};
+ghost use Rattle.macs_store.specs.Value.{standing_in, used_slots};
 ghost use Rattle.macs_endpoint.specs.Calls.{IsCall};
 ghost use Rattle.macs_endpoint.specs.Counting.{new_channels};
-ghost use Rattle.macs_endpoint.specs.Kept.{IsBacked, IsKept, Kept, disk_in, state_of};
+ghost use Rattle.macs_endpoint.specs.Value.{EndpointValue, IsBacked, IsSoundEndpoint, device_in, disk_in, state_of};
 ghost use Rattle.macs_endpoint.specs.Restart.{Fits, opening};
 ghost use Rattle.macs_endpoint.specs.State.{Commands, Logs, Protects, Protected, Ran, Received, Receives, State, no_logs};
 
@@ -44,11 +46,11 @@ pub struct Endpoint<D: SectorDisk> {
 }
 
 impl<D: SectorDisk> Model for Endpoint<D> {
-    ghost Value = { Kept D };
+    ghost Value = { EndpointValue D };
 
     ghost view = { λ e. record { store = e.store; tx = e.channels.tx; rx = e.channels.rx; in_hand = e.in_hand } };
 
-    ghost invariant = { λ e. IsKept (record { store = e.store; tx = e.channels.tx; rx = e.channels.rx; in_hand = e.in_hand }) };
+    ghost invariant = { λ e. IsSoundEndpoint (record { store = e.store; tx = e.channels.tx; rx = e.channels.rx; in_hand = e.in_hand }) };
 }
 
 impl<D: SectorDisk> Endpoint<D> {
@@ -57,7 +59,7 @@ impl<D: SectorDisk> Endpoint<D> {
     /// `Disk` at the first call that fails, `NotFormatted` and `BadJournal`; the disk is given back.
     pub fn open(disk: D) -> Result<Endpoint<D>, OpenRefused<D>>
         ensures found { IfOk result (λ e. IsHonest (disk_in D.disk e)
-            → IsFound (D.disk disk).sectors (now (D.disk disk)).seen (Ok (standing_in e.store))) }
+            → IsFound this_edition (D.disk disk).sectors (now (D.disk disk)).seen (Ok (standing_in e.store))) }
         ensures state { IfOk result (λ e. (logs : Logs) → state_of e logs ≡ opening (standing_in e.store) logs) }
         ensures backed { IfOk result (λ e. IsHonest (disk_in D.disk e) → IsBacked D.disk e) }
         ensures settled { IfOk result (λ e. IsHonest (disk_in D.disk e) → now (disk_in D.disk e) ≡ synced (now (D.disk disk))) }
@@ -68,14 +70,14 @@ impl<D: SectorDisk> Endpoint<D> {
         ensures rx_counters { IfOk result (λ e. rxsc.counters_of e.rx ≡ counting.none_counted) }
         ensures channel_counters { IfOk result (λ e.
             rxsc.channel_counters_of e.rx ≡ new_channels (standing_in e.store).config.channels) }
-        ensures large { IfOk result (λ e. 1028 ≤ (D.disk disk).sectors) }
+        ensures large { IfOk result (λ e. least_sectors ≤ (D.disk disk).sectors) }
         ensures names { IfErr result (λ e. IsRecoverName e.fault) }
         ensures too_small { IfErr result (λ e. e.fault ≡ TooSmall → e.disk ≡ disk) }
-        ensures small { IfErr result (λ e. (e.fault ≡ TooSmall) ↔ ((D.disk disk).sectors < 1028)) }
+        ensures small { IfErr result (λ e. (e.fault ≡ TooSmall) ↔ ((D.disk disk).sectors < least_sectors)) }
         ensures refused { IfErr result (λ e. e.fault ≢ Disk → IsHonest (D.disk e.disk)
-            → IsFound (D.disk disk).sectors (now (D.disk disk)).seen (Err e.fault)) }
+            → IsFound this_edition (D.disk disk).sectors (now (D.disk disk)).seen (Err e.fault)) }
         ensures opens { IfErr result (λ e. IsHonest (D.disk e.disk) → ((image : Image) → MayLeave (D.disk disk) image
-            → (s : State) × Fits (D.disk disk).sectors image s) → e.fault ≡ Disk) }
+            → (s : State) × Fits this_edition (D.disk disk).sectors image s) → e.fault ≡ Disk) }
         ensures unwritten { IfErr result (λ e. IsHonest (D.disk e.disk)
             → IsLeftBy e.fault (now (D.disk disk)) (now (D.disk e.disk))) }
         ensures work_refused { IfErr result (λ e. Works (D.disk disk) (D.disk e.disk)
@@ -99,7 +101,8 @@ impl<D: SectorDisk> Endpoint<D> {
     /// fails: the endpoint is stopped, and the next opening finds it with the command or without.
     pub fn command(&mut self, command: Command) -> Result<(), CommandFault>
         ensures call { IsCall D.disk self.old (Commands command) (Ran result) self.new }
-        ensures four { (disk_in D.disk self.new).clock ≤ (disk_in D.disk self.old).clock + 4 }
+        ensures four { used_slots self.old.store < slots
+            → (disk_in D.disk self.new).clock ≤ (disk_in D.disk self.old).clock + 4 }
     {
         command_in_range(&command);
         let outcome = self.store.commit(&command);
@@ -206,14 +209,14 @@ impl<D: SectorDisk> Endpoint<D> {
     /// What holds of every endpoint: its channels are those of what stands in its store, no ceiling is too
     /// far ahead, and nothing is in hand unless a device call failed.
     pub fn facts(&self)
-        ensures { IsKept self.now }
+        ensures { IsSoundEndpoint self.now }
     {
         let _store = &self.store;
     }
 
     /// The disk, as it stands.
     pub fn into_disk(self) -> D
-        ensures { result ≡ self.store.journal.disk }
+        ensures { result ≡ device_in self }
     {
         let Endpoint { store, .. } = self;
         store.into_disk()

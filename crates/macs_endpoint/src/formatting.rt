@@ -1,9 +1,11 @@
 //! A disk made that of a new endpoint.
 
 ghost use Rattle.std.specs.Prelude.{◌≡◌, ◌<◌, ◌↔◌, ◌⊎◌, ℕ, Ok, Err, OnErr, OnOk, IsErrOf};
+ghost use Rattle.macs_config.specs.Config.{this_edition};
 ghost use Rattle.macs_disk.specs.Disk.{IsHonest, MayLeave, now};
 ghost use Rattle.macs_disk.specs.Runs.{Leaves, LeavesNothingNew};
 ghost use Rattle.macs_disk.specs.States.{Image, synced};
+ghost use Rattle.macs_journal.specs.Areas.{least_sectors};
 ghost use Rattle.macs_journal.specs.Found.{IsGateOpen};
 ghost use Rattle.macs_journal.specs.Formatting.{FormatWrites};
 ghost use Rattle.macs_journal.specs.Work.{IsSpared, IsWorkOf};
@@ -24,7 +26,7 @@ use macs_journal::JournalFault;
 /// then it was done.
 pub fn format<D: SectorDisk>(disk: &mut D, identity: &Identity) -> Result<(), JournalFault>
     ensures names { OnErr result (IsErrOf result TooSmall ⊎ (IsErrOf result Disk ⊎ IsErrOf result AlreadyFormatted)) }
-    ensures small { IsErrOf result TooSmall ↔ ((D.disk disk.old).sectors < 1028) }
+    ensures small { IsErrOf result TooSmall ↔ ((D.disk disk.old).sectors < least_sectors) }
     ensures untouched { IsErrOf result TooSmall → disk.new ≡ disk.old }
     ensures work { IsWorkOf (D.disk disk.old) (D.disk disk.new) result }
     ensures taken { IsErrOf result AlreadyFormatted → IsHonest (D.disk disk.new)
@@ -36,11 +38,11 @@ pub fn format<D: SectorDisk>(disk: &mut D, identity: &Identity) -> Result<(), Jo
     ensures others { IsHonest (D.disk disk.new) → (i : ℕ) → ¬ FormatWrites (now (D.disk disk.old)).seen i
         → IsSpared (D.disk disk.old) (D.disk disk.new) i }
     ensures blank { OnOk result (IsHonest (D.disk disk.new)
-        → IsFound (D.disk disk.old).sectors (now (D.disk disk.old)).seen (Err NotFormatted)) }
+        → IsFound this_edition (D.disk disk.old).sectors (now (D.disk disk.old)).seen (Err NotFormatted)) }
     ensures any_moment { IsHonest (D.disk disk.new)
         → Leaves (D.disk disk.old) (D.disk disk.new) (FormatLeaves (D.disk disk.old) identity.now) }
     ensures kept { OnOk result (IsHonest (D.disk disk.new) → (image : Image) → MayLeave (D.disk disk.new) image
-        → IsFound (D.disk disk.new).sectors image (Ok (new_standing identity.now))) }
+        → IsFound this_edition (D.disk disk.new).sectors image (Ok (new_standing this_edition identity.now))) }
 {
     macs_journal::format(disk, identity)
 }

@@ -5,9 +5,9 @@ ghost use Rattle.macs_config.specs.declared.command.Command.TheVariants.{TxInsta
 ghost use Rattle.macs_txsc.specs.declared.fault.TxFault.TheVariants.{NoNumber};
 ghost use Rattle.macs_rxsc.specs.Receive.{Arrival, Arrives, Numbers};
 ghost use Rattle.macs_rxsc.specs.declared.verdict.Verdict.TheVariants.{HeldBack};
-ghost use Rattle.macs_store.specs.Kept.{standing_in};
+ghost use Rattle.macs_store.specs.Value.{standing_in};
 ghost use Rattle.macs_endpoint.specs.Calls.{IsCall};
-ghost use Rattle.macs_endpoint.specs.Kept.{IsKept, Kept, state_of};
+ghost use Rattle.macs_endpoint.specs.Value.{IsSoundEndpoint, EndpointValue, state_of};
 ghost use Rattle.macs_endpoint.specs.Lives.{Lives, Turn};
 ghost use Rattle.macs_endpoint.specs.Rooms.{HasRoom, IsBelow, IsEncoding, RxStays, TxStays, written};
 ghost use Rattle.macs_endpoint.specs.State.{Commands, Protects, Protected, Ran, Received, Receives, Refilled, Refills, no_logs, rx_side};
@@ -21,14 +21,14 @@ use macs_disk::SectorDisk;
 /// association that frames go out under; after an install it is a block; or until the numbers end, when
 /// `Exhausted` comes. It is one less for each frame that goes out under the association while it stands.
 pub fn frames_before_no_number<D: SectorDisk>()
-    ensures refilled { (old new : Kept D) (an : ℕ) → IsKept old → IsCall D.disk old Refills (Refilled (Ok tt)) new → IsEncoding new an
+    ensures refilled { (old new : EndpointValue D) (an : ℕ) → IsSoundEndpoint old → IsCall D.disk old Refills (Refilled (Ok tt)) new → IsEncoding new an
         → HasRoom new an ((standing_in new.store).identity.tx_block / 2 + 1) }
-    ensures installed { (old new : Kept D) (an : ℕ) (key : List ℕ) (start : ℕ) (confidential : Bool) (offset : ℕ)
+    ensures installed { (old new : EndpointValue D) (an : ℕ) (key : List ℕ) (start : ℕ) (confidential : Bool) (offset : ℕ)
         → IsCall D.disk old (Commands (TxInstall an key start confidential offset)) (Ran (Ok tt)) new
         → HasRoom new an (standing_in new.store).identity.tx_block }
-    ensures stays { (old new : Kept D) (turns : List (Turn D)) (an count : ℕ) → IsKept new → Lives D.disk old turns new → TxStays an turns
+    ensures stays { (old new : EndpointValue D) (turns : List (Turn D)) (an count : ℕ) → IsSoundEndpoint new → Lives D.disk old turns new → TxStays an old turns
         → HasRoom old an count → HasRoom new an (count - written an old turns) }
-    ensures numbered { (old new : Kept D) (an count : ℕ) (plain out : List ℕ) → IsEncoding old an → HasRoom old an count → 1 ≤ count
+    ensures numbered { (old new : EndpointValue D) (an count : ℕ) (plain out : List ℕ) → IsEncoding old an → HasRoom old an count → 1 ≤ count
         → IsCall D.disk old (Protects plain) (Protected (Err (Tx NoNumber)) out) new → ⊥ }
 {}
 
@@ -38,15 +38,15 @@ pub fn frames_before_no_number<D: SectorDisk>()
 /// numbers are not above the greatest seen, or below both `next + rx_block / 2 + 1` and
 /// `seen + rx_block`, as they are then. They are not held back while the association stands.
 pub fn frames_not_held_back<D: SectorDisk>()
-    ensures refilled { (old new : Kept D) (sci : List ℕ) (an next lowest seen pn : ℕ) → IsKept new
+    ensures refilled { (old new : EndpointValue D) (sci : List ℕ) (an next lowest seen pn : ℕ) → IsSoundEndpoint new
         → IsCall D.disk old Refills (Refilled (Ok tt)) new
         → (state_of new no_logs).numbers sci an ≡ Some (record { next = next; lowest = lowest; seen = Some seen }) → pn < 2 ^ 32
         → ((pn ≤ seen) ⊎ ((pn < next + (standing_in new.store).identity.rx_block / 2 + 1)
         × (pn < seen + (standing_in new.store).identity.rx_block)))
         → IsBelow new sci an pn }
-    ensures stays { (old new : Kept D) (turns : List (Turn D)) (sci : List ℕ) (an pn : ℕ) → Lives D.disk old turns new
-        → RxStays sci an turns → IsBelow old sci an pn → IsBelow new sci an pn }
-    ensures delivered { (old new : Kept D) (frame out : List ℕ) (a : Arrival) → IsBelow old a.sci a.an a.pn
+    ensures stays { (old new : EndpointValue D) (turns : List (Turn D)) (sci : List ℕ) (an pn : ℕ) → Lives D.disk old turns new
+        → RxStays sci an old turns → IsBelow old sci an pn → IsBelow new sci an pn }
+    ensures delivered { (old new : EndpointValue D) (frame out : List ℕ) (a : Arrival) → IsBelow old a.sci a.an a.pn
         → Arrives (rx_side (state_of old no_logs)) frame a
         → IsCall D.disk old (Receives frame) (Received (Ok HeldBack) out) new → ⊥ }
 {}

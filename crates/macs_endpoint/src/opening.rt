@@ -9,7 +9,7 @@ ghost use Rattle.macs_txsc.specs.View as txsc;
 ghost use Rattle.macs_rxsc.specs.Counting as counting;
 ghost use Rattle.macs_rxsc.specs.Receive.{has_channel, started};
 ghost use Rattle.macs_rxsc.specs.View as rxsc;
-ghost use Rattle.macs_store.specs.Kept.{standing_in};
+ghost use Rattle.macs_store.specs.Value.{standing_in};
 ghost use Rattle.macs_endpoint.specs.Counting.{new_channels};
 ghost use Rattle.macs_endpoint.specs.State.{receiving, transmitting};
 

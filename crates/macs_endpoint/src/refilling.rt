@@ -4,11 +4,11 @@ ghost use Rattle.std.specs.Prelude.{◌≡◌, ◌⊎◌, ℕ, List, false, Some
 ghost use Rattle.std.specs.Option.{option_map};
 ghost use Rattle.macs_rxsc.specs.Needs.{need_of, needs_of};
 ghost use Rattle.macs_rxsc.specs.declared.need.RxNeed.{RxNeed};
-ghost use Rattle.macs_store.specs.Kept.{standing_in};
+ghost use Rattle.macs_store.specs.Value.{standing_in};
 ghost use Rattle.macs_store.specs.Standing.{rx_raised};
 ghost use Rattle.macs_endpoint.specs.Calls.{IsCall};
 ghost use Rattle.macs_endpoint.specs.Ceilings.{rx_refilled, tx_refilled};
-ghost use Rattle.macs_endpoint.specs.Kept.{state_of};
+ghost use Rattle.macs_endpoint.specs.Value.{is_stopped, state_of};
 ghost use Rattle.macs_endpoint.specs.Reserving.{Reserves};
 ghost use Rattle.macs_endpoint.specs.State.{Refilled, Refills, no_logs, rx_side, tx_side};
 
@@ -34,7 +34,7 @@ impl<D: SectorDisk> Endpoint<D> {
 
     /// Makes the reservation of the transmit side, if one is needed.
     fn refill_tx(&mut self) -> Result<(), RefillFault>
-        requires running { self.old.store.journal.stopped ≡ false }
+        requires running { is_stopped self.old ≡ false }
         ensures reserves { Reserves D.disk self.old result self.new }
         ensures done { OnOk result
             (standing_in self.new.store ≡ tx_refilled (standing_in self.old.store) (tx_side (state_of self.old no_logs))) }
@@ -52,7 +52,7 @@ impl<D: SectorDisk> Endpoint<D> {
 
     /// Makes every reservation of the receive side that is needed.
     fn refill_rx(&mut self) -> Result<(), RefillFault>
-        requires running { self.old.store.journal.stopped ≡ false }
+        requires running { is_stopped self.old ≡ false }
         ensures reserves { Reserves D.disk self.old result self.new }
         ensures others { standing_in self.new.store ≡ record (standing_in self.old.store)
             { ceilings = record (standing_in self.old.store).ceilings { rx = (standing_in self.new.store).ceilings.rx } } }
@@ -84,7 +84,7 @@ impl<D: SectorDisk> Endpoint<D> {
 
     /// Makes a reservation of the receive side that is needed.
     fn reserve_rx(&mut self, need: RxNeed) -> Result<(), RefillFault>
-        requires running { self.old.store.journal.stopped ≡ false }
+        requires running { is_stopped self.old ≡ false }
         requires needed { needs_of (rx_side (state_of self.old no_logs)) (standing_in self.old.store).ceilings.rx
             (standing_in self.old.store).identity.rx_block ≡ Some (record { sci = need.sci; an = need.an; pn = need.pn }) }
         ensures reserves { Reserves D.disk self.old result self.new }

@@ -4,7 +4,7 @@ use Rattle.std.specs.List.{slice_get}
 use Rattle.std.proofs.lemmas.Bool.{cases_eq}
 use Rattle.std.proofs.lemmas.Option.{slice_get_within}
 use Rattle.macs_config.specs.Identity.{Identity}
-use Rattle.macs_disk.specs.States.{Image, IsImage, State, put, synced, written}
+use Rattle.macs_disk.specs.States.{Image, IsImage, DiskState, put_sector, synced, written}
 use Rattle.macs_disk.proofs.Images.{put-other, put-same}
 use Rattle.macs_record.specs.Decoding.{IsSectorOf}
 use Rattle.macs_record.specs.Gates.{IsOpen, open_gate}
@@ -19,33 +19,33 @@ use Rattle.macs_journal.proofs.Appends.{open_or_closed}
 
 -- ---- both head gates closed
 
-pub blank-image : (s : State) → IsBlank s → (image : Image) → IsImage s image → IsNotFormatted image
+pub blank-image : (s : DiskState) → IsBlank s → (image : Image) → IsImage s image → IsNotFormatted image
 blank-image s blank image left = (
   λ opens. blank.closed.0 (subst IsOpen (left.kept (gate 0 0) (blank.clean 0 (omega arith))) opens),
   λ opens. blank.closed.1 (subst IsOpen (left.kept (gate 1 0) (blank.clean 1 (omega arith))) opens),
 )
 
 -- a write elsewhere
-blank-write : (s : State) (at : ℕ) (octets : List ℕ) → at ≢ 1 → at ≢ 515 → IsBlank s → IsBlank (written s at octets)
+blank-write : (s : DiskState) (at : ℕ) (octets : List ℕ) → at ≢ 1 → at ≢ 515 → IsBlank s → IsBlank (written s at octets)
 blank-write s at octets not_first not_second blank = record {
   clean = λ area le. put-other s.pending at (gate area 0) true (omega (arith, not_first, not_second, le)) ∙ blank.clean area le;
   fresh = λ area le. put-other s.seen at (gate area 0) octets (omega (arith, not_first, not_second, le)) ∙ blank.fresh area le;
   closed = blank.closed;
 }
 
-pub blank-wrote : (old new : State) (at : ℕ) → at ≢ 1 → at ≢ 515 → (new ≡ old) ⊎ ((other : List ℕ) × (new ≡ written old at other)) → IsBlank old → IsBlank new
+pub blank-wrote : (old new : DiskState) (at : ℕ) → at ≢ 1 → at ≢ 515 → (new ≡ old) ⊎ ((other : List ℕ) × (new ≡ written old at other)) → IsBlank old → IsBlank new
 blank-wrote old new at not_first not_second wrote blank = elim wrote [
   | inl same ↦ subst IsBlank (sym same) blank
   | inr torn ↦ subst IsBlank (sym torn.1) (blank-write old at torn.0 not_first not_second blank)
 ]
 
 -- what reads give, once it is durable
-pub blank-synced : (s : State) → IsNotFormatted s.seen → IsBlank (synced s)
+pub blank-synced : (s : DiskState) → IsNotFormatted s.seen → IsBlank (synced s)
 blank-synced s none = record { clean = λ area le. refl; fresh = λ area le. refl; closed = none }
 
 -- ---- the bodies written, and the gates closed one by one
 
-pub formatting-skip : (s : State) (identity : Identity) (k : ℕ) → (¬ IsGateOpen s.seen 0 (k + 1)) → IsFormatting s identity k → IsFormatting s identity (k + 1)
+pub formatting-skip : (s : DiskState) (identity : Identity) (k : ℕ) → (¬ IsGateOpen s.seen 0 (k + 1)) → IsFormatting s identity k → IsFormatting s identity (k + 1)
 formatting-skip s identity k shut f = record {
   blank = f.blank;
   head_is = f.head_is;
@@ -56,7 +56,7 @@ formatting-skip s identity k shut f = record {
   ];
 }
 
-pub formatting-close : (s : State) (identity : Identity) (closed : List ℕ) (k at : ℕ) → k < 256 → at ≡ gate 0 (k + 1) → (¬ IsOpen closed)
+pub formatting-close : (s : DiskState) (identity : Identity) (closed : List ℕ) (k at : ℕ) → k < 256 → at ≡ gate 0 (k + 1) → (¬ IsOpen closed)
     → IsFormatting s identity k → IsFormatting (written s at closed) identity (k + 1)
 formatting-close s identity closed k at lt is shut f =
     formatting-skip (written s at closed) identity k
@@ -68,7 +68,7 @@ formatting-close s identity closed k at lt is shut f =
       gates = λ j less opens. f.gates j less (subst IsOpen (put-other s.seen at (gate 0 (j + 1)) closed (omega (arith, is, less))) opens);
     })
 
-formatting-sync : (s : State) (identity : Identity) (k : ℕ) → IsFormatting s identity k → IsFormatting (synced s) identity k
+formatting-sync : (s : DiskState) (identity : Identity) (k : ℕ) → IsFormatting s identity k → IsFormatting (synced s) identity k
 formatting-sync s identity k f = record {
   blank = record {
     clean = λ area le. refl;
@@ -93,7 +93,7 @@ one_item r other j at =
     (here, cc)
 
 -- all is durable but the head gate
-module _ (s : State) (identity : Identity) (f : IsFormatting s identity 256) (clean : (i : ℕ) → s.pending i ≡ false) (fresh : (i : ℕ) → s.seen i ≡ s.durable i) where
+module _ (s : DiskState) (identity : Identity) (f : IsFormatting s identity 256) (clean : (i : ℕ) → s.pending i ≡ false) (fresh : (i : ℕ) → s.seen i ≡ s.durable i) where
   first-finds : (image : Image) → ((i : ℕ) → i ≢ 1 → image i ≡ s.durable i) → IsOpen (image 1) → Finds image (first_content identity)
   first-finds image same opens = record {
     stands = record {
@@ -123,27 +123,27 @@ module _ (s : State) (identity : Identity) (f : IsFormatting s identity 256) (cl
   first-synced opening opens = record {
     clean = λ i. refl;
     fresh = λ i. refl;
-    finds = first-finds (put s.seen 1 opening) (λ i differs. put-other s.seen 1 i opening differs ∙ fresh i)
+    finds = first-finds (put_sector s.seen 1 opening) (λ i differs. put-other s.seen 1 i opening differs ∙ fresh i)
         (subst IsOpen (sym (put-same s.seen 1 1 opening refl)) opens);
   }
 
 -- the bodies are durable, and the gate was written, whole or torn, or not at all
-pub opened : (s mid new : State) (identity : Identity) (at : ℕ) → at ≡ 1 → IsFormatting s identity 256 → mid ≡ synced s
+pub opened : (s mid new : DiskState) (identity : Identity) (at : ℕ) → at ≡ 1 → IsFormatting s identity 256 → mid ≡ synced s
     → (new ≡ mid) ⊎ ((other : List ℕ) × (new ≡ written mid at other)) → (image : Image) → IsImage new image → IsNewOrNone identity image
 opened s mid new identity at is_at f is wrote image left =
     let durable = formatting-sync s identity 256 f in
     elim wrote [
-      | inl same ↦ inl (blank-image (synced s) durable.blank image (subst (λ (s : State). IsImage s image) (same ∙ is) left))
+      | inl same ↦ inl (blank-image (synced s) durable.blank image (subst (λ (s : DiskState). IsImage s image) (same ∙ is) left))
       | inr torn ↦
           let gate : new ≡ written (synced s) 1 torn.0 = torn.1 ∙ (λ i. written (is i) (is_at i) torn.0) in
-          first-image (synced s) identity durable (λ i. refl) (λ i. refl) torn.0 image (subst (λ (s : State). IsImage s image) gate left)
+          first-image (synced s) identity durable (λ i. refl) (λ i. refl) torn.0 image (subst (λ (s : DiskState). IsImage s image) gate left)
     ]
 
-pub formatted : (s mid wrote new : State) (identity : Identity) (at : ℕ) (opening : List ℕ) → at ≡ 1 → IsFormatting s identity 256 → mid ≡ synced s
+pub formatted : (s mid wrote new : DiskState) (identity : Identity) (at : ℕ) (opening : List ℕ) → at ≡ 1 → IsFormatting s identity 256 → mid ≡ synced s
     → IsOpen opening → wrote ≡ written mid at opening → new ≡ synced wrote → IsReady new (first_content identity)
 formatted s mid wrote new identity at opening is_at f is opens is_written is_synced =
     let whole : new ≡ synced (written (synced s) 1 opening) = is_synced ∙ ap synced (is_written ∙ (λ i. written (is i) (is_at i) opening)) in
-    subst (λ (s : State). IsReady s (first_content identity)) (sym whole)
+    subst (λ (s : DiskState). IsReady s (first_content identity)) (sym whole)
     (first-synced (synced s) identity (formatting-sync s identity 256 f) (λ i. refl) (λ i. refl) opening opens)
 
 -- zeros close a gate

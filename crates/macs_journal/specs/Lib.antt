@@ -1,7 +1,7 @@
 pub mod Areas
 pub mod Found
 pub mod Appending
-pub mod Kept
+pub mod Value
 pub mod Formatting
 pub mod Recovery
 pub mod Work

@@ -1,7 +1,7 @@
 //! Where things stand on a disk.
 
 ghost use Rattle.std.specs.Prelude.{◌≡◌, ◌<◌, ◌≤◌, ◌+◌, ℕ};
-ghost use Rattle.macs_journal.specs.Areas.{IsArea, gate, head_body, other, slot_body};
+ghost use Rattle.macs_journal.specs.Areas.{IsArea, gate, head_body, least_sectors, other, slot_body, slots};
 
 use std::marker::Model;
 
@@ -46,7 +46,7 @@ impl Area {
     /// The sector of the head body.
     pub(crate) fn head_body(self) -> u64
         ensures at { result ≡ head_body self }
-        ensures within { result < 1028 }
+        ensures within { result < least_sectors }
     {
         let Area(number) = self;
         AREA_SECTORS * number
@@ -55,25 +55,25 @@ impl Area {
     /// The sector of the head gate.
     pub(crate) fn head_gate(self) -> u64
         ensures at { result ≡ gate self 0 }
-        ensures within { result < 1028 }
+        ensures within { result < least_sectors }
     {
         self.head_body() + 1
     }
 
     /// The sector of a slot's body.
     pub(crate) fn slot_body(self, slot: u64) -> u64
-        requires { slot < 256 }
+        requires { slot < slots }
         ensures at { result ≡ slot_body self slot }
-        ensures within { result < 1028 }
+        ensures within { result < least_sectors }
     {
         self.head_body() + 2 + 2 * slot
     }
 
     /// The sector of a slot's gate.
     pub(crate) fn slot_gate(self, slot: u64) -> u64
-        requires { slot < 256 }
+        requires { slot < slots }
         ensures at { result ≡ gate self (slot + 1) }
-        ensures within { result < 1028 }
+        ensures within { result < least_sectors }
     {
         self.slot_body(slot) + 1
     }

@@ -10,7 +10,7 @@ ghost use Rattle.macs_record.specs.Gates.{closed_gate, open_gate};
 ghost use Rattle.macs_record.specs.Heads.{IsHeadOf};
 ghost use Rattle.macs_record.specs.Settings.{default_settings};
 ghost use Rattle.macs_journal.specs.Appending.{IsReady};
-ghost use Rattle.macs_journal.specs.Areas.{gate, head_body, slot_body};
+ghost use Rattle.macs_journal.specs.Areas.{gate, head_body, least_sectors, slot_body, slots};
 ghost use Rattle.macs_journal.specs.Found.{Finds, IsGateOpen, IsNotFormatted};
 ghost use Rattle.macs_journal.specs.Formatting.{FormatLeaves, FormatWrites, HasNewGates, IsBlank, IsFormatting, IsNewOrNone, first_content, first_head};
 ghost use Rattle.macs_journal.specs.Work.{IsSpared, IsWorkOf};
@@ -30,7 +30,7 @@ use macs_record::{CLOSED_GATE, Head, Record, SECTOR, encode, encode_head, is_ope
 /// first sync.
 pub fn format<D: SectorDisk>(disk: &mut D, identity: &Identity) -> Result<(), JournalFault>
     ensures names { OnErr result (IsErrOf result TooSmall ⊎ (IsErrOf result Disk ⊎ IsErrOf result AlreadyFormatted)) }
-    ensures small { IsErrOf result TooSmall ↔ ((D.disk disk.old).sectors < 1028) }
+    ensures small { IsErrOf result TooSmall ↔ ((D.disk disk.old).sectors < least_sectors) }
     ensures untouched { IsErrOf result TooSmall → disk.new ≡ disk.old }
     ensures work { IsWorkOf (D.disk disk.old) (D.disk disk.new) result }
     ensures taken { IsErrOf result AlreadyFormatted → IsHonest (D.disk disk.new)
@@ -64,7 +64,7 @@ pub fn format<D: SectorDisk>(disk: &mut D, identity: &Identity) -> Result<(), Jo
 
 /// Whether a head gate is open, once a sync made sure of what reads give.
 fn has_open_head<D: SectorDisk>(disk: &mut D) -> Result<bool, DeviceFault>
-    requires size { 1028 ≤ (D.disk disk.old).sectors }
+    requires size { least_sectors ≤ (D.disk disk.old).sectors }
     ensures work { IsWork (D.disk disk.old) (D.disk disk.new) result }
     ensures nothing { IsHonest (D.disk disk.new) → LeavesNothingNew (D.disk disk.old) (D.disk disk.new) }
     ensures settled { OnOk result (IsHonest (D.disk disk.new) → now (D.disk disk.new) ≡ synced (now (D.disk disk.old))) }
@@ -83,7 +83,7 @@ fn has_open_head<D: SectorDisk>(disk: &mut D) -> Result<bool, DeviceFault>
 
 /// Fills a disk whose head gates are closed.
 fn fill<D: SectorDisk>(disk: &mut D, identity: &Identity) -> Result<(), DeviceFault>
-    requires size { 1028 ≤ (D.disk disk.old).sectors }
+    requires size { least_sectors ≤ (D.disk disk.old).sectors }
     ensures work { IsWork (D.disk disk.old) (D.disk disk.new) result }
     ensures images { IsHonest (D.disk disk.new) → IsBlank (now (D.disk disk.old))
         → Leaves (D.disk disk.old) (D.disk disk.new) (IsNewOrNone identity.now) }
@@ -101,7 +101,7 @@ fn fill<D: SectorDisk>(disk: &mut D, identity: &Identity) -> Result<(), DeviceFa
 
 /// Writes the bodies of the head and of the first slot.
 fn write_bodies<D: SectorDisk>(disk: &mut D, identity: &Identity) -> Result<(), DeviceFault>
-    requires size { 1028 ≤ (D.disk disk.old).sectors }
+    requires size { least_sectors ≤ (D.disk disk.old).sectors }
     ensures work { IsWork (D.disk disk.old) (D.disk disk.new) result }
     ensures images { IsHonest (D.disk disk.new) → IsBlank (now (D.disk disk.old))
         → Leaves (D.disk disk.old) (D.disk disk.new) IsNotFormatted }
@@ -118,16 +118,16 @@ fn write_bodies<D: SectorDisk>(disk: &mut D, identity: &Identity) -> Result<(), 
 
 /// Closes the gates of the first area's slots where they read open.
 fn close_slots<D: SectorDisk>(disk: &mut D) -> Result<(), DeviceFault>
-    requires size { 1028 ≤ (D.disk disk.old).sectors }
+    requires size { least_sectors ≤ (D.disk disk.old).sectors }
     ensures work { IsWork (D.disk disk.old) (D.disk disk.new) result }
     ensures images { IsHonest (D.disk disk.new) → IsBlank (now (D.disk disk.old))
         → Leaves (D.disk disk.old) (D.disk disk.new) IsNotFormatted }
     ensures done { OnOk result (IsHonest (D.disk disk.new) → (identity : Identity)
-        → IsFormatting (now (D.disk disk.old)) identity 0 → IsFormatting (now (D.disk disk.new)) identity 256) }
-    ensures gates { OnOk result (IsHonest (D.disk disk.new) → (slot : ℕ) → slot < 256
+        → IsFormatting (now (D.disk disk.old)) identity 0 → IsFormatting (now (D.disk disk.new)) identity slots) }
+    ensures gates { OnOk result (IsHonest (D.disk disk.new) → (slot : ℕ) → slot < slots
         → IsGateOpen (now (D.disk disk.old)).seen 0 (slot + 1) → (now (D.disk disk.new)).seen (gate 0 (slot + 1)) ≡ closed_gate) }
     ensures others { IsHonest (D.disk disk.new) → (i : ℕ)
-        → ((slot : ℕ) → slot < 256 → IsGateOpen (now (D.disk disk.old)).seen 0 (slot + 1) → i ≢ gate 0 (slot + 1))
+        → ((slot : ℕ) → slot < slots → IsGateOpen (now (D.disk disk.old)).seen 0 (slot + 1) → i ≢ gate 0 (slot + 1))
         → IsSpared (D.disk disk.old) (D.disk disk.new) i }
 {
     for slot in 0..SLOTS {
@@ -138,8 +138,8 @@ fn close_slots<D: SectorDisk>(disk: &mut D) -> Result<(), DeviceFault>
 
 /// Closes the gate of a slot of the first area where it reads open.
 fn close_slot<D: SectorDisk>(disk: &mut D, slot: u64) -> Result<(), DeviceFault>
-    requires room { slot < 256 }
-    requires size { 1028 ≤ (D.disk disk.old).sectors }
+    requires room { slot < slots }
+    requires size { least_sectors ≤ (D.disk disk.old).sectors }
     ensures work { IsWork (D.disk disk.old) (D.disk disk.new) result }
     ensures images { IsHonest (D.disk disk.new) → IsBlank (now (D.disk disk.old))
         → Leaves (D.disk disk.old) (D.disk disk.new) IsNotFormatted }
@@ -164,11 +164,11 @@ fn close_slot<D: SectorDisk>(disk: &mut D, slot: u64) -> Result<(), DeviceFault>
 
 /// Makes sure of the bodies and the closed gates, and then opens the head gate.
 fn open_head<D: SectorDisk>(disk: &mut D) -> Result<(), DeviceFault>
-    requires size { 1028 ≤ (D.disk disk.old).sectors }
+    requires size { least_sectors ≤ (D.disk disk.old).sectors }
     ensures work { IsWork (D.disk disk.old) (D.disk disk.new) result }
-    ensures images { IsHonest (D.disk disk.new) → (identity : Identity) → IsFormatting (now (D.disk disk.old)) identity 256
+    ensures images { IsHonest (D.disk disk.new) → (identity : Identity) → IsFormatting (now (D.disk disk.old)) identity slots
         → Leaves (D.disk disk.old) (D.disk disk.new) (IsNewOrNone identity) }
-    ensures done { OnOk result (IsHonest (D.disk disk.new) → (identity : Identity) → IsFormatting (now (D.disk disk.old)) identity 256
+    ensures done { OnOk result (IsHonest (D.disk disk.new) → (identity : Identity) → IsFormatting (now (D.disk disk.old)) identity slots
         → IsReady (now (D.disk disk.new)) (first_content identity)) }
     ensures gate { OnOk result (IsHonest (D.disk disk.new) → (now (D.disk disk.new)).seen (gate 0 0) ≡ open_gate) }
     ensures others { IsHonest (D.disk disk.new) → (i : ℕ) → i ≢ gate 0 0 → IsSpared (D.disk disk.old) (D.disk disk.new) i }

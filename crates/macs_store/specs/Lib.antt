@@ -3,4 +3,4 @@ pub mod Commands
 pub mod Replay
 pub mod Table
 pub mod Found
-pub mod Kept
+pub mod Value

@@ -4,13 +4,14 @@ ghost use Rattle.std.specs.Prelude.{◌≡◌, ◌≤◌, ◌↔◌, List, true,
 ghost use Rattle.std.specs.Option.{option_map};
 ghost use Rattle.macs_config.specs.Apply.{apply};
 ghost use Rattle.macs_config.specs.Config as spec;
-ghost use Rattle.macs_config.specs.Config.{first_edition};
+ghost use Rattle.macs_config.specs.Config.{this_edition};
 ghost use Rattle.macs_config.specs.Snapshot.{restored};
 ghost use Rattle.macs_config.specs.Stored.{config_of};
 ghost use Rattle.macs_config.specs.declared.part.Part.{Part};
+ghost use Rattle.macs_journal.specs.Areas.{slots};
 ghost use Rattle.macs_store.specs.Replay.{followed, parts_of, replay_of, rises, snapshot_of, with_ceilings};
 ghost use Rattle.macs_store.specs.Standing.{IsStanding, accept, ceilings_after, no_ceilings, with_rx_ceiling, with_tx_ceiling};
-ghost use Rattle.macs_store.specs.Table.{Held, read, scis_of, standing_at};
+ghost use Rattle.macs_store.specs.Table.{StandingValue, ceilings_of, scis_of, standing_of};
 
 use crate::ahead::ahead;
 use crate::reading::{command_of, part_of};
@@ -32,17 +33,17 @@ pub struct Standing {
 }
 
 impl Model for Standing {
-    ghost Value = { Held };
+    ghost Value = { StandingValue };
 
     ghost view = { λ s. record { config = s.config; table = s.ceilings } };
 
-    ghost invariant = { λ s. IsStanding (standing_at (record { config = s.config; table = s.ceilings }))
+    ghost invariant = { λ s. IsStanding (standing_of (record { config = s.config; table = s.ceilings }))
         × (scis_of s.ceilings ≡ (config_of s.config).channels) };
 }
 
 /// The parts of a snapshot, `None` where a record is of another kind.
 fn parts_of(records: &[Record]) -> Option<ArrayVec<Part, MAX_RECORDS>>
-    requires few { length records.now ≤ 256 }
+    requires few { length records.now ≤ slots }
     ensures { option_map (λ parts. parts.items) result ≡ parts_of records.now }
 {
     let mut parts = ArrayVec::new();
@@ -60,8 +61,8 @@ impl Standing {
         records: &[Record],
     ) -> Option<Standing>
         requires within { count ≤ length records.now }
-        requires few { length records.now ≤ 256 }
-        ensures { option_map standing_at result ≡ replay_of identity.now count records.now }
+        requires few { length records.now ≤ slots }
+        ensures { option_map standing_of result ≡ replay_of this_edition identity.now count records.now }
     {
         let (snapshot, later) = records.split_at(count);
         let mut standing = Standing::snapshot(identity, snapshot)?;
@@ -75,8 +76,8 @@ impl Standing {
 
     /// What a snapshot stands for, `None` where it is refused.
     fn snapshot(identity: &Identity, records: &[Record]) -> Option<Standing>
-        requires few { length records.now ≤ 256 }
-        ensures { option_map standing_at result ≡ snapshot_of identity.now records.now }
+        requires few { length records.now ≤ slots }
+        ensures { option_map standing_of result ≡ snapshot_of this_edition identity.now records.now }
     {
         let parts = parts_of(records)?;
         let config = Config::restore(identity, parts.as_slice())?;
@@ -86,8 +87,8 @@ impl Standing {
 
     /// Goes on with the record of a command or of a raised ceiling, and answers whether it fits.
     fn follow(&mut self, value: &Record) -> bool
-        ensures fits { result ≡ true → followed (standing_at self.old) value.now ≡ Some (standing_at self.new) }
-        ensures refused { result ≡ false → followed (standing_at self.old) value.now ≡ None }
+        ensures fits { result ≡ true → followed (standing_of self.old) value.now ≡ Some (standing_of self.new) }
+        ensures refused { result ≡ false → followed (standing_of self.old) value.now ≡ None }
     {
         match value {
             Record::TxCeiling { an, ceiling } => self.follow_tx(*an, *ceiling),
@@ -101,8 +102,8 @@ impl Standing {
 
     /// Goes on with a raised ceiling of a transmit association, and answers whether it is one.
     fn follow_tx(&mut self, an: An, ceiling: Ceiling) -> bool
-        ensures fits { result ≡ rises ((standing_at self.old).ceilings.tx an) ceiling }
-        ensures raised { result ≡ true → standing_at self.new ≡ with_tx_ceiling (standing_at self.old) an ceiling }
+        ensures fits { result ≡ rises ((standing_of self.old).ceilings.tx an) ceiling }
+        ensures raised { result ≡ true → standing_of self.new ≡ with_tx_ceiling (standing_of self.old) an ceiling }
     {
         let is_raised = rises(self.ceilings.tx(an), ceiling);
         if is_raised {
@@ -113,8 +114,8 @@ impl Standing {
 
     /// Goes on with a raised ceiling of a receive association, and answers whether it is one.
     fn follow_rx(&mut self, sci: Sci, an: An, ceiling: Ceiling) -> bool
-        ensures fits { result ≡ rises ((standing_at self.old).ceilings.rx sci an) ceiling }
-        ensures raised { result ≡ true → standing_at self.new ≡ with_rx_ceiling (standing_at self.old) sci an ceiling }
+        ensures fits { result ≡ rises ((standing_of self.old).ceilings.rx sci an) ceiling }
+        ensures raised { result ≡ true → standing_of self.new ≡ with_rx_ceiling (standing_of self.old) sci an ceiling }
     {
         let is_raised = rises(self.ceilings.rx(sci, an), ceiling);
         if is_raised {
@@ -125,32 +126,32 @@ impl Standing {
 
     /// Raises the ceiling of a transmit association that stands.
     pub(crate) fn raise_tx(&mut self, an: An, ceiling: Ceiling)
-        requires stands { IsSome ((standing_at self.old).ceilings.tx an) }
-        ensures { standing_at self.new ≡ with_tx_ceiling (standing_at self.old) an ceiling }
+        requires stands { IsSome ((standing_of self.old).ceilings.tx an) }
+        ensures { standing_of self.new ≡ with_tx_ceiling (standing_of self.old) an ceiling }
     {
         self.ceilings.put_tx(an, Some(ceiling));
     }
 
     /// Raises the ceiling of a receive association that stands.
     pub(crate) fn raise_rx(&mut self, sci: Sci, an: An, ceiling: Ceiling)
-        requires stands { IsSome ((standing_at self.old).ceilings.rx sci an) }
-        ensures { standing_at self.new ≡ with_rx_ceiling (standing_at self.old) sci an ceiling }
+        requires stands { IsSome ((standing_of self.old).ceilings.rx sci an) }
+        ensures { standing_of self.new ≡ with_rx_ceiling (standing_of self.old) sci an ceiling }
     {
         self.ceilings.put_rx(sci, an, Some(ceiling));
     }
 
     /// Whether a command fits the configuration, or the first refusal in the order of `Refusal`.
     pub(crate) fn check(&self, command: &Command) -> Result<(), Refusal>
-        ensures fits { OnOk result (IsOk (accept (standing_at self.now) command.now)) }
-        ensures refused { (refusal : Refusal) → (result ≡ Err refusal) ↔ (accept (standing_at self.now) command.now ≡ Err refusal) }
+        ensures fits { OnOk result (IsOk (accept (standing_of self.now) command.now)) }
+        ensures refused { (refusal : Refusal) → (result ≡ Err refusal) ↔ (accept (standing_of self.now) command.now ≡ Err refusal) }
     {
         self.config.check(command)
     }
 
     /// Applies a command. A refusal, the first in the order of `Refusal`, changes nothing.
     pub(crate) fn accept(&mut self, command: &Command) -> Result<(), Refusal>
-        ensures accepted { OnOk result (accept (standing_at self.old) command.now ≡ Ok (standing_at self.new)) }
-        ensures refused { (refusal : Refusal) → (result ≡ Err refusal) ↔ (accept (standing_at self.old) command.now ≡ Err refusal) }
+        ensures accepted { OnOk result (accept (standing_of self.old) command.now ≡ Ok (standing_of self.new)) }
+        ensures refused { (refusal : Refusal) → (result ≡ Err refusal) ↔ (accept (standing_of self.old) command.now ≡ Err refusal) }
         ensures same { OnErr result (self.new ≡ self.old) }
     {
         self.config.apply(command)?;
@@ -162,8 +163,8 @@ impl Standing {
 /// The ceilings in a snapshot that makes up a configuration.
 fn ceilings_in(config: &Config, records: &[Record]) -> CeilingTable
     requires restored { (parts : List Part) × (parts_of records.now ≡ Some parts)
-        × (restored first_edition config.now.identity parts ≡ Some (config_of config.now)) }
-    ensures ceilings { read result ≡ with_ceilings no_ceilings records.now }
+        × (restored this_edition config.now.identity parts ≡ Some (config_of config.now)) }
+    ensures ceilings { ceilings_of result ≡ with_ceilings no_ceilings records.now }
     ensures channels { scis_of result ≡ (config_of config.now).channels }
 {
     let mut ceilings = CeilingTable::new();
@@ -186,8 +187,8 @@ fn ceilings_in(config: &Config, records: &[Record]) -> CeilingTable
 /// What becomes of the ceilings by a command that made this configuration.
 fn adjust(config: &Config, ceilings: &mut CeilingTable, command: &Command)
     requires applied { (old : spec.Config) × (scis_of ceilings.old ≡ old.channels)
-        × (apply first_edition config.now.identity old command.now ≡ Ok (config_of config.now)) }
-    ensures ceilings { read ceilings.new ≡ ceilings_after config.now.identity command.now (read ceilings.old) }
+        × (apply this_edition config.now.identity old command.now ≡ Ok (config_of config.now)) }
+    ensures ceilings { ceilings_of ceilings.new ≡ ceilings_after config.now.identity command.now (ceilings_of ceilings.old) }
     ensures channels { scis_of ceilings.new ≡ (config_of config.now).channels }
 {
     match *command {

@@ -1,19 +1,21 @@
 //! What an endpoint keeps, in memory and on its disk.
 
 ghost use Rattle.std.specs.Prelude.{◌≡◌, ◌<◌, ◌≤◌, ◌^◌, ◌+◌, ◌↔◌, ◌⊎◌, ℕ, true, false, Some, Ok, Err, IsOk, IsSome, IfSome, OnOk, OnErr, IsErrOf};
+ghost use Rattle.macs_config.specs.Config.{this_edition};
 ghost use Rattle.macs_config.specs.Stored.{config_of};
 ghost use Rattle.macs_config.specs.declared.refusal.Refusal.{Refusal};
 ghost use Rattle.macs_disk.specs.Disk.{IsHonest, MayLeave, now};
 ghost use Rattle.macs_disk.specs.Runs.{Leaves};
 ghost use Rattle.macs_disk.specs.States.{Image};
+ghost use Rattle.macs_journal.specs.Areas.{slots};
 ghost use Rattle.macs_journal.specs.Work.{IsWorkOf};
 ghost use Rattle.macs_journal.specs.declared.fault.JournalFault.TheVariants as fault;
 ghost use Rattle.macs_store.specs.Found.{CommitLeaves, Finds, IsBeforeOrAfter};
-ghost use Rattle.macs_store.specs.Kept.{IsCommitOf, IsStored, Kept, standing_in};
+ghost use Rattle.macs_store.specs.Value.{IsCommitOf, IsStored, StoreValue, device_in, disk_in, is_stopped, standing_in, used_slots};
 ghost use Rattle.macs_store.specs.Replay.{followed};
 ghost use Rattle.macs_store.specs.Standing as spec;
 ghost use Rattle.macs_store.specs.Standing.{IsStanding, accept, ahead, rx_raised, tx_raised};
-ghost use Rattle.macs_store.specs.Table.{Held, standing_at};
+ghost use Rattle.macs_store.specs.Table.{StandingValue, standing_of};
 ghost use Rattle.macs_store.specs.declared.fault.CommitFault.TheVariants.{AreaFull, Disk, Refused, Stopped};
 
 use crate::ahead::ahead;
@@ -36,7 +38,7 @@ pub struct Store<D: SectorDisk> {
 }
 
 impl<D: SectorDisk> Model for Store<D> {
-    ghost Value = { Kept D };
+    ghost Value = { StoreValue D };
 
     ghost view = { λ s. record { journal = s.journal; held = s.standing } };
 }
@@ -46,23 +48,23 @@ impl<D: SectorDisk> Store<D> {
     /// holds, then as `AreaFull`; these change nothing. `Disk` at the first device call that fails: the
     /// configuration stands as it was, and after a power loss it is found with the command or without.
     pub fn commit(&mut self, command: &Command) -> Result<(), CommitFault>
-        ensures stopped { IsErrOf result Stopped ↔ (self.old.journal.stopped ≡ true) }
+        ensures stopped { IsErrOf result Stopped ↔ (is_stopped self.old ≡ true) }
         ensures refused { (refusal : Refusal) → (result ≡ Err (Refused refusal))
-            ↔ ((self.old.journal.stopped ≡ false) × (accept (standing_in self.old) command.now ≡ Err refusal)) }
-        ensures full { IsErrOf result AreaFull ↔ ((self.old.journal.stopped ≡ false)
-            × IsOk (accept (standing_in self.old) command.now) × (self.old.journal.place.free ≡ 256)) }
+            ↔ ((is_stopped self.old ≡ false) × (accept (standing_in self.old) command.now ≡ Err refusal)) }
+        ensures full { IsErrOf result AreaFull ↔ ((is_stopped self.old ≡ false)
+            × IsOk (accept (standing_in self.old) command.now) × (used_slots self.old ≡ slots)) }
         ensures same { OnErr result (IsErrOf result Disk ⊎ (self.new ≡ self.old)) }
-        ensures halted { IsErrOf result Disk → (self.new.journal.stopped ≡ true) × (self.new.held ≡ self.old.held) }
-        ensures running { OnOk result (self.new.journal.stopped ≡ false) }
-        ensures place { OnOk result (self.new.journal.place ≡ record self.old.journal.place { free = self.old.journal.place.free + 1 }) }
-        ensures four { (D.disk self.new.journal.disk).clock ≤ (D.disk self.old.journal.disk).clock + 4 }
+        ensures halted { IsErrOf result Disk → (is_stopped self.new ≡ true) × (self.new.held ≡ self.old.held) }
+        ensures running { OnOk result (is_stopped self.new ≡ false) }
+        ensures slot { OnOk result (used_slots self.old < slots → used_slots self.new ≡ used_slots self.old + 1) }
+        ensures four { used_slots self.old < slots → (disk_in D.disk self.new).clock ≤ (disk_in D.disk self.old).clock + 4 }
         ensures done { OnOk result (accept (standing_in self.old) command.now ≡ Ok (standing_in self.new)) }
-        ensures work { IsCommitOf (D.disk self.old.journal.disk) (D.disk self.new.journal.disk) result }
-        ensures any_moment { IsHonest (D.disk self.new.journal.disk) → IsStored D.disk self.old
-            → Leaves (D.disk self.old.journal.disk) (D.disk self.new.journal.disk) (CommitLeaves (standing_in self.old) command.now) }
-        ensures stored { OnOk result (IsHonest (D.disk self.new.journal.disk) → IsStored D.disk self.old → IsStored D.disk self.new) }
-        ensures kept { OnOk result (IsHonest (D.disk self.new.journal.disk) → IsStored D.disk self.old
-            → (image : Image) → MayLeave (D.disk self.new.journal.disk) image → Finds image (standing_in self.new)) }
+        ensures work { IsCommitOf (disk_in D.disk self.old) (disk_in D.disk self.new) result }
+        ensures any_moment { IsHonest (disk_in D.disk self.new) → IsStored D.disk self.old
+            → Leaves (disk_in D.disk self.old) (disk_in D.disk self.new) (CommitLeaves (standing_in self.old) command.now) }
+        ensures stored { OnOk result (IsHonest (disk_in D.disk self.new) → IsStored D.disk self.old → IsStored D.disk self.new) }
+        ensures kept { OnOk result (IsHonest (disk_in D.disk self.new) → IsStored D.disk self.old
+            → (image : Image) → MayLeave (disk_in D.disk self.new) image → Finds this_edition image (standing_in self.new)) }
     {
         if self.is_stopped() {
             return Err(CommitFault::Stopped);
@@ -88,22 +90,22 @@ impl<D: SectorDisk> Store<D> {
     pub fn reserve_tx(&mut self, an: An) -> Result<(), JournalFault>
         requires raised { IfSome ((standing_in self.old).ceilings.tx an) (λ old. old < 2 ^ 32) }
         requires stands { IsSome ((standing_in self.old).ceilings.tx an) }
-        ensures stopped { IsErrOf result fault.Stopped ↔ (self.old.journal.stopped ≡ true) }
-        ensures full { IsErrOf result fault.AreaFull ↔ ((self.old.journal.stopped ≡ false) × (self.old.journal.place.free ≡ 256)) }
+        ensures stopped { IsErrOf result fault.Stopped ↔ (is_stopped self.old ≡ true) }
+        ensures full { IsErrOf result fault.AreaFull ↔ ((is_stopped self.old ≡ false) × (used_slots self.old ≡ slots)) }
         ensures names { OnErr result (IsErrOf result fault.Stopped ⊎ (IsErrOf result fault.AreaFull ⊎ IsErrOf result fault.Disk)) }
         ensures same { OnErr result (IsErrOf result fault.Disk ⊎ (self.new ≡ self.old)) }
-        ensures halted { IsErrOf result fault.Disk → (self.new.journal.stopped ≡ true) × (self.new.held ≡ self.old.held) }
-        ensures running { OnOk result (self.new.journal.stopped ≡ false) }
-        ensures place { OnOk result (self.new.journal.place ≡ record self.old.journal.place { free = self.old.journal.place.free + 1 }) }
-        ensures four { (D.disk self.new.journal.disk).clock ≤ (D.disk self.old.journal.disk).clock + 4 }
+        ensures halted { IsErrOf result fault.Disk → (is_stopped self.new ≡ true) × (self.new.held ≡ self.old.held) }
+        ensures running { OnOk result (is_stopped self.new ≡ false) }
+        ensures slot { OnOk result (used_slots self.old < slots → used_slots self.new ≡ used_slots self.old + 1) }
+        ensures four { used_slots self.old < slots → (disk_in D.disk self.new).clock ≤ (disk_in D.disk self.old).clock + 4 }
         ensures done { OnOk result (standing_in self.new ≡ tx_raised (standing_in self.old) an) }
-        ensures work { IsWorkOf (D.disk self.old.journal.disk) (D.disk self.new.journal.disk) result }
-        ensures any_moment { IsHonest (D.disk self.new.journal.disk) → IsStored D.disk self.old
-            → Leaves (D.disk self.old.journal.disk) (D.disk self.new.journal.disk)
+        ensures work { IsWorkOf (disk_in D.disk self.old) (disk_in D.disk self.new) result }
+        ensures any_moment { IsHonest (disk_in D.disk self.new) → IsStored D.disk self.old
+            → Leaves (disk_in D.disk self.old) (disk_in D.disk self.new)
             (IsBeforeOrAfter (standing_in self.old) (tx_raised (standing_in self.old) an)) }
-        ensures stored { OnOk result (IsHonest (D.disk self.new.journal.disk) → IsStored D.disk self.old → IsStored D.disk self.new) }
-        ensures kept { OnOk result (IsHonest (D.disk self.new.journal.disk) → IsStored D.disk self.old
-            → (image : Image) → MayLeave (D.disk self.new.journal.disk) image → Finds image (standing_in self.new)) }
+        ensures stored { OnOk result (IsHonest (disk_in D.disk self.new) → IsStored D.disk self.old → IsStored D.disk self.new) }
+        ensures kept { OnOk result (IsHonest (disk_in D.disk self.new) → IsStored D.disk self.old
+            → (image : Image) → MayLeave (disk_in D.disk self.new) image → Finds this_edition image (standing_in self.new)) }
     {
         let old = self.tx_ceiling(an).unwrap();
         let ceiling = ahead(old.get(), self.identity().tx_block());
@@ -118,22 +120,22 @@ impl<D: SectorDisk> Store<D> {
         requires raised { IfSome ((standing_in self.old).ceilings.rx sci an)
             (λ old. old < ahead pn (standing_in self.old).identity.rx_block) }
         requires stands { IsSome ((standing_in self.old).ceilings.rx sci an) }
-        ensures stopped { IsErrOf result fault.Stopped ↔ (self.old.journal.stopped ≡ true) }
-        ensures full { IsErrOf result fault.AreaFull ↔ ((self.old.journal.stopped ≡ false) × (self.old.journal.place.free ≡ 256)) }
+        ensures stopped { IsErrOf result fault.Stopped ↔ (is_stopped self.old ≡ true) }
+        ensures full { IsErrOf result fault.AreaFull ↔ ((is_stopped self.old ≡ false) × (used_slots self.old ≡ slots)) }
         ensures names { OnErr result (IsErrOf result fault.Stopped ⊎ (IsErrOf result fault.AreaFull ⊎ IsErrOf result fault.Disk)) }
         ensures same { OnErr result (IsErrOf result fault.Disk ⊎ (self.new ≡ self.old)) }
-        ensures halted { IsErrOf result fault.Disk → (self.new.journal.stopped ≡ true) × (self.new.held ≡ self.old.held) }
-        ensures running { OnOk result (self.new.journal.stopped ≡ false) }
-        ensures place { OnOk result (self.new.journal.place ≡ record self.old.journal.place { free = self.old.journal.place.free + 1 }) }
-        ensures four { (D.disk self.new.journal.disk).clock ≤ (D.disk self.old.journal.disk).clock + 4 }
+        ensures halted { IsErrOf result fault.Disk → (is_stopped self.new ≡ true) × (self.new.held ≡ self.old.held) }
+        ensures running { OnOk result (is_stopped self.new ≡ false) }
+        ensures slot { OnOk result (used_slots self.old < slots → used_slots self.new ≡ used_slots self.old + 1) }
+        ensures four { used_slots self.old < slots → (disk_in D.disk self.new).clock ≤ (disk_in D.disk self.old).clock + 4 }
         ensures done { OnOk result (standing_in self.new ≡ rx_raised (standing_in self.old) sci an pn) }
-        ensures work { IsWorkOf (D.disk self.old.journal.disk) (D.disk self.new.journal.disk) result }
-        ensures any_moment { IsHonest (D.disk self.new.journal.disk) → IsStored D.disk self.old
-            → Leaves (D.disk self.old.journal.disk) (D.disk self.new.journal.disk)
+        ensures work { IsWorkOf (disk_in D.disk self.old) (disk_in D.disk self.new) result }
+        ensures any_moment { IsHonest (disk_in D.disk self.new) → IsStored D.disk self.old
+            → Leaves (disk_in D.disk self.old) (disk_in D.disk self.new)
             (IsBeforeOrAfter (standing_in self.old) (rx_raised (standing_in self.old) sci an pn)) }
-        ensures stored { OnOk result (IsHonest (D.disk self.new.journal.disk) → IsStored D.disk self.old → IsStored D.disk self.new) }
-        ensures kept { OnOk result (IsHonest (D.disk self.new.journal.disk) → IsStored D.disk self.old
-            → (image : Image) → MayLeave (D.disk self.new.journal.disk) image → Finds image (standing_in self.new)) }
+        ensures stored { OnOk result (IsHonest (disk_in D.disk self.new) → IsStored D.disk self.old → IsStored D.disk self.new) }
+        ensures kept { OnOk result (IsHonest (disk_in D.disk self.new) → IsStored D.disk self.old
+            → (image : Image) → MayLeave (disk_in D.disk self.new) image → Finds this_edition image (standing_in self.new)) }
     {
         let ceiling = ahead(u64::from(pn.get()), self.identity().rx_block());
         self.keep(&Record::RxCeiling { sci, an, ceiling })?;
@@ -143,25 +145,25 @@ impl<D: SectorDisk> Store<D> {
 
     /// Keeps a record; what stands in memory does not change yet.
     fn keep(&mut self, value: &Record) -> Result<(), JournalFault>
-        ensures stopped { IsErrOf result fault.Stopped ↔ (self.old.journal.stopped ≡ true) }
-        ensures full { IsErrOf result fault.AreaFull ↔ ((self.old.journal.stopped ≡ false) × (self.old.journal.place.free ≡ 256)) }
+        ensures stopped { IsErrOf result fault.Stopped ↔ (is_stopped self.old ≡ true) }
+        ensures full { IsErrOf result fault.AreaFull ↔ ((is_stopped self.old ≡ false) × (used_slots self.old ≡ slots)) }
         ensures names { OnErr result (IsErrOf result fault.Stopped ⊎ (IsErrOf result fault.AreaFull ⊎ IsErrOf result fault.Disk)) }
         ensures same { OnErr result (IsErrOf result fault.Disk ⊎ (self.new ≡ self.old)) }
         ensures standing { self.new.held ≡ self.old.held }
-        ensures halted { IsErrOf result fault.Disk → self.new.journal.stopped ≡ true }
-        ensures running { OnOk result (self.new.journal.stopped ≡ false) }
-        ensures place { OnOk result (self.new.journal.place ≡ record self.old.journal.place { free = self.old.journal.place.free + 1 }) }
-        ensures four { (D.disk self.new.journal.disk).clock ≤ (D.disk self.old.journal.disk).clock + 4 }
-        ensures work { IsWorkOf (D.disk self.old.journal.disk) (D.disk self.new.journal.disk) result }
-        ensures any_moment { IsHonest (D.disk self.new.journal.disk) → IsStored D.disk self.old
+        ensures halted { IsErrOf result fault.Disk → is_stopped self.new ≡ true }
+        ensures running { OnOk result (is_stopped self.new ≡ false) }
+        ensures slot { OnOk result (used_slots self.old < slots → used_slots self.new ≡ used_slots self.old + 1) }
+        ensures four { used_slots self.old < slots → (disk_in D.disk self.new).clock ≤ (disk_in D.disk self.old).clock + 4 }
+        ensures work { IsWorkOf (disk_in D.disk self.old) (disk_in D.disk self.new) result }
+        ensures any_moment { IsHonest (disk_in D.disk self.new) → IsStored D.disk self.old
             → (after : spec.Standing) → followed (standing_in self.old) value.now ≡ Some after
-            → Leaves (D.disk self.old.journal.disk) (D.disk self.new.journal.disk) (IsBeforeOrAfter (standing_in self.old) after) }
-        ensures stored { OnOk result (IsHonest (D.disk self.new.journal.disk) → IsStored D.disk self.old
-            → (held : Held) → followed (standing_in self.old) value.now ≡ Some (standing_at held)
+            → Leaves (disk_in D.disk self.old) (disk_in D.disk self.new) (IsBeforeOrAfter (standing_in self.old) after) }
+        ensures stored { OnOk result (IsHonest (disk_in D.disk self.new) → IsStored D.disk self.old
+            → (held : StandingValue) → followed (standing_in self.old) value.now ≡ Some (standing_of held)
             → IsStored D.disk (record self.new { held = held })) }
-        ensures kept { OnOk result (IsHonest (D.disk self.new.journal.disk) → IsStored D.disk self.old
+        ensures kept { OnOk result (IsHonest (disk_in D.disk self.new) → IsStored D.disk self.old
             → (after : spec.Standing) → followed (standing_in self.old) value.now ≡ Some after
-            → (image : Image) → MayLeave (D.disk self.new.journal.disk) image → Finds image after) }
+            → (image : Image) → MayLeave (disk_in D.disk self.new) image → Finds this_edition image after) }
     {
         if self.journal.is_stopped() {
             return Err(JournalFault::Stopped);
@@ -174,7 +176,7 @@ impl<D: SectorDisk> Store<D> {
 
     /// Whether a device call failed: the disk is to be opened again.
     pub fn is_stopped(&self) -> bool
-        ensures { result ≡ self.now.journal.stopped }
+        ensures { result ≡ is_stopped self.now }
     {
         self.journal.is_stopped()
     }
@@ -217,7 +219,7 @@ impl<D: SectorDisk> Store<D> {
 
     /// The disk, as it stands.
     pub fn into_disk(self) -> D
-        ensures { result ≡ self.journal.disk }
+        ensures { result ≡ device_in self }
     {
         let Store { journal, .. } = self;
         journal.into_disk()

@@ -29,7 +29,7 @@ impl SectorDisk for Forgetful {
     ghost use Rattle.std.specs.Prelude.{◌==◌, false};
     ghost use Rattle.std.proofs.Common.{rules};
     ghost use Rattle.macs_disk.specs.States.{settled, zero_sector};
-    ghost use Rattle.macs_disk.specs.Recorded.{full-clock};
+    ghost use Rattle.macs_disk.specs.Evidence.{full-clock};
 
     ghost disk = { λ it. record {
       sectors = 3;

@@ -1,7 +1,7 @@
 use Rattle.std.proofs.Common.{◌≡◌, ◌≤◌, ◌+◌, ℕ, List, None, subst, sym}
 use Rattle.macs_config.specs.Config.{Config}
 use Rattle.macs_rxsc.specs.View as rxsc
-use Rattle.macs_store.specs.Kept.{standing_in}
+use Rattle.macs_store.specs.Value.{standing_in}
 use Rattle.macs_endpoint.proofs.Opened.{IsRxFilled, number_is, rx-all, rx-all-ceilings, rx-one-more, rx-next-empty, rx-passed}
 use Rattle.macs_endpoint.proofs.opening.install_channel.Goals as goal
 use Rattle.macs_endpoint.proofs.opening.install_channel.Goals.{in-Some, in_default}

@@ -1,7 +1,7 @@
 use Rattle.std.proofs.Common.{◌∙◌, ◌≤◌, List, ℕ, ap, length, subst}
-use Rattle.macs_config.specs.Config.{Config, IsConfig, first_edition}
+use Rattle.macs_config.specs.Config.{Config, IsConfig, this_edition}
 use Rattle.macs_config.specs.Stored.{config_of}
-use Rattle.macs_store.specs.Kept.{standing_in}
+use Rattle.macs_store.specs.Value.{standing_in}
 use Rattle.macs_endpoint.proofs.Opened.{add-free, added-empty, added-stands, is-next, nothing-opened, opened-ceilings, opened-more, opened-side}
 use Rattle.macs_endpoint.proofs.opening.opened_rx.Goals as goal
 
@@ -52,7 +52,7 @@ pub returns-clause-side : goal.returns-clause-side
 returns-clause-side g c =
     let s = standing_in c.args.store.now in
     let items = c.deref-sci-items.ensures.0 ∙ c.channels.ensures ∙ ap (λ (k : Config). k.channels) c.config-config.ensures.config in
-    let is = subst (λ (k : Config). IsConfig first_edition c.config-config.result.now.identity k) c.config-config.ensures.config c.facts.ensures.config in
+    let is = subst (λ (k : Config). IsConfig this_edition c.config-config.result.now.identity k) c.config-config.ensures.config c.facts.ensures.config in
     opened-side s c.facts-2.ensures c.loop-sci.rx c.loop-sci.sci-index
     c.loop-sci.invariant
     (subst (λ (xs : List (List ℕ)). length xs ≤ c.loop-sci.sci-index) items c.loop-sci-test.false) is.rx_channels
@@ -61,7 +61,7 @@ pub returns-clause-ceilings : goal.returns-clause-ceilings
 returns-clause-ceilings g c =
     let s = standing_in c.args.store.now in
     let items = c.deref-sci-items.ensures.0 ∙ c.channels.ensures ∙ ap (λ (k : Config). k.channels) c.config-config.ensures.config in
-    let is = subst (λ (k : Config). IsConfig first_edition c.config-config.result.now.identity k) c.config-config.ensures.config c.facts.ensures.config in
+    let is = subst (λ (k : Config). IsConfig this_edition c.config-config.result.now.identity k) c.config-config.ensures.config c.facts.ensures.config in
     opened-ceilings s c.facts-2.ensures c.loop-sci.rx c.loop-sci.sci-index
     c.loop-sci.invariant
     (subst (λ (xs : List (List ℕ)). length xs ≤ c.loop-sci.sci-index) items c.loop-sci-test.false) is.rx_channels

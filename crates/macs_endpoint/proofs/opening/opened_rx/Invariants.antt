@@ -1,5 +1,5 @@
 use Rattle.std.proofs.Common.{take}
-use Rattle.macs_store.specs.Kept.{standing_in}
+use Rattle.macs_store.specs.Value.{standing_in}
 use Rattle.macs_endpoint.proofs.Opened.{IsRxOpened}
 use Rattle.macs_endpoint.proofs.opening.opened_rx.Given as goal
 

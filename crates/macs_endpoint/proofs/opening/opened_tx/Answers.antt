@@ -1,8 +1,8 @@
 use Rattle.std.proofs.Common.{◌≡◌, ◌∙◌, ◌≤◌, ◌+◌, ℕ, None, ap, subst, sym}
-use Rattle.macs_config.specs.Config.{Config, IsConfig, first_edition}
+use Rattle.macs_config.specs.Config.{Config, IsConfig, this_edition}
 use Rattle.macs_config.specs.Identity.{Identity}
 use Rattle.macs_txsc.specs.declared.channel.Tx.{Tx}
-use Rattle.macs_store.specs.Kept.{standing_in}
+use Rattle.macs_store.specs.Value.{standing_in}
 use Rattle.macs_endpoint.proofs.Opened.{IsTxFilled, number_is, select-stands, tx-all-ceilings, tx-one-more, tx-next-empty, tx-passed, tx-selected, tx-unfilled, tx-unselected}
 use Rattle.macs_endpoint.proofs.opening.opened_tx.Goals as goal
 use Rattle.macs_endpoint.proofs.opening.opened_tx.Goals.{in-Some, in_default}
@@ -37,7 +37,7 @@ loop-number-preserved g c =
 pub select-requires : goal.select-requires
 select-requires g c =
     let s = standing_in c.args.store.now in
-    let is = subst (λ (k : Config). IsConfig first_edition c.config-config.result.now.identity k) c.config-config.ensures.config c.facts.ensures.config in
+    let is = subst (λ (k : Config). IsConfig this_edition c.config-config.result.now.identity k) c.config-config.ensures.config c.facts.ensures.config in
     select-stands s c.facts-2.ensures c.loop-number.tx c.loop-number.number
     c.loop-number.invariant c.loop-number-test.false
     (subst (λ (k : Config). (an : ℕ) → 4 ≤ an → k.tx an ≡ None) c.config-config.ensures.config c.facts.ensures.tx_numbers)

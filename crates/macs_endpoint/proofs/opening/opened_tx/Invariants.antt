@@ -1,4 +1,4 @@
-use Rattle.macs_store.specs.Kept.{standing_in}
+use Rattle.macs_store.specs.Value.{standing_in}
 use Rattle.macs_endpoint.proofs.Opened.{IsTxFilled}
 use Rattle.macs_endpoint.proofs.opening.opened_tx.Given as goal
 

@@ -1,5 +1,5 @@
 use Rattle.std.proofs.Common.{◌≡◌, ◌≢◌, ◌+◌, ℕ, true, false, sym, ◌∙◌, ap, subst, arith}
-use Rattle.macs_disk.specs.States.{State}
+use Rattle.macs_disk.specs.States.{DiskState}
 use Rattle.macs_disk.specs.Disk.{IsHonest, now}
 use Rattle.macs_disk.specs.Runs.{Leaves}
 use Rattle.macs_disk.proofs.Images.{put-same}
@@ -87,8 +87,8 @@ pub returns-in_ok-write-clause-done : goal.returns-in_ok-write-clause-done
 returns-in_ok-write-clause-done g c honest identity f =
     let path = (goal.at.returns-in_ok-write-clause-done g c).After-write in
     let same = (c.read.ensures.effect (honest-read g path honest)).same in
-    let read : IsFormatting (now (g.D.SectorDisk.disk c.read.new.self)) identity c.args.slot = subst (λ (s : State). IsFormatting s identity c.args.slot) (sym same) f in
-    subst (λ (s : State). IsFormatting s identity (c.args.slot + 1)) (sym (c.in_ok-write.ensures.effect honest).ok)
+    let read : IsFormatting (now (g.D.SectorDisk.disk c.read.new.self)) identity c.args.slot = subst (λ (s : DiskState). IsFormatting s identity c.args.slot) (sym same) f in
+    subst (λ (s : DiskState). IsFormatting s identity (c.args.slot + 1)) (sym (c.in_ok-write.ensures.effect honest).ok)
     (formatting-close _ identity _ c.args.slot _ c.requires.room (at-gate g path honest) zeros-closed read)
 
 pub returns-else-is_open-clause-done : goal.returns-else-is_open-clause-done
@@ -96,7 +96,7 @@ returns-else-is_open-clause-done g c honest identity f =
     let path = (goal.at.returns-else-is_open-clause-done g c).After-is_open in
     let shut : (¬ IsGateOpen (now (g.D.SectorDisk.disk c.args.disk.now)).seen 0 (c.args.slot + 1)) =
     λ opens. not_both (sym (c.is_open.ensures.1 (subst IsOpen (sym (gate-read g path honest)) opens)) ∙ c.if-is_open.false) in
-    subst (λ (s : State). IsFormatting s identity (c.args.slot + 1)) (sym (c.read.ensures.effect honest).same)
+    subst (λ (s : DiskState). IsFormatting s identity (c.args.slot + 1)) (sym (c.read.ensures.effect honest).same)
     (formatting-skip _ identity c.args.slot shut f)
 
 pub returns-in_err-read-clause-work : goal.returns-in_err-read-clause-work
@@ -121,7 +121,7 @@ pub returns-in_err-write-clause-work : goal.returns-in_err-write-clause-work
 returns-in_err-write-clause-work g c =
     let d = g.D.SectorDisk.disk in
     failed-later (d c.args.disk.now) (d c.read.new.self) (d c.write.new.self) c.from_residual-in_err-write.result c.from_residual-in_err-write.ensures.0
-    c.read.ensures.call.work.works c.write.ensures.call.work.works c.in_err-write.ensures.call.work.err
+    c.read.ensures.call.work.works c.in_ok-read.ensures.call.work.ok c.write.ensures.call.work.works c.in_err-write.ensures.call.work.err
 
 pub returns-in_ok-write-clause-work : goal.returns-in_ok-write-clause-work
 returns-in_ok-write-clause-work g c =

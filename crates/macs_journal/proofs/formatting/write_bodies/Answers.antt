@@ -50,7 +50,7 @@ pub returns-in_err-write-2-clause-work : goal.returns-in_err-write-2-clause-work
 returns-in_err-write-2-clause-work g c =
     let d = g.D.SectorDisk.disk in
     failed-later (d c.args.disk.now) (d c.write.new.self) (d c.write-2.new.self) c.from_residual-in_err-write-2.result c.from_residual-in_err-write-2.ensures.0
-    c.write.ensures.call.work.works c.write-2.ensures.call.work.works c.in_err-write-2.ensures.call.work.err
+    c.write.ensures.call.work.works c.in_ok-write.ensures.call.work.ok c.write-2.ensures.call.work.works c.in_err-write-2.ensures.call.work.err
 
 pub returns-clause-work : goal.returns-clause-work
 returns-clause-work g c =

@@ -27,7 +27,7 @@ pub returns-in_err-read-2-clause-work : goal.returns-in_err-read-2-clause-work
 returns-in_err-read-2-clause-work g c =
     let d = g.D.SectorDisk.disk in
     failed-later (d c.args.disk.now) (d c.read.new.self) (d c.read-2.new.self) c.from_residual-in_err-read-2.result c.from_residual-in_err-read-2.ensures.0
-    c.read.ensures.call.work.works c.read-2.ensures.call.work.works c.in_err-read-2.ensures.call.work.err
+    c.read.ensures.call.work.works c.in_ok-read.ensures.call.work.ok c.read-2.ensures.call.work.works c.in_err-read-2.ensures.call.work.err
 
 pub returns-in_err-read-2-clause-nothing : goal.returns-in_err-read-2-clause-nothing
 returns-in_err-read-2-clause-nothing g c honest =

@@ -1,12 +1,12 @@
 use Rattle.std.proofs.Common.{◌≡◌, ◌≢◌, ◌∙◌, refl, ℕ, List, sym, subst, arith, Result, Ok, Err, IsErr}
-use Rattle.macs_disk.specs.States.{Image, State, IsImage, IsSector, written, settled, zero_sector}
-use Rattle.macs_disk.specs.Disk.{Disk, IsHonest, IsWork, Reads, Rose, Works, now}
+use Rattle.macs_disk.specs.States.{Image, DiskState, IsImage, IsSector, written, settled, zero_sector}
+use Rattle.macs_disk.specs.Disk.{Disk, FailsOnce, IsHonest, IsWork, Reads, Works, now}
 use Rattle.macs_disk.specs.Runs.{Leaves, LeavesNothingNew}
 use Rattle.macs_disk.proofs.Images.{written-elsewhere}
-use Rattle.macs_disk.proofs.Moments.{Leaves-weaker, Rose-before, Works-on}
+use Rattle.macs_disk.proofs.Moments.{FailsOnce-before, Leaves-weaker, Works-on}
 use Rattle.macs_disk_tests.proofs.tests.promises.replace_second.Goals as goal
 
-abbrev blank : State
+abbrev blank : DiskState
 blank = settled (λ _. zero_sector)
 
 abbrev AllBlank : Image → Type 0
@@ -18,20 +18,20 @@ FirstBlank image = image 0 ≡ zero_sector
 first : (image : Image) → AllBlank image → FirstBlank image
 first image all = all 0
 
-before : (s : State) → s ≡ blank → (image : Image) → IsImage s image → AllBlank image
+before : (s : DiskState) → s ≡ blank → (image : Image) → IsImage s image → AllBlank image
 before s is image left =
-    let left_blank : IsImage blank image = subst (λ (s : State). IsImage s image) is left in
+    let left_blank : IsImage blank image = subst (λ (s : DiskState). IsImage s image) is left in
     λ i. left_blank.kept i refl
 
-after : (s : State) → s ≡ blank → (sector : List ℕ) (image : Image) → IsSector sector → IsImage (written s 1 sector) image → FirstBlank image
+after : (s : DiskState) → s ≡ blank → (sector : List ℕ) (image : Image) → IsSector sector → IsImage (written s 1 sector) image → FirstBlank image
 after s is sector image whole left =
-    let left_blank : IsImage (written blank 1 sector) image = subst (λ (s : State). IsImage (written s 1 sector) image) is left in
+    let left_blank : IsImage (written blank 1 sector) image = subst (λ (s : DiskState). IsImage (written s 1 sector) image) is left in
     let other : 0 ≢ 1 = omega arith in
     written-elsewhere blank 1 sector image left_blank 0 other refl
 
-failed : {T E : Type 0} (old new : Disk) (answer : Result T E) → IsErr answer → Works old new → Rose old new → IsWork old new answer
-failed old new (Ok x) is works rose = absurd cc
-failed old new (Err e) is works rose = record { works = works; ok = tt; err = rose }
+failed : {T E : Type 0} (old new : Disk) (answer : Result T E) → IsErr answer → Works old new → FailsOnce old new → IsWork old new answer
+failed old new (Ok x) is works once = absurd cc
+failed old new (Err e) is works once = record { works = works; ok = tt; err = once }
 
 pub returns-in_err-read-clause-work : goal.returns-in_err-read-clause-work
 returns-in_err-read-clause-work g c =
@@ -45,7 +45,7 @@ returns-in_err-write-clause-work g c =
     let new = d c.write.new.self in
     let read : Works old mid = c.read.ensures.call.work.works in
     failed old new c.from_residual-in_err-write.result c.from_residual-in_err-write.ensures.0 (Works-on old mid new read c.write.ensures.call.work.works)
-    (Rose-before old mid new read c.in_err-write.ensures.call.work.err)
+    (FailsOnce-before old mid new c.in_ok-read.ensures.call.work.ok c.in_err-write.ensures.call.work.err)
 
 pub returns-clause-work : goal.returns-clause-work
 returns-clause-work g c =

@@ -2,7 +2,7 @@ use Rattle.std.proofs.Common.{◌≡◌, Ok, ap, subst, arith}
 use Rattle.macs_config.specs.declared.command.Command.{Command}
 use Rattle.macs_rxsc.specs.Receive.{RxSide}
 use Rattle.macs_rxsc.specs.View as rxsc
-use Rattle.macs_store.specs.Kept.{standing_in}
+use Rattle.macs_store.specs.Value.{standing_in}
 use Rattle.macs_store.specs.Standing.{accept}
 use Rattle.macs_endpoint.proofs.Following.{numbers-after, rx-installed, rx-ordered, rx-stands, tx-installed, tx-ordered, tx-stands}
 use Rattle.macs_endpoint.proofs.channels.Channels.follow.Goals as goal

@@ -1,6 +1,6 @@
 use Rattle.std.proofs.Common.{◌≡◌, Some, Result, Ok, Err, sym, subst}
 use Rattle.macs_endpoint.specs.Calls.{IsCall}
-use Rattle.macs_endpoint.specs.Kept.{Kept}
+use Rattle.macs_endpoint.specs.Value.{EndpointValue}
 use Rattle.macs_endpoint.specs.State.{Commands, Ran}
 use Rattle.macs_store.specs.declared.fault.CommitFault.{CommitFault}
 use Rattle.macs_endpoint.proofs.Commanding.{Commits, cut-call, done-call, done-kept, refused-call}
@@ -9,7 +9,7 @@ use Rattle.macs_endpoint.proofs.endpoint.Endpoint.command.Goals.{After-commit-ou
 use Rattle.macs_endpoint.proofs.endpoint.Endpoint.command.Goals as goal
 
 module _ (g : Over) (c : After-commit-outcome g) where
-  abbrev old : Kept g.row.D.Denot
+  abbrev old : EndpointValue g.row.D.Denot
   old = record {
     store = c.self.inside.store;
     tx = c.self.inside.channels.tx;
@@ -54,7 +54,7 @@ returns-in-Ok-clause-call g c =
 pub returns-in-Disk-clause-call : goal.returns-in-Disk-clause-call
 returns-in-Disk-clause-call g c =
     let at = (goal.at.returns-in-Disk-clause-call g c).After-commit-outcome in
-    let cut : Kept g.row.D.Denot = record {
+    let cut : EndpointValue g.row.D.Denot = record {
       store = c.commit-outcome.new.self;
       tx = c.self.inside.channels.tx;
       rx = c.self.inside.channels.rx;

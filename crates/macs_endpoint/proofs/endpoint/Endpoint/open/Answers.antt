@@ -1,9 +1,11 @@
 use Rattle.std.proofs.Common.{◌≡◌, ◌≢◌, ◌≤◌, ℕ, false, List, Option, Some, None, Result, Ok, Err, refl, sym, ◌∙◌, ap, subst, arith}
 use Rattle.std.specs.Option.{option_map}
 use Rattle.std.proofs.lemmas.Result.{err_from_is_err_and}
+use Rattle.macs_config.specs.Config.{this_edition}
 use Rattle.macs_config.specs.Identity.{IsIdentity}
 use Rattle.macs_disk.specs.Disk.{now}
 use Rattle.macs_disk.specs.States.{Image}
+use Rattle.macs_journal.specs.Areas.{least_sectors}
 use Rattle.macs_journal.specs.declared.fault.JournalFault.{JournalFault}
 use Rattle.macs_journal.specs.declared.fault.JournalFault.TheVariants.{Stopped, TooSmall, Disk, AlreadyFormatted, NotFormatted, BadJournal, AreaFull}
 use Rattle.macs_txsc.specs.Transmit.{InOrder}
@@ -12,10 +14,10 @@ use Rattle.macs_txsc.specs.declared.channel.Tx.{Tx}
 use Rattle.macs_rxsc.specs.Receive.{Numbers, started}
 use Rattle.macs_rxsc.specs.View as rxsc
 use Rattle.macs_store.specs.Found.{IsFound}
-use Rattle.macs_store.specs.Kept.{standing_in}
+use Rattle.macs_store.specs.Value.{standing_in}
 use Rattle.macs_store.specs.Standing.{Standing}
 use Rattle.macs_store.proofs.OneStanding.{one_standing}
-use Rattle.macs_endpoint.specs.Kept.{IsKept, IsRxWithin, IsTxWithin, Kept, state_of}
+use Rattle.macs_endpoint.specs.Value.{EndpointValue, IsRxWithin, IsSoundEndpoint, IsTxWithin, is_stopped, state_of}
 use Rattle.macs_endpoint.specs.Restart.{Fits, opening}
 use Rattle.macs_endpoint.specs.State.{Logs, State, receiving, transmitting}
 use Rattle.macs_endpoint.proofs.Fitting.{kept-backed}
@@ -25,12 +27,12 @@ use Rattle.macs_endpoint.proofs.endpoint.Endpoint.open.Goals as goal
 
 -- ---- a disk that fits a state is refused for the device alone
 
-not_found : (sectors : ℕ) (image : Image) (fault : JournalFault) → IsFound sectors image (Err fault) → (s : State) × Fits sectors image s → ⊥
+not_found : (sectors : ℕ) (image : Image) (fault : JournalFault) → IsFound this_edition sectors image (Err fault) → (s : State) × Fits this_edition sectors image s → ⊥
 not_found sectors image fault is fits =
     let same : ◌≡◌ {A = Result Standing JournalFault} (Err fault) (Ok fits.1.found) =
-    one_standing sectors image (Err fault) (Ok fits.1.found) is fits.1.is_found in cc
+    one_standing this_edition sectors image (Err fault) (Ok fits.1.found) is fits.1.is_found in cc
 
-by_device : (sectors : ℕ) (image : Image) (fault : JournalFault) → (fault ≢ Disk → IsFound sectors image (Err fault)) → (s : State) × Fits sectors image s
+by_device : (sectors : ℕ) (image : Image) (fault : JournalFault) → (fault ≢ Disk → IsFound this_edition sectors image (Err fault)) → (s : State) × Fits this_edition sectors image s
     → fault ≡ Disk
 by_device sectors image Disk found fits = refl
 by_device sectors image Stopped found fits = absurd (not_found sectors image Stopped (found (λ is. cc)) fits)
@@ -118,7 +120,7 @@ module _ (g : Over) (c : After-facts g) where
   numbers : (rxsc.side_of rx).numbers ≡ (λ sci an. option_map started (s.ceilings.rx sci an))
   numbers = ap (λ side. side.numbers) c.opened-channels.ensures.rx
 
-  kept : IsKept {D = g.row.D.Denot} (record { store = c.in_ok-store.store; tx = tx; rx = rx; in_hand = None })
+  kept : IsSoundEndpoint {D = g.row.D.Denot} (record { store = c.in_ok-store.store; tx = tx; rx = rx; in_hand = None })
   kept =
       let opened = c.opened-channels.ensures in
       record {
@@ -141,10 +143,11 @@ module _ (g : Over) (c : After-facts g) where
 pub invariant_of-result : goal.invariant_of-result
 invariant_of-result g c = kept g (goal.at.invariant_of-result g c).After-facts
 
-begins : {D : Type 0} (e : Kept D) (logs : Logs) → (txsc.side_of e.tx).next ≡ (standing_in e.store).ceilings.tx
+begins : {D : Type 0} (e : EndpointValue D) (logs : Logs) → (txsc.side_of e.tx).next ≡ (standing_in e.store).ceilings.tx
     → (rxsc.side_of e.rx).numbers ≡ (λ sci an. option_map started ((standing_in e.store).ceilings.rx sci an))
-    → e.store.journal.stopped ≡ false → e.in_hand ≡ None → state_of e logs ≡ opening (standing_in e.store) logs
+    → is_stopped e ≡ false → e.in_hand ≡ None → state_of e logs ≡ opening (standing_in e.store) logs
 begins e logs next numbers running idle = λ i. record {
+  edition = this_edition;
   identity = (standing_in e.store).identity;
   config = (standing_in e.store).config;
   next = next i;
@@ -166,4 +169,4 @@ returns-clause-backed g c = λ honest.
     let found = c.in_ok-store.ensures in
     kept-backed g.D.SectorDisk.disk
     (record { store = c.in_ok-store.store; tx = c.opened-channels.result.tx; rx = c.opened-channels.result.rx; in_hand = None })
-    (kept g at) (subst (λ (n : ℕ). 1028 ≤ n) (sym found.work.0.sectors) found.large) (found.stored honest)
+    (kept g at) (subst (λ (n : ℕ). least_sectors ≤ n) (sym found.work.0.sectors) found.large) (found.stored honest)

@@ -1,7 +1,7 @@
 use Rattle.std.proofs.Common.{◌≡◌, false, sym, ◌∙◌, ap, subst}
 use Rattle.macs_txsc.specs.View as txsc
 use Rattle.macs_endpoint.specs.Calls.{IsCall}
-use Rattle.macs_endpoint.specs.Kept.{Kept}
+use Rattle.macs_endpoint.specs.Value.{EndpointValue, is_stopped}
 use Rattle.macs_endpoint.specs.State.{Protects, Protected}
 use Rattle.macs_endpoint.proofs.Framing.{Sends, answered, protect-stopped, protected-call, protected-kept, with_tx}
 use Rattle.macs_endpoint.proofs.endpoint.Endpoint.protect.Given.{Over}
@@ -14,7 +14,7 @@ returns-then-is_stopped-clause-call g c =
     c.clear.ensures
 
 module _ (g : Over) (c : After-protect g) where
-  abbrev old : Kept g.row.D.Denot
+  abbrev old : EndpointValue g.row.D.Denot
   old = record { store = c.self.inside.store; tx = c.self.inside.channels.tx; rx = c.self.inside.channels.rx; in_hand = c.self.inside.in_hand }
 
   sends : Sends (txsc.side_of old.tx) (txsc.side_of c.protect.new.self) (txsc.ceilings_of old.tx) c.args.plain.now c.protect.result
@@ -42,11 +42,11 @@ returns-clause-call g c =
       | in-Ok w ↦ w.result-is ∙ sym (ap answered w.in-Ok.is)
       | in-Err w ↦ w.result-is ∙ sym (ap answered w.in-Err.is)
     ] in
-    let running : (old g at).store.journal.stopped ≡ false =
-    ap (λ (e : Kept g.row.D.Denot). e.store.journal.stopped) c.self.view_is ∙ sym c.is_stopped.ensures ∙ c.if-is_stopped.false in
+    let running : is_stopped (old g at) ≡ false =
+    ap (λ (e : EndpointValue g.row.D.Denot). is_stopped e) c.self.view_is ∙ sym c.is_stopped.ensures ∙ c.if-is_stopped.false in
     let call =
     protected-call disk (old g at) c.protect.new.self c.args.plain.now c.protect.result c.protect.new.out.items c.self.invariant
     (sends g at) c.protect.ensures.ceilings running c.protect.ensures.counters in
     let new = with_tx (old g at) c.protect.new.self in
-    rw is (subst (λ (e : Kept g.row.D.Denot).
+    rw is (subst (λ (e : EndpointValue g.row.D.Denot).
     IsCall disk e (Protects c.args.plain.now) (Protected (answered c.protect.result) c.protect.new.out.items) new) c.self.view_is call)

@@ -1,6 +1,6 @@
 use Rattle.std.proofs.Common.{◌≡◌, false, Ok, sym, ◌∙◌, ap, subst}
 use Rattle.macs_endpoint.specs.Calls.{IsCall}
-use Rattle.macs_endpoint.specs.Kept.{Kept}
+use Rattle.macs_endpoint.specs.Value.{EndpointValue, is_stopped}
 use Rattle.macs_endpoint.specs.State.{Received, Receives}
 use Rattle.macs_endpoint.proofs.Framing.{receive-stopped, received-call, received-kept, with_rx}
 use Rattle.macs_endpoint.proofs.endpoint.Endpoint.receive.Given.{Over}
@@ -13,7 +13,7 @@ returns-then-is_stopped-clause-call g c =
     (sym c.is_stopped.ensures ∙ c.if-is_stopped.true) c.clear.ensures
 
 module _ (g : Over) (c : After-receive g) where
-  abbrev old : Kept g.row.D.Denot
+  abbrev old : EndpointValue g.row.D.Denot
   old = record { store = c.self.inside.store; tx = c.self.inside.channels.tx; rx = c.self.inside.channels.rx; in_hand = c.self.inside.in_hand }
 
 pub invariant_of-self : goal.invariant_of-self
@@ -26,12 +26,12 @@ pub returns-clause-call : goal.returns-clause-call
 returns-clause-call g c =
     let at = (goal.at.returns-clause-call g c).After-receive in
     let disk = g.D.SectorDisk.disk in
-    let running : (old g at).store.journal.stopped ≡ false =
-    ap (λ (e : Kept g.row.D.Denot). e.store.journal.stopped) c.self.view_is ∙ sym c.is_stopped.ensures ∙ c.if-is_stopped.false in
+    let running : is_stopped (old g at) ≡ false =
+    ap (λ (e : EndpointValue g.row.D.Denot). is_stopped e) c.self.view_is ∙ sym c.is_stopped.ensures ∙ c.if-is_stopped.false in
     let call =
     received-call disk (old g at) c.receive.new.self c.args.frame.now c.receive.result c.receive.new.out.items c.self.invariant
     c.receive.ensures.verdict c.receive.ensures.side c.receive.ensures.ceilings running c.receive.ensures.counters
     c.receive.ensures.channel_counters in
     let new = with_rx (old g at) c.receive.new.self in
-    subst (λ (e : Kept g.row.D.Denot). IsCall disk e (Receives c.args.frame.now) (Received (Ok c.receive.result) c.receive.new.out.items) new)
+    subst (λ (e : EndpointValue g.row.D.Denot). IsCall disk e (Receives c.args.frame.now) (Received (Ok c.receive.result) c.receive.new.out.items) new)
     c.self.view_is call

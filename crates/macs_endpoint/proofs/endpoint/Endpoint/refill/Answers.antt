@@ -1,7 +1,7 @@
 use Rattle.std.proofs.Common.{◌≡◌, false, Result, Ok, Err, sym, ◌∙◌, ap, subst}
 use Rattle.std.proofs.lemmas.Result.{err_from_is_err_and}
-use Rattle.macs_store.specs.Kept.{standing_in}
-use Rattle.macs_endpoint.specs.Kept.{state_of}
+use Rattle.macs_store.specs.Value.{standing_in}
+use Rattle.macs_endpoint.specs.Value.{is_stopped, state_of}
 use Rattle.macs_endpoint.specs.Reserving.{Reserves}
 use Rattle.macs_endpoint.specs.State.{no_logs, rx_side, tx_side}
 use Rattle.macs_endpoint.specs.declared.fault.RefillFault.{RefillFault}
@@ -15,7 +15,7 @@ returns-then-is_stopped g c =
     record { call = stopped-call g.D.SectorDisk.disk c.args.self.now (sym c.is_stopped.ensures ∙ c.if-is_stopped.true) }
 
 module _ (g : Over) (c : After-refill_tx g) where
-  running : c.args.self.now.store.journal.stopped ≡ false
+  running : is_stopped c.args.self.now ≡ false
   running = sym c.is_stopped.ensures ∙ c.if-is_stopped.false
 
   first : (result : Result (Unit {0}) RefillFault) → c.refill_tx.result ≡ result

@@ -3,8 +3,8 @@ use Rattle.std.specs.Option.{option_map}
 use Rattle.std.proofs.lemmas.Result.{err_from_is_err_and}
 use Rattle.macs_rxsc.specs.Needs.{needs_of}
 use Rattle.macs_rxsc.proofs.Told.{need_shown}
-use Rattle.macs_store.specs.Kept.{standing_in}
-use Rattle.macs_endpoint.specs.Kept.{state_of}
+use Rattle.macs_store.specs.Value.{standing_in}
+use Rattle.macs_endpoint.specs.Value.{state_of}
 use Rattle.macs_endpoint.specs.Reserving.{Reserves}
 use Rattle.macs_endpoint.specs.State.{no_logs, rx_side}
 use Rattle.macs_endpoint.specs.declared.fault.RefillFault.{RefillFault}

@@ -6,9 +6,9 @@ use Rattle.macs_journal.specs.declared.fault.JournalFault.{JournalFault}
 use Rattle.macs_txsc.specs.Transmit.{need_of}
 use Rattle.macs_txsc.specs.View as txsc
 use Rattle.macs_rxsc.specs.View as rxsc
-use Rattle.macs_store.specs.Kept.{standing_in}
+use Rattle.macs_store.specs.Value.{standing_in}
 use Rattle.macs_store.specs.Standing.{Ceilings, Standing, ahead, tx_raised}
-use Rattle.macs_endpoint.specs.Kept.{Kept}
+use Rattle.macs_endpoint.specs.Value.{EndpointValue, is_stopped}
 use Rattle.macs_endpoint.proofs.Fitting.{AreAhead, kept-ahead}
 use Rattle.macs_endpoint.proofs.Raising.{IsTxNeed, Raises, faulted, raised-kept, raised-reserves, tx-below, tx-ceiling, tx-need, tx-not_below, tx-raised, tx-raised-ahead, tx-value}
 use Rattle.macs_endpoint.proofs.endpoint.Endpoint.refill_tx.Given.{Over}
@@ -16,7 +16,7 @@ use Rattle.macs_endpoint.proofs.endpoint.Endpoint.refill_tx.Goals.{After-get, Af
 use Rattle.macs_endpoint.proofs.endpoint.Endpoint.refill_tx.Goals as goal
 
 module _ (g : Over) (c : In-Some g) where
-  abbrev old : Kept g.row.D.Denot
+  abbrev old : EndpointValue g.row.D.Denot
   old = record {
     store = c.self.inside.store;
     tx = c.self.inside.channels.tx;
@@ -27,7 +27,7 @@ module _ (g : Over) (c : In-Some g) where
   abbrev s : Standing
   s = standing_in c.self.inside.store
 
-  running : c.self.inside.store.journal.stopped ≡ false
+  running : is_stopped old ≡ false
   running = rw (← c.self.view_is) at c.requires.running
 
   need : IsTxNeed (txsc.side_of old.tx) s.ceilings.tx s.identity.tx_block c.in-Some.an

@@ -6,9 +6,9 @@ use Rattle.macs_journal.specs.declared.fault.JournalFault.{JournalFault}
 use Rattle.macs_txsc.specs.View as txsc
 use Rattle.macs_rxsc.specs.Needs.{Need, need_of}
 use Rattle.macs_rxsc.specs.View as rxsc
-use Rattle.macs_store.specs.Kept.{standing_in}
+use Rattle.macs_store.specs.Value.{standing_in}
 use Rattle.macs_store.specs.Standing.{Ceilings, Standing, ahead, rx_raised}
-use Rattle.macs_endpoint.specs.Kept.{Kept}
+use Rattle.macs_endpoint.specs.Value.{EndpointValue, is_stopped}
 use Rattle.macs_endpoint.proofs.Fitting.{AreAhead, kept-ahead}
 use Rattle.macs_endpoint.proofs.Raising.{Raises, faulted, first-place, need-ceiling, need-higher, need-not_below, need-stands, raised-kept, raised-reserves, rx-raised-ahead, rx-value}
 use Rattle.macs_endpoint.proofs.endpoint.Endpoint.reserve_rx.Given.{Over}
@@ -16,7 +16,7 @@ use Rattle.macs_endpoint.proofs.endpoint.Endpoint.reserve_rx.Goals.{After-facts,
 use Rattle.macs_endpoint.proofs.endpoint.Endpoint.reserve_rx.Goals as goal
 
 module _ (g : Over) (c : After-facts g) where
-  abbrev old : Kept g.row.D.Denot
+  abbrev old : EndpointValue g.row.D.Denot
   old = record {
     store = c.self.inside.store;
     tx = c.self.inside.channels.tx;
@@ -30,7 +30,7 @@ module _ (g : Over) (c : After-facts g) where
   abbrev need : Need
   need = record { sci = c.args.need.sci; an = c.args.need.an; pn = c.args.need.pn }
 
-  running : c.self.inside.store.journal.stopped ≡ false
+  running : is_stopped old ≡ false
   running = rw (← c.self.view_is) at c.requires.running
 
   is : need_of s.identity.rx_block need.sci need.an ((rxsc.side_of old.rx).numbers need.sci need.an) (s.ceilings.rx need.sci need.an) ≡ Some need

@@ -1,7 +1,7 @@
 use Rattle.std.proofs.Common.{ℕ, List, Option, sym, ◌∙◌, ap, subst}
 use Rattle.macs_rxsc.specs.Receive.{AreOrdered}
 use Rattle.macs_rxsc.specs.View as rxsc
-use Rattle.macs_store.specs.Kept.{standing_in}
+use Rattle.macs_store.specs.Value.{standing_in}
 use Rattle.macs_endpoint.proofs.Raising.{no-needs, none-told}
 use Rattle.macs_endpoint.proofs.endpoint.Endpoint.rx_need.Goals as goal
 

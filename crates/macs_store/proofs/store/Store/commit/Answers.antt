@@ -2,10 +2,10 @@ use Rattle.std.proofs.Common.{◌≡◌, inl, false, Some, Ok, Err, is_ok, IsOk,
 use Rattle.macs_disk.proofs.Moments.{Leaves-start}
 use Rattle.macs_record.specs.Commands.{record_of}
 use Rattle.macs_store.specs.Found.{CommitLeaves}
-use Rattle.macs_store.specs.Kept.{Kept, standing_in}
+use Rattle.macs_store.specs.Value.{StoreValue, disk_in, is_stopped, standing_in}
 use Rattle.macs_store.specs.Replay.{followed}
 use Rattle.macs_store.specs.Standing.{accept}
-use Rattle.macs_store.specs.Table.{Held, standing_at}
+use Rattle.macs_store.specs.Table.{StandingValue, standing_of}
 use Rattle.macs_store.proofs.Keeping.{accepted-follows, commit-leaves, not_refused, stored-image}
 use Rattle.macs_store.proofs.store.Store.commit.Given.{Over}
 use Rattle.macs_store.proofs.store.Store.commit.Goals.{After-accept, After-keep, In-Err}
@@ -17,23 +17,23 @@ pub returns-then-is_stopped-clause-any_moment : goal.returns-then-is_stopped-cla
 returns-then-is_stopped-clause-any_moment g c honest stored =
     let d = g.D.SectorDisk.disk in
     let self = c.args.self.now in
-    Leaves-start (d self.journal.disk) (CommitLeaves (standing_in self) c.args.command.now)
+    Leaves-start (disk_in d self) (CommitLeaves (standing_in self) c.args.command.now)
     (λ image left. inl (stored-image d self stored image left))
 
 pub returns-in-Err-clause-any_moment : goal.returns-in-Err-clause-any_moment
 returns-in-Err-clause-any_moment g c honest stored =
     let d = g.D.SectorDisk.disk in
     let self = c.args.self.now in
-    Leaves-start (d self.journal.disk) (CommitLeaves (standing_in self) c.args.command.now)
+    Leaves-start (disk_in d self) (CommitLeaves (standing_in self) c.args.command.now)
     (λ image left. inl (stored-image d self stored image left))
 
 module _ (g : Over) (c : In-Err g) where
-  running : c.args.self.now.journal.stopped ≡ false
+  running : is_stopped c.args.self.now ≡ false
   running = sym c.is_stopped.ensures ∙ c.if-is_stopped.false
 
   refused : accept (standing_in c.args.self.now) c.args.command.now ≡ Err c.in-Err.refusal
   refused =
-      subst (λ (s : Kept g.row.D.Denot). accept (standing_in s) c.args.command.now ≡ Err c.in-Err.refusal) c.self.view_is
+      subst (λ (s : StoreValue g.row.D.Denot). accept (standing_in s) c.args.command.now ≡ Err c.in-Err.refusal) c.self.view_is
       ((c.in-Err.ensures.refused c.in-Err.refusal).0 refl)
 
 pub returns-in-Err-clause-refused : goal.returns-in-Err-clause-refused
@@ -48,7 +48,7 @@ returns-in-Err-clause-full g c = (λ same. absurd cc, λ full. absurd (let both 
 
 module _ (g : Over) (c : After-keep g) where
   fits : IsOk (accept (standing_in c.args.self.now) c.args.command.now)
-  fits = subst (λ (s : Kept g.row.D.Denot). IsOk (accept (standing_in s) c.args.command.now)) c.self.view_is c.in_default.ensures.fits
+  fits = subst (λ (s : StoreValue g.row.D.Denot). IsOk (accept (standing_in s) c.args.command.now)) c.self.view_is c.in_default.ensures.fits
 
   has : record_of c.args.command.now ≡ Some c.unwrap-value.result
   has = sym c.command.ensures ∙ c.unwrap-value.ensures
@@ -69,8 +69,8 @@ pub unwrap-requires : goal.unwrap-requires
 unwrap-requires g c =
     let same = ap (λ s. s.held) c.self-2.view_is ∙ c.keep.ensures.standing in
     let fit = fits g (goal.at.unwrap-requires g c).After-keep in
-    not_refused c.accept.result (accept (standing_at c.self-2.inside.standing) c.args.command.now)
-    (subst (λ (h : Held). IsOk (accept (standing_at h) c.args.command.now)) (sym same) fit) c.accept.ensures.refused
+    not_refused c.accept.result (accept (standing_of c.self-2.inside.standing) c.args.command.now)
+    (subst (λ (h : StandingValue). IsOk (accept (standing_of h) c.args.command.now)) (sym same) fit) c.accept.ensures.refused
 
 -- ---- and so it was applied
 
@@ -81,16 +81,16 @@ returns-clause-any_moment g c honest stored =
     ((rw (← c.self-2.view_is) at c.keep.ensures.any_moment) honest stored)
 
 module _ (g : Over) (c : After-accept g) (applied : c.accept.result ≡ Ok tt) where
-  accepts : accept (standing_in c.args.self.now) c.args.command.now ≡ Ok (standing_at c.accept.new.self)
+  accepts : accept (standing_in c.args.self.now) c.args.command.now ≡ Ok (standing_of c.accept.new.self)
   accepts =
       let same = ap (λ s. s.held) c.self-2.view_is ∙ c.keep.ensures.standing in
-      subst (λ (h : Held). accept (standing_at h) c.args.command.now ≡ Ok (standing_at c.accept.new.self)) same
+      subst (λ (h : StandingValue). accept (standing_of h) c.args.command.now ≡ Ok (standing_of c.accept.new.self)) same
       (rw applied at c.accept.ensures.accepted)
 
   follows : record_of c.args.command.now ≡ Some c.unwrap-value.result
-      → followed (standing_in c.args.self.now) c.unwrap-value.result ≡ Some (standing_at c.accept.new.self)
+      → followed (standing_in c.args.self.now) c.unwrap-value.result ≡ Some (standing_of c.accept.new.self)
   follows made =
-      accepted-follows (standing_in c.args.self.now) (standing_at c.accept.new.self) c.args.command.now c.unwrap-value.result made accepts
+      accepted-follows (standing_in c.args.self.now) (standing_of c.accept.new.self) c.args.command.now c.unwrap-value.result made accepts
 
 pub returns-clause-stored : goal.returns-clause-stored
 returns-clause-stored g c honest stored =
@@ -101,5 +101,5 @@ returns-clause-stored g c honest stored =
 pub returns-clause-kept : goal.returns-clause-kept
 returns-clause-kept g c honest stored =
     let at = goal.at.returns-clause-kept g c in
-    (rw (← c.self-2.view_is) at c.in_default-keep.ensures.kept) honest stored (standing_at c.accept.new.self)
+    (rw (← c.self-2.view_is) at c.in_default-keep.ensures.kept) honest stored (standing_of c.accept.new.self)
     (follows g at.After-accept c.unwrap.ensures (has g at.After-keep))

@@ -2,7 +2,7 @@ use Rattle.std.proofs.Common.{inl}
 use Rattle.macs_disk.proofs.Moments.{Leaves-start}
 use Rattle.macs_journal.proofs.Holding.{on_ok}
 use Rattle.macs_store.specs.Found.{IsBeforeOrAfter}
-use Rattle.macs_store.specs.Kept.{standing_in}
+use Rattle.macs_store.specs.Value.{disk_in, standing_in}
 use Rattle.macs_store.proofs.Keeping.{append-image, append-leaves, append-stored, stored-image}
 use Rattle.macs_store.proofs.store.Store.keep.Goals as goal
 
@@ -10,14 +10,14 @@ pub returns-then-is_stopped-clause-any_moment : goal.returns-then-is_stopped-cla
 returns-then-is_stopped-clause-any_moment g c honest stored after follows =
     let d = g.D.SectorDisk.disk in
     let self = c.args.self.now in
-    Leaves-start (d self.journal.disk) (IsBeforeOrAfter (standing_in self) after)
+    Leaves-start (disk_in d self) (IsBeforeOrAfter (standing_in self) after)
     (λ image left. inl (stored-image d self stored image left))
 
 pub returns-then-is_full-clause-any_moment : goal.returns-then-is_full-clause-any_moment
 returns-then-is_full-clause-any_moment g c honest stored after follows =
     let d = g.D.SectorDisk.disk in
     let self = c.args.self.now in
-    Leaves-start (d self.journal.disk) (IsBeforeOrAfter (standing_in self) after)
+    Leaves-start (disk_in d self) (IsBeforeOrAfter (standing_in self) after)
     (λ image left. inl (stored-image d self stored image left))
 
 pub returns-clause-any_moment : goal.returns-clause-any_moment

@@ -1,5 +1,5 @@
 -- An endpoint in memory, and what its disk holds.
-use Rattle.std.specs.Prelude.{◌≡◌, ◌≤◌, ◌+◌, ◌/◌, ◌^◌, ℕ, false, List, Option, Some, None}
+use Rattle.std.specs.Prelude.{◌≡◌, ◌≤◌, ◌+◌, ◌/◌, ◌^◌, ℕ, Bool, false, List, Option, Some, None}
 use Rattle.macs_config.specs.Identity.{Identity, IsIdentity}
 use Rattle.macs_config.specs.declared.command.Command.{Command}
 use Rattle.macs_disk.specs.Disk.{Disk, MayLeave}
@@ -9,28 +9,41 @@ use Rattle.macs_txsc.specs.View as txsc
 use Rattle.macs_txsc.specs.declared.channel.Tx.{Tx}
 use Rattle.macs_rxsc.specs.Receive.{Numbers}
 use Rattle.macs_rxsc.specs.View as rxsc
-use Rattle.macs_store.specs.Kept.{IsStored, standing_in}
-use Rattle.macs_store.specs.Kept as store
+use Rattle.macs_store.specs.Value.{IsStored, StoreValue, standing_in}
+use Rattle.macs_store.specs.Value as store
 use Rattle.macs_store.specs.Standing.{Standing}
 use Rattle.macs_endpoint.specs.Restart.{Fits, rx_limit}
 use Rattle.macs_endpoint.specs.State.{Logs, State, receiving, transmitting}
 
--- what an endpoint keeps
-pub record Kept (D : Type 0) : Type 0 where
-  pub store : store.Kept D
+-- what an endpoint keeps: its store, its channels, and the command whose work a device fault cut short
+pub record EndpointValue (D : Type 0) : Type 0 where
+  pub store : StoreValue D
   pub tx : Tx
   pub rx : rxsc.Kept
   pub in_hand : Option Command
 
+-- its disk
+abbrev pub device_in : {D : Type 0} → EndpointValue D → D
+device_in e = store.device_in e.store
+
+-- and what that is, by what a disk of this kind is
+abbrev pub disk_in : {D : Type 0} → (D → Disk) → EndpointValue D → Disk
+disk_in disk_of e = store.disk_in disk_of e.store
+
+-- a device call failed: no other is made
+abbrev pub is_stopped : {D : Type 0} → EndpointValue D → Bool
+is_stopped e = store.is_stopped e.store
+
 -- its state, after these logs
-abbrev pub state_of : {D : Type 0} → Kept D → Logs → State
+abbrev pub state_of : {D : Type 0} → EndpointValue D → Logs → State
 state_of e logs = record {
+  edition = (standing_in e.store).edition;
   identity = (standing_in e.store).identity;
   config = (standing_in e.store).config;
   next = (txsc.side_of e.tx).next;
   numbers = (rxsc.side_of e.rx).numbers;
   logs = logs;
-  stopped = e.store.journal.stopped;
+  stopped = is_stopped e;
   in_hand = e.in_hand;
 }
 
@@ -62,21 +75,18 @@ pub record AreWithin (tx : Tx) (rx : rxsc.Kept) (identity : Identity) : Type 0 w
       → IsRxWithin identity.rx_block ((rxsc.side_of rx).numbers sci an) (rxsc.ceilings_of rx sci an)
 
 -- and nothing is in hand unless a device call failed
-pub record IsKept {D : Type 0} (e : Kept D) : Type 0 where
+pub record IsSoundEndpoint {D : Type 0} (e : EndpointValue D) : Type 0 where
   pub identity : IsIdentity (standing_in e.store).identity
   pub channels : AreChannels e.tx e.rx (standing_in e.store)
   pub within : AreWithin e.tx e.rx (standing_in e.store).identity
-  pub idle : e.store.journal.stopped ≡ false → e.in_hand ≡ None
+  pub idle : is_stopped e ≡ false → e.in_hand ≡ None
 
 -- ---- what its disk holds
 
-abbrev pub disk_in : {D : Type 0} → (D → Disk) → Kept D → Disk
-disk_in disk_of e = disk_of e.store.journal.disk
-
 -- The disk, by what a disk of this kind is, holds what stands in memory, unless a device call failed; and what a power loss
 -- leaves now fits the state
-pub record IsBacked {D : Type 0} (disk_of : D → Disk) (e : Kept D) : Type 0 where
+pub record IsBacked {D : Type 0} (disk_of : D → Disk) (e : EndpointValue D) : Type 0 where
   pub size : least_sectors ≤ (disk_in disk_of e).sectors
-  pub stored : e.store.journal.stopped ≡ false → IsStored disk_of e.store
+  pub stored : is_stopped e ≡ false → IsStored disk_of e.store
   pub fits : (logs : Logs) (image : Image) → MayLeave (disk_in disk_of e) image
-      → Fits (disk_in disk_of e).sectors image (state_of e logs)
+      → Fits (state_of e logs).edition (disk_in disk_of e).sectors image (state_of e logs)

@@ -1,0 +1,53 @@
+-- A store in memory, and what stands on its disk.
+use Rattle.std.specs.Prelude.{◌≡◌, ℕ, Bool, Some, Result, Err}
+use Rattle.macs_config.specs.Config.{this_edition}
+use Rattle.macs_disk.specs.Disk.{FailsOnce, Works}
+use Rattle.macs_disk.specs.Disk as disk
+use Rattle.macs_journal.specs.Found.{Content}
+use Rattle.macs_journal.specs.Value.{Holds, JournalValue}
+use Rattle.macs_journal.specs.Value as journal
+use Rattle.macs_store.specs.Replay.{meaning_of}
+use Rattle.macs_store.specs.Standing.{Standing}
+use Rattle.macs_store.specs.Table.{StandingValue, standing_of}
+use Rattle.macs_store.specs.declared.fault.CommitFault.{CommitFault}
+use Rattle.macs_store.specs.declared.fault.CommitFault.TheVariants.{Disk}
+
+-- what a store keeps
+pub record StoreValue (D : Type 0) : Type 0 where
+  pub journal : JournalValue D
+  pub held : StandingValue
+
+-- what stands in memory
+abbrev pub standing_in : {D : Type 0} → StoreValue D → Standing
+standing_in s = standing_of s.held
+
+-- its disk
+abbrev pub device_in : {D : Type 0} → StoreValue D → D
+device_in s = journal.device_in s.journal
+
+-- and what that is, by what a disk of this kind is
+abbrev pub disk_in : {D : Type 0} → (D → disk.Disk) → StoreValue D → disk.Disk
+disk_in disk_of s = journal.disk_in disk_of s.journal
+
+-- a device call failed: no other is made
+abbrev pub is_stopped : {D : Type 0} → StoreValue D → Bool
+is_stopped s = journal.is_stopped s.journal
+
+-- how many slots of the journal's current area are used
+abbrev pub used_slots : {D : Type 0} → StoreValue D → ℕ
+used_slots s = journal.used_slots s.journal
+
+-- the disk, by what a disk of this kind is, holds what stands in memory, and nothing is in hand
+pub record IsStored {D : Type 0} (disk_of : D → disk.Disk) (s : StoreValue D) : Type 0 where
+  pub content : Content
+  pub holding : Holds disk_of s.journal content
+  pub stands : meaning_of this_edition content ≡ Some (standing_in s)
+
+-- calls of the disk, the last of which failed exactly where this is answered as Disk
+abbrev pub CommitFails : disk.Disk → disk.Disk → Result (Unit {0}) CommitFault → Type 0
+CommitFails old new (Err Disk) = FailsOnce old new
+CommitFails old new result = new.failures ≡ old.failures
+
+pub record IsCommitOf (old new : disk.Disk) (result : Result (Unit {0}) CommitFault) : Type 0 where
+  pub works : Works old new
+  pub fails : CommitFails old new result
