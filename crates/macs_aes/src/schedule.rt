@@ -1,6 +1,6 @@
 //! The key expansion (FIPS 197, 5.2).
 
-ghost use Rattle.std.specs.Prelude.{◌≡◌, ◌<◌, ◌≤◌, List, ℕ};
+ghost use Rattle.std.specs.Prelude.{◌≡◌, ◌<◌, ◌≤◌, List, ℕ, length};
 ghost use Rattle.macs_aes.specs.KeyExpansion.{from_previous, key_word, key_words};
 ghost use Rattle.macs_aes.specs.KeyExpansion.{round_constant, sub_word};
 
@@ -51,7 +51,7 @@ fn round_constant(j: usize) -> u32
 fn from_previous(i: usize, word: u32) -> u32
     requires first { 4 ≤ i }
     requires last { i < WORDS }
-    ensures { result ≡ from_previous i word }
+    ensures { result ≡ from_previous 4 i word }
 {
     if i % 4 == 0 {
         sub_word(word.rotate_left(8)) ^ round_constant(i / 4)
@@ -93,9 +93,10 @@ impl Schedule {
         }
     }
 
-    /// The words w\[0\] to w\[43\] of the key expansion.
+    /// The words w\[0\] to w\[43\] of the key expansion of 16 octets.
     pub(crate) fn words(&self) -> &[u32; WORDS]
-        ensures { result.now ≡ key_words self.now }
+        ensures words { result.now ≡ key_words self.now }
+        ensures key { length self.now ≡ 16 }
     {
         &self.words
     }

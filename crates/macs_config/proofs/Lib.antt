@@ -8,3 +8,4 @@ pub mod Kept
 pub mod Replayed
 pub mod Refused
 pub mod SpentForGood
+pub mod Editions

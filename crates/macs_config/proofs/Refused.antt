@@ -1,19 +1,43 @@
 -- What is refused by exactly the first refusal.
-use Rattle.std.proofs.Common.{◌≡◌, ◌↔◌, Option, Some, None, Result, Ok, Err, refl}
+use Rattle.std.proofs.Common.{◌≡◌, ◌∙◌, ◌↔◌, Option, Some, None, Result, Ok, Err, IfOk, refl, ap, subst, sym}
 use Rattle.macs_config.specs.Apply.{unless}
 use Rattle.macs_config.specs.Config.{Config}
 use Rattle.macs_config.specs.declared.refusal.Refusal.{Refusal}
 
--- an error is that refusal
-pub refused_by : (first : Option Refusal) (refusal : Refusal) → first ≡ Some refusal
-    → (other : Refusal) → (◌≡◌ {A = Result (Unit {0}) Refusal} (Err refusal) (Err other)) ↔ (first ≡ Some other)
-refused_by first refusal is other = (λ e. cc, λ e. cc)
+unless_refused : {X : Type 0} (first : Option Refusal) (answer : X) (refusal : Refusal) → (first ≡ Some refusal) ↔ (unless first answer ≡ Err refusal)
+unless_refused None answer refusal = (λ e. cc, λ e. cc)
+unless_refused (Some first) answer refusal = (λ e. cc, λ e. cc)
 
-unless_refused : (first : Option Refusal) (made : Config) (refusal : Refusal) → (first ≡ Some refusal) ↔ (unless first made ≡ Err refusal)
-unless_refused None made refusal = (λ e. cc, λ e. cc)
-unless_refused (Some first) made refusal = (λ e. cc, λ e. cc)
+unless_answered : {X : Type 0} (first : Option Refusal) (answer : X) → IfOk (unless first answer) (λ x. x ≡ answer)
+unless_answered None answer = refl
+unless_answered (Some refusal) answer = tt
 
-module _ (first : Option Refusal) (made : Config) (result : Result (Unit {0}) Refusal)
+-- where nothing is refused, there is the answer
+pub taken_by : {X : Type 0} (first : Option Refusal) (answer : X) → first ≡ None → unless first answer ≡ Ok answer
+taken_by None answer is = refl
+taken_by (Some refusal) answer is = cc
+
+module _ {X : Type 0} (first : Option Refusal) (answer : X) (result : Result X Refusal) (is : result ≡ unless first answer) where
+  -- an error is the first refusal
+  pub refused_unless : (refusal : Refusal) → (result ≡ Err refusal) ↔ (first ≡ Some refusal)
+  refused_unless refusal =
+      let by_first = unless_refused first answer refusal in
+      (λ e. by_first.1 (sym is ∙ e), λ e. is ∙ by_first.0 e)
+
+  -- and otherwise there is the answer
+  pub answered_unless : IfOk result (λ x. x ≡ answer)
+  answered_unless = subst (λ (r : Result X Refusal). IfOk r (λ x. x ≡ answer)) (sym is) (unless_answered first answer)
+
+-- the refusal of a check, handed on
+pub handed_on : {X : Type 0} (first : Option Refusal) (made : Config) (result : Result X Refusal) (was : Refusal)
+    → first ≡ Some was → result ≡ Err was → (refusal : Refusal) → (result ≡ Err refusal) ↔ (unless first made ≡ Err refusal)
+handed_on first made result was by_check risen refusal =
+    let by_made = unless_refused first made refusal in (
+      λ e. let same : was ≡ refusal = cc in by_made.0 (by_check ∙ ap Some same),
+      λ e. let found = by_made.1 e in let same : was ≡ refusal = cc in risen ∙ ap Err same,
+    )
+
+module _ {X : Type 0} (first : Option Refusal) (made : Config) (result : Result X Refusal)
     (exact : (refusal : Refusal) → (result ≡ Err refusal) ↔ (first ≡ Some refusal)) where
   -- the refusals of a command are those of its check
   pub refused_exactly : (refusal : Refusal) → (result ≡ Err refusal) ↔ (unless first made ≡ Err refusal)
@@ -22,17 +46,10 @@ module _ (first : Option Refusal) (made : Config) (result : Result (Unit {0}) Re
       let by_made = unless_refused first made refusal in
       (λ e. by_made.0 (by_first.0 e), λ e. by_first.1 (by_made.1 e))
 
-  none_by : (other : Option Refusal) → first ≡ other → result ≡ Ok tt → other ≡ None
-  none_by None is ok = refl
-  none_by (Some refusal) is ok = let e = (exact refusal).1 is in cc
+  none_by : (other : Option Refusal) (answer : X) → first ≡ other → result ≡ Ok answer → other ≡ None
+  none_by None answer is ok = refl
+  none_by (Some refusal) answer is ok = let e = (exact refusal).1 is in cc
 
-  -- a command that its check takes has none
-  pub not_refused : result ≡ Ok tt → first ≡ None
-  not_refused ok = none_by first refl ok
-
-  taken_by : (other : Option Refusal) → other ≡ None → unless other made ≡ Ok made
-  taken_by None is = refl
-  taken_by (Some refusal) is = cc
-
-  pub applied : result ≡ Ok tt → unless first made ≡ Ok made
-  applied ok = taken_by first (not_refused ok)
+  -- a command that its check takes is applied
+  pub applied : {answer : X} → result ≡ Ok answer → unless first made ≡ Ok made
+  applied {answer} ok = taken_by first made (none_by first answer refl ok)

@@ -1,7 +1,7 @@
 -- Spent keys stay.
-use Rattle.std.proofs.Common.{◌≡◌, ◌∙◌, ℕ, List, [], ◌∷◌, ◌++◌, Option, Some, None, Ok, refl, ap, sym, subst}
+use Rattle.std.proofs.Common.{◌≡◌, ◌++◌, Ok, refl, sym, subst}
 use Rattle.std.proofs.lemmas.List.{append-nil}
-use Rattle.macs_config.specs.Apply.{apply, changed, refusal_of, spends, unless}
+use Rattle.macs_config.specs.Apply.{apply, changed, refusal_of, spends}
 use Rattle.macs_config.specs.Config.{Config, Edition, spent_of}
 use Rattle.macs_config.specs.Identity.{Identity}
 use Rattle.macs_config.specs.declared.command.Command.{Command}

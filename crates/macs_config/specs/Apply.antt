@@ -155,13 +155,20 @@ changed c (RxInstall sci an key start offset) = record c {
 }
 changed c (RxRemove sci an) = record c { rx = put_at c.rx sci (put (c.rx sci) an None) }
 
-abbrev pub unless : Option Refusal → Config → Result Config Refusal
-unless None c = Ok c
-unless (Some refusal) c = Err refusal
+-- an answer, where nothing is refused
+abbrev pub unless : {X : Type 0} → Option Refusal → X → Result X Refusal
+unless None answer = Ok answer
+unless (Some refusal) answer = Err refusal
 
 -- the configuration after a command, or the first refusal that holds
 abbrev pub apply : Edition → Identity → Config → Command → Result Config Refusal
 apply edition identity c command = unless (refusal_of edition identity c command) (changed c command)
+
+-- the fingerprint that a command spends, if it installs
+abbrev pub fingerprint_of : Command → Option (List ℕ)
+fingerprint_of (TxInstall an key start confidential offset) = Some (tx_fingerprint key)
+fingerprint_of (RxInstall sci an key start offset) = Some (rx_fingerprint sci key)
+fingerprint_of command = None
 
 -- the fingerprint that a command spends on a side, if it installs there
 abbrev pub spends : Role → Command → List (List ℕ)

@@ -6,3 +6,4 @@ pub mod Apply
 pub mod Snapshot
 pub mod Stored
 pub mod Places
+pub mod Filter

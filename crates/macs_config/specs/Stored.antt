@@ -26,8 +26,8 @@ read c = record {
   tx = λ an. get_or c.tx an None;
   channels = map (λ (channel : Channel). channel.sci) c.channels.items;
   rx = rx_at c.channels.items;
-  spent_tx = c.spent_tx.items;
-  spent_rx = c.spent_rx.items;
+  spent_tx = c.spent_tx;
+  spent_rx = c.spent_rx;
 }
 
 abbrev pub config_of : Stored → Config

@@ -1,21 +1,22 @@
 //! What a command does.
 
 ghost use Rattle.std.specs.Prelude.{◌≡◌, None, Some};
-ghost use Rattle.macs_config.specs.Apply.{changed, chosen, offset_at, refusal_of};
-ghost use Rattle.macs_config.specs.Config.{first_edition};
+ghost use Rattle.macs_config.specs.Apply.{changed, chosen, fingerprint_of, offset_at, refusal_of};
+ghost use Rattle.macs_config.specs.Config.{this_edition};
 ghost use Rattle.macs_config.specs.Identity.{Identity};
 ghost use Rattle.macs_config.specs.Stored.{read};
 ghost use Rattle.macs_config.specs.declared.command.Command.TheVariants.{RxInstall, TxInstall};
 
 use crate::association::{Protection, RxSa, TxSa};
+use crate::checked::Checked;
 use crate::command::{Command, Replay};
 use crate::contents::Contents;
-use crate::fingerprint::{rx_fingerprint, tx_fingerprint};
 use macs_frame::{An, Offset, Sci};
 
-/// Does what a command asks for that is not refused.
-pub(crate) fn change(contents: &mut Contents, command: &Command)
-    requires { (identity : Identity) × (refusal_of first_edition identity (read contents.old) command.now ≡ None) }
+/// Does what a command asks for that is not refused, by what its check found.
+pub(crate) fn change(contents: &mut Contents, command: &Command, checked: &Checked)
+    requires checked { checked.now ≡ fingerprint_of command.now }
+    requires fits { (identity : Identity) × (refusal_of this_edition identity (read contents.old) command.now ≡ None) }
     ensures { read contents.new ≡ changed (read contents.old) command.now }
 {
     match *command {
@@ -31,7 +32,7 @@ pub(crate) fn change(contents: &mut Contents, command: &Command)
         } => {
             let protection = Protection::new(confidential, chosen(offset));
             contents.put_tx(an, Some(TxSa { key, protection }));
-            contents.spend_tx(tx_fingerprint(&key));
+            contents.spend_tx(checked.fingerprint().unwrap());
         }
         Command::TxUse { an } => contents.encoding = Some(an),
         Command::TxRemove { an } => contents.put_tx(an, None),
@@ -46,7 +47,7 @@ pub(crate) fn change(contents: &mut Contents, command: &Command)
         } => {
             let offset = chosen(offset);
             contents.put_rx(sci, an, Some(RxSa { key, offset }));
-            contents.spend_rx(rx_fingerprint(sci, &key));
+            contents.spend_rx(checked.fingerprint().unwrap());
         }
         Command::RxRemove { sci, an } => contents.put_rx(sci, an, None),
     }

@@ -1,58 +1,70 @@
 //! Whether a command may be applied.
 
 ghost use Rattle.std.specs.Prelude.{◌≡◌, ◌==◌, ◌||◌, ◌&&◌, Some, None, not, length, nat_le, if◌then◌else◌, is_none};
-ghost use Rattle.macs_config.specs.Apply.{offset_at, refusal_of};
-ghost use Rattle.macs_config.specs.Config.{first_edition, is_spent, max_spent};
+ghost use Rattle.macs_config.specs.Apply.{fingerprint_of, offset_at, refusal_of, unless};
+ghost use Rattle.macs_config.specs.Config.{is_spent, max_spent, rx_fingerprint, this_edition, tx_fingerprint};
 ghost use Rattle.macs_config.specs.Identity.{is_port_one};
 ghost use Rattle.macs_config.specs.Stored.{read};
 ghost use Rattle.macs_config.specs.declared.command.Command.TheVariants.{SetSciMode, TxInstall, TxUse, TxRemove, RxAdd, RxDrop, RxInstall, RxRemove};
 ghost use Rattle.macs_config.specs.declared.refusal.Refusal.TheVariants.{KeySpent, SpentFull};
 
+use crate::checked::Checked;
 use crate::command::{Command, SciMode};
-use crate::contents::{Contents, MAX_CHANNELS, MAX_SPENT};
-use crate::fingerprint::{Fingerprint, is_spent, rx_fingerprint, tx_fingerprint};
+use crate::contents::{Contents, MAX_CHANNELS};
+use crate::fingerprint::{Fingerprint, rx_fingerprint, tx_fingerprint};
 use crate::identity::Identity;
 use crate::refusal::Refusal;
+use crate::spent_keys::{MAX_SPENT, SpentKeys};
 use macs_frame::{An, Offset, Sci};
 
 /// The port of an end station's SCI (IEEE Std 802.1AE-2018, 9.5).
 const END_STATION_PORT: [u8; 2] = [0, 1];
 
-/// The first refusal of a command, in the order of `Refusal`.
-pub(crate) fn refusal_of(
+/// What a command spends, or its first refusal in the order of `Refusal`.
+pub(crate) fn check(
     contents: &Contents,
     identity: &Identity,
     command: &Command,
-) -> Option<Refusal>
-    ensures { result ≡ refusal_of first_edition identity.now (read contents.now) command.now }
+) -> Result<Checked, Refusal>
+    ensures { result ≡ unless (refusal_of this_edition identity.now (read contents.now) command.now) (fingerprint_of command.now) }
 {
     match *command {
-        Command::SetValidate(_) | Command::SetReplay { .. } => None,
-        Command::SetSciMode(mode) => sci_mode_refusal(identity, mode),
+        Command::SetValidate(_) | Command::SetReplay { .. } => Ok(Checked::new(None)),
+        Command::SetSciMode(mode) => without_key(sci_mode_refusal(identity, mode)),
         Command::TxInstall {
             an,
             key,
             start,
             confidential,
             offset,
-        } => tx_install_refusal(contents, an, &key, start, confidential, offset),
-        Command::TxUse { an } => tx_use_refusal(contents, an),
-        Command::TxRemove { an } => tx_remove_refusal(contents, an),
-        Command::RxAdd { sci } => rx_add_refusal(contents, identity, sci),
-        Command::RxDrop { sci } => rx_drop_refusal(contents, sci),
+        } => check_tx_install(contents, an, &key, start, confidential, offset),
+        Command::TxUse { an } => without_key(tx_use_refusal(contents, an)),
+        Command::TxRemove { an } => without_key(tx_remove_refusal(contents, an)),
+        Command::RxAdd { sci } => without_key(rx_add_refusal(contents, identity, sci)),
+        Command::RxDrop { sci } => without_key(rx_drop_refusal(contents, sci)),
         Command::RxInstall {
             sci,
             an,
             key,
             start,
             offset,
-        } => rx_install_refusal(contents, sci, an, &key, start, offset),
-        Command::RxRemove { sci, an } => rx_remove_refusal(contents, sci, an),
+        } => check_rx_install(contents, sci, an, &key, start, offset),
+        Command::RxRemove { sci, an } => without_key(rx_remove_refusal(contents, sci, an)),
+    }
+}
+
+/// What the check of a command that spends no key answers.
+fn without_key(refusal: Option<Refusal>) -> Result<Checked, Refusal>
+    ensures { result ≡ unless refusal None }
+{
+    match refusal {
+        Some(refusal) => Err(refusal),
+        None => Ok(Checked::new(None)),
     }
 }
 
 fn sci_mode_refusal(identity: &Identity, mode: SciMode) -> Option<Refusal>
-    ensures { (c : _) → result ≡ refusal_of first_edition identity.now c (SetSciMode mode) }
+    ensures { (c : _) → result ≡ refusal_of this_edition identity.now c (SetSciMode mode) }
 {
     if mode == SciMode::EndStation && !is_port_one(identity.sci()) {
         Some(Refusal::EndStationSci)
@@ -69,30 +81,30 @@ pub(crate) fn is_port_one(sci: Sci) -> bool
     &octets[6..] == END_STATION_PORT.as_slice()
 }
 
-fn tx_install_refusal(
+fn check_tx_install(
     contents: &Contents,
     an: An,
     key: &[u8; 16],
     start: u32,
     confidential: bool,
     offset: u8,
-) -> Option<Refusal>
-    ensures { (identity : _) → result ≡ refusal_of first_edition identity (read contents.now)
-        (TxInstall an key.now start confidential offset) }
+) -> Result<Checked, Refusal>
+    ensures { (identity : _) → result ≡ unless (refusal_of this_edition identity (read contents.now)
+        (TxInstall an key.now start confidential offset)) (Some (tx_fingerprint key.now)) }
 {
     if start == 0 {
-        Some(Refusal::StartRange)
+        Err(Refusal::StartRange)
     } else if is_wrong_offset(confidential, offset) {
-        Some(Refusal::OffsetChoice)
+        Err(Refusal::OffsetChoice)
     } else if contents.tx[an.get() as usize].is_some() {
-        Some(Refusal::SlotTaken)
+        Err(Refusal::SlotTaken)
     } else {
-        key_refusal(contents.spent_tx.as_slice(), &tx_fingerprint(key))
+        check_key(&contents.spent_tx, tx_fingerprint(key))
     }
 }
 
 fn tx_use_refusal(contents: &Contents, an: An) -> Option<Refusal>
-    ensures { (identity : _) → result ≡ refusal_of first_edition identity (read contents.now) (TxUse an) }
+    ensures { (identity : _) → result ≡ refusal_of this_edition identity (read contents.now) (TxUse an) }
 {
     if contents.tx[an.get() as usize].is_some() {
         None
@@ -102,7 +114,7 @@ fn tx_use_refusal(contents: &Contents, an: An) -> Option<Refusal>
 }
 
 fn tx_remove_refusal(contents: &Contents, an: An) -> Option<Refusal>
-    ensures { (identity : _) → result ≡ refusal_of first_edition identity (read contents.now) (TxRemove an) }
+    ensures { (identity : _) → result ≡ refusal_of this_edition identity (read contents.now) (TxRemove an) }
 {
     if contents.tx[an.get() as usize].is_none() {
         Some(Refusal::SlotEmpty)
@@ -114,7 +126,7 @@ fn tx_remove_refusal(contents: &Contents, an: An) -> Option<Refusal>
 }
 
 fn rx_add_refusal(contents: &Contents, identity: &Identity, sci: Sci) -> Option<Refusal>
-    ensures { result ≡ refusal_of first_edition identity.now (read contents.now) (RxAdd sci) }
+    ensures { result ≡ refusal_of this_edition identity.now (read contents.now) (RxAdd sci) }
 {
     if sci == identity.sci() {
         Some(Refusal::OwnSci)
@@ -128,7 +140,7 @@ fn rx_add_refusal(contents: &Contents, identity: &Identity, sci: Sci) -> Option<
 }
 
 fn rx_drop_refusal(contents: &Contents, sci: Sci) -> Option<Refusal>
-    ensures { (identity : _) → result ≡ refusal_of first_edition identity (read contents.now) (RxDrop sci) }
+    ensures { (identity : _) → result ≡ refusal_of this_edition identity (read contents.now) (RxDrop sci) }
 {
     if contents.has_channel(sci) {
         None
@@ -137,32 +149,32 @@ fn rx_drop_refusal(contents: &Contents, sci: Sci) -> Option<Refusal>
     }
 }
 
-fn rx_install_refusal(
+fn check_rx_install(
     contents: &Contents,
     sci: Sci,
     an: An,
     key: &[u8; 16],
     start: u32,
     offset: u8,
-) -> Option<Refusal>
-    ensures { (identity : _) → result ≡ refusal_of first_edition identity (read contents.now)
-        (RxInstall sci an key.now start offset) }
+) -> Result<Checked, Refusal>
+    ensures { (identity : _) → result ≡ unless (refusal_of this_edition identity (read contents.now)
+        (RxInstall sci an key.now start offset)) (Some (rx_fingerprint sci key.now)) }
 {
     if start == 0 {
-        Some(Refusal::StartRange)
+        Err(Refusal::StartRange)
     } else if is_wrong_offset(true, offset) {
-        Some(Refusal::OffsetChoice)
+        Err(Refusal::OffsetChoice)
     } else if !contents.has_channel(sci) {
-        Some(Refusal::NoChannel)
+        Err(Refusal::NoChannel)
     } else if contents.rx(sci, an).is_some() {
-        Some(Refusal::SlotTaken)
+        Err(Refusal::SlotTaken)
     } else {
-        key_refusal(contents.spent_rx.as_slice(), &rx_fingerprint(sci, key))
+        check_key(&contents.spent_rx, rx_fingerprint(sci, key))
     }
 }
 
 fn rx_remove_refusal(contents: &Contents, sci: Sci, an: An) -> Option<Refusal>
-    ensures { (identity : _) → result ≡ refusal_of first_edition identity (read contents.now) (RxRemove sci an) }
+    ensures { (identity : _) → result ≡ refusal_of this_edition identity (read contents.now) (RxRemove sci an) }
 {
     if !contents.has_channel(sci) {
         Some(Refusal::NoChannel)
@@ -180,16 +192,16 @@ fn is_wrong_offset(confidential: bool, octets: u8) -> bool
     Offset::new(octets).is_none() || (!confidential && octets != 0)
 }
 
-/// What keeps a new key from being spent among those of its side.
-fn key_refusal(spent: &[Fingerprint], fingerprint: &Fingerprint) -> Option<Refusal>
-    ensures { result ≡ (if is_spent spent.now fingerprint.now then Some KeySpent
-        else if nat_le max_spent (length spent.now) then Some SpentFull else None) }
+/// What a new key spends among those of its side, or what keeps it from being spent.
+fn check_key(spent: &SpentKeys, fingerprint: Fingerprint) -> Result<Checked, Refusal>
+    ensures { result ≡ unless (if is_spent spent.now fingerprint then Some KeySpent
+        else if nat_le max_spent (length spent.now) then Some SpentFull else None) (Some fingerprint) }
 {
-    if is_spent(spent, fingerprint) {
-        Some(Refusal::KeySpent)
+    if spent.contains(&fingerprint) {
+        Err(Refusal::KeySpent)
     } else if spent.len() >= MAX_SPENT {
-        Some(Refusal::SpentFull)
+        Err(Refusal::SpentFull)
     } else {
-        None
+        Ok(Checked::new(Some(fingerprint)))
     }
 }

@@ -1,18 +1,19 @@
 //! The configuration.
 
-ghost use Rattle.std.specs.Prelude.{◌≡◌, ◌≤◌, ◌↔◌, ℕ, List, length, slice_get, IfSome, None, Some, Ok, Err, OnOk, OnErr};
+ghost use Rattle.std.specs.Prelude.{◌≡◌, ◌≤◌, ◌↔◌, ℕ, List, length, slice_get, IfSome, None, Some, Ok, Err, IfOk, OnOk, OnErr};
 ghost use Rattle.std.specs.Option.{option_map};
-ghost use Rattle.macs_config.specs.Apply.{apply, refusal_of};
-ghost use Rattle.macs_config.specs.Config.{IsConfig, default, first_edition, has_channel, is_spent, rx_fingerprint, spent_of, tx_fingerprint};
+ghost use Rattle.macs_config.specs.Apply.{apply, fingerprint_of, refusal_of};
+ghost use Rattle.macs_config.specs.Config.{IsConfig, default, has_channel, is_spent, rx_fingerprint, spent_of, this_edition, tx_fingerprint};
 ghost use Rattle.macs_config.specs.Snapshot.{restored};
 ghost use Rattle.macs_config.specs.Stored.{config_of};
 
 use crate::association::{RxSa, TxSa};
 use crate::change::change;
-use crate::check::refusal_of;
+use crate::check::check;
+use crate::checked::Checked;
 use crate::command::{Command, Replay, Role, SciMode, Validate};
 use crate::contents::{Contents, MAX_CHANNELS};
-use crate::fingerprint::{Fingerprint, is_spent, rx_fingerprint, tx_fingerprint};
+use crate::fingerprint::{Fingerprint, rx_fingerprint, tx_fingerprint};
 use crate::identity::Identity;
 use crate::part::Part;
 use crate::refusal::Refusal;
@@ -31,13 +32,13 @@ pub struct Config {
 
 impl Model for Config {
     ghost use Rattle.macs_config.specs.Stored.{Stored, read};
-    ghost use Rattle.macs_config.specs.Config.{IsConfig, first_edition};
+    ghost use Rattle.macs_config.specs.Config.{IsConfig, this_edition};
 
     ghost Value = { Stored };
 
     ghost view = { λ c. record { identity = c.identity; contents = c.contents } };
 
-    ghost invariant = { λ c. IsConfig first_edition c.identity (read c.contents) };
+    ghost invariant = { λ c. IsConfig this_edition c.identity (read c.contents) };
 }
 
 impl Config {
@@ -60,7 +61,7 @@ impl Config {
     /// association does not stand; or the mode is that of an end station, and the port of the
     /// endpoint's SCI is not 00-01.
     pub fn restore(identity: &Identity, parts: &[Part]) -> Option<Config>
-        ensures restored { option_map config_of result ≡ restored first_edition identity.now parts.now }
+        ensures restored { option_map config_of result ≡ restored this_edition identity.now parts.now }
         ensures identity { IfSome result (λ config. config.identity ≡ identity.now) }
     {
         let contents = restored(identity, parts)?;
@@ -70,34 +71,43 @@ impl Config {
         })
     }
 
-    /// Whether a command may be applied, or the first refusal in the order of `Refusal`.
-    pub fn check(&self, command: &Command) -> Result<(), Refusal>
-        ensures { (refusal : Refusal) → (result ≡ Err refusal)
-            ↔ (refusal_of first_edition self.now.identity (config_of self.now) command.now ≡ Some refusal) }
+    /// What a command that may be applied spends, or the first refusal in the order of `Refusal`.
+    pub fn check(&self, command: &Command) -> Result<Checked, Refusal>
+        ensures refused { (refusal : Refusal) → (result ≡ Err refusal)
+            ↔ (refusal_of this_edition self.now.identity (config_of self.now) command.now ≡ Some refusal) }
+        ensures fits { OnOk result (refusal_of this_edition self.now.identity (config_of self.now) command.now ≡ None) }
+        ensures spends { IfOk result (λ checked. checked ≡ fingerprint_of command.now) }
     {
-        match refusal_of(&self.contents, &self.identity, command) {
-            Some(refusal) => Err(refusal),
-            None => Ok(()),
-        }
+        check(&self.contents, &self.identity, command)
+    }
+
+    /// Applies a command that this configuration does not refuse, by what its check found.
+    pub fn apply_checked(&mut self, command: &Command, checked: Checked)
+        requires fits { refusal_of this_edition self.old.identity (config_of self.old) command.now ≡ None }
+        requires checked { checked ≡ fingerprint_of command.now }
+        ensures applied { apply this_edition self.old.identity (config_of self.old) command.now ≡ Ok (config_of self.new) }
+        ensures identity { self.new.identity ≡ self.old.identity }
+    {
+        change(&mut self.contents, command, &checked);
     }
 
     /// Applies a command. A refusal, the first in the order of `Refusal`, changes nothing.
     pub fn apply(&mut self, command: &Command) -> Result<(), Refusal>
         ensures applied { OnOk result
-            (apply first_edition self.old.identity (config_of self.old) command.now ≡ Ok (config_of self.new)) }
+            (apply this_edition self.old.identity (config_of self.old) command.now ≡ Ok (config_of self.new)) }
         ensures refused { (refusal : Refusal) → (result ≡ Err refusal)
-            ↔ (apply first_edition self.old.identity (config_of self.old) command.now ≡ Err refusal) }
+            ↔ (apply this_edition self.old.identity (config_of self.old) command.now ≡ Err refusal) }
         ensures identity { self.new.identity ≡ self.old.identity }
         ensures same { OnErr result (self.new ≡ self.old) }
     {
-        self.check(command)?;
-        change(&mut self.contents, command);
+        let checked = self.check(command)?;
+        self.apply_checked(command, checked);
         Ok(())
     }
 
     /// What holds of every configuration; and nothing stands at an association number above 3.
     pub fn facts(&self)
-        ensures config { IsConfig first_edition self.now.identity (config_of self.now) }
+        ensures config { IsConfig this_edition self.now.identity (config_of self.now) }
         ensures tx_numbers { (an : ℕ) → 4 ≤ an → (config_of self.now).tx an ≡ None }
         ensures rx_numbers { (sci : List ℕ) (an : ℕ) → 4 ≤ an → (config_of self.now).rx sci an ≡ None }
     {
@@ -189,14 +199,14 @@ impl Config {
     pub fn is_spent_tx(&self, key: &[u8; 16]) -> bool
         ensures { result ≡ is_spent (config_of self.now).spent_tx (tx_fingerprint key.now) }
     {
-        is_spent(self.contents.spent_tx.as_slice(), &tx_fingerprint(key))
+        self.contents.spent_tx.contains(&tx_fingerprint(key))
     }
 
     /// Whether a key of 16 octets is spent for an SCI on the receive side.
     pub fn is_spent_rx(&self, sci: Sci, key: &[u8; 16]) -> bool
         ensures { result ≡ is_spent (config_of self.now).spent_rx (rx_fingerprint sci key.now) }
     {
-        is_spent(self.contents.spent_rx.as_slice(), &rx_fingerprint(sci, key))
+        self.contents.spent_rx.contains(&rx_fingerprint(sci, key))
     }
 
     /// The fingerprint of the key that was spent at this place in the order of installing, counted
@@ -205,8 +215,8 @@ impl Config {
         ensures { result ≡ slice_get (spent_of role (config_of self.now)) at }
     {
         match role {
-            Role::Transmit => self.contents.spent_tx.get(at).copied(),
-            Role::Receive => self.contents.spent_rx.get(at).copied(),
+            Role::Transmit => self.contents.spent_tx.get(at),
+            Role::Receive => self.contents.spent_rx.get(at),
         }
     }
 }

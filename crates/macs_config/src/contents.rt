@@ -3,17 +3,12 @@
 use crate::association::{RxSa, TxSa};
 use crate::command::{Replay, SciMode, Validate};
 use crate::fingerprint::Fingerprint;
+use crate::spent_keys::SpentKeys;
 use arrayvec::ArrayVec;
-use macs_frame::{An, Sci};
+use macs_frame::{ASSOCIATIONS, An, Sci};
 
 /// How many receive channels may stand.
 pub const MAX_CHANNELS: usize = 8;
-
-/// How many keys may be spent on a side.
-pub const MAX_SPENT: usize = 512;
-
-/// How many associations a channel may have.
-pub(crate) const ASSOCIATIONS: usize = 4;
 
 /// A receive channel, with its associations by their numbers.
 #[derive(Default, Drop)]
@@ -53,15 +48,15 @@ pub(crate) struct Contents {
     pub encoding: Option<An>,
     pub tx: [Option<TxSa>; ASSOCIATIONS],
     pub channels: ArrayVec<Channel, MAX_CHANNELS>,
-    pub spent_tx: ArrayVec<Fingerprint, MAX_SPENT>,
-    pub spent_rx: ArrayVec<Fingerprint, MAX_SPENT>,
+    pub spent_tx: SpentKeys,
+    pub spent_rx: SpentKeys,
 }
 
 impl Contents {
     ghost use Rattle.std.specs.Prelude.{◌≡◌, ◌<◌, ◌≤◌, ◌++◌, [], ◌∷◌, ℕ, List, length, true, false, not, None, IfNone, IfSome, take, drop};
     ghost use Rattle.std.specs.List.{filter};
     ghost use Rattle.std.specs.Str.{bytes_eq};
-    ghost use Rattle.macs_config.specs.Config.{default, has_channel, put_among};
+    ghost use Rattle.macs_config.specs.Config.{default, has_channel, max_spent, put_among, this_edition};
     ghost use Rattle.macs_config.specs.Places.{IsPlace};
     ghost use Rattle.macs_config.specs.Stored.{read};
     ghost use Rattle.macs_config.specs.Tables.{put, put_at};
@@ -80,8 +75,8 @@ impl Contents {
             encoding: None,
             tx: [None; ASSOCIATIONS],
             channels: ArrayVec::new(),
-            spent_tx: ArrayVec::new(),
-            spent_rx: ArrayVec::new(),
+            spent_tx: SpentKeys::new(),
+            spent_rx: SpentKeys::new(),
         }
     }
 
@@ -145,7 +140,7 @@ impl Contents {
     /// Adds a receive channel that does not stand yet.
     pub(crate) fn add_channel(&mut self, sci: Sci)
         requires free { has_channel (read self.old) sci ≡ false }
-        requires room { length (read self.old).channels < 8 }
+        requires room { length (read self.old).channels < this_edition.channels }
         ensures { read self.new ≡ record (read self.old) { channels = put_among sci (read self.old).channels } }
     {
         let place = self.place_after(sci);
@@ -179,7 +174,7 @@ impl Contents {
 
     /// Adds a fingerprint to those that are spent on the transmit side.
     pub(crate) fn spend_tx(&mut self, fingerprint: Fingerprint)
-        requires { length (read self.old).spent_tx < 512 }
+        requires { length (read self.old).spent_tx < max_spent }
         ensures { read self.new ≡ record (read self.old) { spent_tx = (read self.old).spent_tx ++ fingerprint ∷ [] } }
     {
         self.spent_tx.push(fingerprint);
@@ -187,7 +182,7 @@ impl Contents {
 
     /// Adds a fingerprint to those that are spent on the receive side.
     pub(crate) fn spend_rx(&mut self, fingerprint: Fingerprint)
-        requires { length (read self.old).spent_rx < 512 }
+        requires { length (read self.old).spent_rx < max_spent }
         ensures { read self.new ≡ record (read self.old) { spent_rx = (read self.old).spent_rx ++ fingerprint ∷ [] } }
     {
         self.spent_rx.push(fingerprint);

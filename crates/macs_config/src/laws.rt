@@ -3,7 +3,7 @@
 
 ghost use Rattle.std.specs.Prelude.{◌≡◌, ◌<◌, ◌^◌, ◌++◌, ℕ, List, length, Some, Ok};
 ghost use Rattle.macs_config.specs.Apply.{IsCommand, IsKey, apply, spends};
-ghost use Rattle.macs_config.specs.Config.{Config, Edition, IsConfig, default, first_edition, spent_of};
+ghost use Rattle.macs_config.specs.Config.{Config, Edition, IsConfig, IsUpTo, default, spent_of, this_edition};
 ghost use Rattle.macs_config.specs.Identity.{Identity, IsIdentity};
 ghost use Rattle.macs_config.specs.Snapshot.{restored};
 ghost use Rattle.macs_config.specs.declared.command.Command.{Command};
@@ -14,7 +14,7 @@ use crate::{Command, Identity};
 
 /// The fields of a command are in their ranges.
 pub fn command_in_range(command: &Command)
-    ensures { IsCommand first_edition command.now }
+    ensures { IsCommand this_edition command.now }
 {
     match *command {
         Command::SetValidate(_) => {}
@@ -56,7 +56,7 @@ pub fn command_in_range(command: &Command)
 
 /// The key and the numbers of a new association are in their ranges.
 fn installs_in_range(key: &[u8; 16], start: u32, offset: u8)
-    ensures key { IsKey first_edition key.now }
+    ensures key { IsKey this_edition key.now }
     ensures start { start < 2 ^ 32 }
     ensures offset { offset < 256 }
 {
@@ -65,7 +65,7 @@ fn installs_in_range(key: &[u8; 16], start: u32, offset: u8)
 
 /// A key of this edition has 16 octets.
 pub fn short_keys()
-    ensures { (key : List ℕ) → IsKey first_edition key → length key ≡ 16 }
+    ensures { (key : List ℕ) → IsKey this_edition key → length key ≡ 16 }
 {}
 
 /// The fields of an identity are in their ranges.
@@ -99,4 +99,26 @@ pub fn spent_for_good()
     ensures { (edition : Edition) (identity : Identity) (old new : Config) (command : Command) (role : Role)
         → apply edition identity old command ≡ Ok new
         → spent_of role new ≡ spent_of role old ++ spends role command }
+{}
+
+/// What an edition applies, one that takes as much or more applies too, and with the same result.
+pub fn larger_applies()
+    ensures { (small large : Edition) → IsUpTo small large
+        → (identity : Identity) (old new : Config) (command : Command)
+        → apply small identity old command ≡ Ok new → apply large identity old command ≡ Ok new }
+{}
+
+/// What an edition restores from a snapshot, one that takes as much or more restores too.
+pub fn larger_restores()
+    ensures { (small large : Edition) → IsUpTo small large
+        → (identity : Identity) (parts : List Part) (c : Config)
+        → restored small identity parts ≡ Some c → restored large identity parts ≡ Some c }
+{}
+
+/// What a configuration or a command of an edition is, it is of one that takes as much or more.
+pub fn larger_has()
+    ensures config { (small large : Edition) → IsUpTo small large
+        → (identity : Identity) (c : Config) → IsConfig small identity c → IsConfig large identity c }
+    ensures command { (small large : Edition) → IsUpTo small large
+        → (command : Command) → IsCommand small command → IsCommand large command }
 {}

@@ -5,6 +5,7 @@
 mod association;
 mod change;
 mod check;
+mod checked;
 mod command;
 mod config;
 mod contents;
@@ -14,12 +15,15 @@ pub mod laws;
 mod part;
 mod refusal;
 mod restore;
+mod spent_keys;
 
 pub use association::{Protection, RxSa, TxSa};
+pub use checked::Checked;
 pub use command::{Command, Replay, Role, SciMode, Validate};
 pub use config::Config;
-pub use contents::{MAX_CHANNELS, MAX_SPENT};
+pub use contents::MAX_CHANNELS;
 pub use fingerprint::Fingerprint;
 pub use identity::Identity;
 pub use part::{Fingerprints, MAX_FINGERPRINTS, Part};
 pub use refusal::Refusal;
+pub use spent_keys::MAX_SPENT;

@@ -4,7 +4,7 @@ ghost use Rattle.std.specs.Prelude.{◌≡◌, ◌+◌, ◌&&◌, ◌<◌, [], �
 ghost use Rattle.std.specs.Option.{option_map, option_map_or};
 ghost use Rattle.std.specs.List.{list_all};
 ghost use Rattle.std.specs.Str.{bytes_eq};
-ghost use Rattle.macs_config.specs.Config.{are_distinct, default, first_edition, has_channel, is_spent, put_among, spent_of, tx_fingerprint};
+ghost use Rattle.macs_config.specs.Config.{are_distinct, default, has_channel, is_spent, max_spent, put_among, spent_of, this_edition, tx_fingerprint};
 ghost use Rattle.macs_config.specs.Identity.{is_port_one};
 ghost use Rattle.macs_config.specs.Snapshot.{are_new, are_ordered, is_rx_spent, is_tx_spent, is_whole, may_follow, numbers, place_of, restored, with_part, with_parts};
 ghost use Rattle.macs_config.specs.Stored.{read};
@@ -14,10 +14,11 @@ ghost use Rattle.macs_config.specs.declared.part.Part.TheVariants.{Spent};
 use crate::association::{RxSa, TxSa};
 use crate::check::is_port_one;
 use crate::command::{Role, SciMode};
-use crate::contents::{Contents, MAX_CHANNELS, MAX_SPENT};
+use crate::contents::{Contents, MAX_CHANNELS};
 use crate::fingerprint::{Fingerprint, is_spent, rx_fingerprint, tx_fingerprint};
 use crate::identity::Identity;
 use crate::part::Part;
+use crate::spent_keys::{MAX_SPENT, SpentKeys};
 use macs_frame::{An, Sci};
 
 /// The place of the first parts behind the settings, in the order of a snapshot.
@@ -25,7 +26,7 @@ const BEHIND_SETTINGS: u8 = 2;
 
 /// What the parts of a snapshot make up, `None` where the snapshot is refused.
 pub(crate) fn restored(identity: &Identity, parts: &[Part]) -> Option<Contents>
-    ensures { option_map read result ≡ restored first_edition identity.now parts.now }
+    ensures { option_map read result ≡ restored this_edition identity.now parts.now }
 {
     let (first, rest) = parts.split_first()?;
     let contents = replayed(identity, settled(first)?, rest)?;
@@ -62,7 +63,7 @@ fn settled(first: &Part) -> Option<Contents>
 /// those in front of it.
 fn replayed(identity: &Identity, mut contents: Contents, parts: &[Part]) -> Option<Contents>
     ensures { option_map read result
-        ≡ (if are_ordered 2 parts.now then with_parts first_edition identity.now (read contents) parts.now else None) }
+        ≡ (if are_ordered 2 parts.now then with_parts this_edition identity.now (read contents) parts.now else None) }
 {
     let mut place = BEHIND_SETTINGS;
     for part in parts {
@@ -97,7 +98,7 @@ fn place_of(part: &Part) -> u8
 
 /// Adds a part, and answers whether it may follow what stands.
 fn add(identity: &Identity, contents: &mut Contents, part: &Part) -> bool
-    ensures test { result ≡ may_follow first_edition identity.now (read contents.old) part.now }
+    ensures test { result ≡ may_follow this_edition identity.now (read contents.old) part.now }
     ensures added { result ≡ true → read contents.new ≡ with_part (read contents.old) part.now }
 {
     match part {
@@ -124,7 +125,7 @@ fn add_tx(contents: &mut Contents, an: An, sa: TxSa) -> bool
 /// Adds a receive channel, and answers whether it is not the own one, did not stand, and fits.
 fn add_channel(identity: &Identity, contents: &mut Contents, sci: Sci) -> bool
     ensures test { result ≡ (not (bytes_eq sci identity.now.sci) && not (has_channel (read contents.old) sci)
-        && nat_lt (length (read contents.old).channels) 8) }
+        && nat_lt (length (read contents.old).channels) this_edition.channels) }
     ensures added { result ≡ true → read contents.new ≡ record (read contents.old) { channels = put_among sci (read contents.old).channels } }
 {
     let is_new = sci != identity.sci() && !contents.has_channel(sci);
@@ -152,7 +153,7 @@ fn add_rx(contents: &mut Contents, sci: Sci, an: An, sa: RxSa) -> bool
 /// Adds spent keys of a side, and answers whether they are new and fit.
 fn add_spent(contents: &mut Contents, role: Role, fingerprints: &[Fingerprint]) -> bool
     ensures test { result ≡ (are_new (spent_of role (read contents.old)) fingerprints.now
-        && nat_le (length (spent_of role (read contents.old)) + length fingerprints.now) 512) }
+        && nat_le (length (spent_of role (read contents.old)) + length fingerprints.now) max_spent) }
     ensures added { result ≡ true → read contents.new ≡ with_part (read contents.old) (Spent role fingerprints.now) }
 {
     let may_follow = may_be_spent(spent_of(contents, role), fingerprints);
@@ -165,18 +166,18 @@ fn add_spent(contents: &mut Contents, role: Role, fingerprints: &[Fingerprint]) 
 }
 
 /// The spent keys of a side.
-fn spent_of(contents: &Contents, role: Role) -> &[Fingerprint]
+fn spent_of(contents: &Contents, role: Role) -> &SpentKeys
     ensures { result.now ≡ spent_of role (read contents.now) }
 {
     match role {
-        Role::Transmit => contents.spent_tx.as_slice(),
-        Role::Receive => contents.spent_rx.as_slice(),
+        Role::Transmit => &contents.spent_tx,
+        Role::Receive => &contents.spent_rx,
     }
 }
 
 /// Adds a spent key of a side.
 fn spend(contents: &mut Contents, role: Role, fingerprint: Fingerprint)
-    requires { length (spent_of role (read contents.old)) < 512 }
+    requires { length (spent_of role (read contents.old)) < max_spent }
     ensures { read contents.new ≡ with_part (read contents.old) (Spent role (fingerprint ∷ [])) }
 {
     match role {
@@ -186,20 +187,20 @@ fn spend(contents: &mut Contents, role: Role, fingerprint: Fingerprint)
 }
 
 /// Whether fingerprints are new beside those that are spent, and fit.
-fn may_be_spent(spent: &[Fingerprint], fingerprints: &[Fingerprint]) -> bool
-    ensures { result ≡ (are_new spent.now fingerprints.now && nat_le (length spent.now + length fingerprints.now) 512) }
+fn may_be_spent(spent: &SpentKeys, fingerprints: &[Fingerprint]) -> bool
+    ensures { result ≡ (are_new spent.now fingerprints.now && nat_le (length spent.now + length fingerprints.now) max_spent) }
 {
     are_new(spent, fingerprints) && spent.len() + fingerprints.len() <= MAX_SPENT
 }
 
 /// Whether no fingerprint comes twice, and none is among those that are spent.
-fn are_new(spent: &[Fingerprint], fingerprints: &[Fingerprint]) -> bool
+fn are_new(spent: &SpentKeys, fingerprints: &[Fingerprint]) -> bool
     ensures { result ≡ are_new spent.now fingerprints.now }
 {
     are_distinct(fingerprints)
         && fingerprints
             .iter()
-            .all(|fingerprint| !is_spent(spent, fingerprint))
+            .all(|fingerprint| !spent.contains(fingerprint))
 }
 
 /// Whether no fingerprint comes twice.
@@ -231,16 +232,16 @@ fn is_whole(identity: &Identity, contents: &Contents) -> bool
 fn are_tx_spent(contents: &Contents) -> bool
     ensures { result ≡ list_all (is_tx_spent (read contents.now)) numbers }
 {
-    let spent = contents.spent_tx.as_slice();
+    let spent = &contents.spent_tx;
     contents.tx.iter().all(|sa| is_tx_spent(spent, sa))
 }
 
 /// Whether the key of a transmit association is spent; true where there is none.
-fn is_tx_spent(spent: &[Fingerprint], sa: &Option<TxSa>) -> bool
+fn is_tx_spent(spent: &SpentKeys, sa: &Option<TxSa>) -> bool
     ensures { result ≡ option_map_or (λ sa. is_spent spent.now (tx_fingerprint sa.key)) sa.now true }
 {
     match sa {
-        Some(sa) => is_spent(spent, &tx_fingerprint(&sa.key)),
+        Some(sa) => spent.contains(&tx_fingerprint(&sa.key)),
         None => true,
     }
 }
@@ -274,7 +275,7 @@ fn is_rx_spent(contents: &Contents, sci: Sci, an: An) -> bool
     ensures { result ≡ is_rx_spent (read contents.now) sci an }
 {
     match contents.rx(sci, an) {
-        Some(sa) => is_spent(contents.spent_rx.as_slice(), &rx_fingerprint(sci, &sa.key)),
+        Some(sa) => contents.spent_rx.contains(&rx_fingerprint(sci, &sa.key)),
         None => true,
     }
 }

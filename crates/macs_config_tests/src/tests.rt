@@ -59,13 +59,13 @@ fn rx_install(rt: &impl Abort, sci: Sci, number: u8, key: [u8; 16]) -> Command {
 
 /// Applies a command that is taken.
 fn take(rt: &impl Abort, config: &mut Config, command: Command) {
-    assert_eq!(rt; config.check(&command), Ok(()));
+    assert!(rt; config.check(&command).is_ok());
     assert_eq!(rt; config.apply(&command), Ok(()));
 }
 
 /// Applies a command that is refused.
 fn refuse(rt: &impl Abort, config: &mut Config, command: Command, refusal: Refusal) {
-    assert_eq!(rt; config.check(&command), Err(refusal));
+    assert!(rt; config.check(&command).err() == Some(refusal));
     assert_eq!(rt; config.apply(&command), Err(refusal));
 }
 

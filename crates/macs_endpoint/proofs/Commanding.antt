@@ -1,6 +1,6 @@
 -- A command that is kept and followed, or refused, or cut short.
-use Rattle.std.proofs.Common.{◌≡◌, ◌≤◌, ◌↔◌, ◌⊎◌, inl, inr, ℕ, Bool, true, false, not, ◌&&◌, if◌then◌else◌, List, Option, Some, None, Result, Ok, Err, is_ok, IsOk, refl, sym, ◌∙◌, ap, subst}
-use Rattle.std.specs.Prelude.{OnErr, OnOk, IsErrOf}
+use Rattle.std.proofs.Common.{◌≡◌, ◌≤◌, ◌⊎◌, inl, inr, ℕ, Bool, true, false, not, ◌&&◌, if◌then◌else◌, List, Option, Some, None, Result, Ok, Err, is_ok, IsOk, refl, sym, ◌∙◌, ap, subst}
+use Rattle.std.specs.Prelude.{IsErrOf}
 use Rattle.macs_config.specs.Apply.{IsCommand, apply}
 use Rattle.macs_config.specs.Config.{Config, this_edition}
 use Rattle.macs_config.specs.Identity.{IsIdentity}
@@ -9,16 +9,17 @@ use Rattle.macs_config.specs.declared.refusal.Refusal.{Refusal}
 use Rattle.macs_disk.specs.Disk.{IsHonest}
 use Rattle.macs_disk.specs.Disk as disk
 use Rattle.macs_disk.specs.Runs.{Leaves}
-use Rattle.macs_disk.proofs.Moments.{Leaves-now, Leaves-start, Leaves-weaker, Works-start}
-use Rattle.macs_journal.specs.Areas.{least_sectors, slots}
+use Rattle.macs_disk.proofs.Moments.{Leaves-now, Leaves-weaker}
+use Rattle.macs_journal.specs.Areas.{least_sectors}
 use Rattle.macs_txsc.specs.View as txsc
 use Rattle.macs_txsc.specs.declared.channel.Tx.{Tx}
 use Rattle.macs_rxsc.specs.Receive.{Numbers}
 use Rattle.macs_rxsc.specs.View as rxsc
 use Rattle.macs_store.specs.Found.{CommitLeaves}
-use Rattle.macs_store.specs.Value.{IsCommitOf, IsStored, standing_in}
+use Rattle.macs_store.specs.Keeps.{Commits}
+use Rattle.macs_store.specs.Value.{standing_in}
 use Rattle.macs_store.specs.Value as store
-use Rattle.macs_store.specs.Standing.{Standing, accept, accepted, ceilings_after}
+use Rattle.macs_store.specs.Standing.{Standing, accepted, ceilings_after}
 use Rattle.macs_store.specs.Table.{standing_of}
 use Rattle.macs_store.specs.declared.fault.CommitFault.{CommitFault}
 use Rattle.macs_store.specs.declared.fault.CommitFault.TheVariants.{AreaFull, Disk, Refused, Stopped}
@@ -31,21 +32,6 @@ use Rattle.macs_endpoint.specs.State.{Accepts, Commands, Logs, Ran, State, halte
 use Rattle.macs_endpoint.specs.Step.{Step, next_after, numbers_after}
 use Rattle.macs_endpoint.proofs.Alone.{alone-call}
 use Rattle.macs_endpoint.proofs.Fitting.{AreAhead, accept-parts, ahead-within, command-ahead, fits-commit, kept-ahead, kept-backed}
-
--- what a store says of a commit
-pub record Commits {D : Type 0} (disk_of : D → disk.Disk) (old : store.StoreValue D) (command : Command) (result : Result (Unit {0}) CommitFault) (new : store.StoreValue D) : Type 0 where
-  pub stopped : IsErrOf result Stopped ↔ (store.is_stopped old ≡ true)
-  pub refused : (refusal : Refusal) → (result ≡ Err (Refused refusal))
-      ↔ ((store.is_stopped old ≡ false) × (accept (standing_in old) command ≡ Err refusal))
-  pub full : IsErrOf result AreaFull ↔ ((store.is_stopped old ≡ false) × IsOk (accept (standing_in old) command) × (store.used_slots old ≡ slots))
-  pub same : OnErr result (IsErrOf result Disk ⊎ (new ≡ old))
-  pub halted : IsErrOf result Disk → (store.is_stopped new ≡ true) × (new.held ≡ old.held)
-  pub running : OnOk result (store.is_stopped new ≡ false)
-  pub done : OnOk result (accept (standing_in old) command ≡ Ok (standing_in new))
-  pub work : IsCommitOf (store.disk_in disk_of old) (store.disk_in disk_of new) result
-  pub any_moment : IsHonest (store.disk_in disk_of new) → IsStored disk_of old
-      → Leaves (store.disk_in disk_of old) (store.disk_in disk_of new) (CommitLeaves (standing_in old) command)
-  pub stored : OnOk result (IsHonest (store.disk_in disk_of new) → IsStored disk_of old → IsStored disk_of new)
 
 -- ---- refusals
 

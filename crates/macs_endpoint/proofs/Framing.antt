@@ -10,7 +10,6 @@ use Rattle.macs_config.specs.Tables.{put}
 use Rattle.macs_config.specs.declared.association.TxSa.{TxSa}
 use Rattle.macs_config.proofs.Tables.{put_all, put_at_all}
 use Rattle.macs_disk.specs.Disk.{Disk}
-use Rattle.macs_disk.proofs.Moments.{Leaves-start, Works-start}
 use Rattle.macs_txsc.specs.Transmit.{Outgoing, TxSide, all_tx_faults, frame_of, is_at_ceiling, numbered, outgoing, outgoing_at, sent_at, sent_side, tx_counted, tx_faults}
 use Rattle.macs_txsc.specs.View as txsc
 use Rattle.macs_txsc.specs.declared.channel.Tx.{Tx}
@@ -29,9 +28,9 @@ use Rattle.macs_rxsc.specs.declared.verdict.Verdict.TheVariants.{Delivered, Disc
 use Rattle.macs_store.specs.Value.{standing_in}
 use Rattle.macs_endpoint.specs.Calls.{IsCall}
 use Rattle.macs_endpoint.specs.Counting.{tx_counters_after}
-use Rattle.macs_endpoint.specs.Value.{EndpointValue, IsRxWithin, IsSoundEndpoint, IsTxWithin, disk_in, is_stopped, state_of}
+use Rattle.macs_endpoint.specs.Value.{EndpointValue, IsRxWithin, IsSoundEndpoint, IsTxWithin, is_stopped, state_of}
 use Rattle.macs_endpoint.specs.Limits.{IsLimited}
-use Rattle.macs_endpoint.specs.Restart.{FitsCall, rx_limit}
+use Rattle.macs_endpoint.specs.Restart.{rx_limit}
 use Rattle.macs_endpoint.specs.State.{Logs, Protects, Protected, Received, State, no_logs, rx_side, transmitting, tx_side}
 use Rattle.macs_endpoint.specs.State as state
 use Rattle.macs_endpoint.specs.Step as life

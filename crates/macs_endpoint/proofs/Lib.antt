@@ -5,6 +5,7 @@ pub mod Turns
 pub mod Formatted
 pub mod Following
 pub mod Rooms
+pub mod Seen
 pub mod Opened
 pub mod Commanding
 pub mod Raising

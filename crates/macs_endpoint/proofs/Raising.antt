@@ -1,6 +1,6 @@
 -- Reservations of packet numbers, one after another.
-use Rattle.std.proofs.Common.{◌≡◌, ◌≤◌, ◌<◌, ◌+◌, ◌-◌, ◌/◌, ◌^◌, ◌⊎◌, ◌↔◌, inl, inr, ℕ, zero, suc, Bool, true, false, cond, ◌&&◌, ◌||◌, List, [], ◌∷◌, map, flat_map, bytes_eq, Option, Some, None, Result, Ok, Err, refl, sym, ◌∙◌, ap, subst, arith}
-use Rattle.std.specs.Prelude.{OnErr, OnOk, IsErrOf, nat_le, nat_lt}
+use Rattle.std.proofs.Common.{◌≡◌, ◌≤◌, ◌<◌, ◌+◌, ◌-◌, ◌/◌, ◌^◌, ◌⊎◌, inl, inr, ℕ, zero, suc, Bool, true, false, cond, ◌&&◌, ◌||◌, List, [], ◌∷◌, map, flat_map, bytes_eq, Option, Some, None, Result, Ok, Err, refl, sym, ◌∙◌, ap, subst, arith}
+use Rattle.std.specs.Prelude.{OnOk, IsErrOf, nat_le, nat_lt}
 use Rattle.std.specs.List.{list_any}
 use Rattle.std.specs.Option.{IfSome, IsSome, is_some, option_map, option_map_or}
 use Rattle.std.proofs.Math.Bool.{and-false}
@@ -16,7 +16,6 @@ use Rattle.macs_disk.specs.Runs.{Leaves}
 use Rattle.macs_disk.specs.States.{Image}
 use Rattle.macs_disk.proofs.Moments.{FailsOnce-before, Leaves-join, Leaves-now, Leaves-start, Leaves-weaker, Works-on, Works-start}
 use Rattle.macs_journal.specs.Areas.{least_sectors, slots}
-use Rattle.macs_journal.specs.Work.{IsWorkOf}
 use Rattle.macs_journal.specs.declared.fault.JournalFault.{JournalFault}
 use Rattle.macs_journal.specs.declared.fault.JournalFault.TheVariants as fault
 use Rattle.macs_txsc.specs.Transmit as transmit
@@ -33,7 +32,8 @@ use Rattle.macs_rxsc.specs.declared.need.RxNeed.{RxNeed}
 use Rattle.macs_rxsc.proofs.Places.{bytes_eq-same}
 use Rattle.macs_rxsc.proofs.Told.{need_shown}
 use Rattle.macs_store.specs.Found.{IsBeforeOrAfter}
-use Rattle.macs_store.specs.Value.{IsStored, standing_in, used_slots}
+use Rattle.macs_store.specs.Keeps.{Keeps}
+use Rattle.macs_store.specs.Value.{standing_in, used_slots}
 use Rattle.macs_store.specs.Value as store
 use Rattle.macs_store.specs.Standing.{Ceilings, Standing, ahead, rx_raised}
 use Rattle.macs_store.specs.Table.{standing_of}
@@ -245,20 +245,6 @@ module _ {D : Type 0} (disk_of : D → disk.Disk) where
 
 -- ---- one ceiling
 
--- what a store says of a reservation that makes this of what stands
-pub record Raises {D : Type 0} (disk_of : D → disk.Disk) (old : store.StoreValue D) (after : Standing) (result : Result (Unit {0}) JournalFault) (new : store.StoreValue D) : Type 0 where
-  pub stopped : IsErrOf result fault.Stopped ↔ (store.is_stopped old ≡ true)
-  pub full : IsErrOf result fault.AreaFull ↔ ((store.is_stopped old ≡ false) × (store.used_slots old ≡ slots))
-  pub names : OnErr result (IsErrOf result fault.Stopped ⊎ (IsErrOf result fault.AreaFull ⊎ IsErrOf result fault.Disk))
-  pub same : OnErr result (IsErrOf result fault.Disk ⊎ (new ≡ old))
-  pub halted : IsErrOf result fault.Disk → (store.is_stopped new ≡ true) × (new.held ≡ old.held)
-  pub running : OnOk result (store.is_stopped new ≡ false)
-  pub done : OnOk result (standing_in new ≡ after)
-  pub work : IsWorkOf (store.disk_in disk_of old) (store.disk_in disk_of new) result
-  pub any_moment : IsHonest (store.disk_in disk_of new) → IsStored disk_of old
-      → Leaves (store.disk_in disk_of old) (store.disk_in disk_of new) (IsBeforeOrAfter (standing_in old) after)
-  pub stored : OnOk result (IsHonest (store.disk_in disk_of new) → IsStored disk_of old → IsStored disk_of new)
-
 -- an image that stands for either ceilings fits
 either_fits : (sectors : ℕ) (image : Image) → least_sectors ≤ sectors → (s : State) (c d : Ceilings) → AreAhead s.identity s.next s.numbers c
     → AreAhead s.identity s.next s.numbers d → IsBeforeOrAfter (standing_with s c) (standing_with s d) image → Fits s.edition sectors image s
@@ -273,7 +259,7 @@ module _ {D : Type 0} (disk_of : D → disk.Disk) (e : EndpointValue D) (kept : 
   abbrev pub raised_to : Standing
   raised_to = record { edition = this_edition; identity = (standing_in e.store).identity; config = (standing_in e.store).config; ceilings = c }
 
-  raise_moments : (s : store.StoreValue D) (result : Result (Unit {0}) JournalFault) → Raises disk_of e.store raised_to result s
+  raise_moments : (s : store.StoreValue D) (result : Result (Unit {0}) JournalFault) → Keeps disk_of e.store raised_to result s
       → IsHonest (store.disk_in disk_of s) → IsBacked disk_of e → (logs : Logs)
       → Leaves (disk_in disk_of e) (store.disk_in disk_of s) (FitsState (state_of e logs) (disk_in disk_of e))
   raise_moments s result raises honest backed logs =
@@ -283,7 +269,7 @@ module _ {D : Type 0} (disk_of : D → disk.Disk) (e : EndpointValue D) (kept : 
       (raises.any_moment honest (backed.stored running))
 
   -- the ceiling was raised
-  module _ (s : store.StoreValue D) (raises : Raises disk_of e.store raised_to (Ok tt) s) (tx : Tx) (rx : rxsc.Kept)
+  module _ (s : store.StoreValue D) (raises : Keeps disk_of e.store raised_to (Ok tt) s) (tx : Tx) (rx : rxsc.Kept)
       (tx_side : txsc.side_of tx ≡ txsc.side_of e.tx) (rx_side : rxsc.side_of rx ≡ rxsc.side_of e.rx)
       (tx_ceilings : txsc.ceilings_of tx ≡ c.tx) (rx_ceilings : rxsc.ceilings_of rx ≡ c.rx) where
     abbrev raised_in : EndpointValue D
@@ -341,7 +327,7 @@ module _ {D : Type 0} (disk_of : D → disk.Disk) (e : EndpointValue D) (kept : 
     abbrev kept_in : EndpointValue D
     kept_in = record { store = s; tx = e.tx; rx = e.rx; in_hand = e.in_hand }
 
-    cut_reserves : Raises disk_of e.store raised_to (Err fault.Disk) s → Reserves disk_of e (Err refill.Disk) kept_in
+    cut_reserves : Keeps disk_of e.store raised_to (Err fault.Disk) s → Reserves disk_of e (Err refill.Disk) kept_in
     cut_reserves raises =
         let same : standing_in s ≡ standing_in e.store = ap standing_of (raises.halted refl).1 in
         let stopped : store.is_stopped s ≡ true = (raises.halted refl).0 in
@@ -400,14 +386,14 @@ module _ {D : Type 0} (disk_of : D → disk.Disk) (e : EndpointValue D) (kept : 
       | inr same ↦ same
     ]
 
-    by_name : (at : JournalFault) → Raises disk_of e.store raised_to (Err at) s
+    by_name : (at : JournalFault) → Keeps disk_of e.store raised_to (Err at) s
         → (at ≡ fault.Stopped) ⊎ ((at ≡ fault.AreaFull) ⊎ (at ≡ fault.Disk))
         → Reserves disk_of e (Err (refill_fault_of at)) kept_in × (standing_in s ≡ standing_in e.store)
         × (store.is_stopped s ≡ false → e.in_hand ≡ None)
     by_name at raises (inl is) = absurd (let told = raises.stopped.0 (ap Err is) in cc)
     by_name at raises (inr (inl is)) =
-        let told : Raises disk_of e.store raised_to (Err fault.AreaFull) s =
-        subst (λ (x : JournalFault). Raises disk_of e.store raised_to (Err x) s) is raises in
+        let told : Keeps disk_of e.store raised_to (Err fault.AreaFull) s =
+        subst (λ (x : JournalFault). Keeps disk_of e.store raised_to (Err x) s) is raises in
         let same = stays fault.AreaFull (λ clash. cc) told.same in (
           subst (λ (x : JournalFault). Reserves disk_of e (Err (refill_fault_of x)) kept_in) (sym is)
               (full_reserves s (sym same) (told.full.0 refl).1),
@@ -415,8 +401,8 @@ module _ {D : Type 0} (disk_of : D → disk.Disk) (e : EndpointValue D) (kept : 
           λ going. kept.idle running,
         )
     by_name at raises (inr (inr is)) =
-        let told : Raises disk_of e.store raised_to (Err fault.Disk) s =
-        subst (λ (x : JournalFault). Raises disk_of e.store raised_to (Err x) s) is raises in (
+        let told : Keeps disk_of e.store raised_to (Err fault.Disk) s =
+        subst (λ (x : JournalFault). Keeps disk_of e.store raised_to (Err x) s) is raises in (
           subst (λ (x : JournalFault). Reserves disk_of e (Err (refill_fault_of x)) kept_in) (sym is) (cut_reserves told),
           ap standing_of (told.halted refl).1,
           λ going. kept.idle running,
@@ -429,12 +415,12 @@ module _ {D : Type 0} (disk_of : D → disk.Disk) (e : EndpointValue D) (kept : 
     named_fault at (inr (inl is)) = inr (inl cc)
     named_fault at (inr (inr is)) = inr (inr cc)
 
-    pub faulted : (at : JournalFault) → Raises disk_of e.store raised_to (Err at) s
+    pub faulted : (at : JournalFault) → Keeps disk_of e.store raised_to (Err at) s
         → Reserves disk_of e (Err (refill_fault_of at)) kept_in × (standing_in s ≡ standing_in e.store)
         × (store.is_stopped s ≡ false → e.in_hand ≡ None)
     faulted at raises = by_name at raises (named_fault at raises.names)
 
-    pub faulted-kept : (at : JournalFault) → Raises disk_of e.store raised_to (Err at) s → IsSoundEndpoint kept_in
+    pub faulted-kept : (at : JournalFault) → Keeps disk_of e.store raised_to (Err at) s → IsSoundEndpoint kept_in
     faulted-kept at raises =
         let told = faulted at raises in
         kept-held e kept s e.in_hand told.1 told.2

@@ -19,7 +19,7 @@ use Rattle.macs_txsc.specs.View.{association_at, sa_of}
 use Rattle.macs_txsc.specs.declared.association.Association.{Association}
 use Rattle.macs_txsc.specs.declared.fault.TxFault.TheVariants.{Runt, TooLong, ForeignSource, NoEncodingSa, Exhausted, NoNumber}
 use Rattle.macs_rxsc.specs.Needs.{Need, is_needed, need_of, needed, raised}
-use Rattle.macs_rxsc.specs.Receive.{Arrival, Arrives, Numbers, RxSide, is_below}
+use Rattle.macs_rxsc.specs.Receive.{Arrival, Arrives, Numbers, is_below}
 use Rattle.macs_rxsc.specs.declared.verdict.Verdict.TheVariants.{HeldBack}
 use Rattle.macs_rxsc.proofs.Steps.{arrives_once}
 use Rattle.macs_store.specs.Value.{standing_in}
@@ -38,13 +38,13 @@ use Rattle.macs_endpoint.proofs.Fitting.{accept-parts, kept-ahead}
 
 -- ---- one place changed
 
-put_other : {X : Type 0} (f : ℕ → X) (at an : ℕ) (x : X) → at ≢ an → put f at x an ≡ f an
+pub put_other : {X : Type 0} (f : ℕ → X) (at an : ℕ) (x : X) → at ≢ an → put f at x an ≡ f an
 put_other f at an x differ = put_all (λ y. y ≡ f an) f at x an (λ same. absurd (differ (sym same))) (λ other. refl)
 
-put_here : {X : Type 0} (f : ℕ → X) (at : ℕ) (x : X) → put f at x at ≡ x
+pub put_here : {X : Type 0} (f : ℕ → X) (at : ℕ) (x : X) → put f at x at ≡ x
 put_here f at x = ap (λ b. cond b x (f at)) (eq-eqb at at refl)
 
-put_at_other : {X : Type 0} (f : List ℕ → X) (at sci : List ℕ) (x : X) → at ≢ sci → put_at f at x sci ≡ f sci
+pub put_at_other : {X : Type 0} (f : List ℕ → X) (at sci : List ℕ) (x : X) → at ≢ sci → put_at f at x sci ≡ f sci
 put_at_other f at sci x differ = put_at_all (λ y. y ≡ f sci) f at x sci (λ same. absurd (differ (sym same))) (λ other. refl)
 
 put_rx_other : (f : List ℕ → ℕ → Option ℕ) (channel sci : List ℕ) (at an : ℕ) (x : Option ℕ) → (channel ≢ sci) ⊎ (at ≢ an)

@@ -36,7 +36,8 @@ pub fn frames_before_no_number<D: SectorDisk>()
 ///
 /// After `refill` answered Ok these are the frames of an association on which a frame was seen, whose
 /// numbers are not above the greatest seen, or below both `next + rx_block / 2 + 1` and
-/// `seen + rx_block`, as they are then. They are not held back while the association stands.
+/// `seen + rx_block`, as they are then. They are not held back while the association stands. So a frame that
+/// was held back is not held back again once a `refill` after it answered Ok, while its association stands.
 pub fn frames_not_held_back<D: SectorDisk>()
     ensures refilled { (old new : EndpointValue D) (sci : List ℕ) (an next lowest seen pn : ℕ) → IsSoundEndpoint new
         → IsCall D.disk old Refills (Refilled (Ok tt)) new
@@ -44,6 +45,11 @@ pub fn frames_not_held_back<D: SectorDisk>()
         → ((pn ≤ seen) ⊎ ((pn < next + (standing_in new.store).identity.rx_block / 2 + 1)
         × (pn < seen + (standing_in new.store).identity.rx_block)))
         → IsBelow new sci an pn }
+    ensures again { (old mid late new : EndpointValue D) (turns : List (Turn D)) (frame out : List ℕ) (a : Arrival) → IsSoundEndpoint new
+        → Arrives (rx_side (state_of old no_logs)) frame a → a.pn < 2 ^ 32
+        → IsCall D.disk old (Receives frame) (Received (Ok HeldBack) out) mid
+        → Lives D.disk mid turns late → RxStays a.sci a.an mid turns → IsCall D.disk late Refills (Refilled (Ok tt)) new
+        → IsBelow new a.sci a.an a.pn }
     ensures stays { (old new : EndpointValue D) (turns : List (Turn D)) (sci : List ℕ) (an pn : ℕ) → Lives D.disk old turns new
         → RxStays sci an old turns → IsBelow old sci an pn → IsBelow new sci an pn }
     ensures delivered { (old new : EndpointValue D) (frame out : List ℕ) (a : Arrival) → IsBelow old a.sci a.an a.pn

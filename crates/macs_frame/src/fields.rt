@@ -1,9 +1,15 @@
 //! The values of a SecTAG's fields (IEEE Std 802.1AE-2018, 9.6, 9.8 and 9.9), and the confidentiality
 //! offset.
 
-ghost use Rattle.std.specs.Prelude.{◌≡◌, ℕ, ◌<◌, ◌^◌, ◌↔◌, List, IsSome, IfSome};
+ghost use Rattle.std.specs.Prelude.{◌≡◌, ℕ, ◌<◌, ◌^◌, ◌↔◌, List, [], ◌∷◌, IsSome, IfSome};
 
 use std::marker::Model;
+
+/// How many associations a channel may have: one for each association number (9.6).
+pub const ASSOCIATIONS: usize = 4;
+
+/// The end of the packet numbers: the first number that is none, 2^32 (9.8).
+pub const END_OF_NUMBERS: u64 = 1 << 32;
 
 /// A secure channel identifier: the 6 octets of a MAC address, then 2 of a port (9.9).
 #[derive(Debug, Default, Clone, Copy, PartialEq, Eq)]
@@ -48,6 +54,13 @@ impl An {
         ensures value { IfSome result (λ an. an ≡ number) }
     {
         if number < 4 { Some(An(number)) } else { None }
+    }
+
+    /// The four association numbers, ascending.
+    pub fn all() -> [An; ASSOCIATIONS]
+        ensures { result ≡ 0 ∷ 1 ∷ 2 ∷ 3 ∷ [] }
+    {
+        [An(0), An(1), An(2), An(3)]
     }
 
     /// Its number, 0 to 3.

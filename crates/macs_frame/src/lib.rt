@@ -10,8 +10,9 @@ mod sealing;
 mod shared;
 mod tag;
 
-pub use fields::{An, Offset, Pn, Sci};
-pub use opening::{OpenFault, open_frame, open_parts};
+pub use fields::{ASSOCIATIONS, An, END_OF_NUMBERS, Offset, Pn, Sci};
+pub use opening::{OpenFault, end_station_sci, open_frame, open_parts};
 pub use reading::read_tag;
 pub use sealing::{seal_frame, write_tag};
-pub use tag::{FrameBuf, MAX_FRAME, MIN_FRAME, Parts, ScName, SecTag, TagFault};
+pub use shared::append;
+pub use tag::{ADDRESS_OCTETS, FrameBuf, MAX_FRAME, MIN_FRAME, Parts, ScName, SecTag, TagFault};

@@ -110,8 +110,9 @@ fn named_sci(frame: &[u8], name: ScName) -> Option<Sci>
     }
 }
 
-/// The SCI of an end station: its source address, with port 00-01.
-fn end_station_sci(frame: &[u8]) -> Sci
+/// The SCI of the end station that a frame of 12 octets or more comes from: its source address, with
+/// port 00-01 (9.5).
+pub fn end_station_sci(frame: &[u8]) -> Sci
     requires { 12 ≤ length frame.now }
     ensures { result ≡ slice_range frame.now 6 12 ++ 0 ∷ 1 ∷ [] }
 {

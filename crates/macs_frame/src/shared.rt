@@ -35,8 +35,8 @@ pub(crate) fn clear_end(tag: &SecTag, offset: Offset, start: usize, end: usize) 
     }
 }
 
-/// Appends octets for which there is room.
-pub(crate) fn append(out: &mut FrameBuf, octets: &[u8])
+/// Appends octets to a frame that has room for them: 9,216 octets at most.
+pub fn append(out: &mut FrameBuf, octets: &[u8])
     requires { array_vec_len out.old + length octets.now ≤ 9216 }
     ensures { out.new.items ≡ out.old.items ++ octets.now }
 {

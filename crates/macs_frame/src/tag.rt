@@ -10,7 +10,7 @@ pub const MIN_FRAME: usize = 14;
 pub const MAX_FRAME: usize = 9216;
 
 /// The two addresses that a frame begins with, in octets.
-pub(crate) const ADDRESS_OCTETS: usize = 12;
+pub const ADDRESS_OCTETS: usize = 12;
 
 /// An ICV, in octets.
 pub(crate) const ICV_OCTETS: usize = 16;

@@ -1,31 +1,31 @@
 -- What is known of a sector, from what was read of it.
-use Rattle.std.proofs.Common.{◌≡◌, ◌≤◌, ◌-◌, ◌++◌, ◌∙◌, ℕ, List, length, replicate, Some, None, Option, inl, inr, refl, sym, ap, arith, length-append}
+use Rattle.std.proofs.Common.{◌≡◌, ◌-◌, ◌++◌, ◌∙◌, ℕ, List, length, replicate, Some, None, Option, inl, inr, refl, sym, subst, ap, arith, length-append}
 use Rattle.std.proofs.lemmas.List.{length-replicate}
 use Rattle.macs_frame.specs.First.{IsFirst, NoneHolds}
 use Rattle.macs_record.specs.Decoding.{HasFields, HasKind, Holds, IsSectorOf, faults}
 use Rattle.macs_record.specs.Layout.{IsRecord, fields_of, front_of, kind_of, octets_of_kind}
 use Rattle.macs_record.specs.Sectors.{padded}
+use Rattle.macs_record.specs.declared.kind.Kind.{Kind}
 use Rattle.macs_record.specs.declared.record.Record.{Record}
 use Rattle.macs_record.specs.declared.record.RecordFault.TheVariants.{Field, Rest}
 use Rattle.macs_record.proofs.Numbers.{never}
-use Rattle.macs_record.proofs.RecordKinds.{has_kind}
 
 -- the kind is read wherever it stands
-abbrev pub KindFound : List ℕ → Option ℕ → List ℕ → Type 0
+abbrev pub KindFound : List ℕ → Option Kind → List ℕ → Type 0
 KindFound octets result left =
-    (r : Record) (rest : List ℕ) → octets ≡ octets_of_kind (kind_of r) ++ rest → (result ≡ Some (kind_of r)) × (left ≡ rest)
+    (kind : Kind) (rest : List ℕ) → octets ≡ octets_of_kind kind ++ rest → (result ≡ Some kind) × (left ≡ rest)
 
 -- the fields are read wherever they stand
-abbrev pub FieldsFound : ℕ → List ℕ → Option Record → List ℕ → Type 0
+abbrev pub FieldsFound : Kind → List ℕ → Option Record → List ℕ → Type 0
 FieldsFound kind octets result left =
     (r : Record) (rest : List ℕ) → IsRecord r → kind_of r ≡ kind → octets ≡ fields_of r ++ rest → (result ≡ Some r) × (left ≡ rest)
 
 pub no_kind : (sector left : List ℕ) → KindFound sector None left → ¬ HasKind sector
 no_kind sector left found has = never _ (found has.0 has.1.0 has.1.1)
 
-pub no_fields : (kind : ℕ) (sector behind left : List ℕ) → KindFound sector (Some kind) behind → FieldsFound kind behind None left → ¬ HasFields sector
+pub no_fields : (kind : Kind) (sector behind left : List ℕ) → KindFound sector (Some kind) behind → FieldsFound kind behind None left → ¬ HasFields sector
 no_fields kind sector behind left kinds fields has =
-    let k = kinds has.0 (fields_of has.0 ++ has.2.0) has.2.1 in
+    let k = kinds (kind_of has.0) (fields_of has.0 ++ has.2.0) has.2.1 in
     let same = k.0 in
     let of_kind : kind_of has.0 ≡ kind = cc in
     never _ (fields has.0 has.2.0 has.1 of_kind k.1)
@@ -35,14 +35,14 @@ pub has_fields : (r : Record) (sector : List ℕ) → IsSectorOf r sector → Ha
 has_fields r sector is = (r, is.range, (replicate (512 - length (front_of r)) 0, sym is.octets))
 
 pub fields_have_kind : (sector : List ℕ) → HasFields sector → HasKind sector
-fields_have_kind sector has = (has.0, (fields_of has.0 ++ has.2.0, has.2.1))
+fields_have_kind sector has = (kind_of has.0, (fields_of has.0 ++ has.2.0, has.2.1))
 
 -- the record of a sector is the one that was read
-pub read_once : (kind : ℕ) (sector behind left : List ℕ) (result : Option Record) → KindFound sector (Some kind) behind → FieldsFound kind behind result left
+pub read_once : (kind : Kind) (sector behind left : List ℕ) (result : Option Record) → KindFound sector (Some kind) behind → FieldsFound kind behind result left
     → (r : Record) → IsSectorOf r sector → (result ≡ Some r) × (left ≡ replicate (512 - length (front_of r)) 0)
 read_once kind sector behind left result kinds fields r is =
     let zeros : List ℕ = replicate (512 - length (front_of r)) 0 in
-    let k = kinds r (fields_of r ++ zeros) (sym is.octets) in
+    let k = kinds (kind_of r) (fields_of r ++ zeros) (sym is.octets) in
     let same = k.0 in
     let of_kind : kind_of r ≡ kind = cc in
     fields r zeros is.range of_kind k.1
@@ -53,10 +53,10 @@ filled sector front left size whole zeros =
     ap (λ (n : ℕ). front ++ replicate n 0) room ∙ ap (λ (rest : List ℕ). front ++ rest) (sym zeros) ∙ sym whole
 
 -- what was read begins the sector
-pub begins : (kind : ℕ) (r : Record) (sector behind left : List ℕ) → sector ≡ octets_of_kind kind ++ behind → kind_of r ≡ kind → behind ≡ fields_of r ++ left
+pub begins : (kind : Kind) (r : Record) (sector behind left : List ℕ) → sector ≡ octets_of_kind kind ++ behind → kind_of r ≡ kind → behind ≡ fields_of r ++ left
     → sector ≡ front_of r ++ left
 begins kind r sector behind left here of_kind fields =
-    here ∙ ap (λ (xs : List ℕ). octets_of_kind kind ++ xs) fields ∙ ap (λ (k : ℕ). octets_of_kind k ++ (fields_of r ++ left)) (sym of_kind)
+    here ∙ ap (λ (xs : List ℕ). octets_of_kind kind ++ xs) fields ∙ ap (λ (k : Kind). octets_of_kind k ++ (fields_of r ++ left)) (sym of_kind)
 
 pub is_sector : (r : Record) (sector left : List ℕ) → length sector ≡ 512 → IsRecord r → sector ≡ front_of r ++ left → left ≡ replicate (length left) 0
     → IsSectorOf r sector
@@ -64,20 +64,16 @@ is_sector r sector left size range whole zeros = record { range = range; octets 
 
 -- ---- the faults
 
-kind_stands : (kind : ℕ) (sector behind : List ℕ) → 1 ≤ kind → kind ≤ 17 → sector ≡ octets_of_kind kind ++ behind → HasKind sector
-kind_stands kind sector behind least most here =
-    let r = has_kind kind least most in (r.0, (behind, here ∙ ap (λ (k : ℕ). octets_of_kind k ++ behind) r.1))
-
-pub first_field : (kind : ℕ) (sector behind left : List ℕ) → (1 ≤ kind) × (kind ≤ 17) × (sector ≡ octets_of_kind kind ++ behind)
+pub first_field : (kind : Kind) (sector behind left : List ℕ) → sector ≡ octets_of_kind kind ++ behind
     → KindFound sector (Some kind) behind → FieldsFound kind behind None left → IsFirst (Holds sector) faults Field
-first_field kind sector behind left read kinds fields =
-    inr ((λ no. no (kind_stands kind sector behind read.0 read.1 read.2)), inl (no_fields kind sector behind left kinds fields, refl))
+first_field kind sector behind left here kinds fields =
+    inr ((λ no. no (kind, (behind, here))), inl (no_fields kind sector behind left kinds fields, refl))
 
 pub all_zeros : (left : List ℕ) (n : ℕ) → left ≡ replicate n 0 → left ≡ replicate (length left) 0
 all_zeros left n zeros =
     let size : n ≡ length left = sym (ap length zeros ∙ length-replicate {A = ℕ} n 0) in zeros ∙ ap (λ (k : ℕ). replicate k 0) size
 
-pub first_rest : (kind : ℕ) (r : Record) (sector behind left : List ℕ) → sector ≡ octets_of_kind kind ++ behind
+pub first_rest : (kind : Kind) (r : Record) (sector behind left : List ℕ) → sector ≡ octets_of_kind kind ++ behind
     → IsRecord r × (kind_of r ≡ kind) × (behind ≡ fields_of r ++ left) → KindFound sector (Some kind) behind → FieldsFound kind behind (Some r) left
     → (left ≡ replicate (length left) 0 → ⊥) → IsFirst (Holds sector) faults Rest
 first_rest kind r sector behind left here read kinds fields more =
@@ -98,3 +94,11 @@ pub no_fault : (r : Record) (sector : List ℕ) → IsSectorOf r sector → None
 no_fault r sector is =
     let stands = has_fields r sector is in
     ((λ no. no (fields_have_kind sector stands)), ((λ no. no stands), ((λ no. no (r, is)), tt)))
+
+-- the record that was read is the sector's, and no other is
+pub exactly : (kind : Kind) (value : Record) (sector behind left : List ℕ) → IsSectorOf value sector → KindFound sector (Some kind) behind
+    → FieldsFound kind behind (Some value) left → (r : Record) → (value ≡ r → IsSectorOf r sector) × (IsSectorOf r sector → value ≡ r)
+exactly kind value sector behind left is kinds fields r = (
+  (λ same. subst (λ (r : Record). IsSectorOf r sector) same is),
+  (λ there. let once = (read_once kind sector behind left (Some value) kinds fields r there).0 in cc),
+)

@@ -21,8 +21,11 @@ use Rattle.macs_config.specs.declared.command.Validate.{Validate}
 use Rattle.macs_config.specs.declared.command.Validate.TheVariants.{Check, Strict}
 use Rattle.macs_record.specs.Layout.{IsRecord, encoding_octet, fields_of, flag, front_of, kind_of, mode_octet, protection_octets, replay_octets, role_octet, sector_of, validate_octet}
 use Rattle.macs_record.specs.Ranges.{IsEncoding, IsOctets}
+use Rattle.macs_record.specs.declared.kind.Kind.{Kind}
+use Rattle.macs_record.specs.declared.kind.Kind.TheVariants as kinds
 use Rattle.macs_record.specs.declared.record.Record.{Record}
 use Rattle.macs_record.specs.declared.record.Record.TheVariants.{Settings, TxSa, Channel, RxSa, Spent, SetValidate, SetReplay, SetSciMode, TxInstall, TxUse, TxRemove, RxAdd, RxDrop, RxInstall, RxRemove, TxCeiling, RxCeiling}
+use Rattle.macs_record.proofs.RecordKinds.{one_kind}
 
 -- ---- the fields from their octets
 
@@ -129,25 +132,24 @@ abbrev named : (List ℕ → List ℕ → Record) → List ℕ → Record
 named f octets = f (take 8 octets) (drop 8 octets)
 
 -- the record of this kind whose fields these octets begin with
-unfoldable unread : ℕ → List ℕ → Record
-unread kind octets =
-    if kind == 1 then Settings (validate_from (octet 0 octets)) (replay_from (drop 1 octets)) (mode_from (octet 6 octets)) (encoding_from (octet 7 octets))
-    else if kind == 2 then keyed (tx_sa_from (octet 0 octets)) (drop 1 octets)
-    else if kind == 3 then named (λ (sci behind : List ℕ). Channel sci) octets
-    else if kind == 4 then named (λ (sci behind : List ℕ). keyed (rx_sa_from sci (octet 0 behind)) (drop 1 behind)) octets
-    else if kind == 5 then Spent (role_from (octet 0 octets)) (chunks (octet 1 octets) (drop 2 octets))
-    else if kind == 6 then SetValidate (validate_from (octet 0 octets))
-    else if kind == 7 then SetReplay (replay_from octets)
-    else if kind == 8 then SetSciMode (mode_from (octet 0 octets))
-    else if kind == 9 then keyed (tx_install_from (octet 0 octets)) (drop 1 octets)
-    else if kind == 10 then TxUse (octet 0 octets)
-    else if kind == 11 then TxRemove (octet 0 octets)
-    else if kind == 12 then named (λ (sci behind : List ℕ). RxAdd sci) octets
-    else if kind == 13 then named (λ (sci behind : List ℕ). RxDrop sci) octets
-    else if kind == 14 then named (λ (sci behind : List ℕ). keyed (rx_install_from sci (octet 0 behind)) (drop 1 behind)) octets
-    else if kind == 15 then named (λ (sci behind : List ℕ). RxRemove sci (octet 0 behind)) octets
-    else if kind == 16 then TxCeiling (octet 0 octets) (number_8 (drop 1 octets))
-    else named (λ (sci behind : List ℕ). RxCeiling sci (octet 0 behind) (number_8 (drop 1 behind))) octets
+unfoldable unread : Kind → List ℕ → Record
+unread kinds.Settings octets = Settings (validate_from (octet 0 octets)) (replay_from (drop 1 octets)) (mode_from (octet 6 octets)) (encoding_from (octet 7 octets))
+unread kinds.TxSa octets = keyed (tx_sa_from (octet 0 octets)) (drop 1 octets)
+unread kinds.Channel octets = named (λ (sci behind : List ℕ). Channel sci) octets
+unread kinds.RxSa octets = named (λ (sci behind : List ℕ). keyed (rx_sa_from sci (octet 0 behind)) (drop 1 behind)) octets
+unread kinds.Spent octets = Spent (role_from (octet 0 octets)) (chunks (octet 1 octets) (drop 2 octets))
+unread kinds.SetValidate octets = SetValidate (validate_from (octet 0 octets))
+unread kinds.SetReplay octets = SetReplay (replay_from octets)
+unread kinds.SetSciMode octets = SetSciMode (mode_from (octet 0 octets))
+unread kinds.TxInstall octets = keyed (tx_install_from (octet 0 octets)) (drop 1 octets)
+unread kinds.TxUse octets = TxUse (octet 0 octets)
+unread kinds.TxRemove octets = TxRemove (octet 0 octets)
+unread kinds.RxAdd octets = named (λ (sci behind : List ℕ). RxAdd sci) octets
+unread kinds.RxDrop octets = named (λ (sci behind : List ℕ). RxDrop sci) octets
+unread kinds.RxInstall octets = named (λ (sci behind : List ℕ). keyed (rx_install_from sci (octet 0 behind)) (drop 1 behind)) octets
+unread kinds.RxRemove octets = named (λ (sci behind : List ℕ). RxRemove sci (octet 0 behind)) octets
+unread kinds.TxCeiling octets = TxCeiling (octet 0 octets) (number_8 (drop 1 octets))
+unread kinds.RxCeiling octets = named (λ (sci behind : List ℕ). RxCeiling sci (octet 0 behind) (number_8 (drop 1 behind))) octets
 
 replay_back : (replay : Replay) (rest : List ℕ) → replay.window < 2 ^ 32 → replay_from (replay_octets replay ++ rest) ≡ replay
 replay_back replay rest range = λ i. record { on = flag_back replay.on i; window = from_be_bytes-to_be_bytes_4 replay.window range i }
@@ -187,5 +189,6 @@ back (RxCeiling sci an ceiling) rest is =
 
 pub one_record : (a b : Record) → IsRecord a → IsRecord b → sector_of a ≡ sector_of b → a ≡ b
 one_record a b is_a is_b same =
-    sym (back a (replicate (512 - length (front_of a)) 0) is_a) ∙ ap (λ (sector : List ℕ). unread (octet 4 sector) (drop 5 sector)) same
+    let kind : kind_of a ≡ kind_of b = one_kind (kind_of a) (kind_of b) (ap (octet 4) same) in
+    sym (back a (replicate (512 - length (front_of a)) 0) is_a) ∙ (λ i. unread (kind i) (drop 5 (same i)))
     ∙ back b (replicate (512 - length (front_of b)) 0) is_b

@@ -1,106 +1,83 @@
 -- The kinds of records.
-use Rattle.std.proofs.Common.{◌≡◌, ◌≤◌, ◌<◌, ◌+◌, ◌-◌, ◌∙◌, ℕ, List, [], ◌∷◌, map, get_or, length, false, None, refl, sym, ap, arith}
-use Rattle.std.specs.List.{range_with_len}
-use Rattle.std.proofs.lemmas.List.{get_or-map}
-use Rattle.std.proofs.lemmas.List.FromFn.{get_or-range_with_len}
-use Rattle.macs_frame.specs.declared.fields.Offset.TheVariants.{Zero}
-use Rattle.macs_config.specs.declared.association.Protection.TheVariants.{Integrity}
+use Rattle.std.proofs.Common.{◌≡◌, ◌==◌, ◌++◌, ◌∙◌, ℕ, Bool, true, List, [], ◌∷◌, Option, Some, None, IfSome, refl, sym, ap, inl, inr}
+use Rattle.std.specs.List.{find}
+use Rattle.std.proofs.lemmas.Bool.{cases_Bool, eqb-true}
 use Rattle.macs_config.specs.declared.association.RxSa.{RxSa as RxSaFields}
 use Rattle.macs_config.specs.declared.association.TxSa.{TxSa as TxSaFields}
-use Rattle.macs_config.specs.declared.command.Role.TheVariants.{Transmit}
-use Rattle.macs_config.specs.declared.command.SciMode.TheVariants.{Explicit}
-use Rattle.macs_config.specs.declared.command.Validate.TheVariants.{Strict}
-use Rattle.macs_record.specs.Layout.{kind_of}
+use Rattle.macs_record.specs.Layout.{kind_of, mark, number_of, octets_of_kind}
+use Rattle.macs_record.specs.declared.kind.Kind.{Kind}
+use Rattle.macs_record.specs.declared.kind.Kind.TheVariants as kinds
+use Rattle.macs_record.specs.declared.kind.TheConstants.{KINDS}
 use Rattle.macs_record.specs.declared.record.Record.{Record}
-use Rattle.macs_record.specs.declared.record.Record.TheVariants.{Settings, TxSa, Channel, RxSa, Spent, SetValidate, SetReplay, SetSciMode, TxInstall, TxUse, TxRemove, RxAdd, RxDrop, RxInstall, RxRemove, TxCeiling, RxCeiling}
+use Rattle.macs_record.specs.declared.record.Record.TheVariants.{TxSa, RxSa, TxInstall, RxInstall, RxCeiling}
 
-pub kind_within : (r : Record) → (1 ≤ kind_of r) × (kind_of r ≤ 17)
-kind_within (Settings validate replay mode encoding) = (omega arith, omega arith)
-kind_within (TxSa an sa ceiling) = (omega arith, omega arith)
-kind_within (Channel sci) = (omega arith, omega arith)
-kind_within (RxSa sci an sa ceiling) = (omega arith, omega arith)
-kind_within (Spent role fingerprints) = (omega arith, omega arith)
-kind_within (SetValidate validate) = (omega arith, omega arith)
-kind_within (SetReplay replay) = (omega arith, omega arith)
-kind_within (SetSciMode mode) = (omega arith, omega arith)
-kind_within (TxInstall an sa start) = (omega arith, omega arith)
-kind_within (TxUse an) = (omega arith, omega arith)
-kind_within (TxRemove an) = (omega arith, omega arith)
-kind_within (RxAdd sci) = (omega arith, omega arith)
-kind_within (RxDrop sci) = (omega arith, omega arith)
-kind_within (RxInstall sci an sa start) = (omega arith, omega arith)
-kind_within (RxRemove sci an) = (omega arith, omega arith)
-kind_within (TxCeiling an ceiling) = (omega arith, omega arith)
-kind_within (RxCeiling sci an ceiling) = (omega arith, omega arith)
+-- ---- the kind of a number
 
--- ---- there is a record of each kind
+abbrev pub of_number : ℕ → Option Kind
+of_number number = find (λ (kind : Kind). number_of kind == number) KINDS
 
-abbrev tx_sample : TxSaFields
-tx_sample = record { key = []; protection = Integrity }
+of_its_number : (kind : Kind) → of_number (number_of kind) ≡ Some kind
+of_its_number kinds.Settings = refl
+of_its_number kinds.TxSa = refl
+of_its_number kinds.Channel = refl
+of_its_number kinds.RxSa = refl
+of_its_number kinds.Spent = refl
+of_its_number kinds.SetValidate = refl
+of_its_number kinds.SetReplay = refl
+of_its_number kinds.SetSciMode = refl
+of_its_number kinds.TxInstall = refl
+of_its_number kinds.TxUse = refl
+of_its_number kinds.TxRemove = refl
+of_its_number kinds.RxAdd = refl
+of_its_number kinds.RxDrop = refl
+of_its_number kinds.RxInstall = refl
+of_its_number kinds.RxRemove = refl
+of_its_number kinds.TxCeiling = refl
+of_its_number kinds.RxCeiling = refl
 
-abbrev rx_sample : RxSaFields
-rx_sample = record { key = []; offset = Zero }
+pub one_kind : (a b : Kind) → number_of a ≡ number_of b → a ≡ b
+one_kind a b same = let found = sym (of_its_number a) ∙ ap of_number same ∙ of_its_number b in cc
 
--- one of each kind, in their order
-unfoldable samples : List Record
-samples =
-    Settings Strict (record { on = false; window = 0 }) Explicit None
-    ∷ TxSa 0 tx_sample 1
-    ∷ Channel []
-    ∷ RxSa [] 0 rx_sample 1
-    ∷ Spent Transmit []
-    ∷ SetValidate Strict
-    ∷ SetReplay (record { on = false; window = 0 })
-    ∷ SetSciMode Explicit
-    ∷ TxInstall 0 tx_sample 1
-    ∷ TxUse 0
-    ∷ TxRemove 0
-    ∷ RxAdd []
-    ∷ RxDrop []
-    ∷ RxInstall [] 0 rx_sample 1
-    ∷ RxRemove [] 0
-    ∷ TxCeiling 0 1
-    ∷ RxCeiling [] 0 1
-    ∷ []
+found_passes : (test : Kind → Bool) (all : List Kind) (kind : Kind) → find test all ≡ Some kind → test kind ≡ true
+found_passes test [] kind found = absurd cc
+found_passes test (first ∷ others) kind found = elim (cases_Bool (test first)) [
+  | inl passes ↦ let found_first = rw passes at found in let here : first ≡ kind = cc in rw (← here) passes
+  | inr fails ↦ found_passes test others kind (rw fails at found)
+]
 
-count : length samples ≡ 17
-unfolding samples
-count = refl
+-- the kind that was found is the one of this number
+pub has_number : (number : ℕ) (result : Option Kind) → result ≡ of_number number
+    → (kind : Kind) → (result ≡ Some kind → number_of kind ≡ number) × (number_of kind ≡ number → result ≡ Some kind)
+has_number number result is kind = (
+  (λ found. eqb-true (number_of kind) number (found_passes (λ (k : Kind). number_of k == number) KINDS kind (sym is ∙ found))),
+  (λ same. is ∙ ap of_number (sym same) ∙ of_its_number kind),
+)
 
-in_order : map kind_of samples ≡ range_with_len 1 17
-unfolding samples
-in_order = refl
-
-sample_kind : (place : ℕ) → place < 17 → kind_of (get_or samples place (RxAdd [])) ≡ 1 + place
-sample_kind place within =
-    let inside : place < length samples = omega (arith, count) in
-    sym (get_or-map kind_of samples place (RxAdd []) 0 inside) ∙ ap (λ (kinds : List ℕ). get_or kinds place 0) in_order
-    ∙ get_or-range_with_len 1 17 place 0 within
-
-pub has_kind : (kind : ℕ) → 1 ≤ kind → kind ≤ 17 → (r : Record) × (kind ≡ kind_of r)
-has_kind kind least most =
-    let place : kind - 1 < 17 = omega arith in
-    let same : kind ≡ 1 + (kind - 1) = omega arith in
-    (get_or samples (kind - 1) (RxAdd []), same ∙ sym (sample_kind (kind - 1) place))
+-- the octets behind the mark are the kind's
+pub kind_read : (result : Option Kind) (number : ℕ) (old left : List ℕ)
+    → ((kind : Kind) → (result ≡ Some kind → number_of kind ≡ number) × (number_of kind ≡ number → result ≡ Some kind))
+    → old ≡ mark ++ number ∷ left → IfSome result (λ kind. old ≡ octets_of_kind kind ++ left)
+kind_read None number old left of here = tt
+kind_read (Some kind) number old left of here = here ∙ ap (λ (n : ℕ). mark ++ n ∷ left) (sym ((of kind).0 refl))
 
 -- ---- what is shown of the records of one kind
 
-pub for_tx_sa : (S : Record → Type 0) → ((an : ℕ) (sa : TxSaFields) (ceiling : ℕ) → S (TxSa an sa ceiling)) → (r : Record) → kind_of r ≡ 2 → S r
+pub for_tx_sa : (S : Record → Type 0) → ((an : ℕ) (sa : TxSaFields) (ceiling : ℕ) → S (TxSa an sa ceiling)) → (r : Record) → kind_of r ≡ kinds.TxSa → S r
 for_tx_sa S here (TxSa an sa ceiling) kind = here an sa ceiling
-for_tx_sa S here r kind = absurd (omega arith)
+for_tx_sa S here r kind = absurd cc
 
-pub for_rx_sa : (S : Record → Type 0) → ((sci : List ℕ) (an : ℕ) (sa : RxSaFields) (ceiling : ℕ) → S (RxSa sci an sa ceiling)) → (r : Record) → kind_of r ≡ 4 → S r
+pub for_rx_sa : (S : Record → Type 0) → ((sci : List ℕ) (an : ℕ) (sa : RxSaFields) (ceiling : ℕ) → S (RxSa sci an sa ceiling)) → (r : Record) → kind_of r ≡ kinds.RxSa → S r
 for_rx_sa S here (RxSa sci an sa ceiling) kind = here sci an sa ceiling
-for_rx_sa S here r kind = absurd (omega arith)
+for_rx_sa S here r kind = absurd cc
 
-pub for_tx_install : (S : Record → Type 0) → ((an : ℕ) (sa : TxSaFields) (start : ℕ) → S (TxInstall an sa start)) → (r : Record) → kind_of r ≡ 9 → S r
+pub for_tx_install : (S : Record → Type 0) → ((an : ℕ) (sa : TxSaFields) (start : ℕ) → S (TxInstall an sa start)) → (r : Record) → kind_of r ≡ kinds.TxInstall → S r
 for_tx_install S here (TxInstall an sa start) kind = here an sa start
-for_tx_install S here r kind = absurd (omega arith)
+for_tx_install S here r kind = absurd cc
 
-pub for_rx_install : (S : Record → Type 0) → ((sci : List ℕ) (an : ℕ) (sa : RxSaFields) (start : ℕ) → S (RxInstall sci an sa start)) → (r : Record) → kind_of r ≡ 14 → S r
+pub for_rx_install : (S : Record → Type 0) → ((sci : List ℕ) (an : ℕ) (sa : RxSaFields) (start : ℕ) → S (RxInstall sci an sa start)) → (r : Record) → kind_of r ≡ kinds.RxInstall → S r
 for_rx_install S here (RxInstall sci an sa start) kind = here sci an sa start
-for_rx_install S here r kind = absurd (omega arith)
+for_rx_install S here r kind = absurd cc
 
-pub for_rx_ceiling : (S : Record → Type 0) → ((sci : List ℕ) (an ceiling : ℕ) → S (RxCeiling sci an ceiling)) → (r : Record) → kind_of r ≡ 17 → S r
+pub for_rx_ceiling : (S : Record → Type 0) → ((sci : List ℕ) (an ceiling : ℕ) → S (RxCeiling sci an ceiling)) → (r : Record) → kind_of r ≡ kinds.RxCeiling → S r
 for_rx_ceiling S here (RxCeiling sci an ceiling) kind = here sci an ceiling
-for_rx_ceiling S here r kind = absurd (omega arith)
+for_rx_ceiling S here r kind = absurd cc

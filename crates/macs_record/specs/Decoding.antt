@@ -1,10 +1,11 @@
 -- Why a sector is refused as a record.
 use Rattle.std.specs.Prelude.{◌≡◌, List, [], ◌∷◌, ℕ}
 use Rattle.macs_record.specs.Sectors.{Begins}
-use Rattle.macs_record.specs.Layout.{IsRecord, front_of, kind_of, octets_of_kind, sector_of}
+use Rattle.macs_record.specs.Layout.{IsRecord, front_of, octets_of_kind, sector_of}
+use Rattle.macs_record.specs.declared.kind.Kind.{Kind}
 use Rattle.macs_record.specs.declared.record.Record.{Record}
 use Rattle.macs_record.specs.declared.record.RecordFault.{RecordFault}
-use Rattle.macs_record.specs.declared.record.RecordFault.TheVariants.{Kind, Field, Rest}
+use Rattle.macs_record.specs.declared.record.RecordFault.TheVariants as fault
 
 -- the sector is that of this record
 pub record IsSectorOf (r : Record) (sector : List ℕ) : Type 0 where
@@ -13,7 +14,7 @@ pub record IsSectorOf (r : Record) (sector : List ℕ) : Type 0 where
 
 -- the sector begins with the mark and a kind of record
 abbrev pub HasKind : List ℕ → Type 0
-HasKind sector = (r : Record) × Begins (octets_of_kind (kind_of r)) sector
+HasKind sector = (kind : Kind) × Begins (octets_of_kind kind) sector
 
 -- the sector begins as that of a record whose fields are in their ranges
 abbrev pub HasFields : List ℕ → Type 0
@@ -24,10 +25,10 @@ HasRecord sector = (r : Record) × IsSectorOf r sector
 
 -- what each fault says of a sector
 abbrev pub Holds : List ℕ → RecordFault → Type 0
-Holds sector Kind = ¬ HasKind sector
-Holds sector Field = ¬ HasFields sector
-Holds sector Rest = ¬ HasRecord sector
+Holds sector fault.Kind = ¬ HasKind sector
+Holds sector fault.Field = ¬ HasFields sector
+Holds sector fault.Rest = ¬ HasRecord sector
 
 -- in the order in which they are looked for
 abbrev pub faults : List RecordFault
-faults = Kind ∷ Field ∷ Rest ∷ []
+faults = fault.Kind ∷ fault.Field ∷ fault.Rest ∷ []

@@ -1,5 +1,5 @@
 -- Gates: sectors whose first octets say whether what they stand for counts.
-use Rattle.std.specs.Prelude.{List, ℕ, [], ◌∷◌, replicate}
+use Rattle.std.specs.Prelude.{List, ℕ, [], ◌∷◌}
 use Rattle.macs_record.specs.Sectors.{Begins, padded}
 
 -- MSECOPEN

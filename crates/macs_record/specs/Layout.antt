@@ -15,6 +15,8 @@ use Rattle.macs_config.specs.declared.command.Validate.{Validate}
 use Rattle.macs_config.specs.declared.command.Validate.TheVariants.{Strict, Check}
 use Rattle.macs_record.specs.Ranges.{IsAn, IsCeiling, IsEncoding, IsFingerprints, IsKey, IsSci, IsStart}
 use Rattle.macs_record.specs.Sectors.{padded}
+use Rattle.macs_record.specs.declared.kind.Kind.{Kind}
+use Rattle.macs_record.specs.declared.kind.Kind.TheVariants as kinds
 use Rattle.macs_record.specs.declared.record.Record.{Record}
 use Rattle.macs_record.specs.declared.record.Record.TheVariants.{Settings, TxSa, Channel, RxSa, Spent, SetValidate, SetReplay, SetSciMode, TxInstall, TxUse, TxRemove, RxAdd, RxDrop, RxInstall, RxRemove, TxCeiling, RxCeiling}
 
@@ -60,24 +62,45 @@ fingerprint_octets fingerprints = length fingerprints ∷ concat fingerprints
 abbrev pub mark : List ℕ
 mark = 0x4d ∷ 0x52 ∷ 0x45 ∷ 0x43 ∷ []
 
-abbrev pub kind_of : Record → ℕ
-kind_of (Settings validate replay mode encoding) = 1
-kind_of (TxSa an sa ceiling) = 2
-kind_of (Channel sci) = 3
-kind_of (RxSa sci an sa ceiling) = 4
-kind_of (Spent role fingerprints) = 5
-kind_of (SetValidate validate) = 6
-kind_of (SetReplay replay) = 7
-kind_of (SetSciMode mode) = 8
-kind_of (TxInstall an sa start) = 9
-kind_of (TxUse an) = 10
-kind_of (TxRemove an) = 11
-kind_of (RxAdd sci) = 12
-kind_of (RxDrop sci) = 13
-kind_of (RxInstall sci an sa start) = 14
-kind_of (RxRemove sci an) = 15
-kind_of (TxCeiling an ceiling) = 16
-kind_of (RxCeiling sci an ceiling) = 17
+-- the octet that stands for a kind
+abbrev pub number_of : Kind → ℕ
+number_of kinds.Settings = 1
+number_of kinds.TxSa = 2
+number_of kinds.Channel = 3
+number_of kinds.RxSa = 4
+number_of kinds.Spent = 5
+number_of kinds.SetValidate = 6
+number_of kinds.SetReplay = 7
+number_of kinds.SetSciMode = 8
+number_of kinds.TxInstall = 9
+number_of kinds.TxUse = 10
+number_of kinds.TxRemove = 11
+number_of kinds.RxAdd = 12
+number_of kinds.RxDrop = 13
+number_of kinds.RxInstall = 14
+number_of kinds.RxRemove = 15
+number_of kinds.TxCeiling = 16
+number_of kinds.RxCeiling = 17
+
+-- what a record is of
+abbrev pub kind_of : Record → Kind
+kind_of (Settings validate replay mode encoding) = kinds.Settings
+kind_of (TxSa an sa ceiling) = kinds.TxSa
+kind_of (Channel sci) = kinds.Channel
+kind_of (RxSa sci an sa ceiling) = kinds.RxSa
+kind_of (Spent role fingerprints) = kinds.Spent
+kind_of (SetValidate validate) = kinds.SetValidate
+kind_of (SetReplay replay) = kinds.SetReplay
+kind_of (SetSciMode mode) = kinds.SetSciMode
+kind_of (TxInstall an sa start) = kinds.TxInstall
+kind_of (TxUse an) = kinds.TxUse
+kind_of (TxRemove an) = kinds.TxRemove
+kind_of (RxAdd sci) = kinds.RxAdd
+kind_of (RxDrop sci) = kinds.RxDrop
+kind_of (RxInstall sci an sa start) = kinds.RxInstall
+kind_of (RxRemove sci an) = kinds.RxRemove
+kind_of (TxCeiling an ceiling) = kinds.TxCeiling
+kind_of (RxCeiling sci an ceiling) = kinds.RxCeiling
 
 abbrev pub fields_of : Record → List ℕ
 fields_of (Settings validate replay mode encoding) =
@@ -103,10 +126,11 @@ fields_of (RxRemove sci an) = sci ++ (an ∷ [])
 fields_of (TxCeiling an ceiling) = an ∷ to_be_bytes w64 ceiling
 fields_of (RxCeiling sci an ceiling) = sci ++ (an ∷ to_be_bytes w64 ceiling)
 
--- the mark and the kind, then the fields
-abbrev pub octets_of_kind : ℕ → List ℕ
-octets_of_kind kind = mark ++ (kind ∷ [])
+-- the mark and the kind
+abbrev pub octets_of_kind : Kind → List ℕ
+octets_of_kind kind = mark ++ (number_of kind ∷ [])
 
+-- the mark and the kind, then the fields
 abbrev pub front_of : Record → List ℕ
 front_of r = octets_of_kind (kind_of r) ++ fields_of r
 

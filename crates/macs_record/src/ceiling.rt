@@ -3,10 +3,8 @@
 ghost use Rattle.std.specs.Prelude.{◌≡◌, ◌≤◌, ◌↔◌, ℕ, IsSome, IfSome};
 ghost use Rattle.macs_record.specs.Ranges.{IsCeiling};
 
+use macs_frame::END_OF_NUMBERS;
 use std::marker::Model;
-
-/// The greatest ceiling: from it on there are no packet numbers.
-const MAX_CEILING: u64 = 1 << 32;
 
 /// The ceiling of an association, 1 to 2^32: only packet numbers below it are used, or delivered as
 /// verified.
@@ -29,7 +27,7 @@ impl Ceiling {
         ensures within { IsSome result ↔ IsCeiling number }
         ensures value { IfSome result (λ ceiling. ceiling ≡ number) }
     {
-        if (1..=MAX_CEILING).contains(&number) {
+        if (1..=END_OF_NUMBERS).contains(&number) {
             Some(Ceiling(number))
         } else {
             None

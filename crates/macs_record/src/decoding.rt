@@ -4,17 +4,17 @@ ghost use Rattle.std.specs.Prelude.{◌≡◌, ◌≤◌, ◌↔◌, ◌++◌, �
 ghost use Rattle.macs_frame.specs.First.{IsFirst};
 ghost use Rattle.macs_record.specs.Decoding.{Holds, IsSectorOf, faults};
 ghost use Rattle.macs_record.specs.Layout.{IsRecord, fields_of, kind_of, octets_of_kind};
+ghost use Rattle.macs_record.specs.declared.kind.Kind.{Kind};
+ghost use Rattle.macs_record.specs.declared.kind.Kind.TheVariants as kinds;
 ghost use Rattle.macs_record.specs.declared.record.Record.{Record};
 ghost use Rattle.macs_record.specs.declared.record.RecordFault.{RecordFault};
 
 use crate::SECTOR;
 use crate::encoding::MARK;
+use crate::kind::Kind;
 use crate::reading::Reader;
 use crate::record::{Record, RecordFault};
 use macs_config::{RxSa, TxSa};
-
-/// The greatest kind of a record.
-const LAST_KIND: u8 = 17;
 
 /// The record of a sector. Refused as `Kind`, `Field` and `Rest`, the first that holds.
 pub fn decode(sector: &[u8; SECTOR]) -> Result<Record, RecordFault>
@@ -36,59 +36,47 @@ pub fn decode(sector: &[u8; SECTOR]) -> Result<Record, RecordFault>
 }
 
 /// Reads the mark and a kind.
-fn read_kind(from: &mut Reader<'_>) -> Option<u8>
-    ensures some { IfSome result (λ kind. (1 ≤ kind) × (kind ≤ 17) × (from.old ≡ octets_of_kind kind ++ from.new)) }
-    ensures found { (r : Record) (rest : List ℕ) → from.old ≡ octets_of_kind (kind_of r) ++ rest
-        → (result ≡ Some (kind_of r)) × (from.new ≡ rest) }
+fn read_kind(from: &mut Reader<'_>) -> Option<Kind>
+    ensures some { IfSome result (λ kind. from.old ≡ octets_of_kind kind ++ from.new) }
+    ensures found { (kind : Kind) (rest : List ℕ) → from.old ≡ octets_of_kind kind ++ rest
+        → (result ≡ Some kind) × (from.new ≡ rest) }
 {
     let mark: [u8; 4] = from.octets()?;
-    let kind = from.octet()?;
-    if mark == MARK && is_kind(kind) {
-        Some(kind)
-    } else {
-        None
-    }
-}
-
-/// Whether there is a kind of record of this number.
-fn is_kind(number: u8) -> bool
-    ensures { IsTrue result ↔ ((1 ≤ number) × (number ≤ 17)) }
-{
-    (1..=LAST_KIND).contains(&number)
+    let number = from.octet()?;
+    if mark == MARK { Kind::of(number) } else { None }
 }
 
 /// Reads the fields of a record of this kind.
-fn read_fields(kind: u8, from: &mut Reader<'_>) -> Option<Record>
+fn read_fields(kind: Kind, from: &mut Reader<'_>) -> Option<Record>
     ensures some { IfSome result (λ r. IsRecord r × (kind_of r ≡ kind) × (from.old ≡ fields_of r ++ from.new)) }
     ensures found { (r : Record) (rest : List ℕ) → IsRecord r → kind_of r ≡ kind → from.old ≡ fields_of r ++ rest
         → (result ≡ Some r) × (from.new ≡ rest) }
 {
     match kind {
-        1 => read_settings(from),
-        2 => read_tx_sa(from),
-        3 => Some(Record::Channel { sci: from.sci()? }),
-        4 => read_rx_sa(from),
-        5 => read_spent(from),
-        6 => Some(Record::SetValidate(from.validate()?)),
-        7 => Some(Record::SetReplay(from.replay()?)),
-        8 => Some(Record::SetSciMode(from.sci_mode()?)),
-        9 => read_tx_install(from),
-        10 => Some(Record::TxUse { an: from.an()? }),
-        11 => Some(Record::TxRemove { an: from.an()? }),
-        12 => Some(Record::RxAdd { sci: from.sci()? }),
-        13 => Some(Record::RxDrop { sci: from.sci()? }),
-        14 => read_rx_install(from),
-        15 => read_rx_remove(from),
-        16 => read_tx_ceiling(from),
-        17 => read_rx_ceiling(from),
-        _ => None,
+        Kind::Settings => read_settings(from),
+        Kind::TxSa => read_tx_sa(from),
+        Kind::Channel => Some(Record::Channel { sci: from.sci()? }),
+        Kind::RxSa => read_rx_sa(from),
+        Kind::Spent => read_spent(from),
+        Kind::SetValidate => Some(Record::SetValidate(from.validate()?)),
+        Kind::SetReplay => Some(Record::SetReplay(from.replay()?)),
+        Kind::SetSciMode => Some(Record::SetSciMode(from.sci_mode()?)),
+        Kind::TxInstall => read_tx_install(from),
+        Kind::TxUse => Some(Record::TxUse { an: from.an()? }),
+        Kind::TxRemove => Some(Record::TxRemove { an: from.an()? }),
+        Kind::RxAdd => Some(Record::RxAdd { sci: from.sci()? }),
+        Kind::RxDrop => Some(Record::RxDrop { sci: from.sci()? }),
+        Kind::RxInstall => read_rx_install(from),
+        Kind::RxRemove => read_rx_remove(from),
+        Kind::TxCeiling => read_tx_ceiling(from),
+        Kind::RxCeiling => read_rx_ceiling(from),
     }
 }
 
-/// Reads the settings of a snapshot, kind 1.
+/// Reads the settings of a snapshot.
 fn read_settings(from: &mut Reader<'_>) -> Option<Record>
-    ensures some { IfSome result (λ r. IsRecord r × (kind_of r ≡ 1) × (from.old ≡ fields_of r ++ from.new)) }
-    ensures found { (r : Record) (rest : List ℕ) → IsRecord r → kind_of r ≡ 1 → from.old ≡ fields_of r ++ rest
+    ensures some { IfSome result (λ r. IsRecord r × (kind_of r ≡ kinds.Settings) × (from.old ≡ fields_of r ++ from.new)) }
+    ensures found { (r : Record) (rest : List ℕ) → IsRecord r → kind_of r ≡ kinds.Settings → from.old ≡ fields_of r ++ rest
         → (result ≡ Some r) × (from.new ≡ rest) }
 {
     let validate = from.validate()?;
@@ -103,10 +91,10 @@ fn read_settings(from: &mut Reader<'_>) -> Option<Record>
     })
 }
 
-/// Reads a transmit association of a snapshot, kind 2.
+/// Reads a transmit association of a snapshot.
 fn read_tx_sa(from: &mut Reader<'_>) -> Option<Record>
-    ensures some { IfSome result (λ r. IsRecord r × (kind_of r ≡ 2) × (from.old ≡ fields_of r ++ from.new)) }
-    ensures found { (r : Record) (rest : List ℕ) → IsRecord r → kind_of r ≡ 2 → from.old ≡ fields_of r ++ rest
+    ensures some { IfSome result (λ r. IsRecord r × (kind_of r ≡ kinds.TxSa) × (from.old ≡ fields_of r ++ from.new)) }
+    ensures found { (r : Record) (rest : List ℕ) → IsRecord r → kind_of r ≡ kinds.TxSa → from.old ≡ fields_of r ++ rest
         → (result ≡ Some r) × (from.new ≡ rest) }
 {
     let an = from.an()?;
@@ -117,10 +105,10 @@ fn read_tx_sa(from: &mut Reader<'_>) -> Option<Record>
     Some(Record::TxSa { an, sa, ceiling })
 }
 
-/// Reads a receive association of a snapshot, kind 4.
+/// Reads a receive association of a snapshot.
 fn read_rx_sa(from: &mut Reader<'_>) -> Option<Record>
-    ensures some { IfSome result (λ r. IsRecord r × (kind_of r ≡ 4) × (from.old ≡ fields_of r ++ from.new)) }
-    ensures found { (r : Record) (rest : List ℕ) → IsRecord r → kind_of r ≡ 4 → from.old ≡ fields_of r ++ rest
+    ensures some { IfSome result (λ r. IsRecord r × (kind_of r ≡ kinds.RxSa) × (from.old ≡ fields_of r ++ from.new)) }
+    ensures found { (r : Record) (rest : List ℕ) → IsRecord r → kind_of r ≡ kinds.RxSa → from.old ≡ fields_of r ++ rest
         → (result ≡ Some r) × (from.new ≡ rest) }
 {
     let sci = from.sci()?;
@@ -137,10 +125,10 @@ fn read_rx_sa(from: &mut Reader<'_>) -> Option<Record>
     })
 }
 
-/// Reads spent keys of a snapshot, kind 5.
+/// Reads spent keys of a snapshot.
 fn read_spent(from: &mut Reader<'_>) -> Option<Record>
-    ensures some { IfSome result (λ r. IsRecord r × (kind_of r ≡ 5) × (from.old ≡ fields_of r ++ from.new)) }
-    ensures found { (r : Record) (rest : List ℕ) → IsRecord r → kind_of r ≡ 5 → from.old ≡ fields_of r ++ rest
+    ensures some { IfSome result (λ r. IsRecord r × (kind_of r ≡ kinds.Spent) × (from.old ≡ fields_of r ++ from.new)) }
+    ensures found { (r : Record) (rest : List ℕ) → IsRecord r → kind_of r ≡ kinds.Spent → from.old ≡ fields_of r ++ rest
         → (result ≡ Some r) × (from.new ≡ rest) }
 {
     let role = from.role()?;
@@ -148,10 +136,10 @@ fn read_spent(from: &mut Reader<'_>) -> Option<Record>
     Some(Record::Spent { role, fingerprints })
 }
 
-/// Reads a new transmit association, kind 9.
+/// Reads a new transmit association.
 fn read_tx_install(from: &mut Reader<'_>) -> Option<Record>
-    ensures some { IfSome result (λ r. IsRecord r × (kind_of r ≡ 9) × (from.old ≡ fields_of r ++ from.new)) }
-    ensures found { (r : Record) (rest : List ℕ) → IsRecord r → kind_of r ≡ 9 → from.old ≡ fields_of r ++ rest
+    ensures some { IfSome result (λ r. IsRecord r × (kind_of r ≡ kinds.TxInstall) × (from.old ≡ fields_of r ++ from.new)) }
+    ensures found { (r : Record) (rest : List ℕ) → IsRecord r → kind_of r ≡ kinds.TxInstall → from.old ≡ fields_of r ++ rest
         → (result ≡ Some r) × (from.new ≡ rest) }
 {
     let an = from.an()?;
@@ -162,10 +150,10 @@ fn read_tx_install(from: &mut Reader<'_>) -> Option<Record>
     Some(Record::TxInstall { an, sa, start })
 }
 
-/// Reads a new receive association, kind 14.
+/// Reads a new receive association.
 fn read_rx_install(from: &mut Reader<'_>) -> Option<Record>
-    ensures some { IfSome result (λ r. IsRecord r × (kind_of r ≡ 14) × (from.old ≡ fields_of r ++ from.new)) }
-    ensures found { (r : Record) (rest : List ℕ) → IsRecord r → kind_of r ≡ 14 → from.old ≡ fields_of r ++ rest
+    ensures some { IfSome result (λ r. IsRecord r × (kind_of r ≡ kinds.RxInstall) × (from.old ≡ fields_of r ++ from.new)) }
+    ensures found { (r : Record) (rest : List ℕ) → IsRecord r → kind_of r ≡ kinds.RxInstall → from.old ≡ fields_of r ++ rest
         → (result ≡ Some r) × (from.new ≡ rest) }
 {
     let sci = from.sci()?;
@@ -177,10 +165,10 @@ fn read_rx_install(from: &mut Reader<'_>) -> Option<Record>
     Some(Record::RxInstall { sci, an, sa, start })
 }
 
-/// Reads a receive association that goes, kind 15.
+/// Reads a receive association that goes.
 fn read_rx_remove(from: &mut Reader<'_>) -> Option<Record>
-    ensures some { IfSome result (λ r. IsRecord r × (kind_of r ≡ 15) × (from.old ≡ fields_of r ++ from.new)) }
-    ensures found { (r : Record) (rest : List ℕ) → IsRecord r → kind_of r ≡ 15 → from.old ≡ fields_of r ++ rest
+    ensures some { IfSome result (λ r. IsRecord r × (kind_of r ≡ kinds.RxRemove) × (from.old ≡ fields_of r ++ from.new)) }
+    ensures found { (r : Record) (rest : List ℕ) → IsRecord r → kind_of r ≡ kinds.RxRemove → from.old ≡ fields_of r ++ rest
         → (result ≡ Some r) × (from.new ≡ rest) }
 {
     let sci = from.sci()?;
@@ -188,10 +176,10 @@ fn read_rx_remove(from: &mut Reader<'_>) -> Option<Record>
     Some(Record::RxRemove { sci, an })
 }
 
-/// Reads the raised ceiling of a transmit association, kind 16.
+/// Reads the raised ceiling of a transmit association.
 fn read_tx_ceiling(from: &mut Reader<'_>) -> Option<Record>
-    ensures some { IfSome result (λ r. IsRecord r × (kind_of r ≡ 16) × (from.old ≡ fields_of r ++ from.new)) }
-    ensures found { (r : Record) (rest : List ℕ) → IsRecord r → kind_of r ≡ 16 → from.old ≡ fields_of r ++ rest
+    ensures some { IfSome result (λ r. IsRecord r × (kind_of r ≡ kinds.TxCeiling) × (from.old ≡ fields_of r ++ from.new)) }
+    ensures found { (r : Record) (rest : List ℕ) → IsRecord r → kind_of r ≡ kinds.TxCeiling → from.old ≡ fields_of r ++ rest
         → (result ≡ Some r) × (from.new ≡ rest) }
 {
     let an = from.an()?;
@@ -199,10 +187,10 @@ fn read_tx_ceiling(from: &mut Reader<'_>) -> Option<Record>
     Some(Record::TxCeiling { an, ceiling })
 }
 
-/// Reads the raised ceiling of a receive association, kind 17.
+/// Reads the raised ceiling of a receive association.
 fn read_rx_ceiling(from: &mut Reader<'_>) -> Option<Record>
-    ensures some { IfSome result (λ r. IsRecord r × (kind_of r ≡ 17) × (from.old ≡ fields_of r ++ from.new)) }
-    ensures found { (r : Record) (rest : List ℕ) → IsRecord r → kind_of r ≡ 17 → from.old ≡ fields_of r ++ rest
+    ensures some { IfSome result (λ r. IsRecord r × (kind_of r ≡ kinds.RxCeiling) × (from.old ≡ fields_of r ++ from.new)) }
+    ensures found { (r : Record) (rest : List ℕ) → IsRecord r → kind_of r ≡ kinds.RxCeiling → from.old ≡ fields_of r ++ rest
         → (result ≡ Some r) × (from.new ≡ rest) }
 {
     let sci = from.sci()?;

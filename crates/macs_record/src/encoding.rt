@@ -1,11 +1,15 @@
 //! Records as sectors.
 
 ghost use Rattle.std.specs.Prelude.{◌≡◌, ◌≤◌, ◌++◌, length};
-ghost use Rattle.macs_record.specs.Layout.{fields_of, kind_of, sector_of};
+ghost use Rattle.macs_record.specs.Layout.{fields_of, sector_of};
+ghost use Rattle.macs_record.specs.declared.record.Record.TheVariants as recorded;
 
 use crate::SECTOR;
+use crate::ceiling::Ceiling;
 use crate::record::Record;
 use crate::writing::Writer;
+use macs_config::{RxSa, TxSa};
+use macs_frame::{An, Pn, Sci};
 
 /// What the sector of a record begins with.
 pub(crate) const MARK: [u8; 4] = *b"MREC";
@@ -15,33 +19,8 @@ pub(crate) const MARK: [u8; 4] = *b"MREC";
 pub fn encode(value: &Record) -> [u8; SECTOR]
     ensures { result ≡ sector_of value.now }
 {
-    let front = Writer::new().octets(&MARK).octet(kind_of(value));
+    let front = Writer::new().octets(&MARK).octet(value.kind().number());
     write_fields(value, front).finish()
-}
-
-/// The kind of a record, 1 to 17.
-fn kind_of(value: &Record) -> u8
-    ensures { result ≡ kind_of value.now }
-{
-    match value {
-        Record::Settings { .. } => 1,
-        Record::TxSa { .. } => 2,
-        Record::Channel { .. } => 3,
-        Record::RxSa { .. } => 4,
-        Record::Spent { .. } => 5,
-        Record::SetValidate(_) => 6,
-        Record::SetReplay(_) => 7,
-        Record::SetSciMode(_) => 8,
-        Record::TxInstall { .. } => 9,
-        Record::TxUse { .. } => 10,
-        Record::TxRemove { .. } => 11,
-        Record::RxAdd { .. } => 12,
-        Record::RxDrop { .. } => 13,
-        Record::RxInstall { .. } => 14,
-        Record::RxRemove { .. } => 15,
-        Record::TxCeiling { .. } => 16,
-        Record::RxCeiling { .. } => 17,
-    }
 }
 
 /// Writes the fields of a record.
@@ -60,41 +39,69 @@ fn write_fields(value: &Record, to: Writer) -> Writer
             .replay(*replay)
             .sci_mode(*sci_mode)
             .encoding(*encoding),
-        Record::TxSa { an, sa, ceiling } => to
-            .an(*an)
-            .octets(&sa.key)
-            .ceiling(*ceiling)
-            .protection(sa.protection),
+        Record::TxSa { an, sa, ceiling } => write_tx_sa(*an, sa, *ceiling, to),
         Record::Channel { sci } | Record::RxAdd { sci } | Record::RxDrop { sci } => to.sci(*sci),
         Record::RxSa {
             sci,
             an,
             sa,
             ceiling,
-        } => to
-            .sci(*sci)
-            .an(*an)
-            .octets(&sa.key)
-            .ceiling(*ceiling)
-            .offset(sa.offset),
+        } => write_rx_sa(*sci, *an, sa, *ceiling, to),
         Record::Spent { role, fingerprints } => to.role(*role).fingerprints(fingerprints),
         Record::SetValidate(validate) => to.validate(*validate),
         Record::SetReplay(replay) => to.replay(*replay),
         Record::SetSciMode(sci_mode) => to.sci_mode(*sci_mode),
-        Record::TxInstall { an, sa, start } => to
-            .an(*an)
-            .octets(&sa.key)
-            .start(*start)
-            .protection(sa.protection),
+        Record::TxInstall { an, sa, start } => write_tx_install(*an, sa, *start, to),
         Record::TxUse { an } | Record::TxRemove { an } => to.an(*an),
-        Record::RxInstall { sci, an, sa, start } => to
-            .sci(*sci)
-            .an(*an)
-            .octets(&sa.key)
-            .start(*start)
-            .offset(sa.offset),
+        Record::RxInstall { sci, an, sa, start } => write_rx_install(*sci, *an, sa, *start, to),
         Record::RxRemove { sci, an } => to.sci(*sci).an(*an),
         Record::TxCeiling { an, ceiling } => to.an(*an).ceiling(*ceiling),
         Record::RxCeiling { sci, an, ceiling } => to.sci(*sci).an(*an).ceiling(*ceiling),
     }
+}
+
+/// Writes a transmit association of a snapshot.
+fn write_tx_sa(an: An, sa: &TxSa, ceiling: Ceiling, to: Writer) -> Writer
+    requires room { length to ≤ 5 }
+    ensures { result ≡ to ++ fields_of (recorded.TxSa an sa.now ceiling) }
+{
+    to.an(an)
+        .octets(&sa.key)
+        .ceiling(ceiling)
+        .protection(sa.protection)
+}
+
+/// Writes a receive association of a snapshot.
+fn write_rx_sa(sci: Sci, an: An, sa: &RxSa, ceiling: Ceiling, to: Writer) -> Writer
+    requires room { length to ≤ 5 }
+    ensures { result ≡ to ++ fields_of (recorded.RxSa sci an sa.now ceiling) }
+{
+    to.sci(sci)
+        .an(an)
+        .octets(&sa.key)
+        .ceiling(ceiling)
+        .offset(sa.offset)
+}
+
+/// Writes a new transmit association.
+fn write_tx_install(an: An, sa: &TxSa, start: Pn, to: Writer) -> Writer
+    requires room { length to ≤ 5 }
+    ensures { result ≡ to ++ fields_of (recorded.TxInstall an sa.now start) }
+{
+    to.an(an)
+        .octets(&sa.key)
+        .start(start)
+        .protection(sa.protection)
+}
+
+/// Writes a new receive association.
+fn write_rx_install(sci: Sci, an: An, sa: &RxSa, start: Pn, to: Writer) -> Writer
+    requires room { length to ≤ 5 }
+    ensures { result ≡ to ++ fields_of (recorded.RxInstall sci an sa.now start) }
+{
+    to.sci(sci)
+        .an(an)
+        .octets(&sa.key)
+        .start(start)
+        .offset(sa.offset)
 }

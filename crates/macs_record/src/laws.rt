@@ -4,12 +4,12 @@
 ghost use Rattle.std.specs.Prelude.{◌≡◌, ◌<◌, ◌^◌, List, ℕ, All, length};
 ghost use Rattle.macs_record.specs.Heads.{Head, IsHead, IsHeadOf, head_sector_of};
 ghost use Rattle.macs_record.specs.Layout.{IsRecord, sector_of};
-ghost use Rattle.macs_record.specs.Ranges.{IsEncoding, IsFingerprints, IsKey, IsOctets, IsSci};
+ghost use Rattle.macs_record.specs.Ranges.{IsAn, IsCeiling, IsEncoding, IsFingerprints, IsKey, IsOctets, IsSci, IsStart};
 ghost use Rattle.macs_record.specs.declared.record.Record.{Record};
 
-use crate::{Head, Record};
+use crate::{Ceiling, Head, Record};
 use macs_config::{Fingerprint, Fingerprints, Replay};
-use macs_frame::{An, Sci};
+use macs_frame::{An, Pn, Sci};
 
 /// The fields of a record are in their ranges.
 pub fn record_in_range(value: &Record)
@@ -20,14 +20,8 @@ pub fn record_in_range(value: &Record)
             replay,
             encoding,
             ..
-        } => {
-            replay_in_range(*replay);
-            encoding_in_range(*encoding);
-        }
-        Record::TxSa { an, sa, ceiling } => {
-            let _numbers = (an.get(), ceiling.get());
-            key_in_range(sa.key);
-        }
+        } => settings_in_range(*replay, *encoding),
+        Record::TxSa { an, sa, ceiling } => sa_in_range(*an, sa.key, *ceiling),
         Record::Channel { sci } | Record::RxAdd { sci } | Record::RxDrop { sci } => {
             sci_in_range(*sci);
         }
@@ -38,34 +32,22 @@ pub fn record_in_range(value: &Record)
             ceiling,
         } => {
             sci_in_range(*sci);
-            let _numbers = (an.get(), ceiling.get());
-            key_in_range(sa.key);
+            sa_in_range(*an, sa.key, *ceiling);
         }
         Record::Spent { fingerprints, .. } => fingerprints_in_range(fingerprints),
         Record::SetValidate(_) | Record::SetSciMode(_) => {}
         Record::SetReplay(replay) => replay_in_range(*replay),
-        Record::TxInstall { an, sa, start } => {
-            let _numbers = (an.get(), start.get());
-            key_in_range(sa.key);
-        }
-        Record::TxUse { an } | Record::TxRemove { an } => {
-            let _number = an.get();
-        }
+        Record::TxInstall { an, sa, start } => install_in_range(*an, sa.key, *start),
+        Record::TxUse { an } | Record::TxRemove { an } => an_in_range(*an),
         Record::RxInstall { sci, an, sa, start } => {
             sci_in_range(*sci);
-            let _numbers = (an.get(), start.get());
-            key_in_range(sa.key);
+            install_in_range(*an, sa.key, *start);
         }
-        Record::RxRemove { sci, an } => {
-            sci_in_range(*sci);
-            let _number = an.get();
-        }
-        Record::TxCeiling { an, ceiling } => {
-            let _numbers = (an.get(), ceiling.get());
-        }
+        Record::RxRemove { sci, an } => rx_in_range(*sci, *an),
+        Record::TxCeiling { an, ceiling } => ceiling_in_range(*an, *ceiling),
         Record::RxCeiling { sci, an, ceiling } => {
             sci_in_range(*sci);
-            let _numbers = (an.get(), ceiling.get());
+            ceiling_in_range(*an, *ceiling);
         }
     }
 }
@@ -89,11 +71,57 @@ fn encoding_in_range(encoding: Option<An>)
     }
 }
 
+/// The window and the encoding association of a snapshot's settings.
+fn settings_in_range(replay: Replay, encoding: Option<An>)
+    ensures { (replay.window < 2 ^ 32) × IsEncoding encoding }
+{
+    replay_in_range(replay);
+    encoding_in_range(encoding);
+}
+
 /// An SCI has 8 octets.
 fn sci_in_range(sci: Sci)
     ensures { IsSci sci }
 {
     let _octets = sci.get();
+}
+
+/// An association number is 0 to 3.
+fn an_in_range(an: An)
+    ensures { IsAn an }
+{
+    let _number = an.get();
+}
+
+/// The SCI and the number of a receive association.
+fn rx_in_range(sci: Sci, an: An)
+    ensures { IsSci sci × IsAn an }
+{
+    sci_in_range(sci);
+    an_in_range(an);
+}
+
+/// The number and the ceiling of an association.
+fn ceiling_in_range(an: An, ceiling: Ceiling)
+    ensures { IsAn an × IsCeiling ceiling }
+{
+    let _numbers = (an.get(), ceiling.get());
+}
+
+/// The number, the key and the ceiling of an association.
+fn sa_in_range(an: An, key: [u8; 16], ceiling: Ceiling)
+    ensures { IsAn an × IsKey key × IsCeiling ceiling }
+{
+    ceiling_in_range(an, ceiling);
+    key_in_range(key);
+}
+
+/// The number, the key and the first packet number of a new association.
+fn install_in_range(an: An, key: [u8; 16], start: Pn)
+    ensures { IsAn an × IsKey key × IsStart start }
+{
+    let _numbers = (an.get(), start.get());
+    key_in_range(key);
 }
 
 /// A key has 16 octets.

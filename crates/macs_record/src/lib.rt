@@ -7,6 +7,7 @@ mod encoding;
 mod gate;
 mod head;
 mod head_codec;
+mod kind;
 pub mod laws;
 mod protection;
 mod reading;
@@ -19,6 +20,7 @@ pub use encoding::encode;
 pub use gate::{CLOSED_GATE, is_open, open_gate};
 pub use head::Head;
 pub use head_codec::{decode_head, encode_head};
+pub use kind::Kind;
 pub use record::{Record, RecordFault};
 
 /// The octets of a sector.

@@ -3,8 +3,10 @@
 ghost use Rattle.std.specs.Prelude.{◌≡◌};
 ghost use Rattle.macs_config.specs.declared.command.Command.TheVariants.{RxInstall, TxInstall};
 ghost use Rattle.macs_record.specs.Commands.{record_of};
+ghost use Rattle.macs_record.specs.Layout.{kind_of};
 
 use crate::ceiling::Ceiling;
+use crate::kind::Kind;
 use crate::protection::protection;
 use macs_config::{Command, Fingerprints, Replay, Role, RxSa, SciMode, TxSa, Validate};
 use macs_frame::{An, Offset, Pn, Sci};
@@ -127,6 +129,31 @@ impl Record {
                 offset,
             } => rx_install(sci, an, key, start, offset),
             Command::RxRemove { sci, an } => Some(Record::RxRemove { sci, an }),
+        }
+    }
+
+    /// Its kind.
+    pub fn kind(&self) -> Kind
+        ensures { result ≡ kind_of self.now }
+    {
+        match self {
+            Record::Settings { .. } => Kind::Settings,
+            Record::TxSa { .. } => Kind::TxSa,
+            Record::Channel { .. } => Kind::Channel,
+            Record::RxSa { .. } => Kind::RxSa,
+            Record::Spent { .. } => Kind::Spent,
+            Record::SetValidate(_) => Kind::SetValidate,
+            Record::SetReplay(_) => Kind::SetReplay,
+            Record::SetSciMode(_) => Kind::SetSciMode,
+            Record::TxInstall { .. } => Kind::TxInstall,
+            Record::TxUse { .. } => Kind::TxUse,
+            Record::TxRemove { .. } => Kind::TxRemove,
+            Record::RxAdd { .. } => Kind::RxAdd,
+            Record::RxDrop { .. } => Kind::RxDrop,
+            Record::RxInstall { .. } => Kind::RxInstall,
+            Record::RxRemove { .. } => Kind::RxRemove,
+            Record::TxCeiling { .. } => Kind::TxCeiling,
+            Record::RxCeiling { .. } => Kind::RxCeiling,
         }
     }
 }

@@ -11,11 +11,8 @@ use crate::need::RxNeed;
 use crate::settling::settle;
 use crate::verdict::{Kind, Reason, Verdict};
 use macs_config::{Replay, Validate};
-use macs_frame::{An, FrameBuf, Offset, Parts, Pn, Sci, open_parts};
+use macs_frame::{An, END_OF_NUMBERS, FrameBuf, Offset, Parts, Pn, Sci, open_parts};
 use macs_gcm::GcmKey;
-
-/// The end of the packet numbers: the first number that is none.
-const END_OF_NUMBERS: u64 = 1 << 32;
 
 /// The packet numbers of a receive association.
 ///

@@ -16,10 +16,7 @@ use crate::need::RxNeed;
 use crate::settling::settle;
 use crate::verdict::{Kind, Reason, Verdict};
 use macs_config::{Replay, Validate};
-use macs_frame::{An, FrameBuf, Parts, Sci};
-
-/// How many associations a channel may have.
-const ASSOCIATIONS: usize = 4;
+use macs_frame::{ASSOCIATIONS, An, FrameBuf, Parts, Sci};
 
 /// A receive channel: its SCI, its associations by their numbers, and what was counted for it.
 #[derive(Default, Drop)]
@@ -165,13 +162,11 @@ impl Channel {
     }
 
     /// The need of the association at a number.
-    fn need_at(&self, number: u8, block: u32) -> Option<RxNeed>
-        requires { number < 4 }
+    fn need_at(&self, an: An, block: u32) -> Option<RxNeed>
         ensures { option_map (λ (need : RxNeed). record { sci = need.sci; an = need.an; pn = need.pn }) result
-            ≡ need_of block self.now.sci number (numbers_in (Some self.now) number) (ceilings_in (Some self.now) number) }
+            ≡ need_of block self.now.sci an (numbers_in (Some self.now) an) (ceilings_in (Some self.now) an) }
     {
-        let an = An::new(number)?;
-        let association = self.associations[number as usize].as_ref()?;
+        let association = self.associations[an.get() as usize].as_ref()?;
         association.need(self.sci, an, block)
     }
 
@@ -181,9 +176,10 @@ impl Channel {
             ≡ first_need (map (λ an. need_of block self.now.sci an (numbers_in (Some self.now) an) (ceilings_in (Some self.now) an))
             (0 ∷ 1 ∷ 2 ∷ 3 ∷ [])) }
     {
-        self.need_at(0, block)
-            .or_else(|| self.need_at(1, block))
-            .or_else(|| self.need_at(2, block))
-            .or_else(|| self.need_at(3, block))
+        let [first, second, third, fourth] = An::all();
+        self.need_at(first, block)
+            .or_else(|| self.need_at(second, block))
+            .or_else(|| self.need_at(third, block))
+            .or_else(|| self.need_at(fourth, block))
     }
 }

@@ -4,7 +4,7 @@ ghost use Rattle.std.specs.Prelude.{◌≡◌, ◌≤◌, ◌<◌, ◌^◌, ℕ,
 ghost use Rattle.std.specs.List.{filter};
 ghost use Rattle.std.specs.Option.{is_some, option_map};
 ghost use Rattle.std.specs.Str.{bytes_eq};
-ghost use Rattle.macs_config.specs.Config.{first_edition, is_ascending, put_among};
+ghost use Rattle.macs_config.specs.Config.{this_edition, is_ascending, put_among};
 ghost use Rattle.macs_config.specs.Tables.{put, put_at};
 ghost use Rattle.macs_rxsc.specs.Receive.{AreOrdered, Numbers, Receives, channel_of, has_channel, new_side, put_numbers, started, windowed};
 ghost use Rattle.macs_rxsc.specs.Needs.{Need, needs_of, raised};
@@ -86,7 +86,7 @@ impl Rx {
     /// A new channel, of an SCI of which none stands, where fewer than 8 stand.
     pub fn add(&mut self, sci: Sci)
         requires free { has_channel (side_of self.old) sci ≡ false }
-        requires room { length (side_of self.old).channels < first_edition.channels }
+        requires room { length (side_of self.old).channels < this_edition.channels }
         ensures side { side_of self.new ≡ record (side_of self.old)
             { channels = put_among sci (side_of self.old).channels } }
         ensures ceilings { ceilings_of self.new ≡ ceilings_of self.old }
@@ -249,7 +249,7 @@ impl Rx {
     /// Whether another channel may be added, as the tests have to ask.
     #[cfg(test)]
     pub(crate) fn has_room(&self) -> bool
-        ensures { result ≡ nat_lt (length (side_of self.now).channels) first_edition.channels }
+        ensures { result ≡ nat_lt (length (side_of self.now).channels) this_edition.channels }
     {
         self.table.channels.len() < macs_config::MAX_CHANNELS
     }

@@ -1,7 +1,6 @@
 //! What becomes of a frame that does not verify.
 
-ghost use Rattle.std.specs.Prelude.{◌≡◌, ◌||◌, [], ◌≤◌, ◌+◌, ◌++◌, length, if◌then◌else◌, List, ℕ};
-ghost use Rattle.arrayvec.specs.ArrayVec.{array_vec_len};
+ghost use Rattle.std.specs.Prelude.{◌≡◌, ◌||◌, [], if◌then◌else◌, List, ℕ};
 ghost use Rattle.macs_frame.specs.First.{IsFirst};
 ghost use Rattle.macs_frame.specs.Opening.{bare};
 ghost use Rattle.macs_frame.specs.Tag.{Tag, TagFaultHolds, changed, control, tag_faults};
@@ -10,18 +9,7 @@ ghost use Rattle.macs_rxsc.specs.declared.verdict.Verdict.TheVariants.{Delivered
 
 use crate::verdict::{Kind, Reason, Verdict};
 use macs_config::Validate;
-use macs_frame::{FrameBuf, Parts, TagFault};
-
-/// The octets of the two addresses.
-const ADDRESS_OCTETS: usize = 12;
-
-/// Appends octets, for which there is room.
-fn append(out: &mut FrameBuf, octets: &[u8])
-    requires { array_vec_len out.old + length octets.now ≤ 9216 }
-    ensures { out.new.items ≡ out.old.items ++ octets.now }
-{
-    out.try_extend_from_slice(octets).unwrap();
-}
+use macs_frame::{ADDRESS_OCTETS, FrameBuf, Parts, TagFault, append};
 
 /// Discards a frame, or delivers its addresses and Secure Data. It is delivered where validation is
 /// not strict and C is clear. The parts are a reading of it, and `out` is empty before.

@@ -1,10 +1,10 @@
 //! The receive channels that stand.
 
-ghost use Rattle.std.specs.Prelude.{◌≡◌, ◌≤◌, ◌<◌, ◌++◌, ◌∷◌, ℕ, List, Option, [], Some, None, IsSome, IfSome, true, false, not, length, map, position, slice_range, take, drop};
+ghost use Rattle.std.specs.Prelude.{◌≡◌, ◌≤◌, ◌<◌, ◌++◌, ◌∷◌, ℕ, List, Option, [], Some, None, IsSome, IfSome, true, false, not, length, map, position, take, drop};
 ghost use Rattle.std.specs.List.{filter, list_any};
 ghost use Rattle.std.specs.Option.{option_and_then, option_map};
 ghost use Rattle.std.specs.Str.{bytes_eq};
-ghost use Rattle.macs_config.specs.Config.{first_edition, is_ascending, put_among};
+ghost use Rattle.macs_config.specs.Config.{this_edition, is_ascending, put_among};
 ghost use Rattle.macs_config.specs.Tables.{put, put_at};
 ghost use Rattle.macs_frame.specs.Tag.{IsForKay, Tag};
 ghost use Rattle.macs_rxsc.specs.Receive.{Receives, channel_of, put_numbers, sci_named};
@@ -23,7 +23,7 @@ use crate::settling::{refuse, settle};
 use crate::verdict::{Kind, Reason, Verdict};
 use arrayvec::ArrayVec;
 use macs_config::{MAX_CHANNELS, Replay, Validate};
-use macs_frame::{An, FrameBuf, Parts, ScName, Sci, read_tag};
+use macs_frame::{An, FrameBuf, Parts, ScName, Sci, end_station_sci, read_tag};
 
 /// The receive channels that stand, by ascending SCI.
 #[derive(Drop)]
@@ -59,17 +59,6 @@ fn slide(channels: &mut [Channel], window: u32)
     for channel in channels.iter_mut() {
         channel.slide(window);
     }
-}
-
-/// The SCI of an end station: the source address, with port 00-01 (9.5).
-fn end_station_sci(frame: &[u8]) -> Sci
-    requires { 12 ≤ length frame.now }
-    ensures { result ≡ slice_range frame.now 6 12 ++ 0 ∷ 1 ∷ [] }
-{
-    let mut address = [0; 6];
-    address.copy_from_slice(&frame[6..12]);
-    let [a, b, c, d, e, f] = address;
-    Sci([a, b, c, d, e, f, 0, 1])
 }
 
 /// The SCI that a SecTAG names (9.5, 9.9). That is the one that is spelled out, the source address
@@ -115,7 +104,7 @@ impl Table {
     /// A new channel, of an SCI of which none stands, where fewer than 8 stand.
     pub(crate) fn add(&mut self, sci: Sci)
         requires free { list_any (λ other. bytes_eq other sci) (scis_of self.old.channels.items) ≡ false }
-        requires room { length (scis_of self.old.channels.items) < first_edition.channels }
+        requires room { length (scis_of self.old.channels.items) < this_edition.channels }
         ensures side { (validate : Validate) (replay : Replay) → shown validate replay self.new.channels.items
             ≡ record (shown validate replay self.old.channels.items)
             { channels = put_among sci (scis_of self.old.channels.items) } }

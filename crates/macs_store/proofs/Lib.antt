@@ -2,4 +2,5 @@ pub mod Replaying
 pub mod Tables
 pub mod Adjusting
 pub mod Keeping
+mod Promises
 pub mod OneStanding

@@ -4,3 +4,4 @@ pub mod Replay
 pub mod Table
 pub mod Found
 pub mod Value
+pub mod Keeps

@@ -1,7 +1,6 @@
 -- A store in memory, and what stands on its disk.
-use Rattle.std.specs.Prelude.{◌≡◌, ℕ, Bool, Some, Result, Err}
+use Rattle.std.specs.Prelude.{◌≡◌, ℕ, Bool, Some}
 use Rattle.macs_config.specs.Config.{this_edition}
-use Rattle.macs_disk.specs.Disk.{FailsOnce, Works}
 use Rattle.macs_disk.specs.Disk as disk
 use Rattle.macs_journal.specs.Found.{Content}
 use Rattle.macs_journal.specs.Value.{Holds, JournalValue}
@@ -9,8 +8,6 @@ use Rattle.macs_journal.specs.Value as journal
 use Rattle.macs_store.specs.Replay.{meaning_of}
 use Rattle.macs_store.specs.Standing.{Standing}
 use Rattle.macs_store.specs.Table.{StandingValue, standing_of}
-use Rattle.macs_store.specs.declared.fault.CommitFault.{CommitFault}
-use Rattle.macs_store.specs.declared.fault.CommitFault.TheVariants.{Disk}
 
 -- what a store keeps
 pub record StoreValue (D : Type 0) : Type 0 where
@@ -42,12 +39,3 @@ pub record IsStored {D : Type 0} (disk_of : D → disk.Disk) (s : StoreValue D) 
   pub content : Content
   pub holding : Holds disk_of s.journal content
   pub stands : meaning_of this_edition content ≡ Some (standing_in s)
-
--- calls of the disk, the last of which failed exactly where this is answered as Disk
-abbrev pub CommitFails : disk.Disk → disk.Disk → Result (Unit {0}) CommitFault → Type 0
-CommitFails old new (Err Disk) = FailsOnce old new
-CommitFails old new result = new.failures ≡ old.failures
-
-pub record IsCommitOf (old new : disk.Disk) (result : Result (Unit {0}) CommitFault) : Type 0 where
-  pub works : Works old new
-  pub fails : CommitFails old new result

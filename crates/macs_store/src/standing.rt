@@ -1,8 +1,8 @@
 //! What a journal's records stand for.
 
-ghost use Rattle.std.specs.Prelude.{◌≡◌, ◌≤◌, ◌↔◌, List, true, false, Some, None, IsSome, Ok, Err, IsOk, OnOk, OnErr, length};
+ghost use Rattle.std.specs.Prelude.{◌≡◌, ◌≤◌, ◌↔◌, List, true, false, Some, None, IsSome, Ok, Err, IsOk, IfOk, OnOk, OnErr, length};
 ghost use Rattle.std.specs.Option.{option_map};
-ghost use Rattle.macs_config.specs.Apply.{apply};
+ghost use Rattle.macs_config.specs.Apply.{apply, fingerprint_of};
 ghost use Rattle.macs_config.specs.Config as spec;
 ghost use Rattle.macs_config.specs.Config.{this_edition};
 ghost use Rattle.macs_config.specs.Snapshot.{restored};
@@ -17,7 +17,7 @@ use crate::ahead::ahead;
 use crate::reading::{command_of, part_of};
 use crate::table::CeilingTable;
 use arrayvec::ArrayVec;
-use macs_config::{Command, Config, Identity, Part, Refusal};
+use macs_config::{Checked, Command, Config, Identity, Part, Refusal};
 use macs_frame::{An, Sci};
 use macs_record::{Ceiling, Record};
 use std::marker::Model;
@@ -140,23 +140,34 @@ impl Standing {
         self.ceilings.put_rx(sci, an, Some(ceiling));
     }
 
-    /// Whether a command fits the configuration, or the first refusal in the order of `Refusal`.
-    pub(crate) fn check(&self, command: &Command) -> Result<(), Refusal>
+    /// What a command that fits the configuration spends, or the first refusal in the order of `Refusal`.
+    pub(crate) fn check(&self, command: &Command) -> Result<Checked, Refusal>
         ensures fits { OnOk result (IsOk (accept (standing_of self.now) command.now)) }
+        ensures spends { IfOk result (λ checked. checked ≡ fingerprint_of command.now) }
         ensures refused { (refusal : Refusal) → (result ≡ Err refusal) ↔ (accept (standing_of self.now) command.now ≡ Err refusal) }
     {
         self.config.check(command)
     }
 
     /// Applies a command. A refusal, the first in the order of `Refusal`, changes nothing.
-    pub(crate) fn accept(&mut self, command: &Command) -> Result<(), Refusal>
+    fn accept(&mut self, command: &Command) -> Result<(), Refusal>
         ensures accepted { OnOk result (accept (standing_of self.old) command.now ≡ Ok (standing_of self.new)) }
         ensures refused { (refusal : Refusal) → (result ≡ Err refusal) ↔ (accept (standing_of self.old) command.now ≡ Err refusal) }
         ensures same { OnErr result (self.new ≡ self.old) }
     {
-        self.config.apply(command)?;
-        adjust(&self.config, &mut self.ceilings, command);
+        let checked = self.check(command)?;
+        self.accept_checked(command, checked);
         Ok(())
+    }
+
+    /// Applies a command that fits the configuration, by what its check found.
+    pub(crate) fn accept_checked(&mut self, command: &Command, checked: Checked)
+        requires fits { IsOk (accept (standing_of self.old) command.now) }
+        requires checked { checked ≡ fingerprint_of command.now }
+        ensures { accept (standing_of self.old) command.now ≡ Ok (standing_of self.new) }
+    {
+        self.config.apply_checked(command, checked);
+        adjust(&self.config, &mut self.ceilings, command);
     }
 }
 

@@ -1,22 +1,10 @@
 //! What an endpoint keeps, in memory and on its disk.
 
-ghost use Rattle.std.specs.Prelude.{◌≡◌, ◌<◌, ◌≤◌, ◌^◌, ◌+◌, ◌↔◌, ◌⊎◌, ℕ, true, false, Some, Ok, Err, IsOk, IsSome, IfSome, OnOk, OnErr, IsErrOf};
-ghost use Rattle.macs_config.specs.Config.{this_edition};
+ghost use Rattle.std.specs.Prelude.{◌≡◌, ◌<◌, ◌^◌, IsSome, IfSome};
 ghost use Rattle.macs_config.specs.Stored.{config_of};
-ghost use Rattle.macs_config.specs.declared.refusal.Refusal.{Refusal};
-ghost use Rattle.macs_disk.specs.Disk.{IsHonest, MayLeave, now};
-ghost use Rattle.macs_disk.specs.Runs.{Leaves};
-ghost use Rattle.macs_disk.specs.States.{Image};
-ghost use Rattle.macs_journal.specs.Areas.{slots};
-ghost use Rattle.macs_journal.specs.Work.{IsWorkOf};
-ghost use Rattle.macs_journal.specs.declared.fault.JournalFault.TheVariants as fault;
-ghost use Rattle.macs_store.specs.Found.{CommitLeaves, Finds, IsBeforeOrAfter};
-ghost use Rattle.macs_store.specs.Value.{IsCommitOf, IsStored, StoreValue, device_in, disk_in, is_stopped, standing_in, used_slots};
-ghost use Rattle.macs_store.specs.Replay.{followed};
-ghost use Rattle.macs_store.specs.Standing as spec;
-ghost use Rattle.macs_store.specs.Standing.{IsStanding, accept, ahead, rx_raised, tx_raised};
-ghost use Rattle.macs_store.specs.Table.{StandingValue, standing_of};
-ghost use Rattle.macs_store.specs.declared.fault.CommitFault.TheVariants.{AreaFull, Disk, Refused, Stopped};
+ghost use Rattle.macs_store.specs.Keeps.{Commits, Keeps, Records};
+ghost use Rattle.macs_store.specs.Value.{StoreValue, device_in, is_stopped, standing_in};
+ghost use Rattle.macs_store.specs.Standing.{IsStanding, ahead, rx_raised, tx_raised};
 
 use crate::ahead::ahead;
 use crate::fault::CommitFault;
@@ -48,30 +36,15 @@ impl<D: SectorDisk> Store<D> {
     /// holds, then as `AreaFull`; these change nothing. `Disk` at the first device call that fails: the
     /// configuration stands as it was, and after a power loss it is found with the command or without.
     pub fn commit(&mut self, command: &Command) -> Result<(), CommitFault>
-        ensures stopped { IsErrOf result Stopped ↔ (is_stopped self.old ≡ true) }
-        ensures refused { (refusal : Refusal) → (result ≡ Err (Refused refusal))
-            ↔ ((is_stopped self.old ≡ false) × (accept (standing_in self.old) command.now ≡ Err refusal)) }
-        ensures full { IsErrOf result AreaFull ↔ ((is_stopped self.old ≡ false)
-            × IsOk (accept (standing_in self.old) command.now) × (used_slots self.old ≡ slots)) }
-        ensures same { OnErr result (IsErrOf result Disk ⊎ (self.new ≡ self.old)) }
-        ensures halted { IsErrOf result Disk → (is_stopped self.new ≡ true) × (self.new.held ≡ self.old.held) }
-        ensures running { OnOk result (is_stopped self.new ≡ false) }
-        ensures slot { OnOk result (used_slots self.old < slots → used_slots self.new ≡ used_slots self.old + 1) }
-        ensures four { used_slots self.old < slots → (disk_in D.disk self.new).clock ≤ (disk_in D.disk self.old).clock + 4 }
-        ensures done { OnOk result (accept (standing_in self.old) command.now ≡ Ok (standing_in self.new)) }
-        ensures work { IsCommitOf (disk_in D.disk self.old) (disk_in D.disk self.new) result }
-        ensures any_moment { IsHonest (disk_in D.disk self.new) → IsStored D.disk self.old
-            → Leaves (disk_in D.disk self.old) (disk_in D.disk self.new) (CommitLeaves (standing_in self.old) command.now) }
-        ensures stored { OnOk result (IsHonest (disk_in D.disk self.new) → IsStored D.disk self.old → IsStored D.disk self.new) }
-        ensures kept { OnOk result (IsHonest (disk_in D.disk self.new) → IsStored D.disk self.old
-            → (image : Image) → MayLeave (disk_in D.disk self.new) image → Finds this_edition image (standing_in self.new)) }
+        ensures { Commits D.disk self.old command.now result self.new }
     {
         if self.is_stopped() {
             return Err(CommitFault::Stopped);
         }
-        if let Err(refusal) = self.standing.check(command) {
-            return Err(CommitFault::Refused(refusal));
-        }
+        let checked = match self.standing.check(command) {
+            Ok(checked) => checked,
+            Err(refusal) => return Err(CommitFault::Refused(refusal)),
+        };
         let value = Record::command(command).unwrap();
         if let Err(fault) = self.keep(&value) {
             return match fault {
@@ -79,7 +52,7 @@ impl<D: SectorDisk> Store<D> {
                 _ => Err(CommitFault::Disk),
             };
         }
-        self.standing.accept(command).unwrap();
+        self.standing.accept_checked(command, checked);
         Ok(())
     }
 
@@ -90,22 +63,7 @@ impl<D: SectorDisk> Store<D> {
     pub fn reserve_tx(&mut self, an: An) -> Result<(), JournalFault>
         requires raised { IfSome ((standing_in self.old).ceilings.tx an) (λ old. old < 2 ^ 32) }
         requires stands { IsSome ((standing_in self.old).ceilings.tx an) }
-        ensures stopped { IsErrOf result fault.Stopped ↔ (is_stopped self.old ≡ true) }
-        ensures full { IsErrOf result fault.AreaFull ↔ ((is_stopped self.old ≡ false) × (used_slots self.old ≡ slots)) }
-        ensures names { OnErr result (IsErrOf result fault.Stopped ⊎ (IsErrOf result fault.AreaFull ⊎ IsErrOf result fault.Disk)) }
-        ensures same { OnErr result (IsErrOf result fault.Disk ⊎ (self.new ≡ self.old)) }
-        ensures halted { IsErrOf result fault.Disk → (is_stopped self.new ≡ true) × (self.new.held ≡ self.old.held) }
-        ensures running { OnOk result (is_stopped self.new ≡ false) }
-        ensures slot { OnOk result (used_slots self.old < slots → used_slots self.new ≡ used_slots self.old + 1) }
-        ensures four { used_slots self.old < slots → (disk_in D.disk self.new).clock ≤ (disk_in D.disk self.old).clock + 4 }
-        ensures done { OnOk result (standing_in self.new ≡ tx_raised (standing_in self.old) an) }
-        ensures work { IsWorkOf (disk_in D.disk self.old) (disk_in D.disk self.new) result }
-        ensures any_moment { IsHonest (disk_in D.disk self.new) → IsStored D.disk self.old
-            → Leaves (disk_in D.disk self.old) (disk_in D.disk self.new)
-            (IsBeforeOrAfter (standing_in self.old) (tx_raised (standing_in self.old) an)) }
-        ensures stored { OnOk result (IsHonest (disk_in D.disk self.new) → IsStored D.disk self.old → IsStored D.disk self.new) }
-        ensures kept { OnOk result (IsHonest (disk_in D.disk self.new) → IsStored D.disk self.old
-            → (image : Image) → MayLeave (disk_in D.disk self.new) image → Finds this_edition image (standing_in self.new)) }
+        ensures { Keeps D.disk self.old (tx_raised (standing_in self.old) an) result self.new }
     {
         let old = self.tx_ceiling(an).unwrap();
         let ceiling = ahead(old.get(), self.identity().tx_block());
@@ -120,22 +78,7 @@ impl<D: SectorDisk> Store<D> {
         requires raised { IfSome ((standing_in self.old).ceilings.rx sci an)
             (λ old. old < ahead pn (standing_in self.old).identity.rx_block) }
         requires stands { IsSome ((standing_in self.old).ceilings.rx sci an) }
-        ensures stopped { IsErrOf result fault.Stopped ↔ (is_stopped self.old ≡ true) }
-        ensures full { IsErrOf result fault.AreaFull ↔ ((is_stopped self.old ≡ false) × (used_slots self.old ≡ slots)) }
-        ensures names { OnErr result (IsErrOf result fault.Stopped ⊎ (IsErrOf result fault.AreaFull ⊎ IsErrOf result fault.Disk)) }
-        ensures same { OnErr result (IsErrOf result fault.Disk ⊎ (self.new ≡ self.old)) }
-        ensures halted { IsErrOf result fault.Disk → (is_stopped self.new ≡ true) × (self.new.held ≡ self.old.held) }
-        ensures running { OnOk result (is_stopped self.new ≡ false) }
-        ensures slot { OnOk result (used_slots self.old < slots → used_slots self.new ≡ used_slots self.old + 1) }
-        ensures four { used_slots self.old < slots → (disk_in D.disk self.new).clock ≤ (disk_in D.disk self.old).clock + 4 }
-        ensures done { OnOk result (standing_in self.new ≡ rx_raised (standing_in self.old) sci an pn) }
-        ensures work { IsWorkOf (disk_in D.disk self.old) (disk_in D.disk self.new) result }
-        ensures any_moment { IsHonest (disk_in D.disk self.new) → IsStored D.disk self.old
-            → Leaves (disk_in D.disk self.old) (disk_in D.disk self.new)
-            (IsBeforeOrAfter (standing_in self.old) (rx_raised (standing_in self.old) sci an pn)) }
-        ensures stored { OnOk result (IsHonest (disk_in D.disk self.new) → IsStored D.disk self.old → IsStored D.disk self.new) }
-        ensures kept { OnOk result (IsHonest (disk_in D.disk self.new) → IsStored D.disk self.old
-            → (image : Image) → MayLeave (disk_in D.disk self.new) image → Finds this_edition image (standing_in self.new)) }
+        ensures { Keeps D.disk self.old (rx_raised (standing_in self.old) sci an pn) result self.new }
     {
         let ceiling = ahead(u64::from(pn.get()), self.identity().rx_block());
         self.keep(&Record::RxCeiling { sci, an, ceiling })?;
@@ -145,25 +88,7 @@ impl<D: SectorDisk> Store<D> {
 
     /// Keeps a record; what stands in memory does not change yet.
     fn keep(&mut self, value: &Record) -> Result<(), JournalFault>
-        ensures stopped { IsErrOf result fault.Stopped ↔ (is_stopped self.old ≡ true) }
-        ensures full { IsErrOf result fault.AreaFull ↔ ((is_stopped self.old ≡ false) × (used_slots self.old ≡ slots)) }
-        ensures names { OnErr result (IsErrOf result fault.Stopped ⊎ (IsErrOf result fault.AreaFull ⊎ IsErrOf result fault.Disk)) }
-        ensures same { OnErr result (IsErrOf result fault.Disk ⊎ (self.new ≡ self.old)) }
-        ensures standing { self.new.held ≡ self.old.held }
-        ensures halted { IsErrOf result fault.Disk → is_stopped self.new ≡ true }
-        ensures running { OnOk result (is_stopped self.new ≡ false) }
-        ensures slot { OnOk result (used_slots self.old < slots → used_slots self.new ≡ used_slots self.old + 1) }
-        ensures four { used_slots self.old < slots → (disk_in D.disk self.new).clock ≤ (disk_in D.disk self.old).clock + 4 }
-        ensures work { IsWorkOf (disk_in D.disk self.old) (disk_in D.disk self.new) result }
-        ensures any_moment { IsHonest (disk_in D.disk self.new) → IsStored D.disk self.old
-            → (after : spec.Standing) → followed (standing_in self.old) value.now ≡ Some after
-            → Leaves (disk_in D.disk self.old) (disk_in D.disk self.new) (IsBeforeOrAfter (standing_in self.old) after) }
-        ensures stored { OnOk result (IsHonest (disk_in D.disk self.new) → IsStored D.disk self.old
-            → (held : StandingValue) → followed (standing_in self.old) value.now ≡ Some (standing_of held)
-            → IsStored D.disk (record self.new { held = held })) }
-        ensures kept { OnOk result (IsHonest (disk_in D.disk self.new) → IsStored D.disk self.old
-            → (after : spec.Standing) → followed (standing_in self.old) value.now ≡ Some after
-            → (image : Image) → MayLeave (disk_in D.disk self.new) image → Finds this_edition image after) }
+        ensures { Records D.disk self.old value.now result self.new }
     {
         if self.journal.is_stopped() {
             return Err(JournalFault::Stopped);

@@ -16,11 +16,10 @@ use crate::association::Association;
 use crate::counters::TxCounters;
 use crate::fault::TxFault;
 use macs_config::{Protection, SciMode};
-use macs_frame::{An, FrameBuf, MAX_FRAME, MIN_FRAME, Offset, Pn, ScName, Sci};
+use macs_frame::{
+    ASSOCIATIONS, An, END_OF_NUMBERS, FrameBuf, MAX_FRAME, MIN_FRAME, Offset, Pn, ScName, Sci,
+};
 use macs_gcm::GcmKey;
-
-/// The end of the packet numbers: the first number that is none.
-const END_OF_NUMBERS: u64 = 1 << 32;
 
 /// A transmit channel: its SCI, how its frames name it, its associations by their numbers, and the
 /// one that frames go out under.
@@ -29,7 +28,7 @@ pub struct Tx {
     sci: Sci,
     mode: SciMode,
     encoding: Option<An>,
-    associations: [Option<Association>; 4],
+    associations: [Option<Association>; ASSOCIATIONS],
     counters: TxCounters,
 }
 

@@ -1,7 +1,9 @@
+pub mod Controls
 pub mod FirstFault
 pub mod HexDigits
 pub mod Opened
 pub mod Printing
 pub mod Spelling
 pub mod Subcommands
+pub mod Taken
 pub mod TextLines

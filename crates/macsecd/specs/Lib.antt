@@ -1,3 +1,4 @@
+pub mod Controls
 pub mod Words
 pub mod Help
 pub mod Lines

@@ -1,7 +1,7 @@
 -- How a run ends.
-use Rattle.std.specs.Prelude.{◌≡◌, ◌⊎◌, ◌++◌, ℕ, List, [], ◌∷◌, Option, IfSome, codes, string_bytes}
+use Rattle.std.specs.Prelude.{◌≡◌, ◌⊎◌, ◌++◌, true, ℕ, List, [], ◌∷◌, Option, IfSome, codes, string_bytes}
 use Rattle.std.specs.Io.KnownBytes.{Appends}
-use Rattle.clap.specs.Words.{Text, subcommand_of}
+use Rattle.clap.specs.Words.{Text, subcommand_of, takes}
 use Rattle.macsecd.specs.Answer.{Answers, answer_status, answer_text}
 use Rattle.macsecd.specs.Help.{topic_text}
 use Rattle.macsecd.specs.Words.{AsksFor, Names, macsecd}
@@ -21,11 +21,11 @@ abbrev pub Prints : List ℕ → Option (List ℕ) → Option (List ℕ) → Sta
 Prints input before after status =
     (answer : Answer) × Answers input answer × Appends before after (answer_text answer ++ 10 ∷ []) × (status ≡ answer_status answer)
 
--- a run that does not fail is asked for help and prints it, or opens its input
+-- a run that does not fail is asked for help and prints it, or its words are taken and name `open`, and it opens its input
 abbrev pub Replies : List Text → Option (List ℕ) → Option (List ℕ) → Option (List ℕ) → Status → Type 0
 Replies words input before after status =
     ((topic : Topic) × AsksFor words topic × Appends before after (topic_text topic) × (status ≡ ends.Done))
-    ⊎ (Names (subcommand_of macsecd words) Open × IfSome input (λ octets. Prints octets before after status))
+    ⊎ ((takes macsecd words ≡ true) × Names (subcommand_of macsecd words) Open × IfSome input (λ octets. Prints octets before after status))
 
 -- the failure that a fault of the words is
 abbrev pub failure_of : UsageFault → Failure

@@ -1,5 +1,5 @@
 -- The words that the program knows, the action that they name, and those that ask for help.
-use Rattle.std.specs.Prelude.{◌≡◌, ◌≢◌, ◌⊎◌, map, true, false, List, [], ◌∷◌, Option, Some, None, codes}
+use Rattle.std.specs.Prelude.{◌≡◌, ◌≢◌, ◌⊎◌, ⊤, map, true, false, List, [], ◌∷◌, Option, Some, None, codes, string_bytes}
 use Rattle.std.specs.Borrow.{Bor}
 use Rattle.clap.specs.Simple.{on_top}
 use Rattle.clap.specs.Words.{App, Row, Text, app_of, kind_of, new_app, with_subcommand}
@@ -7,6 +7,7 @@ use Rattle.clap.specs.declared.builder.command.Command.{Command}
 use Rattle.clap.specs.declared.builder.command.Command.TheViews.{out-Command as fields_of}
 use Rattle.clap.specs.declared.error.Error.{Error}
 use Rattle.clap.specs.declared.error.kind.ErrorKind.TheVariants.{OutOfMemory}
+use Rattle.macsecd.specs.Controls.{IsPrintable}
 use Rattle.macsecd.specs.declared.action.UsageFault.{UsageFault}
 use Rattle.macsecd.specs.declared.action.UsageFault.TheVariants.{Usage, Memory}
 use Rattle.macsecd.specs.declared.action.Action.{Action}
@@ -46,6 +47,11 @@ Names (Some found) Open = found.0 ≡ codes "open"
 abbrev pub IsFaultOf : Error → UsageFault → Type 0
 IsFaultOf error Memory = kind_of error ≡ OutOfMemory
 IsFaultOf error (Usage cause) = kind_of error ≢ OutOfMemory
+
+-- the cause, where the fault has one, is without control characters
+abbrev pub HasPrintableCause : UsageFault → Type 0
+HasPrintableCause (Usage cause) = IsPrintable (string_bytes cause)
+HasPrintableCause Memory = ⊤
 
 -- ---- help
 

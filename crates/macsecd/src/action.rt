@@ -1,9 +1,11 @@
 //! What the program's words ask for.
 
-ghost use Rattle.std.specs.Prelude.{◌≡◌, ◌↔◌, IfOk, IfErr, OnOk, true, []};
+ghost use Rattle.std.specs.Prelude.{◌≡◌, ◌↔◌, IfOk, IfErr, OnOk, true, [], string_bytes};
 ghost use Rattle.clap.specs.Words.{app_of, fault_of, subcommand_of, subcommand_rows_of, takes};
-ghost use Rattle.macsecd.specs.Words.{IsCommand, IsFaultOf, Names, macsecd, open_app, texts};
+ghost use Rattle.macsecd.specs.Controls.{IsPrintable};
+ghost use Rattle.macsecd.specs.Words.{HasPrintableCause, IsCommand, IsFaultOf, Names, macsecd, open_app, texts};
 
+use crate::plain_text::printable;
 use clap::error::ErrorKind;
 use clap::{ArgMatches, Command};
 use std::alloc::{AllocError, Global};
@@ -53,16 +55,19 @@ fn known_words<'a>(alloc: Global) -> Result<Command<'a>, AllocError>
         .subcommand(open_words(alloc))
 }
 
-/// What an error says first, in one line.
-fn cause_of(alloc: Global, error: &clap::Error) -> Result<String, AllocError> {
+/// What an error says first, in one line. It repeats the words, so control characters are replaced.
+fn cause_of(alloc: Global, error: &clap::Error) -> Result<String, AllocError>
+    ensures { IfOk result (λ cause. IsPrintable (string_bytes cause)) }
+{
     let text = error.to_string(alloc)?;
     let line = text.lines().next().unwrap_or("");
-    String::from_str(alloc, line.strip_prefix("error: ").unwrap_or(line))
+    printable(alloc, line.strip_prefix("error: ").unwrap_or(line))
 }
 
 /// The fault that an error of the library is.
 fn usage_fault_of(alloc: Global, error: &clap::Error) -> Result<UsageFault, AllocError>
-    ensures { IfOk result (IsFaultOf error.now) }
+    ensures kind { IfOk result (IsFaultOf error.now) }
+    ensures printable { IfOk result HasPrintableCause }
 {
     match error.kind() {
         ErrorKind::OutOfMemory => Ok(UsageFault::Memory),
@@ -90,6 +95,8 @@ pub fn action_of(alloc: Global, words: &[&str]) -> Result<Action, UsageFault>
         → IfErr result (λ fault. fault ≡ UsageFault.Memory) }
     // What is answered is nothing that clap refuses.
     ensures refused { OnOk result (fault_of macsecd (texts words.now) ≡ []) }
+    // The cause of a refusal has no control character.
+    ensures printable { IfErr result HasPrintableCause }
 {
     match known_words(alloc)?.try_get_matches_from(words) {
         Ok(matches) => Ok(action_in(&matches).unwrap()),

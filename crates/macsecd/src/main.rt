@@ -7,6 +7,7 @@ mod failure;
 mod help;
 mod hex_text;
 mod lines;
+mod plain_text;
 mod request;
 mod run;
 mod status;

@@ -84,6 +84,7 @@ fn act<R: Read, W: Write>(
     ensures status { IfOk result (λ status. status ≢ Status.Usage) }
     ensures usage { IfErr result (λ failure. failure_status failure ≡ Status.Usage
         → (takes macsecd (texts words.now) ≢ true) × (out.new ≡ out.old)) }
+    ensures unread { takes macsecd (texts words.now) ≢ true → input.new ≡ input.old }
 {
     if let Some(topic) = topic_of(words) {
         print(out, topic.text())?;
@@ -113,7 +114,8 @@ pub fn run<R: Read, W: Write, E: Write>(
 ) -> u8
     // The status is one of 0, 2, 3 and 5.
     ensures status { (status : Status) × (result ≡ code_of status) }
-    // At 0 and 3 the help or the answer to the input is written to standard output.
+    // At 0 and 3 the words ask for help or are taken, and the help or the answer to the input is
+    // written to standard output.
     ensures replied { (result ≡ 0) ⊎ (result ≡ 3) → (status : Status) × (result ≡ code_of status)
         × Replies (texts words.now) (R.remaining input.old)
         (W.contents out.old) (W.contents out.new) status }
@@ -121,6 +123,8 @@ pub fn run<R: Read, W: Write, E: Write>(
     ensures quiet { (result ≡ 0) ⊎ (result ≡ 3) → err.new ≡ err.old }
     // At 2 the words are none that are taken, and nothing is printed.
     ensures usage { result ≡ 2 → (takes macsecd (texts words.now) ≢ true) × (out.new ≡ out.old) }
+    // Words that are not taken, as those that ask for help, leave the input unread.
+    ensures unread { takes macsecd (texts words.now) ≢ true → input.new ≡ input.old }
 {
     match act(alloc, words, input, out) {
         Ok(status) => status.code(),

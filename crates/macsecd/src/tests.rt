@@ -2,6 +2,8 @@
 //! confidentiality from IEEE Std 802.1AE-2018, Annex C; those with an offset were made from them by
 //! Python's `cryptography` (AESGCM with the octets in front of the offset in the additional data).
 
+mod help;
+mod help_text;
 mod input;
 mod opening;
 mod streams;
@@ -21,6 +23,10 @@ const SCI: &str = "12153524c0895e81";
 /// A frame under integrity alone, of 86 octets.
 const INTEGRITY: &str =
     "d609b1f056637a0d46df998d88e5222ab2c2846512153524c0895e8108000f101112131415161718191a1b1c1d1e1f202122232425262728292a2b2c2d2e2f30313233340001f09478a9b09007d06f46e9b6a1da25dd";
+
+/// The input of the frame under integrity.
+const INPUT: &str =
+    "ad7a2bd03eac835a6f620fdcb506b345\n12153524c0895e81\n0\nd609b1f056637a0d46df998d88e5222ab2c2846512153524c0895e8108000f101112131415161718191a1b1c1d1e1f202122232425262728292a2b2c2d2e2f30313233340001f09478a9b09007d06f46e9b6a1da25dd\n";
 
 /// The line that is printed for it.
 const INTEGRITY_LINE: &str =

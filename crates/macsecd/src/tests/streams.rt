@@ -1,6 +1,7 @@
 //! Readers and writers that fail, and memory that is refused.
 
-use super::{INTEGRITY_LINE, KEY, OPENED, Outcome, expect_of, status_of};
+use super::help_text::HELP_TEXT;
+use super::{INPUT, INTEGRITY_LINE, KEY, OPENED, Outcome, expect_of, status_of};
 use crate::answer::{Answer, answer_of};
 use crate::run::line_of;
 use linked_list_allocator::LocalHeap;
@@ -8,10 +9,6 @@ use std::alloc::Global;
 use std::io::{self, Read, Write};
 use std::process::Abort;
 use std::test::Fail;
-
-/// The input of the frame under integrity.
-const INPUT: &str =
-    "ad7a2bd03eac835a6f620fdcb506b345\n12153524c0895e81\n0\nd609b1f056637a0d46df998d88e5222ab2c2846512153524c0895e8108000f101112131415161718191a1b1c1d1e1f202122232425262728292a2b2c2d2e2f30313233340001f09478a9b09007d06f46e9b6a1da25dd\n";
 
 /// A reader that gives some octets and then fails.
 #[derive(Drop)]
@@ -94,18 +91,50 @@ impl Write for Failing {
     }
 }
 
+/// A reader that fails at its first read, and remembers that it was asked.
+#[derive(Drop)]
+struct Unread {
+    is_asked: bool,
+}
+
+impl Read for Unread {
+    fn read(&mut self, _buf: &mut [u8]) -> io::Result<usize> {
+        self.is_asked = true;
+        Err(io::Error::from(io::ErrorKind::Other))
+    }
+}
+
+const READ_FAULT: Outcome = Outcome::Fault("macsecd: input\n");
+
+/// Words, what they come to over a reader that fails, and whether it is asked.
+const READINGS: &[(&[&str], Outcome, bool)] = &[
+    (
+        &["frobnicate"],
+        Outcome::Usage("macsecd: unrecognized subcommand 'frobnicate'\n"),
+        false,
+    ),
+    (&["--help"], Outcome::Done(HELP_TEXT), false),
+    (&["open", "-h"], Outcome::Done(HELP_TEXT), false),
+    (&["--version"], Outcome::Done("macsecd 0.1.0\n"), false),
+    (&["open"], READ_FAULT, true),
+];
+
+/// The words are judged before anything is read.
+#[test]
+fn reads_for_open_alone(rt: HostRuntime) {
+    for (words, outcome, is_asked) in READINGS {
+        let mut reader = Unread { is_asked: false };
+        expect_of(&rt, rt.alloc(), words, &mut reader, *outcome);
+        assert_eq!(rt; reader.is_asked, *is_asked);
+    }
+}
+
 /// At once, in mid-stream, and where the input would end.
 #[test]
 fn a_failed_read_is_input(rt: HostRuntime) {
     for given in ["", KEY, INPUT] {
         let mut reader = Broken(given.as_bytes());
-        expect_of(
-            &rt,
-            rt.alloc(),
-            &[],
-            &mut reader,
-            Outcome::Fault("macsecd: input\n"),
-        );
+        expect_of(&rt, rt.alloc(), &[], &mut reader, READ_FAULT);
     }
 }
 

@@ -1,8 +1,6 @@
-//! Words: the actions, what is refused, and what asks for help.
+//! Words: the action, and what is refused.
 
-use super::{INTEGRITY, KEY, OPENED, Outcome, SCI, expect, expect_lines, joined, status_of};
-use std::alloc::Global;
-use std::process::Abort;
+use super::{INTEGRITY, KEY, OPENED, Outcome, SCI, expect, expect_lines, joined};
 use std::test::Fail;
 
 /// `open` is also what no word asks for.
@@ -83,28 +81,42 @@ fn refuses_other_words(rt: HostRuntime) {
     }
 }
 
-/// The words print the help and nothing else.
-fn expect_help(rt: &impl Abort, alloc: Global, words: &[&str]) {
-    let mut out = Vec::new(alloc);
-    let mut err = Vec::new(alloc);
-    let status = status_of(alloc, words, &mut b"".as_slice(), &mut out, &mut err);
-    assert_eq!(rt; status, 0);
-    assert!(rt; out.as_slice().starts_with(b"usage: macsecd [open]\n"));
-    assert!(rt; out.as_slice().ends_with(b"\n"));
-    assert!(rt; err.is_empty());
-}
-
-const HELP_WORDS: &[&[&str]] = &[&["--help"], &["-h"], &["open", "--help"], &["open", "-h"]];
+/// Words with characters that a terminal obeys, and the line that says why they are refused: it
+/// ends at a line feed of theirs, and has `?` in the place of each other one.
+const CONTROL_WORDS: &[(&[&str], Outcome)] = &[
+    (
+        &["\x1b[31mred"],
+        Outcome::Usage("macsecd: unrecognized subcommand '?[31mred'\n"),
+    ),
+    (
+        &["frob\rnicate"],
+        Outcome::Usage("macsecd: unrecognized subcommand 'frob?nicate'\n"),
+    ),
+    (
+        &["frob\tnicate"],
+        Outcome::Usage("macsecd: unrecognized subcommand 'frob?nicate'\n"),
+    ),
+    (
+        &["\u{9b}31mred"],
+        Outcome::Usage("macsecd: unrecognized subcommand '?31mred'\n"),
+    ),
+    (
+        &["\0\x1f \x7f\u{80}\u{9f}\u{a0}é"],
+        Outcome::Usage("macsecd: unrecognized subcommand '?? ???\u{a0}é'\n"),
+    ),
+    (
+        &["open", "--\x1b[31m\t\u{9b}"],
+        Outcome::Usage("macsecd: unexpected argument '--?[31m??' found\n"),
+    ),
+    (
+        &["\x1b[31m\r\t\u{9b}\nmacsecd: input"],
+        Outcome::Usage("macsecd: unrecognized subcommand '?[31m???\n"),
+    ),
+];
 
 #[test]
-fn prints_help(rt: HostRuntime) {
-    for words in HELP_WORDS {
-        expect_help(&rt, rt.alloc(), words);
+fn says_nothing_that_a_terminal_obeys(rt: HostRuntime) {
+    for (words, outcome) in CONTROL_WORDS {
+        expect(&rt, rt.alloc(), words, "", *outcome);
     }
-}
-
-#[test]
-fn prints_its_version(rt: HostRuntime) {
-    let version = Outcome::Done("macsecd 0.1.0\n");
-    expect(&rt, rt.alloc(), &["--version"], "", version);
 }

@@ -1,12 +1,26 @@
-use Rattle.std.proofs.Common.{◌∙◌, ap, sym}
-use Rattle.macs_config.specs.Apply.{refusal_of}
-use Rattle.macs_config.specs.Config.{first_edition}
+use Rattle.std.proofs.Common.{◌≡◌, ◌∙◌, Option, ap}
+use Rattle.macs_config.specs.Apply.{fingerprint_of, refusal_of, unless}
+use Rattle.macs_config.specs.Config.{this_edition}
 use Rattle.macs_config.specs.Stored.{Stored, config_of}
-use Rattle.macs_config.proofs.Refused.{refused_by}
+use Rattle.macs_config.specs.declared.refusal.Refusal.{Refusal}
+use Rattle.macs_config.proofs.Refused.{answered_unless, refused_unless}
 use Rattle.macs_config.proofs.config.Config.check.Goals as goal
+use Rattle.macs_config.proofs.config.Config.check.Goals.{After-check}
 
-pub returns-in-Some : goal.returns-in-Some
-returns-in-Some c =
-    let at_now = ap (λ (s : Stored). refusal_of first_edition s.identity (config_of s) c.args.command.now) c.self.view_is in
-    refused_by (refusal_of first_edition c.args.self.now.identity (config_of c.args.self.now) c.args.command.now) c.in-Some.refusal
-    (sym at_now ∙ sym c.refusal_of.ensures ∙ c.in-Some.is)
+abbrev first : (c : After-check) → Option Refusal
+first c = refusal_of this_edition c.args.self.now.identity (config_of c.args.self.now) c.args.command.now
+
+checked : (c : After-check) → c.check.result ≡ unless (first c) (fingerprint_of c.args.command.now)
+checked c =
+    c.check.ensures
+    ∙ ap (λ (s : Stored). unless (refusal_of this_edition s.identity (config_of s) c.args.command.now) (fingerprint_of c.args.command.now)) c.self.view_is
+
+pub returns-clause-refused : goal.returns-clause-refused
+returns-clause-refused c =
+    let after = (goal.at.returns-clause-refused c).After-check in
+    refused_unless (first after) (fingerprint_of c.args.command.now) c.check.result (checked after)
+
+pub returns-clause-spends : goal.returns-clause-spends
+returns-clause-spends c =
+    let after = (goal.at.returns-clause-spends c).After-check in
+    answered_unless (first after) (fingerprint_of c.args.command.now) c.check.result (checked after)

@@ -2,8 +2,9 @@ use Rattle.std.proofs.Common.{◌≡◌, Some, Result, Ok, Err, sym, subst}
 use Rattle.macs_endpoint.specs.Calls.{IsCall}
 use Rattle.macs_endpoint.specs.Value.{EndpointValue}
 use Rattle.macs_endpoint.specs.State.{Commands, Ran}
+use Rattle.macs_store.specs.Keeps.{Commits}
 use Rattle.macs_store.specs.declared.fault.CommitFault.{CommitFault}
-use Rattle.macs_endpoint.proofs.Commanding.{Commits, cut-call, done-call, done-kept, refused-call}
+use Rattle.macs_endpoint.proofs.Commanding.{cut-call, done-call, done-kept, refused-call}
 use Rattle.macs_endpoint.proofs.endpoint.Endpoint.command.Given.{Over}
 use Rattle.macs_endpoint.proofs.endpoint.Endpoint.command.Goals.{After-commit-outcome}
 use Rattle.macs_endpoint.proofs.endpoint.Endpoint.command.Goals as goal
@@ -21,20 +22,8 @@ module _ (g : Over) (c : After-commit-outcome g) where
   commits : (result : Result (Unit {0}) CommitFault) → c.commit-outcome.result ≡ result
       → Commits g.D.SectorDisk.disk c.self.inside.store c.args.command result c.commit-outcome.new.self
   commits result is =
-      let said = c.commit-outcome.ensures in
       subst (λ (r : Result (Unit {0}) CommitFault). Commits g.D.SectorDisk.disk c.self.inside.store c.args.command r c.commit-outcome.new.self) is
-      (record {
-        stopped = said.stopped;
-        refused = said.refused;
-        full = said.full;
-        same = said.same;
-        halted = said.halted;
-        running = said.running;
-        done = said.done;
-        work = said.work;
-        any_moment = said.any_moment;
-        stored = said.stored;
-      })
+      c.commit-outcome.ensures
 
 pub invariant_of-self : goal.invariant_of-self
 invariant_of-self g c =

@@ -6,11 +6,12 @@ use Rattle.macs_journal.specs.declared.fault.JournalFault.{JournalFault}
 use Rattle.macs_txsc.specs.Transmit.{need_of}
 use Rattle.macs_txsc.specs.View as txsc
 use Rattle.macs_rxsc.specs.View as rxsc
+use Rattle.macs_store.specs.Keeps.{Keeps}
 use Rattle.macs_store.specs.Value.{standing_in}
 use Rattle.macs_store.specs.Standing.{Ceilings, Standing, ahead, tx_raised}
 use Rattle.macs_endpoint.specs.Value.{EndpointValue, is_stopped}
 use Rattle.macs_endpoint.proofs.Fitting.{AreAhead, kept-ahead}
-use Rattle.macs_endpoint.proofs.Raising.{IsTxNeed, Raises, faulted, raised-kept, raised-reserves, tx-below, tx-ceiling, tx-need, tx-not_below, tx-raised, tx-raised-ahead, tx-value}
+use Rattle.macs_endpoint.proofs.Raising.{IsTxNeed, faulted, raised-kept, raised-reserves, tx-below, tx-ceiling, tx-need, tx-not_below, tx-raised, tx-raised-ahead, tx-value}
 use Rattle.macs_endpoint.proofs.endpoint.Endpoint.refill_tx.Given.{Over}
 use Rattle.macs_endpoint.proofs.endpoint.Endpoint.refill_tx.Goals.{After-get, After-reserve_tx, After-tx_ceiling, In-Some}
 use Rattle.macs_endpoint.proofs.endpoint.Endpoint.refill_tx.Goals as goal
@@ -52,23 +53,10 @@ reserve_tx-requires-clause-stands g c = tx-ceiling _ _ _ _ (need g (goal.at.rese
 
 -- what the store says of it
 raises : (g : Over) (c : After-reserve_tx g) (result : Result (Unit {0}) JournalFault) → c.reserve_tx.result ≡ result
-    → Raises g.D.SectorDisk.disk c.self.inside.store (tx_raised (standing_in c.self.inside.store) c.in-Some.an) result c.reserve_tx.new.self
+    → Keeps g.D.SectorDisk.disk c.self.inside.store (tx_raised (standing_in c.self.inside.store) c.in-Some.an) result c.reserve_tx.new.self
 raises g c result is =
-    let said = c.reserve_tx.ensures in
-    subst (λ (r : Result (Unit {0}) JournalFault). Raises g.D.SectorDisk.disk c.self.inside.store
-    (tx_raised (standing_in c.self.inside.store) c.in-Some.an) r c.reserve_tx.new.self) is
-    (record {
-      stopped = said.stopped;
-      full = said.full;
-      names = said.names;
-      same = said.same;
-      halted = said.halted;
-      running = said.running;
-      done = said.done;
-      work = said.work;
-      any_moment = said.any_moment;
-      stored = said.stored;
-    })
+    subst (λ (r : Result (Unit {0}) JournalFault). Keeps g.D.SectorDisk.disk c.self.inside.store
+    (tx_raised (standing_in c.self.inside.store) c.in-Some.an) r c.reserve_tx.new.self) is c.reserve_tx.ensures
 
 pub returns-in_err-reserve_tx-clause-reserves : goal.returns-in_err-reserve_tx-clause-reserves
 returns-in_err-reserve_tx-clause-reserves g c =

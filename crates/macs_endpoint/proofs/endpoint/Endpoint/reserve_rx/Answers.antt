@@ -6,11 +6,12 @@ use Rattle.macs_journal.specs.declared.fault.JournalFault.{JournalFault}
 use Rattle.macs_txsc.specs.View as txsc
 use Rattle.macs_rxsc.specs.Needs.{Need, need_of}
 use Rattle.macs_rxsc.specs.View as rxsc
+use Rattle.macs_store.specs.Keeps.{Keeps}
 use Rattle.macs_store.specs.Value.{standing_in}
 use Rattle.macs_store.specs.Standing.{Ceilings, Standing, ahead, rx_raised}
 use Rattle.macs_endpoint.specs.Value.{EndpointValue, is_stopped}
 use Rattle.macs_endpoint.proofs.Fitting.{AreAhead, kept-ahead}
-use Rattle.macs_endpoint.proofs.Raising.{Raises, faulted, first-place, need-ceiling, need-higher, need-not_below, need-stands, raised-kept, raised-reserves, rx-raised-ahead, rx-value}
+use Rattle.macs_endpoint.proofs.Raising.{faulted, first-place, need-ceiling, need-higher, need-not_below, need-stands, raised-kept, raised-reserves, rx-raised-ahead, rx-value}
 use Rattle.macs_endpoint.proofs.endpoint.Endpoint.reserve_rx.Given.{Over}
 use Rattle.macs_endpoint.proofs.endpoint.Endpoint.reserve_rx.Goals.{After-facts, After-get, After-reserve_rx, After-rx_ceiling}
 use Rattle.macs_endpoint.proofs.endpoint.Endpoint.reserve_rx.Goals as goal
@@ -58,24 +59,11 @@ reserve_rx-requires-clause-stands g c =
 
 -- what the store says of it
 raises : (g : Over) (c : After-reserve_rx g) (result : Result (Unit {0}) JournalFault) → c.reserve_rx.result ≡ result
-    → Raises g.D.SectorDisk.disk c.self.inside.store (rx_raised (standing_in c.self.inside.store) c.args.need.sci c.args.need.an c.args.need.pn) result
+    → Keeps g.D.SectorDisk.disk c.self.inside.store (rx_raised (standing_in c.self.inside.store) c.args.need.sci c.args.need.an c.args.need.pn) result
     c.reserve_rx.new.self
 raises g c result is =
-    let said = c.reserve_rx.ensures in
-    subst (λ (r : Result (Unit {0}) JournalFault). Raises g.D.SectorDisk.disk c.self.inside.store
-    (rx_raised (standing_in c.self.inside.store) c.args.need.sci c.args.need.an c.args.need.pn) r c.reserve_rx.new.self) is
-    (record {
-      stopped = said.stopped;
-      full = said.full;
-      names = said.names;
-      same = said.same;
-      halted = said.halted;
-      running = said.running;
-      done = said.done;
-      work = said.work;
-      any_moment = said.any_moment;
-      stored = said.stored;
-    })
+    subst (λ (r : Result (Unit {0}) JournalFault). Keeps g.D.SectorDisk.disk c.self.inside.store
+    (rx_raised (standing_in c.self.inside.store) c.args.need.sci c.args.need.an c.args.need.pn) r c.reserve_rx.new.self) is c.reserve_rx.ensures
 
 pub returns-in_err-reserve_rx-clause-reserves : goal.returns-in_err-reserve_rx-clause-reserves
 returns-in_err-reserve_rx-clause-reserves g c =

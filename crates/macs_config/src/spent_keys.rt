@@ -1,0 +1,87 @@
+//! The keys that are spent on a side.
+
+ghost use Rattle.std.specs.Prelude.{◌≡◌, ◌<◌};
+ghost use Rattle.macs_config.specs.Filter.{flag_of, flags};
+
+use crate::fingerprint::{Fingerprint, is_spent};
+use arrayvec::ArrayVec;
+use std::marker::Model;
+
+/// How many keys may be spent on a side.
+pub const MAX_SPENT: usize = 512;
+
+/// How many flags a filter has: one for each value of a fingerprint's first 12 bits.
+const FLAGS: usize = 4_096;
+
+/// The fingerprints of spent keys, in the order of installing. The filter has the flag of each of them
+/// set, so that most others are told apart without a look through the list.
+#[derive(Drop)]
+pub(crate) struct SpentKeys {
+    fingerprints: ArrayVec<Fingerprint, MAX_SPENT>,
+    filter: [bool; FLAGS],
+}
+
+impl Model for SpentKeys {
+    ghost use Rattle.std.specs.Prelude.{ℕ, List};
+    ghost use Rattle.macs_config.specs.Filter.{IsFilter};
+
+    ghost Value = { List (List ℕ) };
+
+    ghost view = { λ s. s.fingerprints.items };
+
+    ghost invariant = { λ s. IsFilter s.fingerprints.items s.filter };
+}
+
+impl SpentKeys {
+    ghost use Rattle.std.specs.Prelude.{◌≤◌, ◌++◌, [], ◌∷◌, length, slice_get};
+    ghost use Rattle.macs_config.specs.Config.{is_spent, max_spent};
+
+    /// No key is spent.
+    pub(crate) fn new() -> SpentKeys
+        ensures { result ≡ [] }
+    {
+        SpentKeys {
+            fingerprints: ArrayVec::new(),
+            filter: [false; FLAGS],
+        }
+    }
+
+    /// How many keys are spent, at most 512.
+    pub(crate) fn len(&self) -> usize
+        ensures count { result ≡ length self.now }
+        ensures within { result ≤ max_spent }
+    {
+        self.fingerprints.len()
+    }
+
+    /// The fingerprint at a place in the order of installing, counted from 0.
+    pub(crate) fn get(&self, at: usize) -> Option<Fingerprint>
+        ensures { result ≡ slice_get self.now at }
+    {
+        self.fingerprints.get(at).copied()
+    }
+
+    /// Whether a fingerprint is spent.
+    pub(crate) fn contains(&self, fingerprint: &Fingerprint) -> bool
+        ensures { result ≡ is_spent self.now fingerprint.now }
+    {
+        self.filter[flag_of(fingerprint)] && is_spent(self.fingerprints.as_slice(), fingerprint)
+    }
+
+    /// Adds a fingerprint behind those that are spent.
+    pub(crate) fn push(&mut self, fingerprint: Fingerprint)
+        requires { length self.old < max_spent }
+        ensures { self.new ≡ self.old ++ fingerprint ∷ [] }
+    {
+        self.filter[flag_of(&fingerprint)] = true;
+        self.fingerprints.push(fingerprint);
+    }
+}
+
+/// The place of a fingerprint's flag.
+fn flag_of(fingerprint: &Fingerprint) -> usize
+    ensures place { result ≡ flag_of fingerprint.now }
+    ensures within { result < flags }
+{
+    16 * usize::from(fingerprint[0]) + usize::from(fingerprint[1]) / 16
+}

@@ -1,0 +1,237 @@
+-- The greatest number that was seen on a receive association, through calls.
+use Rattle.std.proofs.Common.{◌≡◌, ◌≢◌, ◌≤◌, ◌<◌, ◌⊎◌, ◌^◌, inl, inr, ℕ, List, [], ◌∷◌, Option, Some, None, Ok, Err, refl, sym, ◌∙◌, ap, subst, arith}
+use Rattle.std.specs.Option.{option_map}
+use Rattle.macs_frame.proofs.FirstRefusal.{none-first}
+use Rattle.macs_config.specs.Tables.{put, put_at}
+use Rattle.macs_config.specs.declared.command.Command.{Command}
+use Rattle.macs_config.specs.declared.command.Command.TheVariants.{SetValidate, SetReplay, SetSciMode, TxInstall, TxUse, TxRemove, RxAdd, RxDrop, RxInstall, RxRemove}
+use Rattle.macs_config.proofs.Tables.{put_all, put_at_all}
+use Rattle.macs_disk.specs.Disk.{Disk}
+use Rattle.macs_rxsc.specs.Receive.{Arrival, Arrives, Holds, Numbers, advanced, held_back, put_numbers, seen_after, started, steps, windowed}
+use Rattle.macs_rxsc.specs.declared.verdict.Verdict.TheVariants.{HeldBack}
+use Rattle.macs_rxsc.proofs.Steps.{arrives_once}
+use Rattle.macs_store.specs.declared.fault.CommitFault.TheVariants as commit
+use Rattle.macs_endpoint.specs.Calls.{IsCall}
+use Rattle.macs_endpoint.specs.Lives.{Lives, Turn}
+use Rattle.macs_endpoint.specs.Rooms.{IsBelow, RxStays, SparesRx}
+use Rattle.macs_endpoint.specs.State.{Call, Commands, Protects, Protected, Ran, Received, Receives, Refilled, Refills, Reply, State, made, no_logs, rx_side}
+use Rattle.macs_endpoint.specs.Step.{Arriving, Step, held, numbers_after}
+use Rattle.macs_endpoint.specs.Value.{EndpointValue, IsSoundEndpoint, state_of}
+use Rattle.macs_endpoint.specs.declared.fault.ProtectFault.TheVariants as protect
+use Rattle.macs_endpoint.specs.declared.fault.RefillFault.TheVariants as refill
+use Rattle.macs_endpoint.proofs.Following.{here_at}
+use Rattle.macs_endpoint.proofs.Rooms.{below-refilled, put_at_other, put_here, put_other}
+
+-- a number was seen that is not below this one
+abbrev IsReached : Option ℕ → ℕ → Type 0
+IsReached None pn = ⊥
+IsReached (Some seen) pn = pn ≤ seen
+
+abbrev pub HasSeen : Option Numbers → ℕ → Type 0
+HasSeen None pn = ⊥
+HasSeen (Some numbers) pn = IsReached numbers.seen pn
+
+reached-now : (seen : Option ℕ) (pn : ℕ) → IsReached (seen_after seen pn) pn
+reached-now None pn = omega arith
+reached-now (Some seen) pn = omega arith
+
+reached-still : (seen : Option ℕ) (pn other : ℕ) → IsReached seen pn → IsReached (seen_after seen other) pn
+reached-still None pn other reached = absurd reached
+reached-still (Some seen) pn other reached = omega (arith, reached)
+
+seen-windowed : (window : ℕ) (numbers : Option Numbers) (pn : ℕ) → HasSeen numbers pn → HasSeen (option_map (windowed window) numbers) pn
+seen-windowed window None pn seen = absurd seen
+seen-windowed window (Some numbers) pn seen = seen
+
+module _ (sci : List ℕ) (an pn : ℕ) where
+  -- a channel goes
+  seen-dropped : (table : List ℕ → ℕ → Option Numbers) (at : List ℕ) → at ≢ sci → HasSeen (table sci an) pn
+      → HasSeen (put_at table at (λ an. None) sci an) pn
+  seen-dropped table at differ seen =
+      subst (λ (f : ℕ → Option Numbers). HasSeen (f an) pn) (sym (put_at_other table at sci (λ an. None) differ)) seen
+
+  -- another association changes
+  seen-other : (table : List ℕ → ℕ → Option Numbers) (at : List ℕ) (number : ℕ) (x : Option Numbers) → (at ≢ sci) ⊎ (number ≢ an)
+      → HasSeen (table sci an) pn → HasSeen (put_numbers table at number x sci an) pn
+  seen-other table at number x differ seen =
+      put_at_all (λ (f : ℕ → Option Numbers). HasSeen (f an) pn) table at (put (table at) number x) sci
+      (λ same. elim differ [
+        | inl other ↦ absurd (other (sym same))
+        | inr other ↦
+            let here : HasSeen (table at an) pn = subst (λ (s : List ℕ). HasSeen (table s an) pn) same seen in
+            subst (λ (n : Option Numbers). HasSeen n pn) (sym (put_other (table at) number an x other)) here
+      ])
+      (λ other. seen)
+
+  -- any association changes to numbers that have seen what it had seen
+  seen-put : (table : List ℕ → ℕ → Option Numbers) (at : List ℕ) (number : ℕ) (x : Option Numbers)
+      → (HasSeen (table at number) pn → HasSeen x pn) → HasSeen (table sci an) pn → HasSeen (put_numbers table at number x sci an) pn
+  seen-put table at number x keeps seen =
+      put_at_all (λ (f : ℕ → Option Numbers). HasSeen (f an) pn) table at (put (table at) number x) sci
+      (λ same.
+      let here : HasSeen (table at an) pn = subst (λ (s : List ℕ). HasSeen (table s an) pn) same seen in
+      put_all (λ (n : Option Numbers). HasSeen n pn) (table at) number x an
+      (λ same_an. keeps (subst (λ (n : ℕ). HasSeen (table at n) pn) same_an here)) (λ other. here))
+      (λ other. seen)
+
+  -- ---- a command
+
+  seen-command : (command : Command) (numbers : List ℕ → ℕ → Option Numbers) → SparesRx sci an (Some command) → HasSeen (numbers sci an) pn
+      → HasSeen (numbers_after command numbers sci an) pn
+  seen-command (SetValidate validate) numbers spares seen = seen
+  seen-command (SetReplay on window) numbers spares seen = seen-windowed window (numbers sci an) pn seen
+  seen-command (SetSciMode mode) numbers spares seen = seen
+  seen-command (TxInstall at key start confidential offset) numbers spares seen = seen
+  seen-command (TxUse at) numbers spares seen = seen
+  seen-command (TxRemove at) numbers spares seen = seen
+  seen-command (RxAdd added) numbers spares seen = seen
+  seen-command (RxDrop dropped) numbers spares seen = seen-dropped numbers dropped spares seen
+  seen-command (RxInstall channel at key start offset) numbers spares seen = seen-other numbers channel at (Some (started start)) spares seen
+  seen-command (RxRemove channel at) numbers spares seen = seen-other numbers channel at None spares seen
+
+  -- ---- a call
+
+  abbrev numbers_in : State → List ℕ → ℕ → Option Numbers
+  numbers_in s = s.numbers
+
+  module _ (s t : State) where
+    seen-same : t.numbers ≡ s.numbers → HasSeen (s.numbers sci an) pn → HasSeen (t.numbers sci an) pn
+    seen-same same seen = subst (λ (f : List ℕ → ℕ → Option Numbers). HasSeen (f sci an) pn) (sym same) seen
+
+    -- a frame arrived
+    seen-arrived : (a : Arrival) (x : Numbers) → s.numbers a.sci a.an ≡ Some a.numbers → x.seen ≡ seen_after a.numbers.seen a.pn
+        → t.numbers ≡ put_numbers s.numbers a.sci a.an (Some x) → HasSeen (s.numbers sci an) pn → HasSeen (t.numbers sci an) pn
+    seen-arrived a x are is same seen =
+        subst (λ (f : List ℕ → ℕ → Option Numbers). HasSeen (f sci an) pn) (sym same)
+        (seen-put s.numbers a.sci a.an (Some x)
+        (λ had. subst (λ (o : Option ℕ). IsReached o pn) (sym is)
+        (reached-still a.numbers.seen pn a.pn (subst (λ (n : Option Numbers). HasSeen n pn) are had))) seen)
+
+    seen-step : (call : Call) (reply : Reply) → Step s call reply t → SparesRx sci an (made s call reply) → HasSeen (s.numbers sci an) pn
+        → HasSeen (t.numbers sci an) pn
+    seen-step (Commands command) (Ran (Ok done)) (inl step) spares seen = absurd step.1
+    seen-step (Commands command) (Ran (Ok done)) (inr step) spares seen =
+        subst (λ (x : State). HasSeen (x.numbers sci an) pn) (sym step.1.2) (seen-command command s.numbers spares seen)
+    seen-step (Commands command) (Ran (Err fault)) (inl step) spares seen = seen-same (ap numbers_in step.2) seen
+    seen-step (Commands command) (Ran (Err (commit.Refused refusal))) (inr step) spares seen = seen-same (ap numbers_in step.1.1) seen
+    seen-step (Commands command) (Ran (Err commit.AreaFull)) (inr step) spares seen = seen-same (ap numbers_in step.1.1) seen
+    seen-step (Commands command) (Ran (Err commit.Disk)) (inr step) spares seen = seen-same (ap numbers_in step.1.1) seen
+    seen-step (Commands command) (Ran (Err commit.Stopped)) (inr step) spares seen = absurd step.1
+    seen-step (Commands command) (Refilled result) (inl step) spares seen = absurd step.1
+    seen-step (Commands command) (Refilled result) (inr step) spares seen = absurd step.1
+    seen-step (Commands command) (Protected result out) (inl step) spares seen = absurd step.1
+    seen-step (Commands command) (Protected result out) (inr step) spares seen = absurd step.1
+    seen-step (Commands command) (Received result out) (inl step) spares seen = absurd step.1
+    seen-step (Commands command) (Received result out) (inr step) spares seen = absurd step.1
+    seen-step Refills (Ran result) (inl step) spares seen = absurd step.1
+    seen-step Refills (Ran result) (inr step) spares seen = absurd step.1
+    seen-step Refills (Refilled (Ok done)) (inl step) spares seen = absurd step.1
+    seen-step Refills (Refilled (Ok done)) (inr step) spares seen = seen-same (ap numbers_in step.1) seen
+    seen-step Refills (Refilled (Err fault)) (inl step) spares seen = seen-same (ap numbers_in step.2) seen
+    seen-step Refills (Refilled (Err refill.AreaFull)) (inr step) spares seen = seen-same (ap numbers_in step.1) seen
+    seen-step Refills (Refilled (Err refill.Disk)) (inr step) spares seen = seen-same (ap numbers_in step.1) seen
+    seen-step Refills (Refilled (Err refill.Stopped)) (inr step) spares seen = absurd step.1
+    seen-step Refills (Protected result out) (inl step) spares seen = absurd step.1
+    seen-step Refills (Protected result out) (inr step) spares seen = absurd step.1
+    seen-step Refills (Received result out) (inl step) spares seen = absurd step.1
+    seen-step Refills (Received result out) (inr step) spares seen = absurd step.1
+    seen-step (Protects plain) (Ran result) (inl step) spares seen = absurd step.1
+    seen-step (Protects plain) (Ran result) (inr step) spares seen = absurd step.1
+    seen-step (Protects plain) (Refilled result) (inl step) spares seen = absurd step.1
+    seen-step (Protects plain) (Refilled result) (inr step) spares seen = absurd step.1
+    seen-step (Protects plain) (Protected (Ok number) out) (inl step) spares seen = absurd step.1
+    seen-step (Protects plain) (Protected (Ok number) out) (inr step) spares seen = seen-same (ap numbers_in step.1.1.4) seen
+    seen-step (Protects plain) (Protected (Err (protect.Tx fault)) out) (inl step) spares seen = absurd step.1
+    seen-step (Protects plain) (Protected (Err (protect.Tx fault)) out) (inr step) spares seen = seen-same (ap numbers_in step.1.2) seen
+    seen-step (Protects plain) (Protected (Err protect.Stopped) out) (inl step) spares seen = seen-same (ap numbers_in step.2) seen
+    seen-step (Protects plain) (Protected (Err protect.Stopped) out) (inr step) spares seen = absurd step.1
+    seen-step (Protects plain) (Received result out) (inl step) spares seen = absurd step.1
+    seen-step (Protects plain) (Received result out) (inr step) spares seen = absurd step.1
+    seen-step (Receives frame) (Ran result) (inl step) spares seen = absurd step.1
+    seen-step (Receives frame) (Ran result) (inr step) spares seen = absurd step.1
+    seen-step (Receives frame) (Refilled result) (inl step) spares seen = absurd step.1
+    seen-step (Receives frame) (Refilled result) (inr step) spares seen = absurd step.1
+    seen-step (Receives frame) (Protected result out) (inl step) spares seen = absurd step.1
+    seen-step (Receives frame) (Protected result out) (inr step) spares seen = absurd step.1
+    seen-step (Receives frame) (Received result out) (inl step) spares seen = seen-same (ap numbers_in step.2) seen
+    seen-step (Receives frame) (Received (Ok verdict) out) (inr step) spares seen = elim step.1 [
+      | inl settles ↦ seen-same (ap numbers_in settles.4) seen
+      | inr arrives ↦
+          let a = arrives.0 in
+          elim arrives.2 [
+            | inl back ↦ seen-arrived a (held_back a.numbers a.pn) arrives.1.are_numbers refl (ap numbers_in back.3) seen
+            | inr kept ↦ seen-arrived a (advanced s.config.replay.window a.numbers a.pn) arrives.1.are_numbers refl (ap numbers_in kept.2) seen
+          ]
+    ]
+    seen-step (Receives frame) (Received (Err stopped) out) (inr step) spares seen = absurd step.1
+
+-- ---- an endpoint
+
+-- what was put at a place is there
+here_now : (table : List ℕ → ℕ → Option Numbers) (sci : List ℕ) (an : ℕ) (x : Option Numbers) → put_numbers table sci an x sci an ≡ x
+here_now table sci an x =
+    ap (λ (f : ℕ → Option Numbers). f an) (here_at table sci (put (table sci) an x)) ∙ put_here (table sci) an x
+
+-- numbers that have seen one that is not below this
+reached-numbers : (numbers : Numbers) (seen : Option ℕ) (pn : ℕ) → numbers.seen ≡ seen → IsReached seen pn
+    → (top : ℕ) × (numbers ≡ record { next = numbers.next; lowest = numbers.lowest; seen = Some top }) × (pn ≤ top)
+reached-numbers numbers None pn is reached = absurd reached
+reached-numbers numbers (Some top) pn is reached =
+    (top, λ i. record { next = numbers.next; lowest = numbers.lowest; seen = is i }, reached)
+
+module _ {D : Type 0} (disk_of : D → Disk) where
+  seen-lives : (sci : List ℕ) (an pn : ℕ) (turns : List (Turn D)) (old new : EndpointValue D) → Lives disk_of old turns new → RxStays sci an old turns
+      → HasSeen ((state_of old no_logs).numbers sci an) pn → HasSeen ((state_of new no_logs).numbers sci an) pn
+  seen-lives sci an pn [] old new lives stays seen =
+      subst (λ (e : EndpointValue D). HasSeen ((state_of e no_logs).numbers sci an) pn) (sym lives) seen
+  seen-lives sci an pn (turn ∷ turns) old new lives stays seen =
+      let ended = lives.1.behaves.step no_logs in
+      seen-lives sci an pn turns turn.after new lives.2 stays.1
+      (seen-step sci an pn (state_of old no_logs) (state_of turn.after ended.0) turn.call turn.reply ended.1 stays.0 seen)
+
+  -- a frame that is held back was seen
+  seen-held : (old new : EndpointValue D) (frame out : List ℕ) (a : Arrival) → Arrives (rx_side (state_of old no_logs)) frame a
+      → IsCall disk_of old (Receives frame) (Received (Ok HeldBack) out) new → HasSeen ((state_of new no_logs).numbers a.sci a.an) a.pn
+  seen-held old new frame out a arrives call =
+      let s = state_of old no_logs in
+      let side = rx_side s in
+      let ended = call.behaves.step no_logs in
+      let t = state_of new ended.0 in
+      elim ended.1 [
+        | inl stopped ↦ absurd stopped.1
+        | inr ran ↦ elim ran.1 [
+          | inl settles ↦ absurd (none-first (Holds side frame) steps settles.0 arrives.unsettled settles.1)
+          | inr arrived ↦
+              let same : arrived.0 ≡ a = arrives_once side frame arrived.0 a arrived.1 arrives in
+              let arriving : Arriving s a HeldBack out t = subst (λ (x : Arrival). Arriving s x HeldBack out t) same arrived.2 in
+              elim arriving [
+                | inl back ↦
+                    let is : t.numbers ≡ put_numbers s.numbers a.sci a.an (Some (held_back a.numbers a.pn)) = ap (λ (x : State). x.numbers) back.3 in
+                    subst (λ (f : List ℕ → ℕ → Option Numbers). HasSeen (f a.sci a.an) a.pn) (sym is)
+                    (subst (λ (n : Option Numbers). HasSeen n a.pn) (sym (here_now s.numbers a.sci a.an (Some (held_back a.numbers a.pn))))
+                    (reached-now a.numbers.seen a.pn))
+                | inr kept ↦ absurd (let differ = kept.0 in cc)
+              ]
+        ]
+      ]
+
+  -- what was held back is below the ceiling once a refill was answered with Ok, where its association stood all the time
+  pub below-again : (old mid late new : EndpointValue D) (turns : List (Turn D)) (frame out : List ℕ) (a : Arrival) → IsSoundEndpoint new
+      → Arrives (rx_side (state_of old no_logs)) frame a → a.pn < 2 ^ 32 → IsCall disk_of old (Receives frame) (Received (Ok HeldBack) out) mid
+      → Lives disk_of mid turns late → RxStays a.sci a.an mid turns → IsCall disk_of late Refills (Refilled (Ok tt)) new → IsBelow new a.sci a.an a.pn
+  below-again old mid late new turns frame out a kept arrives last held lives stays refill =
+      let ended = refill.behaves.step no_logs in
+      let same : (state_of new no_logs).numbers ≡ (state_of late no_logs).numbers = elim ended.1 [
+        | inl stopped ↦ absurd stopped.1
+        | inr ran ↦ ap (λ (x : State). x.numbers) ran.1
+      ] in
+      let seen : HasSeen ((state_of late no_logs).numbers a.sci a.an) a.pn =
+      seen-lives a.sci a.an a.pn turns mid late lives stays (seen-held old mid frame out a arrives held) in
+      by ((state_of new no_logs).numbers a.sci a.an) refl
+      (subst (λ (f : List ℕ → ℕ → Option Numbers). HasSeen (f a.sci a.an) a.pn) (sym same) seen)
+    where
+      by : (numbers : Option Numbers) → (state_of new no_logs).numbers a.sci a.an ≡ numbers → HasSeen numbers a.pn → IsBelow new a.sci a.an a.pn
+      by None are seen = absurd seen
+      by (Some numbers) are seen =
+          let reached = reached-numbers numbers numbers.seen a.pn refl seen in
+          below-refilled disk_of late new a.sci a.an numbers.next numbers.lowest reached.0 a.pn kept refill (are ∙ ap Some reached.1) last (inl reached.2)

@@ -1,0 +1,83 @@
+//! The kinds of records.
+
+ghost use Rattle.std.specs.Prelude.{◌≡◌, ◌↔◌, Some};
+ghost use Rattle.macs_record.specs.Layout.{number_of};
+ghost use Rattle.macs_record.specs.declared.kind.Kind.{Kind};
+
+/// What a record is of, in the order of its number: first what a snapshot has, then the commands, then
+/// raised ceilings.
+#[derive(Clone, Copy)]
+pub enum Kind {
+    Settings,
+    TxSa,
+    Channel,
+    RxSa,
+    Spent,
+    SetValidate,
+    SetReplay,
+    SetSciMode,
+    TxInstall,
+    TxUse,
+    TxRemove,
+    RxAdd,
+    RxDrop,
+    RxInstall,
+    RxRemove,
+    TxCeiling,
+    RxCeiling,
+}
+
+/// Every kind once.
+const KINDS: [Kind; 17] = [
+    Kind::Settings,
+    Kind::TxSa,
+    Kind::Channel,
+    Kind::RxSa,
+    Kind::Spent,
+    Kind::SetValidate,
+    Kind::SetReplay,
+    Kind::SetSciMode,
+    Kind::TxInstall,
+    Kind::TxUse,
+    Kind::TxRemove,
+    Kind::RxAdd,
+    Kind::RxDrop,
+    Kind::RxInstall,
+    Kind::RxRemove,
+    Kind::TxCeiling,
+    Kind::RxCeiling,
+];
+
+impl Kind {
+    /// The number that stands for a kind in a sector, 1 to 17.
+    pub fn number(self) -> u8
+        ensures { result ≡ number_of self }
+    {
+        match self {
+            Kind::Settings => 1,
+            Kind::TxSa => 2,
+            Kind::Channel => 3,
+            Kind::RxSa => 4,
+            Kind::Spent => 5,
+            Kind::SetValidate => 6,
+            Kind::SetReplay => 7,
+            Kind::SetSciMode => 8,
+            Kind::TxInstall => 9,
+            Kind::TxUse => 10,
+            Kind::TxRemove => 11,
+            Kind::RxAdd => 12,
+            Kind::RxDrop => 13,
+            Kind::RxInstall => 14,
+            Kind::RxRemove => 15,
+            Kind::TxCeiling => 16,
+            Kind::RxCeiling => 17,
+        }
+    }
+
+    /// The kind of a number, `None` where none has it: the inverse of `number`.
+    pub fn of(number: u8) -> Option<Kind>
+        ensures { (kind : Kind) → (result ≡ Some kind) ↔ (number_of kind ≡ number) }
+    {
+        KINDS.iter().find(|kind| kind.number() == number).copied()
+    }
+}
