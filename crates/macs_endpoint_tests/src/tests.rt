@@ -19,7 +19,7 @@ use macs_frame::{An, Sci};
 use macs_rxsc::{Kind, Reason, Verdict};
 use std::alloc::Global;
 use std::process::Abort;
-use steps::{keeps, play};
+use steps::{Step, keeps, play};
 
 /// How many sectors a disk needs.
 const SECTORS: u64 = 1_028;
@@ -46,6 +46,8 @@ const LATE: Verdict = Verdict::Discarded(Reason::Late);
 
 const NO_TAG: Verdict = Verdict::Discarded(Reason::NoTag);
 
+const RUNT: Verdict = Verdict::Discarded(Reason::Runt);
+
 fn number_of(rt: &impl Abort, association: u8) -> An {
     An::new(association).expect(rt, "association number")
 }
@@ -67,8 +69,13 @@ fn tx_install(an: An, key: u128, start: u32) -> Command {
 
 /// A receive association of the peer's channel.
 fn rx_install(an: An, start: u32) -> Command {
+    rx_install_of(PEER, an, start)
+}
+
+/// A receive association of a channel, under the peer's key.
+fn rx_install_of(sci: Sci, an: An, start: u32) -> Command {
     Command::RxInstall {
-        sci: PEER,
+        sci,
         an,
         key: PEER_KEY.to_be_bytes(),
         start,
@@ -105,6 +112,11 @@ fn made(rt: &impl Abort, alloc: Global, sci: Sci) -> Endpoint<MemDisk> {
     opened(rt, formatted(rt, alloc, sci))
 }
 
+/// Takes these steps with a new endpoint.
+fn play_new(rt: &impl Abort, alloc: Global, sci: Sci, steps: &[Step]) {
+    play(rt, &mut made(rt, alloc, sci), steps);
+}
+
 /// An endpoint whose frames go out under association 0, from a first packet number on.
 fn sender(rt: &impl Abort, alloc: Global, start: u32) -> Endpoint<MemDisk> {
     let an = number_of(rt, 0);
@@ -117,16 +129,17 @@ fn sender(rt: &impl Abort, alloc: Global, start: u32) -> Endpoint<MemDisk> {
     endpoint
 }
 
-/// Gives an endpoint the peer's channel and its association 2, from packet number 1 on.
-fn add_peer(rt: &impl Abort, endpoint: &mut Endpoint<MemDisk>) {
-    let steps = [keeps(ADD), keeps(rx_install(number_of(rt, 2), 1))];
+/// Gives an endpoint a channel and its association 2, from packet number 1 on.
+fn add_channel(rt: &impl Abort, endpoint: &mut Endpoint<MemDisk>, sci: Sci) {
+    let install = rx_install_of(sci, number_of(rt, 2), 1);
+    let steps = [keeps(Command::RxAdd { sci }), keeps(install)];
     play(rt, endpoint, &steps);
 }
 
 /// An endpoint with the peer's channel and its association 2, from packet number 1 on.
 fn receiver(rt: &impl Abort, alloc: Global) -> Endpoint<MemDisk> {
     let mut endpoint = made(rt, alloc, OWN);
-    add_peer(rt, &mut endpoint);
+    add_channel(rt, &mut endpoint, PEER);
     endpoint
 }
 

@@ -24,7 +24,10 @@ const OPENING: u64 = 1 + 3 + 255 + 1;
 /// The receive channel of most tests.
 const PEER: Sci = Sci(*b"\x12\x15\x35\x24\xc0\x89\x5e\x81");
 
-/// The command that adds it.
+/// Another receive channel, with a lower SCI.
+const OTHER: Sci = Sci([9; 8]);
+
+/// The command that adds the channel of most tests.
 const ADD: Command = Command::RxAdd { sci: PEER };
 
 /// An endpoint with blocks of 4 on the transmit side, and of 6 on the receive side.

@@ -3,12 +3,10 @@
 use super::frames::{Frame, PEER, PLAIN};
 use super::steps::Step::{Counts, CountsFaults, CountsOther, CountsProtected, HeldBack, Receives};
 use super::steps::{arrives, faults, keeps, play, sends, story, waits};
-use super::{ADD, LATE, NO_TAG, OK, OTHER, number_of, receiver, tx_install};
+use super::{ADD, LATE, NO_TAG, OK, OTHER, RUNT, number_of, receiver, tx_install};
 use macs_config::Command;
-use macs_rxsc::{Reason, Verdict};
+use macs_rxsc::Verdict;
 use macs_txsc::TxFault;
-
-const RUNT: Verdict = Verdict::Discarded(Reason::Runt);
 
 #[test]
 fn sent_frames_are_counted(rt: HostRuntime) {

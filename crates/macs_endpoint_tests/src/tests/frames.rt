@@ -80,24 +80,49 @@ pub(super) const END_STATION: Published = Published {
 /// A plain frame, of which those of the peer are made.
 pub(super) const PLAIN: &[u8] = &[7; 62];
 
-/// A plain frame that is too long by one octet.
-const TOO_LONG: &[u8] = &[7; 9_185];
+/// One octet more than any frame may have.
+const TOO_LONG: &[u8] = &[7; 9_217];
 
-/// A plain frame of so many octets.
+/// A plain frame of so many octets, each of them a 7.
 pub(super) fn sevens(rt: &impl Abort, octets: usize) -> &'static [u8] {
     assert!(rt; octets <= TOO_LONG.len());
     let (frame, _) = TOO_LONG.split_at(octets);
     frame
 }
 
-/// A frame from the common side. Those that are sealed are so under the peer's key, spell an SCI out,
-/// and have both E and C set or neither.
+/// How many octets of User Data come before the first that is encrypted, in a protected frame of sevens
+/// whose SecTAG spells the SCI out.
+pub(super) fn clear_octets(rt: &impl Abort, frame: &[u8]) -> usize {
+    let mut count = 0_usize;
+    for octet in secure_data(rt, frame) {
+        if *octet != 7 {
+            return count;
+        }
+        count = count.saturating_add(1);
+    }
+    count
+}
+
+/// What stands between the addresses and the SecTAG, 28 octets, and the ICV, 16 octets.
+fn secure_data<'a>(rt: &impl Abort, frame: &'a [u8]) -> &'a [u8] {
+    assert!(rt; frame.len() >= 44);
+    let (_, secured) = frame.split_at(28);
+    let (data, _) = secured.split_at(secured.len() - 16);
+    data
+}
+
+/// A frame from the common side. Those that are sealed as a test runs are so under the peer's key, spell
+/// an SCI out, and have both E and C set or neither.
 #[derive(Clone, Copy)]
 pub(super) enum Frame {
     /// It has no octet.
     Empty,
     /// It has no SecTAG.
     Untagged,
+    /// The published one with integrity protection.
+    Integrity,
+    /// The published one with confidentiality protection and an SCI.
+    Confidentiality,
     /// It is the peer's under association 2, and confidential.
     Peers { number: u32 },
     /// As that with number 5, but for the last bit of its ICV.
@@ -113,10 +138,21 @@ impl Frame {
         match self {
             Frame::Empty => FrameBuf::new(),
             Frame::Untagged => copied(rt, PLAIN),
+            Frame::Integrity => copied(rt, INTEGRITY.frame),
+            Frame::Confidentiality => copied(rt, CONFIDENTIALITY.frame),
             Frame::Peers { number } => sealed(rt, PEER, 2, number, true),
             Frame::Broken { confidential } => broken(rt, sealed(rt, PEER, 2, 5, confidential)),
             Frame::OfOtherChannel { confidential } => sealed(rt, OTHER, 2, 5, confidential),
             Frame::OfOtherAssociation { confidential } => sealed(rt, PEER, 1, 5, confidential),
+        }
+    }
+
+    /// What is given where it is delivered.
+    pub(super) fn plain(self) -> &'static [u8] {
+        match self {
+            Frame::Integrity => INTEGRITY.plain,
+            Frame::Confidentiality => CONFIDENTIALITY.plain,
+            _ => PLAIN,
         }
     }
 }

@@ -1,9 +1,11 @@
 //! Frames from the peer.
 
 use super::frames::{CONFIDENTIALITY, Frame, INTEGRITY, PEER, Published};
-use super::steps::Step::{HasChannel, HasNumbers, HeldBack, Receives};
-use super::steps::{arrives, keeps, numbers, play, receive, refills, story};
-use super::{LATE, NO_TAG, OK, number_of, receiver, window};
+use super::steps::Step::{
+    Commands, Counts, HasChannel, HasNumbers, HeldBack, Receives, ReceivesUntagged,
+};
+use super::steps::{Step, arrives, keeps, numbers, play, receive, refills, story};
+use super::{ADD, LATE, NO_TAG, OK, OWN, RUNT, number_of, play_new, receiver, window};
 use macs_config::{Command, Validate};
 use macs_disk::MemDisk;
 use macs_endpoint::Endpoint;
@@ -140,6 +142,24 @@ fn untagged_frames(rt: HostRuntime) {
     expect_verdicts(&rt, rt.alloc(), Frame::Untagged, NO_TAG, delivered);
 }
 
+const OVERSIZE: Verdict = Verdict::Discarded(Reason::Oversize);
+
+/// The shortest and the longest frames, and those beyond them.
+const LENGTHS: [Step; 7] = [
+    ReceivesUntagged(13, RUNT),
+    ReceivesUntagged(14, NO_TAG),
+    ReceivesUntagged(9_216, NO_TAG),
+    ReceivesUntagged(9_217, OVERSIZE),
+    Counts(RUNT, 1, None),
+    Counts(NO_TAG, 2, None),
+    Counts(OVERSIZE, 1, None),
+];
+
+#[test]
+fn frames_have_14_to_9_216_octets(rt: HostRuntime) {
+    play_new(&rt, rt.alloc(), OWN, &LENGTHS);
+}
+
 const NOT_VALID: Verdict = Verdict::Discarded(Reason::NotValid);
 
 const NO_SCI: Verdict = Verdict::Discarded(Reason::NoSci);
@@ -191,6 +211,30 @@ fn changed_frames_are_discarded_where_validation_checks(rt: HostRuntime) {
     for (frame, verdict) in CHANGED {
         expect_verdicts(&rt, rt.alloc(), frame, verdict, verdict);
     }
+}
+
+const UNKNOWN_SCI: Verdict = Verdict::Delivered(Kind::UnknownSci);
+
+const UNUSED_SA: Verdict = Verdict::Delivered(Kind::UnusedSa);
+
+/// Published frames where validation only checks: with no channel, and then with the peer's and no
+/// association of it.
+const WITHOUT_ASSOCIATION: [Step; 10] = [
+    Commands(Command::SetValidate(Validate::Check), Ok(())),
+    Receives(Frame::Integrity, Ok(UNKNOWN_SCI)),
+    Receives(Frame::Confidentiality, Ok(NO_SCI)),
+    Counts(UNKNOWN_SCI, 1, None),
+    Counts(NO_SCI, 1, None),
+    Commands(ADD, Ok(())),
+    Receives(Frame::Integrity, Ok(UNUSED_SA)),
+    Receives(Frame::Confidentiality, Ok(NOT_USING)),
+    Counts(UNUSED_SA, 1, Some(1)),
+    Counts(NOT_USING, 1, Some(1)),
+];
+
+#[test]
+fn published_frames_come_without_an_association(rt: HostRuntime) {
+    play_new(&rt, rt.alloc(), OWN, &WITHOUT_ASSOCIATION);
 }
 
 /// An association of a channel that went and came back begins anew.

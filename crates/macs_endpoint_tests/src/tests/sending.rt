@@ -1,12 +1,13 @@
 //! Frames that go out, and their numbers.
 
 use super::frames::{CONFIDENTIALITY, END_STATION, INTEGRITY, PLAIN, Published};
-use super::steps::Step::{HasNext, Protects, Sends};
+use super::steps::Step::{HasNext, Protects, Sends, Tags};
 use super::steps::{Step, faults, keeps, play, protect, protected, refills, sends, story, waits};
-use super::{END, OWN, made, number_of, sender, tx_install};
-use macs_config::Command;
+use super::{END, OWN, made, number_of, play_new, sender, tx_install};
+use macs_config::{Command, SciMode};
 use macs_disk::MemDisk;
 use macs_endpoint::{Endpoint, ProtectFault};
+use macs_frame::Sci;
 use macs_txsc::TxFault;
 use std::alloc::Global;
 use std::process::Abort;
@@ -68,8 +69,47 @@ fn frames_that_do_not_fit_use_no_number(rt: HostRuntime) {
         Sends(9_184, 1, 9_216),
         Protects(14, Ok(2)),
         HasNext(0, Some(3)),
+        Tags(14, [0x2c, 2], 46, 0),
+        HasNext(0, Some(4)),
     ];
     play(&rt, &mut sender(&rt, rt.alloc(), 1), &steps);
+}
+
+/// User Data of 30 octets, and of one more, which is encrypted.
+#[test]
+fn user_data_up_to_the_offset_goes_in_the_clear(rt: HostRuntime) {
+    let an = number_of(&rt, 0);
+    let install = Command::TxInstall {
+        an,
+        key: 1_u128.to_be_bytes(),
+        start: 1,
+        confidential: true,
+        offset: 30,
+    };
+    let steps = [
+        keeps(install),
+        keeps(Command::TxUse { an }),
+        Tags(42, [0x2c, 0x1e], 74, 30),
+        Tags(43, [0x2c, 0x1f], 75, 30),
+    ];
+    play_new(&rt, rt.alloc(), OWN, &steps);
+}
+
+/// The SCI of an end station from whose address a frame of sevens comes.
+const STATION_OF_SEVENS: Sci = Sci([7, 7, 7, 7, 7, 7, 0, 1]);
+
+/// A SecTAG that does not spell the SCI out has 8 octets.
+#[test]
+fn an_end_station_sends_longer_frames(rt: HostRuntime) {
+    let an = number_of(&rt, 0);
+    let steps = [
+        keeps(Command::SetSciMode(SciMode::EndStation)),
+        keeps(tx_install(an, 1, 1)),
+        keeps(Command::TxUse { an }),
+        faults(9_193, TxFault::TooLong),
+        Sends(9_192, 1, 9_216),
+    ];
+    play_new(&rt, rt.alloc(), STATION_OF_SEVENS, &steps);
 }
 
 #[test]

@@ -1,6 +1,6 @@
 //! Tests as lists of steps.
 
-use super::frames::{Frame, PEER, PLAIN, sevens};
+use super::frames::{Frame, PEER, PLAIN, clear_octets, sevens};
 use super::{OK, OTHER, number_of, reopened};
 use macs_config::{Command, Config, Identity, Refusal, Replay, SciMode, Validate};
 use macs_disk::{MemDisk, SectorDisk};
@@ -19,8 +19,13 @@ pub(super) enum Step {
     Protects(usize, Result<u32, ProtectFault>),
     /// A plain frame of so many octets: the number and the octets that it goes out with.
     Sends(usize, u32, usize),
+    /// A plain frame of so many octets: octets 3 and 4 of the SecTAG that it goes out with, the octets that
+    /// it goes out with, and how many of its User Data come before the first that is encrypted.
+    Tags(usize, [u8; 2], usize, usize),
     /// A frame comes from the common side.
     Receives(Frame, Result<Verdict, Stopped>),
+    /// So many octets come from the common side, and among them is no SecTAG.
+    ReceivesUntagged(usize, Verdict),
     /// A frame of the peer with this number is held back, and is delivered after a reservation.
     HeldBack(u32),
     /// There is time for work on the disk.
@@ -29,6 +34,8 @@ pub(super) enum Step {
     HasNext(u8, Option<u64>),
     /// The next and the lowest acceptable number of an association of the peer.
     HasNumbers(u8, Option<(u64, u64)>),
+    /// The same of the other channel's association 2.
+    HasOtherNumbers(Option<(u64, u64)>),
     /// The SCI, and how many packet numbers the blocks of either side have.
     HasIdentity(Sci, u32, u32),
     HasValidate(Validate),
@@ -83,7 +90,12 @@ pub(super) fn waits() -> Step {
 
 /// A frame of the peer with this number has this verdict.
 pub(super) fn arrives(number: u32, verdict: Verdict) -> Step {
-    Step::Receives(Frame::Peers { number }, Ok(verdict))
+    receives(Frame::Peers { number }, verdict)
+}
+
+/// A frame has this verdict.
+pub(super) fn receives(frame: Frame, verdict: Verdict) -> Step {
+    Step::Receives(frame, Ok(verdict))
 }
 
 /// Nothing is wrong with the work on the disk.
@@ -94,6 +106,11 @@ pub(super) fn refills() -> Step {
 /// The next and the lowest acceptable number of the peer's association 2.
 pub(super) fn numbers(next: u64, lowest: u64) -> Step {
     Step::HasNumbers(2, Some((next, lowest)))
+}
+
+/// The same numbers of the other channel's association 2.
+pub(super) fn others(next: u64, lowest: u64) -> Step {
+    Step::HasOtherNumbers(Some((next, lowest)))
 }
 
 /// Takes these steps.
@@ -121,11 +138,26 @@ fn take<D: SectorDisk>(rt: &impl Abort, endpoint: &mut Endpoint<D>, step: &Step)
             let (answer, out) = protected(endpoint, sevens(rt, octets));
             answer == Ok(number) && out.len() == sent
         }
+        Step::Tags(octets, tag, sent, clear) => {
+            let (_, out) = protected(endpoint, sevens(rt, octets));
+            out.len() == sent && is_tagged(rt, out.as_slice(), tag, clear)
+        }
         Step::Receives(frame, answer) => receive_frame(rt, endpoint, frame) == answer,
+        Step::ReceivesUntagged(octets, verdict) => {
+            let frame = sevens(rt, octets);
+            receive(rt, endpoint, frame, frame) == Ok(verdict)
+        }
         Step::HeldBack(number) => receive_in_the_end(rt, endpoint, Frame::Peers { number }),
         Step::Refills(answer) => refill(endpoint) == answer,
         _ => has(rt, endpoint, step),
     }
+}
+
+/// Whether a protected frame has these octets 3 and 4 of the SecTAG, and so many octets of User Data before
+/// the first that is encrypted.
+fn is_tagged(rt: &impl Abort, frame: &[u8], tag: [u8; 2], clear: usize) -> bool {
+    assert!(rt; frame.len() >= 16);
+    frame[14] == tag[0] && frame[15] == tag[1] && clear_octets(rt, frame) == clear
 }
 
 /// Whether an endpoint has what a step says.
@@ -136,6 +168,9 @@ fn has<D: SectorDisk>(rt: &impl Abort, endpoint: &Endpoint<D>, step: &Step) -> b
         }
         Step::HasNumbers(association, numbers) => {
             numbers_of(endpoint.numbers(PEER, number_of(rt, association))) == numbers
+        }
+        Step::HasOtherNumbers(numbers) => {
+            numbers_of(endpoint.numbers(OTHER, number_of(rt, 2))) == numbers
         }
         Step::HasInHand(in_hand) => endpoint.in_hand() == in_hand,
         Step::IsStopped(is_stopped) => endpoint.is_stopped() == is_stopped,
@@ -237,7 +272,7 @@ fn receive_frame<D: SectorDisk>(
     endpoint: &mut Endpoint<D>,
     frame: Frame,
 ) -> Result<Verdict, Stopped> {
-    receive(rt, endpoint, frame.made(rt).as_slice(), PLAIN)
+    receive(rt, endpoint, frame.made(rt).as_slice(), frame.plain())
 }
 
 /// Whether a frame is held back, and is delivered after a reservation.

@@ -1,12 +1,17 @@
 //! Stops at each call of the disk: what is found is what stood before, or that and the one thing in
 //! hand.
 
-use super::frames::Frame;
+use super::frames::{Frame, PEER};
 use super::steps::Step::{
     Commands, HasIdentity, HasInHand, HasNext, HasWindow, IsStopped, Protects, Receives, Refills,
 };
-use super::steps::{Step, arrives, keeps, numbers, play, refills, refuses, sends};
-use super::{ADD, OWN, add_peer, crashed, fuse, number_of, opened, sender, unfused, window};
+use super::steps::{
+    Step, arrives, keeps, numbers, others, play, receives, refills, refuses, sends,
+};
+use super::{
+    ADD, OTHER, OWN, add_channel, crashed, fuse, number_of, opened, receiver, sender, unfused,
+    window,
+};
 use macs_config::{Command, Refusal};
 use macs_disk::{Fuse, MemDisk};
 use macs_endpoint::{CommandFault, Endpoint, ProtectFault, RefillFault, Stopped};
@@ -17,7 +22,7 @@ use std::process::Abort;
 /// The disk of an endpoint that sends, and has the peer's association 2: four records.
 fn stored(rt: &impl Abort, alloc: Global) -> MemDisk {
     let mut endpoint = sender(rt, alloc, 1);
-    add_peer(rt, &mut endpoint);
+    add_channel(rt, &mut endpoint, PEER);
     endpoint.into_disk()
 }
 
@@ -144,6 +149,53 @@ fn a_refill_stopped_at_each_call_is_found_or_not(rt: HostRuntime) {
     ];
     let found = [HasNext(0, Some(9)), numbers(9, 9)];
     expect_done(&rt, fused(&rt, rt.alloc(), 8), &done, &found);
+}
+
+/// The disk of an endpoint that has association 2 of the peer and of the other channel: four records.
+fn stored_receiver(rt: &impl Abort, alloc: Global) -> MemDisk {
+    let mut endpoint = receiver(rt, alloc);
+    add_channel(rt, &mut endpoint, OTHER);
+    endpoint.into_disk()
+}
+
+/// Its endpoint behind a fuse, as in `fused`. A frame with number 5 was held back for either association.
+fn receiving(rt: &impl Abort, alloc: Global, calls: u64) -> Endpoint<Fuse<MemDisk>> {
+    let held_back = [
+        arrives(5, Verdict::HeldBack),
+        receives(
+            Frame::OfOtherChannel { confidential: true },
+            Verdict::HeldBack,
+        ),
+    ];
+    let disk = stored_receiver(rt, alloc);
+    let mut endpoint = opened(rt, fuse(disk, calls.saturating_add(4)));
+    play(rt, &mut endpoint, &held_back);
+    endpoint
+}
+
+/// How many calls of the disk pass in a refill, and the numbers of either association after a power loss.
+/// The reservation of the lower SCI, which is the other channel's, comes first with its four calls.
+const RECEIVED: [(u64, u64, u64); 8] = [
+    (0, 1, 1),
+    (1, 1, 1),
+    (2, 1, 1),
+    (3, 9, 1),
+    (4, 9, 1),
+    (5, 9, 1),
+    (6, 9, 1),
+    (7, 9, 9),
+];
+
+#[test]
+fn a_refill_stopped_between_two_associations_keeps_the_first(rt: HostRuntime) {
+    let cut = [Refills(Err(RefillFault::Disk)), IsStopped(true)];
+    for (calls, other, peers) in RECEIVED {
+        let endpoint = receiving(&rt, rt.alloc(), calls);
+        let found = [others(other, other), numbers(peers, peers)];
+        expect_done(&rt, endpoint, &cut, &found);
+    }
+    let found = [others(9, 9), numbers(9, 9)];
+    expect_done(&rt, receiving(&rt, rt.alloc(), 8), &[refills()], &found);
 }
 
 /// Frames make no call of the disk, and a refused command none, nor a refill without need.

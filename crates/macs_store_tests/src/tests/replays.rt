@@ -1,11 +1,14 @@
 //! Records that are replayed, and those that do not follow from one another.
 
-use super::steps::Step::{HasEncoding, HasReplay, HasRx, HasSciMode, HasTx, HasValidate, IsSpent};
-use super::steps::play;
-use super::{PEER, an, formatted, identity, opened, refusal};
+use super::steps::Step::{
+    HasEncoding, HasOtherAndPeer, HasOtherRx, HasReplay, HasRx, HasRxSa, HasSciMode, HasTx,
+    HasTxSa, HasValidate, IsSpent,
+};
+use super::steps::{Step, play};
+use super::{OTHER, PEER, an, formatted, identity, opened, refusal};
 use macs_config::{Fingerprints, Protection, Replay, Role, RxSa, SciMode, TxSa, Validate};
 use macs_disk::{MemDisk, SectorDisk};
-use macs_frame::{An, Offset, Pn};
+use macs_frame::{An, Offset, Pn, Sci};
 use macs_journal::{Journal, JournalFault, recover};
 use macs_record::{Ceiling, Head, Record, SECTOR, encode, encode_head, open_gate};
 use std::alloc::Global;
@@ -65,10 +68,19 @@ fn tx_ceiling(rt: &impl Abort, an: An, number: u64) -> Record {
     Record::TxCeiling { an, ceiling }
 }
 
-fn tx_sa() -> TxSa {
+/// A transmit association with a key of sixteen such octets.
+fn sent(key: u8) -> TxSa {
     TxSa {
-        key: [1; 16],
+        key: [key; 16],
         protection: Protection::Integrity,
+    }
+}
+
+/// A receive association with a key of sixteen such octets.
+fn received(key: u8) -> RxSa {
+    RxSa {
+        key: [key; 16],
+        offset: Offset::Zero,
     }
 }
 
@@ -76,7 +88,7 @@ fn tx_sa() -> TxSa {
 fn installed(rt: &impl Abort, an: An) -> Record {
     Record::TxInstall {
         an,
-        sa: tx_sa(),
+        sa: sent(1),
         start: Pn::new(1).expect(rt, "start"),
     }
 }
@@ -111,7 +123,7 @@ fn parts_of_a_snapshot_stand_in_the_snapshot_alone(rt: HostRuntime) {
         Record::Channel { sci: PEER },
         Record::TxSa {
             an: an(&rt, 0),
-            sa: tx_sa(),
+            sa: sent(1),
             ceiling: ceiling(&rt, 5),
         },
     ];
@@ -227,17 +239,14 @@ fn whole(rt: &impl Abort, first: An) -> [Record; 6] {
         settings(Some(first)),
         Record::TxSa {
             an: first,
-            sa: tx_sa(),
+            sa: sent(1),
             ceiling: ceiling(rt, 77),
         },
         Record::Channel { sci: PEER },
         Record::RxSa {
             sci: PEER,
             an: first,
-            sa: RxSa {
-                key: [2; 16],
-                offset: Offset::Zero,
-            },
+            sa: received(2),
             ceiling: ceiling(rt, 4_294_967_296),
         },
         Record::Spent {
@@ -304,4 +313,134 @@ fn no_record_of_a_snapshot_may_be_left_out(rt: HostRuntime) {
 fn commands_are_no_part_of_a_snapshot(rt: HostRuntime) {
     let records = [settings(None), Record::RxAdd { sci: PEER }];
     expect_refused(&rt, snapshot(&rt, rt.alloc(), &records));
+}
+
+/// The fingerprints of the keys of sixteen ones and of sixteen threes, by Python's hashlib.
+const TX_FINGERPRINTS: [[u8; 32]; 2] = [
+    TX_FINGERPRINT,
+    *b"\x63\x99\xf6\xd8\x63\xb0\x8f\x46\x52\xb3\x42\xc2\xe1\x35\x0b\x4c\
+    \x01\xe2\x91\x33\x2d\x9d\x84\xd8\x4b\x57\x5b\xf7\x27\x28\x97\xd2",
+];
+
+/// The fingerprints of the other SCI and the key of sixteen fours, and of the peer's SCI and the keys of
+/// sixteen twos and of sixteen fours, by Python's hashlib.
+const RX_FINGERPRINTS: [[u8; 32]; 3] = [
+    *b"\x76\x10\x48\xc1\x78\x55\xab\x1e\xa8\x95\x34\x8d\x84\xdd\x52\x91\
+    \x2a\xd4\x5f\x76\xf3\x29\xc3\x31\x2d\x4e\x38\xcf\x09\x04\xb4\x10",
+    RX_FINGERPRINT,
+    *b"\xb1\xb2\x36\xef\x6f\xd1\x7e\xb8\xdf\x26\x7c\xe9\xc6\xb4\xf0\x7d\
+    \xc3\x5d\xd1\x1a\xc2\x38\x61\x64\xd2\x5d\xdb\x09\x52\xca\x0f\x32",
+];
+
+fn tx_part(rt: &impl Abort, number: u8, key: u8, reserved: u64) -> Record {
+    Record::TxSa {
+        an: an(rt, number),
+        sa: sent(key),
+        ceiling: ceiling(rt, reserved),
+    }
+}
+
+fn rx_part(rt: &impl Abort, sci: Sci, number: u8, key: u8, reserved: u64) -> Record {
+    Record::RxSa {
+        sci,
+        an: an(rt, number),
+        sa: received(key),
+        ceiling: ceiling(rt, reserved),
+    }
+}
+
+fn spent_part(rt: &impl Abort, role: Role, fingerprints: &[[u8; 32]]) -> Record {
+    Record::Spent {
+        role,
+        fingerprints: Fingerprints::from_slice(fingerprints).expect(rt, "fingerprints"),
+    }
+}
+
+/// The records of a snapshot with two transmit associations, two channels and three associations of
+/// theirs, by their places as an endpoint writes them.
+fn part_at(rt: &impl Abort, place: u8) -> Record {
+    match place {
+        0 => settings(Some(an(rt, 1))),
+        1 => tx_part(rt, 0, 1, 77),
+        2 => tx_part(rt, 1, 3, 78),
+        3 => Record::Channel { sci: OTHER },
+        4 => Record::Channel { sci: PEER },
+        5 => rx_part(rt, OTHER, 1, 4, 79),
+        6 => rx_part(rt, PEER, 0, 2, 80),
+        7 => rx_part(rt, PEER, 1, 4, 81),
+        8 => spent_part(rt, Role::Transmit, &TX_FINGERPRINTS),
+        _ => spent_part(rt, Role::Receive, &RX_FINGERPRINTS),
+    }
+}
+
+/// A disk whose second area has a snapshot of the records of these places, in this order.
+fn arranged(rt: &impl Abort, alloc: Global, places: [u8; 10]) -> MemDisk {
+    let mut disk = formatted(rt, alloc);
+    let mut count = 0_u32;
+    for place in places {
+        write_record(rt, &mut disk, count, &part_at(rt, place));
+        count = count.saturating_add(1);
+    }
+    write_head(rt, &mut disk, count);
+    disk
+}
+
+/// An order as an endpoint writes it, and others within a kind: of transmit associations, of channels, of
+/// receive associations, and of all three.
+const TAKEN: [[u8; 10]; 5] = [
+    [0, 1, 2, 3, 4, 5, 6, 7, 8, 9],
+    [0, 2, 1, 3, 4, 5, 6, 7, 8, 9],
+    [0, 1, 2, 4, 3, 5, 6, 7, 8, 9],
+    [0, 1, 2, 3, 4, 7, 5, 6, 8, 9],
+    [0, 2, 1, 4, 3, 7, 6, 5, 8, 9],
+];
+
+/// Orders in which a record stands in front of one of an earlier kind: of the settings, of a transmit
+/// association, of a channel, of a receive association, of the spent keys of the transmit side.
+const NOT_TAKEN: [[u8; 10]; 5] = [
+    [1, 0, 2, 3, 4, 5, 6, 7, 8, 9],
+    [0, 1, 3, 2, 4, 5, 6, 7, 8, 9],
+    [0, 1, 2, 3, 5, 4, 6, 7, 8, 9],
+    [0, 1, 2, 3, 4, 5, 6, 8, 7, 9],
+    [0, 1, 2, 3, 4, 5, 6, 7, 9, 8],
+];
+
+/// What stands after an opening of a disk with these records in an order that is taken.
+fn found(first: An, second: An) -> [Step; 14] {
+    [
+        HasTx(first, Some(77)),
+        HasTx(second, Some(78)),
+        HasTxSa(first, Some(sent(1))),
+        HasTxSa(second, Some(sent(3))),
+        HasOtherAndPeer,
+        HasOtherRx(first, None),
+        HasOtherRx(second, Some(79)),
+        HasRx(first, Some(80)),
+        HasRx(second, Some(81)),
+        HasRxSa(first, Some(received(2))),
+        HasRxSa(second, Some(received(4))),
+        HasEncoding(Some(second)),
+        IsSpent(3, true, false),
+        IsSpent(4, false, true),
+    ]
+}
+
+/// The records of these places are read, in this order.
+fn expect_taken(rt: &impl Abort, alloc: Global, places: [u8; 10]) {
+    let disk = arranged(rt, alloc, places);
+    play(rt, &mut opened(rt, disk), &found(an(rt, 0), an(rt, 1)));
+}
+
+#[test]
+fn records_of_one_kind_stand_in_any_order(rt: HostRuntime) {
+    for places in TAKEN {
+        expect_taken(&rt, rt.alloc(), places);
+    }
+}
+
+#[test]
+fn kinds_of_a_snapshot_stand_in_their_order(rt: HostRuntime) {
+    for places in NOT_TAKEN {
+        expect_refused(&rt, arranged(&rt, rt.alloc(), places));
+    }
 }

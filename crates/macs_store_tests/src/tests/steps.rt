@@ -1,9 +1,9 @@
 //! Tests as lists of steps.
 
-use super::{PEER, reopened};
+use super::{OTHER, PEER, reopened};
 use macs_config::{Command, Config, Identity, Refusal, Replay, RxSa, SciMode, TxSa, Validate};
 use macs_disk::{MemDisk, SectorDisk};
-use macs_frame::{An, Pn};
+use macs_frame::{An, Pn, Sci};
 use macs_journal::JournalFault;
 use macs_store::{CommitFault, Store};
 use std::process::Abort;
@@ -21,6 +21,8 @@ pub(super) enum Step {
     HasTx(An, Option<u64>),
     /// An association of the peer has this ceiling.
     HasRx(An, Option<u64>),
+    /// An association of the other channel has this ceiling.
+    HasOtherRx(An, Option<u64>),
     /// A device call failed, or none did.
     IsStopped(bool),
     HasIdentity(Identity),
@@ -35,6 +37,8 @@ pub(super) enum Step {
     HasChannels(usize),
     /// The peer's channel stands, or it does not.
     HasPeer(bool),
+    /// The other channel and the peer's stand, in this order, and no further one.
+    HasOtherAndPeer,
     HasTxSa(An, Option<TxSa>),
     /// An association of the peer.
     HasRxSa(An, Option<RxSa>),
@@ -75,7 +79,8 @@ fn take<D: SectorDisk>(rt: &impl Abort, store: &mut Store<D>, step: &Step) -> bo
         Step::ReservesTx(an, answer) => reserve_tx(rt, store, an) == answer,
         Step::ReservesRx(an, number, answer) => reserve_rx(rt, store, an, number) == answer,
         Step::HasTx(an, ceiling) => tx_ceiling(store, an) == ceiling,
-        Step::HasRx(an, ceiling) => rx_ceiling(store, an) == ceiling,
+        Step::HasRx(an, ceiling) => rx_ceiling(store, PEER, an) == ceiling,
+        Step::HasOtherRx(an, ceiling) => rx_ceiling(store, OTHER, an) == ceiling,
         Step::IsStopped(stopped) => store.is_stopped() == stopped,
         Step::HasIdentity(identity) => store.identity() == identity,
         _ => has(store.config(), step),
@@ -99,6 +104,7 @@ fn has_associations(config: &Config, step: &Step) -> bool {
     match *step {
         Step::HasChannels(count) => config.channels().len() == count,
         Step::HasPeer(stands) => config.has_channel(PEER) == stands,
+        Step::HasOtherAndPeer => config.channels().as_slice() == [OTHER, PEER].as_slice(),
         Step::HasTxSa(an, sa) => config.tx(an) == sa,
         Step::HasRxSa(an, sa) => config.rx(PEER, an) == sa,
         Step::IsSpent(key, sent, received) => {
@@ -117,8 +123,8 @@ fn tx_ceiling<D: SectorDisk>(store: &Store<D>, an: An) -> Option<u64> {
     Some(store.tx_ceiling(an)?.get())
 }
 
-fn rx_ceiling<D: SectorDisk>(store: &Store<D>, an: An) -> Option<u64> {
-    Some(store.rx_ceiling(PEER, an)?.get())
+fn rx_ceiling<D: SectorDisk>(store: &Store<D>, sci: Sci, an: An) -> Option<u64> {
+    Some(store.rx_ceiling(sci, an)?.get())
 }
 
 /// Raises the ceiling of a transmit association that stands and may be raised.
