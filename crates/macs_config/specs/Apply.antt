@@ -39,6 +39,7 @@ IsCommand edition (RxRemove sci an) = (length sci ≡ 8) × (an < 4)
 
 -- ---- the tests of the refusals, each on every command
 
+-- an association is to begin with packet number 0, which is none
 abbrev pub start_range : Command → Bool
 start_range (TxInstall an key start confidential offset) = start == 0
 start_range (RxInstall sci an key start offset) = start == 0
@@ -49,58 +50,70 @@ abbrev pub offset_at : ℕ → Option Offset
 offset_at octets =
     if octets == 0 then Some Zero else if octets == 30 then Some Thirty else if octets == 50 then Some Fifty else None
 
+-- the offset of an install is none of 0, 30 and 50 octets, or is not 0 without confidentiality
 abbrev pub offset_choice : Command → Bool
 offset_choice (TxInstall an key start confidential offset) =
     is_none (offset_at offset) || (not confidential && not (offset == 0))
 offset_choice (RxInstall sci an key start offset) = is_none (offset_at offset)
 offset_choice command = false
 
+-- a receive channel is to be added under the endpoint's own SCI
 abbrev pub own_sci : Identity → Command → Bool
 own_sci identity (RxAdd sci) = bytes_eq sci identity.sci
 own_sci identity command = false
 
+-- ES is to be set, and the port of the endpoint's SCI is not 00-01 (IEEE Std 802.1AE-2018, 9.5)
 abbrev pub end_station_sci : Identity → Command → Bool
 end_station_sci identity (SetSciMode mode) = is_end_station mode && not (is_port_one identity.sci)
 end_station_sci identity command = false
 
+-- the receive channel of the command does not stand
 abbrev pub no_channel : Config → Command → Bool
 no_channel c (RxDrop sci) = not (has_channel c sci)
 no_channel c (RxInstall sci an key start offset) = not (has_channel c sci)
 no_channel c (RxRemove sci an) = not (has_channel c sci)
 no_channel c command = false
 
+-- the receive channel that is to be added stands
 abbrev pub channel_taken : Config → Command → Bool
 channel_taken c (RxAdd sci) = has_channel c sci
 channel_taken c command = false
 
+-- a receive channel is to be added, and as many stand as the edition takes
 abbrev pub channels_full : Edition → Config → Command → Bool
 channels_full edition c (RxAdd sci) = nat_le edition.channels (length c.channels)
 channels_full edition c command = false
 
+-- an association stands at the AN of an install
 abbrev pub slot_taken : Config → Command → Bool
 slot_taken c (TxInstall an key start confidential offset) = is_some (c.tx an)
 slot_taken c (RxInstall sci an key start offset) = is_some (c.rx sci an)
 slot_taken c command = false
 
+-- no association stands at the AN that is to be used or removed
 abbrev pub slot_empty : Config → Command → Bool
 slot_empty c (TxUse an) = is_none (c.tx an)
 slot_empty c (TxRemove an) = is_none (c.tx an)
 slot_empty c (RxRemove sci an) = is_none (c.rx sci an)
 slot_empty c command = false
 
+-- frames go out under the association at this AN
 abbrev pub is_encoding : Option ℕ → ℕ → Bool
 is_encoding None an = false
 is_encoding (Some encoding) an = encoding == an
 
+-- the encoding association is to be removed
 abbrev pub in_use : Config → Command → Bool
 in_use c (TxRemove an) = is_encoding c.encoding an
 in_use c command = false
 
+-- the fingerprint of an install's key is among the spent ones of its side
 abbrev pub key_spent : Config → Command → Bool
 key_spent c (TxInstall an key start confidential offset) = is_spent c.spent_tx (tx_fingerprint key)
 key_spent c (RxInstall sci an key start offset) = is_spent c.spent_rx (rx_fingerprint sci key)
 key_spent c command = false
 
+-- as many keys are spent on the side of an install as may be
 abbrev pub spent_full : Config → Command → Bool
 spent_full c (TxInstall an key start confidential offset) = nat_le max_spent (length c.spent_tx)
 spent_full c (RxInstall sci an key start offset) = nat_le max_spent (length c.spent_rx)
@@ -123,6 +136,7 @@ refusals edition identity c command =
     ∷ (SpentFull, spent_full c command)
     ∷ []
 
+-- the first refusal that holds of a command, if any does
 abbrev pub refusal_of : Edition → Identity → Config → Command → Option Refusal
 refusal_of edition identity c command = first (refusals edition identity c command)
 

@@ -7,10 +7,12 @@ use Rattle.macs_config.specs.declared.association.Protection.TheVariants.{Integr
 use Rattle.macs_config.specs.declared.command.SciMode.{SciMode}
 use Rattle.macs_config.specs.declared.command.SciMode.TheVariants.{Explicit, EndStation, Implicit}
 
+-- what an install asks for: confidentiality with this offset, or integrity alone
 abbrev pub protection_of : Bool → Offset → Protection
 protection_of true offset = Confidentiality offset
 protection_of false offset = Integrity
 
+-- User Data are encrypted from the offset on, and not authenticated alone
 abbrev pub is_confidential : Protection → Bool
 is_confidential Integrity = false
 is_confidential (Confidentiality offset) = true
@@ -20,6 +22,7 @@ abbrev pub offset_of : Protection → Offset
 offset_of Integrity = Zero
 offset_of (Confidentiality offset) = offset
 
+-- frames name their channel by the source address, with ES set (IEEE Std 802.1AE-2018, 9.5)
 abbrev pub is_end_station : SciMode → Bool
 is_end_station Explicit = false
 is_end_station EndStation = true

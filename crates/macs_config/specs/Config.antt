@@ -21,6 +21,7 @@ pub record Edition : Type 0 where
   pub channels : ℕ
   pub long_keys : Bool
 
+-- at most 8 receive channels, and keys of 16 octets alone
 abbrev pub first_edition : Edition
 first_edition = record { channels = 8; long_keys = false }
 
@@ -66,9 +67,11 @@ default = record {
 
 -- ---- channels
 
+-- a list of SCIs or fingerprints has this one
 abbrev pub is_among : List (List ℕ) → List ℕ → Bool
 is_among items item = list_any (λ other. bytes_eq other item) items
 
+-- a receive channel of that SCI stands
 abbrev pub has_channel : Config → List ℕ → Bool
 has_channel c sci = is_among c.channels sci
 
@@ -82,6 +85,7 @@ put_among sci [] = sci ∷ []
 put_among sci (other ∷ others) =
     if comes_before sci other then sci ∷ other ∷ others else other ∷ put_among sci others
 
+-- each SCI comes before the next, so that none comes twice
 abbrev pub is_ascending : List (List ℕ) → Bool
 is_ascending [] = true
 is_ascending (sci ∷ []) = true
@@ -89,16 +93,19 @@ is_ascending (sci ∷ next ∷ others) = comes_before sci next && is_ascending (
 
 -- ---- spent keys
 
--- what stands for a key on the transmit side, and for a key under an SCI on the receive side
+-- what stands for a key on the transmit side
 abbrev pub tx_fingerprint : List ℕ → List ℕ
 tx_fingerprint key = sha256 key
 
+-- 32 octets that stand for a key under an SCI on the receive side
 abbrev pub rx_fingerprint : List ℕ → List ℕ → List ℕ
 rx_fingerprint sci key = sha256 (sci ++ key)
 
+-- a key with this fingerprint was installed on that side, and is never installed again there
 abbrev pub is_spent : List (List ℕ) → List ℕ → Bool
 is_spent spent fingerprint = is_among spent fingerprint
 
+-- the fingerprints of a side's spent keys, in the order of installing
 abbrev pub spent_of : Role → Config → List (List ℕ)
 spent_of Transmit c = c.spent_tx
 spent_of Receive c = c.spent_rx

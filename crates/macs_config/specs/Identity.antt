@@ -8,6 +8,7 @@ pub record Identity : Type 0 where
   pub tx_block : ℕ
   pub rx_block : ℕ
 
+-- how many packet numbers may be reserved at a time: 1 to 65,536
 abbrev pub IsBlock : ℕ → Type 0
 IsBlock block = (1 ≤ block) × (block ≤ 65536)
 

@@ -58,6 +58,7 @@ with_part c (RxSa sci an sa) = record c { rx = put_at c.rx sci (put (c.rx sci) a
 with_part c (Spent Transmit fingerprints) = record c { spent_tx = c.spent_tx ++ fingerprints }
 with_part c (Spent Receive fingerprints) = record c { spent_rx = c.spent_rx ++ fingerprints }
 
+-- what all these parts make, None where one may not follow those in front of it
 abbrev pub with_parts : Edition → Identity → Config → List Part → Option Config
 with_parts edition identity c [] = Some c
 with_parts edition identity c (part ∷ parts) =
@@ -65,12 +66,15 @@ with_parts edition identity c (part ∷ parts) =
 
 -- ---- the whole
 
+-- each AN, ascending (IEEE Std 802.1AE-2018, 9.6)
 abbrev pub numbers : List ℕ
 numbers = 0 ∷ 1 ∷ 2 ∷ 3 ∷ []
 
+-- the key of the transmit association at an AN is spent, if one stands there
 abbrev pub is_tx_spent : Config → ℕ → Bool
 is_tx_spent c an = option_map_or (λ sa. is_spent c.spent_tx (tx_fingerprint sa.key)) (c.tx an) true
 
+-- the key of the receive association of an SCI at an AN is spent for that SCI, if one stands there
 abbrev pub is_rx_spent : Config → List ℕ → ℕ → Bool
 is_rx_spent c sci an = option_map_or (λ sa. is_spent c.spent_rx (rx_fingerprint sci sa.key)) (c.rx sci an) true
 
@@ -82,6 +86,7 @@ is_whole identity c =
     && option_map_or (λ an. is_some (c.tx an)) c.encoding true
     && not (is_end_station c.mode && not (is_port_one identity.sci))
 
+-- the configuration, if there is one and it is whole
 abbrev pub checked : Identity → Option Config → Option Config
 checked identity None = None
 checked identity (Some c) = if is_whole identity c then Some c else None

@@ -7,10 +7,12 @@ use Rattle.macs_config.specs.declared.association.RxSa.{RxSa}
 use Rattle.macs_config.specs.declared.contents.Channel.{Channel}
 use Rattle.macs_config.specs.declared.contents.Contents.{Contents}
 
+-- an identity, and beside it what is kept of its configuration
 pub record Stored : Type 0 where
   pub identity : Identity
   pub contents : Contents
 
+-- the receive association of an SCI at an AN, None where none stands
 abbrev pub rx_at : List Channel → List ℕ → ℕ → Option RxSa
 rx_at [] sci an = None
 rx_at (channel ∷ channels) sci an =
@@ -30,5 +32,6 @@ read c = record {
   spent_rx = c.spent_rx;
 }
 
+-- the configuration beside the identity
 abbrev pub config_of : Stored → Config
 config_of stored = read stored.contents

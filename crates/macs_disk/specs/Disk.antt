@@ -16,6 +16,7 @@ pub record Disk : Type 0 where
 abbrev pub now : Disk → DiskState
 now disk = disk.past disk.clock
 
+-- reads, writes and syncs of the disk do what the model says
 abbrev pub IsHonest : Disk → Type 0
 IsHonest disk = disk.honest ≡ true
 

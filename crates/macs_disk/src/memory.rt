@@ -43,24 +43,31 @@ pub struct MemDisk<A: Allocator = Global> {
     ghost chosen: { AreChosen seen.items pending.items choices.items },
 }
 
-// Makes every sector durable as reads give it: nothing is pending, and no choice stands.
+// Makes every sector durable as reads give it: nothing is pending, and no choice stands. The pending sectors
+// alone are copied, since all others are durable as reads give them.
 fn settle<A: Allocator>(
     seen: &[[u8; 512]],
     durable: &mut Vec<[u8; 512], A>,
     pending: &mut Vec<bool, A>,
     choices: &mut Vec<Option<[u8; 512]>, A>,
 )
-    requires { length durable.old.items ≡ length seen.now }
+    requires durable { length durable.old.items ≡ length seen.now }
+    requires flags { length pending.old.items ≡ length seen.now }
+    requires choices { length choices.old.items ≡ length seen.now }
+    requires clean { (i : ℕ) → flag_at pending.old.items i ≡ false → sectors_in seen.now i ≡ sectors_in durable.old.items i }
+    requires unchosen { (i : ℕ) → flag_at pending.old.items i ≡ false → choice_at choices.old.items i ≡ None }
     ensures durable { durable.new.items ≡ seen.now }
     ensures flags { length pending.new.items ≡ length pending.old.items }
     ensures clear { (i : ℕ) → flag_at pending.new.items i ≡ false }
     ensures choices { length choices.new.items ≡ length choices.old.items }
     ensures none { (i : ℕ) → choice_at choices.new.items i ≡ None }
 {
-    durable.copy_from_slice(seen);
-    pending.fill(false);
-    for choice in choices.iter_mut() {
-        *choice = None;
+    for i in 0..seen.len() {
+        if pending[i] {
+            durable[i] = seen[i];
+            pending[i] = false;
+            choices[i] = None;
+        }
     }
 }
 

@@ -17,9 +17,11 @@ abbrev pub tx_served : Standing → Option ℕ → Standing
 tx_served s None = s
 tx_served s (Some an) = tx_raised s an
 
+-- what stands once the need of the transmit side is served, if it has one
 abbrev pub tx_refilled : Standing → TxSide → Standing
 tx_refilled s side = tx_served s (tx.need_of side s.ceilings.tx s.identity.tx_block)
 
+-- the ceiling that a need asks for, or the one that there is where nothing is needed
 abbrev pub rx_served : ℕ → Option ℕ → Option Need → Option ℕ
 rx_served block ceiling None = ceiling
 rx_served block ceiling (Some need) = Some (raised block need.pn)

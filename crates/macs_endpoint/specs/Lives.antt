@@ -14,6 +14,7 @@ pub record Turn (D : Type 0) : Type 0 where
   pub reply : Reply
   pub after : EndpointValue D
 
+-- a call and its answer, without the endpoint after them
 abbrev pub event_of : {D : Type 0} → Turn D → Event
 event_of turn = record { call = turn.call; reply = turn.reply }
 

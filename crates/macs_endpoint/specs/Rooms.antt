@@ -34,7 +34,6 @@ TxStays an e [] = Unit {0}
 TxStays an e (turn ∷ turns) = SparesTx an (made (state_of e no_logs) turn.call turn.reply) × TxStays an turn.after turns
 
 -- 1 for a frame that went out under it
-
 abbrev pub one_if : Option ℕ → ℕ → Reply → ℕ
 one_if (Some encoding) an (Protected (Ok pn) out) = if encoding == an then 1 else 0
 one_if encoding an reply = 0

@@ -32,6 +32,7 @@ pub record Logs : Type 0 where
   pub used : List Use
   pub given : List Delivery
 
+-- no frame went out, and none was delivered
 abbrev pub no_logs : Logs
 no_logs = record { used = []; given = [] }
 
@@ -69,15 +70,19 @@ receiving config numbers = record {
   numbers = numbers;
 }
 
+-- the transmit channel of an endpoint in this state
 abbrev pub tx_side : State → TxSide
 tx_side s = transmitting s.identity s.config s.next
 
+-- the receive channels of an endpoint in this state
 abbrev pub rx_side : State → RxSide
 rx_side s = receiving s.config s.numbers
 
+-- the state with a command in hand
 abbrev pub holding : State → Command → State
 holding s command = record s { in_hand = Some command }
 
+-- the state after a device call failed: the disk is to be opened again
 abbrev pub halted : State → State
 halted s = record s { stopped = true }
 
@@ -87,6 +92,7 @@ Accepts s command = IsOk (apply s.edition s.identity s.config command)
 
 -- ---- calls
 
+-- what is asked: a command, a refill of the ceilings, or a frame from the controlled or the common side
 pub data Call : Type 0 where
   Commands : Command → Call
   Refills : Call

@@ -51,6 +51,7 @@ after s command config = record s {
 abbrev pub Makes : State → Command → State → Type 0
 Makes old command new = (config : Config) × (apply old.edition old.identity old.config command ≡ Ok config) × (new ≡ after old command config)
 
+-- A command takes effect, or nothing changes, or a device call failed and the command is in hand.
 abbrev pub Commanded : State → Command → Result (Unit {0}) CommitFault → State → Type 0
 Commanded old command (Ok done) new = Makes old command new
 Commanded old command (Err (commit.Refused refusal)) new =
@@ -61,6 +62,7 @@ Commanded old command (Err commit.Stopped) new = ⊥
 
 -- ---- work on the disk
 
+-- A refill leaves the state, which has no ceilings, as it was, unless a device call failed.
 abbrev pub Refilling : State → Result (Unit {0}) RefillFault → State → Type 0
 Refilling old (Ok done) new = new ≡ old
 Refilling old (Err refill.AreaFull) new = new ≡ old
@@ -111,6 +113,7 @@ Settling old frame verdict out new =
     (step : rx.Step) × IsFirst (Holds (rx_side old) frame) steps step
     × (verdict ≡ verdict_at (rx_side old) frame step) × (out ≡ given_at frame verdict) × (new ≡ old)
 
+-- a received frame is settled by one of the first nine steps, or verified and arrives
 abbrev pub Receiving : State → List ℕ → Result Verdict Stopped → List ℕ → State → Type 0
 Receiving old frame (Ok verdict) out new =
     Settling old frame verdict out new ⊎ ((a : Arrival) × Arrives (rx_side old) frame a × Arriving old a verdict out new)
@@ -134,6 +137,7 @@ IsStopped (Protects plain) (Protected (Err protect.Stopped) out) = out ≡ []
 IsStopped (Receives frame) (Received (Err stopped) out) = out ≡ []
 IsStopped call reply = ⊥
 
+-- A call is made: a stopped endpoint answers Stopped and stays as it is, any other one runs the call.
 abbrev pub Step : State → Call → Reply → State → Type 0
 Step old call reply new =
     ((old.stopped ≡ true) × IsStopped call reply × (new ≡ old))

@@ -63,6 +63,7 @@ bare frame = take 12 frame ++ slice_range frame (start_of frame) (end_of frame)
 
 -- ---- faults
 
+-- what each fault says of a frame under a key, an SCI and an offset
 abbrev pub OpenFaultHolds : (frame key sci : List ℕ) → ℕ → OpenFault → Type 0
 OpenFaultHolds frame key sci offset (TagRefused fault) = TagFaultHolds frame fault
 OpenFaultHolds frame key sci offset OtherSci =

@@ -71,6 +71,7 @@ parts_of tag octets = record { tag = tag; start = 12 + tag_octets tag.name; end 
 
 -- ---- ranges
 
+-- an SCI that is spelled out has 8 octets (9.9)
 abbrev pub IsName : ScName → Type 0
 IsName (Explicit sci) = length sci ≡ 8
 IsName EndStation = Unit {0}

@@ -23,21 +23,27 @@ control frame = slice_index frame 14
 abbrev pub has_bit : ℕ → ℕ → Bool
 has_bit octet mask = not (bit_and octet mask == 0)
 
+-- V: the version is not 0 (9.5)
 abbrev pub version : ℕ → Bool
 version octet = has_bit octet 0x80
 
+-- ES: the SCI is the source address with port 00-01 (9.5)
 abbrev pub end_station : ℕ → Bool
 end_station octet = has_bit octet 0x40
 
+-- SC: the SCI is spelled out in the SecTAG (9.5)
 abbrev pub has_sci : ℕ → Bool
 has_sci octet = has_bit octet 0x20
 
+-- SCB: the frame is sent by the single copy broadcast of EPON (9.5)
 abbrev pub single_copy_broadcast : ℕ → Bool
 single_copy_broadcast octet = has_bit octet 0x10
 
+-- E: the User Data are encrypted (9.5)
 abbrev pub encrypted : ℕ → Bool
 encrypted octet = has_bit octet 0x08
 
+-- C: the Secure Data are not the User Data as they were handed in (9.5)
 abbrev pub changed : ℕ → Bool
 changed octet = has_bit octet 0x04
 
@@ -71,17 +77,20 @@ Agrees octets start short =
 abbrev pub end_at : ℕ → ℕ → ℕ → ℕ
 end_at octets start short = if short == 0 then octets - 16 else start + short
 
+-- the place of a frame's first octet behind its Secure Data, where the ICV begins (9.11)
 abbrev pub end_of : List ℕ → ℕ
 end_of frame = end_at (length frame) (start_of frame) (short_length frame)
 
 -- ---- what the tag says
 
+-- how the tag names its channel: by an SCI, as an end station, or not at all (9.5, 9.9)
 abbrev pub name_of : List ℕ → ScName
 name_of frame =
     if has_sci (control frame) then Explicit (sci_of frame)
     else if end_station (control frame) then EndStation
     else Implicit
 
+-- the AN, the PN, the name of the channel, and the bits E and C
 abbrev pub tag_of : List ℕ → SecTag
 tag_of frame = record {
   an = control frame % 4;
@@ -126,6 +135,7 @@ IsForKay frame = (encrypted (control frame) ≡ true) × (changed (control frame
 
 -- ---- faults
 
+-- what each fault says of a frame
 abbrev pub TagFaultHolds : List ℕ → TagFault → Type 0
 TagFaultHolds frame Runt = length frame < 14
 TagFaultHolds frame Oversize = 9216 < length frame

@@ -20,6 +20,7 @@ HasKind sector = (kind : Kind) × Begins (octets_of_kind kind) sector
 abbrev pub HasFields : List ℕ → Type 0
 HasFields sector = (r : Record) × IsRecord r × Begins (front_of r) sector
 
+-- the sector is that of some record whose fields are in their ranges
 abbrev pub HasRecord : List ℕ → Type 0
 HasRecord sector = (r : Record) × IsSectorOf r sector
 

@@ -25,9 +25,11 @@ pub record IsHead (head : Head) : Type 0 where
 abbrev pub head_mark : List ℕ
 head_mark = 0x4d ∷ 0x53 ∷ 0x45 ∷ 0x43 ∷ 0x48 ∷ 0x45 ∷ 0x41 ∷ 0x44 ∷ []
 
+-- which layout it is, written in 4 octets
 abbrev pub version : ℕ
 version = 1
 
+-- 16 octets: the SCI, then the transmit and the receive block in 4 octets each
 abbrev pub identity_octets : Identity → List ℕ
 identity_octets identity = identity.sci ++ (to_be_bytes w32 identity.tx_block ++ to_be_bytes w32 identity.rx_block)
 

@@ -22,14 +22,17 @@ use Rattle.macs_record.specs.declared.record.Record.TheVariants.{Settings, TxSa,
 
 -- ---- fields
 
+-- yes or no in one octet, 1 for yes
 abbrev pub flag : Bool → ℕ
 flag false = 0
 flag true = 1
 
+-- how frames are validated, in one octet, 0 or 1
 abbrev pub validate_octet : Validate → ℕ
 validate_octet Strict = 0
 validate_octet Check = 1
 
+-- how frames name their channel, in one octet, 0 to 2
 abbrev pub mode_octet : SciMode → ℕ
 mode_octet Explicit = 0
 mode_octet EndStation = 1
@@ -40,6 +43,7 @@ abbrev pub encoding_octet : Option ℕ → ℕ
 encoding_octet None = 0xff
 encoding_octet (Some an) = an
 
+-- the side that keys are spent on, in one octet, 0 or 1
 abbrev pub role_octet : Role → ℕ
 role_octet Transmit = 0
 role_octet Receive = 1
@@ -102,6 +106,7 @@ kind_of (RxRemove sci an) = kinds.RxRemove
 kind_of (TxCeiling an ceiling) = kinds.TxCeiling
 kind_of (RxCeiling sci an ceiling) = kinds.RxCeiling
 
+-- what stands behind the mark and the kind: the fields in order, without gaps
 abbrev pub fields_of : Record → List ℕ
 fields_of (Settings validate replay mode encoding) =
     validate_octet validate ∷ (replay_octets replay ++ (mode_octet mode ∷ encoding_octet encoding ∷ []))

@@ -32,6 +32,7 @@ count_of (Discarded Late) c = c.late
 count_of (Discarded NotValid) c = c.not_valid
 count_of HeldBack c = 0
 
+-- the counters after one more verdict; a frame that is held back is not counted
 abbrev pub counted : Verdict → RxCounters → RxCounters
 counted (Delivered Ok) c = record c { ok = one_more c.ok }
 counted (Delivered Delayed) c = record c { delayed = one_more c.delayed }
@@ -61,6 +62,7 @@ channel_count_of (Discarded Late) c = c.late
 channel_count_of (Discarded NotValid) c = c.not_valid
 channel_count_of verdict c = 0
 
+-- the counters of a channel after one more verdict on a frame that names it
 abbrev pub channel_counted : Verdict → ChannelCounters → ChannelCounters
 channel_counted (Delivered Ok) c = record c { ok = one_more c.ok }
 channel_counted (Delivered Delayed) c = record c { delayed = one_more c.delayed }
@@ -76,6 +78,7 @@ abbrev pub counted_at : Option (List ℕ) → Verdict → (List ℕ → Option C
 counted_at None verdict table = table
 counted_at (Some sci) verdict table = put_at table sci (option_map (channel_counted verdict) (table sci))
 
+-- each count over all channels at 0
 abbrev pub none_counted : RxCounters
 none_counted = record {
   ok = 0;
@@ -95,6 +98,7 @@ none_counted = record {
   not_valid = 0;
 }
 
+-- each count of one channel at 0
 abbrev pub none_counted_for_channel : ChannelCounters
 none_counted_for_channel =
     record { ok = 0; delayed = 0; invalid = 0; unused_sa = 0; not_using_sa = 0; late = 0; not_valid = 0 }

@@ -18,6 +18,7 @@ abbrev pub is_needed : ℕ → ℕ → ℕ → ℕ → Bool
 is_needed block next ceiling seen =
     (nat_le ceiling seen || nat_le (ceiling - next) (block / 2)) && nat_lt ceiling (raised block seen)
 
+-- the need of an association that stands, by the greatest number that was seen, if any was
 abbrev pub needed : ℕ → List ℕ → ℕ → Numbers → ℕ → Option ℕ → Option Need
 needed block sci an numbers ceiling None = None
 needed block sci an numbers ceiling (Some seen) =
@@ -34,6 +35,7 @@ first_need [] = None
 first_need (None ∷ needs) = first_need needs
 first_need (Some need ∷ needs) = Some need
 
+-- the need that is served first, by ascending SCI and then AN, if there is any
 abbrev pub needs_of : RxSide → (List ℕ → ℕ → Option ℕ) → ℕ → Option Need
 needs_of side ceilings block = first_need
     (flat_map (λ sci. map (λ an. need_of block sci an (side.numbers sci an) (ceilings sci an)) (0 ∷ 1 ∷ 2 ∷ 3 ∷ [])) side.channels)

@@ -39,6 +39,7 @@ pub record RxSide : Type 0 where
   pub rx : List ℕ → ℕ → Option RxSa
   pub numbers : List ℕ → ℕ → Option Numbers
 
+-- no channels, strict validation, and replay protection with window 0
 abbrev pub new_side : RxSide
 new_side = record {
   validate = Strict;
@@ -48,6 +49,7 @@ new_side = record {
   numbers = λ sci an. None;
 }
 
+-- a receive channel of that SCI stands
 abbrev pub has_channel : RxSide → List ℕ → Bool
 has_channel side sci = list_any (λ other. bytes_eq other sci) side.channels
 
@@ -66,15 +68,19 @@ sci_named channels frame (Explicit sci) = named_sci frame (Explicit sci)
 sci_named channels frame EndStation = named_sci frame EndStation
 sci_named channels frame Implicit = only channels
 
+-- the SCI, if a channel of it stands
 abbrev pub standing : List (List ℕ) → List ℕ → Option (List ℕ)
 standing channels sci = if list_any (λ other. bytes_eq other sci) channels then Some sci else None
 
+-- the SCI of the channel that a frame names, if that stands
 abbrev pub channel_of : RxSide → List ℕ → Option (List ℕ)
 channel_of side frame = option_and_then (standing side.channels) (sci_named side.channels frame (name_of frame))
 
+-- the association that a frame names, by its channel and AN, if it stands
 abbrev pub association_of : RxSide → List ℕ → Option RxSa
 association_of side frame = option_and_then (λ sci. side.rx sci (tag_of frame).an) (channel_of side frame)
 
+-- the packet numbers of the association that a frame names, if it stands
 abbrev pub numbers_of : RxSide → List ℕ → Option Numbers
 numbers_of side frame = option_and_then (λ sci. side.numbers sci (tag_of frame).an) (channel_of side frame)
 
@@ -88,6 +94,7 @@ pub record VerifiesAs (side : RxSide) (frame plain : List ℕ) : Type 0 where
 
 -- ---- the first nine steps, which may settle a frame
 
+-- one of the five faults of a SecTAG, or one of the four steps behind them
 pub data Step : Type 0 where
   Tag : TagFault → Step
   NoChannel : Step
@@ -95,6 +102,7 @@ pub data Step : Type 0 where
   BelowLowest : Step
   NotVerified : Step
 
+-- what each step says of a frame
 abbrev pub Holds : RxSide → List ℕ → Step → Type 0
 Holds side frame (Tag fault) = TagFaultHolds frame fault
 Holds side frame NoChannel = channel_of side frame ≡ None
@@ -107,6 +115,7 @@ Holds side frame NotVerified = (plain : List ℕ) → ¬ VerifiesAs side frame p
 abbrev pub steps : List Step
 steps = map Tag tag_faults ++ NoChannel ∷ NoAssociation ∷ BelowLowest ∷ NotVerified ∷ []
 
+-- frames that do not verify are discarded, whether C is set or not (10.7.8)
 abbrev pub is_strict : Validate → Bool
 is_strict Strict = true
 is_strict Check = false
@@ -141,6 +150,7 @@ given_at frame HeldBack = []
 
 -- ---- the last three steps, which a frame that verified passes to
 
+-- a frame that verified: the association that it names with its numbers, its PN, and its plain frame
 pub record Arrival : Type 0 where
   pub sci : List ℕ
   pub an : ℕ
@@ -159,9 +169,11 @@ pub record Arrives (side : RxSide) (frame : List ℕ) (a : Arrival) : Type 0 whe
   pub are_numbers : side.numbers a.sci a.an ≡ Some a.numbers
   pub verified : Verified frame a.sa.key a.sci (octets_of a.sa.offset) a.plain
 
+-- how a frame that verified is delivered: Delayed where its number is below lowest, else Ok
 abbrev pub kind_of : Numbers → ℕ → Kind
 kind_of numbers pn = if nat_lt pn numbers.lowest then Delayed else Ok
 
+-- the greatest number that verified, after one more did
 abbrev pub seen_after : Option ℕ → ℕ → Option ℕ
 seen_after None pn = Some pn
 seen_after (Some seen) pn = Some (max seen pn)
@@ -190,11 +202,13 @@ put_numbers table sci an numbers = put_at table sci (put (table sci) an numbers)
 
 -- ---- receiving, where the ceilings are known
 
+-- what becomes of a frame: its verdict, the octets that are given out, and the numbers of all associations
 pub record Outcome : Type 0 where
   pub verdict : Verdict
   pub given : List ℕ
   pub numbers : List ℕ → ℕ → Option Numbers
 
+-- the outcome of a frame that a step settles: no number moves
 abbrev pub settled : RxSide → List ℕ → Step → Outcome
 settled side frame step = record {
   verdict = verdict_at side frame step;
@@ -207,6 +221,7 @@ abbrev pub is_below : Option ℕ → ℕ → Bool
 is_below None pn = false
 is_below (Some ceiling) pn = nat_lt pn ceiling
 
+-- the outcome of a frame that verified: delivered below the ceiling of its association, else held back
 abbrev pub arrived : RxSide → (List ℕ → ℕ → Option ℕ) → Arrival → Outcome
 arrived side ceilings a =
     if is_below (ceilings a.sci a.an) a.pn
@@ -237,6 +252,7 @@ pub record InOrder (window : ℕ) (numbers : Numbers) (ceiling : ℕ) : Type 0 w
   pub below : numbers.next ≤ ceiling
   pub bounded : ceiling ≤ 2 ^ 32
 
+-- an association has numbers and a ceiling in their order, or there is none of the three
 abbrev pub Stands : ℕ → Option RxSa → Option Numbers → Option ℕ → Type 0
 Stands window (Some sa) (Some numbers) (Some ceiling) = InOrder window numbers ceiling
 Stands window None None None = Unit {0}

@@ -27,24 +27,31 @@ channel_at (channel ∷ channels) sci = if bytes_eq channel.sci sci then Some ch
 abbrev pub association_in : Option Channel → ℕ → Option Association
 association_in channel an = option_and_then (λ (c : Channel). get_or c.associations an None) channel
 
+-- an association's key and confidentiality offset
 abbrev pub sa_of : Association → RxSa
 sa_of a = record { key = a.key; offset = a.offset }
 
+-- an association's packet numbers, but for the ceiling
 abbrev pub numbers_of : Association → Numbers
 numbers_of a = record { next = a.next; lowest = a.lowest; seen = a.seen }
 
+-- the SCIs of channels, in the order in which these are kept
 abbrev pub scis_of : List Channel → List (List ℕ)
 scis_of channels = map (λ (channel : Channel). channel.sci) channels
 
+-- the associations of a channel by AN, none where it does not stand
 abbrev pub sas_in : Option Channel → ℕ → Option RxSa
 sas_in channel an = option_map sa_of (association_in channel an)
 
+-- the packet numbers of a channel's associations, by AN
 abbrev pub numbers_in : Option Channel → ℕ → Option Numbers
 numbers_in channel an = option_map numbers_of (association_in channel an)
 
+-- the ceilings of a channel's associations, by AN
 abbrev pub ceilings_in : Option Channel → ℕ → Option ℕ
 ceilings_in channel an = option_map (λ (a : Association). a.ceiling) (association_in channel an)
 
+-- what a channel counts, if it stands
 abbrev pub counters_in : Option Channel → Option ChannelCounters
 counters_in channel = option_map (λ (c : Channel). c.counters) channel
 
@@ -58,12 +65,15 @@ shown validate replay channels = record {
   numbers = λ sci. numbers_in (channel_at channels sci);
 }
 
+-- the ceilings of all associations of these channels, by SCI and AN
 abbrev pub ceilings_among : List Channel → List ℕ → ℕ → Option ℕ
 ceilings_among channels = λ sci. ceilings_in (channel_at channels sci)
 
+-- what each of these channels counts, by SCI
 abbrev pub counters_among : List Channel → List ℕ → Option ChannelCounters
 counters_among channels = λ sci. counters_in (channel_at channels sci)
 
+-- what is kept, as receive channels, but for ceilings and counters
 abbrev pub side_of : Kept → RxSide
 side_of r = shown r.validate r.replay r.channels
 
@@ -71,9 +81,11 @@ side_of r = shown r.validate r.replay r.channels
 abbrev pub ceilings_of : Kept → List ℕ → ℕ → Option ℕ
 ceilings_of r = ceilings_among r.channels
 
+-- how often each verdict was given, on frames of any channel or none
 abbrev pub counters_of : Kept → RxCounters
 counters_of r = r.counters
 
+-- what each channel that stands counts, by SCI
 abbrev pub channel_counters_of : Kept → List ℕ → Option ChannelCounters
 channel_counters_of r = counters_among r.channels
 
@@ -83,5 +95,6 @@ channel_counters_of r = counters_among r.channels
 abbrev pub slid : ℕ → Association → Association
 slid window a = record a { lowest = max a.lowest (a.next - window) }
 
+-- the same of all associations of a channel
 abbrev pub slid_channel : ℕ → Channel → Channel
 slid_channel window channel = record channel { associations = map (option_map (slid window)) channel.associations }

@@ -24,6 +24,7 @@ pub record TxSide : Type 0 where
   pub tx : ℕ → Option TxSa
   pub next : ℕ → Option ℕ
 
+-- a transmit channel without associations, in explicit mode
 abbrev pub new_side : List ℕ → TxSide
 new_side sci = record { sci = sci; mode = Explicit; encoding = None; tx = λ an. None; next = λ an. None }
 
@@ -35,14 +36,17 @@ pub record Outgoing : Type 0 where
   pub sa : TxSa
   pub pn : ℕ
 
+-- an AN with its association and next packet number, None where one of the two is missing
 abbrev pub numbered : ℕ → Option TxSa → Option ℕ → Option Outgoing
 numbered an (Some sa) (Some pn) = Some (record { an = an; sa = sa; pn = pn })
 numbered an sa pn = None
 
+-- the association at a chosen AN, None where none is chosen or none stands there
 abbrev pub outgoing_at : TxSide → Option ℕ → Option Outgoing
 outgoing_at side None = None
 outgoing_at side (Some an) = numbered an (side.tx an) (side.next an)
 
+-- what the next frame goes out under, None where no encoding association stands
 abbrev pub outgoing : TxSide → Option Outgoing
 outgoing side = outgoing_at side side.encoding
 
@@ -52,6 +56,7 @@ name_in Explicit sci = NamesSci sci
 name_in EndStation sci = NamesStation
 name_in Implicit sci = NamesNone
 
+-- the SecTAG of the next frame, with E and C both set under confidentiality, else both clear (9.5)
 abbrev pub tag_for : TxSide → Outgoing → SecTag
 tag_for side o = record {
   an = o.an;
@@ -70,6 +75,7 @@ abbrev pub sent_at : TxSide → Option Outgoing → TxSide
 sent_at side None = side
 sent_at side (Some o) = record side { next = put side.next o.an (Some (o.pn + 1)) }
 
+-- the channel after a frame went out under its encoding association
 abbrev pub sent_side : TxSide → TxSide
 sent_side side = sent_at side (outgoing side)
 
@@ -79,6 +85,7 @@ sent_side side = sent_at side (outgoing side)
 abbrev pub is_own_source : List ℕ → List ℕ → Bool
 is_own_source sci plain = bytes_eq (slice_range plain 6 12) (take 6 sci)
 
+-- next is 2^32, so that the association has no packet number left
 abbrev pub is_used_up : Option Outgoing → Bool
 is_used_up None = false
 is_used_up (Some o) = o.pn == 2 ^ 32
@@ -93,6 +100,7 @@ tx_faults side plain =
     ∷ (Exhausted, is_used_up (outgoing side))
     ∷ []
 
+-- the next packet number is the ceiling, so that it is not reserved yet
 abbrev pub is_at_ceiling : (ℕ → Option ℕ) → Option Outgoing → Bool
 is_at_ceiling ceilings None = false
 is_at_ceiling ceilings (Some o) = option_map_or (λ ceiling. ceiling == o.pn) (ceilings o.an) false
@@ -107,16 +115,19 @@ all_tx_faults side ceilings plain = tx_faults side plain ++ (NoNumber, is_at_cei
 abbrev pub is_needed : ℕ → ℕ → ℕ → Bool
 is_needed block next ceiling = nat_le (ceiling - next) (block / 2) && nat_lt ceiling (2 ^ 32)
 
+-- the AN of this association, if its ceiling is to be raised
 abbrev pub need_at : (ℕ → Option ℕ) → ℕ → Option Outgoing → Option ℕ
 need_at ceilings block None = None
 need_at ceilings block (Some o) =
     if option_map_or (is_needed block o.pn) (ceilings o.an) false then Some o.an else None
 
+-- the AN of the encoding association, if its ceiling is to be raised
 abbrev pub need_of : TxSide → (ℕ → Option ℕ) → ℕ → Option ℕ
 need_of side ceilings block = need_at ceilings block (outgoing side)
 
 -- ---- ranges
 
+-- 1 <= next <= ceiling <= 2^32, or there is neither
 abbrev pub InOrder : Option ℕ → Option ℕ → Type 0
 InOrder (Some next) (Some ceiling) = (1 ≤ next) × (next ≤ ceiling) × (ceiling ≤ 2 ^ 32)
 InOrder (Some next) None = ⊥
@@ -129,6 +140,7 @@ AreOrdered side ceilings an = InOrder (side.next an) (ceilings an) × (is_none (
 
 -- ---- counters
 
+-- each count of a transmit channel at 0
 abbrev pub none_counted : TxCounters
 none_counted = record {
   protected = 0;
@@ -144,6 +156,7 @@ none_counted = record {
 abbrev pub one_more : ℕ → ℕ
 one_more count = min (count + 1) (2 ^ 64 - 1)
 
+-- how often frames were refused for a fault
 abbrev pub fault_count : TxFault → TxCounters → ℕ
 fault_count Runt c = c.runt
 fault_count TooLong c = c.too_long
@@ -152,6 +165,7 @@ fault_count NoEncodingSa c = c.no_encoding_sa
 fault_count Exhausted c = c.exhausted
 fault_count NoNumber c = c.no_number
 
+-- the counters after one more frame was refused for a fault
 abbrev pub fault_counted : TxFault → TxCounters → TxCounters
 fault_counted Runt c = record c { runt = one_more c.runt }
 fault_counted TooLong c = record c { too_long = one_more c.too_long }

@@ -7,12 +7,15 @@ use Rattle.macs_txsc.specs.declared.association.Association.{Association}
 use Rattle.macs_txsc.specs.declared.channel.Tx.{Tx}
 use Rattle.macs_txsc.specs.declared.counters.TxCounters.{TxCounters}
 
+-- what is kept of the association at an AN, None where none stands
 abbrev pub association_at : Tx → ℕ → Option Association
 association_at t an = get_or t.associations an None
 
+-- an association's key, and what it does with User Data
 abbrev pub sa_of : Association → TxSa
 sa_of a = record { key = a.key; protection = a.protection }
 
+-- what is kept, as a transmit channel, but for ceilings and counters
 abbrev pub side_of : Tx → TxSide
 side_of t = record {
   sci = t.sci;
@@ -26,5 +29,6 @@ side_of t = record {
 abbrev pub ceilings_of : Tx → ℕ → Option ℕ
 ceilings_of t an = option_map (λ (a : Association). a.ceiling) (association_at t an)
 
+-- how often frames were protected, or refused for each fault
 abbrev pub counters_of : Tx → TxCounters
 counters_of t = t.counters

@@ -49,6 +49,7 @@ abbrev pub valid_text : ℕ → ℕ → List ℕ → List ℕ
 valid_text an pn plain = codes "valid an=" ++ (decimal an ++ (codes " pn=" ++ (encode_lower (to_be_bytes w32 pn)
     ++ (codes " plain=" ++ encode_lower plain))))
 
+-- what is printed of a frame that is refused, by its first fault
 abbrev pub refusal_text : OpenFault → List ℕ
 refusal_text (Tag Runt) = codes "runt"
 refusal_text (Tag Oversize) = codes "oversize"
@@ -58,10 +59,12 @@ refusal_text (Tag ForKay) = codes "for kay"
 refusal_text OtherSci = codes "other sci"
 refusal_text NotValid = codes "not valid"
 
+-- what is printed of an answer, without the line feed
 abbrev pub answer_text : Answer → List ℕ
 answer_text (Valid an pn plain) = valid_text an pn plain.items
 answer_text (Refused fault) = refusal_text fault
 
+-- how the run ends: done where the frame is valid, else refused
 abbrev pub answer_status : Answer → Status
 answer_status (Valid an pn plain) = ends.Done
 answer_status (Refused fault) = ends.Refused

@@ -12,17 +12,21 @@ use Rattle.macsecd.specs.declared.request.InputFault.TheVariants as fault
 abbrev pub SpellsOctets : List ℕ → List ℕ → Type 0
 SpellsOctets line octets = decode_of line ≡ Ok octets
 
+-- the line is a key of 16 octets in hex
 abbrev pub SpellsKey : List ℕ → List ℕ → Type 0
 SpellsKey line key = (length key ≡ 16) × SpellsOctets line key
 
+-- the line is an SCI of 8 octets in hex
 abbrev pub SpellsSci : List ℕ → List ℕ → Type 0
 SpellsSci line sci = (length sci ≡ 8) × SpellsOctets line sci
 
+-- how a confidentiality offset is spelled: its octets in decimal
 abbrev pub offset_text : Offset → List ℕ
 offset_text Zero = codes "0"
 offset_text Thirty = codes "30"
 offset_text Fifty = codes "50"
 
+-- the line is a confidentiality offset in octets: 0, 30 or 50
 abbrev pub SpellsOffset : List ℕ → Offset → Type 0
 SpellsOffset line offset = line ≡ offset_text offset
 
@@ -30,6 +34,7 @@ SpellsOffset line offset = line ≡ offset_text offset
 abbrev pub IsFourLines : List ℕ → Type 0
 IsFourLines input = (length input ≤ 20000) × (length (lines input) ≡ 4)
 
+-- the four lines of the input are the key, the SCI, the offset and the frame of the request
 pub record Spells (input : List ℕ) (request : Request) : Type 0 where
   pub four : IsFourLines input
   pub key : SpellsKey (line_at input 0) request.key
@@ -39,6 +44,7 @@ pub record Spells (input : List ℕ) (request : Request) : Type 0 where
 
 -- ---- faults
 
+-- what each fault says of an input
 abbrev pub InputFaultHolds : List ℕ → InputFault → Type 0
 InputFaultHolds input fault.Input = ¬ IsFourLines input
 InputFaultHolds input fault.Key = (key : List ℕ) → ¬ SpellsKey (line_at input 0) key

@@ -39,6 +39,7 @@ code_of ends.Usage = 2
 code_of ends.Refused = 3
 code_of ends.Fault = 5
 
+-- what the program says of a failure, in one line
 abbrev pub failure_text : Failure → List ℕ
 failure_text (failure.Usage cause) = string_bytes cause
 failure_text failure.Memory = codes "memory"
@@ -49,6 +50,7 @@ failure_text (failure.Input fault.Offset) = codes "offset"
 failure_text (failure.Input fault.Frame) = codes "frame"
 failure_text failure.Output = codes "output"
 
+-- how the run ends after a failure: wrong usage, or a fault of input, output or memory
 abbrev pub failure_status : Failure → Status
 failure_status (failure.Usage cause) = ends.Usage
 failure_status failure.Memory = ends.Fault

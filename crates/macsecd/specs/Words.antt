@@ -15,6 +15,7 @@ use Rattle.macsecd.specs.declared.action.Action.TheVariants.{Open}
 use Rattle.macsecd.specs.declared.help.Topic.{Topic}
 use Rattle.macsecd.specs.declared.help.Topic.TheVariants.{Help, Version}
 
+-- what borrowed words say
 abbrev pub texts : List (Bor Text) → List Text
 texts = map (λ word. word.now)
 
@@ -55,12 +56,15 @@ HasPrintableCause Memory = ⊤
 
 -- ---- help
 
+-- the word that asks for help, long or short
 abbrev pub IsHelpFlag : Text → Type 0
 IsHelpFlag word = (word ≡ codes "--help") ⊎ (word ≡ codes "-h")
 
+-- the word that asks which program it is
 abbrev pub IsVersionFlag : Text → Type 0
 IsVersionFlag word = word ≡ codes "--version"
 
+-- the name of a subcommand, of which `open` is the only one
 abbrev pub IsSubcommand : Text → Type 0
 IsSubcommand word = word ≡ codes "open"
 
