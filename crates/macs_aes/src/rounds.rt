@@ -1,7 +1,7 @@
 //! The cipher: its four steps and its ten rounds (FIPS 197, 5.1).
 
 ghost use Rattle.std.specs.Prelude.{◌≡◌, ◌≤◌, [], ◌∷◌};
-ghost use Rattle.macs_aes.specs.Cipher.{add_round_key, encrypt, mix_columns, mixed};
+ghost use Rattle.macs_aes.specs.Cipher.{add_round_key, encrypt, mix_columns, mixed_octet};
 ghost use Rattle.macs_aes.specs.Cipher.{round_key, shift_rows, sub_bytes, xor_tables};
 
 use crate::Block;
@@ -32,14 +32,14 @@ fn shift_rows(s: Block) -> Block
 
 /// One octet of a mixed column, from the column's octets: that of its own row, then those below.
 fn mixed(a: u8, b: u8, c: u8, d: u8) -> u8
-    ensures { result ≡ mixed a b c d }
+    ensures { result ≡ mixed_octet a b c d }
 {
     mul8(2, a) ^ mul8(3, b) ^ c ^ d
 }
 
 /// A column of four octets, mixed.
 fn mix_column(a: u8, b: u8, c: u8, d: u8) -> [u8; 4]
-    ensures { result ≡ mixed a b c d ∷ mixed b c d a ∷ mixed c d a b ∷ mixed d a b c ∷ [] }
+    ensures { result ≡ mixed_octet a b c d ∷ mixed_octet b c d a ∷ mixed_octet c d a b ∷ mixed_octet d a b c ∷ [] }
 {
     [
         mixed(a, b, c, d),

@@ -1,10 +1,10 @@
 -- Whatever the smaller edition takes the larger takes too.
 use Rattle.std.proofs.Common.{◌≡◌, ◌∙◌, ℕ, Bool, true, false, cond, not, ◌&&◌, nat_le, nat_lt, List, [], ◌∷◌, length, Option, Some, None, Ok, inl, inr, bytes_eq, refl, ap, arith}
 use Rattle.std.proofs.lemmas.Bool.{and_from, and_parts, leb-false, lt-leb, ltb-true, lt-ltb}
-use Rattle.macs_config.specs.Apply.{IsCommand, IsKey, apply, changed, refusal_of}
+use Rattle.macs_config.specs.Apply.{IsCommand, IsKey, apply, config_after, refusal_of}
 use Rattle.macs_config.specs.Config.{Config, Edition, IsConfig, IsUpTo, default, has_channel}
 use Rattle.macs_config.specs.Identity.{Identity}
-use Rattle.macs_config.specs.Snapshot.{are_ordered, checked, may_follow, place_of, restored, with_part, with_parts}
+use Rattle.macs_config.specs.Snapshot.{are_ordered, if_whole, may_follow, place_of, config_of_parts, with_part, with_parts}
 use Rattle.macs_config.specs.declared.command.Command.{Command}
 use Rattle.macs_config.specs.declared.command.Command.TheVariants.{RxAdd, RxDrop, RxInstall, RxRemove, SetReplay, SetSciMode, SetValidate, TxInstall, TxRemove, TxUse}
 use Rattle.macs_config.specs.declared.part.Part.{Part}
@@ -46,8 +46,8 @@ module _ (small large : Edition) (up_to : IsUpTo small large) where
   pub larger-applies : (identity : Identity) (old new : Config) (command : Command)
       → apply small identity old command ≡ Ok new → apply large identity old command ≡ Ok new
   larger-applies identity old new command done =
-      let made = applied_by (refusal_of small identity old command) (changed old command) new done in
-      taken_by (refusal_of large identity old command) (changed old command) (not_refused identity old command made.0) ∙ ap (λ (c : Config). Ok c) made.1
+      let made = applied_by (refusal_of small identity old command) (config_after old command) new done in
+      taken_by (refusal_of large identity old command) (config_after old command) (not_refused identity old command made.0) ∙ ap (λ (c : Config). Ok c) made.1
 
   -- ---- snapshots
 
@@ -78,20 +78,20 @@ module _ (small large : Edition) (up_to : IsUpTo small large) where
       (parts_follow identity (with_part c part) end parts) made
 
   checked_by : (identity : Identity) (by_small by_large : Option Config) (end : Config) → ((c : Config) → by_small ≡ Some c → by_large ≡ Some c)
-      → checked identity by_small ≡ Some end → checked identity by_large ≡ Some end
+      → if_whole identity by_small ≡ Some end → if_whole identity by_large ≡ Some end
   checked_by identity None by_large end wider is = cc
-  checked_by identity (Some c) by_large end wider is = ap (checked identity) (wider c refl) ∙ is
+  checked_by identity (Some c) by_large end wider is = ap (if_whole identity) (wider c refl) ∙ is
 
   restored_by : (identity : Identity) (part : Part) (parts : List Part) (c : Config) (ordered : Bool)
-      → cond ordered (checked identity (with_parts small identity (with_part default part) parts)) None ≡ Some c
-      → cond ordered (checked identity (with_parts large identity (with_part default part) parts)) None ≡ Some c
+      → cond ordered (if_whole identity (with_parts small identity (with_part default part) parts)) None ≡ Some c
+      → cond ordered (if_whole identity (with_parts large identity (with_part default part) parts)) None ≡ Some c
   restored_by identity part parts c true made =
       checked_by identity (with_parts small identity (with_part default part) parts) (with_parts large identity (with_part default part) parts) c
       (λ d. parts_follow identity (with_part default part) d parts) made
   restored_by identity part parts c false made = cc
 
   pub larger-restores : (identity : Identity) (parts : List Part) (c : Config)
-      → restored small identity parts ≡ Some c → restored large identity parts ≡ Some c
+      → config_of_parts small identity parts ≡ Some c → config_of_parts large identity parts ≡ Some c
   larger-restores identity [] c made = cc
   larger-restores identity (part ∷ parts) c made = restored_by identity part parts c (nat_le (place_of part) 1 && are_ordered 2 parts) made
 

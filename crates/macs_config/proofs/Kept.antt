@@ -2,7 +2,7 @@
 use Rattle.std.proofs.Common.{◌≡◌, ◌∙◌, ◌<◌, ℕ, Bool, true, false, cond, not, ◌&&◌, nat_le, List, [], ◌∷◌, ◌++◌, length, Option, Some, None, is_some, is_none, Ok, filter, bytes_eq, refl, ap, subst, arith, length-append}
 use Rattle.std.proofs.lemmas.Bool.{leb-false, not-false, or_from, or_left, or_right}
 use Rattle.macs_frame.specs.First.{first}
-use Rattle.macs_config.specs.Apply.{apply, changed, channel_taken, channels_full, chosen, end_station_sci, in_use, is_encoding, key_spent, no_channel, offset_at, own_sci, refusal_of, refusals, slot_empty, spent_full, unless}
+use Rattle.macs_config.specs.Apply.{apply, config_after, channel_taken, channels_full, offset_or_zero, end_station_sci, in_use, is_encoding, key_spent, no_channel, offset_at, own_sci, refusal_of, refusals, slot_empty, spent_full, unless}
 use Rattle.macs_config.specs.Association.{is_end_station, protection_of}
 use Rattle.macs_config.specs.Config.{Config, Edition, IsConfig, is_among, is_spent, max_spent, put_among, rx_fingerprint, tx_fingerprint}
 use Rattle.macs_config.specs.Identity.{Identity, is_port_one}
@@ -174,7 +174,7 @@ module _ (channels : List (List ℕ)) (rx : List ℕ → ℕ → Option RxSa) (s
 -- ---- the whole
 
 module _ (edition : Edition) (identity : Identity) (old : Config) (is : IsConfig edition identity old) where
-  kept : (command : Command) → Passed edition identity old command → IsConfig edition identity (changed old command)
+  kept : (command : Command) → Passed edition identity old command → IsConfig edition identity (config_after old command)
   kept command tests = by command tests
     where
       transmit : IsTransmitSide old.encoding old.tx old.spent_tx
@@ -186,13 +186,13 @@ module _ (edition : Edition) (identity : Identity) (old : Config) (is : IsConfig
       receive : IsReceiveSide old.channels old.rx old.spent_rx
       receive = receive_side edition identity old is
 
-      by : (command : Command) → Passed edition identity old command → IsConfig edition identity (changed old command)
+      by : (command : Command) → Passed edition identity old command → IsConfig edition identity (config_after old command)
       by (SetValidate validate) tests = from_sides edition identity _ is.end_station transmit channels receive
       by (SetReplay on window) tests = from_sides edition identity _ is.end_station transmit channels receive
       by (SetSciMode mode) tests =
           from_sides edition identity _ (port_of_end_station mode (is_port_one identity.sci) tests.end_station) transmit channels receive
       by (TxInstall an key start confidential offset) tests =
-          let sa : TxSa = record { key = key; protection = protection_of confidential (chosen (offset_at offset)) } in
+          let sa : TxSa = record { key = key; protection = protection_of confidential (offset_or_zero (offset_at offset)) } in
           from_sides edition identity _ is.end_station (tx_installed old.encoding old.tx old.spent_tx transmit an sa tests.key_spent tests.spent_full) channels receive
       by (TxUse an) tests =
           from_sides edition identity _ is.end_station (tx_used old.encoding old.tx old.spent_tx transmit an tests.slot_empty) channels receive
@@ -206,7 +206,7 @@ module _ (edition : Edition) (identity : Identity) (old : Config) (is : IsConfig
           from_sides edition identity _ is.end_station transmit (channel_dropped edition identity old.channels channels sci)
           (rx_dropped old.channels old.rx old.spent_rx receive sci)
       by (RxInstall sci an key start offset) tests =
-          let sa : RxSa = record { key = key; offset = chosen (offset_at offset) } in
+          let sa : RxSa = record { key = key; offset = offset_or_zero (offset_at offset) } in
           from_sides edition identity _ is.end_station transmit channels
           (rx_installed old.channels old.rx old.spent_rx receive sci an sa (not-false (is_among old.channels sci) tests.no_channel) tests.key_spent tests.spent_full)
       by (RxRemove sci an) tests =
@@ -216,5 +216,5 @@ module _ (edition : Edition) (identity : Identity) (old : Config) (is : IsConfig
 pub apply-keeps : (edition : Edition) (identity : Identity) (old new : Config) (command : Command) → IsConfig edition identity old
     → apply edition identity old command ≡ Ok new → IsConfig edition identity new
 apply-keeps edition identity old new command is done =
-    let made = applied_by (refusal_of edition identity old command) (changed old command) new done in
+    let made = applied_by (refusal_of edition identity old command) (config_after old command) new done in
     subst (λ (c : Config). IsConfig edition identity c) made.1 (kept edition identity old is command (passed edition identity old command made.0))

@@ -5,7 +5,7 @@ use Rattle.std.specs.Option.{unwrap_or}
 use Rattle.macs_frame.specs.Fields.{octets_of}
 use Rattle.macs_frame.specs.declared.fields.Offset.{Offset}
 use Rattle.macs_frame.specs.declared.fields.Offset.TheVariants.{Zero, Thirty, Fifty}
-use Rattle.macs_config.specs.Apply.{chosen, offset_at}
+use Rattle.macs_config.specs.Apply.{offset_or_zero, offset_at}
 
 module _ (result : Option Offset) (octets : ℕ) (exact : (offset : Offset) → (result ≡ Some offset) ↔ (octets ≡ octets_of offset)) where
   by : (made : Option Offset) → made ≡ result → (zero thirty fifty : Bool) → (octets == 0) ≡ zero → (octets == 30) ≡ thirty → (octets == 50) ≡ fifty
@@ -24,7 +24,7 @@ module _ (result : Option Offset) (octets : ℕ) (exact : (offset : Offset) → 
 
 -- ---- the choice of a command
 
-pub chosen_by : (o : Option Offset) → unwrap_or o Zero ≡ chosen o
+pub chosen_by : (o : Option Offset) → unwrap_or o Zero ≡ offset_or_zero o
 chosen_by None = refl
 chosen_by (Some offset) = refl
 

@@ -6,7 +6,7 @@ use Rattle.std.specs.Option.{option_map_or}
 use Rattle.macs_config.specs.Association.{is_end_station}
 use Rattle.macs_config.specs.Config.{Config, Edition, IsConfig, default, has_channel, is_among, is_spent, max_spent, rx_fingerprint, tx_fingerprint}
 use Rattle.macs_config.specs.Identity.{Identity, is_port_one}
-use Rattle.macs_config.specs.Snapshot.{are_new, are_ordered, checked, is_rx_spent, is_tx_spent, is_whole, may_follow, numbers, place_of, restored, with_part, with_parts}
+use Rattle.macs_config.specs.Snapshot.{are_new, are_ordered, if_whole, is_rx_spent, is_tx_spent, is_whole, may_follow, every_an, place_of, config_of_parts, with_part, with_parts}
 use Rattle.macs_config.specs.declared.association.RxSa.{RxSa as RxAssociation}
 use Rattle.macs_config.specs.declared.association.TxSa.{TxSa as TxAssociation}
 use Rattle.macs_config.specs.declared.command.Role.TheVariants.{Receive, Transmit}
@@ -88,7 +88,7 @@ module _ (edition : Edition) (identity : Identity) where
 
 -- ---- the whole
 
-number_all : (test : ℕ → Bool) → list_all test numbers ≡ true → (an : ℕ) → an < 4 → test an ≡ true
+number_all : (test : ℕ → Bool) → list_all test every_an ≡ true → (an : ℕ) → an < 4 → test an ≡ true
 number_all test all zero below = (and_parts (test 0) _ all).0
 number_all test all (suc zero) below = (and_parts (test 1) _ (and_parts (test 0) _ all).1).0
 number_all test all (suc (suc zero)) below = (and_parts (test 2) _ (and_parts (test 1) _ (and_parts (test 0) _ all).1).1).0
@@ -121,7 +121,7 @@ whole : (edition : Edition) (identity : Identity) (c : Config) → Grows edition
 whole edition identity c grows is =
     let port = and_parts _ (not (is_end_station c.mode && not (is_port_one identity.sci))) is in
     let encoding = and_parts _ (option_map_or (λ an. is_some (c.tx an)) c.encoding true) port.0 in
-    let keys = and_parts (list_all (is_tx_spent c) numbers) (list_all (λ (sci : List ℕ). list_all (is_rx_spent c sci) numbers) c.channels) encoding.0 in
+    let keys = and_parts (list_all (is_tx_spent c) every_an) (list_all (λ (sci : List ℕ). list_all (is_rx_spent c sci) every_an) c.channels) encoding.0 in
     from_sides edition identity c
     (port_of_end_station c.mode (is_port_one identity.sci) (not-true (is_end_station c.mode && not (is_port_one identity.sci)) port.1))
     (record {
@@ -135,7 +135,7 @@ whole edition identity c grows is =
       have_channels = grows.have_channels;
       are_spent = λ sci an sa stands below. at_some (λ (one : RxAssociation). is_spent c.spent_rx (rx_fingerprint sci one.key)) (c.rx sci an) sa stands
           (number_all (is_rx_spent c sci)
-          (all_among (λ sci. list_all (is_rx_spent c sci) numbers) c.channels sci keys.1 (grows.have_channels sci an sa stands)) an below);
+          (all_among (λ sci. list_all (is_rx_spent c sci) every_an) c.channels sci keys.1 (grows.have_channels sci an sa stands)) an below);
       spent_keys = grows.spent_rx;
     })
 
@@ -144,7 +144,7 @@ checked_by : (identity : Identity) (c end : Config) (test : Bool) → is_whole i
 checked_by identity c end true is made = (cc, is)
 checked_by identity c end false is made = cc
 
-checked_is : (edition : Edition) (identity : Identity) (made : Option Config) (end : Config) → checked identity made ≡ Some end
+checked_is : (edition : Edition) (identity : Identity) (made : Option Config) (end : Config) → if_whole identity made ≡ Some end
     → ((c : Config) → made ≡ Some c → Grows edition identity c) → IsConfig edition identity end
 checked_is edition identity None end is grows = cc
 checked_is edition identity (Some c) end is grows =
@@ -166,7 +166,7 @@ started edition identity (Spent Receive fingerprints) first = cc
 
 restored_by : (edition : Edition) (identity : Identity) (part : Part) (parts : List Part) (c : Config) (ordered : Bool)
     → (nat_le (place_of part) 1 && are_ordered 2 parts) ≡ ordered
-    → cond ordered (checked identity (with_parts edition identity (with_part default part) parts)) None ≡ Some c → IsConfig edition identity c
+    → cond ordered (if_whole identity (with_parts edition identity (with_part default part) parts)) None ≡ Some c → IsConfig edition identity c
 restored_by edition identity part parts c true is made =
     let first = (and_parts (nat_le (place_of part) 1) (are_ordered 2 parts) is).0 in
     checked_is edition identity (with_parts edition identity (with_part default part) parts) c made
@@ -175,7 +175,7 @@ restored_by edition identity part parts c false is made = cc
 
 -- what the parts of a snapshot make up is a configuration
 pub restored-is-config : (edition : Edition) (identity : Identity) (parts : List Part) (c : Config)
-    → restored edition identity parts ≡ Some c → IsConfig edition identity c
+    → config_of_parts edition identity parts ≡ Some c → IsConfig edition identity c
 restored-is-config edition identity [] c made = cc
 restored-is-config edition identity (part ∷ parts) c made =
     restored_by edition identity part parts c (nat_le (place_of part) 1 && are_ordered 2 parts) refl made

@@ -12,7 +12,7 @@ use Rattle.std.proofs.Math.Path.{fun_ext}
 use Rattle.std.specs.List.{All, insert}
 use Rattle.macs_config.specs.Config.{comes_before, is_among, put_among}
 use Rattle.macs_config.specs.Places.{IsPlace}
-use Rattle.macs_config.specs.Stored.{read, rx_at}
+use Rattle.macs_config.specs.Value.{config_in, rx_at}
 use Rattle.macs_config.specs.Tables.{put, put_at}
 use Rattle.macs_config.specs.declared.association.RxSa.{RxSa}
 use Rattle.macs_config.specs.declared.contents.Channel.{Channel}
@@ -178,9 +178,9 @@ pub scis_of-filter : (channels : List Channel) (sci : List ℕ)
 scis_of-filter [] sci = refl
 scis_of-filter (c ∷ cs) sci = filter_step c.sci (not (bytes_eq c.sci sci)) _ [] c (filter (is_other sci) cs) refl (scis_of-filter cs sci)
 
-gone_step : (c : Channel) (kept : List Channel) (rest : Option RxSa) (sci s : List ℕ) (an : ℕ) (dropped read : Bool)
-    → bytes_eq c.sci sci ≡ dropped → bytes_eq c.sci s ≡ read → rx_at kept s an ≡ cond (bytes_eq s sci) None rest
-    → rx_at (cond (not dropped) (c ∷ kept) kept) s an ≡ cond (bytes_eq s sci) None (cond read (get_or c.associations an None) rest)
+gone_step : (c : Channel) (kept : List Channel) (rest : Option RxSa) (sci s : List ℕ) (an : ℕ) (dropped asked : Bool)
+    → bytes_eq c.sci sci ≡ dropped → bytes_eq c.sci s ≡ asked → rx_at kept s an ≡ cond (bytes_eq s sci) None rest
+    → rx_at (cond (not dropped) (c ∷ kept) kept) s an ≡ cond (bytes_eq s sci) None (cond asked (get_or c.associations an None) rest)
 gone_step c kept rest sci s an true true gone reads later =
     let is : bytes_eq s sci ≡ true = subst (λ x. bytes_eq x sci ≡ true) ((bytes_eq-Decides c.sci s).0 reads) gone in
     rw is (rw is at later)
@@ -222,9 +222,9 @@ rx_at-above (c ∷ cs) all sci an above =
 -- what is kept, with other channels, is a configuration with the SCIs and associations of those
 pub read-channels : (contents : Contents) (items : List Channel) (scis : List (List ℕ)) (rx : List ℕ → ℕ → Option RxSa)
     → scis_of items ≡ scis → ((s : List ℕ) (an : ℕ) → rx_at items s an ≡ rx s an)
-    → read (record contents { channels = record { items = items } }) ≡ record (read contents) { channels = scis; rx = rx }
+    → config_in (record contents { channels = record { items = items } }) ≡ record (config_in contents) { channels = scis; rx = rx }
 read-channels contents items scis rx same_scis same_rx =
-    λ i. record (read contents) { channels = same_scis i; rx = fun_ext (λ s. fun_ext (λ an. same_rx s an)) i }
+    λ i. record (config_in contents) { channels = same_scis i; rx = fun_ext (λ s. fun_ext (λ an. same_rx s an)) i }
 
 -- ---- whether a channel stands
 

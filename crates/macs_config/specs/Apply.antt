@@ -143,31 +143,31 @@ refusal_of edition identity c command = first (refusals edition identity c comma
 -- ---- effects
 
 -- the offset of a command that is not refused
-abbrev pub chosen : Option Offset → Offset
-chosen None = Zero
-chosen (Some offset) = offset
+abbrev pub offset_or_zero : Option Offset → Offset
+offset_or_zero None = Zero
+offset_or_zero (Some offset) = offset
 
 -- what a command that is not refused makes of the configuration
-abbrev pub changed : Config → Command → Config
-changed c (SetValidate validate) = record c { validate = validate }
-changed c (SetReplay on window) = record c { replay = record { on = on; window = window } }
-changed c (SetSciMode mode) = record c { mode = mode }
-changed c (TxInstall an key start confidential offset) = record c {
-  tx = put c.tx an (Some (record { key = key; protection = protection_of confidential (chosen (offset_at offset)) }));
+abbrev pub config_after : Config → Command → Config
+config_after c (SetValidate validate) = record c { validate = validate }
+config_after c (SetReplay on window) = record c { replay = record { on = on; window = window } }
+config_after c (SetSciMode mode) = record c { mode = mode }
+config_after c (TxInstall an key start confidential offset) = record c {
+  tx = put c.tx an (Some (record { key = key; protection = protection_of confidential (offset_or_zero (offset_at offset)) }));
   spent_tx = c.spent_tx ++ tx_fingerprint key ∷ [];
 }
-changed c (TxUse an) = record c { encoding = Some an }
-changed c (TxRemove an) = record c { tx = put c.tx an None }
-changed c (RxAdd sci) = record c { channels = put_among sci c.channels }
-changed c (RxDrop sci) = record c {
+config_after c (TxUse an) = record c { encoding = Some an }
+config_after c (TxRemove an) = record c { tx = put c.tx an None }
+config_after c (RxAdd sci) = record c { channels = put_among sci c.channels }
+config_after c (RxDrop sci) = record c {
   channels = filter (λ other. not (bytes_eq other sci)) c.channels;
   rx = put_at c.rx sci (λ an. None);
 }
-changed c (RxInstall sci an key start offset) = record c {
-  rx = put_at c.rx sci (put (c.rx sci) an (Some (record { key = key; offset = chosen (offset_at offset) })));
+config_after c (RxInstall sci an key start offset) = record c {
+  rx = put_at c.rx sci (put (c.rx sci) an (Some (record { key = key; offset = offset_or_zero (offset_at offset) })));
   spent_rx = c.spent_rx ++ rx_fingerprint sci key ∷ [];
 }
-changed c (RxRemove sci an) = record c { rx = put_at c.rx sci (put (c.rx sci) an None) }
+config_after c (RxRemove sci an) = record c { rx = put_at c.rx sci (put (c.rx sci) an None) }
 
 -- an answer, where nothing is refused
 abbrev pub unless : {X : Type 0} → Option Refusal → X → Result X Refusal
@@ -176,7 +176,7 @@ unless (Some refusal) answer = Err refusal
 
 -- the configuration after a command, or the first refusal that holds
 abbrev pub apply : Edition → Identity → Config → Command → Result Config Refusal
-apply edition identity c command = unless (refusal_of edition identity c command) (changed c command)
+apply edition identity c command = unless (refusal_of edition identity c command) (config_after c command)
 
 -- the fingerprint that a command spends, if it installs
 abbrev pub fingerprint_of : Command → Option (List ℕ)

@@ -4,6 +4,6 @@ pub mod Association
 pub mod Config
 pub mod Apply
 pub mod Snapshot
-pub mod Stored
+pub mod Value
 pub mod Places
 pub mod Filter

@@ -67,8 +67,8 @@ with_parts edition identity c (part ∷ parts) =
 -- ---- the whole
 
 -- each AN, ascending (IEEE Std 802.1AE-2018, 9.6)
-abbrev pub numbers : List ℕ
-numbers = 0 ∷ 1 ∷ 2 ∷ 3 ∷ []
+abbrev pub every_an : List ℕ
+every_an = 0 ∷ 1 ∷ 2 ∷ 3 ∷ []
 
 -- the key of the transmit association at an AN is spent, if one stands there
 abbrev pub is_tx_spent : Config → ℕ → Bool
@@ -81,21 +81,21 @@ is_rx_spent c sci an = option_map_or (λ sa. is_spent c.spent_rx (rx_fingerprint
 -- Every installed key is spent, the encoding association stands, and an end station's port is 00-01.
 abbrev pub is_whole : Identity → Config → Bool
 is_whole identity c =
-    list_all (is_tx_spent c) numbers
-    && list_all (λ sci. list_all (is_rx_spent c sci) numbers) c.channels
+    list_all (is_tx_spent c) every_an
+    && list_all (λ sci. list_all (is_rx_spent c sci) every_an) c.channels
     && option_map_or (λ an. is_some (c.tx an)) c.encoding true
     && not (is_end_station c.mode && not (is_port_one identity.sci))
 
 -- the configuration, if there is one and it is whole
-abbrev pub checked : Identity → Option Config → Option Config
-checked identity None = None
-checked identity (Some c) = if is_whole identity c then Some c else None
+abbrev pub if_whole : Identity → Option Config → Option Config
+if_whole identity None = None
+if_whole identity (Some c) = if is_whole identity c then Some c else None
 
 -- Settings, once, and then the other parts in the snapshot's order, none of which is refused: the configuration that they
 -- make, where it is whole
-abbrev pub restored : Edition → Identity → List Part → Option Config
-restored edition identity [] = None
-restored edition identity (part ∷ parts) =
+abbrev pub config_of_parts : Edition → Identity → List Part → Option Config
+config_of_parts edition identity [] = None
+config_of_parts edition identity (part ∷ parts) =
     if nat_le (place_of part) 1 && are_ordered 2 parts
-    then checked identity (with_parts edition identity (with_part default part) parts)
+    then if_whole identity (with_parts edition identity (with_part default part) parts)
     else None

@@ -1,10 +1,10 @@
 //! What a command does.
 
 ghost use Rattle.std.specs.Prelude.{◌≡◌, None, Some};
-ghost use Rattle.macs_config.specs.Apply.{changed, chosen, fingerprint_of, offset_at, refusal_of};
+ghost use Rattle.macs_config.specs.Apply.{config_after, offset_or_zero, fingerprint_of, offset_at, refusal_of};
 ghost use Rattle.macs_config.specs.Config.{this_edition};
 ghost use Rattle.macs_config.specs.Identity.{Identity};
-ghost use Rattle.macs_config.specs.Stored.{read};
+ghost use Rattle.macs_config.specs.Value.{config_in};
 ghost use Rattle.macs_config.specs.declared.command.Command.TheVariants.{RxInstall, TxInstall};
 
 use crate::association::{Protection, RxSa, TxSa};
@@ -16,8 +16,8 @@ use macs_frame::{An, Offset, Sci};
 /// Does what a command asks for that is not refused, by what its check found.
 pub(crate) fn change(contents: &mut Contents, command: &Command, checked: &Checked)
     requires checked { checked.now ≡ fingerprint_of command.now }
-    requires fits { (identity : Identity) × (refusal_of this_edition identity (read contents.old) command.now ≡ None) }
-    ensures { read contents.new ≡ changed (read contents.old) command.now }
+    requires fits { (identity : Identity) × (refusal_of this_edition identity (config_in contents.old) command.now ≡ None) }
+    ensures { config_in contents.new ≡ config_after (config_in contents.old) command.now }
 {
     match *command {
         Command::SetValidate(validate) => contents.validate = validate,
@@ -55,7 +55,7 @@ pub(crate) fn change(contents: &mut Contents, command: &Command, checked: &Check
 
 /// The confidentiality offset of so many octets, in a command that is not refused.
 fn chosen(octets: u8) -> Offset
-    ensures { result ≡ chosen (offset_at octets) }
+    ensures { result ≡ offset_or_zero (offset_at octets) }
 {
     Offset::new(octets).unwrap_or(Offset::Zero)
 }

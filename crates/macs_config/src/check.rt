@@ -4,7 +4,7 @@ ghost use Rattle.std.specs.Prelude.{◌≡◌, ◌==◌, ◌||◌, ◌&&◌, Som
 ghost use Rattle.macs_config.specs.Apply.{fingerprint_of, offset_at, refusal_of, unless};
 ghost use Rattle.macs_config.specs.Config.{is_spent, max_spent, rx_fingerprint, this_edition, tx_fingerprint};
 ghost use Rattle.macs_config.specs.Identity.{is_port_one};
-ghost use Rattle.macs_config.specs.Stored.{read};
+ghost use Rattle.macs_config.specs.Value.{config_in};
 ghost use Rattle.macs_config.specs.declared.command.Command.TheVariants.{SetSciMode, TxInstall, TxUse, TxRemove, RxAdd, RxDrop, RxInstall, RxRemove};
 ghost use Rattle.macs_config.specs.declared.refusal.Refusal.TheVariants.{KeySpent, SpentFull};
 
@@ -26,7 +26,7 @@ pub(crate) fn check(
     identity: &Identity,
     command: &Command,
 ) -> Result<Checked, Refusal>
-    ensures { result ≡ unless (refusal_of this_edition identity.now (read contents.now) command.now) (fingerprint_of command.now) }
+    ensures { result ≡ unless (refusal_of this_edition identity.now (config_in contents.now) command.now) (fingerprint_of command.now) }
 {
     match *command {
         Command::SetValidate(_) | Command::SetReplay { .. } => Ok(Checked::new(None)),
@@ -89,7 +89,7 @@ fn check_tx_install(
     confidential: bool,
     offset: u8,
 ) -> Result<Checked, Refusal>
-    ensures { (identity : _) → result ≡ unless (refusal_of this_edition identity (read contents.now)
+    ensures { (identity : _) → result ≡ unless (refusal_of this_edition identity (config_in contents.now)
         (TxInstall an key.now start confidential offset)) (Some (tx_fingerprint key.now)) }
 {
     if start == 0 {
@@ -104,7 +104,7 @@ fn check_tx_install(
 }
 
 fn tx_use_refusal(contents: &Contents, an: An) -> Option<Refusal>
-    ensures { (identity : _) → result ≡ refusal_of this_edition identity (read contents.now) (TxUse an) }
+    ensures { (identity : _) → result ≡ refusal_of this_edition identity (config_in contents.now) (TxUse an) }
 {
     if contents.tx[an.get() as usize].is_some() {
         None
@@ -114,7 +114,7 @@ fn tx_use_refusal(contents: &Contents, an: An) -> Option<Refusal>
 }
 
 fn tx_remove_refusal(contents: &Contents, an: An) -> Option<Refusal>
-    ensures { (identity : _) → result ≡ refusal_of this_edition identity (read contents.now) (TxRemove an) }
+    ensures { (identity : _) → result ≡ refusal_of this_edition identity (config_in contents.now) (TxRemove an) }
 {
     if contents.tx[an.get() as usize].is_none() {
         Some(Refusal::SlotEmpty)
@@ -126,7 +126,7 @@ fn tx_remove_refusal(contents: &Contents, an: An) -> Option<Refusal>
 }
 
 fn rx_add_refusal(contents: &Contents, identity: &Identity, sci: Sci) -> Option<Refusal>
-    ensures { result ≡ refusal_of this_edition identity.now (read contents.now) (RxAdd sci) }
+    ensures { result ≡ refusal_of this_edition identity.now (config_in contents.now) (RxAdd sci) }
 {
     if sci == identity.sci() {
         Some(Refusal::OwnSci)
@@ -140,7 +140,7 @@ fn rx_add_refusal(contents: &Contents, identity: &Identity, sci: Sci) -> Option<
 }
 
 fn rx_drop_refusal(contents: &Contents, sci: Sci) -> Option<Refusal>
-    ensures { (identity : _) → result ≡ refusal_of this_edition identity (read contents.now) (RxDrop sci) }
+    ensures { (identity : _) → result ≡ refusal_of this_edition identity (config_in contents.now) (RxDrop sci) }
 {
     if contents.has_channel(sci) {
         None
@@ -157,7 +157,7 @@ fn check_rx_install(
     start: u32,
     offset: u8,
 ) -> Result<Checked, Refusal>
-    ensures { (identity : _) → result ≡ unless (refusal_of this_edition identity (read contents.now)
+    ensures { (identity : _) → result ≡ unless (refusal_of this_edition identity (config_in contents.now)
         (RxInstall sci an key.now start offset)) (Some (rx_fingerprint sci key.now)) }
 {
     if start == 0 {
@@ -174,7 +174,7 @@ fn check_rx_install(
 }
 
 fn rx_remove_refusal(contents: &Contents, sci: Sci, an: An) -> Option<Refusal>
-    ensures { (identity : _) → result ≡ refusal_of this_edition identity (read contents.now) (RxRemove sci an) }
+    ensures { (identity : _) → result ≡ refusal_of this_edition identity (config_in contents.now) (RxRemove sci an) }
 {
     if !contents.has_channel(sci) {
         Some(Refusal::NoChannel)

@@ -4,8 +4,8 @@ ghost use Rattle.std.specs.Prelude.{◌≡◌, ◌≤◌, ◌↔◌, ℕ, List, 
 ghost use Rattle.std.specs.Option.{option_map};
 ghost use Rattle.macs_config.specs.Apply.{apply, fingerprint_of, refusal_of};
 ghost use Rattle.macs_config.specs.Config.{IsConfig, default, has_channel, is_spent, rx_fingerprint, spent_of, this_edition, tx_fingerprint};
-ghost use Rattle.macs_config.specs.Snapshot.{restored};
-ghost use Rattle.macs_config.specs.Stored.{config_of};
+ghost use Rattle.macs_config.specs.Snapshot.{config_of_parts};
+ghost use Rattle.macs_config.specs.Value.{config_of};
 
 use crate::association::{RxSa, TxSa};
 use crate::change::change;
@@ -31,14 +31,14 @@ pub struct Config {
 }
 
 impl Model for Config {
-    ghost use Rattle.macs_config.specs.Stored.{Stored, read};
+    ghost use Rattle.macs_config.specs.Value.{ConfigValue, config_in};
     ghost use Rattle.macs_config.specs.Config.{IsConfig, this_edition};
 
-    ghost Value = { Stored };
+    ghost Value = { ConfigValue };
 
     ghost view = { λ c. record { identity = c.identity; contents = c.contents } };
 
-    ghost invariant = { λ c. IsConfig this_edition c.identity (read c.contents) };
+    ghost invariant = { λ c. IsConfig this_edition c.identity (config_in c.contents) };
 }
 
 impl Config {
@@ -61,7 +61,7 @@ impl Config {
     /// association does not stand; or the mode is that of an end station, and the port of the
     /// endpoint's SCI is not 00-01.
     pub fn restore(identity: &Identity, parts: &[Part]) -> Option<Config>
-        ensures restored { option_map config_of result ≡ restored this_edition identity.now parts.now }
+        ensures restored { option_map config_of result ≡ config_of_parts this_edition identity.now parts.now }
         ensures identity { IfSome result (λ config. config.identity ≡ identity.now) }
     {
         let contents = restored(identity, parts)?;

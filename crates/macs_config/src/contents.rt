@@ -58,12 +58,12 @@ impl Contents {
     ghost use Rattle.std.specs.Str.{bytes_eq};
     ghost use Rattle.macs_config.specs.Config.{default, has_channel, max_spent, put_among, this_edition};
     ghost use Rattle.macs_config.specs.Places.{IsPlace};
-    ghost use Rattle.macs_config.specs.Stored.{read};
+    ghost use Rattle.macs_config.specs.Value.{config_in};
     ghost use Rattle.macs_config.specs.Tables.{put, put_at};
 
     /// What an endpoint is formatted with.
     pub(crate) fn new() -> Contents
-        ensures { read result ≡ default }
+        ensures { config_in result ≡ default }
     {
         Contents {
             validate: Validate::Strict,
@@ -82,8 +82,8 @@ impl Contents {
 
     /// Nothing stands at an association number above 3.
     pub(crate) fn facts(&self)
-        ensures tx { (an : ℕ) → 4 ≤ an → (read self.now).tx an ≡ None }
-        ensures rx { (sci : List ℕ) (an : ℕ) → 4 ≤ an → (read self.now).rx sci an ≡ None }
+        ensures tx { (an : ℕ) → 4 ≤ an → (config_in self.now).tx an ≡ None }
+        ensures rx { (sci : List ℕ) (an : ℕ) → 4 ≤ an → (config_in self.now).rx sci an ≡ None }
     {
         let _tx = &self.tx;
         for channel in self.channels.iter() {
@@ -93,8 +93,8 @@ impl Contents {
 
     /// The place of a receive channel among those that stand.
     fn place(&self, sci: Sci) -> Option<usize>
-        ensures stands { IfSome result (λ place. IsPlace (read self.now).channels sci place) }
-        ensures none { IfNone result (has_channel (read self.now) sci ≡ false) }
+        ensures stands { IfSome result (λ place. IsPlace (config_in self.now).channels sci place) }
+        ensures none { IfNone result (has_channel (config_in self.now) sci ≡ false) }
     {
         for (place, channel) in self.channels.iter().enumerate() {
             if channel.sci == sci {
@@ -106,14 +106,14 @@ impl Contents {
 
     /// Whether a receive channel of that SCI stands.
     pub(crate) fn has_channel(&self, sci: Sci) -> bool
-        ensures { result ≡ has_channel (read self.now) sci }
+        ensures { result ≡ has_channel (config_in self.now) sci }
     {
         self.place(sci).is_some()
     }
 
     /// A receive association.
     pub(crate) fn rx(&self, sci: Sci, an: An) -> Option<RxSa>
-        ensures { result ≡ (read self.now).rx sci an }
+        ensures { result ≡ (config_in self.now).rx sci an }
     {
         let place = self.place(sci)?;
         self.channels[place].associations[an.get() as usize]
@@ -121,16 +121,16 @@ impl Contents {
 
     /// Puts a transmit association at a number, or takes it away.
     pub(crate) fn put_tx(&mut self, an: An, sa: Option<TxSa>)
-        ensures { read self.new ≡ record (read self.old) { tx = put (read self.old).tx an sa } }
+        ensures { config_in self.new ≡ record (config_in self.old) { tx = put (config_in self.old).tx an sa } }
     {
         self.tx[an.get() as usize] = sa;
     }
 
     /// Puts a receive association at a number of a channel that stands, or takes it away.
     pub(crate) fn put_rx(&mut self, sci: Sci, an: An, sa: Option<RxSa>)
-        requires { has_channel (read self.old) sci ≡ true }
-        ensures { read self.new ≡ record (read self.old)
-            { rx = put_at (read self.old).rx sci (put ((read self.old).rx sci) an sa) } }
+        requires { has_channel (config_in self.old) sci ≡ true }
+        ensures { config_in self.new ≡ record (config_in self.old)
+            { rx = put_at (config_in self.old).rx sci (put ((config_in self.old).rx sci) an sa) } }
     {
         if let Some(place) = self.place(sci) {
             self.channels[place].put(an, sa);
@@ -139,9 +139,9 @@ impl Contents {
 
     /// Adds a receive channel that does not stand yet.
     pub(crate) fn add_channel(&mut self, sci: Sci)
-        requires free { has_channel (read self.old) sci ≡ false }
-        requires room { length (read self.old).channels < this_edition.channels }
-        ensures { read self.new ≡ record (read self.old) { channels = put_among sci (read self.old).channels } }
+        requires free { has_channel (config_in self.old) sci ≡ false }
+        requires room { length (config_in self.old).channels < this_edition.channels }
+        ensures { config_in self.new ≡ record (config_in self.old) { channels = put_among sci (config_in self.old).channels } }
     {
         let place = self.place_after(sci);
         let associations = [None; ASSOCIATIONS];
@@ -150,9 +150,9 @@ impl Contents {
 
     /// How many of the channels that stand come first, before the first that comes after an SCI.
     fn place_after(&self, sci: Sci) -> usize
-        ensures within { result ≤ length (read self.now).channels }
-        ensures between { put_among sci (read self.now).channels ≡
-            take result (read self.now).channels ++ sci ∷ drop result (read self.now).channels }
+        ensures within { result ≤ length (config_in self.now).channels }
+        ensures between { put_among sci (config_in self.now).channels ≡
+            take result (config_in self.now).channels ++ sci ∷ drop result (config_in self.now).channels }
     {
         for (place, channel) in self.channels.iter().enumerate() {
             if sci.get() < channel.sci.get() {
@@ -164,9 +164,9 @@ impl Contents {
 
     /// Drops a receive channel, with its associations.
     pub(crate) fn drop_channel(&mut self, sci: Sci)
-        ensures { read self.new ≡ record (read self.old) {
-          channels = filter (λ other. not (bytes_eq other sci)) (read self.old).channels;
-          rx = put_at (read self.old).rx sci (λ an. None);
+        ensures { config_in self.new ≡ record (config_in self.old) {
+          channels = filter (λ other. not (bytes_eq other sci)) (config_in self.old).channels;
+          rx = put_at (config_in self.old).rx sci (λ an. None);
         } }
     {
         self.channels.retain(|channel| channel.sci != sci);
@@ -174,16 +174,16 @@ impl Contents {
 
     /// Adds a fingerprint to those that are spent on the transmit side.
     pub(crate) fn spend_tx(&mut self, fingerprint: Fingerprint)
-        requires { length (read self.old).spent_tx < max_spent }
-        ensures { read self.new ≡ record (read self.old) { spent_tx = (read self.old).spent_tx ++ fingerprint ∷ [] } }
+        requires { length (config_in self.old).spent_tx < max_spent }
+        ensures { config_in self.new ≡ record (config_in self.old) { spent_tx = (config_in self.old).spent_tx ++ fingerprint ∷ [] } }
     {
         self.spent_tx.push(fingerprint);
     }
 
     /// Adds a fingerprint to those that are spent on the receive side.
     pub(crate) fn spend_rx(&mut self, fingerprint: Fingerprint)
-        requires { length (read self.old).spent_rx < max_spent }
-        ensures { read self.new ≡ record (read self.old) { spent_rx = (read self.old).spent_rx ++ fingerprint ∷ [] } }
+        requires { length (config_in self.old).spent_rx < max_spent }
+        ensures { config_in self.new ≡ record (config_in self.old) { spent_rx = (config_in self.old).spent_rx ++ fingerprint ∷ [] } }
     {
         self.spent_rx.push(fingerprint);
     }

@@ -5,7 +5,7 @@ ghost use Rattle.std.specs.Prelude.{◌≡◌, ◌<◌, ◌^◌, ◌++◌, ℕ, 
 ghost use Rattle.macs_config.specs.Apply.{IsCommand, IsKey, apply, spends};
 ghost use Rattle.macs_config.specs.Config.{Config, Edition, IsConfig, IsUpTo, default, spent_of, this_edition};
 ghost use Rattle.macs_config.specs.Identity.{Identity, IsIdentity};
-ghost use Rattle.macs_config.specs.Snapshot.{restored};
+ghost use Rattle.macs_config.specs.Snapshot.{config_of_parts};
 ghost use Rattle.macs_config.specs.declared.command.Command.{Command};
 ghost use Rattle.macs_config.specs.declared.command.Role.{Role};
 ghost use Rattle.macs_config.specs.declared.part.Part.{Part};
@@ -91,7 +91,7 @@ pub fn apply_keeps()
 /// What a snapshot is restored to is a configuration.
 pub fn restored_is_config()
     ensures { (edition : Edition) (identity : Identity) (parts : List Part) (c : Config)
-        → restored edition identity parts ≡ Some c → IsConfig edition identity c }
+        → config_of_parts edition identity parts ≡ Some c → IsConfig edition identity c }
 {}
 
 /// Spent keys stay, in their order; an install adds its key on its side, and no other command any.
@@ -112,7 +112,7 @@ pub fn larger_applies()
 pub fn larger_restores()
     ensures { (small large : Edition) → IsUpTo small large
         → (identity : Identity) (parts : List Part) (c : Config)
-        → restored small identity parts ≡ Some c → restored large identity parts ≡ Some c }
+        → config_of_parts small identity parts ≡ Some c → config_of_parts large identity parts ≡ Some c }
 {}
 
 /// What a configuration or a command of an edition is, it is of one that takes as much or more.

@@ -6,8 +6,8 @@ ghost use Rattle.std.specs.List.{list_all};
 ghost use Rattle.std.specs.Str.{bytes_eq};
 ghost use Rattle.macs_config.specs.Config.{are_distinct, default, has_channel, is_spent, max_spent, put_among, spent_of, this_edition, tx_fingerprint};
 ghost use Rattle.macs_config.specs.Identity.{is_port_one};
-ghost use Rattle.macs_config.specs.Snapshot.{are_new, are_ordered, is_rx_spent, is_tx_spent, is_whole, may_follow, numbers, place_of, restored, with_part, with_parts};
-ghost use Rattle.macs_config.specs.Stored.{read};
+ghost use Rattle.macs_config.specs.Snapshot.{are_new, are_ordered, is_rx_spent, is_tx_spent, is_whole, may_follow, every_an, place_of, config_of_parts, with_part, with_parts};
+ghost use Rattle.macs_config.specs.Value.{config_in};
 ghost use Rattle.macs_config.specs.Tables.{put, put_at};
 ghost use Rattle.macs_config.specs.declared.part.Part.TheVariants.{Spent};
 
@@ -26,7 +26,7 @@ const BEHIND_SETTINGS: u8 = 2;
 
 /// What the parts of a snapshot make up, `None` where the snapshot is refused.
 pub(crate) fn restored(identity: &Identity, parts: &[Part]) -> Option<Contents>
-    ensures { option_map read result ≡ restored this_edition identity.now parts.now }
+    ensures { option_map config_in result ≡ config_of_parts this_edition identity.now parts.now }
 {
     let (first, rest) = parts.split_first()?;
     let contents = replayed(identity, settled(first)?, rest)?;
@@ -39,7 +39,7 @@ pub(crate) fn restored(identity: &Identity, parts: &[Part]) -> Option<Contents>
 
 /// The settings of a first part, on what an endpoint is formatted with; `None` for another part.
 fn settled(first: &Part) -> Option<Contents>
-    ensures { option_map read result
+    ensures { option_map config_in result
         ≡ (if nat_le (place_of first.now) 1 then Some (with_part default first.now) else None) }
 {
     match first {
@@ -62,8 +62,8 @@ fn settled(first: &Part) -> Option<Contents>
 /// The parts behind the settings, added in turn; `None` where one is out of order, or may not follow
 /// those in front of it.
 fn replayed(identity: &Identity, mut contents: Contents, parts: &[Part]) -> Option<Contents>
-    ensures { option_map read result
-        ≡ (if are_ordered 2 parts.now then with_parts this_edition identity.now (read contents) parts.now else None) }
+    ensures { option_map config_in result
+        ≡ (if are_ordered 2 parts.now then with_parts this_edition identity.now (config_in contents) parts.now else None) }
 {
     let mut place = BEHIND_SETTINGS;
     for part in parts {
@@ -98,8 +98,8 @@ fn place_of(part: &Part) -> u8
 
 /// Adds a part, and answers whether it may follow what stands.
 fn add(identity: &Identity, contents: &mut Contents, part: &Part) -> bool
-    ensures test { result ≡ may_follow this_edition identity.now (read contents.old) part.now }
-    ensures added { result ≡ true → read contents.new ≡ with_part (read contents.old) part.now }
+    ensures test { result ≡ may_follow this_edition identity.now (config_in contents.old) part.now }
+    ensures added { result ≡ true → config_in contents.new ≡ with_part (config_in contents.old) part.now }
 {
     match part {
         Part::Settings { .. } => false,
@@ -112,8 +112,8 @@ fn add(identity: &Identity, contents: &mut Contents, part: &Part) -> bool
 
 /// Adds a transmit association, and answers whether none stood at its number.
 fn add_tx(contents: &mut Contents, an: An, sa: TxSa) -> bool
-    ensures test { result ≡ is_none ((read contents.old).tx an) }
-    ensures added { result ≡ true → read contents.new ≡ record (read contents.old) { tx = put (read contents.old).tx an (Some sa) } }
+    ensures test { result ≡ is_none ((config_in contents.old).tx an) }
+    ensures added { result ≡ true → config_in contents.new ≡ record (config_in contents.old) { tx = put (config_in contents.old).tx an (Some sa) } }
 {
     let is_free = contents.tx[an.get() as usize].is_none();
     if is_free {
@@ -124,9 +124,9 @@ fn add_tx(contents: &mut Contents, an: An, sa: TxSa) -> bool
 
 /// Adds a receive channel, and answers whether it is not the own one, did not stand, and fits.
 fn add_channel(identity: &Identity, contents: &mut Contents, sci: Sci) -> bool
-    ensures test { result ≡ (not (bytes_eq sci identity.now.sci) && not (has_channel (read contents.old) sci)
-        && nat_lt (length (read contents.old).channels) this_edition.channels) }
-    ensures added { result ≡ true → read contents.new ≡ record (read contents.old) { channels = put_among sci (read contents.old).channels } }
+    ensures test { result ≡ (not (bytes_eq sci identity.now.sci) && not (has_channel (config_in contents.old) sci)
+        && nat_lt (length (config_in contents.old).channels) this_edition.channels) }
+    ensures added { result ≡ true → config_in contents.new ≡ record (config_in contents.old) { channels = put_among sci (config_in contents.old).channels } }
 {
     let is_new = sci != identity.sci() && !contents.has_channel(sci);
     let may_follow = is_new && contents.channels.len() < MAX_CHANNELS;
@@ -139,9 +139,9 @@ fn add_channel(identity: &Identity, contents: &mut Contents, sci: Sci) -> bool
 /// Adds a receive association, and answers whether its channel stands and no association at its
 /// number.
 fn add_rx(contents: &mut Contents, sci: Sci, an: An, sa: RxSa) -> bool
-    ensures test { result ≡ (has_channel (read contents.old) sci && is_none ((read contents.old).rx sci an)) }
-    ensures added { result ≡ true → read contents.new ≡ record (read contents.old)
-        { rx = put_at (read contents.old).rx sci (put ((read contents.old).rx sci) an (Some sa)) } }
+    ensures test { result ≡ (has_channel (config_in contents.old) sci && is_none ((config_in contents.old).rx sci an)) }
+    ensures added { result ≡ true → config_in contents.new ≡ record (config_in contents.old)
+        { rx = put_at (config_in contents.old).rx sci (put ((config_in contents.old).rx sci) an (Some sa)) } }
 {
     let is_free = contents.has_channel(sci) && contents.rx(sci, an).is_none();
     if is_free {
@@ -152,9 +152,9 @@ fn add_rx(contents: &mut Contents, sci: Sci, an: An, sa: RxSa) -> bool
 
 /// Adds spent keys of a side, and answers whether they are new and fit.
 fn add_spent(contents: &mut Contents, role: Role, fingerprints: &[Fingerprint]) -> bool
-    ensures test { result ≡ (are_new (spent_of role (read contents.old)) fingerprints.now
-        && nat_le (length (spent_of role (read contents.old)) + length fingerprints.now) max_spent) }
-    ensures added { result ≡ true → read contents.new ≡ with_part (read contents.old) (Spent role fingerprints.now) }
+    ensures test { result ≡ (are_new (spent_of role (config_in contents.old)) fingerprints.now
+        && nat_le (length (spent_of role (config_in contents.old)) + length fingerprints.now) max_spent) }
+    ensures added { result ≡ true → config_in contents.new ≡ with_part (config_in contents.old) (Spent role fingerprints.now) }
 {
     let may_follow = may_be_spent(spent_of(contents, role), fingerprints);
     if may_follow {
@@ -167,7 +167,7 @@ fn add_spent(contents: &mut Contents, role: Role, fingerprints: &[Fingerprint]) 
 
 /// The spent keys of a side.
 fn spent_of(contents: &Contents, role: Role) -> &SpentKeys
-    ensures { result.now ≡ spent_of role (read contents.now) }
+    ensures { result.now ≡ spent_of role (config_in contents.now) }
 {
     match role {
         Role::Transmit => &contents.spent_tx,
@@ -177,8 +177,8 @@ fn spent_of(contents: &Contents, role: Role) -> &SpentKeys
 
 /// Adds a spent key of a side.
 fn spend(contents: &mut Contents, role: Role, fingerprint: Fingerprint)
-    requires { length (spent_of role (read contents.old)) < max_spent }
-    ensures { read contents.new ≡ with_part (read contents.old) (Spent role (fingerprint ∷ [])) }
+    requires { length (spent_of role (config_in contents.old)) < max_spent }
+    ensures { config_in contents.new ≡ with_part (config_in contents.old) (Spent role (fingerprint ∷ [])) }
 {
     match role {
         Role::Transmit => contents.spend_tx(fingerprint),
@@ -220,7 +220,7 @@ fn are_distinct(fingerprints: &[Fingerprint]) -> bool
 /// Whether every installed key is spent, the encoding association stands, and an end station's port
 /// is 00-01.
 fn is_whole(identity: &Identity, contents: &Contents) -> bool
-    ensures { result ≡ is_whole identity.now (read contents.now) }
+    ensures { result ≡ is_whole identity.now (config_in contents.now) }
 {
     are_tx_spent(contents)
         && are_rx_spent(contents)
@@ -230,7 +230,7 @@ fn is_whole(identity: &Identity, contents: &Contents) -> bool
 
 /// Whether the keys of all transmit associations are spent.
 fn are_tx_spent(contents: &Contents) -> bool
-    ensures { result ≡ list_all (is_tx_spent (read contents.now)) numbers }
+    ensures { result ≡ list_all (is_tx_spent (config_in contents.now)) every_an }
 {
     let spent = &contents.spent_tx;
     contents.tx.iter().all(|sa| is_tx_spent(spent, sa))
@@ -248,7 +248,7 @@ fn is_tx_spent(spent: &SpentKeys, sa: &Option<TxSa>) -> bool
 
 /// Whether the keys of all receive associations are spent.
 fn are_rx_spent(contents: &Contents) -> bool
-    ensures { result ≡ list_all (λ sci. list_all (is_rx_spent (read contents.now) sci) numbers) (read contents.now).channels }
+    ensures { result ≡ list_all (λ sci. list_all (is_rx_spent (config_in contents.now) sci) every_an) (config_in contents.now).channels }
 {
     contents
         .channels
@@ -258,7 +258,7 @@ fn are_rx_spent(contents: &Contents) -> bool
 
 /// Whether the keys of a channel's associations, at the numbers 0 to 3, are spent.
 fn are_keys_spent(contents: &Contents, sci: Sci) -> bool
-    ensures { result ≡ list_all (is_rx_spent (read contents.now) sci) numbers }
+    ensures { result ≡ list_all (is_rx_spent (config_in contents.now) sci) every_an }
 {
     for number in 0..4 {
         if let Some(an) = An::new(number) {
@@ -272,7 +272,7 @@ fn are_keys_spent(contents: &Contents, sci: Sci) -> bool
 
 /// Whether the key of a receive association is spent; true where none stands.
 fn is_rx_spent(contents: &Contents, sci: Sci, an: An) -> bool
-    ensures { result ≡ is_rx_spent (read contents.now) sci an }
+    ensures { result ≡ is_rx_spent (config_in contents.now) sci an }
 {
     match contents.rx(sci, an) {
         Some(sa) => contents.spent_rx.contains(&rx_fingerprint(sci, &sa.key)),
@@ -282,7 +282,7 @@ fn is_rx_spent(contents: &Contents, sci: Sci, an: An) -> bool
 
 /// Whether the association that frames go out under stands; true where there is none.
 fn encoding_stands(contents: &Contents) -> bool
-    ensures { result ≡ option_map_or (λ an. is_some ((read contents.now).tx an)) (read contents.now).encoding true }
+    ensures { result ≡ option_map_or (λ an. is_some ((config_in contents.now).tx an)) (config_in contents.now).encoding true }
 {
     match contents.encoding {
         Some(an) => contents.tx[an.get() as usize].is_some(),

@@ -7,9 +7,9 @@ use Rattle.std.proofs.lemmas.Grind.{get_or-set_at}
 use Rattle.std.proofs.lemmas.List.Elements.{recursion_from_All}
 use Rattle.std.specs.Prelude.{Option, Some, None, unwrap_or}
 use Rattle.std.specs.List.{All, AllByRecursion}
-use Rattle.macs_disk.specs.States.{IsSector, DiskState, IsImage, put_sector, settled, zero_sector}
-use Rattle.macs_disk.specs.Recorded.{sectors_in, flag_at, choice_at, state_after, replayed, recorded, IsSoundMemory, AreChosen}
-use Rattle.macs_disk.specs.Memory.{crashed}
+use Rattle.macs_disk.specs.States.{IsSector, DiskState, IsImage, put_sector, settled_state, zero_sector}
+use Rattle.macs_disk.specs.Recorded.{sectors_in, flag_at, choice_at, state_after, state_at, disk_of_record, IsSoundMemory, AreChosen}
+use Rattle.macs_disk.specs.Memory.{memory_after_loss}
 use Rattle.macs_disk.proofs.Images.{State-ext, put-same, put-other}
 use Rattle.macs_disk.specs.declared.record.Entry.{Entry}
 use Rattle.macs_disk.specs.declared.record.Call.TheVariants.{Write, Sync}
@@ -17,18 +17,18 @@ use Rattle.macs_disk.specs.declared.record.Call.TheVariants.{Write, Sync}
 pub same-sectors : (xs ys zs : List (List ℕ)) → xs ≡ ys → ys ≡ zs → xs ≡ zs
 same-sectors xs ys zs first second = first ∙ second
 
-replayed-push : (s : DiskState) (es : List Entry) (e : Entry) (k : ℕ) → replayed s (es ++ e ∷ []) k ≡ (if nat_le e.clock k then state_after (replayed s es k) e.call else replayed s es k)
+replayed-push : (s : DiskState) (es : List Entry) (e : Entry) (k : ℕ) → state_at s (es ++ e ∷ []) k ≡ (if nat_le e.clock k then state_after (state_at s es k) e.call else state_at s es k)
 replayed-push s [] e k = refl
 replayed-push s (x ∷ es) e k = replayed-push (if nat_le x.clock k then state_after s x.call else s) es e k
 
 -- a call that came later doesn't count
-pub replayed-before : (s : DiskState) (es : List Entry) (e : Entry) (k : ℕ) → k < e.clock → replayed s (es ++ e ∷ []) k ≡ replayed s es k
+pub replayed-before : (s : DiskState) (es : List Entry) (e : Entry) (k : ℕ) → k < e.clock → state_at s (es ++ e ∷ []) k ≡ state_at s es k
 replayed-before s es e k lt = replayed-push s es e k ∙ (let no : nat_le e.clock k ≡ false = grind (arith, nat_tests) in rw no)
 
-replayed-at : (s : DiskState) (es : List Entry) (e : Entry) (k : ℕ) → e.clock ≤ k → replayed s (es ++ e ∷ []) k ≡ state_after (replayed s es k) e.call
+replayed-at : (s : DiskState) (es : List Entry) (e : Entry) (k : ℕ) → e.clock ≤ k → state_at s (es ++ e ∷ []) k ≡ state_after (state_at s es k) e.call
 replayed-at s es e k le = replayed-push s es e k ∙ (let yes : nat_le e.clock k ≡ true = grind (arith, nat_tests) in rw yes)
 
-replayed_still : (s : DiskState) (es : List Entry) (c k : ℕ) → AllByRecursion (λ e. e.clock ≤ c) es → c ≤ k → replayed s es k ≡ replayed s es c
+replayed_still : (s : DiskState) (es : List Entry) (c k : ℕ) → AllByRecursion (λ e. e.clock ≤ c) es → c ≤ k → state_at s es k ≡ state_at s es c
 replayed_still s [] c k all le = refl
 replayed_still s (e ∷ es) c k all le =
     let at_k : nat_le e.clock k ≡ true = le-leb e.clock k (omega (arith, all.0)) in
@@ -36,12 +36,12 @@ replayed_still s (e ∷ es) c k all le =
     rw (at_k, at_c) (replayed_still (state_after s e.call) es c k all.1 le)
 
 -- from the last call on nothing changes
-pub replayed-later : (s : DiskState) (es : List Entry) (c k : ℕ) → All (λ e. e.clock ≤ c) es → c ≤ k → replayed s es k ≡ replayed s es c
+pub replayed-later : (s : DiskState) (es : List Entry) (c k : ℕ) → All (λ e. e.clock ≤ c) es → c ≤ k → state_at s es k ≡ state_at s es c
 replayed-later s es c k all le = replayed_still s es c k (recursion_from_All _ es all) le
 
 -- a call more
 pub replayed-next : (s : DiskState) (es : List Entry) (e : Entry) (c : ℕ) → All (λ e. e.clock ≤ c) es → e.clock ≡ c + 1
-    → replayed s (es ++ e ∷ []) (c + 1) ≡ state_after (replayed s es c) e.call
+    → state_at s (es ++ e ∷ []) (c + 1) ≡ state_after (state_at s es c) e.call
 replayed-next s es e c all is = replayed-at s es e (c + 1) (omega (arith, is)) ∙ ap (λ (s : DiskState). state_after s e.call) (replayed-later s es c (c + 1) all (omega arith))
 
 pub get_or-set : {X : Type 0} (xs : List X) (at : ℕ) (x d : X) (i : ℕ) → at < length xs → get_or (slice_set xs at x) i d ≡ put_sector (λ i. get_or xs i d) at x i
@@ -57,7 +57,7 @@ module _ (first seen durable : List (List ℕ)) (pending : List Bool) (calls : L
     (kept : IsSoundMemory first seen durable pending calls clock) where
   kept-later : (c : ℕ) → clock ≤ c → IsSoundMemory first seen durable pending calls c
   kept-later c le = record {
-    is_now = replayed-later (settled (sectors_in first)) calls clock c stamped le ∙ kept.is_now;
+    is_now = replayed-later (settled_state (sectors_in first)) calls clock c stamped le ∙ kept.is_now;
     as_first = kept.as_first;
     as_durable = kept.as_durable;
     as_pending = kept.as_pending;
@@ -75,7 +75,7 @@ module _ (first seen durable : List (List ℕ)) (pending : List Bool) (calls : L
   module _ (at : ℕ) (octets : List ℕ) (e : Entry) (lt : at < length seen) (sector : IsSector octets) (is : e.clock ≡ clock + 1) (call : e.call ≡ Write at octets) where
     kept_write : IsSoundMemory first (slice_set seen at octets) durable (slice_set pending at true) (calls ++ e ∷ []) (clock + 1)
     kept_write = record {
-      is_now = replayed-next (settled (sectors_in first)) calls e clock stamped is ∙ (λ j. state_after (kept.is_now j) (call j))
+      is_now = replayed-next (settled_state (sectors_in first)) calls e clock stamped is ∙ (λ j. state_after (kept.is_now j) (call j))
           ∙ State-ext _ (state_of (slice_set seen at octets) durable (slice_set pending at true))
           (λ i. sym (get_or-set seen at octets zero_sector i lt)) (λ i. refl) (λ i. sym (get_or-set pending at true false i (omega (arith, lt, kept.as_pending))));
       as_first = kept.as_first ∙ sym (length-set seen at octets);
@@ -103,7 +103,7 @@ module _ (first seen durable : List (List ℕ)) (pending : List Bool) (calls : L
   module _ (flags : List Bool) (e : Entry) (same_length : length flags ≡ length seen) (none : (i : ℕ) → flag_at flags i ≡ false) (is : e.clock ≡ clock + 1) (call : e.call ≡ Sync) where
     kept_sync : IsSoundMemory first seen seen flags (calls ++ e ∷ []) (clock + 1)
     kept_sync = record {
-      is_now = replayed-next (settled (sectors_in first)) calls e clock stamped is ∙ (λ j. state_after (kept.is_now j) (call j))
+      is_now = replayed-next (settled_state (sectors_in first)) calls e clock stamped is ∙ (λ j. state_after (kept.is_now j) (call j))
           ∙ State-ext _ (state_of seen seen flags) (λ i. refl) (λ i. refl) (λ i. sym (none i));
       as_first = kept.as_first;
       as_durable = refl;
@@ -122,7 +122,7 @@ module _ (sectors : List (List ℕ)) (flags : List Bool) (clock : ℕ) (same : l
     (small : length sectors ≤ 65536) (whole : (i : ℕ) → IsSector (sectors_in sectors i)) where
   kept_begun : IsSoundMemory sectors sectors sectors flags [] clock
   kept_begun = record {
-    is_now = State-ext (settled (sectors_in sectors)) (state_of sectors sectors flags) (λ i. refl) (λ i. refl) (λ i. sym (none i));
+    is_now = State-ext (settled_state (sectors_in sectors)) (state_of sectors sectors flags) (λ i. refl) (λ i. refl) (λ i. sym (none i));
     as_first = refl;
     as_durable = refl;
     as_pending = same;
@@ -180,20 +180,20 @@ module _ (first seen durable state_after : List (List ℕ)) (pending : List Bool
   pub crash-whole : (i : ℕ) → IsSector (sectors_in state_after i)
   crash-whole i = a_sector i (choice_at choices i) refl
 
-  pub crash-image : IsImage (replayed (settled (sectors_in first)) calls clock) (sectors_in state_after)
+  pub crash-image : IsImage (state_at (settled_state (sectors_in first)) calls clock) (sectors_in state_after)
   crash-image = rw kept.is_now (record { kept = λ i unwritten. unchosen i (choice_at choices i) refl unwritten; whole = λ i _. crash-whole i })
 
   -- the disk after it
   pub crash-memory : (later : List (List ℕ)) (gone : List (Option (List ℕ))) (es : List Entry) (c f failures : ℕ) → later ≡ state_after → ((i : ℕ) → choice_at gone i ≡ None) → es ≡ [] → c ≡ clock → f ≡ failures
-      → record { disk = recorded (length state_after) (settled (sectors_in later)) es c f; chosen = choice_at gone }
-      ≡ crashed (record { disk = recorded (length seen) (settled (sectors_in first)) calls clock failures; chosen = choice_at choices })
+      → record { disk = disk_of_record (length state_after) (settled_state (sectors_in later)) es c f; chosen = choice_at gone }
+      ≡ memory_after_loss (record { disk = disk_of_record (length seen) (settled_state (sectors_in first)) calls clock failures; chosen = choice_at choices })
   crash-memory later gone es c f failures is_after none empty is_clock is_failures =
-      let left_by : (i : ℕ) → sectors_in later i ≡ unwrap_or (choice_at choices i) ((replayed (settled (sectors_in first)) calls clock).seen i) =
+      let left_by : (i : ℕ) → sectors_in later i ≡ unwrap_or (choice_at choices i) ((state_at (settled_state (sectors_in first)) calls clock).seen i) =
       λ i. ap (λ (xs : List (List ℕ)). sectors_in xs i) is_after ∙ crash-left i ∙ ap (λ (s : DiskState). unwrap_or (choice_at choices i) (s.seen i)) (sym kept.is_now) in
       rw (empty, is_clock, is_failures) (λ j. record {
-        disk = record { sectors = same j; past = λ _. settled (λ i. left_by i j); clock = clock; failures = failures; honest = true; worn = clock == 2 ^ 64 - 1 };
+        disk = record { sectors = same j; past = λ _. settled_state (λ i. left_by i j); clock = clock; failures = failures; honest = true; worn = clock == 2 ^ 64 - 1 };
         chosen = λ i. none i j;
       })
 
-  pub crash-image-later : (later : List (List ℕ)) (es : List Entry) (c : ℕ) → later ≡ state_after → es ≡ [] → IsImage (replayed (settled (sectors_in first)) calls clock) (replayed (settled (sectors_in later)) es c).seen
+  pub crash-image-later : (later : List (List ℕ)) (es : List Entry) (c : ℕ) → later ≡ state_after → es ≡ [] → IsImage (state_at (settled_state (sectors_in first)) calls clock) (state_at (settled_state (sectors_in later)) es c).seen
   crash-image-later later es c is_after empty = rw (is_after, empty) crash-image

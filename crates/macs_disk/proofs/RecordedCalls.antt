@@ -4,7 +4,7 @@ use Rattle.std.proofs.lemmas.Bool.{cases_eq, eq-eqb}
 use Rattle.std.proofs.lemmas.Bool.Decides.{nat_tests}
 use Rattle.macs_disk.specs.States.{DiskState}
 use Rattle.macs_disk.specs.Disk.{IsDeviceCall}
-use Rattle.macs_disk.specs.Recorded.{replayed, recorded}
+use Rattle.macs_disk.specs.Recorded.{state_at, disk_of_record}
 use Rattle.macs_disk.specs.declared.record.Entry.{Entry}
 use Rattle.macs_disk.proofs.Kept.{replayed-before}
 
@@ -26,8 +26,8 @@ test_fresh clock fits is = elim (cases_eq clock most) [
 
 module _ (n : ℕ) (s : DiskState) (calls : List Entry) (clock failures : ℕ) where
   -- one that went well
-  pub good-call : {T E : Type 0} (x : T) (m : ℕ) (more : List Entry) → m ≡ n → clock < most → ((k : ℕ) → k ≤ clock → replayed s more k ≡ replayed s calls k)
-      → IsDeviceCall {E = E} (recorded n s calls clock failures) (recorded m s more (clock + 1) failures) (Ok x)
+  pub good-call : {T E : Type 0} (x : T) (m : ℕ) (more : List Entry) → m ≡ n → clock < most → ((k : ℕ) → k ≤ clock → state_at s more k ≡ state_at s calls k)
+      → IsDeviceCall {E = E} (disk_of_record n s calls clock failures) (disk_of_record m s more (clock + 1) failures) (Ok x)
   good-call x m more same lt past = record {
     work = record {
       works = record {
@@ -51,7 +51,7 @@ module _ (n : ℕ) (s : DiskState) (calls : List Entry) (clock failures : ℕ) w
 
   -- one that failed
   pub bad-call : {T E : Type 0} (e : E) (c f : ℕ) → clock ≤ most → (clock ≡ most → (c ≡ clock) × (f ≡ failures)) → (clock < most → (c ≡ clock + 1) × (f ≡ failures + 1))
-      → IsDeviceCall {T = T} (recorded n s calls clock failures) (recorded n s calls c f) (Err e)
+      → IsDeviceCall {T = T} (disk_of_record n s calls clock failures) (disk_of_record n s calls c f) (Err e)
   bad-call e c f fits worn fresh = record {
     work = record {
       works = record {
@@ -81,14 +81,14 @@ module _ (n : ℕ) (s : DiskState) (calls : List Entry) (clock failures : ℕ) w
     one = λ was. (fresh (test_fresh clock fits was)).0;
     counted = λ was. (fresh (test_fresh clock fits was)).1;
     refused = λ was. refl;
-    stands = λ was. ap (replayed s calls) (worn (test_full clock was)).0;
+    stands = λ was. ap (state_at s calls) (worn (test_full clock was)).0;
     alike = λ was. let h = worn (test_full clock was) in omega (arith, h.0, h.1);
   }
 
 -- one that failed, where nothing more was kept
 pub failed-call : {T E : Type 0} (n : ℕ) (s : DiskState) (calls more : List Entry) (clock failures c f : ℕ) (result : Result T E) → IsErr result → clock < 2 ^ 64 → more ≡ calls
     → (clock ≡ most → (c ≡ clock) × (f ≡ failures)) → (clock < most → (c ≡ clock + 1) × (f ≡ failures + 1))
-    → IsDeviceCall (recorded n s calls clock failures) (recorded n s more c f) result
+    → IsDeviceCall (disk_of_record n s calls clock failures) (disk_of_record n s more c f) result
 failed-call n s calls more clock failures c f (Ok x) is fits same worn fresh = absurd cc
 failed-call {T} n s calls more clock failures c f (Err e) is fits same worn fresh =
     rw same (bad-call n s calls clock failures e c f (omega (arith, fits)) worn fresh)
@@ -96,6 +96,6 @@ failed-call {T} n s calls more clock failures c f (Err e) is fits same worn fres
 -- one that was kept
 pub kept-call : {T E : Type 0} (x : T) (n m : ℕ) (s : DiskState) (calls more : List Entry) (clock failures c f : ℕ) (e : Entry) → m ≡ n → e.clock ≡ clock + 1 → more ≡ calls ++ e ∷ []
     → clock < most → c ≡ clock + 1 → f ≡ failures
-    → IsDeviceCall {E = E} (recorded n s calls clock failures) (recorded m s more c f) (Ok x)
+    → IsDeviceCall {E = E} (disk_of_record n s calls clock failures) (disk_of_record m s more c f) (Ok x)
 kept-call x n m s calls more clock failures c f e same is all lt next steady =
-    rw (next, steady) (good-call n s calls clock failures x m more same lt (λ k le. ap (λ (es : List Entry). replayed s es k) all ∙ replayed-before s calls e k (omega (arith, is, le))))
+    rw (next, steady) (good-call n s calls clock failures x m more same lt (λ k le. ap (λ (es : List Entry). state_at s es k) all ∙ replayed-before s calls e k (omega (arith, is, le))))

@@ -9,12 +9,12 @@ pub record FuseValue (D : Type 0) : Type 0 where
   pub failed : ℕ
 
 -- after a call that the fuse failed: it counted it, up to 2^64 - 1
-abbrev pub stopped : {D : Type 0} → FuseValue D → FuseValue D
-stopped fuse = record { inner = fuse.inner; left = fuse.left; failed = min (fuse.failed + 1) (2 ^ 64 - 1) }
+abbrev pub after_blown_call : {D : Type 0} → FuseValue D → FuseValue D
+after_blown_call fuse = record { inner = fuse.inner; left = fuse.left; failed = min (fuse.failed + 1) (2 ^ 64 - 1) }
 
 -- a disk, and behind its last call so many that failed and changed nothing
-abbrev pub fused : Disk → ℕ → Disk
-fused disk failed =
+abbrev pub disk_behind_fuse : Disk → ℕ → Disk
+disk_behind_fuse disk failed =
     record {
       sectors = disk.sectors;
       past = λ k. disk.past (min k disk.clock);
@@ -26,4 +26,4 @@ fused disk failed =
 
 -- what a fuse is, where this is what the disk behind it is
 abbrev pub fuse_disk : {D : Type 0} → (D → Disk) → FuseValue D → Disk
-fuse_disk disk fuse = fused (disk fuse.inner) fuse.failed
+fuse_disk disk fuse = disk_behind_fuse (disk fuse.inner) fuse.failed

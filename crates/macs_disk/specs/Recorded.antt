@@ -1,6 +1,6 @@
 -- What a disk in memory keeps: its record of writes and syncs, and what these made of its sectors.
 use Rattle.std.specs.Prelude.{◌≡◌, ◌≤◌, ◌-◌, ◌^◌, ◌==◌, ℕ, if◌then◌else◌, Bool, true, false, List, [], ◌∷◌, length, get_or, nat_le, Option, Some, None}
-use Rattle.macs_disk.specs.States.{IsSector, Image, DiskState, settled, written, synced, zero_sector}
+use Rattle.macs_disk.specs.States.{IsSector, Image, DiskState, settled_state, after_write, after_sync, zero_sector}
 use Rattle.macs_disk.specs.Disk.{Disk}
 use Rattle.macs_disk.specs.declared.record.Entry.{Entry}
 use Rattle.macs_disk.specs.declared.record.Call.{Call}
@@ -20,20 +20,20 @@ choice_at choices i = get_or choices i None
 
 -- after a call that was kept
 abbrev pub state_after : DiskState → Call → DiskState
-state_after state (Write at octets) = written state at octets
-state_after state Sync = synced state
+state_after state (Write at octets) = after_write state at octets
+state_after state Sync = after_sync state
 
 -- the state at moment k: what the calls up to k made of the state that the record began with
-abbrev pub replayed : DiskState → List Entry → ℕ → DiskState
-replayed state [] k = state
-replayed state (e ∷ es) k = replayed (if nat_le e.clock k then state_after state e.call else state) es k
+abbrev pub state_at : DiskState → List Entry → ℕ → DiskState
+state_at state [] k = state
+state_at state (e ∷ es) k = state_at (if nat_le e.clock k then state_after state e.call else state) es k
 
 -- a disk by what it keeps: it is worn once its clock is full
-abbrev pub recorded : ℕ → DiskState → List Entry → ℕ → ℕ → Disk
-recorded sectors state calls clock failures =
+abbrev pub disk_of_record : ℕ → DiskState → List Entry → ℕ → ℕ → Disk
+disk_of_record sectors state calls clock failures =
     record {
       sectors = sectors;
-      past = replayed state calls;
+      past = state_at state calls;
       clock = clock;
       failures = failures;
       honest = true;
@@ -43,7 +43,7 @@ recorded sectors state calls clock failures =
 -- the record of the calls so far gives what the disk holds
 pub record IsSoundMemory (first seen durable : List (List ℕ)) (pending : List Bool) (calls : List Entry) (clock : ℕ)
     : Type 0 where
-  pub is_now : replayed (settled (sectors_in first)) calls clock
+  pub is_now : state_at (settled_state (sectors_in first)) calls clock
       ≡ record { seen = sectors_in seen; durable = sectors_in durable; pending = flag_at pending }
   pub as_first : length first ≡ length seen
   pub as_durable : length durable ≡ length seen

@@ -34,8 +34,8 @@ abbrev pub put_sector : {X : Type 0} → (ℕ → X) → ℕ → X → ℕ → X
 put_sector f at x i = if i == at then x else f i
 
 -- after a write of these octets to a sector
-abbrev pub written : DiskState → ℕ → List ℕ → DiskState
-written state at octets =
+abbrev pub after_write : DiskState → ℕ → List ℕ → DiskState
+after_write state at octets =
     record {
       seen = put_sector state.seen at octets;
       durable = state.durable;
@@ -43,12 +43,12 @@ written state at octets =
     }
 
 -- reads give this image, all of it is durable, and nothing is pending
-abbrev pub settled : Image → DiskState
-settled image = record { seen = image; durable = image; pending = λ _. false }
+abbrev pub settled_state : Image → DiskState
+settled_state image = record { seen = image; durable = image; pending = λ _. false }
 
 -- after a sync
-abbrev pub synced : DiskState → DiskState
-synced state = settled state.seen
+abbrev pub after_sync : DiskState → DiskState
+after_sync state = settled_state state.seen
 
 -- a sector of zeros
 unfoldable pub zero_sector : List ℕ

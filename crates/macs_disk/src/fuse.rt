@@ -2,7 +2,7 @@
 
 ghost use Rattle.std.specs.Prelude.{◌≡◌, ◌<◌, ◌+◌, ◌^◌, IsErr, OnOk, OnErr};
 ghost use Rattle.macs_disk.specs.Disk.{IsDeviceCall, IsHonest, Reads, Syncs, Writes, now};
-ghost use Rattle.macs_disk.specs.Fused.{FuseValue, fuse_disk, stopped};
+ghost use Rattle.macs_disk.specs.Fused.{FuseValue, fuse_disk, after_blown_call};
 
 use crate::disk::{DeviceFault, SectorDisk};
 use std::marker::Model;
@@ -50,7 +50,7 @@ impl<D: SectorDisk> Fuse<D> {
             × (self.new.left + 1 ≡ self.old.left) × (self.new.failed ≡ self.old.failed)) }
         ensures unblown { OnOk result (self.new.failed ≡ 0) }
         ensures err { OnErr result ((self.old.left ≡ 0) × (self.old.failed < 2 ^ 64)
-            × (self.new ≡ stopped self.old)) }
+            × (self.new ≡ after_blown_call self.old)) }
     {
         if self.left == 0 {
             self.failed = self.failed.saturating_add(1);
@@ -81,7 +81,7 @@ impl<D: SectorDisk> SectorDisk for Fuse<D> {
             → Reads (now (fuse_disk D.disk self.old)) (now (fuse_disk D.disk self.new)) at into.new result }
         ensures passed { 0 < self.old.left → (self.new.left + 1 ≡ self.old.left)
             × IsDeviceCall (D.disk self.old.inner) (D.disk self.new.inner) result }
-        ensures stopped { self.old.left ≡ 0 → IsErr result × (self.new ≡ stopped self.old) }
+        ensures stopped { self.old.left ≡ 0 → IsErr result × (self.new ≡ after_blown_call self.old) }
     {
         self.pass()?;
         self.disk.read(at, into)
@@ -94,7 +94,7 @@ impl<D: SectorDisk> SectorDisk for Fuse<D> {
             → Writes (now (fuse_disk D.disk self.old)) (now (fuse_disk D.disk self.new)) at from.now result }
         ensures passed { 0 < self.old.left → (self.new.left + 1 ≡ self.old.left)
             × IsDeviceCall (D.disk self.old.inner) (D.disk self.new.inner) result }
-        ensures stopped { self.old.left ≡ 0 → IsErr result × (self.new ≡ stopped self.old) }
+        ensures stopped { self.old.left ≡ 0 → IsErr result × (self.new ≡ after_blown_call self.old) }
     {
         self.pass()?;
         self.disk.write(at, from)
@@ -106,7 +106,7 @@ impl<D: SectorDisk> SectorDisk for Fuse<D> {
             → Syncs (now (fuse_disk D.disk self.old)) (now (fuse_disk D.disk self.new)) result }
         ensures passed { 0 < self.old.left → (self.new.left + 1 ≡ self.old.left)
             × IsDeviceCall (D.disk self.old.inner) (D.disk self.new.inner) result }
-        ensures stopped { self.old.left ≡ 0 → IsErr result × (self.new ≡ stopped self.old) }
+        ensures stopped { self.old.left ≡ 0 → IsErr result × (self.new ≡ after_blown_call self.old) }
     {
         self.pass()?;
         self.disk.sync()

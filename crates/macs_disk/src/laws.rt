@@ -2,7 +2,7 @@
 //! several, and how the promises of calls that follow one another are put together.
 
 ghost use Rattle.std.specs.Prelude.{◌≡◌, ◌≢◌, ◌≤◌, ◌+◌, ◌⊎◌, ℕ, false, true, List, Result, IsErr, IsOk};
-ghost use Rattle.macs_disk.specs.States.{Image, IsImage, IsSector, IsSound, DiskState, synced, written};
+ghost use Rattle.macs_disk.specs.States.{Image, IsImage, IsSector, IsSound, DiskState, after_sync, after_write};
 ghost use Rattle.macs_disk.specs.Disk.{Disk, FailsOnce, IsDeviceCall, IsHonest, IsWork, LeftSince, MayLeave, Reads, Syncs};
 ghost use Rattle.macs_disk.specs.Disk.{Works, Writes, now};
 ghost use Rattle.macs_disk.specs.Runs.{Leaves, LeavesNothingNew};
@@ -33,7 +33,7 @@ pub fn images_are_sectors()
 
 /// What a power loss may leave after a sync, it could leave before.
 pub fn a_sync_leaves_nothing_new()
-    ensures { (state : DiskState) (image : Image) → IsSound state → IsImage (synced state) image
+    ensures { (state : DiskState) (image : Image) → IsSound state → IsImage (after_sync state) image
         → IsImage state image }
 {}
 
@@ -41,7 +41,7 @@ pub fn a_sync_leaves_nothing_new()
 /// written.
 pub fn a_write_leaves_one_sector()
     ensures { (state : DiskState) (at : ℕ) (octets : List ℕ) (image : Image) → IsSound state
-        → IsImage (written state at octets) image
+        → IsImage (after_write state at octets) image
         → (before : Image) × IsImage state before × ((i : ℕ) → i ≢ at → image i ≡ before i) }
 {}
 
@@ -83,7 +83,7 @@ pub fn a_write_call_leaves<P: Property, T, E>()
         → IsDeviceCall old new result → Writes (now old) (now new) at octets result
         → ((image : Image) → MayLeave old image → P.holds image)
         → ((sector : List ℕ) (image : Image) → IsSector sector
-        → IsImage (written (now old) at sector) image → P.holds image)
+        → IsImage (after_write (now old) at sector) image → P.holds image)
         → Leaves old new P.holds }
 {}
 

@@ -170,13 +170,13 @@ impl<A: Allocator> SectorDisk for MemDisk<A> {
 
 impl<A: Allocator + Copy> MemDisk<A> {
     ghost use Rattle.std.specs.Prelude.{◌≡◌, ◌<◌, ◌⊎◌, ◌↔◌, IfOk, IsErrOf};
-    ghost use Rattle.macs_disk.specs.Memory.{blank};
+    ghost use Rattle.macs_disk.specs.Memory.{blank_memory};
     ghost use Rattle.macs_disk.specs.MemDisks.{memory_of};
 
     /// A disk of so many sectors of 512 zeros, all of them durable.
     pub fn new(alloc: A, sectors: u64) -> Result<MemDisk<A>, MemFault>
         ensures size { IsErrOf result MemFault.Size ↔ ((sectors ≡ 0) ⊎ (65536 < sectors)) }
-        ensures ok { IfOk result (λ it. memory_of it ≡ blank sectors) }
+        ensures ok { IfOk result (λ it. memory_of it ≡ blank_memory sectors) }
     {
         if sectors == 0 || sectors > MOST_SECTORS {
             return Err(MemFault::Size);
@@ -196,7 +196,7 @@ impl<A: Allocator + Copy> MemDisk<A> {
 impl<A: Allocator> MemDisk<A> {
     ghost use Rattle.std.specs.Prelude.{◌≡◌, ◌<◌, true, false};
     ghost use Rattle.macs_disk.specs.Disk.{MayLeave, now};
-    ghost use Rattle.macs_disk.specs.Memory.{crashed, torn};
+    ghost use Rattle.macs_disk.specs.Memory.{memory_after_loss, with_choice};
     ghost use Rattle.macs_disk.specs.MemDisks.{disk_of, memory_of};
 
     /// Whether sector `at` is pending: written, and since then neither a sync that succeeded nor a
@@ -222,7 +222,7 @@ impl<A: Allocator> MemDisk<A> {
     pub fn tear(&mut self, at: u64, octets: &[u8; 512]) -> bool
         requires { at < (disk_of self.old).sectors }
         ensures result { result ≡ (now (disk_of self.old)).pending at }
-        ensures chosen { result ≡ true → memory_of self.new ≡ torn (memory_of self.old) at octets.now }
+        ensures chosen { result ≡ true → memory_of self.new ≡ with_choice (memory_of self.old) at octets.now }
         ensures same { result ≡ false → memory_of self.new ≡ memory_of self.old }
     {
         if !self.pending[at as usize] {
@@ -237,7 +237,7 @@ impl<A: Allocator> MemDisk<A> {
     /// is no call of the device: clock and failures stand. The record is emptied, so that at each
     /// moment up to the clock the disk's state is now this one.
     pub fn crash(&mut self)
-        ensures crashed { memory_of self.new ≡ crashed (memory_of self.old) }
+        ensures crashed { memory_of self.new ≡ memory_after_loss (memory_of self.old) }
         ensures image { MayLeave (disk_of self.old) (now (disk_of self.new)).seen }
     {
         choose(&mut self.seen, &self.choices);

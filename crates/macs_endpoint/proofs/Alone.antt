@@ -3,13 +3,13 @@ use Rattle.std.proofs.Common.{inr}
 use Rattle.macs_disk.specs.Disk.{Disk}
 use Rattle.macs_disk.proofs.Moments.{Leaves-start, Works-start}
 use Rattle.macs_txsc.specs.declared.channel.Tx.{Tx}
-use Rattle.macs_rxsc.specs.View as rxsc
+use Rattle.macs_rxsc.specs.Value as rxsc
 use Rattle.macs_endpoint.specs.Calls.{Behaves, Fails, IsCall}
 use Rattle.macs_endpoint.specs.Restart.{FitsCall}
 use Rattle.macs_endpoint.specs.State.{Call, Reply}
 use Rattle.macs_endpoint.specs.Value.{EndpointValue, IsBacked, disk_in, state_of}
 
-module _ {D : Type 0} (disk_of : D → Disk) (old : EndpointValue D) (tx : Tx) (rx : rxsc.Kept) where
+module _ {D : Type 0} (disk_of : D → Disk) (old : EndpointValue D) (tx : Tx) (rx : rxsc.RxValue) where
   abbrev pub alone : EndpointValue D
   alone = record { store = old.store; tx = tx; rx = rx; in_hand = old.in_hand }
 

@@ -11,15 +11,15 @@ use Rattle.macs_disk.specs.Disk as disk
 use Rattle.macs_disk.specs.Runs.{Leaves}
 use Rattle.macs_disk.proofs.Moments.{Leaves-now, Leaves-weaker}
 use Rattle.macs_journal.specs.Areas.{least_sectors}
-use Rattle.macs_txsc.specs.View as txsc
+use Rattle.macs_txsc.specs.Value as txsc
 use Rattle.macs_txsc.specs.declared.channel.Tx.{Tx}
 use Rattle.macs_rxsc.specs.Receive.{Numbers}
-use Rattle.macs_rxsc.specs.View as rxsc
+use Rattle.macs_rxsc.specs.Value as rxsc
 use Rattle.macs_store.specs.Found.{CommitLeaves}
 use Rattle.macs_store.specs.Keeps.{Commits}
 use Rattle.macs_store.specs.Value.{standing_in}
 use Rattle.macs_store.specs.Value as store
-use Rattle.macs_store.specs.Standing.{Standing, accepted, ceilings_after}
+use Rattle.macs_store.specs.Standing.{Standing, standing_or_refusal, ceilings_after}
 use Rattle.macs_store.specs.Table.{standing_of}
 use Rattle.macs_store.specs.declared.fault.CommitFault.{CommitFault}
 use Rattle.macs_store.specs.declared.fault.CommitFault.TheVariants.{AreaFull, Disk, Refused, Stopped}
@@ -27,8 +27,8 @@ use Rattle.macs_endpoint.specs.Calls.{Fails, IsCall}
 use Rattle.macs_endpoint.specs.Counting.{channels_after}
 use Rattle.macs_endpoint.specs.Value.{AreChannels, AreWithin, EndpointValue, IsBacked, IsSoundEndpoint, disk_in, is_stopped, state_of}
 use Rattle.macs_endpoint.specs.Limits.{IsLimited, IsStill}
-use Rattle.macs_endpoint.specs.Restart.{Fits, FitsCall, during}
-use Rattle.macs_endpoint.specs.State.{Accepts, Commands, Logs, Ran, State, halted, holding}
+use Rattle.macs_endpoint.specs.Restart.{Fits, FitsCall, state_during}
+use Rattle.macs_endpoint.specs.State.{Accepts, Commands, Logs, Ran, State, after_fault, with_in_hand}
 use Rattle.macs_endpoint.specs.Step.{Step, next_after, numbers_after}
 use Rattle.macs_endpoint.proofs.Alone.{alone-call}
 use Rattle.macs_endpoint.proofs.Fitting.{AreAhead, accept-parts, ahead-within, command-ahead, fits-commit, kept-ahead, kept-backed}
@@ -41,22 +41,22 @@ not_true false never = refl
 
 -- a command that is not refused is accepted
 unrefused : (s : Standing) (command : Command) (result : Result Config Refusal)
-    → ((refusal : Refusal) → accepted s command result ≡ Err refusal → ⊥) → IsOk result
+    → ((refusal : Refusal) → standing_or_refusal s command result ≡ Err refusal → ⊥) → IsOk result
 unrefused s command (Ok config) never = refl
 unrefused s command (Err refusal) never = absurd (never refusal refl)
 
-by_accepted : (s : Standing) (command : Command) (result : Result Config Refusal) → IsOk (accepted s command result) → IsOk result
+by_accepted : (s : Standing) (command : Command) (result : Result Config Refusal) → IsOk (standing_or_refusal s command result) → IsOk result
 by_accepted s command (Ok config) is = refl
 by_accepted s command (Err refusal) is = absurd cc
 
-by_refused : (s : Standing) (command : Command) (result : Result Config Refusal) (refusal : Refusal) → accepted s command result ≡ Err refusal
+by_refused : (s : Standing) (command : Command) (result : Result Config Refusal) (refusal : Refusal) → standing_or_refusal s command result ≡ Err refusal
     → result ≡ Err refusal
 by_refused s command (Ok config) refusal is = absurd cc
 by_refused s command (Err other) refusal is = let same : other ≡ refusal = cc in ap Err same
 
 -- a command is in hand while it is kept
-during-held : (s : State) (command : Command) → s.stopped ≡ false → Accepts s command → during s (Commands command) ≡ holding s command
-during-held s command running accepts = λ i. if not (running i) && accepts i then holding s command else s
+during-held : (s : State) (command : Command) → s.stopped ≡ false → Accepts s command → state_during s (Commands command) ≡ with_in_hand s command
+during-held s command running accepts = λ i. if not (running i) && accepts i then with_in_hand s command else s
 
 -- ---- what does not change
 
@@ -136,7 +136,7 @@ module _ {D : Type 0} (disk_of : D → disk.Disk) (e : EndpointValue D) (kept : 
       let old = state_of e logs in
       Leaves-weaker (disk_in disk_of e) new (CommitLeaves (standing_in e.store) command) (FitsCall sectors old (Commands command) later)
       (λ image left. inl (subst (λ (s : State). Fits this_edition sectors image s) (sym (during-held old command running accepts))
-      (fits-commit sectors image backed.size (holding old command) (standing_in e.store).ceilings command (kept-ahead e kept) ranges refl left)))
+      (fits-commit sectors image backed.size (with_in_hand old command) (standing_in e.store).ceilings command (kept-ahead e kept) ranges refl left)))
       leaves
 
   -- ---- a device call failed
@@ -159,13 +159,13 @@ module _ {D : Type 0} (disk_of : D → disk.Disk) (e : EndpointValue D) (kept : 
     pub cut-kept : IsSoundEndpoint cut
     cut-kept = kept-held e kept s (Some command) cut_same (λ running. absurd (let stopped = (commits.halted refl).0 in cc))
 
-    cut_state : (logs : Logs) → state_of cut logs ≡ halted (holding (state_of e logs) command)
+    cut_state : (logs : Logs) → state_of cut logs ≡ after_fault (with_in_hand (state_of e logs) command)
     cut_state logs = λ i. record {
       edition = this_edition;
       identity = (cut_same i).identity;
       config = (cut_same i).config;
-      next = (txsc.side_of e.tx).next;
-      numbers = (rxsc.side_of e.rx).numbers;
+      next = (txsc.tx_side_of e.tx).next;
+      numbers = (rxsc.rx_side_of e.rx).numbers;
       logs = logs;
       stopped = (commits.halted refl).0 i;
       in_hand = Some command;
@@ -180,7 +180,7 @@ module _ {D : Type 0} (disk_of : D → disk.Disk) (e : EndpointValue D) (kept : 
           size = size;
           stored = λ running. absurd (let stopped = (commits.halted refl).0 in cc);
           fits = λ logs image left. subst (λ (x : State). Fits this_edition sectors image x) (sym (cut_state logs))
-              (fits-commit sectors image size (halted (holding (state_of e logs) command)) (standing_in e.store).ceilings command (kept-ahead e kept) ranges refl
+              (fits-commit sectors image size (after_fault (with_in_hand (state_of e logs) command)) (standing_in e.store).ceilings command (kept-ahead e kept) ranges refl
               (Leaves-now (disk_in disk_of e) (disk_in disk_of cut) (CommitLeaves (standing_in e.store) command) leaves image left));
         }
 
@@ -206,10 +206,10 @@ module _ {D : Type 0} (disk_of : D → disk.Disk) (e : EndpointValue D) (kept : 
 
   -- ---- the command was kept
 
-  module _ (s : store.StoreValue D) (commits : Commits disk_of e.store command (Ok tt) s) (tx : Tx) (rx : rxsc.Kept)
+  module _ (s : store.StoreValue D) (commits : Commits disk_of e.store command (Ok tt) s) (tx : Tx) (rx : rxsc.RxValue)
       (channels : AreChannels tx rx (standing_in s))
-      (next : (txsc.side_of tx).next ≡ next_after command (txsc.side_of e.tx).next)
-      (numbers : (rxsc.side_of rx).numbers ≡ numbers_after command (rxsc.side_of e.rx).numbers) where
+      (next : (txsc.tx_side_of tx).next ≡ next_after command (txsc.tx_side_of e.tx).next)
+      (numbers : (rxsc.rx_side_of rx).numbers ≡ numbers_after command (rxsc.rx_side_of e.rx).numbers) where
     abbrev done : EndpointValue D
     done = record { store = s; tx = tx; rx = rx; in_hand = e.in_hand }
 
@@ -224,15 +224,15 @@ module _ {D : Type 0} (disk_of : D → disk.Disk) (e : EndpointValue D) (kept : 
         let old = standing_in e.store in
         let parts = accept-parts old command (standing_in s) commits.done in
         let made = parts.2 in
-        let first = command-ahead old.identity command (txsc.side_of e.tx).next (rxsc.side_of e.rx).numbers old.ceilings ranges (kept-ahead e kept) in
-        let second : AreAhead old.identity (txsc.side_of tx).next (rxsc.side_of rx).numbers
+        let first = command-ahead old.identity command (txsc.tx_side_of e.tx).next (rxsc.rx_side_of e.rx).numbers old.ceilings ranges (kept-ahead e kept) in
+        let second : AreAhead old.identity (txsc.tx_side_of tx).next (rxsc.rx_side_of rx).numbers
         (ceilings_after old.identity command old.ceilings) =
-        subst (λ (m : List ℕ → ℕ → Option Numbers). AreAhead old.identity (txsc.side_of tx).next m
+        subst (λ (m : List ℕ → ℕ → Option Numbers). AreAhead old.identity (txsc.tx_side_of tx).next m
         (ceilings_after old.identity command old.ceilings)) (sym numbers)
-        (subst (λ (n : ℕ → Option ℕ). AreAhead old.identity n (numbers_after command (rxsc.side_of e.rx).numbers)
+        (subst (λ (n : ℕ → Option ℕ). AreAhead old.identity n (numbers_after command (rxsc.rx_side_of e.rx).numbers)
         (ceilings_after old.identity command old.ceilings)) (sym next) first) in
-        let third : AreAhead (standing_in s).identity (txsc.side_of tx).next (rxsc.side_of rx).numbers (standing_in s).ceilings =
-        subst (λ (x : Standing). AreAhead x.identity (txsc.side_of tx).next (rxsc.side_of rx).numbers x.ceilings) (sym made) second in
+        let third : AreAhead (standing_in s).identity (txsc.tx_side_of tx).next (rxsc.rx_side_of rx).numbers (standing_in s).ceilings =
+        subst (λ (x : Standing). AreAhead x.identity (txsc.tx_side_of tx).next (rxsc.rx_side_of rx).numbers x.ceilings) (sym made) second in
         record {
           identity = subst (λ (x : Standing). IsIdentity x.identity) (sym made) kept.identity;
           channels = channels;

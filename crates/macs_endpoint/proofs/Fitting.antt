@@ -11,16 +11,16 @@ use Rattle.macs_config.specs.declared.refusal.Refusal.{Refusal}
 use Rattle.macs_disk.specs.Disk.{Disk}
 use Rattle.macs_disk.specs.States.{Image}
 use Rattle.macs_journal.specs.Areas.{least_sectors}
-use Rattle.macs_txsc.specs.View as txsc
+use Rattle.macs_txsc.specs.Value as txsc
 use Rattle.macs_txsc.specs.declared.channel.Tx.{Tx}
-use Rattle.macs_rxsc.specs.Receive.{Numbers, put_numbers, started, windowed}
-use Rattle.macs_rxsc.specs.View as rxsc
-use Rattle.macs_store.specs.Found.{CommitLeaves, Finds}
+use Rattle.macs_rxsc.specs.Receive.{Numbers, put_numbers, first_numbers, under_window}
+use Rattle.macs_rxsc.specs.Value as rxsc
+use Rattle.macs_store.specs.Found.{CommitLeaves, FindsStanding}
 use Rattle.macs_store.specs.Value.{IsStored, standing_in}
-use Rattle.macs_store.specs.Standing.{Ceilings, Standing, accept, accepted, ahead, ceilings_after}
+use Rattle.macs_store.specs.Standing.{Ceilings, Standing, accept, standing_or_refusal, ahead, ceilings_after}
 use Rattle.macs_store.proofs.Keeping.{stored-image}
 use Rattle.macs_endpoint.specs.Value.{AreChannels, AreWithin, IsBacked, IsSoundEndpoint, IsRxWithin, IsTxWithin, EndpointValue, disk_in, state_of}
-use Rattle.macs_endpoint.specs.Restart.{Fits, Resumes, RxRises, TxRises, opening}
+use Rattle.macs_endpoint.specs.Restart.{Fits, Resumes, RxRises, TxRises, opened_state}
 use Rattle.macs_endpoint.specs.State.{Logs, State}
 use Rattle.macs_endpoint.specs.Step.{next_after, numbers_after}
 
@@ -32,26 +32,26 @@ pub record AreAhead (identity : Identity) (next : ℕ → Option ℕ) (numbers :
   pub rx_ahead : (sci : List ℕ) (an : ℕ) → IsRxWithin identity.rx_block (numbers sci an) (c.rx sci an)
 
 -- those of channels, and of what stands
-pub channels-ahead : (tx : Tx) (rx : rxsc.Kept) (s : Standing) → AreChannels tx rx s → AreWithin tx rx s.identity
-    → AreAhead s.identity (txsc.side_of tx).next (rxsc.side_of rx).numbers s.ceilings
+pub channels-ahead : (tx : Tx) (rx : rxsc.RxValue) (s : Standing) → AreChannels tx rx s → AreWithin tx rx s.identity
+    → AreAhead s.identity (txsc.tx_side_of tx).next (rxsc.rx_side_of rx).numbers s.ceilings
 channels-ahead tx rx s channels within = record {
-  tx_ahead = subst (λ (c : ℕ → Option ℕ). (an : ℕ) → IsTxWithin s.identity.tx_block ((txsc.side_of tx).next an) (c an))
+  tx_ahead = subst (λ (c : ℕ → Option ℕ). (an : ℕ) → IsTxWithin s.identity.tx_block ((txsc.tx_side_of tx).next an) (c an))
       channels.tx_ceilings within.tx_within;
   rx_ahead = subst (λ (c : List ℕ → ℕ → Option ℕ). (sci : List ℕ) (an : ℕ)
-      → IsRxWithin s.identity.rx_block ((rxsc.side_of rx).numbers sci an) (c sci an)) channels.rx_ceilings within.rx_within;
+      → IsRxWithin s.identity.rx_block ((rxsc.rx_side_of rx).numbers sci an) (c sci an)) channels.rx_ceilings within.rx_within;
 }
 
-pub ahead-within : (tx : Tx) (rx : rxsc.Kept) (s : Standing) → AreChannels tx rx s
-    → AreAhead s.identity (txsc.side_of tx).next (rxsc.side_of rx).numbers s.ceilings → AreWithin tx rx s.identity
+pub ahead-within : (tx : Tx) (rx : rxsc.RxValue) (s : Standing) → AreChannels tx rx s
+    → AreAhead s.identity (txsc.tx_side_of tx).next (rxsc.rx_side_of rx).numbers s.ceilings → AreWithin tx rx s.identity
 ahead-within tx rx s channels are = record {
-  tx_within = subst (λ (c : ℕ → Option ℕ). (an : ℕ) → IsTxWithin s.identity.tx_block ((txsc.side_of tx).next an) (c an))
+  tx_within = subst (λ (c : ℕ → Option ℕ). (an : ℕ) → IsTxWithin s.identity.tx_block ((txsc.tx_side_of tx).next an) (c an))
       (sym channels.tx_ceilings) are.tx_ahead;
   rx_within = subst (λ (c : List ℕ → ℕ → Option ℕ). (sci : List ℕ) (an : ℕ)
-      → IsRxWithin s.identity.rx_block ((rxsc.side_of rx).numbers sci an) (c sci an)) (sym channels.rx_ceilings) are.rx_ahead;
+      → IsRxWithin s.identity.rx_block ((rxsc.rx_side_of rx).numbers sci an) (c sci an)) (sym channels.rx_ceilings) are.rx_ahead;
 }
 
 pub kept-ahead : {D : Type 0} (e : EndpointValue D) → IsSoundEndpoint e
-    → AreAhead (standing_in e.store).identity (txsc.side_of e.tx).next (rxsc.side_of e.rx).numbers (standing_in e.store).ceilings
+    → AreAhead (standing_in e.store).identity (txsc.tx_side_of e.tx).next (rxsc.rx_side_of e.rx).numbers (standing_in e.store).ceilings
 kept-ahead e kept = channels-ahead e.tx e.rx (standing_in e.store) kept.channels kept.within
 
 -- ---- one place changed
@@ -88,7 +88,7 @@ rx-put block numbers c at number n ceiling here all =
     rx-put_all block numbers c at (put (numbers at) number n) (put (c at) number ceiling)
     (λ an. rx_by block (an == number) n (numbers at an) ceiling (c at an) here (all at an)) all
 
-rx_windowed : (block window : ℕ) (n : Option Numbers) (c : Option ℕ) → IsRxWithin block n c → IsRxWithin block (option_map (windowed window) n) c
+rx_windowed : (block window : ℕ) (n : Option Numbers) (c : Option ℕ) → IsRxWithin block n c → IsRxWithin block (option_map (under_window window) n) c
 rx_windowed block window None None within = tt
 rx_windowed block window None (Some c) within = absurd within
 rx_windowed block window (Some n) None within = absurd within
@@ -126,14 +126,14 @@ command-ahead identity (RxDrop sci) next numbers c ranges are = record {
 }
 command-ahead identity (RxInstall sci an key start offset) next numbers c ranges are = record {
   tx_ahead = are.tx_ahead;
-  rx_ahead = rx-put identity.rx_block numbers c.rx sci an (Some (started start)) (Some start) (omega arith, omega arith) are.rx_ahead;
+  rx_ahead = rx-put identity.rx_block numbers c.rx sci an (Some (first_numbers start)) (Some start) (omega arith, omega arith) are.rx_ahead;
 }
 command-ahead identity (RxRemove sci an) next numbers c ranges are = record {
   tx_ahead = are.tx_ahead;
   rx_ahead = rx-put identity.rx_block numbers c.rx sci an None None tt are.rx_ahead;
 }
 
-accepted_parts : (s : Standing) (command : Command) (result : Result Config Refusal) (made : Standing) → accepted s command result ≡ Ok made
+accepted_parts : (s : Standing) (command : Command) (result : Result Config Refusal) (made : Standing) → standing_or_refusal s command result ≡ Ok made
     → (config : Config) × (result ≡ Ok config)
     × (made ≡ record s { config = config; ceilings = ceilings_after s.identity command s.ceilings })
 accepted_parts s command (Ok config) made is = (config, refl, cc)
@@ -153,7 +153,7 @@ tx_rises block None (Some ceiling) within = absurd within
 tx_rises block (Some next) None within = absurd within
 tx_rises block (Some next) (Some ceiling) within = (ceiling, refl, within.0, within.1, within.2)
 
-rx_rises : (block : ℕ) (numbers : Option Numbers) (ceiling : Option ℕ) → IsRxWithin block numbers ceiling → RxRises block numbers (option_map started ceiling)
+rx_rises : (block : ℕ) (numbers : Option Numbers) (ceiling : Option ℕ) → IsRxWithin block numbers ceiling → RxRises block numbers (option_map first_numbers ceiling)
 rx_rises block None None within = refl
 rx_rises block None (Some ceiling) within = absurd within
 rx_rises block (Some numbers) None within = absurd within
@@ -161,7 +161,7 @@ rx_rises block (Some numbers) (Some ceiling) within = (ceiling, refl, within.0, 
 
 -- an endpoint goes on from the ceilings of its packet numbers
 pub resumed : (s : State) (c : Ceilings) → AreAhead s.identity s.next s.numbers c
-    → Resumes s (opening (record { edition = s.edition; identity = s.identity; config = s.config; ceilings = c }) s.logs)
+    → Resumes s (opened_state (record { edition = s.edition; identity = s.identity; config = s.config; ceilings = c }) s.logs)
 resumed s c are = record {
   edition = record { channels = omega arith; long_keys = λ is. is };
   identity = refl;
@@ -181,12 +181,12 @@ standing_with s c = record { edition = s.edition; identity = s.identity; config 
 
 module _ (sectors : ℕ) (image : Image) (size : least_sectors ≤ sectors) where
   -- ceilings that are not too far ahead
-  pub fits-ahead : (s : State) (c : Ceilings) → AreAhead s.identity s.next s.numbers c → Finds s.edition image (standing_with s c) → Fits s.edition sectors image s
+  pub fits-ahead : (s : State) (c : Ceilings) → AreAhead s.identity s.next s.numbers c → FindsStanding s.edition image (standing_with s c) → Fits s.edition sectors image s
   fits-ahead s c are finds = record { found = standing_with s c; is_found = (size, finds); restart = inl (resumed s c are) }
 
   -- what the command in hand makes of the configuration
   pub fits-command : (s : State) (c : Ceilings) (command : Command) (made : Standing) → AreAhead s.identity s.next s.numbers c
-      → IsCommand this_edition command → s.in_hand ≡ Some command → accept (standing_with s c) command ≡ Ok made → Finds s.edition image made
+      → IsCommand this_edition command → s.in_hand ≡ Some command → accept (standing_with s c) command ≡ Ok made → FindsStanding s.edition image made
       → Fits s.edition sectors image s
   fits-command s c command made are ranges holds accepts finds =
       let parts = accept-parts (standing_with s c) command made accepts in
@@ -201,7 +201,7 @@ module _ (sectors : ℕ) (image : Image) (size : least_sectors ≤ sectors) wher
       command-ahead s.identity command s.next s.numbers c ranges are in
       record {
         found = standing_with mid (ceilings_after s.identity command c);
-        is_found = (size, subst (Finds s.edition image) parts.2 finds);
+        is_found = (size, subst (FindsStanding s.edition image) parts.2 finds);
         restart = inr (command, mid, holds, (config, parts.1, refl), resumed mid (ceilings_after s.identity command c) later);
       }
 
@@ -217,7 +217,7 @@ module _ (sectors : ℕ) (image : Image) (size : least_sectors ≤ sectors) wher
 
 module _ {D : Type 0} (disk_of : D → Disk) (e : EndpointValue D) (kept : IsSoundEndpoint e) where
   -- an image that stands for what it has in memory
-  pub kept-fits : (sectors : ℕ) → least_sectors ≤ sectors → (logs : Logs) (image : Image) → Finds this_edition image (standing_in e.store)
+  pub kept-fits : (sectors : ℕ) → least_sectors ≤ sectors → (logs : Logs) (image : Image) → FindsStanding this_edition image (standing_in e.store)
       → Fits this_edition sectors image (state_of e logs)
   kept-fits sectors size logs image finds =
       fits-ahead sectors image size (state_of e logs) (standing_in e.store).ceilings (kept-ahead e kept) finds

@@ -5,7 +5,7 @@ use Rattle.std.specs.Option.{option_map}
 use Rattle.std.proofs.Math.Nat.{max-eq_left}
 use Rattle.std.proofs.Math.Path.{fun_ext}
 use Rattle.macs_frame.specs.declared.fields.Offset.{Offset}
-use Rattle.macs_config.specs.Apply.{apply, changed, chosen, offset_at, refusal_of}
+use Rattle.macs_config.specs.Apply.{apply, config_after, offset_or_zero, offset_at, refusal_of}
 use Rattle.macs_config.specs.Association.{is_confidential, offset_of, protection_of}
 use Rattle.macs_config.specs.Config.{Config}
 use Rattle.macs_config.specs.Tables.{put, put_at}
@@ -21,13 +21,13 @@ use Rattle.macs_config.specs.declared.refusal.Refusal.{Refusal}
 use Rattle.macs_config.proofs.Channels.{bytes_eq-itself}
 use Rattle.macs_config.proofs.Kept.{applied_by}
 use Rattle.macs_txsc.specs.Transmit.{TxSide}
-use Rattle.macs_txsc.specs.View as txsc
+use Rattle.macs_txsc.specs.Value as txsc
 use Rattle.macs_txsc.specs.declared.channel.Tx.{Tx}
-use Rattle.macs_rxsc.specs.Receive.{AreOrdered, Numbers, RxSide, Stands, put_numbers, started, windowed}
-use Rattle.macs_rxsc.specs.View as rxsc
-use Rattle.macs_store.specs.Standing.{Standing, accept, accepted, ahead, ceilings_after}
+use Rattle.macs_rxsc.specs.Receive.{AreOrdered, Numbers, RxSide, IsNumbered, put_numbers, first_numbers, under_window}
+use Rattle.macs_rxsc.specs.Value as rxsc
+use Rattle.macs_store.specs.Standing.{Standing, accept, standing_or_refusal, ahead, ceilings_after}
 use Rattle.macs_endpoint.specs.Value.{AreChannels}
-use Rattle.macs_endpoint.specs.State.{receiving, transmitting}
+use Rattle.macs_endpoint.specs.State.{rx_side_with, tx_side_with}
 use Rattle.macs_endpoint.specs.Step.{numbers_after}
 
 -- ---- a command that is accepted
@@ -37,9 +37,9 @@ abbrev with_config : Standing → Command → Config → Standing
 with_config s command config = record s { config = config; ceilings = ceilings_after s.identity command s.ceilings }
 
 abbrev made : Standing → Command → Standing
-made s command = with_config s command (changed s.config command)
+made s command = with_config s command (config_after s.config command)
 
-accepted_by : (s : Standing) (command : Command) (outcome : Result Config Refusal) (after : Standing) → accepted s command outcome ≡ Ok after
+accepted_by : (s : Standing) (command : Command) (outcome : Result Config Refusal) (after : Standing) → standing_or_refusal s command outcome ≡ Ok after
     → (config : Config) × (outcome ≡ Ok config) × (with_config s command config ≡ after)
 accepted_by s command (Ok config) after is = (config, refl, cc)
 accepted_by s command (Err refusal) after is = cc
@@ -47,7 +47,7 @@ accepted_by s command (Err refusal) after is = cc
 made-is : (s : Standing) (command : Command) (after : Standing) → accept s command ≡ Ok after → made s command ≡ after
 made-is s command after done =
     let by_config = accepted_by s command (apply s.edition s.identity s.config command) after done in
-    let by_tests = applied_by (refusal_of s.edition s.identity s.config command) (changed s.config command) by_config.0 by_config.1 in
+    let by_tests = applied_by (refusal_of s.edition s.identity s.config command) (config_after s.config command) by_config.0 by_config.1 in
     ap (with_config s command) by_tests.1 ∙ by_config.2
 
 -- ---- tables
@@ -60,7 +60,7 @@ here_at f at x = ap (λ (b : Bool). cond b x (f at)) (bytes_eq-itself at)
 
 -- ---- the same window
 
-same_numbers : (window : ℕ) (sa : Option RxSa) (n : Option Numbers) (ceiling : Option ℕ) → Stands window sa n ceiling → option_map (windowed window) n ≡ n
+same_numbers : (window : ℕ) (sa : Option RxSa) (n : Option Numbers) (ceiling : Option ℕ) → IsNumbered window sa n ceiling → option_map (under_window window) n ≡ n
 same_numbers window sa None ceiling stands = refl
 same_numbers window None (Some n) None stands = absurd stands
 same_numbers window None (Some n) (Some ceiling) stands = absurd stands
@@ -70,7 +70,7 @@ same_numbers window (Some sa) (Some n) (Some ceiling) stands =
 
 -- under another window
 abbrev all_windowed : (List ℕ → ℕ → Option Numbers) → ℕ → List ℕ → ℕ → Option Numbers
-all_windowed numbers window sci an = option_map (windowed window) (numbers sci an)
+all_windowed numbers window sci an = option_map (under_window window) (numbers sci an)
 
 pub window-same : (side new : RxSide) (ceilings : List ℕ → ℕ → Option ℕ) (validate : Validate) (replay : Replay)
     → ((sci : List ℕ) (an : ℕ) → AreOrdered side ceilings sci an)
@@ -93,7 +93,7 @@ with_tx side an start sa = record side { tx = put side.tx an sa; next = put side
 abbrev pub with_rx : RxSide → List ℕ → ℕ → ℕ → Option RxSa → RxSide
 with_rx side sci an start sa = record side {
   rx = put_at side.rx sci (put (side.rx sci) an sa);
-  numbers = put_numbers side.numbers sci an (Some (started start));
+  numbers = put_numbers side.numbers sci an (Some (first_numbers start));
 }
 
 abbrev protected_so : TxSa → Protection → Option TxSa
@@ -109,49 +109,49 @@ tx_made sa confidential offset found stands secret from is same =
 
 -- ---- sides that follow
 
-module _ (before after : Standing) (tx : Tx) (rx : rxsc.Kept) (are : AreChannels tx rx before) where
+module _ (before after : Standing) (tx : Tx) (rx : rxsc.RxValue) (are : AreChannels tx rx before) where
   abbrev Accepts : Command → Type 0
   Accepts command = accept before command ≡ Ok after
 
   -- what the transmit side becomes
-  tx_follows : (command : Command) (tx' : Tx) (f : TxSide → TxSide) → txsc.side_of tx' ≡ f (txsc.side_of tx)
-      → ((next : ℕ → Option ℕ) → f (transmitting before.identity before.config next)
-      ≡ transmitting (made before command).identity (made before command).config (f (transmitting before.identity before.config next)).next)
-      → txsc.side_of tx' ≡ transmitting (made before command).identity (made before command).config (txsc.side_of tx').next
+  tx_follows : (command : Command) (tx' : Tx) (f : TxSide → TxSide) → txsc.tx_side_of tx' ≡ f (txsc.tx_side_of tx)
+      → ((next : ℕ → Option ℕ) → f (tx_side_with before.identity before.config next)
+      ≡ tx_side_with (made before command).identity (made before command).config (f (tx_side_with before.identity before.config next)).next)
+      → txsc.tx_side_of tx' ≡ tx_side_with (made before command).identity (made before command).config (txsc.tx_side_of tx').next
   tx_follows command tx' f is fits =
       let side = is ∙ ap f are.tx_is in
-      side ∙ fits (txsc.side_of tx).next
-      ∙ ap (λ (t : TxSide). transmitting (made before command).identity (made before command).config t.next) (sym side)
+      side ∙ fits (txsc.tx_side_of tx).next
+      ∙ ap (λ (t : TxSide). tx_side_with (made before command).identity (made before command).config t.next) (sym side)
 
   -- and the receive side
-  rx_follows : (command : Command) (rx' : rxsc.Kept) (f : RxSide → RxSide) → rxsc.side_of rx' ≡ f (rxsc.side_of rx)
-      → ((numbers : List ℕ → ℕ → Option Numbers) → f (receiving before.config numbers)
-      ≡ receiving (made before command).config (f (receiving before.config numbers)).numbers)
-      → rxsc.side_of rx' ≡ receiving (made before command).config (rxsc.side_of rx').numbers
+  rx_follows : (command : Command) (rx' : rxsc.RxValue) (f : RxSide → RxSide) → rxsc.rx_side_of rx' ≡ f (rxsc.rx_side_of rx)
+      → ((numbers : List ℕ → ℕ → Option Numbers) → f (rx_side_with before.config numbers)
+      ≡ rx_side_with (made before command).config (f (rx_side_with before.config numbers)).numbers)
+      → rxsc.rx_side_of rx' ≡ rx_side_with (made before command).config (rxsc.rx_side_of rx').numbers
   rx_follows command rx' f is fits =
       let side = is ∙ ap f are.rx_is in
-      side ∙ fits (rxsc.side_of rx).numbers
-      ∙ ap (λ (r : RxSide). receiving (made before command).config r.numbers) (sym side)
+      side ∙ fits (rxsc.rx_side_of rx).numbers
+      ∙ ap (λ (r : RxSide). rx_side_with (made before command).config r.numbers) (sym side)
 
   -- the window stays where it is not set
-  window-kept : (validate : Validate) → Accepts (SetValidate validate) → (rxsc.side_of rx).replay.window ≡ after.config.replay.window
+  window-kept : (validate : Validate) → Accepts (SetValidate validate) → (rxsc.rx_side_of rx).replay.window ≡ after.config.replay.window
   window-kept validate done =
       ap (λ (r : RxSide). r.replay.window) are.rx_is ∙ ap (λ (s : Standing). s.config.replay.window) (made-is before (SetValidate validate) after done)
 
   -- a policy that is set
   pub numbers-after : (command : Command) → Accepts command → (numbers : List ℕ → ℕ → Option Numbers)
       → ((validate : Validate) × (command ≡ SetValidate validate)) ⊎ ((on : Bool) × (window : ℕ) × (command ≡ SetReplay on window))
-      → numbers ≡ all_windowed (rxsc.side_of rx).numbers after.config.replay.window
-      → ((rxsc.side_of rx).replay.window ≡ after.config.replay.window → numbers ≡ (rxsc.side_of rx).numbers)
-      → numbers ≡ numbers_after command (rxsc.side_of rx).numbers
+      → numbers ≡ all_windowed (rxsc.rx_side_of rx).numbers after.config.replay.window
+      → ((rxsc.rx_side_of rx).replay.window ≡ after.config.replay.window → numbers ≡ (rxsc.rx_side_of rx).numbers)
+      → numbers ≡ numbers_after command (rxsc.rx_side_of rx).numbers
   numbers-after command done numbers (inl set) is same =
       let done' = subst (λ (x : Command). accept before x ≡ Ok after) set.1 done in
-      same (window-kept set.0 done') ∙ ap (λ (x : Command). numbers_after x (rxsc.side_of rx).numbers) (sym set.1)
+      same (window-kept set.0 done') ∙ ap (λ (x : Command). numbers_after x (rxsc.rx_side_of rx).numbers) (sym set.1)
   numbers-after command done numbers (inr set) is same =
       let done' = subst (λ (x : Command). accept before x ≡ Ok after) set.2 done in
-      is ∙ ap (λ (s : Standing). all_windowed (rxsc.side_of rx).numbers s.config.replay.window)
+      is ∙ ap (λ (s : Standing). all_windowed (rxsc.rx_side_of rx).numbers s.config.replay.window)
       (sym (made-is before (SetReplay set.0 set.1) after done'))
-      ∙ ap (λ (x : Command). numbers_after x (rxsc.side_of rx).numbers) (sym set.2)
+      ∙ ap (λ (x : Command). numbers_after x (rxsc.rx_side_of rx).numbers) (sym set.2)
 
   -- ---- an association is installed
 
@@ -160,7 +160,7 @@ module _ (before after : Standing) (tx : Tx) (rx : rxsc.Kept) (are : AreChannels
     tx_install = TxInstall an key start confidential offset
 
     abbrev tx_sa : TxSa
-    tx_sa = record { key = key; protection = protection_of confidential (chosen (offset_at offset)) }
+    tx_sa = record { key = key; protection = protection_of confidential (offset_or_zero (offset_at offset)) }
 
     tx_found : after.config.tx an ≡ Some tx_sa
     tx_found = ap (λ (s : Standing). s.config.tx an) (sym (made-is before tx_install after done)) ∙ here before.config.tx an (Some tx_sa)
@@ -178,11 +178,11 @@ module _ (before after : Standing) (tx : Tx) (rx : rxsc.Kept) (are : AreChannels
         let below : next ≤ ahead start before.identity.tx_block = omega arith in
         subst (λ (o : Option ℕ). IfSome o (λ ceiling. next ≤ ceiling)) (sym tx_ceiling) below
 
-    pub tx-installed : (next : ℕ) (tx' : Tx) → txsc.side_of tx' ≡ with_tx (txsc.side_of tx) an next (after.config.tx an)
+    pub tx-installed : (next : ℕ) (tx' : Tx) → txsc.tx_side_of tx' ≡ with_tx (txsc.tx_side_of tx) an next (after.config.tx an)
         → txsc.ceilings_of tx' ≡ put (txsc.ceilings_of tx) an (after.ceilings.tx an) → AreChannels tx' rx after
     tx-installed next tx' side ceilings =
         subst (λ (s : Standing). AreChannels tx' rx s) (made-is before tx_install after done) (record {
-          tx_is = tx_follows tx_install tx' (λ t. with_tx t an next (Some tx_sa)) (side ∙ ap (with_tx (txsc.side_of tx) an next) tx_found) (λ n. refl);
+          tx_is = tx_follows tx_install tx' (λ t. with_tx t an next (Some tx_sa)) (side ∙ ap (with_tx (txsc.tx_side_of tx) an next) tx_found) (λ n. refl);
           rx_is = are.rx_is;
           tx_ceilings = ceilings ∙ ap (put (txsc.ceilings_of tx) an) tx_ceiling
               ∙ ap (λ (f : ℕ → Option ℕ). put f an (Some (ahead start before.identity.tx_block))) are.tx_ceilings;
@@ -194,7 +194,7 @@ module _ (before after : Standing) (tx : Tx) (rx : rxsc.Kept) (are : AreChannels
     rx_install = RxInstall sci an key start offset
 
     abbrev rx_sa : RxSa
-    rx_sa = record { key = key; offset = chosen (offset_at offset) }
+    rx_sa = record { key = key; offset = offset_or_zero (offset_at offset) }
 
     rx_found : after.config.rx sci an ≡ Some rx_sa
     rx_found =
@@ -216,13 +216,13 @@ module _ (before after : Standing) (tx : Tx) (rx : rxsc.Kept) (are : AreChannels
         let below : next ≤ start = omega arith in
         subst (λ (o : Option ℕ). IfSome o (λ ceiling. next ≤ ceiling)) (sym rx_ceiling) below
 
-    pub rx-installed : (next : ℕ) (rx' : rxsc.Kept) → rxsc.side_of rx' ≡ with_rx (rxsc.side_of rx) sci an next (after.config.rx sci an)
+    pub rx-installed : (next : ℕ) (rx' : rxsc.RxValue) → rxsc.rx_side_of rx' ≡ with_rx (rxsc.rx_side_of rx) sci an next (after.config.rx sci an)
         → rxsc.ceilings_of rx' ≡ put_at (rxsc.ceilings_of rx) sci (put (rxsc.ceilings_of rx sci) an (after.ceilings.rx sci an)) → AreChannels tx rx' after
     rx-installed next rx' side ceilings =
         let table = λ (f : List ℕ → ℕ → Option ℕ) (ceiling : Option ℕ). put_at f sci (put (f sci) an ceiling) in
         subst (λ (s : Standing). AreChannels tx rx' s) (made-is before rx_install after done) (record {
           tx_is = are.tx_is;
-          rx_is = rx_follows rx_install rx' (λ r. with_rx r sci an next (Some rx_sa)) (side ∙ ap (with_rx (rxsc.side_of rx) sci an next) rx_found) (λ n. refl);
+          rx_is = rx_follows rx_install rx' (λ r. with_rx r sci an next (Some rx_sa)) (side ∙ ap (with_rx (rxsc.rx_side_of rx) sci an next) rx_found) (λ n. refl);
           tx_ceilings = are.tx_ceilings;
           rx_ceilings = ceilings ∙ ap (table (rxsc.ceilings_of rx)) rx_ceiling ∙ ap (λ (f : List ℕ → ℕ → Option ℕ). table f (Some start)) are.rx_ceilings;
         })

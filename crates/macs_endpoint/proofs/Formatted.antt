@@ -12,7 +12,7 @@ use Rattle.macs_journal.specs.Formatting.{first_content}
 use Rattle.macs_endpoint.specs.Formatting.{FormatLeaves}
 
 -- what a journal leaves, on a disk that is large enough
-formatted : (old : Disk) (identity : Identity) (image : Image) → least_sectors ≤ old.sectors → journal.FormatLeaves (now old) identity image
+formatted : (old : Disk) (identity : Identity) (image : Image) → least_sectors ≤ old.sectors → journal.IsOldNoneOrNew (now old) identity image
     → FormatLeaves old identity image
 formatted old identity image size left = elim left [
   | inl before ↦ inl before
@@ -25,13 +25,13 @@ formatted old identity image size left = elim left [
 module _ {D : Type 0} (disk_of : D → Disk) where
   -- a disk that is too small stays as it is
   pub format-leaves : (old new : D) (identity : Identity) → ((disk_of old).sectors < least_sectors → new ≡ old)
-      → Leaves (disk_of old) (disk_of new) (journal.FormatLeaves (now (disk_of old)) identity)
+      → Leaves (disk_of old) (disk_of new) (journal.IsOldNoneOrNew (now (disk_of old)) identity)
       → Leaves (disk_of old) (disk_of new) (FormatLeaves (disk_of old) identity)
   format-leaves old new identity untouched leaves = elim (cases_lt (disk_of old).sectors least_sectors) [
     | inl small ↦
         subst (λ (d : D). Leaves (disk_of old) (disk_of d) (FormatLeaves (disk_of old) identity)) (sym (untouched small))
         (Leaves-start (disk_of old) (FormatLeaves (disk_of old) identity) (λ image left. inl left))
     | inr size ↦
-        Leaves-weaker (disk_of old) (disk_of new) (journal.FormatLeaves (now (disk_of old)) identity) (FormatLeaves (disk_of old) identity)
+        Leaves-weaker (disk_of old) (disk_of new) (journal.IsOldNoneOrNew (now (disk_of old)) identity) (FormatLeaves (disk_of old) identity)
         (λ image left. formatted (disk_of old) identity image size left) leaves
   ]

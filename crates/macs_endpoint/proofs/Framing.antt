@@ -10,15 +10,15 @@ use Rattle.macs_config.specs.Tables.{put}
 use Rattle.macs_config.specs.declared.association.TxSa.{TxSa}
 use Rattle.macs_config.proofs.Tables.{put_all, put_at_all}
 use Rattle.macs_disk.specs.Disk.{Disk}
-use Rattle.macs_txsc.specs.Transmit.{Outgoing, TxSide, all_tx_faults, frame_of, is_at_ceiling, numbered, outgoing, outgoing_at, sent_at, sent_side, tx_counted, tx_faults}
-use Rattle.macs_txsc.specs.View as txsc
+use Rattle.macs_txsc.specs.Transmit.{Outgoing, TxSide, all_tx_faults, frame_of, is_at_ceiling, outgoing_if, outgoing, outgoing_at, side_after, side_after_frame, with_answer, tx_faults}
+use Rattle.macs_txsc.specs.Value as txsc
 use Rattle.macs_txsc.specs.declared.channel.Tx.{Tx}
 use Rattle.macs_txsc.specs.declared.fault.TxFault.{TxFault}
 use Rattle.macs_txsc.specs.declared.fault.TxFault.TheVariants.{Runt, TooLong, ForeignSource, NoEncodingSa, Exhausted, NoNumber}
-use Rattle.macs_rxsc.specs.Counting.{counted, counted_at}
-use Rattle.macs_rxsc.specs.Receive.{Arrival, Arrives, Numbers, Outcome, RxSide, Step, Tag, NoChannel, NoAssociation, BelowLowest, NotVerified, advanced, arrived, channel_of, given_at, held_back, is_below, is_strict, kind_of, put_numbers, seen_after, verdict_at}
+use Rattle.macs_rxsc.specs.Counting.{with_verdict, with_verdict_at}
+use Rattle.macs_rxsc.specs.Receive.{Arrival, Arrives, Numbers, Outcome, RxSide, Check, Tag, NoChannel, NoAssociation, BelowLowest, NotVerified, after_delivery, arrival_outcome, channel_of, given_at, after_hold, is_below, is_strict, kind_of, put_numbers, seen_after, verdict_at}
 use Rattle.macs_rxsc.specs.Receive as rx
-use Rattle.macs_rxsc.specs.View as rxsc
+use Rattle.macs_rxsc.specs.Value as rxsc
 use Rattle.macs_rxsc.specs.declared.verdict.Kind.{Kind}
 use Rattle.macs_rxsc.specs.declared.verdict.Kind.TheVariants.{Untagged, UnknownSci, UnusedSa, Invalid}
 use Rattle.macs_rxsc.specs.declared.verdict.Reason.{Reason}
@@ -31,7 +31,7 @@ use Rattle.macs_endpoint.specs.Counting.{tx_counters_after}
 use Rattle.macs_endpoint.specs.Value.{EndpointValue, IsRxWithin, IsSoundEndpoint, IsTxWithin, is_stopped, state_of}
 use Rattle.macs_endpoint.specs.Limits.{IsLimited}
 use Rattle.macs_endpoint.specs.Restart.{rx_limit}
-use Rattle.macs_endpoint.specs.State.{Logs, Protects, Protected, Received, State, no_logs, rx_side, transmitting, tx_side}
+use Rattle.macs_endpoint.specs.State.{Logs, Protects, Protected, Received, State, no_logs, rx_side, tx_side_with, tx_side}
 use Rattle.macs_endpoint.specs.State as state
 use Rattle.macs_endpoint.specs.Step as life
 use Rattle.macs_endpoint.specs.declared.fault.ProtectFault.{ProtectFault}
@@ -82,7 +82,7 @@ pub record Sends (side later : TxSide) (ceilings : ℕ → Option ℕ) (plain : 
   pub fault : (fault : TxFault) → (result ≡ Err fault) ↔ (first (all_tx_faults side ceilings plain) ≡ Some fault)
   pub number : IfOk result (λ pn. option_map (λ (o : Outgoing). o.pn) (outgoing side) ≡ Some pn)
   pub frame : OnOk result (option_map (λ (o : Outgoing). frame_of side o plain) (outgoing side) ≡ Some out)
-  pub sent : OnOk result (later ≡ sent_side side)
+  pub sent : OnOk result (later ≡ side_after_frame side)
   pub same : OnErr result (later ≡ side)
   pub empty : OnErr result (out ≡ [])
 
@@ -97,7 +97,7 @@ record Goes (side later : TxSide) (ceilings : ℕ → Option ℕ) (plain : List 
   pub frame : out ≡ frame_of side o plain
   pub sent : later ≡ record side { next = put side.next o.an (Some (o.pn + 1)) }
 
-numbered_next : (next : ℕ → Option ℕ) (an : ℕ) (sa : Option TxSa) (pn : Option ℕ) (o : Outgoing) → next an ≡ pn → numbered an sa pn ≡ Some o
+numbered_next : (next : ℕ → Option ℕ) (an : ℕ) (sa : Option TxSa) (pn : Option ℕ) (o : Outgoing) → next an ≡ pn → outgoing_if an sa pn ≡ Some o
     → next o.an ≡ Some o.pn
 numbered_next next an (Some sa) (Some pn) o at is =
     let same : ◌≡◌ {A = Outgoing} (record { an = an; sa = sa; pn = pn }) o = cc in
@@ -125,7 +125,7 @@ goes side later ceilings plain pn out sends =
       next_is = outgoing_next side side.encoding found.0 found.1;
       number = sym found.2;
       frame = mapped (λ (o : Outgoing). frame_of side o plain) (outgoing side) found.0 out found.1 sends.frame;
-      sent = sends.sent ∙ ap (sent_at side) found.1;
+      sent = sends.sent ∙ ap (side_after side) found.1;
     }
 
 -- the next number goes on below the ceiling
@@ -220,16 +220,16 @@ protect_limited old tx plain later (Err NoEncodingSa) out sends = tt
 protect_limited old tx plain later (Err Exhausted) out sends = tt
 
 module _ {D : Type 0} (old : EndpointValue D) (tx : Tx) (plain : List ℕ) (result : Result ℕ TxFault) (out : List ℕ) (kept : IsSoundEndpoint old)
-    (sends : Sends (txsc.side_of old.tx) (txsc.side_of tx) (txsc.ceilings_of old.tx) plain result out)
+    (sends : Sends (txsc.tx_side_of old.tx) (txsc.tx_side_of tx) (txsc.ceilings_of old.tx) plain result out)
     (ceilings : txsc.ceilings_of tx ≡ txsc.ceilings_of old.tx) where
   -- the same, in words of what stands
-  standing_sends : Sends (tx_side (state_of old no_logs)) (txsc.side_of tx) (standing_in old.store).ceilings.tx plain result out
+  standing_sends : Sends (tx_side (state_of old no_logs)) (txsc.tx_side_of tx) (standing_in old.store).ceilings.tx plain result out
   standing_sends =
-      subst (λ (side : TxSide). Sends side (txsc.side_of tx) (standing_in old.store).ceilings.tx plain result out) kept.channels.tx_is
-      (subst (λ (c : ℕ → Option ℕ). Sends (txsc.side_of old.tx) (txsc.side_of tx) c plain result out) kept.channels.tx_ceilings sends)
+      subst (λ (side : TxSide). Sends side (txsc.tx_side_of tx) (standing_in old.store).ceilings.tx plain result out) kept.channels.tx_is
+      (subst (λ (c : ℕ → Option ℕ). Sends (txsc.tx_side_of old.tx) (txsc.tx_side_of tx) c plain result out) kept.channels.tx_ceilings sends)
 
   -- numbers alone change, and stay below their ceilings
-  kept_with : (next : ℕ → Option ℕ) → txsc.side_of tx ≡ record (tx_side (state_of old no_logs)) { next = next }
+  kept_with : (next : ℕ → Option ℕ) → txsc.tx_side_of tx ≡ record (tx_side (state_of old no_logs)) { next = next }
       → ((an : ℕ) → IsTxWithin (standing_in old.store).identity.tx_block (next an) ((standing_in old.store).ceilings.tx an))
       → IsSoundEndpoint (with_tx old tx)
   kept_with next is within =
@@ -238,7 +238,7 @@ module _ {D : Type 0} (old : EndpointValue D) (tx : Tx) (plain : List ℕ) (resu
       record {
         identity = kept.identity;
         channels = record {
-          tx_is = subst (λ (side : TxSide). side ≡ transmitting s.identity s.config side.next) (sym is) refl;
+          tx_is = subst (λ (side : TxSide). side ≡ tx_side_with s.identity s.config side.next) (sym is) refl;
           rx_is = kept.channels.rx_is;
           tx_ceilings = same;
           rx_ceilings = kept.channels.rx_ceilings;
@@ -252,38 +252,38 @@ module _ {D : Type 0} (old : EndpointValue D) (tx : Tx) (plain : List ℕ) (resu
       }
 
 kept_sent : {D : Type 0} (old : EndpointValue D) (tx : Tx) (plain : List ℕ) (result : Result ℕ TxFault) (out : List ℕ) (kept : IsSoundEndpoint old)
-    (sends : Sends (txsc.side_of old.tx) (txsc.side_of tx) (txsc.ceilings_of old.tx) plain result out)
+    (sends : Sends (txsc.tx_side_of old.tx) (txsc.tx_side_of tx) (txsc.ceilings_of old.tx) plain result out)
     (ceilings : txsc.ceilings_of tx ≡ txsc.ceilings_of old.tx)
-    → Sends (tx_side (state_of old no_logs)) (txsc.side_of tx) (standing_in old.store).ceilings.tx plain result out
+    → Sends (tx_side (state_of old no_logs)) (txsc.tx_side_of tx) (standing_in old.store).ceilings.tx plain result out
     → IsSoundEndpoint (with_tx old tx)
 kept_sent old tx plain (Ok pn) out kept sends ceilings standing =
     let side = tx_side (state_of old no_logs) in
     let s = standing_in old.store in
-    let g = goes side (txsc.side_of tx) s.ceilings.tx plain pn out standing in
+    let g = goes side (txsc.tx_side_of tx) s.ceilings.tx plain pn out standing in
     kept_with old tx plain (Ok pn) out kept sends ceilings (put side.next g.o.an (Some (g.o.pn + 1))) g.sent
     (put_within s.identity.tx_block side.next s.ceilings.tx g.o.an g.o.pn (kept-ahead old kept).tx_ahead g.next_is g.below)
 kept_sent old tx plain (Err fault) out kept sends ceilings standing =
-    kept_with old tx plain (Err fault) out kept sends ceilings (txsc.side_of old.tx).next standing.same (kept-ahead old kept).tx_ahead
+    kept_with old tx plain (Err fault) out kept sends ceilings (txsc.tx_side_of old.tx).next standing.same (kept-ahead old kept).tx_ahead
 
 module _ {D : Type 0} (disk_of : D → Disk) (old : EndpointValue D) (tx : Tx) (plain : List ℕ) (result : Result ℕ TxFault) (out : List ℕ) (kept : IsSoundEndpoint old)
-    (sends : Sends (txsc.side_of old.tx) (txsc.side_of tx) (txsc.ceilings_of old.tx) plain result out)
+    (sends : Sends (txsc.tx_side_of old.tx) (txsc.tx_side_of tx) (txsc.ceilings_of old.tx) plain result out)
     (ceilings : txsc.ceilings_of tx ≡ txsc.ceilings_of old.tx) where
   pub protected-kept : IsSoundEndpoint (with_tx old tx)
   protected-kept = kept_sent old tx plain result out kept sends ceilings (standing_sends old tx plain result out kept sends ceilings)
 
-  counted_after : (result : Result ℕ TxFault) → txsc.counters_of tx ≡ tx_counted result (txsc.counters_of old.tx)
+  counted_after : (result : Result ℕ TxFault) → txsc.counters_of tx ≡ with_answer result (txsc.counters_of old.tx)
       → txsc.counters_of tx ≡ tx_counters_after (Protected (answered result) out) (txsc.counters_of old.tx)
   counted_after (Ok pn) is = is
   counted_after (Err fault) is = is
 
-  pub protected-call : is_stopped old ≡ false → txsc.counters_of tx ≡ tx_counted result (txsc.counters_of old.tx)
+  pub protected-call : is_stopped old ≡ false → txsc.counters_of tx ≡ with_answer result (txsc.counters_of old.tx)
       → IsCall disk_of old (Protects plain) (Protected (answered result) out) (with_tx old tx)
   protected-call running counters =
       let standing = standing_sends old tx plain result out kept sends ceilings in
       alone-call disk_of old tx old.rx (Protects plain) (Protected (answered result) out) refl (λ backed. kept-backed disk_of (with_tx old tx) protected-kept backed.size (backed.stored running)) (record {
-        step = λ logs. protect_step (state_of old logs) (txsc.side_of tx) (standing_in old.store).ceilings.tx plain result out running standing;
+        step = λ logs. protect_step (state_of old logs) (txsc.tx_side_of tx) (standing_in old.store).ceilings.tx plain result out running standing;
         ceilings = refl;
-        limited = protect_limited old tx plain (txsc.side_of tx) result out standing;
+        limited = protect_limited old tx plain (txsc.tx_side_of tx) result out standing;
         still = refl;
         tx_counters = counted_after result counters;
         rx_counters = refl;
@@ -311,20 +311,20 @@ abbrev delivered : RxSide → Arrival → Outcome
 delivered side a = record {
   verdict = Delivered (kind_of a.numbers a.pn);
   given = a.plain;
-  numbers = put_numbers side.numbers a.sci a.an (Some (advanced side.replay.window a.numbers a.pn));
+  numbers = put_numbers side.numbers a.sci a.an (Some (after_delivery side.replay.window a.numbers a.pn));
 }
 
 abbrev kept_back : RxSide → Arrival → Outcome
 kept_back side a = record {
   verdict = HeldBack;
   given = [];
-  numbers = put_numbers side.numbers a.sci a.an (Some (held_back a.numbers a.pn));
+  numbers = put_numbers side.numbers a.sci a.an (Some (after_hold a.numbers a.pn));
 }
 
 -- what holds of both holds of an arrival
 arrived_by : (P : Outcome → Type 0) (side : RxSide) (ceilings : List ℕ → ℕ → Option ℕ) (a : Arrival)
     → (is_below (ceilings a.sci a.an) a.pn ≡ true → P (delivered side a)) → (is_below (ceilings a.sci a.an) a.pn ≡ false → P (kept_back side a))
-    → P (arrived side ceilings a)
+    → P (arrival_outcome side ceilings a)
 arrived_by P side ceilings a below above = by_test P (is_below (ceilings a.sci a.an) a.pn) (delivered side a) (kept_back side a) below above
 
 limit_rises : (block next later pn ceiling : ℕ) (seen : Option ℕ) → next ≤ later → ceiling ≤ rx_limit block next seen
@@ -333,7 +333,7 @@ limit_rises block next later pn ceiling None order within = omega arith
 limit_rises block next later pn ceiling (Some seen) order within = omega arith
 
 advanced_within : (block window : ℕ) (numbers : Numbers) (pn : ℕ) (ceiling : Option ℕ) → IsRxWithin block (Some numbers) ceiling
-    → is_below ceiling pn ≡ true → IsRxWithin block (Some (advanced window numbers pn)) ceiling
+    → is_below ceiling pn ≡ true → IsRxWithin block (Some (after_delivery window numbers pn)) ceiling
 advanced_within block window numbers pn None within below = within
 advanced_within block window numbers pn (Some ceiling) within below =
     let above : pn < ceiling = grind (arith, nat_tests) in
@@ -341,7 +341,7 @@ advanced_within block window numbers pn (Some ceiling) within below =
     (omega arith, limit_rises block numbers.next (max numbers.next (pn + 1)) pn ceiling numbers.seen (omega arith) within.1)
 
 held_within : (block : ℕ) (numbers : Numbers) (pn : ℕ) (ceiling : Option ℕ) → IsRxWithin block (Some numbers) ceiling
-    → IsRxWithin block (Some (held_back numbers pn)) ceiling
+    → IsRxWithin block (Some (after_hold numbers pn)) ceiling
 held_within block numbers pn None within = within
 held_within block numbers pn (Some ceiling) within =
     (within.0, limit_rises block numbers.next numbers.next pn ceiling numbers.seen (omega arith) within.1)
@@ -371,7 +371,7 @@ module _ (block : ℕ) (side : RxSide) (ceilings : List ℕ → ℕ → Option �
   here_within frame a arrives = subst (λ (n : Option Numbers). IsRxWithin block n (ceilings a.sci a.an)) arrives.are_numbers (all a.sci a.an)
 
   -- numbers stay below their ceilings
-  received_within : (frame : List ℕ) (outcome : Outcome) → rx.Receives side ceilings frame outcome
+  received_within : (frame : List ℕ) (outcome : Outcome) → rx.IsOutcome side ceilings frame outcome
       → (sci : List ℕ) (an : ℕ) → IsRxWithin block (outcome.numbers sci an) (ceilings sci an)
   received_within frame outcome receives sci an = elim receives [
     | inl settles ↦ subst (λ (o : Outcome). IsRxWithin block (o.numbers sci an) (ceilings sci an)) (sym settles.2) (all sci an)
@@ -380,14 +380,14 @@ module _ (block : ℕ) (side : RxSide) (ceilings : List ℕ → ℕ → Option �
         let a = arrives.0 in
         let here = here_within frame a arrives.1 in
         subst P (sym arrives.2) (arrived_by P side ceilings a
-        (λ below. put_one a.sci a.an (advanced side.replay.window a.numbers a.pn)
+        (λ below. put_one a.sci a.an (after_delivery side.replay.window a.numbers a.pn)
         (advanced_within block side.replay.window a.numbers a.pn (ceilings a.sci a.an) here below) sci an)
-        (λ above. put_one a.sci a.an (held_back a.numbers a.pn) (held_within block a.numbers a.pn (ceilings a.sci a.an) here) sci an))
+        (λ above. put_one a.sci a.an (after_hold a.numbers a.pn) (held_within block a.numbers a.pn (ceilings a.sci a.an) here) sci an))
   ]
 
 -- the endpoint receives what its channels do
 receive_step : (s : State) (ceilings : List ℕ → ℕ → Option ℕ) (frame : List ℕ) (outcome : Outcome) → s.stopped ≡ false
-    → ((sci : List ℕ) (an : ℕ) → IsRxWithin s.identity.rx_block (s.numbers sci an) (ceilings sci an)) → rx.Receives (rx_side s) ceilings frame outcome
+    → ((sci : List ℕ) (an : ℕ) → IsRxWithin s.identity.rx_block (s.numbers sci an) (ceilings sci an)) → rx.IsOutcome (rx_side s) ceilings frame outcome
     → (after : Logs) × life.Step s (state.Receives frame) (Received (Ok outcome.verdict) outcome.given) (record s { numbers = outcome.numbers; logs = after })
 receive_step s ceilings frame outcome running all receives = elim receives [
   | inl settles ↦
@@ -425,7 +425,7 @@ unheld : (b : Bool) (reason : Reason) (kind : Kind) → ¬ (cond b (Discarded re
 unheld true reason kind is = absurd cc
 unheld false reason kind is = absurd cc
 
-settled_unheld : (side : RxSide) (frame : List ℕ) (step : Step) → ¬ (verdict_at side frame step ≡ HeldBack)
+settled_unheld : (side : RxSide) (frame : List ℕ) (step : Check) → ¬ (verdict_at side frame step ≡ HeldBack)
 settled_unheld side frame (Tag tag.Runt) is = absurd cc
 settled_unheld side frame (Tag tag.Oversize) is = absurd cc
 settled_unheld side frame (Tag tag.NoTag) is = unheld (is_strict side.validate) NoTag Untagged is
@@ -437,7 +437,7 @@ settled_unheld side frame BelowLowest is = absurd cc
 settled_unheld side frame NotVerified is = unheld (is_strict side.validate || changed (control frame)) NotValid Invalid is
 
 -- a frame is held back at its ceiling alone
-held_at_ceiling : (side : RxSide) (ceilings : List ℕ → ℕ → Option ℕ) (frame : List ℕ) (outcome : Outcome) → rx.Receives side ceilings frame outcome
+held_at_ceiling : (side : RxSide) (ceilings : List ℕ → ℕ → Option ℕ) (frame : List ℕ) (outcome : Outcome) → rx.IsOutcome side ceilings frame outcome
     → outcome.verdict ≡ HeldBack → (a : Arrival) × Arrives side frame a × (is_below (ceilings a.sci a.an) a.pn ≡ false)
 held_at_ceiling side ceilings frame outcome receives held = elim receives [
   | inl settles ↦ absurd (settled_unheld side frame settles.0 (sym (ap (λ (o : Outcome). o.verdict) settles.2) ∙ held))
@@ -448,7 +448,7 @@ held_at_ceiling side ceilings frame outcome receives held = elim receives [
 ]
 
 -- an endpoint with other receive channels
-abbrev pub with_rx : {D : Type 0} → EndpointValue D → rxsc.Kept → EndpointValue D
+abbrev pub with_rx : {D : Type 0} → EndpointValue D → rxsc.RxValue → EndpointValue D
 with_rx e r = record { store = e.store; tx = e.tx; rx = r; in_hand = e.in_hand }
 
 receive_limited : {D : Type 0} (old new : EndpointValue D) (frame : List ℕ) (verdict : Verdict) (out : List ℕ)
@@ -459,23 +459,23 @@ receive_limited old new frame HeldBack out held = held refl
 receive_limited old new frame (Delivered kind) out held = tt
 receive_limited old new frame (Discarded reason) out held = tt
 
-module _ {D : Type 0} (disk_of : D → Disk) (old : EndpointValue D) (r : rxsc.Kept) (frame : List ℕ) (verdict : Verdict) (out : List ℕ) (kept : IsSoundEndpoint old)
-    (receives : rx.Receives (rxsc.side_of old.rx) (rxsc.ceilings_of old.rx) frame
-    (record { verdict = verdict; given = out; numbers = (rxsc.side_of r).numbers }))
-    (side : rxsc.side_of r ≡ record (rxsc.side_of old.rx) { numbers = (rxsc.side_of r).numbers })
+module _ {D : Type 0} (disk_of : D → Disk) (old : EndpointValue D) (r : rxsc.RxValue) (frame : List ℕ) (verdict : Verdict) (out : List ℕ) (kept : IsSoundEndpoint old)
+    (receives : rx.IsOutcome (rxsc.rx_side_of old.rx) (rxsc.ceilings_of old.rx) frame
+    (record { verdict = verdict; given = out; numbers = (rxsc.rx_side_of r).numbers }))
+    (side : rxsc.rx_side_of r ≡ record (rxsc.rx_side_of old.rx) { numbers = (rxsc.rx_side_of r).numbers })
     (ceilings : rxsc.ceilings_of r ≡ rxsc.ceilings_of old.rx) where
   -- the same, in words of what stands
-  standing_receives : rx.Receives (rx_side (state_of old no_logs)) (standing_in old.store).ceilings.rx frame
-      (record { verdict = verdict; given = out; numbers = (rxsc.side_of r).numbers })
+  standing_receives : rx.IsOutcome (rx_side (state_of old no_logs)) (standing_in old.store).ceilings.rx frame
+      (record { verdict = verdict; given = out; numbers = (rxsc.rx_side_of r).numbers })
   standing_receives =
-      let outcome : Outcome = record { verdict = verdict; given = out; numbers = (rxsc.side_of r).numbers } in
-      subst (λ (x : RxSide). rx.Receives x (standing_in old.store).ceilings.rx frame outcome) kept.channels.rx_is
-      (subst (λ (c : List ℕ → ℕ → Option ℕ). rx.Receives (rxsc.side_of old.rx) c frame outcome) kept.channels.rx_ceilings receives)
+      let outcome : Outcome = record { verdict = verdict; given = out; numbers = (rxsc.rx_side_of r).numbers } in
+      subst (λ (x : RxSide). rx.IsOutcome x (standing_in old.store).ceilings.rx frame outcome) kept.channels.rx_is
+      (subst (λ (c : List ℕ → ℕ → Option ℕ). rx.IsOutcome (rxsc.rx_side_of old.rx) c frame outcome) kept.channels.rx_ceilings receives)
 
   pub received-kept : IsSoundEndpoint (with_rx old r)
   received-kept =
       let s = standing_in old.store in
-      let numbers = (rxsc.side_of r).numbers in
+      let numbers = (rxsc.rx_side_of r).numbers in
       let same : rxsc.ceilings_of r ≡ s.ceilings.rx = ceilings ∙ kept.channels.rx_ceilings in
       let within = received_within s.identity.rx_block (rx_side (state_of old no_logs)) s.ceilings.rx (kept-ahead old kept).rx_ahead frame
       (record { verdict = verdict; given = out; numbers = numbers }) standing_receives in
@@ -494,12 +494,12 @@ module _ {D : Type 0} (disk_of : D → Disk) (old : EndpointValue D) (r : rxsc.K
         idle = kept.idle;
       }
 
-  pub received-call : is_stopped old ≡ false → rxsc.counters_of r ≡ counted verdict (rxsc.counters_of old.rx)
-      → rxsc.channel_counters_of r ≡ counted_at (channel_of (rxsc.side_of old.rx) frame) verdict (rxsc.channel_counters_of old.rx)
+  pub received-call : is_stopped old ≡ false → rxsc.counters_of r ≡ with_verdict verdict (rxsc.counters_of old.rx)
+      → rxsc.channel_counters_of r ≡ with_verdict_at (channel_of (rxsc.rx_side_of old.rx) frame) verdict (rxsc.channel_counters_of old.rx)
       → IsCall disk_of old (state.Receives frame) (Received (Ok verdict) out) (with_rx old r)
   received-call running counters channel_counters =
       let s = standing_in old.store in
-      let outcome : Outcome = record { verdict = verdict; given = out; numbers = (rxsc.side_of r).numbers } in
+      let outcome : Outcome = record { verdict = verdict; given = out; numbers = (rxsc.rx_side_of r).numbers } in
       alone-call disk_of old old.tx r (state.Receives frame) (Received (Ok verdict) out) refl (λ backed. kept-backed disk_of (with_rx old r) received-kept backed.size (backed.stored running)) (record {
         step = λ logs. receive_step (state_of old logs) s.ceilings.rx frame outcome running (kept-ahead old kept).rx_ahead standing_receives;
         ceilings = refl;
@@ -509,7 +509,7 @@ module _ {D : Type 0} (disk_of : D → Disk) (old : EndpointValue D) (r : rxsc.K
         tx_counters = refl;
         rx_counters = counters;
         channel_counters = channel_counters
-            ∙ ap (λ (x : RxSide). counted_at (channel_of x frame) verdict (rxsc.channel_counters_of old.rx)) kept.channels.rx_is;
+            ∙ ap (λ (x : RxSide). with_verdict_at (channel_of x frame) verdict (rxsc.channel_counters_of old.rx)) kept.channels.rx_is;
       })
 
 pub receive-stopped : {D : Type 0} (disk_of : D → Disk) (old : EndpointValue D) (frame out : List ℕ) (fault : StoppedFault) → is_stopped old ≡ true

@@ -16,17 +16,17 @@ use Rattle.macs_config.specs.declared.command.SciMode.{SciMode}
 use Rattle.macs_config.proofs.Channels.{among-put_among, before-trans, bytes_eq-itself, same_octets}
 use Rattle.macs_txsc.specs.Transmit as transmit
 use Rattle.macs_txsc.specs.Transmit.{TxSide}
-use Rattle.macs_txsc.specs.View as txsc
+use Rattle.macs_txsc.specs.Value as txsc
 use Rattle.macs_txsc.specs.declared.channel.Tx.{Tx}
 use Rattle.macs_rxsc.specs.Counting as receive
-use Rattle.macs_rxsc.specs.Counting.{none_counted_for_channel}
-use Rattle.macs_rxsc.specs.Receive.{AreOrdered, Numbers, RxSide, Stands, has_channel, new_side, started, windowed}
-use Rattle.macs_rxsc.specs.View as rxsc
+use Rattle.macs_rxsc.specs.Counting.{no_channel_counts}
+use Rattle.macs_rxsc.specs.Receive.{AreOrdered, Numbers, RxSide, IsNumbered, has_channel, new_rx_side, first_numbers, under_window}
+use Rattle.macs_rxsc.specs.Value as rxsc
 use Rattle.macs_rxsc.specs.declared.counters.ChannelCounters.{ChannelCounters}
 use Rattle.macs_rxsc.proofs.Places.{bytes_eq-sym, put-same, put_at-same}
 use Rattle.macs_store.specs.Standing.{IsStanding, Standing}
 use Rattle.macs_endpoint.specs.Counting.{new_channels}
-use Rattle.macs_endpoint.specs.State.{receiving, transmitting}
+use Rattle.macs_endpoint.specs.State.{rx_side_with, tx_side_with}
 use Rattle.macs_endpoint.proofs.Following.{here_at, with_rx, with_tx}
 
 -- ---- number by number
@@ -210,7 +210,7 @@ module _ (scis : List (List ℕ)) (i : ℕ) (sci : List ℕ) (is : IsNext scis i
 -- ---- what has stood is read
 
 -- without an association there are no numbers, and no ceiling
-pub none_numbered : (window : ℕ) (sa : Option RxSa) (n : Option Numbers) (ceiling : Option ℕ) → Stands window sa n ceiling → sa ≡ None
+pub none_numbered : (window : ℕ) (sa : Option RxSa) (n : Option Numbers) (ceiling : Option ℕ) → IsNumbered window sa n ceiling → sa ≡ None
     → (n ≡ None) × (ceiling ≡ None)
 none_numbered window sa None None stands is = (refl, refl)
 none_numbered window None (Some n) None stands is = absurd stands
@@ -225,7 +225,7 @@ none_too (Some x) b same none = let there = same ∙ ap is_some none in cc
 
 -- the numbers that a receive association begins with
 abbrev pub beginning : Standing → List ℕ → ℕ → Option Numbers
-beginning s sci an = option_map started (s.ceilings.rx sci an)
+beginning s sci an = option_map first_numbers (s.ceilings.rx sci an)
 
 -- ---- sides
 
@@ -272,16 +272,16 @@ number_is made an number is found = subst (λ (o : Option ℕ). IfSome o (λ n. 
 
 -- the associations below a number are installed
 pub record IsTxFilled (s : Standing) (tx : Tx) (n : ℕ) : Type 0 where
-  pub side : txsc.side_of tx ≡ tx_filled s n
+  pub side : txsc.tx_side_of tx ≡ tx_filled s n
   pub ceilings : txsc.ceilings_of tx ≡ below n s.ceilings.tx
-  pub counters : txsc.counters_of tx ≡ transmit.none_counted
+  pub counters : txsc.counters_of tx ≡ transmit.no_counts
 
 module _ (s : Standing) (is : IsStanding s) (now : Tx) (n an : ℕ) (so_far : IsTxFilled s now n) (number : an ≡ n) where
-  pub tx-next-empty : (txsc.side_of now).tx an ≡ None
+  pub tx-next-empty : (txsc.tx_side_of now).tx an ≡ None
   tx-next-empty = ap (λ (t : TxSide). t.tx an) so_far.side ∙ ap (below n s.config.tx) number ∙ below-next s.config.tx n
 
   pub tx-one-more : (ceiling next : ℕ) (new : Tx) → Some ceiling ≡ s.ceilings.tx an → next ≡ ceiling
-      → txsc.side_of new ≡ with_tx (txsc.side_of now) an next (s.config.tx an)
+      → txsc.tx_side_of new ≡ with_tx (txsc.tx_side_of now) an next (s.config.tx an)
       → txsc.ceilings_of new ≡ put (txsc.ceilings_of now) an (s.ceilings.tx an)
       → txsc.counters_of new ≡ txsc.counters_of now → IsTxFilled s new (n + 1)
   tx-one-more ceiling next new found same added ceilings counters =
@@ -306,13 +306,13 @@ module _ (s : Standing) (is : IsStanding s) (now : Tx) (n an : ℕ) (so_far : Is
 
 -- a new channel with this mode
 pub tx-unfilled : (s : Standing) (sci : List ℕ) (mode : SciMode) (first tx : Tx) → sci ≡ s.identity.sci → mode ≡ s.config.mode
-    → txsc.side_of first ≡ transmit.new_side sci → txsc.side_of tx ≡ record (txsc.side_of first) { mode = mode }
+    → txsc.tx_side_of first ≡ transmit.new_tx_side sci → txsc.tx_side_of tx ≡ record (txsc.tx_side_of first) { mode = mode }
     → txsc.ceilings_of first ≡ (λ an. None) → txsc.ceilings_of tx ≡ txsc.ceilings_of first
-    → txsc.counters_of first ≡ transmit.none_counted → txsc.counters_of tx ≡ txsc.counters_of first → IsTxFilled s tx 0
+    → txsc.counters_of first ≡ transmit.no_counts → txsc.counters_of tx ≡ txsc.counters_of first → IsTxFilled s tx 0
 tx-unfilled s sci mode first tx same_sci same_mode new set no_ceilings ceilings none_counted counters =
     let sas = sym (below-none s.config.tx) in
     let numbers = sym (below-none s.ceilings.tx) in
-    let begun : record (transmit.new_side sci) { mode = mode } ≡ tx_filled s 0 =
+    let begun : record (transmit.new_tx_side sci) { mode = mode } ≡ tx_filled s 0 =
     λ i. record { sci = same_sci i; mode = same_mode i; encoding = None; tx = sas i; next = numbers i } in
     record {
       side = set ∙ ap (λ (t : TxSide). record t { mode = mode }) new ∙ begun;
@@ -330,7 +330,7 @@ module _ (s : Standing) (is : IsStanding s) (tx : Tx) (n : ℕ) (filled : IsTxFi
   abbrev all_tx : TxSide
   all_tx = record { sci = s.identity.sci; mode = s.config.mode; encoding = None; tx = s.config.tx; next = s.ceilings.tx }
 
-  pub tx-all : txsc.side_of tx ≡ all_tx
+  pub tx-all : txsc.tx_side_of tx ≡ all_tx
   tx-all =
       let sas = below-all s.config.tx n (λ k past. none k (omega arith)) in
       let numbers = below-all s.ceilings.tx n (λ k past. no_tx_ceiling s is none k (omega arith)) in
@@ -338,18 +338,18 @@ module _ (s : Standing) (is : IsStanding s) (tx : Tx) (n : ℕ) (filled : IsTxFi
       filled.side ∙ more
 
   -- and the one that frames go out under is selected
-  pub tx-selected : (an : ℕ) (side : TxSide) → Some an ≡ s.config.encoding → side ≡ record (txsc.side_of tx) { encoding = Some an }
-      → side ≡ transmitting s.identity s.config s.ceilings.tx
+  pub tx-selected : (an : ℕ) (side : TxSide) → Some an ≡ s.config.encoding → side ≡ record (txsc.tx_side_of tx) { encoding = Some an }
+      → side ≡ tx_side_with s.identity s.config s.ceilings.tx
   tx-selected an side same is =
-      let more : record all_tx { encoding = Some an } ≡ transmitting s.identity s.config s.ceilings.tx = λ i. record all_tx { encoding = same i } in
+      let more : record all_tx { encoding = Some an } ≡ tx_side_with s.identity s.config s.ceilings.tx = λ i. record all_tx { encoding = same i } in
       is ∙ ap (λ (t : TxSide). record t { encoding = Some an }) tx-all ∙ more
 
-  pub tx-unselected : None ≡ s.config.encoding → txsc.side_of tx ≡ transmitting s.identity s.config s.ceilings.tx
+  pub tx-unselected : None ≡ s.config.encoding → txsc.tx_side_of tx ≡ tx_side_with s.identity s.config s.ceilings.tx
   tx-unselected same =
-      let more : all_tx ≡ transmitting s.identity s.config s.ceilings.tx = λ i. record all_tx { encoding = same i } in
+      let more : all_tx ≡ tx_side_with s.identity s.config s.ceilings.tx = λ i. record all_tx { encoding = same i } in
       tx-all ∙ more
 
-  pub select-stands : (an : ℕ) → IfSome s.config.encoding (λ an. IsSome (s.config.tx an)) → Some an ≡ s.config.encoding → IsSome ((txsc.side_of tx).tx an)
+  pub select-stands : (an : ℕ) → IfSome s.config.encoding (λ an. IsSome (s.config.tx an)) → Some an ≡ s.config.encoding → IsSome ((txsc.tx_side_of tx).tx an)
   select-stands an stands found =
       ap (λ (t : TxSide). is_some (t.tx an)) tx-all ∙ subst (λ (o : Option ℕ). IfSome o (λ an. IsSome (s.config.tx an))) (sym found) stands
 
@@ -359,28 +359,28 @@ module _ (s : Standing) (is : IsStanding s) (tx : Tx) (n : ℕ) (filled : IsTxFi
 -- ---- a receive channel
 
 -- its associations below a number are installed
-pub record IsRxFilled (s : Standing) (sci : List ℕ) (old new : rxsc.Kept) (n : ℕ) : Type 0 where
-  pub side : rxsc.side_of new ≡ rx_filled (rxsc.side_of old) s sci n
+pub record IsRxFilled (s : Standing) (sci : List ℕ) (old new : rxsc.RxValue) (n : ℕ) : Type 0 where
+  pub side : rxsc.rx_side_of new ≡ rx_filled (rxsc.rx_side_of old) s sci n
   pub ceilings : rxsc.ceilings_of new ≡ put_at (rxsc.ceilings_of old) sci (below n (s.ceilings.rx sci))
   pub counters : rxsc.counters_of new ≡ rxsc.counters_of old
   pub channel_counters : rxsc.channel_counters_of new ≡ rxsc.channel_counters_of old
 
-module _ (s : Standing) (is : IsStanding s) (sci : List ℕ) (old now : rxsc.Kept) (n an : ℕ) (so_far : IsRxFilled s sci old now n)
+module _ (s : Standing) (is : IsStanding s) (sci : List ℕ) (old now : rxsc.RxValue) (n an : ℕ) (so_far : IsRxFilled s sci old now n)
     (number : an ≡ n) where
-  pub rx-next-empty : (rxsc.side_of now).rx sci an ≡ None
+  pub rx-next-empty : (rxsc.rx_side_of now).rx sci an ≡ None
   rx-next-empty =
-      ap (λ (r : RxSide). r.rx sci an) so_far.side ∙ ap (put_at (rxsc.side_of old).rx sci (below n (s.config.rx sci)) sci) number
-      ∙ filled-next (s.config.rx sci) (rxsc.side_of old).rx sci n
+      ap (λ (r : RxSide). r.rx sci an) so_far.side ∙ ap (put_at (rxsc.rx_side_of old).rx sci (below n (s.config.rx sci)) sci) number
+      ∙ filled-next (s.config.rx sci) (rxsc.rx_side_of old).rx sci n
 
-  pub rx-one-more : (ceiling next : ℕ) (new : rxsc.Kept) → Some ceiling ≡ s.ceilings.rx sci an → next ≡ ceiling
-      → rxsc.side_of new ≡ with_rx (rxsc.side_of now) sci an next (s.config.rx sci an)
+  pub rx-one-more : (ceiling next : ℕ) (new : rxsc.RxValue) → Some ceiling ≡ s.ceilings.rx sci an → next ≡ ceiling
+      → rxsc.rx_side_of new ≡ with_rx (rxsc.rx_side_of now) sci an next (s.config.rx sci an)
       → rxsc.ceilings_of new ≡ put_at (rxsc.ceilings_of now) sci (put (rxsc.ceilings_of now sci) an (s.ceilings.rx sci an))
       → rxsc.counters_of new ≡ rxsc.counters_of now → rxsc.channel_counters_of new ≡ rxsc.channel_counters_of now → IsRxFilled s sci old new (n + 1)
   rx-one-more ceiling next new found same added ceilings counters channel_counters =
-      let side = rxsc.side_of old in
+      let side = rxsc.rx_side_of old in
       let here : s.ceilings.rx sci n ≡ Some next = ap (s.ceilings.rx sci) (sym number) ∙ sym found ∙ ap Some (sym same) in
       let rx = filled-more (s.config.rx sci) side.rx sci n (s.config.rx sci n) refl in
-      let numbers = filled-more (beginning s sci) side.numbers sci n (Some (started next)) (ap (option_map started) here) in
+      let numbers = filled-more (beginning s sci) side.numbers sci n (Some (first_numbers next)) (ap (option_map first_numbers) here) in
       let more : with_rx (rx_filled side s sci n) sci n next (s.config.rx sci n) ≡ rx_filled side s sci (n + 1) = λ i. record side { rx = rx i; numbers = numbers i } in
       record {
         side = added ∙ ap (λ (r : RxSide). with_rx r sci an next (s.config.rx sci an)) so_far.side
@@ -395,10 +395,10 @@ module _ (s : Standing) (is : IsStanding s) (sci : List ℕ) (old now : rxsc.Kep
 
   pub rx-passed : None ≡ s.ceilings.rx sci an → IsRxFilled s sci old now (n + 1)
   rx-passed none =
-      let side = rxsc.side_of old in
+      let side = rxsc.rx_side_of old in
       let no_ceiling : s.ceilings.rx sci n ≡ None = ap (s.ceilings.rx sci) (sym number) ∙ sym none in
       let rx = filled-passed (s.config.rx sci) side.rx sci n (no_sa (s.ceilings.rx sci n) (s.config.rx sci n) (is.rx sci n) no_ceiling) in
-      let numbers = filled-passed (beginning s sci) side.numbers sci n (ap (option_map started) no_ceiling) in
+      let numbers = filled-passed (beginning s sci) side.numbers sci n (ap (option_map first_numbers) no_ceiling) in
       let more : rx_filled side s sci n ≡ rx_filled side s sci (n + 1) = λ i. record side { rx = rx i; numbers = numbers i } in
       record {
         side = so_far.side ∙ more;
@@ -408,16 +408,16 @@ module _ (s : Standing) (is : IsStanding s) (sci : List ℕ) (old now : rxsc.Kep
       }
 
 -- what receive channels have where nothing is installed
-module _ (s : Standing) (sci : List ℕ) (old : rxsc.Kept) (empty : (an : ℕ) → (rxsc.side_of old).rx sci an ≡ None)
-    (ordered : (sci : List ℕ) (an : ℕ) → AreOrdered (rxsc.side_of old) (rxsc.ceilings_of old) sci an) where
-  nothing : (an : ℕ) → ((rxsc.side_of old).numbers sci an ≡ None) × (rxsc.ceilings_of old sci an ≡ None)
+module _ (s : Standing) (sci : List ℕ) (old : rxsc.RxValue) (empty : (an : ℕ) → (rxsc.rx_side_of old).rx sci an ≡ None)
+    (ordered : (sci : List ℕ) (an : ℕ) → AreOrdered (rxsc.rx_side_of old) (rxsc.ceilings_of old) sci an) where
+  nothing : (an : ℕ) → ((rxsc.rx_side_of old).numbers sci an ≡ None) × (rxsc.ceilings_of old sci an ≡ None)
   nothing an =
-      none_numbered (rxsc.side_of old).replay.window ((rxsc.side_of old).rx sci an) ((rxsc.side_of old).numbers sci an) (rxsc.ceilings_of old sci an)
+      none_numbered (rxsc.rx_side_of old).replay.window ((rxsc.rx_side_of old).rx sci an) ((rxsc.rx_side_of old).numbers sci an) (rxsc.ceilings_of old sci an)
       (ordered sci an) (empty an)
 
   pub rx-unfilled : IsRxFilled s sci old old 0
   rx-unfilled =
-      let side = rxsc.side_of old in
+      let side = rxsc.rx_side_of old in
       let rx = filled-none (s.config.rx sci) side.rx sci empty in
       let numbers = filled-none (beginning s sci) side.numbers sci (λ an. (nothing an).0) in
       let same : rx_filled side s sci 0 ≡ side = λ i. record side { rx = rx i; numbers = numbers i } in
@@ -428,16 +428,16 @@ module _ (s : Standing) (sci : List ℕ) (old : rxsc.Kept) (empty : (an : ℕ) �
         channel_counters = refl;
       }
 
-module _ (s : Standing) (is : IsStanding s) (sci : List ℕ) (old new : rxsc.Kept) (n : ℕ) (filled : IsRxFilled s sci old new n) (end : 4 ≤ n)
+module _ (s : Standing) (is : IsStanding s) (sci : List ℕ) (old new : rxsc.RxValue) (n : ℕ) (filled : IsRxFilled s sci old new n) (end : 4 ≤ n)
     (none : (sci : List ℕ) (an : ℕ) → 4 ≤ an → s.config.rx sci an ≡ None) where
   no_rx_ceiling : (an : ℕ) → 4 ≤ an → s.ceilings.rx sci an ≡ None
   no_rx_ceiling an past = none_too (s.ceilings.rx sci an) (s.config.rx sci an) (is.rx sci an) (none sci an past)
 
-  pub rx-all : rxsc.side_of new ≡ with_channel s sci (rxsc.side_of old)
+  pub rx-all : rxsc.rx_side_of new ≡ with_channel s sci (rxsc.rx_side_of old)
   rx-all =
-      let side = rxsc.side_of old in
+      let side = rxsc.rx_side_of old in
       let rx = filled-all (s.config.rx sci) side.rx sci n (λ k past. none sci k (omega arith)) in
-      let numbers = filled-all (beginning s sci) side.numbers sci n (λ k past. ap (option_map started) (no_rx_ceiling k (omega arith))) in
+      let numbers = filled-all (beginning s sci) side.numbers sci n (λ k past. ap (option_map first_numbers) (no_rx_ceiling k (omega arith))) in
       let more : rx_filled side s sci n ≡ with_channel s sci side = λ i. record side { rx = rx i; numbers = numbers i } in
       filled.side ∙ more
 
@@ -447,40 +447,40 @@ module _ (s : Standing) (is : IsStanding s) (sci : List ℕ) (old new : rxsc.Kep
 -- ---- the receive channels
 
 -- these channels are opened
-pub record IsRxOpened (s : Standing) (rx : rxsc.Kept) (scis : List (List ℕ)) : Type 0 where
-  pub side : rxsc.side_of rx ≡ rx_opened s scis
+pub record IsRxOpened (s : Standing) (rx : rxsc.RxValue) (scis : List (List ℕ)) : Type 0 where
+  pub side : rxsc.rx_side_of rx ≡ rx_opened s scis
   pub ceilings : rxsc.ceilings_of rx ≡ among scis s.ceilings.rx (λ an. None)
-  pub counters : rxsc.counters_of rx ≡ receive.none_counted
+  pub counters : rxsc.counters_of rx ≡ receive.no_counts
   pub channel_counters : rxsc.channel_counters_of rx ≡ new_channels scis
 
-module _ (s : Standing) (scis : List (List ℕ)) (i : ℕ) (sci : List ℕ) (is : IsNext scis i sci) (now : rxsc.Kept)
+module _ (s : Standing) (scis : List (List ℕ)) (i : ℕ) (sci : List ℕ) (is : IsNext scis i sci) (now : rxsc.RxValue)
     (so_far : IsRxOpened s now (take i scis)) where
-  pub add-free : has_channel (rxsc.side_of now) sci ≡ false
+  pub add-free : has_channel (rxsc.rx_side_of now) sci ≡ false
   add-free = ap (λ (r : RxSide). has_channel r sci) so_far.side ∙ next-free scis i sci is
 
-  pub add-room : (most : ℕ) → length scis ≤ most → length (rxsc.side_of now).channels < most
+  pub add-room : (most : ℕ) → length scis ≤ most → length (rxsc.rx_side_of now).channels < most
   add-room most few =
       subst (λ (r : RxSide). length r.channels < most) (sym so_far.side) (next-fits scis i sci is most few)
 
-  module _ (mid : rxsc.Kept) (added : rxsc.side_of mid ≡ record (rxsc.side_of now) { channels = put_among sci (rxsc.side_of now).channels }) where
-    added_is : rxsc.side_of mid ≡ record (rx_opened s (take i scis)) { channels = put_among sci (take i scis) }
+  module _ (mid : rxsc.RxValue) (added : rxsc.rx_side_of mid ≡ record (rxsc.rx_side_of now) { channels = put_among sci (rxsc.rx_side_of now).channels }) where
+    added_is : rxsc.rx_side_of mid ≡ record (rx_opened s (take i scis)) { channels = put_among sci (take i scis) }
     added_is = added ∙ ap (λ (r : RxSide). record r { channels = put_among sci r.channels }) so_far.side
 
-    pub added-stands : has_channel (rxsc.side_of mid) sci ≡ true
+    pub added-stands : has_channel (rxsc.rx_side_of mid) sci ≡ true
     added-stands =
         ap (λ (r : RxSide). has_channel r sci) added_is ∙ among-put_among sci (take i scis) sci
         ∙ or_left (bytes_eq sci sci) (is_among (take i scis) sci) (bytes_eq-itself sci)
 
-    pub added-empty : (an : ℕ) → (rxsc.side_of mid).rx sci an ≡ None
+    pub added-empty : (an : ℕ) → (rxsc.rx_side_of mid).rx sci an ≡ None
     added-empty an =
         ap (λ (r : RxSide). r.rx sci an) added_is
         ∙ ap (λ (b : Bool). cond b (s.config.rx sci) (λ an. None) an) (next-free scis i sci is)
 
     -- one channel more, with its associations
-    pub opened-more : (new : rxsc.Kept) → rxsc.side_of new ≡ with_channel s sci (rxsc.side_of mid)
+    pub opened-more : (new : rxsc.RxValue) → rxsc.rx_side_of new ≡ with_channel s sci (rxsc.rx_side_of mid)
         → rxsc.ceilings_of mid ≡ rxsc.ceilings_of now → rxsc.ceilings_of new ≡ put_at (rxsc.ceilings_of mid) sci (s.ceilings.rx sci)
         → rxsc.counters_of mid ≡ rxsc.counters_of now → rxsc.counters_of new ≡ rxsc.counters_of mid
-        → rxsc.channel_counters_of mid ≡ put_at (rxsc.channel_counters_of now) sci (Some none_counted_for_channel)
+        → rxsc.channel_counters_of mid ≡ put_at (rxsc.channel_counters_of now) sci (Some no_channel_counts)
         → rxsc.channel_counters_of new ≡ rxsc.channel_counters_of mid → IsRxOpened s new (take (i + 1) scis)
     opened-more new installed ceilings put_ceilings counters same_counters begun same_begun =
         let channels = put-next scis i sci is in
@@ -493,11 +493,11 @@ module _ (s : Standing) (scis : List (List ℕ)) (i : ℕ) (sci : List ℕ) (is 
           ceilings = put_ceilings ∙ ap (λ (f : List ℕ → ℕ → Option ℕ). put_at f sci (s.ceilings.rx sci)) (ceilings ∙ so_far.ceilings)
               ∙ among-more s.ceilings.rx (λ an. None) scis i sci is.within is.there;
           counters = same_counters ∙ counters ∙ so_far.counters;
-          channel_counters = same_begun ∙ begun ∙ ap (λ (f : List ℕ → Option ChannelCounters). put_at f sci (Some none_counted_for_channel)) so_far.channel_counters
-              ∙ among-more (λ s. Some none_counted_for_channel) None scis i sci is.within is.there;
+          channel_counters = same_begun ∙ begun ∙ ap (λ (f : List ℕ → Option ChannelCounters). put_at f sci (Some no_channel_counts)) so_far.channel_counters
+              ∙ among-more (λ s. Some no_channel_counts) None scis i sci is.within is.there;
         }
 
-module _ (s : Standing) (is : IsStanding s) (rx : rxsc.Kept) (i : ℕ) (opened : IsRxOpened s rx (take i s.config.channels))
+module _ (s : Standing) (is : IsStanding s) (rx : rxsc.RxValue) (i : ℕ) (opened : IsRxOpened s rx (take i s.config.channels))
     (end : length s.config.channels ≤ i)
     (have_channels : (sci : List ℕ) (an : ℕ) (sa : RxSa) → s.config.rx sci an ≡ Some sa → is_among s.config.channels sci ≡ true) where
   all_are : take i s.config.channels ≡ s.config.channels
@@ -513,12 +513,12 @@ module _ (s : Standing) (is : IsStanding s) (rx : rxsc.Kept) (i : ℕ) (opened :
   no_ceiling : (sci : List ℕ) (an : ℕ) → is_among s.config.channels sci ≡ false → s.ceilings.rx sci an ≡ None
   no_ceiling sci an absent = none_too (s.ceilings.rx sci an) (s.config.rx sci an) (is.rx sci an) (no_association sci an absent)
 
-  pub opened-side : rxsc.side_of rx ≡ receiving s.config (beginning s)
+  pub opened-side : rxsc.rx_side_of rx ≡ rx_side_with s.config (beginning s)
   opened-side =
       let sas = among-all s.config.rx (λ an. None) s.config.channels (λ sci absent. fun_ext (λ an. no_association sci an absent)) in
       let numbers = among-all (beginning s) (λ an. None) s.config.channels
-      (λ sci absent. fun_ext (λ an. ap (option_map started) (no_ceiling sci an absent))) in
-      let all : rx_opened s s.config.channels ≡ receiving s.config (beginning s) = λ j. record (rx_opened s s.config.channels) { rx = sas j; numbers = numbers j } in
+      (λ sci absent. fun_ext (λ an. ap (option_map first_numbers) (no_ceiling sci an absent))) in
+      let all : rx_opened s s.config.channels ≡ rx_side_with s.config (beginning s) = λ j. record (rx_opened s s.config.channels) { rx = sas j; numbers = numbers j } in
       opened.side ∙ ap (rx_opened s) all_are ∙ all
 
   pub opened-ceilings : rxsc.ceilings_of rx ≡ s.ceilings.rx
@@ -530,20 +530,20 @@ module _ (s : Standing) (is : IsStanding s) (rx : rxsc.Kept) (i : ℕ) (opened :
   opened-channels = opened.channel_counters ∙ ap new_channels all_are
 
 -- no channel yet
-pub nothing-opened : (s : Standing) (first rx : rxsc.Kept) → rxsc.side_of first ≡ new_side
-    → rxsc.side_of rx ≡ record (rxsc.side_of first) {
+pub nothing-opened : (s : Standing) (first rx : rxsc.RxValue) → rxsc.rx_side_of first ≡ new_rx_side
+    → rxsc.rx_side_of rx ≡ record (rxsc.rx_side_of first) {
       validate = s.config.validate;
       replay = s.config.replay;
-      numbers = λ sci an. option_map (windowed s.config.replay.window) ((rxsc.side_of first).numbers sci an);
+      numbers = λ sci an. option_map (under_window s.config.replay.window) ((rxsc.rx_side_of first).numbers sci an);
     }
     → rxsc.ceilings_of first ≡ (λ sci an. None) → rxsc.ceilings_of rx ≡ rxsc.ceilings_of first
-    → rxsc.counters_of first ≡ receive.none_counted → rxsc.counters_of rx ≡ rxsc.counters_of first
+    → rxsc.counters_of first ≡ receive.no_counts → rxsc.counters_of rx ≡ rxsc.counters_of first
     → rxsc.channel_counters_of first ≡ (λ sci. None) → rxsc.channel_counters_of rx ≡ rxsc.channel_counters_of first → IsRxOpened s rx []
 nothing-opened s first rx new set no_ceilings ceilings none_counted counters no_channels channel_counters =
     let policy = λ (r : RxSide). record r {
       validate = s.config.validate;
       replay = s.config.replay;
-      numbers = λ sci an. option_map (windowed s.config.replay.window) (r.numbers sci an);
+      numbers = λ sci an. option_map (under_window s.config.replay.window) (r.numbers sci an);
     } in
     record {
       side = set ∙ ap policy new;

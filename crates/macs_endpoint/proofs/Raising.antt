@@ -21,21 +21,21 @@ use Rattle.macs_journal.specs.declared.fault.JournalFault.TheVariants as fault
 use Rattle.macs_txsc.specs.Transmit as transmit
 use Rattle.macs_txsc.specs.Transmit.{TxSide}
 use Rattle.macs_config.specs.declared.association.TxSa.{TxSa}
-use Rattle.macs_txsc.specs.View as txsc
+use Rattle.macs_txsc.specs.Value as txsc
 use Rattle.macs_txsc.specs.declared.channel.Tx.{Tx}
-use Rattle.macs_rxsc.specs.Needs.{Need, first_need, is_needed, need_of, needed, needs_of, raised}
+use Rattle.macs_rxsc.specs.Needs.{Need, first_need, is_needed, need_of, need_by_seen, needs_of, raised_ceiling}
 use Rattle.macs_rxsc.specs.Receive.{Numbers, RxSide}
 use Rattle.macs_rxsc.specs.Receive as rx
-use Rattle.macs_rxsc.specs.View as rxsc
+use Rattle.macs_rxsc.specs.Value as rxsc
 use Rattle.macs_config.specs.declared.association.RxSa.{RxSa}
 use Rattle.macs_rxsc.specs.declared.need.RxNeed.{RxNeed}
 use Rattle.macs_rxsc.proofs.Places.{bytes_eq-same}
 use Rattle.macs_rxsc.proofs.Told.{need_shown}
-use Rattle.macs_store.specs.Found.{IsBeforeOrAfter}
+use Rattle.macs_store.specs.Found.{FindsEitherStanding}
 use Rattle.macs_store.specs.Keeps.{Keeps}
 use Rattle.macs_store.specs.Value.{standing_in, used_slots}
 use Rattle.macs_store.specs.Value as store
-use Rattle.macs_store.specs.Standing.{Ceilings, Standing, ahead, rx_raised}
+use Rattle.macs_store.specs.Standing.{Ceilings, Standing, ahead, with_rx_raised}
 use Rattle.macs_store.specs.Table.{standing_of}
 use Rattle.macs_endpoint.specs.Calls.{Fails, IsCall}
 use Rattle.macs_endpoint.specs.Ceilings.{CeilingsAfter, IsPartlyRefilled, IsRefilled, StandsRefilled, rx_refilled, rx_served, tx_refilled, tx_served}
@@ -44,8 +44,8 @@ use Rattle.macs_endpoint.specs.Value.{AreChannels, AreWithin, EndpointValue, IsB
 use Rattle.macs_endpoint.specs.Limits.{IsLimited, IsStill}
 use Rattle.macs_endpoint.specs.Reserving.{FitsState, Reserves}
 use Rattle.macs_endpoint.specs.Restart.{Fits, FitsCall, rx_limit}
-use Rattle.macs_endpoint.specs.State.{Logs, Refilled, Refills, State, halted, no_logs, receiving, rx_side, transmitting, tx_side}
-use Rattle.macs_endpoint.specs.Step.{Refilling}
+use Rattle.macs_endpoint.specs.State.{Logs, Refilled, Refills, State, after_fault, no_logs, rx_side_with, rx_side, tx_side_with, tx_side}
+use Rattle.macs_endpoint.specs.Step.{RefillStep}
 use Rattle.macs_endpoint.specs.declared.fault.RefillFault.{RefillFault}
 use Rattle.macs_endpoint.specs.declared.fault.RefillFault.TheVariants as refill
 use Rattle.macs_endpoint.proofs.Alone.{alone-call}
@@ -73,7 +73,7 @@ module _ (block : ℕ) (sci : List ℕ) (an : ℕ) where
       let same : ◌≡◌ {A = Need} need (record { sci = sci; an = an; pn = seen }) = cc in (same, test)
   named_by next ceiling seen false test need is = absurd cc
 
-  named : (numbers : Numbers) (ceiling : ℕ) (seen : Option ℕ) (need : Need) → needed block sci an numbers ceiling seen ≡ Some need
+  named : (numbers : Numbers) (ceiling : ℕ) (seen : Option ℕ) (need : Need) → need_by_seen block sci an numbers ceiling seen ≡ Some need
       → (n : ℕ) × (seen ≡ Some n) × (need ≡ record { sci = sci; an = an; pn = n }) × (is_needed block numbers.next ceiling n ≡ true)
   named numbers ceiling None need is = absurd cc
   named numbers ceiling (Some seen) need is =
@@ -100,26 +100,26 @@ module _ (block : ℕ) (sci : List ℕ) (an : ℕ) where
       let parts = named n c n.seen need is in
       record { held = n; top = c; seen = parts.0; has = refl; has_ceiling = refl; has_seen = parts.1; is = parts.2; test = parts.3 }
 
-  below_raised : (next ceiling seen : ℕ) → is_needed block next ceiling seen ≡ true → ceiling < raised block seen
+  below_raised : (next ceiling seen : ℕ) → is_needed block next ceiling seen ≡ true → ceiling < raised_ceiling block seen
   below_raised next ceiling seen test =
-      ltb-true ceiling (raised block seen)
-      (and_parts (nat_le ceiling seen || nat_le (ceiling - next) (block / 2)) (nat_lt ceiling (raised block seen)) test).1
+      ltb-true ceiling (raised_ceiling block seen)
+      (and_parts (nat_le ceiling seen || nat_le (ceiling - next) (block / 2)) (nat_lt ceiling (raised_ceiling block seen)) test).1
 
   -- a ceiling that was raised as far as is needed is not needed
-  no_more : (numbers : Numbers) (seen : ℕ) → needed block sci an numbers (raised block seen) (Some seen) ≡ None
+  no_more : (numbers : Numbers) (seen : ℕ) → need_by_seen block sci an numbers (raised_ceiling block seen) (Some seen) ≡ None
   no_more numbers seen =
-      let top = raised block seen in
+      let top = raised_ceiling block seen in
       let over : nat_lt top top ≡ false = le-ltb top top (omega arith) in
       let test : is_needed block numbers.next top seen ≡ false =
       ap (λ (b : Bool). (nat_le top seen || nat_le (top - numbers.next) (block / 2)) && b) over ∙ and-false (nat_le top seen || nat_le (top - numbers.next) (block / 2)) in
       ap (λ (b : Bool). cond b (Some (record { sci = sci; an = an; pn = seen })) None) test
 
   need_ends : (numbers : Option Numbers) (need : Need) (ceiling : Option ℕ) → IsNeed numbers ceiling need
-      → need_of block sci an numbers (Some (raised block need.pn)) ≡ None
+      → need_of block sci an numbers (Some (raised_ceiling block need.pn)) ≡ None
   need_ends numbers need ceiling is =
       let same : need.pn ≡ is.seen = ap (λ (n : Need). n.pn) is.is in
-      (λ i. need_of block sci an (is.has i) (Some (raised block (same i))))
-      ∙ (λ i. needed block sci an is.held (raised block is.seen) (is.has_seen i))
+      (λ i. need_of block sci an (is.has i) (Some (raised_ceiling block (same i))))
+      ∙ (λ i. need_by_seen block sci an is.held (raised_ceiling block is.seen) (is.has_seen i))
       ∙ no_more is.held is.seen
 
   rx_raised_within : (numbers : Option Numbers) (need : Need) (ceiling : Option ℕ) → IsNeed numbers ceiling need → IsRxWithin block numbers ceiling
@@ -129,7 +129,7 @@ module _ (block : ℕ) (sci : List ℕ) (an : ℕ) where
       let before : IsRxWithin block (Some is.held) (Some is.top) = subst (λ (n : Option Numbers). IsRxWithin block n (Some is.top)) is.has
       (subst (λ (c : Option ℕ). IsRxWithin block numbers c) is.has_ceiling within) in
       let below : is.held.next ≤ is.top = before.0 in
-      let above : is.top < raised block is.seen = below_raised is.held.next is.top is.seen is.test in
+      let above : is.top < raised_ceiling block is.seen = below_raised is.held.next is.top is.seen is.test in
       let further : (is.held.next ≤ ahead is.seen block) × (ahead is.seen block ≤ rx_limit block is.held.next (Some is.seen)) =
       (omega (arith, below, above), omega arith) in
       subst (λ (n : Option Numbers). IsRxWithin block n (Some (ahead need.pn block))) (sym is.has)
@@ -181,7 +181,7 @@ module _ {D : Type 0} (disk_of : D → disk.Disk) where
   pub reserves-on : (old mid new : EndpointValue D) (result : Result (Unit {0}) RefillFault) → Reserves disk_of old (Ok tt) mid → Reserves disk_of mid result new
       → Reserves disk_of old result new
   reserves-on old mid new result first second = record {
-    step = λ logs. subst (λ (s : State). Refilling s result (state_of new logs)) (first.step logs) (second.step logs);
+    step = λ logs. subst (λ (s : State). RefillStep s result (state_of new logs)) (first.step logs) (second.step logs);
     works = Works-on (disk_in disk_of old) (disk_in disk_of mid) (disk_in disk_of new) first.works second.works;
     fails = fails_on (disk_in disk_of old) (disk_in disk_of mid) (disk_in disk_of new) result first.fails second.fails;
     any_moment = λ honest backed logs.
@@ -213,7 +213,7 @@ module _ {D : Type 0} (disk_of : D → disk.Disk) where
     channel_counters = refl;
   })
 
-  still_by : (old new : EndpointValue D) (result : Result (Unit {0}) RefillFault) → Refilling (state_of old no_logs) result (state_of new no_logs)
+  still_by : (old new : EndpointValue D) (result : Result (Unit {0}) RefillFault) → RefillStep (state_of old no_logs) result (state_of new no_logs)
       → IsStill old Refills (Refilled result) new
   still_by old new (Ok done) step = tt
   still_by old new (Err refill.AreaFull) step = tt
@@ -247,14 +247,14 @@ module _ {D : Type 0} (disk_of : D → disk.Disk) where
 
 -- an image that stands for either ceilings fits
 either_fits : (sectors : ℕ) (image : Image) → least_sectors ≤ sectors → (s : State) (c d : Ceilings) → AreAhead s.identity s.next s.numbers c
-    → AreAhead s.identity s.next s.numbers d → IsBeforeOrAfter (standing_with s c) (standing_with s d) image → Fits s.edition sectors image s
+    → AreAhead s.identity s.next s.numbers d → FindsEitherStanding (standing_with s c) (standing_with s d) image → Fits s.edition sectors image s
 either_fits sectors image size s c d first second left = elim left [
   | inl before ↦ fits-ahead sectors image size s c first before
   | inr later ↦ fits-ahead sectors image size s d second later
 ]
 
 module _ {D : Type 0} (disk_of : D → disk.Disk) (e : EndpointValue D) (kept : IsSoundEndpoint e) (running : is_stopped e ≡ false) (c : Ceilings)
-    (are : AreAhead (standing_in e.store).identity (txsc.side_of e.tx).next (rxsc.side_of e.rx).numbers c) where
+    (are : AreAhead (standing_in e.store).identity (txsc.tx_side_of e.tx).next (rxsc.rx_side_of e.rx).numbers c) where
   -- what stands with these ceilings
   abbrev pub raised_to : Standing
   raised_to = record { edition = this_edition; identity = (standing_in e.store).identity; config = (standing_in e.store).config; ceilings = c }
@@ -263,14 +263,14 @@ module _ {D : Type 0} (disk_of : D → disk.Disk) (e : EndpointValue D) (kept : 
       → IsHonest (store.disk_in disk_of s) → IsBacked disk_of e → (logs : Logs)
       → Leaves (disk_in disk_of e) (store.disk_in disk_of s) (FitsState (state_of e logs) (disk_in disk_of e))
   raise_moments s result raises honest backed logs =
-      Leaves-weaker (disk_in disk_of e) (store.disk_in disk_of s) (IsBeforeOrAfter (standing_in e.store) raised_to)
+      Leaves-weaker (disk_in disk_of e) (store.disk_in disk_of s) (FindsEitherStanding (standing_in e.store) raised_to)
       (FitsState (state_of e logs) (disk_in disk_of e))
       (λ image left. either_fits (disk_in disk_of e).sectors image backed.size (state_of e logs) (standing_in e.store).ceilings c (kept-ahead e kept) are left)
       (raises.any_moment honest (backed.stored running))
 
   -- the ceiling was raised
-  module _ (s : store.StoreValue D) (raises : Keeps disk_of e.store raised_to (Ok tt) s) (tx : Tx) (rx : rxsc.Kept)
-      (tx_side : txsc.side_of tx ≡ txsc.side_of e.tx) (rx_side : rxsc.side_of rx ≡ rxsc.side_of e.rx)
+  module _ (s : store.StoreValue D) (raises : Keeps disk_of e.store raised_to (Ok tt) s) (tx : Tx) (rx : rxsc.RxValue)
+      (tx_side : txsc.tx_side_of tx ≡ txsc.tx_side_of e.tx) (rx_side : rxsc.rx_side_of rx ≡ rxsc.rx_side_of e.rx)
       (tx_ceilings : txsc.ceilings_of tx ≡ c.tx) (rx_ceilings : rxsc.ceilings_of rx ≡ c.rx) where
     abbrev raised_in : EndpointValue D
     raised_in = record { store = s; tx = tx; rx = rx; in_hand = e.in_hand }
@@ -280,15 +280,15 @@ module _ {D : Type 0} (disk_of : D → disk.Disk) (e : EndpointValue D) (kept : 
         let old = standing_in e.store in
         let channels : AreChannels tx rx raised_to = record {
           tx_is = tx_side ∙ kept.channels.tx_is
-              ∙ ap (λ (n : ℕ → Option ℕ). transmitting old.identity old.config n) (sym (ap (λ (x : TxSide). x.next) tx_side));
+              ∙ ap (λ (n : ℕ → Option ℕ). tx_side_with old.identity old.config n) (sym (ap (λ (x : TxSide). x.next) tx_side));
           rx_is = rx_side ∙ kept.channels.rx_is
-              ∙ ap (λ (n : List ℕ → ℕ → Option Numbers). receiving old.config n) (sym (ap (λ (x : RxSide). x.numbers) rx_side));
+              ∙ ap (λ (n : List ℕ → ℕ → Option Numbers). rx_side_with old.config n) (sym (ap (λ (x : RxSide). x.numbers) rx_side));
           tx_ceilings = tx_ceilings;
           rx_ceilings = rx_ceilings;
         } in
-        let same : AreAhead old.identity (txsc.side_of tx).next (rxsc.side_of rx).numbers c =
-        subst (λ (x : TxSide). AreAhead old.identity x.next (rxsc.side_of rx).numbers c) (sym tx_side)
-        (subst (λ (x : RxSide). AreAhead old.identity (txsc.side_of e.tx).next x.numbers c) (sym rx_side) are) in
+        let same : AreAhead old.identity (txsc.tx_side_of tx).next (rxsc.rx_side_of rx).numbers c =
+        subst (λ (x : TxSide). AreAhead old.identity x.next (rxsc.rx_side_of rx).numbers c) (sym tx_side)
+        (subst (λ (x : RxSide). AreAhead old.identity (txsc.tx_side_of e.tx).next x.numbers c) (sym rx_side) are) in
         let within = ahead-within tx rx raised_to channels same in
         record {
           identity = subst (λ (x : Standing). IsIdentity x.identity) (sym raises.done) kept.identity;
@@ -331,12 +331,12 @@ module _ {D : Type 0} (disk_of : D → disk.Disk) (e : EndpointValue D) (kept : 
     cut_reserves raises =
         let same : standing_in s ≡ standing_in e.store = ap standing_of (raises.halted refl).1 in
         let stopped : store.is_stopped s ≡ true = (raises.halted refl).0 in
-        let step : (logs : Logs) → state_of kept_in logs ≡ halted (state_of e logs) = λ logs. λ i. record {
+        let step : (logs : Logs) → state_of kept_in logs ≡ after_fault (state_of e logs) = λ logs. λ i. record {
           edition = this_edition;
           identity = (same i).identity;
           config = (same i).config;
-          next = (txsc.side_of e.tx).next;
-          numbers = (rxsc.side_of e.rx).numbers;
+          next = (txsc.tx_side_of e.tx).next;
+          numbers = (rxsc.rx_side_of e.rx).numbers;
           logs = logs;
           stopped = stopped i;
           in_hand = e.in_hand;
@@ -354,8 +354,8 @@ module _ {D : Type 0} (disk_of : D → disk.Disk) (e : EndpointValue D) (kept : 
                 size = size;
                 stored = λ going. absurd cc;
                 fits = λ logs image left. subst (λ (x : State). Fits this_edition sectors image x) (sym (step logs))
-                    (either_fits sectors image size (halted (state_of e logs)) (standing_in e.store).ceilings c (kept-ahead e kept) are
-                    (Leaves-now (disk_in disk_of e) (store.disk_in disk_of s) (IsBeforeOrAfter (standing_in e.store) raised_to) leaves image left));
+                    (either_fits sectors image size (after_fault (state_of e logs)) (standing_in e.store).ceilings c (kept-ahead e kept) are
+                    (Leaves-now (disk_in disk_of e) (store.disk_in disk_of s) (FindsEitherStanding (standing_in e.store) raised_to) leaves image left));
               };
           limited = tt;
           tx_counters = refl;
@@ -460,7 +460,7 @@ module _ (side : TxSide) (ceilings : ℕ → Option ℕ) (block an : ℕ) where
       tx_by_test k next top sa stands is_next is_top (transmit.is_needed block next top) refl is
 
   tx_by_next : (k : ℕ) (sa : Option TxSa) (next : Option ℕ) → side.tx k ≡ sa → side.next k ≡ next
-      → transmit.need_at ceilings block (transmit.numbered k sa next) ≡ Some an → IsTxNeed side ceilings block an
+      → transmit.need_at ceilings block (transmit.outgoing_if k sa next) ≡ Some an → IsTxNeed side ceilings block an
   tx_by_next k None None stands is_next is = absurd cc
   tx_by_next k None (Some next) stands is_next is = absurd cc
   tx_by_next k (Some sa) None stands is_next is = absurd cc
@@ -599,9 +599,9 @@ module _ (numbers : List ℕ → ℕ → Option Numbers) (c : List ℕ → ℕ �
     (is : need_of block need.sci need.an (numbers need.sci need.an) (c need.sci need.an) ≡ Some need) where
   -- with the ceiling raised that is needed
   abbrev pub served : List ℕ → ℕ → Option ℕ
-  served = put_at c need.sci (put (c need.sci) need.an (Some (raised block need.pn)))
+  served = put_at c need.sci (put (c need.sci) need.an (Some (raised_ceiling block need.pn)))
 
-  ended : need_of block need.sci need.an (numbers need.sci need.an) (Some (raised block need.pn)) ≡ None
+  ended : need_of block need.sci need.an (numbers need.sci need.an) (Some (raised_ceiling block need.pn)) ≡ None
   ended =
       need_ends block need.sci need.an (numbers need.sci need.an) need (c need.sci need.an)
       (is-need block need.sci need.an (numbers need.sci need.an) (c need.sci need.an) need is)
@@ -611,13 +611,13 @@ module _ (numbers : List ℕ → ℕ → Option Numbers) (c : List ℕ → ℕ �
     ends = λ has.
         let place = own_place numbers c block sci an need has in
         (λ i. need_at numbers served block (place.0 i) (place.1 i))
-        ∙ ap (need_of block need.sci need.an (numbers need.sci need.an)) (put_self c need.sci need.an (Some (raised block need.pn))) ∙ ended;
+        ∙ ap (need_of block need.sci need.an (numbers need.sci need.an)) (put_self c need.sci need.an (Some (raised_ceiling block need.pn))) ∙ ended;
     either =
         put_at_all (λ (row : ℕ → Option ℕ). (need_of block sci an (numbers sci an) (row an) ≡ need_at numbers c block sci an)
-        ⊎ (need_of block sci an (numbers sci an) (row an) ≡ None)) c need.sci (put (c need.sci) need.an (Some (raised block need.pn))) sci
+        ⊎ (need_of block sci an (numbers sci an) (row an) ≡ None)) c need.sci (put (c need.sci) need.an (Some (raised_ceiling block need.pn))) sci
         (λ same. put_all (λ (o : Option ℕ). (need_of block sci an (numbers sci an) o ≡ need_at numbers c block sci an)
-        ⊎ (need_of block sci an (numbers sci an) o ≡ None)) (c need.sci) need.an (Some (raised block need.pn)) an
-        (λ same_an. inr ((λ i. need_of block (same i) (same_an i) (numbers (same i) (same_an i)) (Some (raised block need.pn))) ∙ ended))
+        ⊎ (need_of block sci an (numbers sci an) o ≡ None)) (c need.sci) need.an (Some (raised_ceiling block need.pn)) an
+        (λ same_an. inr ((λ i. need_of block (same i) (same_an i) (numbers (same i) (same_an i)) (Some (raised_ceiling block need.pn))) ∙ ended))
         (λ other. inl (λ i. need_of block sci an (numbers sci an) (c (sym same i) an))))
         (λ other. inl refl);
   }
@@ -642,7 +642,7 @@ module _ (s : Standing) (side : RxSide) (c : List ℕ → ℕ → Option ℕ) (a
   rx_block = s.identity.rx_block
 
   module _ (need : Need) (is : need_of rx_block need.sci need.an (side.numbers need.sci need.an) (c need.sci need.an) ≡ Some need) where
-    refilled : Some (raised rx_block need.pn) ≡ rx_refilled s side need.sci need.an
+    refilled : Some (raised_ceiling rx_block need.pn) ≡ rx_refilled s side need.sci need.an
     refilled =
         let at = need_of rx_block need.sci need.an (side.numbers need.sci need.an) in
         elim (are need.sci need.an) [
@@ -655,9 +655,9 @@ module _ (s : Standing) (side : RxSide) (c : List ℕ → ℕ → Option ℕ) (a
     pub one-more : AreSome s side (served side.numbers c rx_block need is)
     one-more sci an =
         put_at_all (λ (row : ℕ → Option ℕ). (row an ≡ s.ceilings.rx sci an) ⊎ (row an ≡ rx_refilled s side sci an)) c need.sci
-        (put (c need.sci) need.an (Some (raised rx_block need.pn))) sci
+        (put (c need.sci) need.an (Some (raised_ceiling rx_block need.pn))) sci
         (λ same. put_all (λ (o : Option ℕ). (o ≡ s.ceilings.rx sci an) ⊎ (o ≡ rx_refilled s side sci an)) (c need.sci) need.an
-        (Some (raised rx_block need.pn)) an
+        (Some (raised_ceiling rx_block need.pn)) an
         (λ same_an. inr (refilled ∙ sym (λ i. rx_refilled s side (same i) (same_an i))))
         (λ other. subst (λ (t : List ℕ). (c t an ≡ s.ceilings.rx sci an) ⊎ (c t an ≡ rx_refilled s side sci an)) same (are sci an)))
         (λ other. are sci an)
@@ -715,7 +715,7 @@ module _ (side : RxSide) (c : List ℕ → ℕ → Option ℕ) (block : ℕ) whe
   none_among (other ∷ scis) sci an below is has =
       by_same scis sci other an below is (bytes_eq other sci) refl has (none_among scis sci an below)
 
-  none_stands : (w : ℕ) (sa : Option RxSa) (n : Option Numbers) (o : Option ℕ) → sa ≡ None → rx.Stands w sa n o → n ≡ None
+  none_stands : (w : ℕ) (sa : Option RxSa) (n : Option Numbers) (o : Option ℕ) → sa ≡ None → rx.IsNumbered w sa n o → n ≡ None
   none_stands w None None o is stands = refl
   none_stands w None (Some n) None is stands = absurd stands
   none_stands w None (Some n) (Some top) is stands = absurd stands
@@ -812,7 +812,7 @@ pub none-told : (side : RxSide) (c d : List ℕ → ℕ → Option ℕ) (block o
 none-told side c d block other result told same same_block none =
     sym (λ i. needs_of side (same i) (same_block i)) ∙ sym told ∙ ap (option_map need_shown) none
 
-stands_some : (w : ℕ) (sa : Option RxSa) (n : Option Numbers) (o : Option ℕ) (held : Numbers) → n ≡ Some held → rx.Stands w sa n o → IsSome sa
+stands_some : (w : ℕ) (sa : Option RxSa) (n : Option Numbers) (o : Option ℕ) (held : Numbers) → n ≡ Some held → rx.IsNumbered w sa n o → IsSome sa
 stands_some w (Some sa) n o held is stands = refl
 stands_some w None None o held is stands = absurd cc
 stands_some w None (Some n) None held is stands = absurd stands
@@ -840,7 +840,7 @@ module _ (block : ℕ) (sci : List ℕ) (an : ℕ) (numbers : Option Numbers) (c
       let within : told.top ≤ top = omega (arith, under, same) in
       subst (λ (o : Option ℕ). IfSome o (λ (old : ℕ). old ≤ top)) (sym told.has_ceiling) within
 
-  pub need-stands : (w : ℕ) (sa : Option RxSa) (o : Option ℕ) → rx.Stands w sa numbers o → IsSome sa
+  pub need-stands : (w : ℕ) (sa : Option RxSa) (o : Option ℕ) → rx.IsNumbered w sa numbers o → IsSome sa
   need-stands w sa o stands = stands_some w sa numbers o told.held told.has stands
 
 -- the ceiling that was raised
@@ -903,7 +903,7 @@ module _ {D : Type 0} (disk_of : D → disk.Disk) (old mid : EndpointValue D) (s
 
   -- one ceiling more was raised
   module _ (need : Need) (first : needs_of (rx_side (state_of mid no_logs)) c (standing_in mid.store).identity.rx_block ≡ Some need) (new : EndpointValue D)
-      (step : Reserves disk_of mid (Ok tt) new) (done : standing_in new.store ≡ rx_raised (standing_in mid.store) need.sci need.an need.pn) where
+      (step : Reserves disk_of mid (Ok tt) new) (done : standing_in new.store ≡ with_rx_raised (standing_in mid.store) need.sci need.an need.pn) where
     pub turn-less : left (state_of new no_logs) (standing_in new.store).ceilings.rx < left (state_of mid no_logs) c
     turn-less =
         let s = state_of mid no_logs in
@@ -928,6 +928,6 @@ module _ {D : Type 0} (disk_of : D → disk.Disk) (old mid : EndpointValue D) (s
         let here = first-place s.numbers c s.identity.rx_block s.config.channels need first_old in
         let is : (standing_in new.store).ceilings.rx ≡ served s.numbers c s.identity.rx_block need here =
         (λ i. (done i).ceilings.rx)
-        ∙ (λ i. put_at c need.sci (put (c need.sci) need.an (Some (raised (same i).identity.rx_block need.pn)))) in
+        ∙ (λ i. put_at c need.sci (put (c need.sci) need.an (Some (raised_ceiling (same i).identity.rx_block need.pn)))) in
         subst (λ (x : List ℕ → ℕ → Option ℕ). AreSome (standing_in old.store) (rx_side s) x) (sym is)
         (one-more (standing_in old.store) (rx_side s) c are need here)

@@ -13,12 +13,12 @@ use Rattle.macs_config.specs.declared.command.Command.{Command}
 use Rattle.macs_config.specs.declared.command.Command.TheVariants.{SetValidate, SetReplay, SetSciMode, TxInstall, TxUse, TxRemove, RxAdd, RxDrop, RxInstall, RxRemove}
 use Rattle.macs_config.proofs.Tables.{put_all, put_at_all}
 use Rattle.macs_disk.specs.Disk.{Disk}
-use Rattle.macs_txsc.specs.Transmit.{Outgoing, TxSide, is_at_ceiling, is_used_up, numbered, outgoing, outgoing_at, tx_faults}
+use Rattle.macs_txsc.specs.Transmit.{Outgoing, TxSide, is_at_ceiling, is_used_up, outgoing_if, outgoing, outgoing_at, tx_faults}
 use Rattle.macs_txsc.specs.Transmit as tx
-use Rattle.macs_txsc.specs.View.{association_at, sa_of}
+use Rattle.macs_txsc.specs.Value.{association_at, sa_of}
 use Rattle.macs_txsc.specs.declared.association.Association.{Association}
 use Rattle.macs_txsc.specs.declared.fault.TxFault.TheVariants.{Runt, TooLong, ForeignSource, NoEncodingSa, Exhausted, NoNumber}
-use Rattle.macs_rxsc.specs.Needs.{Need, is_needed, need_of, needed, raised}
+use Rattle.macs_rxsc.specs.Needs.{Need, is_needed, need_of, need_by_seen, raised_ceiling}
 use Rattle.macs_rxsc.specs.Receive.{Arrival, Arrives, Numbers, is_below}
 use Rattle.macs_rxsc.specs.declared.verdict.Verdict.TheVariants.{HeldBack}
 use Rattle.macs_rxsc.proofs.Steps.{arrives_once}
@@ -29,8 +29,8 @@ use Rattle.macs_endpoint.specs.Calls.{IsCall}
 use Rattle.macs_endpoint.specs.Ceilings.{CeilingsAfter, rx_refilled, rx_served, tx_refilled, tx_served}
 use Rattle.macs_endpoint.specs.Value.{IsSoundEndpoint, IsRxWithin, IsTxWithin, EndpointValue, state_of}
 use Rattle.macs_endpoint.specs.Lives.{Lives, Turn}
-use Rattle.macs_endpoint.specs.Rooms.{HasRoom, IsBelow, IsEncoding, RxStays, SparesRx, SparesTx, TxStays, one_if, written}
-use Rattle.macs_endpoint.specs.State.{Call, Commands, Protects, Protected, Ran, Received, Receives, Refilled, Refills, Reply, State, made, no_logs, rx_side, tx_side}
+use Rattle.macs_endpoint.specs.Rooms.{HasRoom, IsBelow, IsEncoding, RxStays, SparesRx, SparesTx, TxStays, one_if, frames_sent}
+use Rattle.macs_endpoint.specs.State.{Call, Commands, Protects, Protected, Ran, Received, Receives, Refilled, Refills, Reply, State, command_made, no_logs, rx_side, tx_side}
 use Rattle.macs_endpoint.specs.Step.{Step, next_after}
 use Rattle.macs_endpoint.specs.declared.fault.ProtectFault.TheVariants as protect
 use Rattle.macs_endpoint.specs.declared.fault.RefillFault.TheVariants as refill
@@ -136,7 +136,7 @@ covers_command count used an identity (RxInstall sci at key start offset) done n
 covers_command count used an identity (RxRemove sci at) done next c keeps covers = covers
 
 -- what goes out does so under the association that is chosen, with its next number
-outgoing_numbered : (an : ℕ) (sa : Option TxSa) (n : Option ℕ) (o : Outgoing) → numbered an sa n ≡ Some o → (o.an ≡ an) × (n ≡ Some o.pn)
+outgoing_numbered : (an : ℕ) (sa : Option TxSa) (n : Option ℕ) (o : Outgoing) → outgoing_if an sa n ≡ Some o → (o.an ≡ an) × (n ≡ Some o.pn)
 outgoing_numbered an None n o is = absurd cc
 outgoing_numbered an (Some sa) None o is = absurd cc
 outgoing_numbered an (Some sa) (Some pn) o is =
@@ -195,7 +195,7 @@ module _ (count used an : ℕ) (s t : State) (f g : Standing) where
   next_of x = x.next
 
   -- through a call
-  covers_step : (call : Call) (reply : Reply) → Step s call reply t → CeilingsAfter s f call reply g → SparesTx an (made s call reply)
+  covers_step : (call : Call) (reply : Reply) → Step s call reply t → CeilingsAfter s f call reply g → SparesTx an (command_made s call reply)
       → Covers count used (s.next an) (f.ceilings.tx an)
       → Covers count (used + one_if s.config.encoding an reply) (t.next an) (g.ceilings.tx an)
   covers_step (Commands command) (Ran (Ok done)) (inl step) stands keeps covers = absurd step.1
@@ -297,12 +297,12 @@ under_command sci an pn identity (RxRemove channel at) done c keeps under =
 under_needed : (block an pn next ceiling seen : ℕ) (sci : List ℕ) (is : Bool) → is_needed block next ceiling seen ≡ is → pn < ceiling
     → IsUnder (rx_served block (Some ceiling) (cond is (Some (record { sci = sci; an = an; pn = seen })) None)) pn
 under_needed block an pn next ceiling seen sci true is under =
-    let higher : ceiling < raised block seen = grind (arith, nat_tests, (and_parts (nat_le ceiling seen || nat_le (ceiling - next) (block / 2)) (nat_lt ceiling (raised block seen)) is).1) in
+    let higher : ceiling < raised_ceiling block seen = grind (arith, nat_tests, (and_parts (nat_le ceiling seen || nat_le (ceiling - next) (block / 2)) (nat_lt ceiling (raised_ceiling block seen)) is).1) in
     omega (arith, higher, under)
 under_needed block an pn next ceiling seen sci false is under = under
 
 under_seen : (block an pn : ℕ) (sci : List ℕ) (numbers : Numbers) (ceiling : ℕ) (seen : Option ℕ) → pn < ceiling
-    → IsUnder (rx_served block (Some ceiling) (needed block sci an numbers ceiling seen)) pn
+    → IsUnder (rx_served block (Some ceiling) (need_by_seen block sci an numbers ceiling seen)) pn
 under_seen block an pn sci numbers ceiling None under = under
 under_seen block an pn sci numbers ceiling (Some seen) under =
     under_needed block an pn numbers.next ceiling seen sci (is_needed block numbers.next ceiling seen) refl under
@@ -323,7 +323,7 @@ module _ (sci : List ℕ) (an pn : ℕ) (s : State) (f g : Standing) where
   under_same same under = subst (λ (x : Standing). IsUnder (x.ceilings.rx sci an) pn) (sym same) under
 
   -- through a call
-  under_stands : (call : Call) (reply : Reply) → CeilingsAfter s f call reply g → SparesRx sci an (made s call reply) → IsUnder (f.ceilings.rx sci an) pn
+  under_stands : (call : Call) (reply : Reply) → CeilingsAfter s f call reply g → SparesRx sci an (command_made s call reply) → IsUnder (f.ceilings.rx sci an) pn
       → IsUnder (g.ceilings.rx sci an) pn
   under_stands (Commands command) (Ran (Ok done)) stands keeps under =
       let parts = accept-parts f command g stands in
@@ -435,13 +435,13 @@ module _ {D : Type 0} (disk_of : D → Disk) where
 
   covers_lives : (count an : ℕ) (turns : List (Turn D)) (used : ℕ) (old new : EndpointValue D) → Lives disk_of old turns new → TxStays an old turns
       → Covers count used ((state_of old no_logs).next an) ((standing_in old.store).ceilings.tx an)
-      → Covers count (used + written an old turns) ((state_of new no_logs).next an) ((standing_in new.store).ceilings.tx an)
+      → Covers count (used + frames_sent an old turns) ((state_of new no_logs).next an) ((standing_in new.store).ceilings.tx an)
   covers_lives count an [] used old new lives stays covers =
       subst (λ (e : EndpointValue D). Covers count (used + 0) ((state_of e no_logs).next an) ((standing_in e.store).ceilings.tx an)) (sym lives)
       (covers_more count used 0 ((state_of old no_logs).next an) ((standing_in old.store).ceilings.tx an) covers)
   covers_lives count an (turn ∷ turns) used old new lives stays covers =
       let one = one_if (standing_in old.store).config.encoding an turn.reply in
-      let rest = written an turn.after turns in
+      let rest = frames_sent an turn.after turns in
       let ended = lives.1.behaves.step no_logs in
       let here : Covers count (used + one) ((state_of turn.after no_logs).next an) ((standing_in turn.after.store).ceilings.tx an) =
       covers_step count used an (state_of old no_logs) (state_of turn.after ended.0) (standing_in old.store) (standing_in turn.after.store)
@@ -468,15 +468,15 @@ module _ {D : Type 0} (disk_of : D → Disk) where
 
   -- where its numbers are in order at the end
   pub room-stays : (old new : EndpointValue D) (turns : List (Turn D)) (an count : ℕ) → IsSoundEndpoint new → Lives disk_of old turns new → TxStays an old turns
-      → HasRoom old an count → HasRoom new an (count - written an old turns)
+      → HasRoom old an count → HasRoom new an (count - frames_sent an old turns)
   room-stays old new turns an count kept lives stays room =
       let n = (state_of new no_logs).next an in
       let c = (standing_in new.store).ceilings.tx an in
       let covers : Covers count 0 ((state_of old no_logs).next an) ((standing_in old.store).ceilings.tx an) =
       covers_of count room.next room.ceiling ((state_of old no_logs).next an) ((standing_in old.store).ceilings.tx an) room.is_next room.is_ceiling room.room in
       let later = covers_lives count an turns 0 old new lives stays covers in
-      room_of new an count (written an old turns) (standing_in new.store).identity.tx_block n c refl refl ((kept-ahead new kept).tx_ahead an)
-      (covers_same count (0 + written an old turns) (written an old turns) n c (omega arith) later)
+      room_of new an count (frames_sent an old turns) (standing_in new.store).identity.tx_block n c refl refl ((kept-ahead new kept).tx_ahead an)
+      (covers_same count (0 + frames_sent an old turns) (frames_sent an old turns) n c (omega arith) later)
 
   pub room-installed : (old new : EndpointValue D) (an : ℕ) (key : List ℕ) (start : ℕ) (confidential : Bool) (offset : ℕ)
       → IsCall disk_of old (Commands (TxInstall an key start confidential offset)) (Ran (Ok tt)) new
@@ -572,7 +572,7 @@ module _ {D : Type 0} (disk_of : D → Disk) where
       (subst (λ (x : Option ℕ). IsTxWithin block x (before.ceilings.tx an)) is_next ((kept-ahead old kept).tx_ahead an)) in
       let o : Outgoing = record { an = an; sa = sa_of one; pn = one.next } in
       let chosen : side.encoding ≡ Some an = sym (ap (λ (x : Config). x.encoding) call.behaves.ceilings.config) ∙ encodes.0 in
-      let goes : outgoing side ≡ Some o = ap (outgoing_at side) chosen ∙ (λ i. numbered an (is_sa i) (is_next i)) in
+      let goes : outgoing side ≡ Some o = ap (outgoing_at side) chosen ∙ (λ i. outgoing_if an (is_sa i) (is_next i)) in
       let room : Leaves-room ((tx_refilled before side).ceilings.tx an) one.next (block / 2 + 1) =
       subst (λ (x : Option Outgoing). Leaves-room ((tx_served before (tx.need_at before.ceilings.tx block x)).ceilings.tx an) one.next (block / 2 + 1))
       (sym goes) (served_room before an one.next ceiling.0 (sa_of one) kept.identity.tx_block.0 ceiling.1 ceiling.2 ceiling.3) in
@@ -605,8 +605,8 @@ module _ {D : Type 0} (disk_of : D → Disk) where
   another_fault false false false false false is = cc
 
   numbers_left : (an next ceiling count : ℕ) (sa : Option TxSa) (ceilings : ℕ → Option ℕ) → ceilings an ≡ Some ceiling
-      → (next + count ≤ ceiling) ⊎ (ceiling ≡ 2 ^ 32) → 1 ≤ count → is_at_ceiling ceilings (numbered an sa (Some next)) ≡ true
-      → is_used_up (numbered an sa (Some next)) ≡ false → ⊥
+      → (next + count ≤ ceiling) ⊎ (ceiling ≡ 2 ^ 32) → 1 ≤ count → is_at_ceiling ceilings (outgoing_if an sa (Some next)) ≡ true
+      → is_used_up (outgoing_if an sa (Some next)) ≡ false → ⊥
   numbers_left an next ceiling count None ceilings is_ceiling room least at unused = cc
   numbers_left an next ceiling count (Some sa) ceilings is_ceiling room least at unused =
       let reached : (ceiling == next) ≡ true = ap (λ (c : Option ℕ). option_map_or (λ x. x == next) c false) (sym is_ceiling) ∙ at in
@@ -621,8 +621,8 @@ module _ {D : Type 0} (disk_of : D → Disk) where
   room-numbered old new an count plain out encodes room least call =
       let side = tx_side (state_of old no_logs) in
       let c = (standing_in old.store).ceilings.tx in
-      let goes : outgoing side ≡ numbered an (side.tx an) (Some room.next) =
-      ap (outgoing_at side) encodes.0 ∙ ap (numbered an (side.tx an)) room.is_next in
+      let goes : outgoing side ≡ outgoing_if an (side.tx an) (Some room.next) =
+      ap (outgoing_at side) encodes.0 ∙ ap (outgoing_if an (side.tx an)) room.is_next in
       let ended = call.behaves.step no_logs in
       elim ended.1 [
         | inl stopped ↦ stopped.1

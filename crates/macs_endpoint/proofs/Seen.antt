@@ -7,15 +7,15 @@ use Rattle.macs_config.specs.declared.command.Command.{Command}
 use Rattle.macs_config.specs.declared.command.Command.TheVariants.{SetValidate, SetReplay, SetSciMode, TxInstall, TxUse, TxRemove, RxAdd, RxDrop, RxInstall, RxRemove}
 use Rattle.macs_config.proofs.Tables.{put_all, put_at_all}
 use Rattle.macs_disk.specs.Disk.{Disk}
-use Rattle.macs_rxsc.specs.Receive.{Arrival, Arrives, Holds, Numbers, advanced, held_back, put_numbers, seen_after, started, steps, windowed}
+use Rattle.macs_rxsc.specs.Receive.{Arrival, Arrives, Holds, Numbers, after_delivery, after_hold, put_numbers, seen_after, first_numbers, checks, under_window}
 use Rattle.macs_rxsc.specs.declared.verdict.Verdict.TheVariants.{HeldBack}
 use Rattle.macs_rxsc.proofs.Steps.{arrives_once}
 use Rattle.macs_store.specs.declared.fault.CommitFault.TheVariants as commit
 use Rattle.macs_endpoint.specs.Calls.{IsCall}
 use Rattle.macs_endpoint.specs.Lives.{Lives, Turn}
 use Rattle.macs_endpoint.specs.Rooms.{IsBelow, RxStays, SparesRx}
-use Rattle.macs_endpoint.specs.State.{Call, Commands, Protects, Protected, Ran, Received, Receives, Refilled, Refills, Reply, State, made, no_logs, rx_side}
-use Rattle.macs_endpoint.specs.Step.{Arriving, Step, held, numbers_after}
+use Rattle.macs_endpoint.specs.State.{Call, Commands, Protects, Protected, Ran, Received, Receives, Refilled, Refills, Reply, State, command_made, no_logs, rx_side}
+use Rattle.macs_endpoint.specs.Step.{ArriveStep, Step, state_after_hold, numbers_after}
 use Rattle.macs_endpoint.specs.Value.{EndpointValue, IsSoundEndpoint, state_of}
 use Rattle.macs_endpoint.specs.declared.fault.ProtectFault.TheVariants as protect
 use Rattle.macs_endpoint.specs.declared.fault.RefillFault.TheVariants as refill
@@ -39,7 +39,7 @@ reached-still : (seen : Option ℕ) (pn other : ℕ) → IsReached seen pn → I
 reached-still None pn other reached = absurd reached
 reached-still (Some seen) pn other reached = omega (arith, reached)
 
-seen-windowed : (window : ℕ) (numbers : Option Numbers) (pn : ℕ) → HasSeen numbers pn → HasSeen (option_map (windowed window) numbers) pn
+seen-windowed : (window : ℕ) (numbers : Option Numbers) (pn : ℕ) → HasSeen numbers pn → HasSeen (option_map (under_window window) numbers) pn
 seen-windowed window None pn seen = absurd seen
 seen-windowed window (Some numbers) pn seen = seen
 
@@ -86,7 +86,7 @@ module _ (sci : List ℕ) (an pn : ℕ) where
   seen-command (TxRemove at) numbers spares seen = seen
   seen-command (RxAdd added) numbers spares seen = seen
   seen-command (RxDrop dropped) numbers spares seen = seen-dropped numbers dropped spares seen
-  seen-command (RxInstall channel at key start offset) numbers spares seen = seen-other numbers channel at (Some (started start)) spares seen
+  seen-command (RxInstall channel at key start offset) numbers spares seen = seen-other numbers channel at (Some (first_numbers start)) spares seen
   seen-command (RxRemove channel at) numbers spares seen = seen-other numbers channel at None spares seen
 
   -- ---- a call
@@ -107,7 +107,7 @@ module _ (sci : List ℕ) (an pn : ℕ) where
         (λ had. subst (λ (o : Option ℕ). IsReached o pn) (sym is)
         (reached-still a.numbers.seen pn a.pn (subst (λ (n : Option Numbers). HasSeen n pn) are had))) seen)
 
-    seen-step : (call : Call) (reply : Reply) → Step s call reply t → SparesRx sci an (made s call reply) → HasSeen (s.numbers sci an) pn
+    seen-step : (call : Call) (reply : Reply) → Step s call reply t → SparesRx sci an (command_made s call reply) → HasSeen (s.numbers sci an) pn
         → HasSeen (t.numbers sci an) pn
     seen-step (Commands command) (Ran (Ok done)) (inl step) spares seen = absurd step.1
     seen-step (Commands command) (Ran (Ok done)) (inr step) spares seen =
@@ -159,8 +159,8 @@ module _ (sci : List ℕ) (an pn : ℕ) where
       | inr arrives ↦
           let a = arrives.0 in
           elim arrives.2 [
-            | inl back ↦ seen-arrived a (held_back a.numbers a.pn) arrives.1.are_numbers refl (ap numbers_in back.3) seen
-            | inr kept ↦ seen-arrived a (advanced s.config.replay.window a.numbers a.pn) arrives.1.are_numbers refl (ap numbers_in kept.2) seen
+            | inl back ↦ seen-arrived a (after_hold a.numbers a.pn) arrives.1.are_numbers refl (ap numbers_in back.3) seen
+            | inr kept ↦ seen-arrived a (after_delivery s.config.replay.window a.numbers a.pn) arrives.1.are_numbers refl (ap numbers_in kept.2) seen
           ]
     ]
     seen-step (Receives frame) (Received (Err stopped) out) (inr step) spares seen = absurd step.1
@@ -200,15 +200,15 @@ module _ {D : Type 0} (disk_of : D → Disk) where
       elim ended.1 [
         | inl stopped ↦ absurd stopped.1
         | inr ran ↦ elim ran.1 [
-          | inl settles ↦ absurd (none-first (Holds side frame) steps settles.0 arrives.unsettled settles.1)
+          | inl settles ↦ absurd (none-first (Holds side frame) checks settles.0 arrives.unsettled settles.1)
           | inr arrived ↦
               let same : arrived.0 ≡ a = arrives_once side frame arrived.0 a arrived.1 arrives in
-              let arriving : Arriving s a HeldBack out t = subst (λ (x : Arrival). Arriving s x HeldBack out t) same arrived.2 in
+              let arriving : ArriveStep s a HeldBack out t = subst (λ (x : Arrival). ArriveStep s x HeldBack out t) same arrived.2 in
               elim arriving [
                 | inl back ↦
-                    let is : t.numbers ≡ put_numbers s.numbers a.sci a.an (Some (held_back a.numbers a.pn)) = ap (λ (x : State). x.numbers) back.3 in
+                    let is : t.numbers ≡ put_numbers s.numbers a.sci a.an (Some (after_hold a.numbers a.pn)) = ap (λ (x : State). x.numbers) back.3 in
                     subst (λ (f : List ℕ → ℕ → Option Numbers). HasSeen (f a.sci a.an) a.pn) (sym is)
-                    (subst (λ (n : Option Numbers). HasSeen n a.pn) (sym (here_now s.numbers a.sci a.an (Some (held_back a.numbers a.pn))))
+                    (subst (λ (n : Option Numbers). HasSeen n a.pn) (sym (here_now s.numbers a.sci a.an (Some (after_hold a.numbers a.pn))))
                     (reached-now a.numbers.seen a.pn))
                 | inr kept ↦ absurd (let differ = kept.0 in cc)
               ]
@@ -219,14 +219,14 @@ module _ {D : Type 0} (disk_of : D → Disk) where
   pub below-again : (old mid late new : EndpointValue D) (turns : List (Turn D)) (frame out : List ℕ) (a : Arrival) → IsSoundEndpoint new
       → Arrives (rx_side (state_of old no_logs)) frame a → a.pn < 2 ^ 32 → IsCall disk_of old (Receives frame) (Received (Ok HeldBack) out) mid
       → Lives disk_of mid turns late → RxStays a.sci a.an mid turns → IsCall disk_of late Refills (Refilled (Ok tt)) new → IsBelow new a.sci a.an a.pn
-  below-again old mid late new turns frame out a kept arrives last held lives stays refill =
+  below-again old mid late new turns frame out a kept arrives last state_after_hold lives stays refill =
       let ended = refill.behaves.step no_logs in
       let same : (state_of new no_logs).numbers ≡ (state_of late no_logs).numbers = elim ended.1 [
         | inl stopped ↦ absurd stopped.1
         | inr ran ↦ ap (λ (x : State). x.numbers) ran.1
       ] in
       let seen : HasSeen ((state_of late no_logs).numbers a.sci a.an) a.pn =
-      seen-lives a.sci a.an a.pn turns mid late lives stays (seen-held old mid frame out a arrives held) in
+      seen-lives a.sci a.an a.pn turns mid late lives stays (seen-held old mid frame out a arrives state_after_hold) in
       by ((state_of new no_logs).numbers a.sci a.an) refl
       (subst (λ (f : List ℕ → ℕ → Option Numbers). HasSeen (f a.sci a.an) a.pn) (sym same) seen)
     where

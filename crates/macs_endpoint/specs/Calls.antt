@@ -2,8 +2,8 @@
 use Rattle.std.specs.Prelude.{◌≡◌, Err}
 use Rattle.macs_disk.specs.Disk.{Disk, FailsOnce, IsHonest, Works}
 use Rattle.macs_disk.specs.Runs.{Leaves}
-use Rattle.macs_txsc.specs.View as txsc
-use Rattle.macs_rxsc.specs.View as rxsc
+use Rattle.macs_txsc.specs.Value as txsc
+use Rattle.macs_rxsc.specs.Value as rxsc
 use Rattle.macs_store.specs.Value.{standing_in}
 use Rattle.macs_store.specs.declared.fault.CommitFault.TheVariants as commit
 use Rattle.macs_endpoint.specs.Ceilings.{CeilingsAfter}

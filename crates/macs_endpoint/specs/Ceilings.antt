@@ -3,11 +3,11 @@ use Rattle.std.specs.Prelude.{◌≡◌, ◌⊎◌, ℕ, List, Option, Some, Non
 use Rattle.macs_config.specs.declared.command.Command.{Command}
 use Rattle.macs_txsc.specs.Transmit.{TxSide}
 use Rattle.macs_txsc.specs.Transmit as tx
-use Rattle.macs_rxsc.specs.Needs.{Need, raised}
+use Rattle.macs_rxsc.specs.Needs.{Need, raised_ceiling}
 use Rattle.macs_rxsc.specs.Needs as rx
 use Rattle.macs_rxsc.specs.Receive.{RxSide}
-use Rattle.macs_store.specs.Standing.{Standing, accept, tx_raised}
-use Rattle.macs_endpoint.specs.State.{Call, Refilled, Refills, Reply, State, made, rx_side, tx_side}
+use Rattle.macs_store.specs.Standing.{Standing, accept, with_tx_raised}
+use Rattle.macs_endpoint.specs.State.{Call, Refilled, Refills, Reply, State, command_made, rx_side, tx_side}
 use Rattle.macs_endpoint.specs.declared.fault.RefillFault.{RefillFault}
 
 -- ---- reservations
@@ -15,7 +15,7 @@ use Rattle.macs_endpoint.specs.declared.fault.RefillFault.{RefillFault}
 -- the ceiling that is needed is raised, if one is
 abbrev pub tx_served : Standing → Option ℕ → Standing
 tx_served s None = s
-tx_served s (Some an) = tx_raised s an
+tx_served s (Some an) = with_tx_raised s an
 
 -- what stands once the need of the transmit side is served, if it has one
 abbrev pub tx_refilled : Standing → TxSide → Standing
@@ -24,7 +24,7 @@ tx_refilled s side = tx_served s (tx.need_of side s.ceilings.tx s.identity.tx_bl
 -- the ceiling that a need asks for, or the one that there is where nothing is needed
 abbrev pub rx_served : ℕ → Option ℕ → Option Need → Option ℕ
 rx_served block ceiling None = ceiling
-rx_served block ceiling (Some need) = Some (raised block need.pn)
+rx_served block ceiling (Some need) = Some (raised_ceiling block need.pn)
 
 -- the ceiling of a receive association, raised if that is needed
 abbrev pub rx_refilled : Standing → RxSide → List ℕ → ℕ → Option ℕ
@@ -62,4 +62,4 @@ StandsRefilled tx_side rx_side old (Err fault) new = IsPartlyRefilled old new tx
 -- what stands, its ceilings included, after a call of an endpoint in this state
 abbrev pub CeilingsAfter : State → Standing → Call → Reply → Standing → Type 0
 CeilingsAfter s old Refills (Refilled result) new = StandsRefilled (tx_side s) (rx_side s) old result new
-CeilingsAfter s old call reply new = StandsAfter (made s call reply) old new
+CeilingsAfter s old call reply new = StandsAfter (command_made s call reply) old new

@@ -4,29 +4,29 @@ use Rattle.macs_config.specs.Config.{is_among}
 use Rattle.macs_config.specs.Tables.{put_at}
 use Rattle.macs_config.specs.declared.command.Command.{Command}
 use Rattle.macs_config.specs.declared.command.Command.TheVariants.{RxAdd, RxDrop}
-use Rattle.macs_txsc.specs.Transmit.{tx_counted}
+use Rattle.macs_txsc.specs.Transmit.{with_answer}
 use Rattle.macs_txsc.specs.declared.counters.TxCounters.{TxCounters}
-use Rattle.macs_rxsc.specs.Counting.{counted, counted_at, none_counted_for_channel}
+use Rattle.macs_rxsc.specs.Counting.{with_verdict, with_verdict_at, no_channel_counts}
 use Rattle.macs_rxsc.specs.Receive.{channel_of}
 use Rattle.macs_rxsc.specs.declared.counters.ChannelCounters.{ChannelCounters}
 use Rattle.macs_rxsc.specs.declared.counters.RxCounters.{RxCounters}
-use Rattle.macs_endpoint.specs.State.{Call, Protected, Received, Receives, Reply, State, made, rx_side}
+use Rattle.macs_endpoint.specs.State.{Call, Protected, Received, Receives, Reply, State, command_made, rx_side}
 use Rattle.macs_endpoint.specs.declared.fault.ProtectFault.TheVariants.{Tx}
 
 -- answers of `protect`, but Stopped
 abbrev pub tx_counters_after : Reply → TxCounters → TxCounters
-tx_counters_after (Protected (Ok pn) out) c = tx_counted (Ok pn) c
-tx_counters_after (Protected (Err (Tx fault)) out) c = tx_counted (Err fault) c
+tx_counters_after (Protected (Ok pn) out) c = with_answer (Ok pn) c
+tx_counters_after (Protected (Err (Tx fault)) out) c = with_answer (Err fault) c
 tx_counters_after reply c = c
 
 -- answers of `receive`, but Stopped
 abbrev pub rx_counters_after : Reply → RxCounters → RxCounters
-rx_counters_after (Received (Ok verdict) out) c = counted verdict c
+rx_counters_after (Received (Ok verdict) out) c = with_verdict verdict c
 rx_counters_after reply c = c
 
 -- a new channel begins to count, and a channel that goes takes its counts along
 abbrev pub channels_after : Command → (List ℕ → Option ChannelCounters) → List ℕ → Option ChannelCounters
-channels_after (RxAdd sci) table = put_at table sci (Some none_counted_for_channel)
+channels_after (RxAdd sci) table = put_at table sci (Some no_channel_counts)
 channels_after (RxDrop sci) table = put_at table sci None
 channels_after command table = table
 
@@ -37,9 +37,9 @@ channels_made (Some command) table = channels_after command table
 
 -- what channels count after a call of an endpoint in this state
 abbrev pub channel_counters_after : State → Call → Reply → (List ℕ → Option ChannelCounters) → List ℕ → Option ChannelCounters
-channel_counters_after s (Receives frame) (Received (Ok verdict) out) table = counted_at (channel_of (rx_side s) frame) verdict table
-channel_counters_after s call reply table = channels_made (made s call reply) table
+channel_counters_after s (Receives frame) (Received (Ok verdict) out) table = with_verdict_at (channel_of (rx_side s) frame) verdict table
+channel_counters_after s call reply table = channels_made (command_made s call reply) table
 
 -- the channels of an endpoint that has opened
 abbrev pub new_channels : List (List ℕ) → List ℕ → Option ChannelCounters
-new_channels channels sci = if is_among channels sci then Some none_counted_for_channel else None
+new_channels channels sci = if is_among channels sci then Some no_channel_counts else None

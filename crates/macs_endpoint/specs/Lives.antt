@@ -4,7 +4,7 @@ use Rattle.macs_disk.specs.Disk.{Disk, LeftSince}
 use Rattle.macs_disk.specs.States.{Image}
 use Rattle.macs_endpoint.specs.Calls.{IsCall}
 use Rattle.macs_endpoint.specs.Value.{IsSoundEndpoint, EndpointValue, disk_in, state_of}
-use Rattle.macs_endpoint.specs.Restart.{Fits, during}
+use Rattle.macs_endpoint.specs.Restart.{Fits, state_during}
 use Rattle.macs_endpoint.specs.State.{Call, Reply, no_logs}
 use Rattle.macs_endpoint.specs.Step.{Event}
 
@@ -28,7 +28,7 @@ Lives disk_of old (turn ∷ turns) new =
 abbrev pub FitsLife : {D : Type 0} → ℕ → EndpointValue D → List (Turn D) → Image → Type 0
 FitsLife sectors e [] image = Fits (state_of e no_logs).edition sectors image (state_of e no_logs)
 FitsLife sectors e (turn ∷ turns) image =
-    Fits (state_of e no_logs).edition sectors image (during (state_of e no_logs) turn.call) ⊎ FitsLife sectors turn.after turns image
+    Fits (state_of e no_logs).edition sectors image (state_during (state_of e no_logs) turn.call) ⊎ FitsLife sectors turn.after turns image
 
 -- Since each of these calls was answered, on a disk that is `final` at last, a power loss at any moment leaves an image that fits
 -- the state after it or a later one, with at most one command in hand

@@ -3,14 +3,14 @@ use Rattle.std.specs.Prelude.{◌≡◌, Result}
 use Rattle.macs_disk.specs.Disk.{Disk, IsHonest, Works}
 use Rattle.macs_disk.specs.Runs.{Leaves}
 use Rattle.macs_disk.specs.States.{Image}
-use Rattle.macs_txsc.specs.View as txsc
-use Rattle.macs_rxsc.specs.View as rxsc
+use Rattle.macs_txsc.specs.Value as txsc
+use Rattle.macs_rxsc.specs.Value as rxsc
 use Rattle.macs_endpoint.specs.Calls.{Fails}
 use Rattle.macs_endpoint.specs.Value.{IsBacked, EndpointValue, disk_in, state_of}
 use Rattle.macs_endpoint.specs.Limits.{IsLimited}
 use Rattle.macs_endpoint.specs.Restart.{Fits}
 use Rattle.macs_endpoint.specs.State.{Logs, Refilled, Refills, State}
-use Rattle.macs_endpoint.specs.Step.{Refilling}
+use Rattle.macs_endpoint.specs.Step.{RefillStep}
 use Rattle.macs_endpoint.specs.declared.fault.RefillFault.{RefillFault}
 
 -- opening a disk of that size with this image is a restart of the state
@@ -19,7 +19,7 @@ FitsState s disk image = Fits s.edition disk.sectors image s
 
 -- Whatever is raised: the step that it is, what it does with the disk, and what a power loss leaves at any moment since it began
 pub record Reserves {D : Type 0} (disk_of : D → Disk) (old : EndpointValue D) (result : Result (Unit {0}) RefillFault) (new : EndpointValue D) : Type 0 where
-  pub step : (logs : Logs) → Refilling (state_of old logs) result (state_of new logs)
+  pub step : (logs : Logs) → RefillStep (state_of old logs) result (state_of new logs)
   pub works : Works (disk_in disk_of old) (disk_in disk_of new)
   pub fails : Fails (disk_in disk_of old) (disk_in disk_of new) (Refilled result)
   pub any_moment : IsHonest (disk_in disk_of new) → IsBacked disk_of old → (logs : Logs)

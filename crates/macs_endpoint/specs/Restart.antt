@@ -5,10 +5,10 @@ use Rattle.macs_config.specs.Apply.{apply}
 use Rattle.macs_config.specs.Config.{Edition, IsUpTo}
 use Rattle.macs_config.specs.declared.command.Command.{Command}
 use Rattle.macs_disk.specs.States.{Image}
-use Rattle.macs_rxsc.specs.Receive.{Numbers, started}
-use Rattle.macs_store.specs.Found.{IsFound}
+use Rattle.macs_rxsc.specs.Receive.{Numbers, first_numbers}
+use Rattle.macs_store.specs.Found.{IsFoundStanding}
 use Rattle.macs_store.specs.Standing.{Standing}
-use Rattle.macs_endpoint.specs.State.{Call, Commands, Logs, State, holding}
+use Rattle.macs_endpoint.specs.State.{Call, Commands, Logs, State, with_in_hand}
 use Rattle.macs_endpoint.specs.Step.{Makes}
 
 -- ---- numbers rise
@@ -28,7 +28,7 @@ rx_limit block next (Some seen) = max next (min (seen + block) (2 ^ 32))
 abbrev pub RxRises : ℕ → Option Numbers → Option Numbers → Type 0
 RxRises block None found = found ≡ None
 RxRises block (Some numbers) found =
-    (later : ℕ) × (found ≡ Some (started later)) × (numbers.next ≤ later) × (later ≤ rx_limit block numbers.next numbers.seen)
+    (later : ℕ) × (found ≡ Some (first_numbers later)) × (numbers.next ≤ later) × (later ≤ rx_limit block numbers.next numbers.seen)
 
 -- ---- a restart
 
@@ -51,13 +51,13 @@ Restart old new = Resumes old new
 -- ---- what an image stands for
 
 -- an endpoint that opened a disk which stands for this
-abbrev pub opening : Standing → Logs → State
-opening found logs = record {
+abbrev pub opened_state : Standing → Logs → State
+opened_state found logs = record {
   edition = found.edition;
   identity = found.identity;
   config = found.config;
   next = found.ceilings.tx;
-  numbers = λ sci an. option_map started (found.ceilings.rx sci an);
+  numbers = λ sci an. option_map first_numbers (found.ceilings.rx sci an);
   logs = logs;
   stopped = false;
   in_hand = None;
@@ -66,15 +66,15 @@ opening found logs = record {
 -- opening a disk of so many sectors with this image in a program of an edition is a restart of the state
 pub record Fits (edition : Edition) (sectors : ℕ) (image : Image) (s : State) : Type 0 where
   pub found : Standing
-  pub is_found : IsFound edition sectors image (Ok found)
-  pub restart : Restart s (opening found s.logs)
+  pub is_found : IsFoundStanding edition sectors image (Ok found)
+  pub restart : Restart s (opened_state found s.logs)
 
 -- The state while a call is under way: a command is in hand where work on it may have begun
-abbrev pub during : State → Call → State
-during s (Commands command) =
-    if not s.stopped && is_ok (apply s.edition s.identity s.config command) then holding s command else s
-during s call = s
+abbrev pub state_during : State → Call → State
+state_during s (Commands command) =
+    if not s.stopped && is_ok (apply s.edition s.identity s.config command) then with_in_hand s command else s
+state_during s call = s
 
 -- what a power loss during a call or after it leaves
 abbrev pub FitsCall : ℕ → State → Call → State → Image → Type 0
-FitsCall sectors old call new image = Fits old.edition sectors image (during old call) ⊎ Fits new.edition sectors image new
+FitsCall sectors old call new image = Fits old.edition sectors image (state_during old call) ⊎ Fits new.edition sectors image new

@@ -6,7 +6,7 @@ use Rattle.macs_config.specs.declared.command.Command.TheVariants.{RxDrop, RxIns
 use Rattle.macs_store.specs.Value.{standing_in}
 use Rattle.macs_endpoint.specs.Value.{EndpointValue, state_of}
 use Rattle.macs_endpoint.specs.Lives.{Turn}
-use Rattle.macs_endpoint.specs.State.{Protected, Reply, made, no_logs}
+use Rattle.macs_endpoint.specs.State.{Protected, Reply, command_made, no_logs}
 
 -- ---- transmission
 
@@ -31,7 +31,7 @@ SparesTx an command = Unit {0}
 -- nor does any that these calls made durable
 abbrev pub TxStays : {D : Type 0} → ℕ → EndpointValue D → List (Turn D) → Type 0
 TxStays an e [] = Unit {0}
-TxStays an e (turn ∷ turns) = SparesTx an (made (state_of e no_logs) turn.call turn.reply) × TxStays an turn.after turns
+TxStays an e (turn ∷ turns) = SparesTx an (command_made (state_of e no_logs) turn.call turn.reply) × TxStays an turn.after turns
 
 -- 1 for a frame that went out under it
 abbrev pub one_if : Option ℕ → ℕ → Reply → ℕ
@@ -39,9 +39,9 @@ one_if (Some encoding) an (Protected (Ok pn) out) = if encoding == an then 1 els
 one_if encoding an reply = 0
 
 -- how many frames went out under it
-abbrev pub written : {D : Type 0} → ℕ → EndpointValue D → List (Turn D) → ℕ
-written an e [] = 0
-written an e (turn ∷ turns) = one_if (standing_in e.store).config.encoding an turn.reply + written an turn.after turns
+abbrev pub frames_sent : {D : Type 0} → ℕ → EndpointValue D → List (Turn D) → ℕ
+frames_sent an e [] = 0
+frames_sent an e (turn ∷ turns) = one_if (standing_in e.store).config.encoding an turn.reply + frames_sent an turn.after turns
 
 -- ---- reception
 
@@ -61,4 +61,4 @@ SparesRx sci an command = Unit {0}
 -- nor does any that these calls made durable
 abbrev pub RxStays : {D : Type 0} → List ℕ → ℕ → EndpointValue D → List (Turn D) → Type 0
 RxStays sci an e [] = Unit {0}
-RxStays sci an e (turn ∷ turns) = SparesRx sci an (made (state_of e no_logs) turn.call turn.reply) × RxStays sci an turn.after turns
+RxStays sci an e (turn ∷ turns) = SparesRx sci an (command_made (state_of e no_logs) turn.call turn.reply) × RxStays sci an turn.after turns

@@ -5,7 +5,7 @@ use Rattle.macs_store.specs.declared.fault.CommitFault.TheVariants as commit
 use Rattle.macs_endpoint.specs.Value.{IsBacked, EndpointValue, disk_in, state_of}
 use Rattle.macs_endpoint.specs.Lives.{LeavesLife, Lives, Turn, event_of}
 use Rattle.macs_endpoint.specs.State.{Call, Commands, Logs, Protects, Protected, Ran, Received, Receives, Refilled, Refills, Reply}
-use Rattle.macs_endpoint.specs.Step.{Run}
+use Rattle.macs_endpoint.specs.Step.{Steps}
 use Rattle.macs_endpoint.specs.declared.event.Answer.{Answer}
 use Rattle.macs_endpoint.specs.declared.event.Answer.TheVariants as answer
 use Rattle.macs_endpoint.specs.declared.event.Event.{Event}
@@ -63,7 +63,7 @@ pub record IsServed {D : Type 0} (disk_of : D → Disk) (most : ℕ) (old : Endp
   pub turns : List (Turn D)
   pub lives : Lives disk_of old turns new
   pub few : length turns ≤ most
-  pub run : (logs : Logs) → (after : Logs) × Run (state_of old logs) (map event_of turns) (state_of new after)
+  pub run : (logs : Logs) → (after : Logs) × Steps (state_of old logs) (map event_of turns) (state_of new after)
   pub any_moment : IsHonest (disk_in disk_of new) → IsBacked disk_of old → LeavesLife disk_of (disk_in disk_of new) old turns
   pub backed : IsHonest (disk_in disk_of new) → IsBacked disk_of old → IsBacked disk_of new
   pub source : tells.source_tells ≡ told.source_tells

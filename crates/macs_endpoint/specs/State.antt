@@ -51,8 +51,8 @@ pub record State : Type 0 where
   pub in_hand : Option Command
 
 -- the transmit channel of a configuration, with these next numbers
-abbrev pub transmitting : Identity → Config → (ℕ → Option ℕ) → TxSide
-transmitting identity config next = record {
+abbrev pub tx_side_with : Identity → Config → (ℕ → Option ℕ) → TxSide
+tx_side_with identity config next = record {
   sci = identity.sci;
   mode = config.mode;
   encoding = config.encoding;
@@ -61,8 +61,8 @@ transmitting identity config next = record {
 }
 
 -- and its receive channels, with these numbers
-abbrev pub receiving : Config → (List ℕ → ℕ → Option Numbers) → RxSide
-receiving config numbers = record {
+abbrev pub rx_side_with : Config → (List ℕ → ℕ → Option Numbers) → RxSide
+rx_side_with config numbers = record {
   validate = config.validate;
   replay = config.replay;
   channels = config.channels;
@@ -72,19 +72,19 @@ receiving config numbers = record {
 
 -- the transmit channel of an endpoint in this state
 abbrev pub tx_side : State → TxSide
-tx_side s = transmitting s.identity s.config s.next
+tx_side s = tx_side_with s.identity s.config s.next
 
 -- the receive channels of an endpoint in this state
 abbrev pub rx_side : State → RxSide
-rx_side s = receiving s.config s.numbers
+rx_side s = rx_side_with s.config s.numbers
 
 -- the state with a command in hand
-abbrev pub holding : State → Command → State
-holding s command = record s { in_hand = Some command }
+abbrev pub with_in_hand : State → Command → State
+with_in_hand s command = record s { in_hand = Some command }
 
 -- the state after a device call failed: the disk is to be opened again
-abbrev pub halted : State → State
-halted s = record s { stopped = true }
+abbrev pub after_fault : State → State
+after_fault s = record s { stopped = true }
 
 -- a command would not be refused
 abbrev pub Accepts : State → Command → Type 0
@@ -107,6 +107,6 @@ pub data Reply : Type 0 where
   Received : Result Verdict Stopped → (out : List ℕ) → Reply
 
 -- the command that this call of an endpoint in this state made durable, if it was one: it takes effect now
-abbrev pub made : State → Call → Reply → Option Command
-made s (Commands command) (Ran (Ok done)) = Some command
-made s call reply = None
+abbrev pub command_made : State → Call → Reply → Option Command
+command_made s (Commands command) (Ran (Ok done)) = Some command
+command_made s call reply = None

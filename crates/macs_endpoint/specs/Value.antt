@@ -5,21 +5,21 @@ use Rattle.macs_config.specs.declared.command.Command.{Command}
 use Rattle.macs_disk.specs.Disk.{Disk, MayLeave}
 use Rattle.macs_disk.specs.States.{Image}
 use Rattle.macs_journal.specs.Areas.{least_sectors}
-use Rattle.macs_txsc.specs.View as txsc
+use Rattle.macs_txsc.specs.Value as txsc
 use Rattle.macs_txsc.specs.declared.channel.Tx.{Tx}
 use Rattle.macs_rxsc.specs.Receive.{Numbers}
-use Rattle.macs_rxsc.specs.View as rxsc
+use Rattle.macs_rxsc.specs.Value as rxsc
 use Rattle.macs_store.specs.Value.{IsStored, StoreValue, standing_in}
 use Rattle.macs_store.specs.Value as store
 use Rattle.macs_store.specs.Standing.{Standing}
 use Rattle.macs_endpoint.specs.Restart.{Fits, rx_limit}
-use Rattle.macs_endpoint.specs.State.{Logs, State, receiving, transmitting}
+use Rattle.macs_endpoint.specs.State.{Logs, State, rx_side_with, tx_side_with}
 
 -- what an endpoint keeps: its store, its channels, and the command whose work a device fault cut short
 pub record EndpointValue (D : Type 0) : Type 0 where
   pub store : StoreValue D
   pub tx : Tx
-  pub rx : rxsc.Kept
+  pub rx : rxsc.RxValue
   pub in_hand : Option Command
 
 -- its disk
@@ -40,8 +40,8 @@ state_of e logs = record {
   edition = (standing_in e.store).edition;
   identity = (standing_in e.store).identity;
   config = (standing_in e.store).config;
-  next = (txsc.side_of e.tx).next;
-  numbers = (rxsc.side_of e.rx).numbers;
+  next = (txsc.tx_side_of e.tx).next;
+  numbers = (rxsc.rx_side_of e.rx).numbers;
   logs = logs;
   stopped = is_stopped e;
   in_hand = e.in_hand;
@@ -62,17 +62,17 @@ IsRxWithin block None None = Unit {0}
 IsRxWithin block numbers ceiling = ⊥
 
 -- channels that a standing makes, with whatever numbers, and with the ceilings that stand
-pub record AreChannels (tx : Tx) (rx : rxsc.Kept) (s : Standing) : Type 0 where
-  pub tx_is : txsc.side_of tx ≡ transmitting s.identity s.config (txsc.side_of tx).next
-  pub rx_is : rxsc.side_of rx ≡ receiving s.config (rxsc.side_of rx).numbers
+pub record AreChannels (tx : Tx) (rx : rxsc.RxValue) (s : Standing) : Type 0 where
+  pub tx_is : txsc.tx_side_of tx ≡ tx_side_with s.identity s.config (txsc.tx_side_of tx).next
+  pub rx_is : rxsc.rx_side_of rx ≡ rx_side_with s.config (rxsc.rx_side_of rx).numbers
   pub tx_ceilings : txsc.ceilings_of tx ≡ s.ceilings.tx
   pub rx_ceilings : rxsc.ceilings_of rx ≡ s.ceilings.rx
 
 -- each association has its numbers and a ceiling that is not too far ahead
-pub record AreWithin (tx : Tx) (rx : rxsc.Kept) (identity : Identity) : Type 0 where
-  pub tx_within : (an : ℕ) → IsTxWithin identity.tx_block ((txsc.side_of tx).next an) (txsc.ceilings_of tx an)
+pub record AreWithin (tx : Tx) (rx : rxsc.RxValue) (identity : Identity) : Type 0 where
+  pub tx_within : (an : ℕ) → IsTxWithin identity.tx_block ((txsc.tx_side_of tx).next an) (txsc.ceilings_of tx an)
   pub rx_within : (sci : List ℕ) (an : ℕ)
-      → IsRxWithin identity.rx_block ((rxsc.side_of rx).numbers sci an) (rxsc.ceilings_of rx sci an)
+      → IsRxWithin identity.rx_block ((rxsc.rx_side_of rx).numbers sci an) (rxsc.ceilings_of rx sci an)
 
 -- and nothing is in hand unless a device call failed
 pub record IsSoundEndpoint {D : Type 0} (e : EndpointValue D) : Type 0 where

@@ -3,9 +3,9 @@
 ghost use Rattle.std.specs.Prelude.{◌≡◌, ◌≤◌, true, Some, None, Ok, IsSome, IfSome};
 ghost use Rattle.std.specs.Option.{option_map};
 ghost use Rattle.macs_config.specs.Tables.{put, put_at};
-ghost use Rattle.macs_txsc.specs.View as txsc;
-ghost use Rattle.macs_rxsc.specs.View as rxsc;
-ghost use Rattle.macs_rxsc.specs.Receive.{has_channel, put_numbers, started, windowed};
+ghost use Rattle.macs_txsc.specs.Value as txsc;
+ghost use Rattle.macs_rxsc.specs.Value as rxsc;
+ghost use Rattle.macs_rxsc.specs.Receive.{has_channel, put_numbers, first_numbers, under_window};
 ghost use Rattle.macs_store.specs.Value.{standing_in};
 ghost use Rattle.macs_store.specs.Standing.{Standing, accept};
 ghost use Rattle.macs_endpoint.specs.Counting.{channels_after};
@@ -32,8 +32,8 @@ impl Channels {
         requires { (before : Standing) × AreChannels self.old.tx self.old.rx before
             × (accept before command.now ≡ Ok (standing_in store.now)) }
         ensures channels { AreChannels self.new.tx self.new.rx (standing_in store.now) }
-        ensures next { (txsc.side_of self.new.tx).next ≡ next_after command.now (txsc.side_of self.old.tx).next }
-        ensures numbers { (rxsc.side_of self.new.rx).numbers ≡ numbers_after command.now (rxsc.side_of self.old.rx).numbers }
+        ensures next { (txsc.tx_side_of self.new.tx).next ≡ next_after command.now (txsc.tx_side_of self.old.tx).next }
+        ensures numbers { (rxsc.rx_side_of self.new.rx).numbers ≡ numbers_after command.now (rxsc.rx_side_of self.old.rx).numbers }
         ensures tx_counters { txsc.counters_of self.new.tx ≡ txsc.counters_of self.old.tx }
         ensures rx_counters { rxsc.counters_of self.new.rx ≡ rxsc.counters_of self.old.rx }
         ensures channel_counters { rxsc.channel_counters_of self.new.rx
@@ -59,13 +59,13 @@ impl Channels {
 
 /// Sets how received frames are validated, and the replay window. An unchanged window moves no number.
 pub(crate) fn set_policy<D: SectorDisk>(rx: &mut Rx, store: &Store<D>)
-    ensures side { rxsc.side_of rx.new ≡ record (rxsc.side_of rx.old) {
+    ensures side { rxsc.rx_side_of rx.new ≡ record (rxsc.rx_side_of rx.old) {
       validate = (standing_in store.now).config.validate;
       replay = (standing_in store.now).config.replay;
-      numbers = λ sci an. option_map (windowed (standing_in store.now).config.replay.window) ((rxsc.side_of rx.old).numbers sci an);
+      numbers = λ sci an. option_map (under_window (standing_in store.now).config.replay.window) ((rxsc.rx_side_of rx.old).numbers sci an);
     } }
-    ensures same_window { (rxsc.side_of rx.old).replay.window ≡ (standing_in store.now).config.replay.window
-        → (rxsc.side_of rx.new).numbers ≡ (rxsc.side_of rx.old).numbers }
+    ensures same_window { (rxsc.rx_side_of rx.old).replay.window ≡ (standing_in store.now).config.replay.window
+        → (rxsc.rx_side_of rx.new).numbers ≡ (rxsc.rx_side_of rx.old).numbers }
     ensures ceilings { rxsc.ceilings_of rx.new ≡ rxsc.ceilings_of rx.old }
     ensures counters { rxsc.counters_of rx.new ≡ rxsc.counters_of rx.old }
     ensures channel_counters { rxsc.channel_counters_of rx.new ≡ rxsc.channel_counters_of rx.old }
@@ -79,12 +79,12 @@ pub(crate) fn set_policy<D: SectorDisk>(rx: &mut Rx, store: &Store<D>)
 /// number, 1 to the ceiling.
 pub(crate) fn install_tx<D: SectorDisk>(tx: &mut Tx, store: &Store<D>, an: An, next: u64)
     requires stands { IsSome ((standing_in store.now).config.tx an) }
-    requires empty { (txsc.side_of tx.old).tx an ≡ None }
+    requires empty { (txsc.tx_side_of tx.old).tx an ≡ None }
     requires numbered { 1 ≤ next }
     requires ordered { IfSome ((standing_in store.now).ceilings.tx an) (λ ceiling. next ≤ ceiling) }
-    ensures side { txsc.side_of tx.new ≡ record (txsc.side_of tx.old) {
-      tx = put (txsc.side_of tx.old).tx an ((standing_in store.now).config.tx an);
-      next = put (txsc.side_of tx.old).next an (Some next);
+    ensures side { txsc.tx_side_of tx.new ≡ record (txsc.tx_side_of tx.old) {
+      tx = put (txsc.tx_side_of tx.old).tx an ((standing_in store.now).config.tx an);
+      next = put (txsc.tx_side_of tx.old).next an (Some next);
     } }
     ensures ceilings { txsc.ceilings_of tx.new ≡ put (txsc.ceilings_of tx.old) an ((standing_in store.now).ceilings.tx an) }
     ensures counters { txsc.counters_of tx.new ≡ txsc.counters_of tx.old }
@@ -106,13 +106,13 @@ pub(crate) fn install_tx<D: SectorDisk>(tx: &mut Tx, store: &Store<D>, an: An, n
 /// `next` is its next and lowest acceptable packet number, 1 to the ceiling.
 pub(crate) fn install_rx<D: SectorDisk>(rx: &mut Rx, store: &Store<D>, sci: Sci, an: An, next: u64)
     requires stands { IsSome ((standing_in store.now).config.rx sci an) }
-    requires channel { has_channel (rxsc.side_of rx.old) sci ≡ true }
-    requires empty { (rxsc.side_of rx.old).rx sci an ≡ None }
+    requires channel { has_channel (rxsc.rx_side_of rx.old) sci ≡ true }
+    requires empty { (rxsc.rx_side_of rx.old).rx sci an ≡ None }
     requires numbered { 1 ≤ next }
     requires ordered { IfSome ((standing_in store.now).ceilings.rx sci an) (λ ceiling. next ≤ ceiling) }
-    ensures side { rxsc.side_of rx.new ≡ record (rxsc.side_of rx.old) {
-      rx = put_at (rxsc.side_of rx.old).rx sci (put ((rxsc.side_of rx.old).rx sci) an ((standing_in store.now).config.rx sci an));
-      numbers = put_numbers (rxsc.side_of rx.old).numbers sci an (Some (started next));
+    ensures side { rxsc.rx_side_of rx.new ≡ record (rxsc.rx_side_of rx.old) {
+      rx = put_at (rxsc.rx_side_of rx.old).rx sci (put ((rxsc.rx_side_of rx.old).rx sci) an ((standing_in store.now).config.rx sci an));
+      numbers = put_numbers (rxsc.rx_side_of rx.old).numbers sci an (Some (first_numbers next));
     } }
     ensures ceilings { rxsc.ceilings_of rx.new ≡ put_at (rxsc.ceilings_of rx.old) sci
         (put (rxsc.ceilings_of rx.old sci) an ((standing_in store.now).ceilings.rx sci an)) }

@@ -3,9 +3,9 @@
 ghost use Rattle.std.specs.Prelude.{◌≡◌};
 ghost use Rattle.std.specs.Option.{option_map};
 ghost use Rattle.macs_txsc.specs.Transmit.{fault_count};
-ghost use Rattle.macs_txsc.specs.View as txsc;
+ghost use Rattle.macs_txsc.specs.Value as txsc;
 ghost use Rattle.macs_rxsc.specs.Counting.{channel_count_of, count_of};
-ghost use Rattle.macs_rxsc.specs.View as rxsc;
+ghost use Rattle.macs_rxsc.specs.Value as rxsc;
 
 use macs_frame::Sci;
 use macs_rxsc::{Rx, Verdict};

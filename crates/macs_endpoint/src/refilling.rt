@@ -5,7 +5,7 @@ ghost use Rattle.std.specs.Option.{option_map};
 ghost use Rattle.macs_rxsc.specs.Needs.{need_of, needs_of};
 ghost use Rattle.macs_rxsc.specs.declared.need.RxNeed.{RxNeed};
 ghost use Rattle.macs_store.specs.Value.{standing_in};
-ghost use Rattle.macs_store.specs.Standing.{rx_raised};
+ghost use Rattle.macs_store.specs.Standing.{with_rx_raised};
 ghost use Rattle.macs_endpoint.specs.Calls.{IsCall};
 ghost use Rattle.macs_endpoint.specs.Ceilings.{rx_refilled, tx_refilled};
 ghost use Rattle.macs_endpoint.specs.Value.{is_stopped, state_of};
@@ -88,7 +88,7 @@ impl<D: SectorDisk> Endpoint<D> {
         requires needed { needs_of (rx_side (state_of self.old no_logs)) (standing_in self.old.store).ceilings.rx
             (standing_in self.old.store).identity.rx_block ≡ Some (record { sci = need.sci; an = need.an; pn = need.pn }) }
         ensures reserves { Reserves D.disk self.old result self.new }
-        ensures done { OnOk result (standing_in self.new.store ≡ rx_raised (standing_in self.old.store) need.sci need.an need.pn) }
+        ensures done { OnOk result (standing_in self.new.store ≡ with_rx_raised (standing_in self.old.store) need.sci need.an need.pn) }
         ensures same { OnErr result (standing_in self.new.store ≡ standing_in self.old.store) }
     {
         self.channels.rx.facts();

@@ -8,7 +8,7 @@ use Rattle.macs_gcm.specs.Gcm.{seal}
 use Rattle.macs_frame.specs.declared.tag.Parts.{Parts}
 use Rattle.macs_frame.specs.declared.tag.SecTag.{SecTag}
 use Rattle.macs_frame.specs.Opening.{OpensTo, Verified, clear_of, hidden_of, iv_of}
-use Rattle.macs_frame.specs.Protection.{IsWritten, header_of, overhead, parts_of, protected, tag_octets, user_data, written_tag}
+use Rattle.macs_frame.specs.Protection.{IsWritten, header_of, overhead, parts_of, protected_frame, tag_octets, user_data, written_tag}
 use Rattle.macs_frame.specs.Tag.{IsForKay, Tag}
 use Rattle.macs_frame.proofs.Readings.{verified_once}
 use Rattle.macs_frame.proofs.WrittenTag.{length-written_tag, parts_at, written_is_read}
@@ -128,8 +128,8 @@ module _ (key sci : List ℕ) (tag : SecTag) (offset : ℕ) (plain : List ℕ) (
   length-user_data = omega (arith, length-drop 12 plain)
 
   -- a protected frame is longer than its plain frame by its SecTAG and its ICV
-  pub protected_length : length (protected key sci tag offset plain) ≡ length plain + overhead tag.name
-  unfolding protected
+  pub protected_length : length (protected_frame key sci tag offset plain) ≡ length plain + overhead tag.name
+  unfolding protected_frame
   protected_length =
       let user = user_data plain in
       let clear = clear_of tag.encrypted offset user in
@@ -155,8 +155,8 @@ module _ (key sci : List ℕ) (tag : SecTag) (offset : ℕ) (plain : List ℕ) (
       let end : 12 + tag_octets tag.name + length (user_data plain) ≡ length plain + tag_octets tag.name = omega (arith, length-user_data) in
       ap (λ (e : ℕ). parts_to tag (12 + tag_octets tag.name) e) end
 
-  protected_stands : length plain + overhead tag.name ≤ 9216 → Stands (protected key sci tag offset plain) key sci offset (parts_of tag (length plain)) plain
-  unfolding protected
+  protected_stands : length plain + overhead tag.name ≤ 9216 → Stands (protected_frame key sci tag offset plain) key sci offset (parts_of tag (length plain)) plain
+  unfolding protected_frame
   protected_stands fits =
       let user = user_data plain in
       let sealed = seal key (iv_of sci tag.pn) (header_of tag plain ++ clear_of tag.encrypted offset user) (hidden_of tag.encrypted offset user) in
@@ -167,22 +167,22 @@ module _ (key sci : List ℕ) (tag : SecTag) (offset : ℕ) (plain : List ℕ) (
 
 -- a protected frame is read as it was written
 pub protected_is_read : (key sci : List ℕ) (tag : SecTag) (offset : ℕ) (plain : List ℕ) → IsWritten tag → 14 ≤ length plain → length plain + overhead tag.name ≤ 9216
-    → Tag (protected key sci tag offset plain) (parts_of tag (length plain)) × (¬ IsForKay (protected key sci tag offset plain))
+    → Tag (protected_frame key sci tag offset plain) (parts_of tag (length plain)) × (¬ IsForKay (protected_frame key sci tag offset plain))
 protected_is_read key sci tag offset plain is long fits =
     let found = protected_stands key sci tag offset plain is long fits in
     (found.0, found.1)
 
 -- and verified as its own plain frame and as no other
 pub protected_is_verified : (key sci : List ℕ) (tag : SecTag) (offset : ℕ) (plain other : List ℕ) → IsWritten tag → 14 ≤ length plain → length plain + overhead tag.name ≤ 9216
-    → (Verified (protected key sci tag offset plain) key sci offset other ↔ (other ≡ plain))
+    → (Verified (protected_frame key sci tag offset plain) key sci offset other ↔ (other ≡ plain))
 protected_is_verified key sci tag offset plain other is long fits =
     let found = protected_stands key sci tag offset plain is long fits in
-    let verified : Verified (protected key sci tag offset plain) key sci offset plain = record {
+    let verified : Verified (protected_frame key sci tag offset plain) key sci offset plain = record {
       parts = parts_of tag (length plain);
       tag = found.0;
       not_for_kay = found.1;
       opens = found.2;
     } in (
       λ opened. verified_once _ key sci offset other plain opened verified,
-      λ same. subst (λ (p : List ℕ). Verified (protected key sci tag offset plain) key sci offset p) (sym same) verified,
+      λ same. subst (λ (p : List ℕ). Verified (protected_frame key sci tag offset plain) key sci offset p) (sym same) verified,
     )

@@ -3,7 +3,7 @@ use Rattle.std.proofs.Common.{◌≡◌, ◌∙◌, ◌≤◌, ◌-◌, ℕ, Lis
 use Rattle.std.proofs.lemmas.List.{take_all, take_at, drop_at, take-append-drop}
 use Rattle.macs_gcm.specs.Gcm.{seal}
 use Rattle.macs_frame.specs.Opening.{clear_of, hidden_of, iv_of}
-use Rattle.macs_frame.specs.Protection.{header_of, protected, user_data}
+use Rattle.macs_frame.specs.Protection.{header_of, protected_frame, user_data}
 use Rattle.macs_frame.specs.declared.tag.SecTag.{SecTag}
 
 -- what stands in front stays, and what it stands in front of is sealed
@@ -22,8 +22,8 @@ pub sealed_in_place : (key sci : List ℕ) (tag : SecTag) (offset : ℕ) (plain 
     → clear ≡ clear_of tag.encrypted offset (user_data plain) → hidden ≡ hidden_of tag.encrypted offset (user_data plain)
     → buffer ≡ header_of tag plain ++ clear ++ hidden → length (header_of tag plain ++ clear) ≡ start
     → (drop start after, icv) ≡ seal key (iv_of sci tag.pn) (take start buffer) (drop start buffer) → take start after ≡ take start buffer
-    → after ++ icv ≡ protected key sci tag offset plain
-unfolding protected
+    → after ++ icv ≡ protected_frame key sci tag offset plain
+unfolding protected_frame
 sealed_in_place key sci tag offset plain clear hidden buffer after icv start is_clear is_hidden written at sealed kept =
     rw (← is_clear, ← is_hidden) (sealed_behind key (iv_of sci tag.pn) (header_of tag plain ++ clear) hidden buffer after icv start written at sealed kept)
 

@@ -58,8 +58,8 @@ named_sci frame EndStation = Some (slice_range frame 6 12 ++ 0 ∷ 1 ∷ [])
 named_sci frame Implicit = None
 
 -- a tagged frame without its SecTAG, ICV and padding: the addresses and the Secure Data
-abbrev pub bare : List ℕ → List ℕ
-bare frame = take 12 frame ++ slice_range frame (start_of frame) (end_of frame)
+abbrev pub bare_frame : List ℕ → List ℕ
+bare_frame frame = take 12 frame ++ slice_range frame (start_of frame) (end_of frame)
 
 -- ---- faults
 

@@ -5,7 +5,7 @@ ghost use Rattle.std.specs.Bool.{IsFalse};
 ghost use Rattle.std.specs.List.{list_any};
 ghost use Rattle.macs_frame.specs.First.{IsFirst, NoneHolds};
 ghost use Rattle.macs_frame.specs.Opening.{OpensTo, Verified};
-ghost use Rattle.macs_frame.specs.Protection.{IsWritten, overhead, parts_of, protected};
+ghost use Rattle.macs_frame.specs.Protection.{IsWritten, overhead, parts_of, protected_frame};
 ghost use Rattle.macs_frame.specs.Tag.{IsForKay, Tag, TagFaultHolds, tag_faults};
 ghost use Rattle.macs_frame.specs.declared.tag.Parts.{Parts};
 ghost use Rattle.macs_frame.specs.declared.tag.SecTag.{SecTag};
@@ -50,15 +50,15 @@ pub fn verified_or_not()
 /// A protected frame is longer than its plain frame by its SecTAG and its ICV.
 pub fn protected_length()
     ensures { (key sci : List ℕ) (tag : SecTag) (offset : ℕ) (plain : List ℕ) → IsWritten tag → 14 ≤ length plain
-        → length (protected key sci tag offset plain) ≡ length plain + overhead tag.name }
+        → length (protected_frame key sci tag offset plain) ≡ length plain + overhead tag.name }
 {}
 
 /// A protected frame is read as it was written.
 pub fn protected_is_read()
     ensures { (key sci : List ℕ) (tag : SecTag) (offset : ℕ) (plain : List ℕ) → IsWritten tag → 14 ≤ length plain
         → length plain + overhead tag.name ≤ 9216
-        → Tag (protected key sci tag offset plain) (parts_of tag (length plain))
-        × (¬ IsForKay (protected key sci tag offset plain)) }
+        → Tag (protected_frame key sci tag offset plain) (parts_of tag (length plain))
+        × (¬ IsForKay (protected_frame key sci tag offset plain)) }
 {}
 
 /// A protected frame is verified, under the key, the SCI and the offset that it was protected under,
@@ -66,7 +66,7 @@ pub fn protected_is_read()
 pub fn protected_is_verified()
     ensures { (key sci : List ℕ) (tag : SecTag) (offset : ℕ) (plain other : List ℕ) → IsWritten tag → 14 ≤ length plain
         → length plain + overhead tag.name ≤ 9216
-        → (Verified (protected key sci tag offset plain) key sci offset other ↔ (other ≡ plain)) }
+        → (Verified (protected_frame key sci tag offset plain) key sci offset other ↔ (other ≡ plain)) }
 {}
 
 /// Of refusals in an order, each with its test, one is the first that holds where any holds, and

@@ -4,7 +4,7 @@ ghost use Rattle.std.specs.Prelude.{◌≡◌, ◌<◌, ◌≤◌, ◌+◌, ◌^
 ghost use Rattle.arrayvec.specs.ArrayVec.{array_vec_len};
 ghost use Rattle.macs_gcm.specs.Gcm.{seal};
 ghost use Rattle.macs_frame.specs.Fields.{octets_of};
-ghost use Rattle.macs_frame.specs.Protection.{control_octet, overhead, protected, short_of, tag_octets, written_tag};
+ghost use Rattle.macs_frame.specs.Protection.{control_octet, overhead, protected_frame, short_of, tag_octets, written_tag};
 
 use crate::fields::{Offset, Sci};
 use crate::reading::{CHANGED, ENCRYPTED, END_STATION, MIN_LONG_DATA, SCI_PRESENT};
@@ -83,7 +83,7 @@ pub fn seal_frame(
     requires long_enough { 14 ≤ length plain.now }
     requires fits { length plain.now + overhead tag.now.name ≤ 9216 }
     requires alike { tag.now.encrypted ≡ tag.now.changed }
-    ensures { out.new.items ≡ protected key.now sci tag.now (octets_of offset) plain.now }
+    ensures { out.new.items ≡ protected_frame key.now sci tag.now (octets_of offset) plain.now }
 {
     let clear = clear_end(tag, offset, ADDRESS_OCTETS, plain.len());
     out.clear();

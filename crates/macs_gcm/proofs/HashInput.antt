@@ -5,7 +5,7 @@ use Rattle.std.proofs.lemmas.List.{append_assoc, length-append}
 use Rattle.std.proofs.lemmas.Nat.{from_be_bytes-to_be_bytes_8, shl_whole}
 use lib.Bits.{or_shifted}
 use Rattle.macs_gf.proofs.GhashBlocks.{blocks_of-append, blocks_of-one, ghash_from-append, length-padded}
-use Rattle.macs_gf.specs.Ghash.{absorb, blocks_of, ghash, ghash_from, hash_input, padded}
+use Rattle.macs_gf.specs.Ghash.{absorb, blocks_of, ghash, ghash_from, hash_input, padded_string}
 
 -- sixteen octets as a number, from their halves
 halves : (a b c d e f g h i j k l m n o p : ℕ)
@@ -24,10 +24,10 @@ numbers_joined x y x_small y_small =
 
 -- the hash of additional data and a ciphertext: the one padded, the other padded, and their lengths as one block
 pub ghash_of_parts : (h : ℕ) (a c : List ℕ) → ghash h (blocks_of (hash_input a c))
-    ≡ absorb h (ghash_from h (ghash_from h 0 (blocks_of (padded a))) (blocks_of (padded c))) (from_be_bytes w128 (to_be_bytes w64 (8 * length a) ++ to_be_bytes w64 (8 * length c)))
+    ≡ absorb h (ghash_from h (ghash_from h 0 (blocks_of (padded_string a))) (blocks_of (padded_string c))) (from_be_bytes w128 (to_be_bytes w64 (8 * length a) ++ to_be_bytes w64 (8 * length c)))
 ghash_of_parts h a c =
-    let p : List ℕ = padded a in
-    let q : List ℕ = padded c in
+    let p : List ℕ = padded_string a in
+    let q : List ℕ = padded_string c in
     let m : List ℕ = to_be_bytes w64 (8 * length a) in
     let n : List ℕ = to_be_bytes w64 (8 * length c) in
     let front : length (p ++ q) % 16 ≡ 0 = omega (arith, length-append p q, length-padded a, length-padded c) in

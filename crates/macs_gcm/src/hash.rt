@@ -2,7 +2,7 @@
 
 ghost use Rattle.std.specs.Prelude.{◌≡◌, ◌*◌, ◌^◌, ◌<◌, ◌++◌, length};
 ghost use Rattle.std.specs.Int.{from_be_bytes, to_be_bytes, w64, w128};
-ghost use Rattle.macs_gf.specs.Ghash.{block_at, blocks_of, ghash, ghash_from, hash_input, padded};
+ghost use Rattle.macs_gf.specs.Ghash.{block_at, blocks_of, ghash, ghash_from, hash_input, padded_string};
 
 use macs_gf::mul128;
 
@@ -10,7 +10,7 @@ use macs_gf::mul128;
 /// 4).
 fn padded_block(octets: &[u8], i: usize) -> u128
     requires { 16 * i < length octets.now }
-    ensures { result ≡ block_at (padded octets.now) i }
+    ensures { result ≡ block_at (padded_string octets.now) i }
 {
     let mut block = [0u8; 16];
     let count = (octets.len() - 16 * i).min(16);
@@ -23,7 +23,7 @@ fn padded_block(octets: &[u8], i: usize) -> u128
 /// The state after the blocks of a string are taken in, the last one filled up with zero octets (6.4,
 /// step 3).
 fn absorb_padded(subkey: u128, state: u128, octets: &[u8]) -> u128
-    ensures { result ≡ ghash_from subkey state (blocks_of (padded octets.now)) }
+    ensures { result ≡ ghash_from subkey state (blocks_of (padded_string octets.now)) }
 {
     let mut next = state;
     for i in 0..octets.len().div_ceil(16) {

@@ -7,18 +7,18 @@ use Rattle.std.proofs.lemmas.Grind.{same_number_lists}
 use Rattle.std.proofs.lemmas.List.{append_assoc, drop-append-le, drop-drop, drop_at, get_or-append_right, get_or-drop, get_or-replicate, get_or-take, get_or_append_left, get_or_past, length-append, length-drop, length-replicate, length-take-le, take-append-le, take_all, take_more}
 use Rattle.std.proofs.lemmas.List.FromFn.{get_or-map-range_with_len, length-map-range_with_len}
 use Rattle.std.proofs.lemmas.List.Sums.{fold-append}
-use Rattle.macs_gf.specs.Ghash.{absorb, block_at, blocks_of, ghash_from, padded}
+use Rattle.macs_gf.specs.Ghash.{absorb, block_at, blocks_of, ghash_from, padded_string}
 
 -- ---- padding
 
 -- a padded string has whole blocks, as many as the string needs
-pub length-padded : (octets : List ℕ) → length (padded octets) ≡ 16 * ((length octets + 15) / 16)
+pub length-padded : (octets : List ℕ) → length (padded_string octets) ≡ 16 * ((length octets + 15) / 16)
 length-padded octets =
     let zeros : ℕ = (16 - length octets % 16) % 16 in
     omega (arith, length-append octets (replicate zeros 0), length-replicate {A = ℕ} zeros 0)
 
 -- behind whole blocks a string is padded as by itself
-pub padded-append : (front octets : List ℕ) → length front % 16 ≡ 0 → padded (front ++ octets) ≡ front ++ padded octets
+pub padded-append : (front octets : List ℕ) → length front % 16 ≡ 0 → padded_string (front ++ octets) ≡ front ++ padded_string octets
 padded-append front octets whole =
     let zeros : ℕ → ℕ = λ (n : ℕ). (16 - n % 16) % 16 in
     let size : length (front ++ octets) ≡ length front + length octets = length-append front octets in
@@ -26,7 +26,7 @@ padded-append front octets whole =
     ap (λ (n : ℕ). front ++ octets ++ replicate n 0) same ∙ append_assoc front octets (replicate (zeros (length octets)) 0)
 
 -- an octet past the end reads as the zero that pads
-pub get_or-padded : (octets : List ℕ) (k : ℕ) → get_or (padded octets) k 0 ≡ get_or octets k 0
+pub get_or-padded : (octets : List ℕ) (k : ℕ) → get_or (padded_string octets) k 0 ≡ get_or octets k 0
 get_or-padded octets k =
     let zeros : ℕ = (16 - length octets % 16) % 16 in
     elim (cases_lt k (length octets)) [

@@ -23,8 +23,8 @@ key_power h zero = 2 ^ 127
 key_power h (suc n) = block_product h (key_power h n)
 
 -- a string and zero octets after it, up to a whole number of blocks of 16 octets (7.1, step 4)
-abbrev pub padded : List ℕ → List ℕ
-padded octets = octets ++ replicate ((16 - length octets % 16) % 16) 0
+abbrev pub padded_string : List ℕ → List ℕ
+padded_string octets = octets ++ replicate ((16 - length octets % 16) % 16) 0
 
 -- block i of a string, as a number: its octets 16 i to 16 i + 15, the most significant first
 abbrev pub block_at : List ℕ → ℕ → ℕ
@@ -37,4 +37,4 @@ blocks_of octets = map (block_at octets) (range_with_len 0 (length octets / 16))
 -- the string that GCM hashes, of additional data a and a ciphertext c: both padded, then the length
 -- of each in bits, as 64 bits (7.1, step 5)
 abbrev pub hash_input : List ℕ → List ℕ → List ℕ
-hash_input a c = padded a ++ padded c ++ to_be_bytes w64 (8 * length a) ++ to_be_bytes w64 (8 * length c)
+hash_input a c = padded_string a ++ padded_string c ++ to_be_bytes w64 (8 * length a) ++ to_be_bytes w64 (8 * length c)

@@ -3,7 +3,7 @@
 ghost use Rattle.std.specs.Prelude.{◌≡◌, ◌↔◌, ◌%◌, ◌^◌, ◌<◌, ◌++◌, List, bit_xor, length, ℕ};
 ghost use Rattle.macs_gf.specs.Gf128.{block_product};
 ghost use Rattle.macs_gf.specs.Gf256.{IsInverse, aes_modulus, inverse, octet_product};
-ghost use Rattle.macs_gf.specs.Ghash.{blocks_of, ghash, ghash_from, key_power, padded};
+ghost use Rattle.macs_gf.specs.Ghash.{blocks_of, ghash, ghash_from, key_power, padded_string};
 ghost use Rattle.macs_gf.specs.Polynomial.{IsRemainder, product_below};
 
 /// The product of two octets is the remainder of the product of their polynomials on division by
@@ -77,7 +77,7 @@ pub fn ghash_from_state(h: u128, y: u128, blocks: &[u128])
 /// 800-38D, 7.1).
 pub fn padding_splits()
     ensures padded { (front octets : List ℕ) → length front % 16 ≡ 0
-        → padded (front ++ octets) ≡ front ++ padded octets }
+        → padded_string (front ++ octets) ≡ front ++ padded_string octets }
     ensures blocks { (front octets : List ℕ) → length front % 16 ≡ 0
         → blocks_of (front ++ octets) ≡ blocks_of front ++ blocks_of octets }
 {}

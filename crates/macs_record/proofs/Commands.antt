@@ -4,7 +4,7 @@ use Rattle.std.proofs.lemmas.Bool.{eq-eqb, ne_eqb}
 use Rattle.macs_frame.specs.Fields.{octets_of}
 use Rattle.macs_frame.specs.declared.fields.Offset.{Offset}
 use Rattle.macs_frame.specs.declared.fields.Offset.TheVariants.{Zero, Thirty, Fifty}
-use Rattle.macs_config.specs.Apply.{chosen, offset_at}
+use Rattle.macs_config.specs.Apply.{offset_or_zero, offset_at}
 use Rattle.macs_config.specs.Association.{is_confidential, offset_of, protection_of}
 use Rattle.macs_config.specs.declared.association.Protection.{Protection}
 use Rattle.macs_config.specs.declared.association.Protection.TheVariants.{Confidentiality, Integrity}
@@ -60,9 +60,9 @@ module _ (an : ℕ) (key : List ℕ) (start : ℕ) (confidential : Bool) (octets
 
   tx_value : (o : Option Offset) (zero wrong : Bool) → offset_at octets ≡ o → (start == 0) ≡ zero → is_wrong confidential octets ≡ wrong
       → tx_asked ≡ (if zero || (is_none o || wrong) then None
-      else Some (TxInstall an (record { key = key; protection = protection_of confidential (chosen o) }) start))
+      else Some (TxInstall an (record { key = key; protection = protection_of confidential (offset_or_zero o) }) start))
   tx_value o zero wrong e z w =
-      λ i. if z i || (is_none (e i) || w i) then None else Some (TxInstall an (record { key = key; protection = protection_of confidential (chosen (e i)) }) start)
+      λ i. if z i || (is_none (e i) || w i) then None else Some (TxInstall an (record { key = key; protection = protection_of confidential (offset_or_zero (e i)) }) start)
 
   pub tx_no_offset : None ≡ offset_at octets → None ≡ tx_asked
   tx_no_offset e = refused (start == 0) _ ∙ sym (tx_value None (start == 0) (is_wrong confidential octets) (sym e) refl refl)
@@ -90,8 +90,8 @@ module _ (sci : List ℕ) (an : ℕ) (key : List ℕ) (start octets : ℕ) where
   rx_asked = record_of (command.RxInstall sci an key start octets)
 
   rx_value : (o : Option Offset) (zero : Bool) → offset_at octets ≡ o → (start == 0) ≡ zero
-      → rx_asked ≡ (if zero || is_none o then None else Some (RxInstall sci an (record { key = key; offset = chosen o }) start))
-  rx_value o zero e z = λ i. if z i || is_none (e i) then None else Some (RxInstall sci an (record { key = key; offset = chosen (e i) }) start)
+      → rx_asked ≡ (if zero || is_none o then None else Some (RxInstall sci an (record { key = key; offset = offset_or_zero o }) start))
+  rx_value o zero e z = λ i. if z i || is_none (e i) then None else Some (RxInstall sci an (record { key = key; offset = offset_or_zero (e i) }) start)
 
   pub rx_no_offset : None ≡ offset_at octets → None ≡ rx_asked
   rx_no_offset e = refused (start == 0) _ ∙ sym (rx_value None (start == 0) (sym e) refl)

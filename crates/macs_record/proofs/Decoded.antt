@@ -4,7 +4,7 @@ use Rattle.std.proofs.lemmas.List.{length-replicate}
 use Rattle.macs_frame.specs.First.{IsFirst, NoneHolds}
 use Rattle.macs_record.specs.Decoding.{HasFields, HasKind, Holds, IsSectorOf, faults}
 use Rattle.macs_record.specs.Layout.{IsRecord, fields_of, front_of, kind_of, octets_of_kind}
-use Rattle.macs_record.specs.Sectors.{padded}
+use Rattle.macs_record.specs.Sectors.{padded_sector}
 use Rattle.macs_record.specs.declared.kind.Kind.{Kind}
 use Rattle.macs_record.specs.declared.record.Record.{Record}
 use Rattle.macs_record.specs.declared.record.RecordFault.TheVariants.{Field, Rest}
@@ -47,7 +47,7 @@ read_once kind sector behind left result kinds fields r is =
     let of_kind : kind_of r ≡ kind = cc in
     fields r zeros is.range of_kind k.1
 
-pub filled : (sector front left : List ℕ) → length sector ≡ 512 → sector ≡ front ++ left → left ≡ replicate (length left) 0 → padded front ≡ sector
+pub filled : (sector front left : List ℕ) → length sector ≡ 512 → sector ≡ front ++ left → left ≡ replicate (length left) 0 → padded_sector front ≡ sector
 filled sector front left size whole zeros =
     let room : 512 - length front ≡ length left = omega (arith, ap length whole, length-append {A = ℕ}) in
     ap (λ (n : ℕ). front ++ replicate n 0) room ∙ ap (λ (rest : List ℕ). front ++ rest) (sym zeros) ∙ sym whole

@@ -6,7 +6,7 @@ use Rattle.std.proofs.lemmas.List.Elements.{All-head, All-tail}
 use Rattle.macs_record.specs.Heads.{Head, IsHead, head_octets, head_sector_of}
 use Rattle.macs_record.specs.Layout.{IsRecord, fields_of, front_of, sector_of}
 use Rattle.macs_record.specs.Ranges.{IsOctets}
-use Rattle.macs_record.specs.Sectors.{padded}
+use Rattle.macs_record.specs.Sectors.{padded_sector}
 use Rattle.macs_record.specs.declared.record.Record.{Record}
 use Rattle.macs_record.specs.declared.record.Record.TheVariants.{Settings, TxSa, Channel, RxSa, Spent, SetValidate, SetReplay, SetSciMode, TxInstall, TxUse, TxRemove, RxAdd, RxDrop, RxInstall, RxRemove, TxCeiling, RxCeiling}
 
@@ -34,7 +34,7 @@ fields_length (RxRemove sci an) is = omega (arith, length-append {A = ℕ}, is.0
 fields_length (TxCeiling an ceiling) is = omega arith
 fields_length (RxCeiling sci an ceiling) is = omega (arith, length-append {A = ℕ}, is.0.size)
 
-length-padded : (front : List ℕ) → length front ≤ 512 → length (padded front) ≡ 512
+length-padded : (front : List ℕ) → length front ≤ 512 → length (padded_sector front) ≡ 512
 length-padded front within = omega (arith, length-append front (replicate (512 - length front) 0), length-replicate {A = ℕ} (512 - length front) 0)
 
 pub sector_length : (r : Record) → IsRecord r → length (sector_of r) ≡ 512

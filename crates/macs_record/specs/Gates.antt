@@ -1,6 +1,6 @@
 -- Gates: sectors whose first octets say whether what they stand for counts.
 use Rattle.std.specs.Prelude.{List, ℕ, [], ◌∷◌}
-use Rattle.macs_record.specs.Sectors.{Begins, padded}
+use Rattle.macs_record.specs.Sectors.{Begins, padded_sector}
 
 -- MSECOPEN
 abbrev pub open_mark : List ℕ
@@ -12,8 +12,8 @@ IsOpen sector = Begins open_mark sector
 
 -- an open gate, as it is written
 abbrev pub open_gate : List ℕ
-open_gate = padded open_mark
+open_gate = padded_sector open_mark
 
 -- a closed gate, as it is written
 abbrev pub closed_gate : List ℕ
-closed_gate = padded []
+closed_gate = padded_sector []

@@ -3,7 +3,7 @@ use Rattle.std.specs.Prelude.{◌≡◌, ◌<◌, ◌≤◌, ◌^◌, ◌++◌, 
 use Rattle.std.specs.Int.{to_be_bytes, w32, w64}
 use Rattle.macs_config.specs.Identity.{Identity, IsBlock}
 use Rattle.macs_record.specs.Ranges.{IsSci}
-use Rattle.macs_record.specs.Sectors.{padded}
+use Rattle.macs_record.specs.Sectors.{padded_sector}
 
 -- generation: how often the journal began anew, from 1 on; count: how many records its snapshot has; identity: whose it is
 pub record Head : Type 0 where
@@ -41,7 +41,7 @@ head_octets head =
 
 -- the sector of a head
 abbrev pub head_sector_of : Head → List ℕ
-head_sector_of head = padded (head_octets head)
+head_sector_of head = padded_sector (head_octets head)
 
 -- the sector is that of this head
 pub record IsHeadOf (head : Head) (sector : List ℕ) : Type 0 where

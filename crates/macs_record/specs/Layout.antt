@@ -14,7 +14,7 @@ use Rattle.macs_config.specs.declared.command.SciMode.TheVariants.{Explicit, End
 use Rattle.macs_config.specs.declared.command.Validate.{Validate}
 use Rattle.macs_config.specs.declared.command.Validate.TheVariants.{Strict, Check}
 use Rattle.macs_record.specs.Ranges.{IsAn, IsCeiling, IsEncoding, IsFingerprints, IsKey, IsSci, IsStart}
-use Rattle.macs_record.specs.Sectors.{padded}
+use Rattle.macs_record.specs.Sectors.{padded_sector}
 use Rattle.macs_record.specs.declared.kind.Kind.{Kind}
 use Rattle.macs_record.specs.declared.kind.Kind.TheVariants as kinds
 use Rattle.macs_record.specs.declared.record.Record.{Record}
@@ -141,7 +141,7 @@ front_of r = octets_of_kind (kind_of r) ++ fields_of r
 
 -- the sector of a record
 abbrev pub sector_of : Record → List ℕ
-sector_of r = padded (front_of r)
+sector_of r = padded_sector (front_of r)
 
 -- ---- ranges
 

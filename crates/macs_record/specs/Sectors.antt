@@ -2,8 +2,8 @@
 use Rattle.std.specs.Prelude.{◌≡◌, ◌-◌, ◌++◌, List, ℕ, length, replicate}
 
 -- octets, and zeros to the end of the sector
-abbrev pub padded : List ℕ → List ℕ
-padded octets = octets ++ replicate (512 - length octets) 0
+abbrev pub padded_sector : List ℕ → List ℕ
+padded_sector octets = octets ++ replicate (512 - length octets) 0
 
 -- the sector begins with these octets
 abbrev pub Begins : List ℕ → List ℕ → Type 0

@@ -3,7 +3,7 @@
 ghost use Rattle.std.specs.Prelude.{◌≡◌, ◌≤◌, ◌+◌, ◌++◌, ◌∷◌, ℕ, List, [], length};
 ghost use Rattle.std.specs.Int.{to_be_bytes, w32, w64};
 ghost use Rattle.macs_frame.specs.Fields.{octets_of};
-ghost use Rattle.macs_record.specs.Sectors.{padded};
+ghost use Rattle.macs_record.specs.Sectors.{padded_sector};
 ghost use Rattle.macs_record.specs.Layout.{encoding_octet, fingerprint_octets, flag, mode_octet, protection_octets, replay_octets, role_octet, validate_octet};
 
 use crate::SECTOR;
@@ -181,7 +181,7 @@ impl Writer {
 
     /// The octets, and zeros to the end of the sector.
     pub(crate) fn finish(self) -> [u8; SECTOR]
-        ensures { result ≡ padded self }
+        ensures { result ≡ padded_sector self }
     {
         let mut octets = self.octets;
         let room = SECTOR - octets.len();

@@ -11,7 +11,7 @@ use Rattle.macs_config.specs.declared.command.Replay.{Replay}
 use Rattle.macs_config.specs.declared.command.Validate.{Validate}
 use Rattle.macs_rxsc.proofs.Places.{bytes_eq-same, bytes_eq-sym, channel_at-none}
 use Rattle.macs_rxsc.specs.Needs.{Need, first_need, need_of, needs_of}
-use Rattle.macs_rxsc.specs.View.{ceilings_among, ceilings_in, channel_at, numbers_in, sas_in, scis_of, shown}
+use Rattle.macs_rxsc.specs.Value.{ceilings_among, ceilings_in, channel_at, numbers_in, sas_in, scis_of, rx_side_in}
 use Rattle.macs_rxsc.specs.declared.channel.Channel.{Channel}
 
 -- the needs of a channel's associations
@@ -112,7 +112,7 @@ same_needs block all (x ∷ xs) each =
 
 -- the first need of all
 pub needs_are : (block : ℕ) (channels : List Channel) → is_ascending (scis_of channels) ≡ true → (validate : Validate) (replay : Replay)
-    → first_need (needs_among block channels) ≡ needs_of (shown validate replay channels) (ceilings_among channels) block
+    → first_need (needs_among block channels) ≡ needs_of (rx_side_in validate replay channels) (ceilings_among channels) block
 needs_are block channels ascending validate replay = ap first_need (sym (same_needs block channels channels (own channels ascending)))
 
 -- ---- an association stands in a channel that stands

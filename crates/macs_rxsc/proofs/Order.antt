@@ -7,7 +7,7 @@ use borrow.Author.Tests.{eqb-true, ltb-true}
 use Rattle.macs_config.specs.Tables.{put, put_at}
 use Rattle.macs_config.specs.declared.association.RxSa.{RxSa}
 use Rattle.macs_config.specs.declared.command.Validate.{Validate}
-use Rattle.macs_rxsc.specs.Receive.{AreOrdered, Arrival, Numbers, Outcome, Receives, RxSide, Stands, advanced, arrived, held_back, put_numbers, started, windowed}
+use Rattle.macs_rxsc.specs.Receive.{AreOrdered, Arrival, Numbers, Outcome, IsOutcome, RxSide, IsNumbered, after_delivery, arrival_outcome, after_hold, put_numbers, first_numbers, under_window}
 
 -- ---- numbers
 
@@ -15,20 +15,20 @@ use Rattle.macs_rxsc.specs.Receive.{AreOrdered, Arrival, Numbers, Outcome, Recei
 abbrev pub AllOrdered : RxSide → (List ℕ → ℕ → Option ℕ) → Type 0
 AllOrdered side ceilings = (sci : List ℕ) (an : ℕ) → AreOrdered side ceilings sci an
 
-by_sci : (w : ℕ) (b : Bool) (sa sa' : Option RxSa) (n n' : Option Numbers) (c c' : Option ℕ) → (b ≡ true → Stands w sa n c) → (b ≡ false → Stands w sa' n' c')
-    → Stands w (cond b sa sa') (cond b n n') (cond b c c')
+by_sci : (w : ℕ) (b : Bool) (sa sa' : Option RxSa) (n n' : Option Numbers) (c c' : Option ℕ) → (b ≡ true → IsNumbered w sa n c) → (b ≡ false → IsNumbered w sa' n' c')
+    → IsNumbered w (cond b sa sa') (cond b n n') (cond b c c')
 by_sci w true sa sa' n n' c c' then_it else_it = then_it refl
 by_sci w false sa sa' n n' c c' then_it else_it = else_it refl
 
 at_argument : (w : ℕ) (b : Bool) (sa sa' : ℕ → Option RxSa) (n n' : ℕ → Option Numbers) (c c' : ℕ → Option ℕ) (an : ℕ)
-    → (b ≡ true → Stands w (sa an) (n an) (c an)) → (b ≡ false → Stands w (sa' an) (n' an) (c' an))
-    → Stands w ((cond b sa sa') an) ((cond b n n') an) ((cond b c c') an)
+    → (b ≡ true → IsNumbered w (sa an) (n an) (c an)) → (b ≡ false → IsNumbered w (sa' an) (n' an) (c' an))
+    → IsNumbered w ((cond b sa sa') an) ((cond b n n') an) ((cond b c c') an)
 at_argument w true sa sa' n n' c c' an then_it else_it = then_it refl
 at_argument w false sa sa' n n' c c' an then_it else_it = else_it refl
 
 -- another association at one place
 pub ordered-put : (side : RxSide) (ceilings : List ℕ → ℕ → Option ℕ) → AllOrdered side ceilings → (sci : List ℕ) (an : ℕ) (sa : Option RxSa) (n : Option Numbers) (c : Option ℕ)
-    → Stands side.replay.window sa n c
+    → IsNumbered side.replay.window sa n c
     → AllOrdered (record side { rx = put_at side.rx sci (put (side.rx sci) an sa); numbers = put_numbers side.numbers sci an n }) (put_at ceilings sci (put (ceilings sci) an c))
 ordered-put side ceilings old sci an sa n c new = λ s k.
     at_argument side.replay.window (bytes_eq s sci) (put (side.rx sci) an sa) (side.rx s) (put (side.numbers sci) an n) (side.numbers s) (put (ceilings sci) an c) (ceilings s) k
@@ -57,8 +57,8 @@ at_number_of f true g h k then_it else_it = then_it refl
 at_number_of f false g h k then_it else_it = else_it refl
 
 -- a ceiling rises
-raised_stands : (w : ℕ) (sa : Option RxSa) (n : Option Numbers) (c : Option ℕ) (ceiling : ℕ) → Stands w sa n c → IsSome sa → IfSome c (λ old. old ≤ ceiling) → ceiling ≤ 2 ^ 32
-    → Stands w sa n (Some ceiling)
+raised_stands : (w : ℕ) (sa : Option RxSa) (n : Option Numbers) (c : Option ℕ) (ceiling : ℕ) → IsNumbered w sa n c → IsSome sa → IfSome c (λ old. old ≤ ceiling) → ceiling ≤ 2 ^ 32
+    → IsNumbered w sa n (Some ceiling)
 raised_stands w None n c ceiling old some higher bounded = absurd (cc)
 raised_stands w (Some sa) None None ceiling old some higher bounded = absurd old
 raised_stands w (Some sa) None (Some c) ceiling old some higher bounded = absurd old
@@ -72,15 +72,15 @@ pub ordered-raised : (side : RxSide) (ceilings : List ℕ → ℕ → Option ℕ
     → AllOrdered side (put_at ceilings sci (put (ceilings sci) an (Some ceiling)))
 ordered-raised side ceilings old sci an ceiling some higher bounded = λ s k.
     let new = raised_stands side.replay.window (side.rx sci an) (side.numbers sci an) (ceilings sci an) ceiling (old sci an) some higher bounded in
-    at_number_of (λ c. Stands side.replay.window (side.rx s k) (side.numbers s k) c) (bytes_eq s sci) (put (ceilings sci) an (Some ceiling)) (ceilings s) k
-    (λ same. at_number (λ c. Stands side.replay.window (side.rx s k) (side.numbers s k) c) (k == an) (Some ceiling) (ceilings sci k)
-    (λ here. same_place (λ x y. Stands side.replay.window (side.rx x y) (side.numbers x y) (Some ceiling)) s sci k an same here new)
+    at_number_of (λ c. IsNumbered side.replay.window (side.rx s k) (side.numbers s k) c) (bytes_eq s sci) (put (ceilings sci) an (Some ceiling)) (ceilings s) k
+    (λ same. at_number (λ c. IsNumbered side.replay.window (side.rx s k) (side.numbers s k) c) (k == an) (Some ceiling) (ceilings sci k)
+    (λ here. same_place (λ x y. IsNumbered side.replay.window (side.rx x y) (side.numbers x y) (Some ceiling)) s sci k an same here new)
     (λ _. let is : s ≡ sci = (bytes_eq-Decides s sci).0 same in
-    subst (λ (x : List ℕ). Stands side.replay.window (side.rx x k) (side.numbers x k) (ceilings sci k)) (sym is) (old sci k)))
+    subst (λ (x : List ℕ). IsNumbered side.replay.window (side.rx x k) (side.numbers x k) (ceilings sci k)) (sym is) (old sci k)))
     (λ _. old s k)
 
 -- the window changes
-windowed_stands : (w window : ℕ) (sa : Option RxSa) (n : Option Numbers) (c : Option ℕ) → Stands w sa n c → Stands window sa (option_map (windowed window) n) c
+windowed_stands : (w window : ℕ) (sa : Option RxSa) (n : Option Numbers) (c : Option ℕ) → IsNumbered w sa n c → IsNumbered window sa (option_map (under_window window) n) c
 windowed_stands w window None None None old = tt
 windowed_stands w window None None (Some c) old = absurd old
 windowed_stands w window None (Some n) None old = absurd old
@@ -94,17 +94,17 @@ windowed_stands w window (Some sa) (Some n) (Some c) old =
     record { numbered = omega arith; windowed = omega arith; ordered = omega arith; below = old.below; bounded = old.bounded }
 
 pub ordered-windowed : (side : RxSide) (ceilings : List ℕ → ℕ → Option ℕ) → AllOrdered side ceilings → (validate : Validate) (on : Bool) (window : ℕ)
-    → AllOrdered (record side { validate = validate; replay = record { on = on; window = window }; numbers = λ sci an. option_map (windowed window) (side.numbers sci an) }) ceilings
+    → AllOrdered (record side { validate = validate; replay = record { on = on; window = window }; numbers = λ sci an. option_map (under_window window) (side.numbers sci an) }) ceilings
 ordered-windowed side ceilings old validate on window = λ s k.
     windowed_stands side.replay.window window (side.rx s k) (side.numbers s k) (ceilings s k) (old s k)
 
 -- an association is installed
-pub started_stands : (w : ℕ) (sa : RxSa) (start ceiling : ℕ) → 1 ≤ start → start ≤ ceiling → ceiling ≤ 2 ^ 32 → Stands w (Some sa) (Some (started start)) (Some ceiling)
+pub started_stands : (w : ℕ) (sa : RxSa) (start ceiling : ℕ) → 1 ≤ start → start ≤ ceiling → ceiling ≤ 2 ^ 32 → IsNumbered w (Some sa) (Some (first_numbers start)) (Some ceiling)
 started_stands w sa start ceiling numbered below bounded =
     record { numbered = numbered; windowed = omega arith; ordered = omega arith; below = below; bounded = bounded }
 
 -- a frame arrives
-advanced_stands : (w : ℕ) (sa : Option RxSa) (n : Numbers) (c pn : ℕ) → Stands w sa (Some n) (Some c) → pn < c → Stands w sa (Some (advanced w n pn)) (Some c)
+advanced_stands : (w : ℕ) (sa : Option RxSa) (n : Numbers) (c pn : ℕ) → IsNumbered w sa (Some n) (Some c) → pn < c → IsNumbered w sa (Some (after_delivery w n pn)) (Some c)
 advanced_stands w None n c pn old below = absurd old
 advanced_stands w (Some sa) n c pn old below =
     let o1 : 1 ≤ n.lowest = old.numbered in
@@ -112,7 +112,7 @@ advanced_stands w (Some sa) n c pn old below =
     let o3 : n.next ≤ c = old.below in
     record { numbered = omega arith; windowed = omega arith; ordered = omega arith; below = omega arith; bounded = old.bounded }
 
-held_stands : (w : ℕ) (sa : Option RxSa) (n : Numbers) (c : Option ℕ) (pn : ℕ) → Stands w sa (Some n) c → Stands w sa (Some (held_back n pn)) c
+held_stands : (w : ℕ) (sa : Option RxSa) (n : Numbers) (c : Option ℕ) (pn : ℕ) → IsNumbered w sa (Some n) c → IsNumbered w sa (Some (after_hold n pn)) c
 held_stands w None n None pn old = absurd old
 held_stands w None n (Some c) pn old = absurd old
 held_stands w (Some sa) n None pn old = absurd old
@@ -129,39 +129,39 @@ at_numbers f false x y then_it else_it = else_it refl
 
 -- the numbers at one place change
 pub ordered-numbers : (side : RxSide) (ceilings : List ℕ → ℕ → Option ℕ) → AllOrdered side ceilings → (sci : List ℕ) (an : ℕ) (n : Option Numbers)
-    → Stands side.replay.window (side.rx sci an) n (ceilings sci an) → AllOrdered (record side { numbers = put_numbers side.numbers sci an n }) ceilings
+    → IsNumbered side.replay.window (side.rx sci an) n (ceilings sci an) → AllOrdered (record side { numbers = put_numbers side.numbers sci an n }) ceilings
 ordered-numbers side ceilings old sci an n new = λ s k.
-    at_numbers_of (λ m. Stands side.replay.window (side.rx s k) m (ceilings s k)) (bytes_eq s sci) (put (side.numbers sci) an n) (side.numbers s) k
-    (λ same. at_numbers (λ m. Stands side.replay.window (side.rx s k) m (ceilings s k)) (k == an) n (side.numbers sci k)
-    (λ here. same_place (λ x y. Stands side.replay.window (side.rx x y) n (ceilings x y)) s sci k an same here new)
+    at_numbers_of (λ m. IsNumbered side.replay.window (side.rx s k) m (ceilings s k)) (bytes_eq s sci) (put (side.numbers sci) an n) (side.numbers s) k
+    (λ same. at_numbers (λ m. IsNumbered side.replay.window (side.rx s k) m (ceilings s k)) (k == an) n (side.numbers sci k)
+    (λ here. same_place (λ x y. IsNumbered side.replay.window (side.rx x y) n (ceilings x y)) s sci k an same here new)
     (λ _. let is : s ≡ sci = (bytes_eq-Decides s sci).0 same in
-    subst (λ (x : List ℕ). Stands side.replay.window (side.rx x k) (side.numbers sci k) (ceilings x k)) (sym is) (old sci k)))
+    subst (λ (x : List ℕ). IsNumbered side.replay.window (side.rx x k) (side.numbers sci k) (ceilings x k)) (sym is) (old sci k)))
     (λ _. old s k)
 
-by_ceiling : (side : RxSide) (ceilings : List ℕ → ℕ → Option ℕ) → AllOrdered side ceilings → (a : Arrival) → Stands side.replay.window (side.rx a.sci a.an) (Some a.numbers) (ceilings a.sci a.an)
-    → (c : ℕ) → ceilings a.sci a.an ≡ Some c → (b : Bool) → nat_lt a.pn c ≡ b → AllOrdered (record side { numbers = (arrived side ceilings a).numbers }) ceilings
+by_ceiling : (side : RxSide) (ceilings : List ℕ → ℕ → Option ℕ) → AllOrdered side ceilings → (a : Arrival) → IsNumbered side.replay.window (side.rx a.sci a.an) (Some a.numbers) (ceilings a.sci a.an)
+    → (c : ℕ) → ceilings a.sci a.an ≡ Some c → (b : Bool) → nat_lt a.pn c ≡ b → AllOrdered (record side { numbers = (arrival_outcome side ceilings a).numbers }) ceilings
 by_ceiling side ceilings old a here c is true lt =
-    let stands : Stands side.replay.window (side.rx a.sci a.an) (Some (advanced side.replay.window a.numbers a.pn)) (ceilings a.sci a.an) =
-    subst (λ (x : Option ℕ). Stands side.replay.window (side.rx a.sci a.an) (Some (advanced side.replay.window a.numbers a.pn)) x) (sym is)
+    let stands : IsNumbered side.replay.window (side.rx a.sci a.an) (Some (after_delivery side.replay.window a.numbers a.pn)) (ceilings a.sci a.an) =
+    subst (λ (x : Option ℕ). IsNumbered side.replay.window (side.rx a.sci a.an) (Some (after_delivery side.replay.window a.numbers a.pn)) x) (sym is)
     (advanced_stands side.replay.window (side.rx a.sci a.an) a.numbers c a.pn
-    (subst (λ (x : Option ℕ). Stands side.replay.window (side.rx a.sci a.an) (Some a.numbers) x) is here) (ltb-true a.pn c lt)) in
-    rw (is, lt) (ordered-numbers side ceilings old a.sci a.an (Some (advanced side.replay.window a.numbers a.pn)) stands)
+    (subst (λ (x : Option ℕ). IsNumbered side.replay.window (side.rx a.sci a.an) (Some a.numbers) x) is here) (ltb-true a.pn c lt)) in
+    rw (is, lt) (ordered-numbers side ceilings old a.sci a.an (Some (after_delivery side.replay.window a.numbers a.pn)) stands)
 by_ceiling side ceilings old a here c is false lt =
-    rw (is, lt) (ordered-numbers side ceilings old a.sci a.an (Some (held_back a.numbers a.pn)) (held_stands side.replay.window (side.rx a.sci a.an) a.numbers (ceilings a.sci a.an) a.pn here))
+    rw (is, lt) (ordered-numbers side ceilings old a.sci a.an (Some (after_hold a.numbers a.pn)) (held_stands side.replay.window (side.rx a.sci a.an) a.numbers (ceilings a.sci a.an) a.pn here))
 
-arrived_ordered : (side : RxSide) (ceilings : List ℕ → ℕ → Option ℕ) → AllOrdered side ceilings → (a : Arrival) → Stands side.replay.window (side.rx a.sci a.an) (Some a.numbers) (ceilings a.sci a.an)
-    → (c : Option ℕ) → ceilings a.sci a.an ≡ c → AllOrdered (record side { numbers = (arrived side ceilings a).numbers }) ceilings
+arrived_ordered : (side : RxSide) (ceilings : List ℕ → ℕ → Option ℕ) → AllOrdered side ceilings → (a : Arrival) → IsNumbered side.replay.window (side.rx a.sci a.an) (Some a.numbers) (ceilings a.sci a.an)
+    → (c : Option ℕ) → ceilings a.sci a.an ≡ c → AllOrdered (record side { numbers = (arrival_outcome side ceilings a).numbers }) ceilings
 arrived_ordered side ceilings old a here None is =
-    rw is (ordered-numbers side ceilings old a.sci a.an (Some (held_back a.numbers a.pn)) (held_stands side.replay.window (side.rx a.sci a.an) a.numbers (ceilings a.sci a.an) a.pn here))
+    rw is (ordered-numbers side ceilings old a.sci a.an (Some (after_hold a.numbers a.pn)) (held_stands side.replay.window (side.rx a.sci a.an) a.numbers (ceilings a.sci a.an) a.pn here))
 arrived_ordered side ceilings old a here (Some c) is = by_ceiling side ceilings old a here c is (nat_lt a.pn c) refl
 
-pub ordered-received : (side : RxSide) (ceilings : List ℕ → ℕ → Option ℕ) (frame : List ℕ) (o : Outcome) → AllOrdered side ceilings → Receives side ceilings frame o
+pub ordered-received : (side : RxSide) (ceilings : List ℕ → ℕ → Option ℕ) (frame : List ℕ) (o : Outcome) → AllOrdered side ceilings → IsOutcome side ceilings frame o
     → AllOrdered (record side { numbers = o.numbers }) ceilings
 ordered-received side ceilings frame o old (inl settled) =
     subst (λ (numbers : List ℕ → ℕ → Option Numbers). AllOrdered (record side { numbers = numbers }) ceilings) (sym (ap (λ (x : Outcome). x.numbers) settled.2)) old
 ordered-received side ceilings frame o old (inr arrives) =
     let a = arrives.0 in
-    let here : Stands side.replay.window (side.rx a.sci a.an) (Some a.numbers) (ceilings a.sci a.an) =
-    subst (λ n. Stands side.replay.window (side.rx a.sci a.an) n (ceilings a.sci a.an)) arrives.1.are_numbers (old a.sci a.an) in
+    let here : IsNumbered side.replay.window (side.rx a.sci a.an) (Some a.numbers) (ceilings a.sci a.an) =
+    subst (λ n. IsNumbered side.replay.window (side.rx a.sci a.an) n (ceilings a.sci a.an)) arrives.1.are_numbers (old a.sci a.an) in
     subst (λ (numbers : List ℕ → ℕ → Option Numbers). AllOrdered (record side { numbers = numbers }) ceilings) (sym (ap (λ (x : Outcome). x.numbers) arrives.2))
     (arrived_ordered side ceilings old a here (ceilings a.sci a.an) refl)

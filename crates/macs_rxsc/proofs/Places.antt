@@ -16,7 +16,7 @@ use Rattle.std.specs.Cmp.Lexicographic.{lists_agrees, slice_partial_cmp}
 use Rattle.std.specs.Ordering.{is_lt, is_some_and, nat_cmp, partial_lt}
 use Rattle.macs_config.specs.Config.{comes_before, put_among}
 use Rattle.macs_config.specs.Tables.{put, put_at}
-use Rattle.macs_rxsc.specs.View.{channel_at, scis_of, slid_channel}
+use Rattle.macs_rxsc.specs.Value.{channel_at, scis_of, channel_under}
 use Rattle.macs_rxsc.specs.declared.channel.Channel.{Channel}
 
 pub bytes_eq-sym : (a b : List ℕ) → bytes_eq a b ≡ bytes_eq b a
@@ -172,16 +172,16 @@ channel_at-filter (c ∷ cs) sci s =
     gone_step c (filter (is_other sci) cs) (channel_at cs s) sci s (bytes_eq c.sci sci) (bytes_eq c.sci s) refl refl (channel_at-filter cs sci s)
 
 -- the window changes
-slid_step : (w : ℕ) (b : Bool) (c : Channel) (rest rest' : Option Channel) → rest' ≡ option_map (slid_channel w) rest
-    → cond b (Some (slid_channel w c)) rest' ≡ option_map (slid_channel w) (cond b (Some c) rest)
+slid_step : (w : ℕ) (b : Bool) (c : Channel) (rest rest' : Option Channel) → rest' ≡ option_map (channel_under w) rest
+    → cond b (Some (channel_under w c)) rest' ≡ option_map (channel_under w) (cond b (Some c) rest)
 slid_step w true c rest rest' is = refl
 slid_step w false c rest rest' is = is
 
-pub channel_at-slid : (channels : List Channel) (w : ℕ) (s : List ℕ) → channel_at (map (slid_channel w) channels) s ≡ option_map (slid_channel w) (channel_at channels s)
+pub channel_at-slid : (channels : List Channel) (w : ℕ) (s : List ℕ) → channel_at (map (channel_under w) channels) s ≡ option_map (channel_under w) (channel_at channels s)
 channel_at-slid [] w s = refl
 channel_at-slid (c ∷ cs) w s = slid_step w (bytes_eq c.sci s) c (channel_at cs s) _ (channel_at-slid cs w s)
 
-pub scis_of-slid : (channels : List Channel) (w : ℕ) → scis_of (map (slid_channel w) channels) ≡ scis_of channels
+pub scis_of-slid : (channels : List Channel) (w : ℕ) → scis_of (map (channel_under w) channels) ≡ scis_of channels
 scis_of-slid [] w = refl
 scis_of-slid (c ∷ cs) w = ap (λ rest. c.sci ∷ rest) (scis_of-slid cs w)
 

@@ -17,10 +17,10 @@ use Rattle.macs_frame.specs.Tag.{name_of, tag_of}
 use Rattle.macs_frame.specs.declared.tag.SecTag.{SecTag}
 use Rattle.macs_frame.specs.declared.tag.TagFault.{TagFault}
 use Rattle.macs_frame.specs.declared.tag.TagFault.TheVariants.{Runt as IsRunt, Oversize as IsOversize, NoTag as HasNoTag, BadTag as HasBadTag, ForKay as IsForKay}
-use Rattle.macs_rxsc.specs.Kept.{IsKept}
-use Rattle.macs_rxsc.specs.Receive.{Numbers, Receives, RxSide, Tag as TagStep, put_numbers, sci_named, standing, verdict_at, windowed}
-use Rattle.macs_rxsc.specs.Counting.{channel_counted, counted_at, none_counted_for_channel}
-use Rattle.macs_rxsc.specs.View.{ceilings_among, ceilings_in, channel_at, counters_among, counters_in, numbers_in, numbers_of, sa_of, sas_in, scis_of, shown, slid, slid_channel, association_in}
+use Rattle.macs_rxsc.specs.Sound.{IsSoundRx}
+use Rattle.macs_rxsc.specs.Receive.{Numbers, IsOutcome, RxSide, Tag as TagStep, put_numbers, sci_named, if_channel, verdict_at, under_window}
+use Rattle.macs_rxsc.specs.Counting.{with_channel_verdict, with_verdict_at, no_channel_counts}
+use Rattle.macs_rxsc.specs.Value.{ceilings_among, ceilings_in, channel_at, counters_among, counters_in, numbers_in, packet_numbers, sa_of, sas_in, scis_of, rx_side_in, association_under, channel_under, association_in}
 use Rattle.macs_rxsc.specs.declared.association.Association.{Association}
 use Rattle.macs_rxsc.specs.declared.channel.Channel.{Channel}
 use Rattle.macs_rxsc.specs.declared.counters.ChannelCounters.{ChannelCounters}
@@ -31,7 +31,7 @@ use Rattle.macs_rxsc.proofs.Places.{IsPlace, among_at, channel_at-filter, channe
 
 -- a channel that is none
 abbrev pub blank : Channel
-blank = record { sci = []; associations = []; counters = none_counted_for_channel }
+blank = record { sci = []; associations = []; counters = no_channel_counts }
 
 -- the array after one of its channels was lent
 pub lent : (items ws : List Channel) (place : ℕ) (new : Channel) → ws ≡ items → refill (length items) items (set ws place new) ≡ set items place new
@@ -66,8 +66,8 @@ module _ (items : List Channel) (place : ℕ) (old new : Channel) (sci : List �
   scis = scis_of-set items place new old sci p (same ∙ there)
 
   pub shown-changed : (validate : Validate) (replay : Replay) (f : ℕ → Option RxSa) (g : ℕ → Option Numbers) → sas_in (Some new) ≡ f → numbers_in (Some new) ≡ g
-      → shown validate replay (set items place new) ≡ record (shown validate replay items)
-      { rx = put_at (shown validate replay items).rx sci f; numbers = put_at (shown validate replay items).numbers sci g }
+      → rx_side_in validate replay (set items place new) ≡ record (rx_side_in validate replay items)
+      { rx = put_at (rx_side_in validate replay items).rx sci f; numbers = put_at (rx_side_in validate replay items).numbers sci g }
   shown-changed validate replay f g sas numbers =
       let rx_is : (λ (s : List ℕ). sas_in (channel_at (set items place new) s)) ≡ put_at (λ (s : List ℕ). sas_in (channel_at items s)) sci f =
       read_of sas_in _ _ sci (Some new) each ∙ ap (put_at (λ (s : List ℕ). sas_in (channel_at items s)) sci) sas in
@@ -95,18 +95,18 @@ module _ (items : List Channel) (place : ℕ) (old new : Channel) (sci : List �
   counters-kept is = counters-changed _ (ap Some is) ∙ put_at-same (counters_among items) sci (Some old.counters) (ap counters_in at_old)
 
   pub shown-kept : (validate : Validate) (replay : Replay) → sas_in (Some new) ≡ sas_in (Some old) → numbers_in (Some new) ≡ numbers_in (Some old)
-      → shown validate replay (set items place new) ≡ shown validate replay items
+      → rx_side_in validate replay (set items place new) ≡ rx_side_in validate replay items
   shown-kept validate replay sas numbers =
       shown-changed validate replay _ _ sas numbers
       ∙ (λ i. record { validate = validate; replay = replay; channels = scis_of items; rx = sas-old i; numbers = numbers-old i })
 
   -- only the numbers changed
   pub shown-numbers : (validate : Validate) (replay : Replay) → sas_in (Some new) ≡ sas_in (Some old)
-      → shown validate replay (set items place new) ≡ record (shown validate replay items) { numbers = (shown validate replay (set items place new)).numbers }
+      → rx_side_in validate replay (set items place new) ≡ record (rx_side_in validate replay items) { numbers = (rx_side_in validate replay (set items place new)).numbers }
   shown-numbers validate replay sas =
       let rx_is : (λ (s : List ℕ). sas_in (channel_at (set items place new) s)) ≡ (λ (s : List ℕ). sas_in (channel_at items s)) =
       read_of sas_in _ _ sci (Some new) each ∙ ap (put_at (λ (s : List ℕ). sas_in (channel_at items s)) sci) sas ∙ sas-old in
-      λ i. record { validate = validate; replay = replay; channels = scis i; rx = rx_is i; numbers = (shown validate replay (set items place new)).numbers }
+      λ i. record { validate = validate; replay = replay; channels = scis i; rx = rx_is i; numbers = (rx_side_in validate replay (set items place new)).numbers }
 
   -- the numbers that the channel has now
   pub numbers-changed : put_at (λ (s : List ℕ). numbers_in (channel_at items s)) old.sci (numbers_in (Some new)) ≡ (λ (s : List ℕ). numbers_in (channel_at (set items place new) s))
@@ -115,16 +115,16 @@ module _ (items : List Channel) (place : ℕ) (old new : Channel) (sci : List �
       ∙ sym (read_of numbers_in _ _ sci (Some new) each)
 
   -- one more is counted for the channel
-  pub counters-counted : (verdict : Verdict) → new.counters ≡ channel_counted verdict old.counters
-      → counters_among (set items place new) ≡ counted_at (Some sci) verdict (counters_among items)
+  pub counters-counted : (verdict : Verdict) → new.counters ≡ with_channel_verdict verdict old.counters
+      → counters_among (set items place new) ≡ with_verdict_at (Some sci) verdict (counters_among items)
   counters-counted verdict is =
       counters-changed _ (ap Some is)
-      ∙ ap (λ (o : Option Channel). put_at (counters_among items) sci (option_map (channel_counted verdict) (counters_in o))) (sym at_old)
+      ∙ ap (λ (o : Option Channel). put_at (counters_among items) sci (option_map (with_channel_verdict verdict) (counters_in o))) (sym at_old)
 
 -- ---- a new channel
 
 abbrev pub fresh : List ℕ → Channel
-fresh sci = record { sci = sci; associations = None ∷ None ∷ None ∷ None ∷ []; counters = none_counted_for_channel }
+fresh sci = record { sci = sci; associations = None ∷ None ∷ None ∷ None ∷ []; counters = no_channel_counts }
 
 nothing_at : (an : ℕ) → get_or {A = Option Association} (None ∷ None ∷ None ∷ None ∷ []) an None ≡ None
 nothing_at zero = refl
@@ -151,7 +151,7 @@ module _ (items : List Channel) (place : ℕ) (sci : List ℕ) (free : list_any 
 
   numbers-added : ◌≡◌ {A = List ℕ → ℕ → Option Numbers} (λ s. numbers_in (channel_at (insert items place (fresh sci)) s)) (λ s. numbers_in (channel_at items s))
   numbers-added =
-      read_of numbers_in _ _ sci (Some (fresh sci)) inserted ∙ ap (put_at (λ (s : List ℕ). numbers_in (channel_at items s)) sci) (unread numbers_of)
+      read_of numbers_in _ _ sci (Some (fresh sci)) inserted ∙ ap (put_at (λ (s : List ℕ). numbers_in (channel_at items s)) sci) (unread packet_numbers)
       ∙ put_at-same (λ (s : List ℕ). numbers_in (channel_at items s)) sci _ (ap numbers_in none_yet)
 
   pub ceilings-added : ceilings_among (insert items place (fresh sci)) ≡ ceilings_among items
@@ -159,11 +159,11 @@ module _ (items : List Channel) (place : ℕ) (sci : List ℕ) (free : list_any 
       read_of ceilings_in _ _ sci (Some (fresh sci)) inserted ∙ ap (put_at (ceilings_among items) sci) (unread (λ (a : Association). a.ceiling))
       ∙ put_at-same (ceilings_among items) sci _ (ap ceilings_in none_yet)
 
-  pub counters-added : counters_among (insert items place (fresh sci)) ≡ put_at (counters_among items) sci (Some none_counted_for_channel)
+  pub counters-added : counters_among (insert items place (fresh sci)) ≡ put_at (counters_among items) sci (Some no_channel_counts)
   counters-added = read_of counters_in _ _ sci (Some (fresh sci)) inserted
 
   pub shown-added : (validate : Validate) (replay : Replay) → put_among sci (scis_of items) ≡ take place (scis_of items) ++ sci ∷ drop place (scis_of items)
-      → shown validate replay (insert items place (fresh sci)) ≡ record (shown validate replay items) { channels = put_among sci (scis_of items) }
+      → rx_side_in validate replay (insert items place (fresh sci)) ≡ record (rx_side_in validate replay items) { channels = put_among sci (scis_of items) }
   shown-added validate replay between =
       let scis : scis_of (insert items place (fresh sci)) ≡ put_among sci (scis_of items) = scis_of-insert items place (fresh sci) ∙ sym between in
       λ i. record { validate = validate; replay = replay; channels = scis i; rx = sas-added i; numbers = numbers-added i }
@@ -171,10 +171,10 @@ module _ (items : List Channel) (place : ℕ) (sci : List ℕ) (free : list_any 
 -- ---- a channel goes
 
 module _ (items : List Channel) (sci : List ℕ) where
-  pub shown-gone : (validate : Validate) (replay : Replay) → shown validate replay (filter (is_other sci) items) ≡ record (shown validate replay items) {
+  pub shown-gone : (validate : Validate) (replay : Replay) → rx_side_in validate replay (filter (is_other sci) items) ≡ record (rx_side_in validate replay items) {
     channels = filter (λ other. not (bytes_eq other sci)) (scis_of items);
-    rx = put_at (shown validate replay items).rx sci (λ an. None);
-    numbers = put_at (shown validate replay items).numbers sci (λ an. None);
+    rx = put_at (rx_side_in validate replay items).rx sci (λ an. None);
+    numbers = put_at (rx_side_in validate replay items).numbers sci (λ an. None);
   }
   shown-gone validate replay =
       let rx_is : (λ (s : List ℕ). sas_in (channel_at (filter (is_other sci) items) s)) ≡ put_at (λ (s : List ℕ). sas_in (channel_at items s)) sci (λ an. None) =
@@ -202,28 +202,28 @@ named_at items ws frame tag found same is found_is =
 
 pub named_some : (items : List Channel) (place : ℕ) (d : Channel) (named : Option (List ℕ))
     → ◌≡◌ {A = Option ℕ} (Some place) (option_and_then (λ (s : List ℕ). position (has_sci s) items) named)
-    → (sci : List ℕ) × (named ≡ Some sci) × IsPlace items sci place d × (option_and_then (standing (scis_of items)) named ≡ Some sci)
+    → (sci : List ℕ) × (named ≡ Some sci) × IsPlace items sci place d × (option_and_then (if_channel (scis_of items)) named ≡ Some sci)
 named_some items place d None found = absurd (cc)
 named_some items place d (Some sci) found =
     let p = is_place items sci place d (sym found) in
     (sci, refl, p, rw (among_at items sci place d p) refl)
 
 pub named_none : (items : List Channel) (named : Option (List ℕ)) → ◌≡◌ {A = Option ℕ} None (option_and_then (λ (s : List ℕ). position (has_sci s) items) named)
-    → option_and_then (standing (scis_of items)) named ≡ None
+    → option_and_then (if_channel (scis_of items)) named ≡ None
 named_none items None none = refl
 named_none items (Some sci) none = rw ((not_there items sci blank (sym none)).1) refl
 
 -- ---- what is not counted for channels
 
-same_in : (o : Option ChannelCounters) (verdict : Verdict) → ((c : ChannelCounters) → channel_counted verdict c ≡ c) → o ≡ option_map (channel_counted verdict) o
+same_in : (o : Option ChannelCounters) (verdict : Verdict) → ((c : ChannelCounters) → with_channel_verdict verdict c ≡ c) → o ≡ option_map (with_channel_verdict verdict) o
 same_in None verdict same = refl
 same_in (Some c) verdict same = ap Some (sym (same c))
 
-pub uncounted : (channel : Option (List ℕ)) (verdict : Verdict) (table : List ℕ → Option ChannelCounters) → ((c : ChannelCounters) → channel_counted verdict c ≡ c) → counted_at channel verdict table ≡ table
+pub uncounted : (channel : Option (List ℕ)) (verdict : Verdict) (table : List ℕ → Option ChannelCounters) → ((c : ChannelCounters) → with_channel_verdict verdict c ≡ c) → with_verdict_at channel verdict table ≡ table
 uncounted None verdict table same = refl
 uncounted (Some sci) verdict table same = put_at-same table sci _ (same_in (table sci) verdict same)
 
-pub tag_uncounted : (side : RxSide) (frame : List ℕ) (fault : TagFault) (validate : Validate) → side.validate ≡ validate → (c : ChannelCounters) → channel_counted (verdict_at side frame (TagStep fault)) c ≡ c
+pub tag_uncounted : (side : RxSide) (frame : List ℕ) (fault : TagFault) (validate : Validate) → side.validate ≡ validate → (c : ChannelCounters) → with_channel_verdict (verdict_at side frame (TagStep fault)) c ≡ c
 tag_uncounted side frame IsRunt validate is c = refl
 tag_uncounted side frame IsOversize validate is c = refl
 tag_uncounted side frame HasNoTag Strict is c = rw is refl
@@ -233,59 +233,59 @@ tag_uncounted side frame IsForKay validate is c = refl
 
 -- ---- the window changes
 
-windowed_read : (window : ℕ) (a : Option Association) → option_map numbers_of (option_map (slid window) a) ≡ option_map (windowed window) (option_map numbers_of a)
+windowed_read : (window : ℕ) (a : Option Association) → option_map packet_numbers (option_map (association_under window) a) ≡ option_map (under_window window) (option_map packet_numbers a)
 windowed_read window None = refl
 windowed_read window (Some a) = refl
 
-sa_read : (window : ℕ) (a : Option Association) → option_map sa_of (option_map (slid window) a) ≡ option_map sa_of a
+sa_read : (window : ℕ) (a : Option Association) → option_map sa_of (option_map (association_under window) a) ≡ option_map sa_of a
 sa_read window None = refl
 sa_read window (Some a) = refl
 
-ceiling_read : (window : ℕ) (a : Option Association) → option_map (λ (x : Association). x.ceiling) (option_map (slid window) a) ≡ option_map (λ (x : Association). x.ceiling) a
+ceiling_read : (window : ℕ) (a : Option Association) → option_map (λ (x : Association). x.ceiling) (option_map (association_under window) a) ≡ option_map (λ (x : Association). x.ceiling) a
 ceiling_read window None = refl
 ceiling_read window (Some a) = refl
 
-slid_at : (window : ℕ) (xs : List (Option Association)) (an : ℕ) → get_or (map (option_map (slid window)) xs) an None ≡ option_map (slid window) (get_or xs an None)
+slid_at : (window : ℕ) (xs : List (Option Association)) (an : ℕ) → get_or (map (option_map (association_under window)) xs) an None ≡ option_map (association_under window) (get_or xs an None)
 slid_at window [] an = refl
 slid_at window (x ∷ xs) zero = refl
 slid_at window (x ∷ xs) (suc an) = slid_at window xs an
 
-slid_in : (window : ℕ) (o : Option Channel) (an : ℕ) → association_in (option_map (slid_channel window) o) an ≡ option_map (slid window) (association_in o an)
+slid_in : (window : ℕ) (o : Option Channel) (an : ℕ) → association_in (option_map (channel_under window) o) an ≡ option_map (association_under window) (association_in o an)
 slid_in window None an = refl
 slid_in window (Some c) an = slid_at window c.associations an
 
 module _ (items : List Channel) (window : ℕ) where
-  slid_there : (s : List ℕ) (an : ℕ) → association_in (channel_at (map (slid_channel window) items) s) an ≡ option_map (slid window) (association_in (channel_at items s) an)
+  slid_there : (s : List ℕ) (an : ℕ) → association_in (channel_at (map (channel_under window) items) s) an ≡ option_map (association_under window) (association_in (channel_at items s) an)
   slid_there s an = ap (λ (o : Option Channel). association_in o an) (channel_at-slid items window s) ∙ slid_in window (channel_at items s) an
 
-  pub shown-slid : (validate : Validate) (replay : Replay) (old : Validate) (before : Replay) → shown validate replay (map (slid_channel window) items) ≡ record (shown old before items) {
+  pub shown-slid : (validate : Validate) (replay : Replay) (old : Validate) (before : Replay) → rx_side_in validate replay (map (channel_under window) items) ≡ record (rx_side_in old before items) {
     validate = validate;
     replay = replay;
-    numbers = λ sci an. option_map (windowed window) ((shown old before items).numbers sci an);
+    numbers = λ sci an. option_map (under_window window) ((rx_side_in old before items).numbers sci an);
   }
   shown-slid validate replay old before =
-      let rx_is : (λ (s : List ℕ). sas_in (channel_at (map (slid_channel window) items) s)) ≡ (λ (s : List ℕ). sas_in (channel_at items s)) =
+      let rx_is : (λ (s : List ℕ). sas_in (channel_at (map (channel_under window) items) s)) ≡ (λ (s : List ℕ). sas_in (channel_at items s)) =
       fun_ext (λ s. fun_ext (λ an. ap (option_map sa_of) (slid_there s an) ∙ sa_read window (association_in (channel_at items s) an))) in
-      let numbers_are : (λ (s : List ℕ). numbers_in (channel_at (map (slid_channel window) items) s)) ≡ (λ (s : List ℕ) (an : ℕ). option_map (windowed window) (numbers_in (channel_at items s) an)) =
-      fun_ext (λ s. fun_ext (λ an. ap (option_map numbers_of) (slid_there s an) ∙ windowed_read window (association_in (channel_at items s) an))) in
+      let numbers_are : (λ (s : List ℕ). numbers_in (channel_at (map (channel_under window) items) s)) ≡ (λ (s : List ℕ) (an : ℕ). option_map (under_window window) (numbers_in (channel_at items s) an)) =
+      fun_ext (λ s. fun_ext (λ an. ap (option_map packet_numbers) (slid_there s an) ∙ windowed_read window (association_in (channel_at items s) an))) in
       λ i. record { validate = validate; replay = replay; channels = scis_of-slid items window i; rx = rx_is i; numbers = numbers_are i }
 
-  pub ceilings-slid : ceilings_among (map (slid_channel window) items) ≡ ceilings_among items
+  pub ceilings-slid : ceilings_among (map (channel_under window) items) ≡ ceilings_among items
   ceilings-slid = fun_ext (λ s. fun_ext (λ an. ap (option_map (λ (x : Association). x.ceiling)) (slid_there s an) ∙ ceiling_read window (association_in (channel_at items s) an)))
 
-  counted_in : (o : Option Channel) → counters_in (option_map (slid_channel window) o) ≡ counters_in o
+  counted_in : (o : Option Channel) → counters_in (option_map (channel_under window) o) ≡ counters_in o
   counted_in None = refl
   counted_in (Some c) = refl
 
-  pub counters-slid : counters_among (map (slid_channel window) items) ≡ counters_among items
+  pub counters-slid : counters_among (map (channel_under window) items) ≡ counters_among items
   counters-slid = fun_ext (λ s. ap counters_in (channel_at-slid items window s) ∙ counted_in (channel_at items s))
 
 -- ---- what holds of all that is kept
 
 -- channels that show this are in order where it is
 pub kept_as : (validate : Validate) (replay : Replay) (items : List Channel) (counters : RxCounters) (side : RxSide) (ceilings : List ℕ → ℕ → Option ℕ)
-    → shown validate replay items ≡ side → ceilings_among items ≡ ceilings → is_ascending side.channels ≡ true → AllOrdered side ceilings
-    → IsKept (record { validate = validate; replay = replay; channels = items; counters = counters })
+    → rx_side_in validate replay items ≡ side → ceilings_among items ≡ ceilings → is_ascending side.channels ≡ true → AllOrdered side ceilings
+    → IsSoundRx (record { validate = validate; replay = replay; channels = items; counters = counters })
 kept_as validate replay items counters side ceilings is_side are_ceilings ascending ordered = record {
   ascending = ap (λ (s : RxSide). is_ascending s.channels) is_side ∙ ascending;
   ordered =
@@ -302,18 +302,18 @@ placed f xs i new within = search rules
 -- the channel that its association has moved the numbers of
 pub decided_some : (side : RxSide) (ceilings : List ℕ → ℕ → Option ℕ) (frame : List ℕ) (channel : Channel) (i an : ℕ) (new : Association) (verdict : Verdict) (given : List ℕ)
     → i ≡ an → i < length channel.associations → side.numbers channel.sci ≡ numbers_in (Some channel)
-    → Receives side ceilings frame (record { verdict = verdict; given = given; numbers = put_numbers side.numbers channel.sci an (Some (numbers_of new)) })
-    → Receives side ceilings frame (record {
+    → IsOutcome side ceilings frame (record { verdict = verdict; given = given; numbers = put_numbers side.numbers channel.sci an (Some (packet_numbers new)) })
+    → IsOutcome side ceilings frame (record {
       verdict = verdict;
       given = given;
       numbers = put_at side.numbers channel.sci (numbers_in (Some (record channel { associations = slice_set channel.associations i (Some new) })));
     })
 decided_some side ceilings frame channel i an new verdict given same within are received =
-    let changed : put (side.numbers channel.sci) an (Some (numbers_of new)) ≡ numbers_in (Some (record channel { associations = slice_set channel.associations i (Some new) })) =
-    ap (λ (f : ℕ → Option Numbers). put f an (Some (numbers_of new))) are
-    ∙ ap (λ (k : ℕ). put (numbers_in (Some channel)) k (Some (numbers_of new))) (sym same)
-    ∙ sym (placed numbers_of channel.associations i new within) in
-    subst (λ (f : ℕ → Option Numbers). Receives side ceilings frame (record { verdict = verdict; given = given; numbers = put_at side.numbers channel.sci f })) changed received
+    let changed : put (side.numbers channel.sci) an (Some (packet_numbers new)) ≡ numbers_in (Some (record channel { associations = slice_set channel.associations i (Some new) })) =
+    ap (λ (f : ℕ → Option Numbers). put f an (Some (packet_numbers new))) are
+    ∙ ap (λ (k : ℕ). put (numbers_in (Some channel)) k (Some (packet_numbers new))) (sym same)
+    ∙ sym (placed packet_numbers channel.associations i new within) in
+    subst (λ (f : ℕ → Option Numbers). IsOutcome side ceilings frame (record { verdict = verdict; given = given; numbers = put_at side.numbers channel.sci f })) changed received
 
 -- an element, whatever is read past the end
 pub read_at : {X : Type 0} (xs : List X) (i : ℕ) (d e : X) → i < length xs → get_or xs i d ≡ get_or xs i e

@@ -6,9 +6,9 @@ use Rattle.std.specs.Option.{is_some, option_map}
 use Rattle.std.proofs.lemmas.Bool.{and_parts}
 use Rattle.std.proofs.lemmas.Bool.Decides.{nat_tests}
 use Rattle.macs_config.specs.declared.association.RxSa.{RxSa}
-use Rattle.macs_rxsc.specs.Receive.{Numbers, RxSide, Stands}
-use Rattle.macs_rxsc.specs.Needs.{Need, first_need, is_needed, need_of, needed, needs_of, raised}
-use Rattle.macs_rxsc.specs.View.{channel_at, counters_among, counters_in, scis_of}
+use Rattle.macs_rxsc.specs.Receive.{Numbers, RxSide, IsNumbered}
+use Rattle.macs_rxsc.specs.Needs.{Need, first_need, is_needed, need_of, need_by_seen, needs_of, raised_ceiling}
+use Rattle.macs_rxsc.specs.Value.{channel_at, counters_among, counters_in, scis_of}
 use Rattle.macs_rxsc.specs.declared.channel.Channel.{Channel}
 use Rattle.macs_rxsc.specs.declared.counters.ChannelCounters.{ChannelCounters}
 use Rattle.macs_rxsc.specs.declared.need.RxNeed.{RxNeed}
@@ -38,20 +38,20 @@ told count (Some c) = refl
 
 -- the association that a need names has a ceiling, below the one that is asked for
 abbrev pub IsAsked : (List ℕ → ℕ → Option ℕ) → ℕ → Need → Type 0
-IsAsked ceilings block need = IsSomeAnd (ceilings need.sci need.an) (λ old. old < raised block need.pn)
+IsAsked ceilings block need = IsSomeAnd (ceilings need.sci need.an) (λ old. old < raised_ceiling block need.pn)
 
 module _ (ceilings : List ℕ → ℕ → Option ℕ) (block : ℕ) (sci : List ℕ) (an : ℕ) where
   asked_by : (next ceiling seen : ℕ) → ceilings sci an ≡ Some ceiling → (b : Bool) → is_needed block next ceiling seen ≡ b
       → (need : Need) → cond b (Some (record { sci = sci; an = an; pn = seen })) None ≡ Some need → IsAsked ceilings block need
   asked_by next ceiling seen at true is need some =
-      let test : nat_lt ceiling (raised block seen) ≡ true = (and_parts (nat_le ceiling seen || nat_le (ceiling - next) (block / 2)) (nat_lt ceiling (raised block seen)) is).1 in
-      let below : ceiling < raised block seen = grind (arith, nat_tests) in
+      let test : nat_lt ceiling (raised_ceiling block seen) ≡ true = (and_parts (nat_le ceiling seen || nat_le (ceiling - next) (block / 2)) (nat_lt ceiling (raised_ceiling block seen)) is).1 in
+      let below : ceiling < raised_ceiling block seen = grind (arith, nat_tests) in
       let named : IsAsked ceilings block (record { sci = sci; an = an; pn = seen }) = rw at below in
       let same : ◌≡◌ {A = Need} (record { sci = sci; an = an; pn = seen }) need = cc in
       subst (IsAsked ceilings block) same named
   asked_by next ceiling seen at false is need some = absurd (cc)
 
-  asked_seen : (numbers : Numbers) (ceiling : ℕ) → ceilings sci an ≡ Some ceiling → (seen : Option ℕ) → (need : Need) → needed block sci an numbers ceiling seen ≡ Some need → IsAsked ceilings block need
+  asked_seen : (numbers : Numbers) (ceiling : ℕ) → ceilings sci an ≡ Some ceiling → (seen : Option ℕ) → (need : Need) → need_by_seen block sci an numbers ceiling seen ≡ Some need → IsAsked ceilings block need
   asked_seen numbers ceiling at None need some = absurd (cc)
   asked_seen numbers ceiling at (Some seen) need some = asked_by numbers.next ceiling seen at _ refl need some
 
@@ -79,7 +79,7 @@ pub asked : (side : RxSide) (ceilings : List ℕ → ℕ → Option ℕ) (block 
 asked side ceilings block need is = asked_among side.numbers ceilings block side.channels need is
 
 -- an association that has a ceiling stands
-bounded : (window : ℕ) (sa : Option RxSa) (numbers : Option Numbers) (ceiling : Option ℕ) (P : ℕ → Type 0) → Stands window sa numbers ceiling → IsSomeAnd ceiling P → IsSome sa
+bounded : (window : ℕ) (sa : Option RxSa) (numbers : Option Numbers) (ceiling : Option ℕ) (P : ℕ → Type 0) → IsNumbered window sa numbers ceiling → IsSomeAnd ceiling P → IsSome sa
 bounded window (Some sa) numbers ceiling P stands some = refl
 bounded window None None None P stands some = absurd some
 bounded window None None (Some ceiling) P stands some = absurd stands
@@ -102,9 +102,9 @@ module _ (side : RxSide) (ceilings : List ℕ → ℕ → Option ℕ) (block : �
 
   -- and its ceiling is below the one that is asked for
   pub need_higher : (result : Option RxNeed) → option_map need_shown result ≡ needs_of side ceilings block
-      → IfSome result (λ need. IfSome (ceilings need.sci need.an) (λ old. old < raised block need.pn))
+      → IfSome result (λ need. IfSome (ceilings need.sci need.an) (λ old. old < raised_ceiling block need.pn))
   need_higher None is = tt
-  need_higher (Some need) is = if_some (ceilings need.sci need.an) (λ old. old < raised block need.pn) (asked side ceilings block (need_shown need) (sym is))
+  need_higher (Some need) is = if_some (ceilings need.sci need.an) (λ old. old < raised_ceiling block need.pn) (asked side ceilings block (need_shown need) (sym is))
 
 -- a ceiling that is below one is at most that
 pub risen : (ceiling : Option ℕ) (below above : ℕ) → IfSome ceiling (λ old. old < below) → below ≤ above → IfSome ceiling (λ old. old ≤ above)

@@ -33,23 +33,23 @@ count_of (Discarded NotValid) c = c.not_valid
 count_of HeldBack c = 0
 
 -- the counters after one more verdict; a frame that is held back is not counted
-abbrev pub counted : Verdict → RxCounters → RxCounters
-counted (Delivered Ok) c = record c { ok = one_more c.ok }
-counted (Delivered Delayed) c = record c { delayed = one_more c.delayed }
-counted (Delivered Invalid) c = record c { invalid = one_more c.invalid }
-counted (Delivered Untagged) c = record c { untagged = one_more c.untagged }
-counted (Delivered UnknownSci) c = record c { unknown_sci = one_more c.unknown_sci }
-counted (Delivered UnusedSa) c = record c { unused_sa = one_more c.unused_sa }
-counted (Discarded Runt) c = record c { runt = one_more c.runt }
-counted (Discarded Oversize) c = record c { oversize = one_more c.oversize }
-counted (Discarded NoTag) c = record c { no_tag = one_more c.no_tag }
-counted (Discarded BadTag) c = record c { bad_tag = one_more c.bad_tag }
-counted (Discarded ForKay) c = record c { for_kay = one_more c.for_kay }
-counted (Discarded NoSci) c = record c { no_sci = one_more c.no_sci }
-counted (Discarded NotUsingSa) c = record c { not_using_sa = one_more c.not_using_sa }
-counted (Discarded Late) c = record c { late = one_more c.late }
-counted (Discarded NotValid) c = record c { not_valid = one_more c.not_valid }
-counted HeldBack c = c
+abbrev pub with_verdict : Verdict → RxCounters → RxCounters
+with_verdict (Delivered Ok) c = record c { ok = one_more c.ok }
+with_verdict (Delivered Delayed) c = record c { delayed = one_more c.delayed }
+with_verdict (Delivered Invalid) c = record c { invalid = one_more c.invalid }
+with_verdict (Delivered Untagged) c = record c { untagged = one_more c.untagged }
+with_verdict (Delivered UnknownSci) c = record c { unknown_sci = one_more c.unknown_sci }
+with_verdict (Delivered UnusedSa) c = record c { unused_sa = one_more c.unused_sa }
+with_verdict (Discarded Runt) c = record c { runt = one_more c.runt }
+with_verdict (Discarded Oversize) c = record c { oversize = one_more c.oversize }
+with_verdict (Discarded NoTag) c = record c { no_tag = one_more c.no_tag }
+with_verdict (Discarded BadTag) c = record c { bad_tag = one_more c.bad_tag }
+with_verdict (Discarded ForKay) c = record c { for_kay = one_more c.for_kay }
+with_verdict (Discarded NoSci) c = record c { no_sci = one_more c.no_sci }
+with_verdict (Discarded NotUsingSa) c = record c { not_using_sa = one_more c.not_using_sa }
+with_verdict (Discarded Late) c = record c { late = one_more c.late }
+with_verdict (Discarded NotValid) c = record c { not_valid = one_more c.not_valid }
+with_verdict HeldBack c = c
 
 -- of the verdicts that name a channel, those that are counted for it
 abbrev pub channel_count_of : Verdict → ChannelCounters → ℕ
@@ -63,24 +63,24 @@ channel_count_of (Discarded NotValid) c = c.not_valid
 channel_count_of verdict c = 0
 
 -- the counters of a channel after one more verdict on a frame that names it
-abbrev pub channel_counted : Verdict → ChannelCounters → ChannelCounters
-channel_counted (Delivered Ok) c = record c { ok = one_more c.ok }
-channel_counted (Delivered Delayed) c = record c { delayed = one_more c.delayed }
-channel_counted (Delivered Invalid) c = record c { invalid = one_more c.invalid }
-channel_counted (Delivered UnusedSa) c = record c { unused_sa = one_more c.unused_sa }
-channel_counted (Discarded NotUsingSa) c = record c { not_using_sa = one_more c.not_using_sa }
-channel_counted (Discarded Late) c = record c { late = one_more c.late }
-channel_counted (Discarded NotValid) c = record c { not_valid = one_more c.not_valid }
-channel_counted verdict c = c
+abbrev pub with_channel_verdict : Verdict → ChannelCounters → ChannelCounters
+with_channel_verdict (Delivered Ok) c = record c { ok = one_more c.ok }
+with_channel_verdict (Delivered Delayed) c = record c { delayed = one_more c.delayed }
+with_channel_verdict (Delivered Invalid) c = record c { invalid = one_more c.invalid }
+with_channel_verdict (Delivered UnusedSa) c = record c { unused_sa = one_more c.unused_sa }
+with_channel_verdict (Discarded NotUsingSa) c = record c { not_using_sa = one_more c.not_using_sa }
+with_channel_verdict (Discarded Late) c = record c { late = one_more c.late }
+with_channel_verdict (Discarded NotValid) c = record c { not_valid = one_more c.not_valid }
+with_channel_verdict verdict c = c
 
 -- a verdict is counted for the channel that its frame names, if one stands
-abbrev pub counted_at : Option (List ℕ) → Verdict → (List ℕ → Option ChannelCounters) → List ℕ → Option ChannelCounters
-counted_at None verdict table = table
-counted_at (Some sci) verdict table = put_at table sci (option_map (channel_counted verdict) (table sci))
+abbrev pub with_verdict_at : Option (List ℕ) → Verdict → (List ℕ → Option ChannelCounters) → List ℕ → Option ChannelCounters
+with_verdict_at None verdict table = table
+with_verdict_at (Some sci) verdict table = put_at table sci (option_map (with_channel_verdict verdict) (table sci))
 
 -- each count over all channels at 0
-abbrev pub none_counted : RxCounters
-none_counted = record {
+abbrev pub no_counts : RxCounters
+no_counts = record {
   ok = 0;
   delayed = 0;
   invalid = 0;
@@ -99,6 +99,6 @@ none_counted = record {
 }
 
 -- each count of one channel at 0
-abbrev pub none_counted_for_channel : ChannelCounters
-none_counted_for_channel =
+abbrev pub no_channel_counts : ChannelCounters
+no_channel_counts =
     record { ok = 0; delayed = 0; invalid = 0; unused_sa = 0; not_using_sa = 0; late = 0; not_valid = 0 }

@@ -1,5 +1,5 @@
 pub mod Receive
-pub mod View
-pub mod Kept
+pub mod Value
+pub mod Sound
 pub mod Needs
 pub mod Counting

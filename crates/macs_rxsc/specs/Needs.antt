@@ -9,24 +9,24 @@ pub record Need : Type 0 where
   pub pn : ℕ
 
 -- the ceiling that a number asks for
-abbrev pub raised : ℕ → ℕ → ℕ
-raised block seen = min (seen + block) (2 ^ 32)
+abbrev pub raised_ceiling : ℕ → ℕ → ℕ
+raised_ceiling block seen = min (seen + block) (2 ^ 32)
 
 -- A frame was seen, and it is at or above the ceiling, or at most half a block is left below that, and a higher ceiling is
 -- to be had.
 abbrev pub is_needed : ℕ → ℕ → ℕ → ℕ → Bool
 is_needed block next ceiling seen =
-    (nat_le ceiling seen || nat_le (ceiling - next) (block / 2)) && nat_lt ceiling (raised block seen)
+    (nat_le ceiling seen || nat_le (ceiling - next) (block / 2)) && nat_lt ceiling (raised_ceiling block seen)
 
 -- the need of an association that stands, by the greatest number that was seen, if any was
-abbrev pub needed : ℕ → List ℕ → ℕ → Numbers → ℕ → Option ℕ → Option Need
-needed block sci an numbers ceiling None = None
-needed block sci an numbers ceiling (Some seen) =
+abbrev pub need_by_seen : ℕ → List ℕ → ℕ → Numbers → ℕ → Option ℕ → Option Need
+need_by_seen block sci an numbers ceiling None = None
+need_by_seen block sci an numbers ceiling (Some seen) =
     if is_needed block numbers.next ceiling seen then Some (record { sci = sci; an = an; pn = seen }) else None
 
 -- the need of one association
 abbrev pub need_of : ℕ → List ℕ → ℕ → Option Numbers → Option ℕ → Option Need
-need_of block sci an (Some numbers) (Some ceiling) = needed block sci an numbers ceiling numbers.seen
+need_of block sci an (Some numbers) (Some ceiling) = need_by_seen block sci an numbers ceiling numbers.seen
 need_of block sci an numbers ceiling = None
 
 -- of the needs by SCI and association number, ascending, the first

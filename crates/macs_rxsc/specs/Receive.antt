@@ -11,7 +11,7 @@ use Rattle.macs_config.specs.declared.command.Validate.{Validate}
 use Rattle.macs_config.specs.declared.command.Validate.TheVariants.{Strict, Check}
 use Rattle.macs_frame.specs.Fields.{octets_of}
 use Rattle.macs_frame.specs.First.{IsFirst, NoneHolds}
-use Rattle.macs_frame.specs.Opening.{Verified, bare, named_sci}
+use Rattle.macs_frame.specs.Opening.{Verified, bare_frame, named_sci}
 use Rattle.macs_frame.specs.Tag.{TagFaultHolds, changed, control, name_of, tag_faults, tag_of}
 use Rattle.macs_frame.specs.declared.tag.ScName.{ScName}
 use Rattle.macs_frame.specs.declared.tag.ScName.TheVariants.{Explicit, EndStation, Implicit}
@@ -40,8 +40,8 @@ pub record RxSide : Type 0 where
   pub numbers : List ℕ → ℕ → Option Numbers
 
 -- no channels, strict validation, and replay protection with window 0
-abbrev pub new_side : RxSide
-new_side = record {
+abbrev pub new_rx_side : RxSide
+new_rx_side = record {
   validate = Strict;
   replay = record { on = true; window = 0 };
   channels = [];
@@ -56,25 +56,25 @@ has_channel side sci = list_any (λ other. bytes_eq other sci) side.channels
 -- ---- the channel, the association and its numbers that a frame names
 
 -- the only one of these
-abbrev pub only : List (List ℕ) → Option (List ℕ)
-only [] = None
-only (sci ∷ []) = Some sci
-only (sci ∷ other ∷ others) = None
+abbrev pub only_one : List (List ℕ) → Option (List ℕ)
+only_one [] = None
+only_one (sci ∷ []) = Some sci
+only_one (sci ∷ other ∷ others) = None
 
 -- The SCI that a tag names: the one that is spelled out, the source address with port 00-01, or that of the only channel
 -- where it names none (that there be one alone is this profile's own)
 abbrev pub sci_named : List (List ℕ) → List ℕ → ScName → Option (List ℕ)
 sci_named channels frame (Explicit sci) = named_sci frame (Explicit sci)
 sci_named channels frame EndStation = named_sci frame EndStation
-sci_named channels frame Implicit = only channels
+sci_named channels frame Implicit = only_one channels
 
 -- the SCI, if a channel of it stands
-abbrev pub standing : List (List ℕ) → List ℕ → Option (List ℕ)
-standing channels sci = if list_any (λ other. bytes_eq other sci) channels then Some sci else None
+abbrev pub if_channel : List (List ℕ) → List ℕ → Option (List ℕ)
+if_channel channels sci = if list_any (λ other. bytes_eq other sci) channels then Some sci else None
 
 -- the SCI of the channel that a frame names, if that stands
 abbrev pub channel_of : RxSide → List ℕ → Option (List ℕ)
-channel_of side frame = option_and_then (standing side.channels) (sci_named side.channels frame (name_of frame))
+channel_of side frame = option_and_then (if_channel side.channels) (sci_named side.channels frame (name_of frame))
 
 -- the association that a frame names, by its channel and AN, if it stands
 abbrev pub association_of : RxSide → List ℕ → Option RxSa
@@ -95,15 +95,15 @@ pub record VerifiesAs (side : RxSide) (frame plain : List ℕ) : Type 0 where
 -- ---- the first nine steps, which may settle a frame
 
 -- one of the five faults of a SecTAG, or one of the four steps behind them
-pub data Step : Type 0 where
-  Tag : TagFault → Step
-  NoChannel : Step
-  NoAssociation : Step
-  BelowLowest : Step
-  NotVerified : Step
+pub data Check : Type 0 where
+  Tag : TagFault → Check
+  NoChannel : Check
+  NoAssociation : Check
+  BelowLowest : Check
+  NotVerified : Check
 
 -- what each step says of a frame
-abbrev pub Holds : RxSide → List ℕ → Step → Type 0
+abbrev pub Holds : RxSide → List ℕ → Check → Type 0
 Holds side frame (Tag fault) = TagFaultHolds frame fault
 Holds side frame NoChannel = channel_of side frame ≡ None
 Holds side frame NoAssociation = association_of side frame ≡ None
@@ -112,8 +112,8 @@ Holds side frame BelowLowest =
 Holds side frame NotVerified = (plain : List ℕ) → ¬ VerifiesAs side frame plain
 
 -- in their order
-abbrev pub steps : List Step
-steps = map Tag tag_faults ++ NoChannel ∷ NoAssociation ∷ BelowLowest ∷ NotVerified ∷ []
+abbrev pub checks : List Check
+checks = map Tag tag_faults ++ NoChannel ∷ NoAssociation ∷ BelowLowest ∷ NotVerified ∷ []
 
 -- frames that do not verify are discarded, whether C is set or not (10.7.8)
 abbrev pub is_strict : Validate → Bool
@@ -126,7 +126,7 @@ unless_checked side frame reason kind =
     if is_strict side.validate || changed (control frame) then Discarded reason else Delivered kind
 
 -- the verdict where a step is the first that holds
-abbrev pub verdict_at : RxSide → List ℕ → Step → Verdict
+abbrev pub verdict_at : RxSide → List ℕ → Check → Verdict
 verdict_at side frame (Tag IsRunt) = Discarded Runt
 verdict_at side frame (Tag IsOversize) = Discarded Oversize
 verdict_at side frame (Tag HasNoTag) = if is_strict side.validate then Discarded NoTag else Delivered Untagged
@@ -140,9 +140,9 @@ verdict_at side frame NotVerified = unless_checked side frame NotValid Invalid
 -- what such a verdict gives: an untagged frame whole, others without SecTAG and ICV
 abbrev pub given_at : List ℕ → Verdict → List ℕ
 given_at frame (Delivered Untagged) = frame
-given_at frame (Delivered UnknownSci) = bare frame
-given_at frame (Delivered UnusedSa) = bare frame
-given_at frame (Delivered Invalid) = bare frame
+given_at frame (Delivered UnknownSci) = bare_frame frame
+given_at frame (Delivered UnusedSa) = bare_frame frame
+given_at frame (Delivered Invalid) = bare_frame frame
 given_at frame (Delivered Ok) = []
 given_at frame (Delivered Delayed) = []
 given_at frame (Discarded reason) = []
@@ -161,7 +161,7 @@ pub record Arrival : Type 0 where
 
 -- the first nine steps do not settle the frame, and this is what it is
 pub record Arrives (side : RxSide) (frame : List ℕ) (a : Arrival) : Type 0 where
-  pub unsettled : NoneHolds (Holds side frame) steps
+  pub unsettled : NoneHolds (Holds side frame) checks
   pub is_channel : channel_of side frame ≡ Some a.sci
   pub is_an : a.an ≡ (tag_of frame).an
   pub is_pn : a.pn ≡ (tag_of frame).pn
@@ -179,22 +179,22 @@ seen_after None pn = Some pn
 seen_after (Some seen) pn = Some (max seen pn)
 
 -- a frame is held back
-abbrev pub held_back : Numbers → ℕ → Numbers
-held_back numbers pn = record numbers { seen = seen_after numbers.seen pn }
+abbrev pub after_hold : Numbers → ℕ → Numbers
+after_hold numbers pn = record numbers { seen = seen_after numbers.seen pn }
 
 -- a frame is delivered
-abbrev pub advanced : ℕ → Numbers → ℕ → Numbers
-advanced window numbers pn =
+abbrev pub after_delivery : ℕ → Numbers → ℕ → Numbers
+after_delivery window numbers pn =
     let next = max numbers.next (pn + 1) in
     record { next = next; lowest = max numbers.lowest (next - window); seen = seen_after numbers.seen pn }
 
 -- the window changes
-abbrev pub windowed : ℕ → Numbers → Numbers
-windowed window numbers = record numbers { lowest = max numbers.lowest (numbers.next - window) }
+abbrev pub under_window : ℕ → Numbers → Numbers
+under_window window numbers = record numbers { lowest = max numbers.lowest (numbers.next - window) }
 
 -- an association is installed
-abbrev pub started : ℕ → Numbers
-started start = record { next = start; lowest = start; seen = None }
+abbrev pub first_numbers : ℕ → Numbers
+first_numbers start = record { next = start; lowest = start; seen = None }
 
 -- numbers by SCI and association number, changed at one place
 abbrev pub put_numbers : (List ℕ → ℕ → Option Numbers) → List ℕ → ℕ → Option Numbers → List ℕ → ℕ → Option Numbers
@@ -209,8 +209,8 @@ pub record Outcome : Type 0 where
   pub numbers : List ℕ → ℕ → Option Numbers
 
 -- the outcome of a frame that a step settles: no number moves
-abbrev pub settled : RxSide → List ℕ → Step → Outcome
-settled side frame step = record {
+abbrev pub settled_outcome : RxSide → List ℕ → Check → Outcome
+settled_outcome side frame step = record {
   verdict = verdict_at side frame step;
   given = given_at frame (verdict_at side frame step);
   numbers = side.numbers;
@@ -222,25 +222,25 @@ is_below None pn = false
 is_below (Some ceiling) pn = nat_lt pn ceiling
 
 -- the outcome of a frame that verified: delivered below the ceiling of its association, else held back
-abbrev pub arrived : RxSide → (List ℕ → ℕ → Option ℕ) → Arrival → Outcome
-arrived side ceilings a =
+abbrev pub arrival_outcome : RxSide → (List ℕ → ℕ → Option ℕ) → Arrival → Outcome
+arrival_outcome side ceilings a =
     if is_below (ceilings a.sci a.an) a.pn
     then record {
       verdict = Delivered (kind_of a.numbers a.pn);
       given = a.plain;
-      numbers = put_numbers side.numbers a.sci a.an (Some (advanced side.replay.window a.numbers a.pn));
+      numbers = put_numbers side.numbers a.sci a.an (Some (after_delivery side.replay.window a.numbers a.pn));
     }
     else record {
       verdict = HeldBack;
       given = [];
-      numbers = put_numbers side.numbers a.sci a.an (Some (held_back a.numbers a.pn));
+      numbers = put_numbers side.numbers a.sci a.an (Some (after_hold a.numbers a.pn));
     }
 
 -- the outcome is that of the first of nine steps that holds, or that of the frame's arrival
-abbrev pub Receives : RxSide → (List ℕ → ℕ → Option ℕ) → List ℕ → Outcome → Type 0
-Receives side ceilings frame outcome =
-    ((step : Step) × IsFirst (Holds side frame) steps step × (outcome ≡ settled side frame step))
-    ⊎ ((a : Arrival) × Arrives side frame a × (outcome ≡ arrived side ceilings a))
+abbrev pub IsOutcome : RxSide → (List ℕ → ℕ → Option ℕ) → List ℕ → Outcome → Type 0
+IsOutcome side ceilings frame outcome =
+    ((step : Check) × IsFirst (Holds side frame) checks step × (outcome ≡ settled_outcome side frame step))
+    ⊎ ((a : Arrival) × Arrives side frame a × (outcome ≡ arrival_outcome side ceilings a))
 
 -- ---- ranges
 
@@ -253,15 +253,15 @@ pub record InOrder (window : ℕ) (numbers : Numbers) (ceiling : ℕ) : Type 0 w
   pub bounded : ceiling ≤ 2 ^ 32
 
 -- an association has numbers and a ceiling in their order, or there is none of the three
-abbrev pub Stands : ℕ → Option RxSa → Option Numbers → Option ℕ → Type 0
-Stands window (Some sa) (Some numbers) (Some ceiling) = InOrder window numbers ceiling
-Stands window None None None = Unit {0}
-Stands window sa numbers ceiling = ⊥
+abbrev pub IsNumbered : ℕ → Option RxSa → Option Numbers → Option ℕ → Type 0
+IsNumbered window (Some sa) (Some numbers) (Some ceiling) = InOrder window numbers ceiling
+IsNumbered window None None None = Unit {0}
+IsNumbered window sa numbers ceiling = ⊥
 
 -- an association stands with numbers and a ceiling in their order, or nothing does
 abbrev pub AreOrdered : RxSide → (List ℕ → ℕ → Option ℕ) → List ℕ → ℕ → Type 0
 AreOrdered side ceilings sci an =
-    Stands side.replay.window (side.rx sci an) (side.numbers sci an) (ceilings sci an)
+    IsNumbered side.replay.window (side.rx sci an) (side.numbers sci an) (ceilings sci an)
 
 -- each association that stands has its numbers
 abbrev pub AreNumbered : RxSide → Type 0

@@ -3,9 +3,9 @@
 ghost use Rattle.std.specs.Prelude.{◌≡◌, Option, ◌≤◌, ◌<◌, ℕ, List, [], Some, None, nat_lt, if◌then◌else◌, ◌&&◌};
 ghost use Rattle.std.specs.Option.{option_map};
 ghost use Rattle.macs_frame.specs.Tag.{IsForKay, Tag, tag_of};
-ghost use Rattle.macs_rxsc.specs.Receive.{Receives, RxSide, advanced, channel_of, held_back, kind_of, put_numbers, seen_after};
+ghost use Rattle.macs_rxsc.specs.Receive.{IsOutcome, RxSide, after_delivery, channel_of, after_hold, kind_of, put_numbers, seen_after};
 ghost use Rattle.macs_rxsc.specs.Needs.{Need, need_of};
-ghost use Rattle.macs_rxsc.specs.View.{numbers_of, sa_of, slid};
+ghost use Rattle.macs_rxsc.specs.Value.{packet_numbers, sa_of, association_under};
 
 use crate::need::RxNeed;
 use crate::settling::settle;
@@ -50,7 +50,7 @@ fn greatest(seen: Option<Pn>, pn: Pn) -> Pn
 
 /// The lowest acceptable number of an association rises with the window, where one stands.
 pub(crate) fn slide(association: &mut Option<Association>, window: u32)
-    ensures { association.new ≡ option_map (slid window) association.old }
+    ensures { association.new ≡ option_map (association_under window) association.old }
 {
     if let Some(association) = association {
         association.slide(window);
@@ -60,7 +60,7 @@ pub(crate) fn slide(association: &mut Option<Association>, window: u32)
 impl Association {
     /// The lowest acceptable number rises to the next one less the window, and never falls.
     pub(crate) fn slide(&mut self, window: u32)
-        ensures { self.new ≡ slid window self.old }
+        ensures { self.new ≡ association_under window self.old }
     {
         self.lowest = self.lowest.max(self.next.saturating_sub(u64::from(window)));
     }
@@ -75,9 +75,9 @@ impl Association {
     /// As what a frame that verified is delivered, by its packet number: `None` where that is not
     /// below the ceiling, and the frame is held back.
     fn arrive(&mut self, pn: Pn, window: u32) -> Option<Kind>
-        ensures kind { result ≡ (if nat_lt pn self.old.ceiling then Some (kind_of (numbers_of self.old) pn) else None) }
-        ensures numbers { numbers_of self.new ≡ (if nat_lt pn self.old.ceiling
-            then advanced window (numbers_of self.old) pn else held_back (numbers_of self.old) pn) }
+        ensures kind { result ≡ (if nat_lt pn self.old.ceiling then Some (kind_of (packet_numbers self.old) pn) else None) }
+        ensures numbers { packet_numbers self.new ≡ (if nat_lt pn self.old.ceiling
+            then after_delivery window (packet_numbers self.old) pn else after_hold (packet_numbers self.old) pn) }
         ensures sa { sa_of self.new ≡ sa_of self.old }
         ensures ceiling { self.new.ceiling ≡ self.old.ceiling }
     {
@@ -112,12 +112,12 @@ impl Association {
         ensures verdict { (side : RxSide) (ceilings : List ℕ → ℕ → Option ℕ) → side.validate ≡ validate
             → side.replay ≡ replay → channel_of side frame.now ≡ Some sci
             → side.rx sci (tag_of frame.now).an ≡ Some (sa_of self.old)
-            → side.numbers sci (tag_of frame.now).an ≡ Some (numbers_of self.old)
+            → side.numbers sci (tag_of frame.now).an ≡ Some (packet_numbers self.old)
             → ceilings sci (tag_of frame.now).an ≡ Some self.old.ceiling
-            → Receives side ceilings frame.now (record {
+            → IsOutcome side ceilings frame.now (record {
               verdict = result;
               given = out.new.items;
-              numbers = put_numbers side.numbers sci (tag_of frame.now).an (Some (numbers_of self.new));
+              numbers = put_numbers side.numbers sci (tag_of frame.now).an (Some (packet_numbers self.new));
             }) }
         ensures sa { sa_of self.new ≡ sa_of self.old }
         ensures ceiling { self.new.ceiling ≡ self.old.ceiling }
@@ -142,7 +142,7 @@ impl Association {
     /// numbers.
     pub(crate) fn need(&self, sci: Sci, an: An, block: u32) -> Option<RxNeed>
         ensures { option_map (λ (need : RxNeed). record { sci = need.sci; an = need.an; pn = need.pn }) result
-            ≡ need_of block sci an (Some (numbers_of self.now)) (Some self.now.ceiling) }
+            ≡ need_of block sci an (Some (packet_numbers self.now)) (Some self.now.ceiling) }
     {
         let pn = self.seen?;
         let seen = u64::from(pn.get());

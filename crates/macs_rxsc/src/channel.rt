@@ -3,10 +3,10 @@
 ghost use Rattle.std.specs.Prelude.{◌≡◌, Option, ◌<◌, ◌∷◌, ℕ, List, [], Some, None, IsSome, map};
 ghost use Rattle.std.specs.Option.{option_map};
 ghost use Rattle.macs_frame.specs.Tag.{IsForKay, Tag};
-ghost use Rattle.macs_rxsc.specs.Receive.{Numbers, Receives, RxSide, channel_of};
+ghost use Rattle.macs_rxsc.specs.Receive.{Numbers, IsOutcome, RxSide, channel_of};
 ghost use Rattle.macs_rxsc.specs.Needs.{Need, first_need, need_of};
-ghost use Rattle.macs_rxsc.specs.Counting.{channel_counted, none_counted_for_channel};
-ghost use Rattle.macs_rxsc.specs.View.{ceilings_in, numbers_in, numbers_of, sa_of, sas_in, slid, slid_channel};
+ghost use Rattle.macs_rxsc.specs.Counting.{with_channel_verdict, no_channel_counts};
+ghost use Rattle.macs_rxsc.specs.Value.{ceilings_in, numbers_in, packet_numbers, sa_of, sas_in, association_under, channel_under};
 ghost use Rattle.macs_config.specs.Tables.{put, put_at};
 ghost use Rattle.macs_rxsc.specs.declared.association.Association.{Association};
 
@@ -32,7 +32,7 @@ impl Channel {
         ensures { result ≡ record {
           sci = sci;
           associations = None ∷ None ∷ None ∷ None ∷ [];
-          counters = none_counted_for_channel;
+          counters = no_channel_counts;
         } }
     {
         Channel {
@@ -47,7 +47,7 @@ impl Channel {
         ensures sci { self.new.sci ≡ self.old.sci }
         ensures counters { self.new.counters ≡ self.old.counters }
         ensures sas { sas_in (Some self.new) ≡ put (sas_in (Some self.old)) an (option_map sa_of association) }
-        ensures numbers { numbers_in (Some self.new) ≡ put (numbers_in (Some self.old)) an (option_map numbers_of association) }
+        ensures numbers { numbers_in (Some self.new) ≡ put (numbers_in (Some self.old)) an (option_map packet_numbers association) }
         ensures ceilings { ceilings_in (Some self.new)
             ≡ put (ceilings_in (Some self.old)) an (option_map (λ (a : Association). a.ceiling) association) }
     {
@@ -69,7 +69,7 @@ impl Channel {
 
     /// The lowest acceptable number of each association rises with the window, and never falls.
     pub(crate) fn slide(&mut self, window: u32)
-        ensures { self.new ≡ slid_channel window self.old }
+        ensures { self.new ≡ channel_under window self.old }
     {
         for association in self.associations.iter_mut() {
             slide(association, window);
@@ -93,7 +93,7 @@ impl Channel {
             → side.rx self.old.sci ≡ sas_in (Some self.old)
             → side.numbers self.old.sci ≡ numbers_in (Some self.old)
             → ceilings self.old.sci ≡ ceilings_in (Some self.old)
-            → Receives side ceilings frame.now (record {
+            → IsOutcome side ceilings frame.now (record {
               verdict = result;
               given = out.new.items;
               numbers = put_at side.numbers self.old.sci (numbers_in (Some self.new));
@@ -101,7 +101,7 @@ impl Channel {
         ensures sci { self.new.sci ≡ self.old.sci }
         ensures sas { sas_in (Some self.new) ≡ sas_in (Some self.old) }
         ensures ceilings { ceilings_in (Some self.new) ≡ ceilings_in (Some self.old) }
-        ensures counters { self.new.counters ≡ channel_counted result self.old.counters }
+        ensures counters { self.new.counters ≡ with_channel_verdict result self.old.counters }
     {
         let verdict = self.decide(validate, replay, frame, parts, out);
         self.counters.count(verdict);
@@ -124,7 +124,7 @@ impl Channel {
             → side.rx self.old.sci ≡ sas_in (Some self.old)
             → side.numbers self.old.sci ≡ numbers_in (Some self.old)
             → ceilings self.old.sci ≡ ceilings_in (Some self.old)
-            → Receives side ceilings frame.now (record {
+            → IsOutcome side ceilings frame.now (record {
               verdict = result;
               given = out.new.items;
               numbers = put_at side.numbers self.old.sci (numbers_in (Some self.new));

@@ -46,11 +46,11 @@ pub struct ChannelCounters {
 
 impl RxCounters {
     ghost use Rattle.std.specs.Prelude.{◌≡◌};
-    ghost use Rattle.macs_rxsc.specs.Counting.{count_of, counted, none_counted};
+    ghost use Rattle.macs_rxsc.specs.Counting.{count_of, with_verdict, no_counts};
 
     /// Nothing is counted yet.
     pub(crate) fn new() -> RxCounters
-        ensures { result ≡ none_counted }
+        ensures { result ≡ no_counts }
     {
         RxCounters {
             ok: 0,
@@ -97,7 +97,7 @@ impl RxCounters {
 
     /// A verdict is given once more.
     pub(crate) fn count(&mut self, verdict: Verdict)
-        ensures { self.new ≡ counted verdict self.old }
+        ensures { self.new ≡ with_verdict verdict self.old }
     {
         match verdict {
             Verdict::Delivered(Kind::Ok) => count_one(&mut self.ok),
@@ -122,11 +122,11 @@ impl RxCounters {
 
 impl ChannelCounters {
     ghost use Rattle.std.specs.Prelude.{◌≡◌};
-    ghost use Rattle.macs_rxsc.specs.Counting.{channel_count_of, channel_counted, none_counted_for_channel};
+    ghost use Rattle.macs_rxsc.specs.Counting.{channel_count_of, with_channel_verdict, no_channel_counts};
 
     /// Nothing is counted yet.
     pub(crate) fn new() -> ChannelCounters
-        ensures { result ≡ none_counted_for_channel }
+        ensures { result ≡ no_channel_counts }
     {
         ChannelCounters {
             ok: 0,
@@ -157,7 +157,7 @@ impl ChannelCounters {
 
     /// A verdict is given once more.
     pub(crate) fn count(&mut self, verdict: Verdict)
-        ensures { self.new ≡ channel_counted verdict self.old }
+        ensures { self.new ≡ with_channel_verdict verdict self.old }
     {
         match verdict {
             Verdict::Delivered(Kind::Ok) => count_one(&mut self.ok),

@@ -2,12 +2,12 @@
 
 ghost use Rattle.std.specs.Prelude.{◌≡◌, ◌⊎◌, ℕ, List, Option, IsSome};
 ghost use Rattle.macs_frame.specs.First.{IsFirst, NoneHolds};
-ghost use Rattle.macs_rxsc.specs.Receive.{AreNumbered, Arrival, Arrives, Holds, Outcome, Receives, RxSide, Step, steps};
+ghost use Rattle.macs_rxsc.specs.Receive.{AreNumbered, Arrival, Arrives, Holds, Outcome, IsOutcome, RxSide, Check, checks};
 
 /// A frame is settled by one of the first nine steps, or it is one arrival, and no other.
 pub fn settled_or_arrives()
     ensures either { (side : RxSide) (frame : List ℕ) → AreNumbered side
-        → ((step : Step) × IsFirst (Holds side frame) steps step) ⊎ ((a : Arrival) × Arrives side frame a) }
+        → ((step : Check) × IsFirst (Holds side frame) checks step) ⊎ ((a : Arrival) × Arrives side frame a) }
     ensures once { (side : RxSide) (frame : List ℕ) (a b : Arrival)
         → Arrives side frame a → Arrives side frame b → a ≡ b }
 {}
@@ -15,5 +15,5 @@ pub fn settled_or_arrives()
 /// A frame has one outcome.
 pub fn receives_once()
     ensures { (side : RxSide) (ceilings : List ℕ → ℕ → Option ℕ) (frame : List ℕ) (a b : Outcome)
-        → Receives side ceilings frame a → Receives side ceilings frame b → a ≡ b }
+        → IsOutcome side ceilings frame a → IsOutcome side ceilings frame b → a ≡ b }
 {}

@@ -6,10 +6,10 @@ ghost use Rattle.std.specs.Option.{is_some, option_map};
 ghost use Rattle.std.specs.Str.{bytes_eq};
 ghost use Rattle.macs_config.specs.Config.{this_edition, is_ascending, put_among};
 ghost use Rattle.macs_config.specs.Tables.{put, put_at};
-ghost use Rattle.macs_rxsc.specs.Receive.{AreOrdered, Numbers, Receives, channel_of, has_channel, new_side, put_numbers, started, windowed};
-ghost use Rattle.macs_rxsc.specs.Needs.{Need, needs_of, raised};
-ghost use Rattle.macs_rxsc.specs.Counting.{channel_count_of, count_of, counted, counted_at, none_counted, none_counted_for_channel};
-ghost use Rattle.macs_rxsc.specs.View.{ceilings_of, channel_counters_of, counters_of, side_of};
+ghost use Rattle.macs_rxsc.specs.Receive.{AreOrdered, Numbers, IsOutcome, channel_of, has_channel, new_rx_side, put_numbers, first_numbers, under_window};
+ghost use Rattle.macs_rxsc.specs.Needs.{Need, needs_of, raised_ceiling};
+ghost use Rattle.macs_rxsc.specs.Counting.{channel_count_of, count_of, with_verdict, with_verdict_at, no_counts, no_channel_counts};
+ghost use Rattle.macs_rxsc.specs.Value.{ceilings_of, channel_counters_of, counters_of, rx_side_of};
 
 use crate::association::{Association, RxNumbers};
 use crate::counters::RxCounters;
@@ -32,23 +32,23 @@ pub struct Rx {
 }
 
 impl Model for Rx {
-    ghost use Rattle.macs_rxsc.specs.View.{Kept};
-    ghost use Rattle.macs_rxsc.specs.Kept.{IsKept};
+    ghost use Rattle.macs_rxsc.specs.Value.{RxValue};
+    ghost use Rattle.macs_rxsc.specs.Sound.{IsSoundRx};
 
-    ghost Value = { Kept };
+    ghost Value = { RxValue };
 
     ghost view = { λ r. record { validate = r.validate; replay = r.replay; channels = r.table.channels.items; counters = r.counters } };
 
-    ghost invariant = { λ r. IsKept (record
+    ghost invariant = { λ r. IsSoundRx (record
         { validate = r.validate; replay = r.replay; channels = r.table.channels.items; counters = r.counters }) };
 }
 
 impl Rx {
     /// No channel; strict validation, replay protection with window 0.
     pub fn new() -> Rx
-        ensures side { side_of result ≡ new_side }
+        ensures side { rx_side_of result ≡ new_rx_side }
         ensures ceilings { ceilings_of result ≡ (λ sci an. None) }
-        ensures counters { counters_of result ≡ none_counted }
+        ensures counters { counters_of result ≡ no_counts }
         ensures channel_counters { channel_counters_of result ≡ (λ sci. None) }
     {
         Rx {
@@ -69,10 +69,10 @@ impl Rx {
     /// The lowest acceptable number of each association rises to the next one less the window,
     /// whether replay protection is on or off, and never falls.
     pub fn set_policy(&mut self, validate: Validate, on: bool, window: u32)
-        ensures side { side_of self.new ≡ record (side_of self.old) {
+        ensures side { rx_side_of self.new ≡ record (rx_side_of self.old) {
           validate = validate;
           replay = record { on = on; window = window };
-          numbers = λ sci an. option_map (windowed window) ((side_of self.old).numbers sci an);
+          numbers = λ sci an. option_map (under_window window) ((rx_side_of self.old).numbers sci an);
         } }
         ensures ceilings { ceilings_of self.new ≡ ceilings_of self.old }
         ensures counters { counters_of self.new ≡ counters_of self.old }
@@ -85,25 +85,25 @@ impl Rx {
 
     /// A new channel, of an SCI of which none stands, where fewer than 8 stand.
     pub fn add(&mut self, sci: Sci)
-        requires free { has_channel (side_of self.old) sci ≡ false }
-        requires room { length (side_of self.old).channels < this_edition.channels }
-        ensures side { side_of self.new ≡ record (side_of self.old)
-            { channels = put_among sci (side_of self.old).channels } }
+        requires free { has_channel (rx_side_of self.old) sci ≡ false }
+        requires room { length (rx_side_of self.old).channels < this_edition.channels }
+        ensures side { rx_side_of self.new ≡ record (rx_side_of self.old)
+            { channels = put_among sci (rx_side_of self.old).channels } }
         ensures ceilings { ceilings_of self.new ≡ ceilings_of self.old }
         ensures counters { counters_of self.new ≡ counters_of self.old }
         ensures channel_counters { channel_counters_of self.new
-            ≡ put_at (channel_counters_of self.old) sci (Some none_counted_for_channel) }
+            ≡ put_at (channel_counters_of self.old) sci (Some no_channel_counts) }
     {
         self.table.add(sci);
     }
 
     /// A channel that stands goes, with its associations and counters.
     pub fn drop_channel(&mut self, sci: Sci)
-        requires { has_channel (side_of self.old) sci ≡ true }
-        ensures side { side_of self.new ≡ record (side_of self.old) {
-          channels = filter (λ other. not (bytes_eq other sci)) (side_of self.old).channels;
-          rx = put_at (side_of self.old).rx sci (λ an. None);
-          numbers = put_at (side_of self.old).numbers sci (λ an. None);
+        requires { has_channel (rx_side_of self.old) sci ≡ true }
+        ensures side { rx_side_of self.new ≡ record (rx_side_of self.old) {
+          channels = filter (λ other. not (bytes_eq other sci)) (rx_side_of self.old).channels;
+          rx = put_at (rx_side_of self.old).rx sci (λ an. None);
+          numbers = put_at (rx_side_of self.old).numbers sci (λ an. None);
         } }
         ensures ceilings { ceilings_of self.new ≡ put_at (ceilings_of self.old) sci (λ an. None) }
         ensures counters { counters_of self.new ≡ counters_of self.old }
@@ -125,15 +125,15 @@ impl Rx {
         next: u64,
         ceiling: u64,
     )
-        requires stands { has_channel (side_of self.old) sci ≡ true }
-        requires empty { (side_of self.old).rx sci an ≡ None }
+        requires stands { has_channel (rx_side_of self.old) sci ≡ true }
+        requires empty { (rx_side_of self.old).rx sci an ≡ None }
         requires numbered { 1 ≤ next }
         requires ordered { next ≤ ceiling }
         requires bounded { ceiling ≤ 2 ^ 32 }
-        ensures side { side_of self.new ≡ record (side_of self.old) {
-          rx = put_at (side_of self.old).rx sci
-              (put ((side_of self.old).rx sci) an (Some (record { key = key.now; offset = offset })));
-          numbers = put_numbers (side_of self.old).numbers sci an (Some (started next));
+        ensures side { rx_side_of self.new ≡ record (rx_side_of self.old) {
+          rx = put_at (rx_side_of self.old).rx sci
+              (put ((rx_side_of self.old).rx sci) an (Some (record { key = key.now; offset = offset })));
+          numbers = put_numbers (rx_side_of self.old).numbers sci an (Some (first_numbers next));
         } }
         ensures ceilings { ceilings_of self.new
             ≡ put_at (ceilings_of self.old) sci (put (ceilings_of self.old sci) an (Some ceiling)) }
@@ -153,10 +153,10 @@ impl Rx {
 
     /// An association that stands goes.
     pub fn remove(&mut self, sci: Sci, an: An)
-        requires { IsSome ((side_of self.old).rx sci an) }
-        ensures side { side_of self.new ≡ record (side_of self.old) {
-          rx = put_at (side_of self.old).rx sci (put ((side_of self.old).rx sci) an None);
-          numbers = put_numbers (side_of self.old).numbers sci an None;
+        requires { IsSome ((rx_side_of self.old).rx sci an) }
+        ensures side { rx_side_of self.new ≡ record (rx_side_of self.old) {
+          rx = put_at (rx_side_of self.old).rx sci (put ((rx_side_of self.old).rx sci) an None);
+          numbers = put_numbers (rx_side_of self.old).numbers sci an None;
         } }
         ensures ceilings { ceilings_of self.new
             ≡ put_at (ceilings_of self.old) sci (put (ceilings_of self.old sci) an None) }
@@ -169,10 +169,10 @@ impl Rx {
     /// Raises the ceiling of an association that stands. The new one is not below the one before,
     /// and at most 2^32.
     pub fn raise(&mut self, sci: Sci, an: An, ceiling: u64)
-        requires stands { IsSome ((side_of self.old).rx sci an) }
+        requires stands { IsSome ((rx_side_of self.old).rx sci an) }
         requires higher { IfSome (ceilings_of self.old sci an) (λ old. old ≤ ceiling) }
         requires bounded { ceiling ≤ 2 ^ 32 }
-        ensures side { side_of self.new ≡ side_of self.old }
+        ensures side { rx_side_of self.new ≡ rx_side_of self.old }
         ensures ceilings { ceilings_of self.new
             ≡ put_at (ceilings_of self.old) sci (put (ceilings_of self.old sci) an (Some ceiling)) }
         ensures counters { counters_of self.new ≡ counters_of self.old }
@@ -185,7 +185,7 @@ impl Rx {
     /// stands.
     pub fn numbers(&self, sci: Sci, an: An) -> Option<RxNumbers>
         ensures { result ≡ option_map (λ (n : Numbers). record { next = n.next; lowest = n.lowest })
-            ((side_of self.now).numbers sci an) }
+            ((rx_side_of self.now).numbers sci an) }
     {
         self.table.channel(sci)?.numbers(an)
     }
@@ -198,10 +198,10 @@ impl Rx {
     /// `rx_block` is 1 to 65,536 packet numbers. What is named stands, and may be raised that far.
     pub fn needs(&self, rx_block: u32) -> Option<RxNeed>
         ensures need { option_map (λ (need : RxNeed). record { sci = need.sci; an = need.an; pn = need.pn }) result
-            ≡ needs_of (side_of self.now) (ceilings_of self.now) rx_block }
-        ensures stands { IfSome result (λ need. IsSome ((side_of self.now).rx need.sci need.an)) }
+            ≡ needs_of (rx_side_of self.now) (ceilings_of self.now) rx_block }
+        ensures stands { IfSome result (λ need. IsSome ((rx_side_of self.now).rx need.sci need.an)) }
         ensures higher { IfSome result (λ need. IfSome (ceilings_of self.now need.sci need.an)
-            (λ old. old < raised rx_block need.pn)) }
+            (λ old. old < raised_ceiling rx_block need.pn)) }
     {
         self.table.need(rx_block)
     }
@@ -217,13 +217,13 @@ impl Rx {
     /// frame names. A frame that is held back is to be handed in again, whole and unchanged, once
     /// `needs` has been served by `raise`: nothing of it is kept but that its number was seen.
     pub fn receive(&mut self, frame: &[u8], out: &mut FrameBuf) -> Verdict
-        ensures verdict { Receives (side_of self.old) (ceilings_of self.old) frame.now
-            (record { verdict = result; given = out.new.items; numbers = (side_of self.new).numbers }) }
-        ensures side { side_of self.new ≡ record (side_of self.old) { numbers = (side_of self.new).numbers } }
+        ensures verdict { IsOutcome (rx_side_of self.old) (ceilings_of self.old) frame.now
+            (record { verdict = result; given = out.new.items; numbers = (rx_side_of self.new).numbers }) }
+        ensures side { rx_side_of self.new ≡ record (rx_side_of self.old) { numbers = (rx_side_of self.new).numbers } }
         ensures ceilings { ceilings_of self.new ≡ ceilings_of self.old }
-        ensures counters { counters_of self.new ≡ counted result (counters_of self.old) }
+        ensures counters { counters_of self.new ≡ with_verdict result (counters_of self.old) }
         ensures channel_counters { channel_counters_of self.new
-            ≡ counted_at (channel_of (side_of self.old) frame.now) result (channel_counters_of self.old) }
+            ≡ with_verdict_at (channel_of (rx_side_of self.old) frame.now) result (channel_counters_of self.old) }
     {
         let verdict = self.table.receive(self.validate, self.replay, frame, out);
         self.counters.count(verdict);
@@ -249,7 +249,7 @@ impl Rx {
     /// Whether another channel may be added, as the tests have to ask.
     #[cfg(test)]
     pub(crate) fn has_room(&self) -> bool
-        ensures { result ≡ nat_lt (length (side_of self.now).channels) this_edition.channels }
+        ensures { result ≡ nat_lt (length (rx_side_of self.now).channels) this_edition.channels }
     {
         self.table.channels.len() < macs_config::MAX_CHANNELS
     }
@@ -261,11 +261,11 @@ impl Rx {
     /// most 2^32. It stands on a channel that stands. The channels ascend by SCI, and those that
     /// stand have counters, and no others.
     pub fn facts(&self)
-        ensures ordered { (sci : List ℕ) (an : ℕ) → AreOrdered (side_of self.now) (ceilings_of self.now) sci an }
-        ensures stands { (sci : List ℕ) (an : ℕ) → IsSome ((side_of self.now).rx sci an)
-            → has_channel (side_of self.now) sci ≡ true }
-        ensures ascending { is_ascending (side_of self.now).channels ≡ true }
-        ensures counted { (sci : List ℕ) → is_some (channel_counters_of self.now sci) ≡ has_channel (side_of self.now) sci }
+        ensures ordered { (sci : List ℕ) (an : ℕ) → AreOrdered (rx_side_of self.now) (ceilings_of self.now) sci an }
+        ensures stands { (sci : List ℕ) (an : ℕ) → IsSome ((rx_side_of self.now).rx sci an)
+            → has_channel (rx_side_of self.now) sci ≡ true }
+        ensures ascending { is_ascending (rx_side_of self.now).channels ≡ true }
+        ensures counted { (sci : List ℕ) → is_some (channel_counters_of self.now sci) ≡ has_channel (rx_side_of self.now) sci }
     {
         let _table = &self.table;
     }

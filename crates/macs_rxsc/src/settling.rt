@@ -2,7 +2,7 @@
 
 ghost use Rattle.std.specs.Prelude.{◌≡◌, ◌||◌, [], if◌then◌else◌, List, ℕ};
 ghost use Rattle.macs_frame.specs.First.{IsFirst};
-ghost use Rattle.macs_frame.specs.Opening.{bare};
+ghost use Rattle.macs_frame.specs.Opening.{bare_frame};
 ghost use Rattle.macs_frame.specs.Tag.{Tag, TagFaultHolds, changed, control, tag_faults};
 ghost use Rattle.macs_rxsc.specs.Receive.{RxSide, Tag as TagStep, given_at, is_strict, verdict_at};
 ghost use Rattle.macs_rxsc.specs.declared.verdict.Verdict.TheVariants.{Delivered, Discarded};
@@ -24,7 +24,7 @@ pub(crate) fn settle(
     requires read { Tag frame.now parts.now }
     requires empty { out.old.items ≡ [] }
     ensures verdict { result ≡ (if is_strict validate || changed (control frame.now) then Discarded reason else Delivered kind) }
-    ensures given { out.new.items ≡ (if is_strict validate || changed (control frame.now) then [] else bare frame.now) }
+    ensures given { out.new.items ≡ (if is_strict validate || changed (control frame.now) then [] else bare_frame frame.now) }
 {
     if validate == Validate::Strict || parts.tag.changed {
         return Verdict::Discarded(reason);

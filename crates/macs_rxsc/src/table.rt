@@ -7,10 +7,10 @@ ghost use Rattle.std.specs.Str.{bytes_eq};
 ghost use Rattle.macs_config.specs.Config.{this_edition, is_ascending, put_among};
 ghost use Rattle.macs_config.specs.Tables.{put, put_at};
 ghost use Rattle.macs_frame.specs.Tag.{IsForKay, Tag};
-ghost use Rattle.macs_rxsc.specs.Receive.{Receives, channel_of, put_numbers, sci_named};
+ghost use Rattle.macs_rxsc.specs.Receive.{IsOutcome, channel_of, put_numbers, sci_named};
 ghost use Rattle.macs_rxsc.specs.Needs.{Need, needs_of};
-ghost use Rattle.macs_rxsc.specs.Counting.{counted_at, none_counted_for_channel};
-ghost use Rattle.macs_rxsc.specs.View.{ceilings_among, channel_at, counters_among, numbers_of, sa_of, scis_of, shown, slid_channel};
+ghost use Rattle.macs_rxsc.specs.Counting.{with_verdict_at, no_channel_counts};
+ghost use Rattle.macs_rxsc.specs.Value.{ceilings_among, channel_at, counters_among, packet_numbers, sa_of, scis_of, rx_side_in, channel_under};
 ghost use Rattle.macs_config.specs.declared.command.Replay.{Replay};
 ghost use Rattle.macs_config.specs.declared.command.Validate.{Validate};
 ghost use Rattle.macs_rxsc.specs.declared.association.Association.{Association};
@@ -54,7 +54,7 @@ fn place_after(channels: &[Channel], sci: Sci) -> usize
 
 /// The lowest acceptable number of each association rises with the window, and never falls.
 fn slide(channels: &mut [Channel], window: u32)
-    ensures { channels.new ≡ map (slid_channel window) channels.old }
+    ensures { channels.new ≡ map (channel_under window) channels.old }
 {
     for channel in channels.iter_mut() {
         channel.slide(window);
@@ -96,7 +96,7 @@ impl Table {
 
     /// The lowest acceptable number of each association rises with the window, and never falls.
     pub(crate) fn slide(&mut self, window: u32)
-        ensures { self.new.channels.items ≡ map (slid_channel window) self.old.channels.items }
+        ensures { self.new.channels.items ≡ map (channel_under window) self.old.channels.items }
     {
         slide(self.channels.as_mut_slice(), window);
     }
@@ -105,12 +105,12 @@ impl Table {
     pub(crate) fn add(&mut self, sci: Sci)
         requires free { list_any (λ other. bytes_eq other sci) (scis_of self.old.channels.items) ≡ false }
         requires room { length (scis_of self.old.channels.items) < this_edition.channels }
-        ensures side { (validate : Validate) (replay : Replay) → shown validate replay self.new.channels.items
-            ≡ record (shown validate replay self.old.channels.items)
+        ensures side { (validate : Validate) (replay : Replay) → rx_side_in validate replay self.new.channels.items
+            ≡ record (rx_side_in validate replay self.old.channels.items)
             { channels = put_among sci (scis_of self.old.channels.items) } }
         ensures ceilings { ceilings_among self.new.channels.items ≡ ceilings_among self.old.channels.items }
         ensures counters { counters_among self.new.channels.items
-            ≡ put_at (counters_among self.old.channels.items) sci (Some none_counted_for_channel) }
+            ≡ put_at (counters_among self.old.channels.items) sci (Some no_channel_counts) }
     {
         let place = place_after(self.channels.as_slice(), sci);
         self.channels.insert(place, Channel::new(sci));
@@ -118,11 +118,11 @@ impl Table {
 
     /// A channel goes, with its associations and counters.
     pub(crate) fn drop_channel(&mut self, sci: Sci)
-        ensures side { (validate : Validate) (replay : Replay) → shown validate replay self.new.channels.items
-            ≡ record (shown validate replay self.old.channels.items) {
+        ensures side { (validate : Validate) (replay : Replay) → rx_side_in validate replay self.new.channels.items
+            ≡ record (rx_side_in validate replay self.old.channels.items) {
               channels = filter (λ other. not (bytes_eq other sci)) (scis_of self.old.channels.items);
-              rx = put_at (shown validate replay self.old.channels.items).rx sci (λ an. None);
-              numbers = put_at (shown validate replay self.old.channels.items).numbers sci (λ an. None);
+              rx = put_at (rx_side_in validate replay self.old.channels.items).rx sci (λ an. None);
+              numbers = put_at (rx_side_in validate replay self.old.channels.items).numbers sci (λ an. None);
             } }
         ensures ceilings { ceilings_among self.new.channels.items
             ≡ put_at (ceilings_among self.old.channels.items) sci (λ an. None) }
@@ -135,12 +135,12 @@ impl Table {
     /// Puts an association at a number of a channel that stands, or takes it away.
     pub(crate) fn put(&mut self, sci: Sci, an: An, association: Option<Association>)
         requires { list_any (λ other. bytes_eq other sci) (scis_of self.old.channels.items) ≡ true }
-        ensures side { (validate : Validate) (replay : Replay) → shown validate replay self.new.channels.items
-            ≡ record (shown validate replay self.old.channels.items) {
-              rx = put_at (shown validate replay self.old.channels.items).rx sci
-                  (put ((shown validate replay self.old.channels.items).rx sci) an (option_map sa_of association));
-              numbers = put_numbers (shown validate replay self.old.channels.items).numbers sci an
-                  (option_map numbers_of association);
+        ensures side { (validate : Validate) (replay : Replay) → rx_side_in validate replay self.new.channels.items
+            ≡ record (rx_side_in validate replay self.old.channels.items) {
+              rx = put_at (rx_side_in validate replay self.old.channels.items).rx sci
+                  (put ((rx_side_in validate replay self.old.channels.items).rx sci) an (option_map sa_of association));
+              numbers = put_numbers (rx_side_in validate replay self.old.channels.items).numbers sci an
+                  (option_map packet_numbers association);
             } }
         ensures ceilings { ceilings_among self.new.channels.items ≡ put_at (ceilings_among self.old.channels.items) sci
             (put (ceilings_among self.old.channels.items sci) an (option_map (λ (a : Association). a.ceiling) association)) }
@@ -154,8 +154,8 @@ impl Table {
     /// Raises the ceiling of an association that stands.
     pub(crate) fn raise(&mut self, sci: Sci, an: An, ceiling: u64)
         requires { IsSome (ceilings_among self.old.channels.items sci an) }
-        ensures side { (validate : Validate) (replay : Replay) → shown validate replay self.new.channels.items
-            ≡ shown validate replay self.old.channels.items }
+        ensures side { (validate : Validate) (replay : Replay) → rx_side_in validate replay self.new.channels.items
+            ≡ rx_side_in validate replay self.old.channels.items }
         ensures ceilings { ceilings_among self.new.channels.items ≡ put_at (ceilings_among self.old.channels.items) sci
             (put (ceilings_among self.old.channels.items sci) an (Some ceiling)) }
         ensures counters { counters_among self.new.channels.items ≡ counters_among self.old.channels.items }
@@ -170,7 +170,7 @@ impl Table {
         requires { is_ascending (scis_of self.now.channels.items) ≡ true }
         ensures { (validate : Validate) (replay : Replay)
             → option_map (λ (need : RxNeed). record { sci = need.sci; an = need.an; pn = need.pn }) result
-            ≡ needs_of (shown validate replay self.now.channels.items) (ceilings_among self.now.channels.items) block }
+            ≡ needs_of (rx_side_in validate replay self.now.channels.items) (ceilings_among self.now.channels.items) block }
     {
         for channel in self.channels.iter() {
             if let Some(need) = channel.need(block) {
@@ -188,17 +188,17 @@ impl Table {
         frame: &[u8],
         out: &mut FrameBuf,
     ) -> Verdict
-        ensures verdict { Receives (shown validate replay self.old.channels.items) (ceilings_among self.old.channels.items)
+        ensures verdict { IsOutcome (rx_side_in validate replay self.old.channels.items) (ceilings_among self.old.channels.items)
             frame.now (record {
               verdict = result;
               given = out.new.items;
-              numbers = (shown validate replay self.new.channels.items).numbers;
+              numbers = (rx_side_in validate replay self.new.channels.items).numbers;
             }) }
-        ensures side { shown validate replay self.new.channels.items ≡ record (shown validate replay self.old.channels.items)
-            { numbers = (shown validate replay self.new.channels.items).numbers } }
+        ensures side { rx_side_in validate replay self.new.channels.items ≡ record (rx_side_in validate replay self.old.channels.items)
+            { numbers = (rx_side_in validate replay self.new.channels.items).numbers } }
         ensures ceilings { ceilings_among self.new.channels.items ≡ ceilings_among self.old.channels.items }
-        ensures counters { counters_among self.new.channels.items ≡ counted_at
-            (channel_of (shown validate replay self.old.channels.items) frame.now) result
+        ensures counters { counters_among self.new.channels.items ≡ with_verdict_at
+            (channel_of (rx_side_in validate replay self.old.channels.items) frame.now) result
             (counters_among self.old.channels.items) }
     {
         out.clear();
@@ -220,17 +220,17 @@ impl Table {
     ) -> Verdict
         requires read { Tag frame.now parts.now × (¬ IsForKay frame.now) }
         requires empty { out.old.items ≡ [] }
-        ensures verdict { Receives (shown validate replay self.old.channels.items) (ceilings_among self.old.channels.items)
+        ensures verdict { IsOutcome (rx_side_in validate replay self.old.channels.items) (ceilings_among self.old.channels.items)
             frame.now (record {
               verdict = result;
               given = out.new.items;
-              numbers = (shown validate replay self.new.channels.items).numbers;
+              numbers = (rx_side_in validate replay self.new.channels.items).numbers;
             }) }
-        ensures side { shown validate replay self.new.channels.items ≡ record (shown validate replay self.old.channels.items)
-            { numbers = (shown validate replay self.new.channels.items).numbers } }
+        ensures side { rx_side_in validate replay self.new.channels.items ≡ record (rx_side_in validate replay self.old.channels.items)
+            { numbers = (rx_side_in validate replay self.new.channels.items).numbers } }
         ensures ceilings { ceilings_among self.new.channels.items ≡ ceilings_among self.old.channels.items }
-        ensures counters { counters_among self.new.channels.items ≡ counted_at
-            (channel_of (shown validate replay self.old.channels.items) frame.now) result
+        ensures counters { counters_among self.new.channels.items ≡ with_verdict_at
+            (channel_of (rx_side_in validate replay self.old.channels.items) frame.now) result
             (counters_among self.old.channels.items) }
     {
         match place_named(self.channels.as_slice(), frame, parts.tag.name) {

@@ -10,9 +10,9 @@ use Rattle.macs_record.specs.declared.record.Record.{Record}
 use Rattle.macs_journal.specs.Areas.{slots}
 use Rattle.macs_journal.specs.declared.fault.JournalFault.{JournalFault}
 use Rattle.macs_journal.specs.declared.fault.JournalFault.TheVariants as journal_fault
-use Rattle.macs_store.specs.Found.{CommitLeaves, IsBeforeOrAfter}
+use Rattle.macs_store.specs.Found.{CommitLeaves, FindsEitherStanding}
 use Rattle.macs_store.specs.Keeps.{Commits, Keeps, Records}
-use Rattle.macs_store.specs.Replay.{followed}
+use Rattle.macs_store.specs.Replay.{after_record}
 use Rattle.macs_store.specs.Standing.{Standing, accept}
 use Rattle.macs_store.specs.Table.{StandingValue, standing_of}
 use Rattle.macs_store.specs.Value.{IsStored, StoreValue, disk_in, is_stopped, standing_in, used_slots}
@@ -22,9 +22,9 @@ use Rattle.macs_store.proofs.Keeping.{accepted-follows, commit-leaves, stored-im
 
 module _ {D : Type 0} (disk_of : D → Disk) (s : StoreValue D) where
   -- where nothing is done nothing new is left
-  left_alone : (after : Standing) → IsStored disk_of s → Leaves (disk_in disk_of s) (disk_in disk_of s) (IsBeforeOrAfter (standing_in s) after)
+  left_alone : (after : Standing) → IsStored disk_of s → Leaves (disk_in disk_of s) (disk_in disk_of s) (FindsEitherStanding (standing_in s) after)
   left_alone after stored =
-      Leaves-start (disk_in disk_of s) (IsBeforeOrAfter (standing_in s) after) (λ image left. inl (stored-image disk_of s stored image left))
+      Leaves-start (disk_in disk_of s) (FindsEitherStanding (standing_in s) after) (λ image left. inl (stored-image disk_of s stored image left))
 
   -- a store that is stopped keeps no record
   pub stopped-records : (r : Record) → is_stopped s ≡ true → Records disk_of s r (Err journal_fault.Stopped) s
@@ -63,7 +63,7 @@ module _ {D : Type 0} (disk_of : D → Disk) (s : StoreValue D) where
   }
 
   -- the record of a reservation was not kept
-  pub refused-keeps : (r : Record) (after : Standing) (at : JournalFault) (new : StoreValue D) → followed (standing_in s) r ≡ Some after
+  pub refused-keeps : (r : Record) (after : Standing) (at : JournalFault) (new : StoreValue D) → after_record (standing_in s) r ≡ Some after
       → Records disk_of s r (Err at) new → Keeps disk_of s after (Err at) new
   refused-keeps r after at new follows records = record {
     stopped = records.stopped;
@@ -82,7 +82,7 @@ module _ {D : Type 0} (disk_of : D → Disk) (s : StoreValue D) where
   }
 
   -- it was, and stands in memory
-  pub kept-keeps : (r : Record) (after : Standing) (new : StoreValue D) (held : StandingValue) → followed (standing_in s) r ≡ Some after
+  pub kept-keeps : (r : Record) (after : Standing) (new : StoreValue D) (held : StandingValue) → after_record (standing_in s) r ≡ Some after
       → after ≡ standing_of held → Records disk_of s r (Ok tt) new → Keeps disk_of s after (Ok tt) (record new { held = held })
   kept-keeps r after new held follows same records = record {
     stopped = records.stopped;

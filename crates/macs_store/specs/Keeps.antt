@@ -12,8 +12,8 @@ use Rattle.macs_journal.specs.Work.{IsWorkOf}
 use Rattle.macs_journal.specs.declared.fault.JournalFault.{JournalFault}
 use Rattle.macs_journal.specs.declared.fault.JournalFault.TheVariants as journal
 use Rattle.macs_record.specs.declared.record.Record.{Record}
-use Rattle.macs_store.specs.Found.{CommitLeaves, Finds, IsBeforeOrAfter}
-use Rattle.macs_store.specs.Replay.{followed}
+use Rattle.macs_store.specs.Found.{CommitLeaves, FindsStanding, FindsEitherStanding}
+use Rattle.macs_store.specs.Replay.{after_record}
 use Rattle.macs_store.specs.Standing.{Standing, accept}
 use Rattle.macs_store.specs.Table.{StandingValue, standing_of}
 use Rattle.macs_store.specs.Value.{IsStored, StoreValue, disk_in, is_stopped, standing_in, used_slots}
@@ -37,10 +37,10 @@ pub record Keeps {D : Type 0} (disk_of : D → disk.Disk) (old : StoreValue D) (
   pub done : OnOk result (standing_in new ≡ after)
   pub work : IsWorkOf (disk_in disk_of old) (disk_in disk_of new) result
   pub any_moment : IsHonest (disk_in disk_of new) → IsStored disk_of old
-      → Leaves (disk_in disk_of old) (disk_in disk_of new) (IsBeforeOrAfter (standing_in old) after)
+      → Leaves (disk_in disk_of old) (disk_in disk_of new) (FindsEitherStanding (standing_in old) after)
   pub stored : OnOk result (IsHonest (disk_in disk_of new) → IsStored disk_of old → IsStored disk_of new)
   pub kept : OnOk result (IsHonest (disk_in disk_of new) → IsStored disk_of old
-      → (image : Image) → MayLeave (disk_in disk_of new) image → Finds this_edition image (standing_in new))
+      → (image : Image) → MayLeave (disk_in disk_of new) image → FindsStanding this_edition image (standing_in new))
 
 -- ---- a command
 
@@ -72,7 +72,7 @@ pub record Commits {D : Type 0} (disk_of : D → disk.Disk) (old : StoreValue D)
       → Leaves (disk_in disk_of old) (disk_in disk_of new) (CommitLeaves (standing_in old) command)
   pub stored : OnOk result (IsHonest (disk_in disk_of new) → IsStored disk_of old → IsStored disk_of new)
   pub kept : OnOk result (IsHonest (disk_in disk_of new) → IsStored disk_of old
-      → (image : Image) → MayLeave (disk_in disk_of new) image → Finds this_edition image (standing_in new))
+      → (image : Image) → MayLeave (disk_in disk_of new) image → FindsStanding this_edition image (standing_in new))
 
 -- ---- a record
 
@@ -88,10 +88,10 @@ pub record Records {D : Type 0} (disk_of : D → disk.Disk) (old : StoreValue D)
   pub slot : OnOk result (used_slots old < slots → used_slots new ≡ used_slots old + 1)
   pub four : used_slots old < slots → (disk_in disk_of new).clock ≤ (disk_in disk_of old).clock + 4
   pub work : IsWorkOf (disk_in disk_of old) (disk_in disk_of new) result
-  pub any_moment : IsHonest (disk_in disk_of new) → IsStored disk_of old → (after : Standing) → followed (standing_in old) r ≡ Some after
-      → Leaves (disk_in disk_of old) (disk_in disk_of new) (IsBeforeOrAfter (standing_in old) after)
+  pub any_moment : IsHonest (disk_in disk_of new) → IsStored disk_of old → (after : Standing) → after_record (standing_in old) r ≡ Some after
+      → Leaves (disk_in disk_of old) (disk_in disk_of new) (FindsEitherStanding (standing_in old) after)
   pub stored : OnOk result (IsHonest (disk_in disk_of new) → IsStored disk_of old
-      → (held : StandingValue) → followed (standing_in old) r ≡ Some (standing_of held) → IsStored disk_of (record new { held = held }))
+      → (held : StandingValue) → after_record (standing_in old) r ≡ Some (standing_of held) → IsStored disk_of (record new { held = held }))
   pub kept : OnOk result (IsHonest (disk_in disk_of new) → IsStored disk_of old
-      → (after : Standing) → followed (standing_in old) r ≡ Some after
-      → (image : Image) → MayLeave (disk_in disk_of new) image → Finds this_edition image after)
+      → (after : Standing) → after_record (standing_in old) r ≡ Some after
+      → (image : Image) → MayLeave (disk_in disk_of new) image → FindsStanding this_edition image after)

@@ -5,11 +5,11 @@ ghost use Rattle.std.specs.Option.{option_map};
 ghost use Rattle.macs_config.specs.Apply.{apply, fingerprint_of};
 ghost use Rattle.macs_config.specs.Config as spec;
 ghost use Rattle.macs_config.specs.Config.{this_edition};
-ghost use Rattle.macs_config.specs.Snapshot.{restored};
-ghost use Rattle.macs_config.specs.Stored.{config_of};
+ghost use Rattle.macs_config.specs.Snapshot.{config_of_parts};
+ghost use Rattle.macs_config.specs.Value.{config_of};
 ghost use Rattle.macs_config.specs.declared.part.Part.{Part};
 ghost use Rattle.macs_journal.specs.Areas.{slots};
-ghost use Rattle.macs_store.specs.Replay.{followed, parts_of, replay_of, rises, snapshot_of, with_ceilings};
+ghost use Rattle.macs_store.specs.Replay.{after_record, parts_of, replay_of, rises, snapshot_of, with_ceilings};
 ghost use Rattle.macs_store.specs.Standing.{IsStanding, accept, ceilings_after, no_ceilings, with_rx_ceiling, with_tx_ceiling};
 ghost use Rattle.macs_store.specs.Table.{StandingValue, ceilings_of, scis_of, standing_of};
 
@@ -87,8 +87,8 @@ impl Standing {
 
     /// Goes on with the record of a command or of a raised ceiling, and answers whether it fits.
     fn follow(&mut self, value: &Record) -> bool
-        ensures fits { result ≡ true → followed (standing_of self.old) value.now ≡ Some (standing_of self.new) }
-        ensures refused { result ≡ false → followed (standing_of self.old) value.now ≡ None }
+        ensures fits { result ≡ true → after_record (standing_of self.old) value.now ≡ Some (standing_of self.new) }
+        ensures refused { result ≡ false → after_record (standing_of self.old) value.now ≡ None }
     {
         match value {
             Record::TxCeiling { an, ceiling } => self.follow_tx(*an, *ceiling),
@@ -174,7 +174,7 @@ impl Standing {
 /// The ceilings in a snapshot that makes up a configuration.
 fn ceilings_in(config: &Config, records: &[Record]) -> CeilingTable
     requires restored { (parts : List Part) × (parts_of records.now ≡ Some parts)
-        × (restored this_edition config.now.identity parts ≡ Some (config_of config.now)) }
+        × (config_of_parts this_edition config.now.identity parts ≡ Some (config_of config.now)) }
     ensures ceilings { ceilings_of result ≡ with_ceilings no_ceilings records.now }
     ensures channels { scis_of result ≡ (config_of config.now).channels }
 {

@@ -1,10 +1,10 @@
 //! What an endpoint keeps, in memory and on its disk.
 
 ghost use Rattle.std.specs.Prelude.{◌≡◌, ◌<◌, ◌^◌, IsSome, IfSome};
-ghost use Rattle.macs_config.specs.Stored.{config_of};
+ghost use Rattle.macs_config.specs.Value.{config_of};
 ghost use Rattle.macs_store.specs.Keeps.{Commits, Keeps, Records};
 ghost use Rattle.macs_store.specs.Value.{StoreValue, device_in, is_stopped, standing_in};
-ghost use Rattle.macs_store.specs.Standing.{IsStanding, ahead, rx_raised, tx_raised};
+ghost use Rattle.macs_store.specs.Standing.{IsStanding, ahead, with_rx_raised, with_tx_raised};
 
 use crate::ahead::ahead;
 use crate::fault::CommitFault;
@@ -63,7 +63,7 @@ impl<D: SectorDisk> Store<D> {
     pub fn reserve_tx(&mut self, an: An) -> Result<(), JournalFault>
         requires raised { IfSome ((standing_in self.old).ceilings.tx an) (λ old. old < 2 ^ 32) }
         requires stands { IsSome ((standing_in self.old).ceilings.tx an) }
-        ensures { Keeps D.disk self.old (tx_raised (standing_in self.old) an) result self.new }
+        ensures { Keeps D.disk self.old (with_tx_raised (standing_in self.old) an) result self.new }
     {
         let old = self.tx_ceiling(an).unwrap();
         let ceiling = ahead(old.get(), self.identity().tx_block());
@@ -78,7 +78,7 @@ impl<D: SectorDisk> Store<D> {
         requires raised { IfSome ((standing_in self.old).ceilings.rx sci an)
             (λ old. old < ahead pn (standing_in self.old).identity.rx_block) }
         requires stands { IsSome ((standing_in self.old).ceilings.rx sci an) }
-        ensures { Keeps D.disk self.old (rx_raised (standing_in self.old) sci an pn) result self.new }
+        ensures { Keeps D.disk self.old (with_rx_raised (standing_in self.old) sci an pn) result self.new }
     {
         let ceiling = ahead(u64::from(pn.get()), self.identity().rx_block());
         self.keep(&Record::RxCeiling { sci, an, ceiling })?;

@@ -6,14 +6,14 @@ use Rattle.std.proofs.lemmas.Bool.Decides.{nat_tests}
 use Rattle.macs_config.specs.Association.{is_confidential, is_end_station, offset_of}
 use Rattle.macs_frame.specs.First.{first}
 use Rattle.macs_frame.specs.Fields.{octets_of}
-use Rattle.macs_frame.specs.Protection.{overhead, protected}
+use Rattle.macs_frame.specs.Protection.{overhead, protected_frame}
 use Rattle.macs_frame.specs.declared.tag.ScName.{ScName}
 use Rattle.macs_txsc.specs.declared.association.Association.{Association}
 use Rattle.macs_txsc.specs.declared.channel.Tx.{Tx}
 use Rattle.macs_txsc.specs.declared.fault.TxFault.{TxFault}
 use Rattle.macs_txsc.specs.declared.fault.TxFault.TheVariants.{Runt, TooLong, ForeignSource, NoEncodingSa, Exhausted, NoNumber}
 use Rattle.macs_txsc.specs.Transmit.{Outgoing, TxSide, all_tx_faults, frame_of, is_at_ceiling, is_own_source, is_used_up, name_in, outgoing}
-use Rattle.macs_txsc.specs.View.{ceilings_of, sa_of, side_of}
+use Rattle.macs_txsc.specs.Value.{ceilings_of, sa_of, tx_side_of}
 
 -- what lies in the frame, with its tests
 abbrev pub frame_faults : TxSide → List ℕ → List (TxFault × Bool)
@@ -64,35 +64,35 @@ behind side ceilings plain o none is =
     back _ _ _ (association_faults ceilings (outgoing side)) none ∙ ap (λ x. first (association_faults ceilings x)) is
 
 -- no association is chosen, or none stands at the number
-pub unset : (t : Tx) → t.encoding ≡ None → outgoing (side_of t) ≡ None
+pub unset : (t : Tx) → t.encoding ≡ None → outgoing (tx_side_of t) ≡ None
 unset t encoding = rw encoding refl
 
-pub vacant : (t : Tx) (an : ℕ) → t.encoding ≡ Some an → get_or t.associations an None ≡ None → outgoing (side_of t) ≡ None
+pub vacant : (t : Tx) (an : ℕ) → t.encoding ≡ Some an → get_or t.associations an None ≡ None → outgoing (tx_side_of t) ≡ None
 vacant t an encoding place = rw (encoding, place) refl
 
 -- the association that frames go out under
 pub chosen : (t : Tx) (an : ℕ) (a : Association) → t.encoding ≡ Some an → get_or t.associations an None ≡ Some a
-    → outgoing (side_of t) ≡ Some (record { an = an; sa = sa_of a; pn = a.next })
+    → outgoing (tx_side_of t) ≡ Some (record { an = an; sa = sa_of a; pn = a.next })
 chosen t an a encoding place = rw (encoding, place) refl
 
 -- behind a frame without faults come those of the numbers of the association
-pub in_numbers : (t : Tx) (plain : List ℕ) (an : ℕ) (a : Association) → first (frame_faults (side_of t) plain) ≡ None → t.encoding ≡ Some an
+pub in_numbers : (t : Tx) (plain : List ℕ) (an : ℕ) (a : Association) → first (frame_faults (tx_side_of t) plain) ≡ None → t.encoding ≡ Some an
     → get_or t.associations an None ≡ Some a
-    → first (all_tx_faults (side_of t) (ceilings_of t) plain) ≡ first (number_faults a.next a.ceiling)
+    → first (all_tx_faults (tx_side_of t) (ceilings_of t) plain) ≡ first (number_faults a.next a.ceiling)
 in_numbers t plain an a none encoding place =
     let o : Outgoing = record { an = an; sa = sa_of a; pn = a.next } in
     let numbers : first (association_faults (ceilings_of t) (Some o)) ≡ first (number_faults a.next a.ceiling) = rw place refl in
-    behind (side_of t) (ceilings_of t) plain (Some o) none (chosen t an a encoding place) ∙ numbers
+    behind (tx_side_of t) (ceilings_of t) plain (Some o) none (chosen t an a encoding place) ∙ numbers
 
 -- the frame that an association makes is the one that goes out
 pub goes_out : (t : Tx) (an : ℕ) (a : Association) (pn : ℕ) (name : ScName) (plain out : List ℕ) → t.encoding ≡ Some an
     → get_or t.associations an None ≡ Some a → pn ≡ a.next → name ≡ name_in t.mode t.sci
-    → out ≡ protected a.key t.sci (record {
+    → out ≡ protected_frame a.key t.sci (record {
       an = an;
       pn = pn;
       name = name;
       encrypted = is_confidential a.protection;
       changed = is_confidential a.protection;
     }) (octets_of (offset_of a.protection)) plain
-    → option_map (λ (o : Outgoing). frame_of (side_of t) o plain) (outgoing (side_of t)) ≡ Some out
+    → option_map (λ (o : Outgoing). frame_of (tx_side_of t) o plain) (outgoing (tx_side_of t)) ≡ Some out
 goes_out t an a pn name plain out encoding place number named is = rw (encoding, place, is, number, named) refl

@@ -2,13 +2,13 @@
 use Rattle.std.proofs.Common.{◌≡◌, ℕ, Bool, true, false, cond, refl, ap}
 use Rattle.std.specs.Prelude.{Option, Some, None, IsSome, is_none, is_some}
 use Rattle.macs_config.specs.declared.association.TxSa.{TxSa}
-use Rattle.macs_txsc.specs.Transmit.{TxSide, need_at, need_of, numbered, outgoing_at}
+use Rattle.macs_txsc.specs.Transmit.{TxSide, need_at, need_of, outgoing_if, outgoing_at}
 
 by_test : (e an : ℕ) (b : Bool) → cond b (Some e) None ≡ Some an → e ≡ an
 by_test e an true is = cc
 by_test e an false is = absurd (cc)
 
-by_number : (ceilings : ℕ → Option ℕ) (block e : ℕ) (sa : Option TxSa) (pn : Option ℕ) (an : ℕ) → need_at ceilings block (numbered e sa pn) ≡ Some an → e ≡ an
+by_number : (ceilings : ℕ → Option ℕ) (block e : ℕ) (sa : Option TxSa) (pn : Option ℕ) (an : ℕ) → need_at ceilings block (outgoing_if e sa pn) ≡ Some an → e ≡ an
 by_number ceilings block e (Some sa) (Some pn) an is = by_test e an _ is
 by_number ceilings block e (Some sa) None an is = absurd (cc)
 by_number ceilings block e None pn an is = absurd (cc)

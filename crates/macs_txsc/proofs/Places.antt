@@ -8,8 +8,8 @@ use Rattle.macs_config.specs.declared.association.TxSa.{TxSa}
 use Rattle.macs_txsc.specs.declared.association.Association.{Association}
 use Rattle.macs_txsc.specs.declared.channel.Tx.{Tx}
 use Rattle.macs_txsc.proofs.Faults.{chosen}
-use Rattle.macs_txsc.specs.Transmit.{TxSide, sent_at, sent_side}
-use Rattle.macs_txsc.specs.View.{sa_of, side_of}
+use Rattle.macs_txsc.specs.Transmit.{TxSide, side_after, side_after_frame}
+use Rattle.macs_txsc.specs.Value.{sa_of, tx_side_of}
 
 -- what each place says of what stands there
 abbrev pub said : {A B : Type 0} → (A → B) → List (Option A) → ℕ → Option B
@@ -37,16 +37,16 @@ kept f xs i old new within is same = search rules
 -- the channel after the number of the association that frames go out under is used
 pub sent : (t : Tx) (an : ℕ) (old new : Association) → t.encoding ≡ Some an → an < length t.associations → get_or t.associations an None ≡ Some old
     → sa_of new ≡ sa_of old → new.next ≡ old.next + 1
-    → side_of (record t { associations = slice_set t.associations an (Some new) }) ≡ sent_side (side_of t)
+    → tx_side_of (record t { associations = slice_set t.associations an (Some new) }) ≡ side_after_frame (tx_side_of t)
 sent t an old new encoding within place sa next =
-    let side : TxSide = side_of t in
+    let side : TxSide = tx_side_of t in
     let outgoing_is = chosen t an old encoding place in
     let sas : said sa_of (slice_set t.associations an (Some new)) ≡ said sa_of t.associations = kept sa_of t.associations an old new within place sa in
     let numbers : said (λ (a : Association). a.next) (slice_set t.associations an (Some new)) ≡ put side.next an (Some (old.next + 1)) =
     placed (λ (a : Association). a.next) t.associations an new within ∙ ap (λ n. put side.next an (Some n)) next in
     let changed : (x : ℕ → Option TxSa) (y : ℕ → Option ℕ) → x ≡ side.tx → y ≡ put side.next an (Some (old.next + 1))
     → record side { tx = x; next = y } ≡ record side { next = put side.next an (Some (old.next + 1)) } = λ x y p q. rw (p, q) refl in
-    changed _ _ sas numbers ∙ ap (sent_at side) (sym outgoing_is)
+    changed _ _ sas numbers ∙ ap (side_after side) (sym outgoing_is)
 
 -- an error that is the first fault is so exactly
 pub exactly : {X R : Type 0} (result : Result X R) (found : Option R) → IfErr result (λ fault. found ≡ Some fault) → OnOk result (found ≡ None)

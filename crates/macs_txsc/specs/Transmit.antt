@@ -8,7 +8,7 @@ use Rattle.macs_config.specs.declared.association.TxSa.{TxSa}
 use Rattle.macs_config.specs.declared.command.SciMode.{SciMode}
 use Rattle.macs_config.specs.declared.command.SciMode.TheVariants.{Explicit, EndStation, Implicit}
 use Rattle.macs_frame.specs.Fields.{octets_of}
-use Rattle.macs_frame.specs.Protection.{overhead, protected}
+use Rattle.macs_frame.specs.Protection.{overhead, protected_frame}
 use Rattle.macs_frame.specs.declared.tag.ScName.{ScName}
 use Rattle.macs_frame.specs.declared.tag.ScName.TheVariants.{Explicit as NamesSci, EndStation as NamesStation, Implicit as NamesNone}
 use Rattle.macs_frame.specs.declared.tag.SecTag.{SecTag}
@@ -25,8 +25,8 @@ pub record TxSide : Type 0 where
   pub next : ℕ → Option ℕ
 
 -- a transmit channel without associations, in explicit mode
-abbrev pub new_side : List ℕ → TxSide
-new_side sci = record { sci = sci; mode = Explicit; encoding = None; tx = λ an. None; next = λ an. None }
+abbrev pub new_tx_side : List ℕ → TxSide
+new_tx_side sci = record { sci = sci; mode = Explicit; encoding = None; tx = λ an. None; next = λ an. None }
 
 -- ---- what goes out
 
@@ -37,14 +37,14 @@ pub record Outgoing : Type 0 where
   pub pn : ℕ
 
 -- an AN with its association and next packet number, None where one of the two is missing
-abbrev pub numbered : ℕ → Option TxSa → Option ℕ → Option Outgoing
-numbered an (Some sa) (Some pn) = Some (record { an = an; sa = sa; pn = pn })
-numbered an sa pn = None
+abbrev pub outgoing_if : ℕ → Option TxSa → Option ℕ → Option Outgoing
+outgoing_if an (Some sa) (Some pn) = Some (record { an = an; sa = sa; pn = pn })
+outgoing_if an sa pn = None
 
 -- the association at a chosen AN, None where none is chosen or none stands there
 abbrev pub outgoing_at : TxSide → Option ℕ → Option Outgoing
 outgoing_at side None = None
-outgoing_at side (Some an) = numbered an (side.tx an) (side.next an)
+outgoing_at side (Some an) = outgoing_if an (side.tx an) (side.next an)
 
 -- what the next frame goes out under, None where no encoding association stands
 abbrev pub outgoing : TxSide → Option Outgoing
@@ -68,16 +68,16 @@ tag_for side o = record {
 
 -- the frame that goes out for a plain frame
 abbrev pub frame_of : TxSide → Outgoing → List ℕ → List ℕ
-frame_of side o plain = protected o.sa.key side.sci (tag_for side o) (octets_of (offset_of o.sa.protection)) plain
+frame_of side o plain = protected_frame o.sa.key side.sci (tag_for side o) (octets_of (offset_of o.sa.protection)) plain
 
 -- the next packet number is used
-abbrev pub sent_at : TxSide → Option Outgoing → TxSide
-sent_at side None = side
-sent_at side (Some o) = record side { next = put side.next o.an (Some (o.pn + 1)) }
+abbrev pub side_after : TxSide → Option Outgoing → TxSide
+side_after side None = side
+side_after side (Some o) = record side { next = put side.next o.an (Some (o.pn + 1)) }
 
 -- the channel after a frame went out under its encoding association
-abbrev pub sent_side : TxSide → TxSide
-sent_side side = sent_at side (outgoing side)
+abbrev pub side_after_frame : TxSide → TxSide
+side_after_frame side = side_after side (outgoing side)
 
 -- ---- faults
 
@@ -141,8 +141,8 @@ AreOrdered side ceilings an = InOrder (side.next an) (ceilings an) × (is_none (
 -- ---- counters
 
 -- each count of a transmit channel at 0
-abbrev pub none_counted : TxCounters
-none_counted = record {
+abbrev pub no_counts : TxCounters
+no_counts = record {
   protected = 0;
   runt = 0;
   too_long = 0;
@@ -166,15 +166,15 @@ fault_count Exhausted c = c.exhausted
 fault_count NoNumber c = c.no_number
 
 -- the counters after one more frame was refused for a fault
-abbrev pub fault_counted : TxFault → TxCounters → TxCounters
-fault_counted Runt c = record c { runt = one_more c.runt }
-fault_counted TooLong c = record c { too_long = one_more c.too_long }
-fault_counted ForeignSource c = record c { foreign_source = one_more c.foreign_source }
-fault_counted NoEncodingSa c = record c { no_encoding_sa = one_more c.no_encoding_sa }
-fault_counted Exhausted c = record c { exhausted = one_more c.exhausted }
-fault_counted NoNumber c = record c { no_number = one_more c.no_number }
+abbrev pub with_fault : TxFault → TxCounters → TxCounters
+with_fault Runt c = record c { runt = one_more c.runt }
+with_fault TooLong c = record c { too_long = one_more c.too_long }
+with_fault ForeignSource c = record c { foreign_source = one_more c.foreign_source }
+with_fault NoEncodingSa c = record c { no_encoding_sa = one_more c.no_encoding_sa }
+with_fault Exhausted c = record c { exhausted = one_more c.exhausted }
+with_fault NoNumber c = record c { no_number = one_more c.no_number }
 
 -- what an answer adds
-abbrev pub tx_counted : Result ℕ TxFault → TxCounters → TxCounters
-tx_counted (Ok pn) c = record c { protected = one_more c.protected }
-tx_counted (Err fault) c = fault_counted fault c
+abbrev pub with_answer : Result ℕ TxFault → TxCounters → TxCounters
+with_answer (Ok pn) c = record c { protected = one_more c.protected }
+with_answer (Err fault) c = with_fault fault c

@@ -4,7 +4,7 @@ ghost use Rattle.std.specs.Prelude.{◌≡◌, ◌≤◌, ◌<◌, ◌+◌, ◌^
 ghost use Rattle.macs_config.specs.Association.{is_confidential, offset_of};
 ghost use Rattle.macs_frame.specs.Fields.{octets_of};
 ghost use Rattle.macs_frame.specs.First.{first};
-ghost use Rattle.macs_frame.specs.Protection.{overhead, protected};
+ghost use Rattle.macs_frame.specs.Protection.{overhead, protected_frame};
 ghost use Rattle.macs_frame.specs.declared.tag.SecTag.{SecTag};
 ghost use Rattle.macs_txsc.specs.declared.fault.TxFault.TheVariants.{Exhausted, NoNumber};
 
@@ -52,7 +52,7 @@ impl Association {
         requires below { self.old.next < self.old.ceiling }
         requires long_enough { 14 ≤ length plain.now }
         requires fits { length plain.now + overhead name ≤ 9216 }
-        ensures frame { out.new.items ≡ protected self.old.key sci (record {
+        ensures frame { out.new.items ≡ protected_frame self.old.key sci (record {
           an = an;
           pn = pn;
           name = name;

@@ -9,8 +9,8 @@ ghost use Rattle.macs_config.specs.declared.command.SciMode.TheVariants.{EndStat
 ghost use Rattle.macs_frame.specs.First.{first};
 ghost use Rattle.macs_frame.specs.Protection.{overhead};
 ghost use Rattle.macs_txsc.specs.declared.fault.TxFault.TheVariants.{Runt, TooLong, ForeignSource};
-ghost use Rattle.macs_txsc.specs.Transmit.{AreOrdered, Outgoing, all_tx_faults, fault_count, frame_of, is_own_source, name_in, need_of, new_side, none_counted, outgoing, sent_side, tx_counted};
-ghost use Rattle.macs_txsc.specs.View.{ceilings_of, counters_of, side_of};
+ghost use Rattle.macs_txsc.specs.Transmit.{AreOrdered, Outgoing, all_tx_faults, fault_count, frame_of, is_own_source, name_in, need_of, new_tx_side, no_counts, outgoing, side_after_frame, with_answer};
+ghost use Rattle.macs_txsc.specs.Value.{ceilings_of, counters_of, tx_side_of};
 
 use crate::association::Association;
 use crate::counters::TxCounters;
@@ -35,9 +35,9 @@ pub struct Tx {
 impl Tx {
     /// A channel without associations, that spells its SCI out.
     pub fn new(sci: Sci) -> Tx
-        ensures side { side_of result ≡ new_side sci }
+        ensures side { tx_side_of result ≡ new_tx_side sci }
         ensures ceilings { ceilings_of result ≡ (λ an. None) }
-        ensures counters { counters_of result ≡ none_counted }
+        ensures counters { counters_of result ≡ no_counts }
     {
         Tx {
             sci,
@@ -50,8 +50,8 @@ impl Tx {
 
     /// Sets how frames name the channel. An end station's port is 00-01.
     pub fn set_mode(&mut self, mode: SciMode)
-        requires { mode ≡ EndStation → is_port_one (side_of self.old).sci ≡ true }
-        ensures side { side_of self.new ≡ record (side_of self.old) { mode = mode } }
+        requires { mode ≡ EndStation → is_port_one (tx_side_of self.old).sci ≡ true }
+        ensures side { tx_side_of self.new ≡ record (tx_side_of self.old) { mode = mode } }
         ensures ceilings { ceilings_of self.new ≡ ceilings_of self.old }
         ensures counters { counters_of self.new ≡ counters_of self.old }
     {
@@ -69,13 +69,13 @@ impl Tx {
         next: u64,
         ceiling: u64,
     )
-        requires empty { (side_of self.old).tx an ≡ None }
+        requires empty { (tx_side_of self.old).tx an ≡ None }
         requires numbered { 1 ≤ next }
         requires ordered { next ≤ ceiling }
         requires bounded { ceiling ≤ 2 ^ 32 }
-        ensures side { side_of self.new ≡ record (side_of self.old) {
-          tx = put (side_of self.old).tx an (Some (record { key = key.now; protection = protection_of confidential offset }));
-          next = put (side_of self.old).next an (Some next);
+        ensures side { tx_side_of self.new ≡ record (tx_side_of self.old) {
+          tx = put (tx_side_of self.old).tx an (Some (record { key = key.now; protection = protection_of confidential offset }));
+          next = put (tx_side_of self.old).next an (Some next);
         } }
         ensures ceilings { ceilings_of self.new ≡ put (ceilings_of self.old) an (Some ceiling) }
         ensures counters { counters_of self.new ≡ counters_of self.old }
@@ -90,10 +90,10 @@ impl Tx {
 
     /// An association that stands goes. Frames do not go out under it.
     pub fn remove(&mut self, an: An)
-        requires stands { IsSome ((side_of self.old).tx an) }
-        requires unused { (side_of self.old).encoding ≢ Some an }
-        ensures side { side_of self.new ≡ record (side_of self.old)
-            { tx = put (side_of self.old).tx an None; next = put (side_of self.old).next an None } }
+        requires stands { IsSome ((tx_side_of self.old).tx an) }
+        requires unused { (tx_side_of self.old).encoding ≢ Some an }
+        ensures side { tx_side_of self.new ≡ record (tx_side_of self.old)
+            { tx = put (tx_side_of self.old).tx an None; next = put (tx_side_of self.old).next an None } }
         ensures ceilings { ceilings_of self.new ≡ put (ceilings_of self.old) an None }
         ensures counters { counters_of self.new ≡ counters_of self.old }
     {
@@ -102,8 +102,8 @@ impl Tx {
 
     /// Frames go out under this association, which stands.
     pub fn select(&mut self, an: An)
-        requires { IsSome ((side_of self.old).tx an) }
-        ensures side { side_of self.new ≡ record (side_of self.old) { encoding = Some an } }
+        requires { IsSome ((tx_side_of self.old).tx an) }
+        ensures side { tx_side_of self.new ≡ record (tx_side_of self.old) { encoding = Some an } }
         ensures ceilings { ceilings_of self.new ≡ ceilings_of self.old }
         ensures counters { counters_of self.new ≡ counters_of self.old }
     {
@@ -112,10 +112,10 @@ impl Tx {
 
     /// Raises the ceiling of an association that stands: not below the one before, and at most 2^32.
     pub fn raise(&mut self, an: An, ceiling: u64)
-        requires stands { IsSome ((side_of self.old).tx an) }
+        requires stands { IsSome ((tx_side_of self.old).tx an) }
         requires higher { IfSome (ceilings_of self.old an) (λ old. old ≤ ceiling) }
         requires bounded { ceiling ≤ 2 ^ 32 }
-        ensures side { side_of self.new ≡ side_of self.old }
+        ensures side { tx_side_of self.new ≡ tx_side_of self.old }
         ensures ceilings { ceilings_of self.new ≡ put (ceilings_of self.old) an (Some ceiling) }
         ensures counters { counters_of self.new ≡ counters_of self.old }
     {
@@ -126,7 +126,7 @@ impl Tx {
 
     /// The next packet number of an association, 1 to 2^32, `None` where none stands at that number.
     pub fn next_number(&self, an: An) -> Option<u64>
-        ensures { result ≡ (side_of self.now).next an }
+        ensures { result ≡ (tx_side_of self.now).next an }
     {
         let association = self.associations[an.get() as usize].as_ref()?;
         Some(association.next)
@@ -136,7 +136,7 @@ impl Tx {
     /// under, where at most half a block of packet numbers, rounded down, is left below its ceiling,
     /// and the ceiling is below 2^32. `tx_block` is 1 to 65,536 packet numbers.
     pub fn needs(&self, tx_block: u32) -> Option<An>
-        ensures { result ≡ need_of (side_of self.now) (ceilings_of self.now) tx_block }
+        ensures { result ≡ need_of (tx_side_of self.now) (ceilings_of self.now) tx_block }
     {
         let an = self.encoding?;
         let association = self.associations[an.get() as usize].as_ref()?;
@@ -150,15 +150,15 @@ impl Tx {
     /// `out` is empty, and no number is used. Each answer is counted.
     pub fn protect(&mut self, plain: &[u8], out: &mut FrameBuf) -> Result<Pn, TxFault>
         ensures fault { (fault : TxFault) → (result ≡ Err fault)
-            ↔ (first (all_tx_faults (side_of self.old) (ceilings_of self.old) plain.now) ≡ Some fault) }
-        ensures number { IfOk result (λ pn. option_map (λ (o : Outgoing). o.pn) (outgoing (side_of self.old)) ≡ Some pn) }
+            ↔ (first (all_tx_faults (tx_side_of self.old) (ceilings_of self.old) plain.now) ≡ Some fault) }
+        ensures number { IfOk result (λ pn. option_map (λ (o : Outgoing). o.pn) (outgoing (tx_side_of self.old)) ≡ Some pn) }
         ensures frame { OnOk result
-            (option_map (λ (o : Outgoing). frame_of (side_of self.old) o plain.now) (outgoing (side_of self.old)) ≡ Some out.new.items) }
-        ensures sent { OnOk result (side_of self.new ≡ sent_side (side_of self.old)) }
-        ensures same { OnErr result (side_of self.new ≡ side_of self.old) }
+            (option_map (λ (o : Outgoing). frame_of (tx_side_of self.old) o plain.now) (outgoing (tx_side_of self.old)) ≡ Some out.new.items) }
+        ensures sent { OnOk result (tx_side_of self.new ≡ side_after_frame (tx_side_of self.old)) }
+        ensures same { OnErr result (tx_side_of self.new ≡ tx_side_of self.old) }
         ensures ceilings { ceilings_of self.new ≡ ceilings_of self.old }
         ensures empty { OnErr result (out.new.items ≡ []) }
-        ensures counters { counters_of self.new ≡ tx_counted result (counters_of self.old) }
+        ensures counters { counters_of self.new ≡ with_answer result (counters_of self.old) }
     {
         out.clear();
         let answer = self.send(plain, out);
@@ -183,19 +183,19 @@ impl Tx {
     /// Each association has a next number, 1 to 2^32, that is not above its ceiling, which is at most
     /// 2^32.
     pub fn facts(&self)
-        ensures { (an : ℕ) → AreOrdered (side_of self.now) (ceilings_of self.now) an }
+        ensures { (an : ℕ) → AreOrdered (tx_side_of self.now) (ceilings_of self.now) an }
     {}
 
     /// Protects a plain frame as `protect` does, and counts nothing. After a fault `out` is as before.
     fn send(&mut self, plain: &[u8], out: &mut FrameBuf) -> Result<Pn, TxFault>
         ensures fault { IfErr result
-            (λ fault. first (all_tx_faults (side_of self.old) (ceilings_of self.old) plain.now) ≡ Some fault) }
-        ensures none { OnOk result (first (all_tx_faults (side_of self.old) (ceilings_of self.old) plain.now) ≡ None) }
-        ensures number { IfOk result (λ pn. option_map (λ (o : Outgoing). o.pn) (outgoing (side_of self.old)) ≡ Some pn) }
+            (λ fault. first (all_tx_faults (tx_side_of self.old) (ceilings_of self.old) plain.now) ≡ Some fault) }
+        ensures none { OnOk result (first (all_tx_faults (tx_side_of self.old) (ceilings_of self.old) plain.now) ≡ None) }
+        ensures number { IfOk result (λ pn. option_map (λ (o : Outgoing). o.pn) (outgoing (tx_side_of self.old)) ≡ Some pn) }
         ensures frame { OnOk result
-            (option_map (λ (o : Outgoing). frame_of (side_of self.old) o plain.now) (outgoing (side_of self.old)) ≡ Some out.new.items) }
-        ensures sent { OnOk result (side_of self.new ≡ sent_side (side_of self.old)) }
-        ensures same { OnErr result (side_of self.new ≡ side_of self.old) }
+            (option_map (λ (o : Outgoing). frame_of (tx_side_of self.old) o plain.now) (outgoing (tx_side_of self.old)) ≡ Some out.new.items) }
+        ensures sent { OnOk result (tx_side_of self.new ≡ side_after_frame (tx_side_of self.old)) }
+        ensures same { OnErr result (tx_side_of self.new ≡ tx_side_of self.old) }
         ensures ceilings { ceilings_of self.new ≡ ceilings_of self.old }
         ensures untouched { OnErr result (out.new.items ≡ out.old.items) }
         ensures counters { counters_of self.new ≡ counters_of self.old }

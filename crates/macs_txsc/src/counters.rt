@@ -1,7 +1,7 @@
 //! What is counted.
 
 ghost use Rattle.std.specs.Prelude.{◌≡◌};
-ghost use Rattle.macs_txsc.specs.Transmit.{fault_count, fault_counted, none_counted, one_more, tx_counted};
+ghost use Rattle.macs_txsc.specs.Transmit.{fault_count, with_fault, no_counts, one_more, with_answer};
 
 use crate::fault::TxFault;
 use macs_frame::Pn;
@@ -21,7 +21,7 @@ pub struct TxCounters {
 impl TxCounters {
     /// Nothing is counted yet.
     pub fn new() -> TxCounters
-        ensures { result ≡ none_counted }
+        ensures { result ≡ no_counts }
     {
         TxCounters {
             protected: 0,
@@ -50,7 +50,7 @@ impl TxCounters {
 
     /// One more frame met this fault.
     fn count_fault(&mut self, fault: TxFault)
-        ensures { self.new ≡ fault_counted fault self.old }
+        ensures { self.new ≡ with_fault fault self.old }
     {
         match fault {
             TxFault::Runt => count_one(&mut self.runt),
@@ -64,7 +64,7 @@ impl TxCounters {
 
     /// One more frame got this answer.
     pub fn count(&mut self, answer: &Result<Pn, TxFault>)
-        ensures { self.new ≡ tx_counted answer.now self.old }
+        ensures { self.new ≡ with_answer answer.now self.old }
     {
         match answer {
             Ok(_) => count_one(&mut self.protected),

@@ -28,12 +28,12 @@ impl Forgetful {
 impl SectorDisk for Forgetful {
     ghost use Rattle.std.specs.Prelude.{◌==◌, false};
     ghost use Rattle.std.proofs.Common.{rules};
-    ghost use Rattle.macs_disk.specs.States.{settled, zero_sector};
+    ghost use Rattle.macs_disk.specs.States.{settled_state, zero_sector};
     ghost use Rattle.macs_disk.specs.Evidence.{full-clock};
 
     ghost disk = { λ it. record {
       sectors = 3;
-      past = λ _. settled (λ _. zero_sector);
+      past = λ _. settled_state (λ _. zero_sector);
       clock = it.clock;
       failures = 0;
       honest = false;

@@ -2,7 +2,7 @@
 //! call in turn.
 
 ghost use Rattle.std.specs.Prelude.{◌≡◌, ◌<◌, ℕ, true, IsErr};
-ghost use Rattle.macs_disk.specs.States.{settled, zero_sector};
+ghost use Rattle.macs_disk.specs.States.{settled_state, zero_sector};
 ghost use Rattle.macs_disk.specs.Disk.{IsHonest, IsWork, now};
 ghost use Rattle.macs_disk.specs.Runs.{Leaves};
 ghost use Rattle.macs_disk.specs.Fused.{fuse_disk};
@@ -40,7 +40,7 @@ fn replace_second<D: SectorDisk>(disk: &mut D, octets: &[u8; 512]) -> Result<(),
     requires { 1 < (D.disk disk.old).sectors }
     ensures work { IsWork (D.disk disk.old) (D.disk disk.new) result }
     ensures worn { (D.disk disk.old).worn ≡ true → IsErr result }
-    ensures leaves { IsHonest (D.disk disk.new) → now (D.disk disk.old) ≡ settled (λ _. zero_sector)
+    ensures leaves { IsHonest (D.disk disk.new) → now (D.disk disk.old) ≡ settled_state (λ _. zero_sector)
         → Leaves (D.disk disk.old) (D.disk disk.new) (λ image. image 0 ≡ zero_sector) }
 {
     calls_are_counted::<(), DeviceFault>();
@@ -66,7 +66,7 @@ fn replace_in_memory<A: Allocator>(
     octets: &[u8; 512],
 ) -> Result<(), DeviceFault>
     requires { 1 < (fuse_disk disk_of disk.old).sectors }
-    ensures { now (fuse_disk disk_of disk.old) ≡ settled (λ _. zero_sector)
+    ensures { now (fuse_disk disk_of disk.old) ≡ settled_state (λ _. zero_sector)
         → Leaves (fuse_disk disk_of disk.old) (fuse_disk disk_of disk.new) (λ image. image 0 ≡ zero_sector) }
 {
     memory_is_honest::<A>();

@@ -1,6 +1,6 @@
 use Rattle.std.proofs.Common.{◌∙◌, ℕ, List, Option, None, Result, ap}
 use Rattle.macs_config.specs.Apply.{unless}
-use Rattle.macs_config.specs.Stored.{read}
+use Rattle.macs_config.specs.Value.{config_in}
 use Rattle.macs_config.specs.declared.refusal.Refusal.{Refusal}
 use Rattle.macs_config.proofs.check.check.Goals as goal
 
@@ -9,7 +9,7 @@ abbrev keyless : Option Refusal → Result (Option (List ℕ)) Refusal
 keyless refusal = unless refusal None
 
 pub returns-in-SetSciMode : goal.returns-in-SetSciMode
-returns-in-SetSciMode c = rw c.in-SetSciMode.is (c.without_key.ensures ∙ ap keyless (c.sci_mode_refusal.ensures (read c.args.contents.now)))
+returns-in-SetSciMode c = rw c.in-SetSciMode.is (c.without_key.ensures ∙ ap keyless (c.sci_mode_refusal.ensures (config_in c.args.contents.now)))
 
 pub returns-in-TxInstall : goal.returns-in-TxInstall
 returns-in-TxInstall c = rw c.in-TxInstall.is (c.check_tx_install.ensures c.args.identity.now)

@@ -1,6 +1,6 @@
 use Rattle.std.proofs.Common.{◌∙◌, is_some, ap, sym}
 use Rattle.macs_config.specs.Config.{Config}
-use Rattle.macs_rxsc.specs.View as rxsc
+use Rattle.macs_rxsc.specs.Value as rxsc
 use Rattle.macs_endpoint.proofs.Following.{with_rx}
 use Rattle.macs_endpoint.proofs.channels.install_rx.Goals as goal
 
@@ -11,5 +11,5 @@ unwrap-sa-requires g c =
 pub returns-clause-side : goal.returns-clause-side
 returns-clause-side g c =
     c.install.ensures.side
-    ∙ ap (with_rx (rxsc.side_of c.args.rx.now) c.args.sci c.args.an c.args.next)
+    ∙ ap (with_rx (rxsc.rx_side_of c.args.rx.now) c.args.sci c.args.an c.args.next)
     (sym c.unwrap-sa.ensures ∙ c.rx.ensures ∙ ap (λ (k : Config). k.rx c.args.sci c.args.an) c.config.ensures.config)

@@ -1,6 +1,6 @@
 use Rattle.std.proofs.Common.{◌∙◌, is_some, ap}
 use Rattle.macs_config.specs.Config.{Config}
-use Rattle.macs_txsc.specs.View as txsc
+use Rattle.macs_txsc.specs.Value as txsc
 use Rattle.macs_endpoint.proofs.Following.{tx_made, with_tx}
 use Rattle.macs_endpoint.proofs.channels.install_tx.Goals as goal
 
@@ -11,6 +11,6 @@ unwrap-sa-requires g c =
 pub returns-clause-side : goal.returns-clause-side
 returns-clause-side g c =
     c.install.ensures.side
-    ∙ ap (with_tx (txsc.side_of c.args.tx.now) c.args.an c.args.next)
+    ∙ ap (with_tx (txsc.tx_side_of c.args.tx.now) c.args.an c.args.next)
     (tx_made c.unwrap-sa.result c.is_confidential.result c.offset.result c.tx.result _ c.is_confidential.ensures c.offset.ensures c.unwrap-sa.ensures
     (c.tx.ensures ∙ ap (λ (k : Config). k.tx c.args.an) c.config.ensures.config))

@@ -1,6 +1,6 @@
 use Rattle.std.proofs.Common.{◌≡◌, ◌≤◌, ◌+◌, ℕ, List, None, subst, sym}
 use Rattle.macs_config.specs.Config.{Config}
-use Rattle.macs_rxsc.specs.View as rxsc
+use Rattle.macs_rxsc.specs.Value as rxsc
 use Rattle.macs_store.specs.Value.{standing_in}
 use Rattle.macs_endpoint.proofs.Opened.{IsRxFilled, number_is, rx-all, rx-all-ceilings, rx-one-more, rx-next-empty, rx-passed}
 use Rattle.macs_endpoint.proofs.opening.install_channel.Goals as goal
@@ -17,12 +17,12 @@ loop-number-preserved g c =
     let number = number_is c.new.result c.unwrap-an.result c.loop-number.number c.new.ensures.value c.unwrap-an.ensures in
     elim c.match-rx_ceiling.branch [
       | in-Some w ↦
-          subst (λ (rx : rxsc.Kept). IsRxFilled s c.args.sci c.args.rx.now rx (c.loop-number.number + 1)) (sym w.rx-is)
+          subst (λ (rx : rxsc.RxValue). IsRxFilled s c.args.sci c.args.rx.now rx (c.loop-number.number + 1)) (sym w.rx-is)
           (rx-one-more s c.facts-2.ensures c.args.sci c.args.rx.now c.loop-number.rx c.loop-number.number c.unwrap-an.result c.loop-number.invariant number
           w.in-Some.ceiling w.get.result w.install_rx.new.rx w.in-Some.ensures w.get.ensures.value w.install_rx.ensures.side
           w.install_rx.ensures.ceilings w.install_rx.ensures.counters w.install_rx.ensures.channel_counters)
       | in_default w ↦
-          subst (λ (rx : rxsc.Kept). IsRxFilled s c.args.sci c.args.rx.now rx (c.loop-number.number + 1)) (sym w.rx-is)
+          subst (λ (rx : rxsc.RxValue). IsRxFilled s c.args.sci c.args.rx.now rx (c.loop-number.number + 1)) (sym w.rx-is)
           (rx-passed s c.facts-2.ensures c.args.sci c.args.rx.now c.loop-number.rx c.loop-number.number c.unwrap-an.result c.loop-number.invariant number
           w.in_default.ensures)
     ]

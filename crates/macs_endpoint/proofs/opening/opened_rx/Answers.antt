@@ -1,6 +1,6 @@
 use Rattle.std.proofs.Common.{◌∙◌, ◌≤◌, List, ℕ, ap, length, subst}
 use Rattle.macs_config.specs.Config.{Config, IsConfig, this_edition}
-use Rattle.macs_config.specs.Stored.{config_of}
+use Rattle.macs_config.specs.Value.{config_of}
 use Rattle.macs_store.specs.Value.{standing_in}
 use Rattle.macs_endpoint.proofs.Opened.{add-free, added-empty, added-stands, is-next, nothing-opened, opened-ceilings, opened-more, opened-side}
 use Rattle.macs_endpoint.proofs.opening.opened_rx.Goals as goal

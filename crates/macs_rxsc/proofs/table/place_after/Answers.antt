@@ -1,7 +1,7 @@
 use Rattle.std.proofs.Common.{◌≡◌, ◌∙◌, [], get_or, sym, ap}
 use Rattle.macs_config.specs.Config.{comes_before}
 use Rattle.macs_rxsc.proofs.Places.{before_by, put_behind, put_here, sci_at, within_scis}
-use Rattle.macs_rxsc.specs.View.{scis_of}
+use Rattle.macs_rxsc.specs.Value.{scis_of}
 use Rattle.macs_rxsc.proofs.table.place_after.Goals as goal
 use Rattle.macs_rxsc.proofs.table.place_after.Goals.{After-lt}
 

@@ -1,6 +1,6 @@
 use Rattle.std.proofs.Common.{◌≡◌, ◌++◌, take, drop}
 use Rattle.macs_config.specs.Config.{put_among}
-use Rattle.macs_rxsc.specs.View.{scis_of}
+use Rattle.macs_rxsc.specs.Value.{scis_of}
 use Rattle.macs_rxsc.proofs.table.place_after.Given as goal
 
 abbrev pub invariant-loop-place : goal.invariant-loop-place

@@ -1,8 +1,8 @@
 use Rattle.std.proofs.Common.{◌∙◌, Err, ap}
 use Rattle.std.proofs.lemmas.Result.{err_from_is_err_and}
-use Rattle.macs_config.specs.Apply.{changed, refusal_of}
+use Rattle.macs_config.specs.Apply.{config_after, refusal_of}
 use Rattle.macs_config.specs.Config.{this_edition}
-use Rattle.macs_config.specs.Stored.{config_of}
+use Rattle.macs_config.specs.Value.{config_of}
 use Rattle.macs_config.proofs.Refused.{handed_on}
 use Rattle.macs_config.proofs.config.Config.apply.Goals as goal
 
@@ -11,5 +11,5 @@ returns-in_err-checked-clause-refused c =
     let old = c.args.self.now in
     let refusal = c.in_err-checked.field-0.0 in
     let risen = err_from_is_err_and c.from_residual.result c.from_residual.ensures.1 in
-    handed_on (refusal_of this_edition old.identity (config_of old) c.args.command.now) (changed (config_of old) c.args.command.now) c.from_residual.result refusal
+    handed_on (refusal_of this_edition old.identity (config_of old) c.args.command.now) (config_after (config_of old) c.args.command.now) c.from_residual.result refusal
     ((c.check.ensures.refused refusal).0 c.in_err-checked.was) (risen.1 ∙ ap Err risen.2)

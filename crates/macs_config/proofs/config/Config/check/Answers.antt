@@ -1,7 +1,7 @@
 use Rattle.std.proofs.Common.{◌≡◌, ◌∙◌, Option, ap}
 use Rattle.macs_config.specs.Apply.{fingerprint_of, refusal_of, unless}
 use Rattle.macs_config.specs.Config.{this_edition}
-use Rattle.macs_config.specs.Stored.{Stored, config_of}
+use Rattle.macs_config.specs.Value.{ConfigValue, config_of}
 use Rattle.macs_config.specs.declared.refusal.Refusal.{Refusal}
 use Rattle.macs_config.proofs.Refused.{answered_unless, refused_unless}
 use Rattle.macs_config.proofs.config.Config.check.Goals as goal
@@ -13,7 +13,7 @@ first c = refusal_of this_edition c.args.self.now.identity (config_of c.args.sel
 checked : (c : After-check) → c.check.result ≡ unless (first c) (fingerprint_of c.args.command.now)
 checked c =
     c.check.ensures
-    ∙ ap (λ (s : Stored). unless (refusal_of this_edition s.identity (config_of s) c.args.command.now) (fingerprint_of c.args.command.now)) c.self.view_is
+    ∙ ap (λ (s : ConfigValue). unless (refusal_of this_edition s.identity (config_of s) c.args.command.now) (fingerprint_of c.args.command.now)) c.self.view_is
 
 pub returns-clause-refused : goal.returns-clause-refused
 returns-clause-refused c =

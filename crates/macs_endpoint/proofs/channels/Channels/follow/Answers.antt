@@ -1,7 +1,7 @@
 use Rattle.std.proofs.Common.{◌≡◌, Ok, ap, subst, arith}
 use Rattle.macs_config.specs.declared.command.Command.{Command}
 use Rattle.macs_rxsc.specs.Receive.{RxSide}
-use Rattle.macs_rxsc.specs.View as rxsc
+use Rattle.macs_rxsc.specs.Value as rxsc
 use Rattle.macs_store.specs.Value.{standing_in}
 use Rattle.macs_store.specs.Standing.{accept}
 use Rattle.macs_endpoint.proofs.Following.{numbers-after, rx-installed, rx-ordered, rx-stands, tx-installed, tx-ordered, tx-stands}
@@ -50,5 +50,5 @@ returns-in-RxInstall-clause-channels g c =
 pub returns-in-SetValidate-clause-numbers : goal.returns-in-SetValidate-clause-numbers
 returns-in-SetValidate-clause-numbers g c =
     numbers-after c.requires.0 (standing_in c.args.store.now) c.args.self.now.tx c.args.self.now.rx c.requires.1 c.args.command.now c.requires.2
-    (rxsc.side_of c.set_policy.new.rx).numbers c.in-SetValidate.is (ap (λ (r : RxSide). r.numbers) c.set_policy.ensures.side)
+    (rxsc.rx_side_of c.set_policy.new.rx).numbers c.in-SetValidate.is (ap (λ (r : RxSide). r.numbers) c.set_policy.ensures.side)
     c.set_policy.ensures.same_window

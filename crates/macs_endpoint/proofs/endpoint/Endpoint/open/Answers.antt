@@ -9,17 +9,17 @@ use Rattle.macs_journal.specs.Areas.{least_sectors}
 use Rattle.macs_journal.specs.declared.fault.JournalFault.{JournalFault}
 use Rattle.macs_journal.specs.declared.fault.JournalFault.TheVariants.{Stopped, TooSmall, Disk, AlreadyFormatted, NotFormatted, BadJournal, AreaFull}
 use Rattle.macs_txsc.specs.Transmit.{InOrder}
-use Rattle.macs_txsc.specs.View as txsc
+use Rattle.macs_txsc.specs.Value as txsc
 use Rattle.macs_txsc.specs.declared.channel.Tx.{Tx}
-use Rattle.macs_rxsc.specs.Receive.{Numbers, started}
-use Rattle.macs_rxsc.specs.View as rxsc
-use Rattle.macs_store.specs.Found.{IsFound}
+use Rattle.macs_rxsc.specs.Receive.{Numbers, first_numbers}
+use Rattle.macs_rxsc.specs.Value as rxsc
+use Rattle.macs_store.specs.Found.{IsFoundStanding}
 use Rattle.macs_store.specs.Value.{standing_in}
 use Rattle.macs_store.specs.Standing.{Standing}
 use Rattle.macs_store.proofs.OneStanding.{one_standing}
 use Rattle.macs_endpoint.specs.Value.{EndpointValue, IsRxWithin, IsSoundEndpoint, IsTxWithin, is_stopped, state_of}
-use Rattle.macs_endpoint.specs.Restart.{Fits, opening}
-use Rattle.macs_endpoint.specs.State.{Logs, State, receiving, transmitting}
+use Rattle.macs_endpoint.specs.Restart.{Fits, opened_state}
+use Rattle.macs_endpoint.specs.State.{Logs, State, rx_side_with, tx_side_with}
 use Rattle.macs_endpoint.proofs.Fitting.{kept-backed}
 use Rattle.macs_endpoint.proofs.endpoint.Endpoint.open.Given.{Over}
 use Rattle.macs_endpoint.proofs.endpoint.Endpoint.open.Goals.{After-facts}
@@ -27,12 +27,12 @@ use Rattle.macs_endpoint.proofs.endpoint.Endpoint.open.Goals as goal
 
 -- ---- a disk that fits a state is refused for the device alone
 
-not_found : (sectors : ℕ) (image : Image) (fault : JournalFault) → IsFound this_edition sectors image (Err fault) → (s : State) × Fits this_edition sectors image s → ⊥
+not_found : (sectors : ℕ) (image : Image) (fault : JournalFault) → IsFoundStanding this_edition sectors image (Err fault) → (s : State) × Fits this_edition sectors image s → ⊥
 not_found sectors image fault is fits =
     let same : ◌≡◌ {A = Result Standing JournalFault} (Err fault) (Ok fits.1.found) =
     one_standing this_edition sectors image (Err fault) (Ok fits.1.found) is fits.1.is_found in cc
 
-by_device : (sectors : ℕ) (image : Image) (fault : JournalFault) → (fault ≢ Disk → IsFound this_edition sectors image (Err fault)) → (s : State) × Fits this_edition sectors image s
+by_device : (sectors : ℕ) (image : Image) (fault : JournalFault) → (fault ≢ Disk → IsFoundStanding this_edition sectors image (Err fault)) → (s : State) × Fits this_edition sectors image s
     → fault ≡ Disk
 by_device sectors image Disk found fits = refl
 by_device sectors image Stopped found fits = absurd (not_found sectors image Stopped (found (λ is. cc)) fits)
@@ -96,11 +96,11 @@ tx_begins block None (Some c) same ordered = absurd ordered
 tx_begins block (Some n) None same ordered = absurd ordered
 tx_begins block (Some n) (Some c) same ordered = let is : n ≡ c = cc in (ordered.1, omega (arith, is), ordered.2)
 
-rx_started : (block : ℕ) (ceiling : Option ℕ) → IsRxWithin block (option_map started ceiling) ceiling
+rx_started : (block : ℕ) (ceiling : Option ℕ) → IsRxWithin block (option_map first_numbers ceiling) ceiling
 rx_started block None = tt
 rx_started block (Some c) = (omega arith, omega arith)
 
-rx_begins : (block : ℕ) (numbers : Option Numbers) (ceiling : Option ℕ) → numbers ≡ option_map started ceiling → IsRxWithin block numbers ceiling
+rx_begins : (block : ℕ) (numbers : Option Numbers) (ceiling : Option ℕ) → numbers ≡ option_map first_numbers ceiling → IsRxWithin block numbers ceiling
 rx_begins block numbers ceiling same =
     subst (λ (n : Option Numbers). IsRxWithin block n ceiling) (sym same) (rx_started block ceiling)
 
@@ -111,13 +111,13 @@ module _ (g : Over) (c : After-facts g) where
   abbrev tx : Tx
   tx = c.opened-channels.result.tx
 
-  abbrev rx : rxsc.Kept
+  abbrev rx : rxsc.RxValue
   rx = c.opened-channels.result.rx
 
-  next : (txsc.side_of tx).next ≡ s.ceilings.tx
+  next : (txsc.tx_side_of tx).next ≡ s.ceilings.tx
   next = ap (λ side. side.next) c.opened-channels.ensures.tx
 
-  numbers : (rxsc.side_of rx).numbers ≡ (λ sci an. option_map started (s.ceilings.rx sci an))
+  numbers : (rxsc.rx_side_of rx).numbers ≡ (λ sci an. option_map first_numbers (s.ceilings.rx sci an))
   numbers = ap (λ side. side.numbers) c.opened-channels.ensures.rx
 
   kept : IsSoundEndpoint {D = g.row.D.Denot} (record { store = c.in_ok-store.store; tx = tx; rx = rx; in_hand = None })
@@ -126,16 +126,16 @@ module _ (g : Over) (c : After-facts g) where
       record {
         identity = subst IsIdentity c.identity.ensures c.identity_in_range.ensures;
         channels = record {
-          tx_is = opened.tx ∙ ap (λ (n : ℕ → Option ℕ). transmitting s.identity s.config n) (sym next);
-          rx_is = opened.rx ∙ ap (λ (n : List ℕ → ℕ → Option Numbers). receiving s.config n) (sym numbers);
+          tx_is = opened.tx ∙ ap (λ (n : ℕ → Option ℕ). tx_side_with s.identity s.config n) (sym next);
+          rx_is = opened.rx ∙ ap (λ (n : List ℕ → ℕ → Option Numbers). rx_side_with s.config n) (sym numbers);
           tx_ceilings = opened.tx_ceilings;
           rx_ceilings = opened.rx_ceilings;
         };
         within = record {
-          tx_within = λ an. tx_begins s.identity.tx_block ((txsc.side_of tx).next an) (txsc.ceilings_of tx an)
+          tx_within = λ an. tx_begins s.identity.tx_block ((txsc.tx_side_of tx).next an) (txsc.ceilings_of tx an)
               (λ i. (next ∙ sym opened.tx_ceilings) i an) (c.facts.ensures an).0;
-          rx_within = λ sci an. rx_begins s.identity.rx_block ((rxsc.side_of rx).numbers sci an) (rxsc.ceilings_of rx sci an)
-              ((λ i. numbers i sci an) ∙ (λ i. option_map started (sym opened.rx_ceilings i sci an)));
+          rx_within = λ sci an. rx_begins s.identity.rx_block ((rxsc.rx_side_of rx).numbers sci an) (rxsc.ceilings_of rx sci an)
+              ((λ i. numbers i sci an) ∙ (λ i. option_map first_numbers (sym opened.rx_ceilings i sci an)));
         };
         idle = λ running. refl;
       }
@@ -143,9 +143,9 @@ module _ (g : Over) (c : After-facts g) where
 pub invariant_of-result : goal.invariant_of-result
 invariant_of-result g c = kept g (goal.at.invariant_of-result g c).After-facts
 
-begins : {D : Type 0} (e : EndpointValue D) (logs : Logs) → (txsc.side_of e.tx).next ≡ (standing_in e.store).ceilings.tx
-    → (rxsc.side_of e.rx).numbers ≡ (λ sci an. option_map started ((standing_in e.store).ceilings.rx sci an))
-    → is_stopped e ≡ false → e.in_hand ≡ None → state_of e logs ≡ opening (standing_in e.store) logs
+begins : {D : Type 0} (e : EndpointValue D) (logs : Logs) → (txsc.tx_side_of e.tx).next ≡ (standing_in e.store).ceilings.tx
+    → (rxsc.rx_side_of e.rx).numbers ≡ (λ sci an. option_map first_numbers ((standing_in e.store).ceilings.rx sci an))
+    → is_stopped e ≡ false → e.in_hand ≡ None → state_of e logs ≡ opened_state (standing_in e.store) logs
 begins e logs next numbers running idle = λ i. record {
   edition = this_edition;
   identity = (standing_in e.store).identity;

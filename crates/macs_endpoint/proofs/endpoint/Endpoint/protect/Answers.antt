@@ -1,5 +1,5 @@
 use Rattle.std.proofs.Common.{◌≡◌, false, sym, ◌∙◌, ap, subst}
-use Rattle.macs_txsc.specs.View as txsc
+use Rattle.macs_txsc.specs.Value as txsc
 use Rattle.macs_endpoint.specs.Calls.{IsCall}
 use Rattle.macs_endpoint.specs.Value.{EndpointValue, is_stopped}
 use Rattle.macs_endpoint.specs.State.{Protects, Protected}
@@ -17,7 +17,7 @@ module _ (g : Over) (c : After-protect g) where
   abbrev old : EndpointValue g.row.D.Denot
   old = record { store = c.self.inside.store; tx = c.self.inside.channels.tx; rx = c.self.inside.channels.rx; in_hand = c.self.inside.in_hand }
 
-  sends : Sends (txsc.side_of old.tx) (txsc.side_of c.protect.new.self) (txsc.ceilings_of old.tx) c.args.plain.now c.protect.result
+  sends : Sends (txsc.tx_side_of old.tx) (txsc.tx_side_of c.protect.new.self) (txsc.ceilings_of old.tx) c.args.plain.now c.protect.result
       c.protect.new.out.items
   sends = record {
     fault = c.protect.ensures.fault;

@@ -4,11 +4,11 @@ use Rattle.std.proofs.lemmas.Result.{err_from_is_err_and}
 use Rattle.macs_config.specs.Tables.{put}
 use Rattle.macs_journal.specs.declared.fault.JournalFault.{JournalFault}
 use Rattle.macs_txsc.specs.Transmit.{need_of}
-use Rattle.macs_txsc.specs.View as txsc
-use Rattle.macs_rxsc.specs.View as rxsc
+use Rattle.macs_txsc.specs.Value as txsc
+use Rattle.macs_rxsc.specs.Value as rxsc
 use Rattle.macs_store.specs.Keeps.{Keeps}
 use Rattle.macs_store.specs.Value.{standing_in}
-use Rattle.macs_store.specs.Standing.{Ceilings, Standing, ahead, tx_raised}
+use Rattle.macs_store.specs.Standing.{Ceilings, Standing, ahead, with_tx_raised}
 use Rattle.macs_endpoint.specs.Value.{EndpointValue, is_stopped}
 use Rattle.macs_endpoint.proofs.Fitting.{AreAhead, kept-ahead}
 use Rattle.macs_endpoint.proofs.Raising.{IsTxNeed, faulted, raised-kept, raised-reserves, tx-below, tx-ceiling, tx-need, tx-not_below, tx-raised, tx-raised-ahead, tx-value}
@@ -31,18 +31,18 @@ module _ (g : Over) (c : In-Some g) where
   running : is_stopped old ≡ false
   running = rw (← c.self.view_is) at c.requires.running
 
-  need : IsTxNeed (txsc.side_of old.tx) s.ceilings.tx s.identity.tx_block c.in-Some.an
+  need : IsTxNeed (txsc.tx_side_of old.tx) s.ceilings.tx s.identity.tx_block c.in-Some.an
   need =
       let block = c.tx_block.ensures.value ∙ ap (λ i. i.tx_block) c.identity.ensures in
-      tx-need (txsc.side_of old.tx) s.ceilings.tx s.identity.tx_block c.in-Some.an
-      (sym (λ i. need_of (txsc.side_of old.tx) (c.self.invariant.channels.tx_ceilings i) (block i)) ∙ sym c.needs.ensures ∙ c.in-Some.is)
+      tx-need (txsc.tx_side_of old.tx) s.ceilings.tx s.identity.tx_block c.in-Some.an
+      (sym (λ i. need_of (txsc.tx_side_of old.tx) (c.self.invariant.channels.tx_ceilings i) (block i)) ∙ sym c.needs.ensures ∙ c.in-Some.is)
 
   abbrev further : Ceilings
-  further = (tx_raised s c.in-Some.an).ceilings
+  further = (with_tx_raised s c.in-Some.an).ceilings
 
-  are : AreAhead s.identity (txsc.side_of old.tx).next (rxsc.side_of old.rx).numbers further
+  are : AreAhead s.identity (txsc.tx_side_of old.tx).next (rxsc.rx_side_of old.rx).numbers further
   are =
-      tx-raised-ahead s.identity (txsc.side_of old.tx) (rxsc.side_of old.rx).numbers s.ceilings c.in-Some.an need
+      tx-raised-ahead s.identity (txsc.tx_side_of old.tx) (rxsc.rx_side_of old.rx).numbers s.ceilings c.in-Some.an need
       (kept-ahead {D = g.row.D.Denot} old c.self.invariant)
 
 pub reserve_tx-requires-clause-raised : goal.reserve_tx-requires-clause-raised
@@ -53,10 +53,10 @@ reserve_tx-requires-clause-stands g c = tx-ceiling _ _ _ _ (need g (goal.at.rese
 
 -- what the store says of it
 raises : (g : Over) (c : After-reserve_tx g) (result : Result (Unit {0}) JournalFault) → c.reserve_tx.result ≡ result
-    → Keeps g.D.SectorDisk.disk c.self.inside.store (tx_raised (standing_in c.self.inside.store) c.in-Some.an) result c.reserve_tx.new.self
+    → Keeps g.D.SectorDisk.disk c.self.inside.store (with_tx_raised (standing_in c.self.inside.store) c.in-Some.an) result c.reserve_tx.new.self
 raises g c result is =
     subst (λ (r : Result (Unit {0}) JournalFault). Keeps g.D.SectorDisk.disk c.self.inside.store
-    (tx_raised (standing_in c.self.inside.store) c.in-Some.an) r c.reserve_tx.new.self) is c.reserve_tx.ensures
+    (with_tx_raised (standing_in c.self.inside.store) c.in-Some.an) r c.reserve_tx.new.self) is c.reserve_tx.ensures
 
 pub returns-in_err-reserve_tx-clause-reserves : goal.returns-in_err-reserve_tx-clause-reserves
 returns-in_err-reserve_tx-clause-reserves g c =
@@ -68,11 +68,11 @@ returns-in_err-reserve_tx-clause-reserves g c =
 
 -- the ceiling that the store has now
 value : (g : Over) (c : After-tx_ceiling g) → c.reserve_tx.result ≡ Ok tt
-    → c.tx_ceiling.result ≡ (tx_raised (standing_in c.self.inside.store) c.in-Some.an).ceilings.tx c.in-Some.an
+    → c.tx_ceiling.result ≡ (with_tx_raised (standing_in c.self.inside.store) c.in-Some.an).ceilings.tx c.in-Some.an
 value g c done = c.tx_ceiling.ensures ∙ (λ i. ((rw done at c.reserve_tx.ensures.done) i).ceilings.tx c.in-Some.an)
 
 -- as a number
-raised_value : (g : Over) (c : In-Some g) → (tx_raised (s g c) c.in-Some.an).ceilings.tx c.in-Some.an ≡ Some (ahead (need g c).top (s g c).identity.tx_block)
+raised_value : (g : Over) (c : In-Some g) → (with_tx_raised (s g c) c.in-Some.an).ceilings.tx c.in-Some.an ≡ Some (ahead (need g c).top (s g c).identity.tx_block)
 raised_value g c = tx-value (s g c).ceilings.tx c.in-Some.an _ ∙ tx-raised _ _ _ _ (need g c)
 
 pub unwrap-ceiling-requires : goal.unwrap-ceiling-requires

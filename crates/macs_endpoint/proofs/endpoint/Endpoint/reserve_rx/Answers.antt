@@ -3,12 +3,12 @@ use Rattle.std.specs.Option.{IfSome, is_some}
 use Rattle.std.proofs.lemmas.Result.{err_from_is_err_and}
 use Rattle.macs_config.specs.Tables.{put, put_at}
 use Rattle.macs_journal.specs.declared.fault.JournalFault.{JournalFault}
-use Rattle.macs_txsc.specs.View as txsc
+use Rattle.macs_txsc.specs.Value as txsc
 use Rattle.macs_rxsc.specs.Needs.{Need, need_of}
-use Rattle.macs_rxsc.specs.View as rxsc
+use Rattle.macs_rxsc.specs.Value as rxsc
 use Rattle.macs_store.specs.Keeps.{Keeps}
 use Rattle.macs_store.specs.Value.{standing_in}
-use Rattle.macs_store.specs.Standing.{Ceilings, Standing, ahead, rx_raised}
+use Rattle.macs_store.specs.Standing.{Ceilings, Standing, ahead, with_rx_raised}
 use Rattle.macs_endpoint.specs.Value.{EndpointValue, is_stopped}
 use Rattle.macs_endpoint.proofs.Fitting.{AreAhead, kept-ahead}
 use Rattle.macs_endpoint.proofs.Raising.{faulted, first-place, need-ceiling, need-higher, need-not_below, need-stands, raised-kept, raised-reserves, rx-raised-ahead, rx-value}
@@ -34,17 +34,17 @@ module _ (g : Over) (c : After-facts g) where
   running : is_stopped old ≡ false
   running = rw (← c.self.view_is) at c.requires.running
 
-  is : need_of s.identity.rx_block need.sci need.an ((rxsc.side_of old.rx).numbers need.sci need.an) (s.ceilings.rx need.sci need.an) ≡ Some need
+  is : need_of s.identity.rx_block need.sci need.an ((rxsc.rx_side_of old.rx).numbers need.sci need.an) (s.ceilings.rx need.sci need.an) ≡ Some need
   is =
-      first-place (rxsc.side_of old.rx).numbers s.ceilings.rx s.identity.rx_block s.config.channels need
+      first-place (rxsc.rx_side_of old.rx).numbers s.ceilings.rx s.identity.rx_block s.config.channels need
       (rw (← c.self.view_is) at c.requires.needed)
 
   abbrev further : Ceilings
-  further = (rx_raised s need.sci need.an need.pn).ceilings
+  further = (with_rx_raised s need.sci need.an need.pn).ceilings
 
-  are : AreAhead s.identity (txsc.side_of old.tx).next (rxsc.side_of old.rx).numbers further
+  are : AreAhead s.identity (txsc.tx_side_of old.tx).next (rxsc.rx_side_of old.rx).numbers further
   are =
-      rx-raised-ahead s.identity (txsc.side_of old.tx).next (rxsc.side_of old.rx).numbers s.ceilings need is
+      rx-raised-ahead s.identity (txsc.tx_side_of old.tx).next (rxsc.rx_side_of old.rx).numbers s.ceilings need is
       (kept-ahead {D = g.row.D.Denot} old c.self.invariant)
 
 pub reserve_rx-requires-clause-raised : goal.reserve_rx-requires-clause-raised
@@ -59,11 +59,11 @@ reserve_rx-requires-clause-stands g c =
 
 -- what the store says of it
 raises : (g : Over) (c : After-reserve_rx g) (result : Result (Unit {0}) JournalFault) → c.reserve_rx.result ≡ result
-    → Keeps g.D.SectorDisk.disk c.self.inside.store (rx_raised (standing_in c.self.inside.store) c.args.need.sci c.args.need.an c.args.need.pn) result
+    → Keeps g.D.SectorDisk.disk c.self.inside.store (with_rx_raised (standing_in c.self.inside.store) c.args.need.sci c.args.need.an c.args.need.pn) result
     c.reserve_rx.new.self
 raises g c result is =
     subst (λ (r : Result (Unit {0}) JournalFault). Keeps g.D.SectorDisk.disk c.self.inside.store
-    (rx_raised (standing_in c.self.inside.store) c.args.need.sci c.args.need.an c.args.need.pn) r c.reserve_rx.new.self) is c.reserve_rx.ensures
+    (with_rx_raised (standing_in c.self.inside.store) c.args.need.sci c.args.need.an c.args.need.pn) r c.reserve_rx.new.self) is c.reserve_rx.ensures
 
 pub returns-in_err-reserve_rx-clause-reserves : goal.returns-in_err-reserve_rx-clause-reserves
 returns-in_err-reserve_rx-clause-reserves g c =

@@ -1,6 +1,6 @@
 use Rattle.std.proofs.Common.{ℕ, List, Option, sym, ◌∙◌, ap, subst}
 use Rattle.macs_rxsc.specs.Receive.{AreOrdered}
-use Rattle.macs_rxsc.specs.View as rxsc
+use Rattle.macs_rxsc.specs.Value as rxsc
 use Rattle.macs_store.specs.Value.{standing_in}
 use Rattle.macs_endpoint.proofs.Raising.{no-needs, none-told}
 use Rattle.macs_endpoint.proofs.endpoint.Endpoint.rx_need.Goals as goal
@@ -8,7 +8,7 @@ use Rattle.macs_endpoint.proofs.endpoint.Endpoint.rx_need.Goals as goal
 pub returns-clause-none : goal.returns-clause-none
 returns-clause-none g c =
     let s = standing_in c.self.inside.store in
-    let side = rxsc.side_of c.self.inside.channels.rx in
+    let side = rxsc.rx_side_of c.self.inside.channels.rx in
     let channels = c.self.invariant.channels in
     let block = c.rx_block.ensures.value ∙ ap (λ i. i.rx_block) c.identity.ensures in
     rw (← c.self.view_is) (λ none.

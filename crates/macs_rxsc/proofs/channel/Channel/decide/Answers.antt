@@ -6,7 +6,7 @@ use Rattle.macs_frame.specs.declared.tag.SecTag.{SecTag}
 use Rattle.macs_rxsc.proofs.Shown.{decided_same, decided_some, read_at}
 use Rattle.macs_rxsc.proofs.Steps.{first_no_association, settles_bare}
 use Rattle.macs_rxsc.specs.Receive.{NoAssociation}
-use Rattle.macs_rxsc.specs.View.{numbers_of, sa_of}
+use Rattle.macs_rxsc.specs.Value.{packet_numbers, sa_of}
 use Rattle.macs_rxsc.specs.declared.association.Association.{Association}
 use Rattle.macs_rxsc.specs.declared.verdict.Kind.TheVariants.{UnusedSa}
 use Rattle.macs_rxsc.specs.declared.verdict.Reason.TheVariants.{NotUsingSa}
@@ -22,7 +22,7 @@ returns-in-Some-clause-verdict c = λ side ceilings v r ch rx nu ce.
     decided_some side ceilings c.args.frame.now c.args.self.now c.get.result (tag_of c.args.frame.now).an _ _ _ an within nu
     (c.receive.ensures.verdict side ceilings v r ch
     (ap (λ f. f (tag_of c.args.frame.now).an) rx ∙ ap (option_map sa_of) there)
-    (ap (λ f. f (tag_of c.args.frame.now).an) nu ∙ ap (option_map numbers_of) there)
+    (ap (λ f. f (tag_of c.args.frame.now).an) nu ∙ ap (option_map packet_numbers) there)
     (ap (λ f. f (tag_of c.args.frame.now).an) ce ∙ ap (option_map (λ (a : Association). a.ceiling)) there))
 
 pub returns-in-None-clause-verdict : goal.returns-in-None-clause-verdict

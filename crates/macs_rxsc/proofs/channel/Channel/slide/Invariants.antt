@@ -1,8 +1,8 @@
 use Rattle.std.proofs.Common.{◌≡◌, ◌++◌, map, take, drop}
 use Rattle.std.specs.Option.{option_map}
-use Rattle.macs_rxsc.specs.View.{slid}
+use Rattle.macs_rxsc.specs.Value.{association_under}
 use Rattle.macs_rxsc.proofs.channel.Channel.slide.Given as goal
 
 abbrev pub invariant-loop-association : goal.invariant-loop-association
 invariant-loop-association l =
-    l.association-items ≡ map (option_map (slid l.window)) (take l.association-index l.fn.self.associations) ++ drop l.association-index l.fn.self.associations
+    l.association-items ≡ map (option_map (association_under l.window)) (take l.association-index l.fn.self.associations) ++ drop l.association-index l.fn.self.associations

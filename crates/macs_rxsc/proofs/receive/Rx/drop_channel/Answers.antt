@@ -1,13 +1,13 @@
 use Rattle.std.proofs.Common.{filter, not, bytes_eq}
 use Rattle.macs_rxsc.proofs.Shown.{kept_as}
-use Rattle.macs_rxsc.specs.View.{ceilings_among, shown}
+use Rattle.macs_rxsc.specs.Value.{ceilings_among, rx_side_in}
 use Rattle.macs_config.proofs.Channels.{ascending-filter}
 use Rattle.macs_rxsc.proofs.Order.{ordered-gone}
 use Rattle.macs_rxsc.proofs.receive.Rx.drop_channel.Goals as goal
 
 pub invariant_of-self : goal.invariant_of-self
 invariant_of-self c =
-    let side = shown c.self.inside.validate c.self.inside.replay c.self.inside.table.channels.items in
+    let side = rx_side_in c.self.inside.validate c.self.inside.replay c.self.inside.table.channels.items in
     kept_as c.self.inside.validate c.self.inside.replay _ c.self.inside.counters _ _
     (c.drop_channel.ensures.side c.self.inside.validate c.self.inside.replay) c.drop_channel.ensures.ceilings
     (ascending-filter _ side.channels c.self.invariant.ascending)

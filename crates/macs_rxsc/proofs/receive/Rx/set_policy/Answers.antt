@@ -1,17 +1,17 @@
 use Rattle.std.proofs.Common.{◌∙◌, ap}
 use Rattle.macs_rxsc.proofs.Shown.{kept_as, ceilings-slid, shown-slid}
-use Rattle.macs_rxsc.specs.View.{ceilings_among, shown}
+use Rattle.macs_rxsc.specs.Value.{ceilings_among, rx_side_in}
 use Rattle.macs_rxsc.proofs.Order.{ordered-windowed}
 use Rattle.macs_rxsc.proofs.Shown.{counters-slid}
-use Rattle.macs_rxsc.specs.View.{counters_among}
+use Rattle.macs_rxsc.specs.Value.{counters_among}
 use Rattle.macs_rxsc.proofs.receive.Rx.set_policy.Goals as goal
 
 pub invariant_of-self : goal.invariant_of-self
 invariant_of-self c =
     let items = c.self.inside.table.channels.items in
-    let side = shown c.self.inside.validate c.self.inside.replay items in
+    let side = rx_side_in c.self.inside.validate c.self.inside.replay items in
     kept_as c.args.validate (record { on = c.args.on; window = c.args.window }) _ c.self.inside.counters _ _
-    (ap (shown c.args.validate (record { on = c.args.on; window = c.args.window })) c.slide.ensures
+    (ap (rx_side_in c.args.validate (record { on = c.args.on; window = c.args.window })) c.slide.ensures
     ∙ shown-slid items c.args.window c.args.validate (record { on = c.args.on; window = c.args.window }) c.self.inside.validate c.self.inside.replay)
     (ap ceilings_among c.slide.ensures ∙ ceilings-slid items c.args.window)
     c.self.invariant.ascending
@@ -20,7 +20,7 @@ invariant_of-self c =
 pub returns-clause-side : goal.returns-clause-side
 returns-clause-side c =
     rw (← c.self.view_is)
-    (ap (shown c.args.validate (record { on = c.args.on; window = c.args.window })) c.slide.ensures
+    (ap (rx_side_in c.args.validate (record { on = c.args.on; window = c.args.window })) c.slide.ensures
     ∙ shown-slid c.self.inside.table.channels.items c.args.window c.args.validate (record { on = c.args.on; window = c.args.window }) c.self.inside.validate c.self.inside.replay)
 
 pub returns-clause-ceilings : goal.returns-clause-ceilings

@@ -1,6 +1,6 @@
 use Rattle.std.proofs.Common.{◌≡◌, ◌∙◌, ◌++◌, ◌∷◌, List, take, drop, ap, subst}
 use Rattle.macs_config.specs.Config.{put_among}
-use Rattle.macs_rxsc.specs.View.{scis_of, shown, ceilings_among, counters_among}
+use Rattle.macs_rxsc.specs.Value.{scis_of, rx_side_in, ceilings_among, counters_among}
 use Rattle.macs_rxsc.specs.declared.channel.Channel.{Channel}
 use Rattle.std.specs.List.{insert}
 use Rattle.macs_rxsc.proofs.Shown.{ceilings-added, counters-added, fresh, shown-added}
@@ -14,7 +14,7 @@ pub returns-clause-side : goal.returns-clause-side
 returns-clause-side c = λ validate replay.
     let between = subst (λ (xs : List Channel). put_among c.args.sci (scis_of xs) ≡ take c.place_after-place.result (scis_of xs) ++ c.args.sci ∷ drop c.place_after-place.result (scis_of xs))
     c.as_slice.ensures.value c.place_after-place.ensures.between in
-    ap (shown validate replay) (after (goal.at.returns-clause-side c).After-insert)
+    ap (rx_side_in validate replay) (after (goal.at.returns-clause-side c).After-insert)
     ∙ shown-added c.args.self.now.channels.items c.place_after-place.result c.args.sci c.requires.free validate replay between
 
 pub returns-clause-ceilings : goal.returns-clause-ceilings

@@ -1,5 +1,5 @@
 use Rattle.std.proofs.Common.{◌≡◌, ◌∙◌, ap}
-use Rattle.macs_rxsc.specs.View.{shown, ceilings_among, counters_among}
+use Rattle.macs_rxsc.specs.Value.{rx_side_in, ceilings_among, counters_among}
 use Rattle.std.proofs.Common.{rules, filter}
 use Rattle.arrayvec.proofs.ArrayVecLemmas.{filter-from_retain}
 use Rattle.macs_rxsc.proofs.Places.{is_other}
@@ -12,7 +12,7 @@ kept c = filter-from_retain _ _ _ (λ x b f' y called. search rules) _ _ c.retai
 
 pub returns-clause-side : goal.returns-clause-side
 returns-clause-side c = λ validate replay.
-    ap (shown validate replay) (kept (goal.at.returns-clause-side c).After-retain) ∙ shown-gone c.args.self.now.channels.items c.args.sci validate replay
+    ap (rx_side_in validate replay) (kept (goal.at.returns-clause-side c).After-retain) ∙ shown-gone c.args.self.now.channels.items c.args.sci validate replay
 
 pub returns-clause-ceilings : goal.returns-clause-ceilings
 returns-clause-ceilings c = ap ceilings_among (kept (goal.at.returns-clause-ceilings c).After-retain) ∙ ceilings-gone c.args.self.now.channels.items c.args.sci

@@ -2,7 +2,7 @@ use Rattle.std.proofs.Common.{◌≡◌, ◌∙◌, Option, get_or, ap, sym}
 use Rattle.std.specs.Option.{option_map}
 use Rattle.macs_config.specs.Tables.{put}
 use Rattle.macs_rxsc.proofs.Places.{IsPlace}
-use Rattle.macs_rxsc.specs.View.{ceilings_in, numbers_in, numbers_of, sa_of, sas_in, shown, ceilings_among, counters_among}
+use Rattle.macs_rxsc.specs.Value.{ceilings_in, numbers_in, packet_numbers, sa_of, sas_in, rx_side_in, ceilings_among, counters_among}
 use Rattle.macs_rxsc.specs.declared.association.Association.{Association}
 use Rattle.macs_rxsc.specs.declared.channel.Channel.{Channel}
 use Rattle.macs_rxsc.proofs.Shown.{at_old, ceilings-changed, counters-kept, found_none, found_place, lent, lent_old, shown-changed}
@@ -22,10 +22,10 @@ was c = lent_old c.args.self.now.channels.items c.deref_mut.result.now c.in-Some
 pub returns-in-Some-clause-side : goal.returns-in-Some-clause-side
 returns-in-Some-clause-side c =
     let p = (goal.at.returns-in-Some-clause-side c).After-put in
-    λ validate replay. ap (shown validate replay) (lent c.args.self.now.channels.items c.deref_mut.result.now c.in-Some.place c.put.new.self c.deref_mut.ensures.value)
+    λ validate replay. ap (rx_side_in validate replay) (lent c.args.self.now.channels.items c.deref_mut.result.now c.in-Some.place c.put.new.self c.deref_mut.ensures.value)
     ∙ shown-changed c.args.self.now.channels.items c.in-Some.place (old p) c.put.new.self c.args.sci (stands p) (was p) c.put.ensures.sci validate replay _ _
     (c.put.ensures.sas ∙ ap (λ (o : Option Channel). put (sas_in o) c.args.an (option_map sa_of c.args.association)) (sym (at_old c.args.self.now.channels.items c.in-Some.place (old p) c.put.new.self c.args.sci (stands p) (was p) c.put.ensures.sci)))
-    (c.put.ensures.numbers ∙ ap (λ (o : Option Channel). put (numbers_in o) c.args.an (option_map numbers_of c.args.association)) (sym (at_old c.args.self.now.channels.items c.in-Some.place (old p) c.put.new.self c.args.sci (stands p) (was p) c.put.ensures.sci)))
+    (c.put.ensures.numbers ∙ ap (λ (o : Option Channel). put (numbers_in o) c.args.an (option_map packet_numbers c.args.association)) (sym (at_old c.args.self.now.channels.items c.in-Some.place (old p) c.put.new.self c.args.sci (stands p) (was p) c.put.ensures.sci)))
 
 pub returns-in-Some-clause-ceilings : goal.returns-in-Some-clause-ceilings
 returns-in-Some-clause-ceilings c =

@@ -1,7 +1,7 @@
 use Rattle.std.proofs.Common.{◌≡◌, ◌∙◌, Option, Some, IsSome, get_or, ap, sym, subst}
 use Rattle.macs_config.specs.Tables.{put}
 use Rattle.macs_rxsc.proofs.Places.{IsPlace}
-use Rattle.macs_rxsc.specs.View.{ceilings_in, shown, ceilings_among, counters_among}
+use Rattle.macs_rxsc.specs.Value.{ceilings_in, rx_side_in, ceilings_among, counters_among}
 use Rattle.macs_rxsc.specs.declared.channel.Channel.{Channel}
 use Rattle.macs_rxsc.proofs.Shown.{at_old, ceilings-changed, counters-kept, found_none, found_place, lent, lent_old, shown-kept}
 use Rattle.macs_rxsc.proofs.table.Table.raise.Goals as goal
@@ -20,7 +20,7 @@ was c = lent_old c.args.self.now.channels.items c.deref_mut.result.now c.in-Some
 pub returns-in-Some-clause-side : goal.returns-in-Some-clause-side
 returns-in-Some-clause-side c =
     let p = (goal.at.returns-in-Some-clause-side c).After-raise in
-    λ validate replay. ap (shown validate replay) (lent c.args.self.now.channels.items c.deref_mut.result.now c.in-Some.place c.raise.new.self c.deref_mut.ensures.value) ∙ shown-kept c.args.self.now.channels.items c.in-Some.place (old p) c.raise.new.self c.args.sci (stands p) (was p) c.raise.ensures.sci validate replay c.raise.ensures.sas c.raise.ensures.numbers
+    λ validate replay. ap (rx_side_in validate replay) (lent c.args.self.now.channels.items c.deref_mut.result.now c.in-Some.place c.raise.new.self c.deref_mut.ensures.value) ∙ shown-kept c.args.self.now.channels.items c.in-Some.place (old p) c.raise.new.self c.args.sci (stands p) (was p) c.raise.ensures.sci validate replay c.raise.ensures.sas c.raise.ensures.numbers
 
 pub returns-in-Some-clause-ceilings : goal.returns-in-Some-clause-ceilings
 returns-in-Some-clause-ceilings c =

@@ -2,8 +2,8 @@ use Rattle.std.proofs.Common.{◌∙◌, refl, ap, sym}
 use Rattle.macs_rxsc.proofs.Shown.{tag_uncounted, uncounted}
 use Rattle.macs_rxsc.proofs.Steps.{first_fault, settles}
 use Rattle.macs_rxsc.specs.Receive.{Tag as TagStep, channel_of, given_at}
-use Rattle.macs_rxsc.specs.Counting.{channel_counted}
-use Rattle.macs_rxsc.specs.View.{ceilings_among, counters_among, shown}
+use Rattle.macs_rxsc.specs.Counting.{with_channel_verdict}
+use Rattle.macs_rxsc.specs.Value.{ceilings_among, counters_among, rx_side_in}
 use Rattle.macs_rxsc.specs.declared.counters.ChannelCounters.{ChannelCounters}
 use Rattle.macs_rxsc.specs.declared.verdict.Verdict.{Verdict}
 use Rattle.macs_rxsc.proofs.table.Table.receive.Goals as goal
@@ -16,7 +16,7 @@ refuse-requires-clause-fault c = (c.read_tag.ensures.fault c.in-Err.fault).0 c.i
 
 pub returns-in-Err-clause-verdict : goal.returns-in-Err-clause-verdict
 returns-in-Err-clause-verdict c =
-    let side = shown c.args.validate c.args.replay c.args.self.now.channels.items in
+    let side = rx_side_in c.args.validate c.args.replay c.args.self.now.channels.items in
     let verdict = c.refuse.ensures.verdict side refl in
     settles side (ceilings_among c.args.self.now.channels.items) c.args.frame.now (TagStep c.in-Err.fault)
     (first_fault side c.args.frame.now c.in-Err.fault ((c.read_tag.ensures.fault c.in-Err.fault).0 c.in-Err.is))
@@ -24,7 +24,7 @@ returns-in-Err-clause-verdict c =
 
 pub returns-in-Err-clause-counters : goal.returns-in-Err-clause-counters
 returns-in-Err-clause-counters c =
-    let side = shown c.args.validate c.args.replay c.args.self.now.channels.items in
+    let side = rx_side_in c.args.validate c.args.replay c.args.self.now.channels.items in
     let verdict = c.refuse.ensures.verdict side refl in
     sym (uncounted (channel_of side c.args.frame.now) c.refuse.result (counters_among c.args.self.now.channels.items)
-    (λ (k : ChannelCounters). ap (λ (v : Verdict). channel_counted v k) verdict ∙ tag_uncounted side c.args.frame.now c.in-Err.fault c.args.validate refl k))
+    (λ (k : ChannelCounters). ap (λ (v : Verdict). with_channel_verdict v k) verdict ∙ tag_uncounted side c.args.frame.now c.in-Err.fault c.args.validate refl k))

@@ -1,5 +1,5 @@
 use Rattle.std.proofs.Common.{IsOk, subst, sym}
-use Rattle.macs_config.specs.Stored.{config_of}
+use Rattle.macs_config.specs.Value.{config_of}
 use Rattle.macs_store.specs.Standing.{accept}
 use Rattle.macs_store.specs.Table.{StandingValue, ceilings_of, standing_of}
 use Rattle.macs_store.proofs.Replaying.{accepted-stands, accepted-unrefused}

@@ -5,22 +5,22 @@ use Rattle.macs_txsc.proofs.channel.Tx.send.Goals as goal
 use Rattle.macs_txsc.proofs.Faults.{behind, chosen, goes_out, has_length, in_frame, in_numbers, unset, vacant}
 use Rattle.macs_txsc.proofs.Places.{is_free, kept, sent, stands}
 use Rattle.macs_txsc.specs.Transmit.{Outgoing}
-use Rattle.macs_txsc.specs.View.{ceilings_of, sa_of, side_of}
+use Rattle.macs_txsc.specs.Value.{ceilings_of, sa_of, tx_side_of}
 
 pub returns-in-Some-clause-fault : goal.returns-in-Some-clause-fault
 returns-in-Some-clause-fault c =
-    in_frame (side_of c.args.self.now) (ceilings_of c.args.self.now) c.args.plain.now c.in-Some.fault (sym c.frame_fault.ensures ∙ c.in-Some.is)
+    in_frame (tx_side_of c.args.self.now) (ceilings_of c.args.self.now) c.args.plain.now c.in-Some.fault (sym c.frame_fault.ensures ∙ c.in-Some.is)
 
 pub returns-in_default-encoding-clause-fault : goal.returns-in_default-encoding-clause-fault
 returns-in_default-encoding-clause-fault c =
-    behind (side_of c.args.self.now) (ceilings_of c.args.self.now) c.args.plain.now None (sym c.frame_fault.ensures ∙ c.in_default.is)
+    behind (tx_side_of c.args.self.now) (ceilings_of c.args.self.now) c.args.plain.now None (sym c.frame_fault.ensures ∙ c.in_default.is)
     (unset c.args.self.now c.in_default-encoding.is)
 
 pub returns-in_default-associations-clause-fault : goal.returns-in_default-associations-clause-fault
 returns-in_default-associations-clause-fault c =
     let within : c.get.result < length c.args.self.now.associations = search rules in
     let free = is_free c.args.self.now.associations c.get.result c.index-self-get.result within c.in_default-associations.is in
-    behind (side_of c.args.self.now) (ceilings_of c.args.self.now) c.args.plain.now None (sym c.frame_fault.ensures ∙ c.in_default.is)
+    behind (tx_side_of c.args.self.now) (ceilings_of c.args.self.now) c.args.plain.now None (sym c.frame_fault.ensures ∙ c.in_default.is)
     (vacant c.args.self.now c.get.result (c.in-Some-encoding.is ∙ ap Some (sym c.get.ensures.value)) free)
 
 pub returns-in_err-pn-clause-fault : goal.returns-in_err-pn-clause-fault

@@ -2,9 +2,9 @@
 use Rattle.std.specs.Prelude.{◌≡◌, ℕ, true, List}
 use Rattle.macs_config.specs.Config.{is_ascending}
 use Rattle.macs_rxsc.specs.Receive.{AreOrdered}
-use Rattle.macs_rxsc.specs.View.{Kept, ceilings_of, side_of}
+use Rattle.macs_rxsc.specs.Value.{RxValue, ceilings_of, rx_side_of}
 
 -- channels ascend, so that none stands twice, and the numbers of each association are in their order
-pub record IsKept (kept : Kept) : Type 0 where
-  pub ascending : is_ascending (side_of kept).channels ≡ true
-  pub ordered : (sci : List ℕ) (an : ℕ) → AreOrdered (side_of kept) (ceilings_of kept) sci an
+pub record IsSoundRx (kept : RxValue) : Type 0 where
+  pub ascending : is_ascending (rx_side_of kept).channels ≡ true
+  pub ordered : (sci : List ℕ) (an : ℕ) → AreOrdered (rx_side_of kept) (ceilings_of kept) sci an

@@ -8,7 +8,7 @@ use Rattle.macs_config.specs.declared.contents.Channel.{Channel}
 use Rattle.macs_config.specs.declared.contents.Contents.{Contents}
 
 -- an identity, and beside it what is kept of its configuration
-pub record Stored : Type 0 where
+pub record ConfigValue : Type 0 where
   pub identity : Identity
   pub contents : Contents
 
@@ -19,8 +19,8 @@ rx_at (channel ∷ channels) sci an =
     if bytes_eq channel.sci sci then get_or channel.associations an None else rx_at channels sci an
 
 -- what is kept, as a configuration
-abbrev pub read : Contents → Config
-read c = record {
+abbrev pub config_in : Contents → Config
+config_in c = record {
   validate = c.validate;
   replay = c.replay;
   mode = c.mode;
@@ -33,5 +33,5 @@ read c = record {
 }
 
 -- the configuration beside the identity
-abbrev pub config_of : Stored → Config
-config_of stored = read stored.contents
+abbrev pub config_of : ConfigValue → Config
+config_of stored = config_in stored.contents

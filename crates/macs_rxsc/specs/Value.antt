@@ -12,7 +12,7 @@ use Rattle.macs_rxsc.specs.declared.counters.ChannelCounters.{ChannelCounters}
 use Rattle.macs_rxsc.specs.declared.counters.RxCounters.{RxCounters}
 
 -- what is kept: how frames are validated, the channels that stand, and what was counted
-pub record Kept : Type 0 where
+pub record RxValue : Type 0 where
   pub validate : Validate
   pub replay : Replay
   pub channels : List Channel
@@ -32,8 +32,8 @@ abbrev pub sa_of : Association → RxSa
 sa_of a = record { key = a.key; offset = a.offset }
 
 -- an association's packet numbers, but for the ceiling
-abbrev pub numbers_of : Association → Numbers
-numbers_of a = record { next = a.next; lowest = a.lowest; seen = a.seen }
+abbrev pub packet_numbers : Association → Numbers
+packet_numbers a = record { next = a.next; lowest = a.lowest; seen = a.seen }
 
 -- the SCIs of channels, in the order in which these are kept
 abbrev pub scis_of : List Channel → List (List ℕ)
@@ -45,7 +45,7 @@ sas_in channel an = option_map sa_of (association_in channel an)
 
 -- the packet numbers of a channel's associations, by AN
 abbrev pub numbers_in : Option Channel → ℕ → Option Numbers
-numbers_in channel an = option_map numbers_of (association_in channel an)
+numbers_in channel an = option_map packet_numbers (association_in channel an)
 
 -- the ceilings of a channel's associations, by AN
 abbrev pub ceilings_in : Option Channel → ℕ → Option ℕ
@@ -56,8 +56,8 @@ abbrev pub counters_in : Option Channel → Option ChannelCounters
 counters_in channel = option_map (λ (c : Channel). c.counters) channel
 
 -- these channels under this validation
-abbrev pub shown : Validate → Replay → List Channel → RxSide
-shown validate replay channels = record {
+abbrev pub rx_side_in : Validate → Replay → List Channel → RxSide
+rx_side_in validate replay channels = record {
   validate = validate;
   replay = replay;
   channels = scis_of channels;
@@ -74,27 +74,27 @@ abbrev pub counters_among : List Channel → List ℕ → Option ChannelCounters
 counters_among channels = λ sci. counters_in (channel_at channels sci)
 
 -- what is kept, as receive channels, but for ceilings and counters
-abbrev pub side_of : Kept → RxSide
-side_of r = shown r.validate r.replay r.channels
+abbrev pub rx_side_of : RxValue → RxSide
+rx_side_of r = rx_side_in r.validate r.replay r.channels
 
 -- only frames with numbers below an association's ceiling are delivered as verified
-abbrev pub ceilings_of : Kept → List ℕ → ℕ → Option ℕ
+abbrev pub ceilings_of : RxValue → List ℕ → ℕ → Option ℕ
 ceilings_of r = ceilings_among r.channels
 
 -- how often each verdict was given, on frames of any channel or none
-abbrev pub counters_of : Kept → RxCounters
+abbrev pub counters_of : RxValue → RxCounters
 counters_of r = r.counters
 
 -- what each channel that stands counts, by SCI
-abbrev pub channel_counters_of : Kept → List ℕ → Option ChannelCounters
+abbrev pub channel_counters_of : RxValue → List ℕ → Option ChannelCounters
 channel_counters_of r = counters_among r.channels
 
 -- ---- the window changes
 
 -- the lowest acceptable number of an association rises with the window, and never falls
-abbrev pub slid : ℕ → Association → Association
-slid window a = record a { lowest = max a.lowest (a.next - window) }
+abbrev pub association_under : ℕ → Association → Association
+association_under window a = record a { lowest = max a.lowest (a.next - window) }
 
 -- the same of all associations of a channel
-abbrev pub slid_channel : ℕ → Channel → Channel
-slid_channel window channel = record channel { associations = map (option_map (slid window)) channel.associations }
+abbrev pub channel_under : ℕ → Channel → Channel
+channel_under window channel = record channel { associations = map (option_map (association_under window)) channel.associations }

@@ -16,8 +16,8 @@ abbrev pub sa_of : Association → TxSa
 sa_of a = record { key = a.key; protection = a.protection }
 
 -- what is kept, as a transmit channel, but for ceilings and counters
-abbrev pub side_of : Tx → TxSide
-side_of t = record {
+abbrev pub tx_side_of : Tx → TxSide
+tx_side_of t = record {
   sci = t.sci;
   mode = t.mode;
   encoding = t.encoding;
