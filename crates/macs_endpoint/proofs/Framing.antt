@@ -16,7 +16,7 @@ use Rattle.macs_txsc.specs.declared.channel.Tx.{Tx}
 use Rattle.macs_txsc.specs.declared.fault.TxFault.{TxFault}
 use Rattle.macs_txsc.specs.declared.fault.TxFault.TheVariants.{Runt, TooLong, ForeignSource, NoEncodingSa, Exhausted, NoNumber}
 use Rattle.macs_rxsc.specs.Counting.{with_verdict, with_verdict_at}
-use Rattle.macs_rxsc.specs.Receive.{Arrival, Arrives, Numbers, Outcome, RxSide, Check, Tag, NoChannel, NoAssociation, BelowLowest, NotVerified, after_delivery, arrival_outcome, channel_of, given_at, after_hold, is_below, is_strict, kind_of, put_numbers, seen_after, verdict_at}
+use Rattle.macs_rxsc.specs.Receive.{Arrival, Arrives, Numbers, Outcome, RxSide, RxStep, Tag, NoChannel, NoAssociation, BelowLowest, NotVerified, after_delivery, arrival_outcome, channel_of, given_at, after_hold, is_below, is_strict, kind_of, put_numbers, seen_after, verdict_at}
 use Rattle.macs_rxsc.specs.Receive as rx
 use Rattle.macs_rxsc.specs.Value as rxsc
 use Rattle.macs_rxsc.specs.declared.verdict.Kind.{Kind}
@@ -425,7 +425,7 @@ unheld : (b : Bool) (reason : Reason) (kind : Kind) → ¬ (cond b (Discarded re
 unheld true reason kind is = absurd cc
 unheld false reason kind is = absurd cc
 
-settled_unheld : (side : RxSide) (frame : List ℕ) (step : Check) → ¬ (verdict_at side frame step ≡ HeldBack)
+settled_unheld : (side : RxSide) (frame : List ℕ) (step : RxStep) → ¬ (verdict_at side frame step ≡ HeldBack)
 settled_unheld side frame (Tag tag.Runt) is = absurd cc
 settled_unheld side frame (Tag tag.Oversize) is = absurd cc
 settled_unheld side frame (Tag tag.NoTag) is = unheld (is_strict side.validate) NoTag Untagged is

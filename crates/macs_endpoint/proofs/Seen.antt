@@ -7,7 +7,7 @@ use Rattle.macs_config.specs.declared.command.Command.{Command}
 use Rattle.macs_config.specs.declared.command.Command.TheVariants.{SetValidate, SetReplay, SetSciMode, TxInstall, TxUse, TxRemove, RxAdd, RxDrop, RxInstall, RxRemove}
 use Rattle.macs_config.proofs.Tables.{put_all, put_at_all}
 use Rattle.macs_disk.specs.Disk.{Disk}
-use Rattle.macs_rxsc.specs.Receive.{Arrival, Arrives, Holds, Numbers, after_delivery, after_hold, put_numbers, seen_after, first_numbers, checks, under_window}
+use Rattle.macs_rxsc.specs.Receive.{Arrival, Arrives, Holds, Numbers, after_delivery, after_hold, put_numbers, seen_after, first_numbers, rx_steps, under_window}
 use Rattle.macs_rxsc.specs.declared.verdict.Verdict.TheVariants.{HeldBack}
 use Rattle.macs_rxsc.proofs.Steps.{arrives_once}
 use Rattle.macs_store.specs.declared.fault.CommitFault.TheVariants as commit
@@ -200,7 +200,7 @@ module _ {D : Type 0} (disk_of : D → Disk) where
       elim ended.1 [
         | inl stopped ↦ absurd stopped.1
         | inr ran ↦ elim ran.1 [
-          | inl settles ↦ absurd (none-first (Holds side frame) checks settles.0 arrives.unsettled settles.1)
+          | inl settles ↦ absurd (none-first (Holds side frame) rx_steps settles.0 arrives.unsettled settles.1)
           | inr arrived ↦
               let same : arrived.0 ≡ a = arrives_once side frame arrived.0 a arrived.1 arrives in
               let arriving : ArriveStep s a HeldBack out t = subst (λ (x : Arrival). ArriveStep s x HeldBack out t) same arrived.2 in

@@ -9,7 +9,7 @@ use Rattle.macs_config.specs.declared.command.Command.{Command}
 use Rattle.macs_config.specs.declared.command.Command.TheVariants.{SetReplay, TxInstall, TxRemove, RxDrop, RxInstall, RxRemove}
 use Rattle.macs_txsc.specs.Transmit.{Outgoing, frame_of, outgoing, tx_faults}
 use Rattle.macs_txsc.specs.declared.fault.TxFault.TheVariants.{NoNumber}
-use Rattle.macs_rxsc.specs.Receive.{Arrival, Arrives, Holds, Numbers, after_delivery, given_at, after_hold, kind_of, put_numbers, first_numbers, checks, verdict_at, under_window}
+use Rattle.macs_rxsc.specs.Receive.{Arrival, Arrives, Holds, Numbers, after_delivery, given_at, after_hold, kind_of, put_numbers, first_numbers, rx_steps, verdict_at, under_window}
 use Rattle.macs_rxsc.specs.Receive as rx
 use Rattle.macs_rxsc.specs.declared.verdict.Verdict.{Verdict}
 use Rattle.macs_rxsc.specs.declared.verdict.Verdict.TheVariants.{Delivered, HeldBack}
@@ -110,7 +110,7 @@ ArriveStep old a verdict out new =
 -- one of the first nine steps settles the frame
 abbrev pub SettleStep : State → List ℕ → Verdict → List ℕ → State → Type 0
 SettleStep old frame verdict out new =
-    (step : rx.Check) × IsFirst (Holds (rx_side old) frame) checks step
+    (step : rx.RxStep) × IsFirst (Holds (rx_side old) frame) rx_steps step
     × (verdict ≡ verdict_at (rx_side old) frame step) × (out ≡ given_at frame verdict) × (new ≡ old)
 
 -- a received frame is settled by one of the first nine steps, or verified and arrives

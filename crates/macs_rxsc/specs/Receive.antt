@@ -95,15 +95,15 @@ pub record VerifiesAs (side : RxSide) (frame plain : List ℕ) : Type 0 where
 -- ---- the first nine steps, which may settle a frame
 
 -- one of the five faults of a SecTAG, or one of the four steps behind them
-pub data Check : Type 0 where
-  Tag : TagFault → Check
-  NoChannel : Check
-  NoAssociation : Check
-  BelowLowest : Check
-  NotVerified : Check
+pub data RxStep : Type 0 where
+  Tag : TagFault → RxStep
+  NoChannel : RxStep
+  NoAssociation : RxStep
+  BelowLowest : RxStep
+  NotVerified : RxStep
 
 -- what each step says of a frame
-abbrev pub Holds : RxSide → List ℕ → Check → Type 0
+abbrev pub Holds : RxSide → List ℕ → RxStep → Type 0
 Holds side frame (Tag fault) = TagFaultHolds frame fault
 Holds side frame NoChannel = channel_of side frame ≡ None
 Holds side frame NoAssociation = association_of side frame ≡ None
@@ -112,8 +112,8 @@ Holds side frame BelowLowest =
 Holds side frame NotVerified = (plain : List ℕ) → ¬ VerifiesAs side frame plain
 
 -- in their order
-abbrev pub checks : List Check
-checks = map Tag tag_faults ++ NoChannel ∷ NoAssociation ∷ BelowLowest ∷ NotVerified ∷ []
+abbrev pub rx_steps : List RxStep
+rx_steps = map Tag tag_faults ++ NoChannel ∷ NoAssociation ∷ BelowLowest ∷ NotVerified ∷ []
 
 -- frames that do not verify are discarded, whether C is set or not (10.7.8)
 abbrev pub is_strict : Validate → Bool
@@ -126,7 +126,7 @@ unless_checked side frame reason kind =
     if is_strict side.validate || changed (control frame) then Discarded reason else Delivered kind
 
 -- the verdict where a step is the first that holds
-abbrev pub verdict_at : RxSide → List ℕ → Check → Verdict
+abbrev pub verdict_at : RxSide → List ℕ → RxStep → Verdict
 verdict_at side frame (Tag IsRunt) = Discarded Runt
 verdict_at side frame (Tag IsOversize) = Discarded Oversize
 verdict_at side frame (Tag HasNoTag) = if is_strict side.validate then Discarded NoTag else Delivered Untagged
@@ -161,7 +161,7 @@ pub record Arrival : Type 0 where
 
 -- the first nine steps do not settle the frame, and this is what it is
 pub record Arrives (side : RxSide) (frame : List ℕ) (a : Arrival) : Type 0 where
-  pub unsettled : NoneHolds (Holds side frame) checks
+  pub unsettled : NoneHolds (Holds side frame) rx_steps
   pub is_channel : channel_of side frame ≡ Some a.sci
   pub is_an : a.an ≡ (tag_of frame).an
   pub is_pn : a.pn ≡ (tag_of frame).pn
@@ -209,7 +209,7 @@ pub record Outcome : Type 0 where
   pub numbers : List ℕ → ℕ → Option Numbers
 
 -- the outcome of a frame that a step settles: no number moves
-abbrev pub settled_outcome : RxSide → List ℕ → Check → Outcome
+abbrev pub settled_outcome : RxSide → List ℕ → RxStep → Outcome
 settled_outcome side frame step = record {
   verdict = verdict_at side frame step;
   given = given_at frame (verdict_at side frame step);
@@ -239,7 +239,7 @@ arrival_outcome side ceilings a =
 -- the outcome is that of the first of nine steps that holds, or that of the frame's arrival
 abbrev pub IsOutcome : RxSide → (List ℕ → ℕ → Option ℕ) → List ℕ → Outcome → Type 0
 IsOutcome side ceilings frame outcome =
-    ((step : Check) × IsFirst (Holds side frame) checks step × (outcome ≡ settled_outcome side frame step))
+    ((step : RxStep) × IsFirst (Holds side frame) rx_steps step × (outcome ≡ settled_outcome side frame step))
     ⊎ ((a : Arrival) × Arrives side frame a × (outcome ≡ arrival_outcome side ceilings a))
 
 -- ---- ranges
