@@ -142,7 +142,7 @@ refusal_of edition identity c command = first (refusals edition identity c comma
 
 -- ---- effects
 
--- the offset of a command that is not refused
+-- the offset, or Zero where there is none: then the command is refused
 abbrev pub offset_or_zero : Option Offset → Offset
 offset_or_zero None = Zero
 offset_or_zero (Some offset) = offset
@@ -169,7 +169,7 @@ config_after c (RxInstall sci an key start offset) = record c {
 }
 config_after c (RxRemove sci an) = record c { rx = put_at c.rx sci (put (c.rx sci) an None) }
 
--- an answer, where nothing is refused
+-- the refusal, or the answer where there is none
 abbrev pub unless : {X : Type 0} → Option Refusal → X → Result X Refusal
 unless None answer = Ok answer
 unless (Some refusal) answer = Err refusal

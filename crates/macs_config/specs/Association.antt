@@ -17,7 +17,7 @@ abbrev pub is_confidential : Protection → Bool
 is_confidential Integrity = false
 is_confidential (Confidentiality offset) = true
 
--- Zero where nothing is encrypted
+-- the confidentiality offset, Zero where nothing is encrypted
 abbrev pub offset_of : Protection → Offset
 offset_of Integrity = Zero
 offset_of (Confidentiality offset) = offset

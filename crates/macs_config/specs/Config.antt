@@ -93,11 +93,11 @@ is_ascending (sci ∷ next ∷ others) = comes_before sci next && is_ascending (
 
 -- ---- spent keys
 
--- what stands for a key on the transmit side
+-- what stands for a key on the transmit side: the SHA-256 of the key (FIPS 180-4), 32 octets
 abbrev pub tx_fingerprint : List ℕ → List ℕ
 tx_fingerprint key = sha256 key
 
--- 32 octets that stand for a key under an SCI on the receive side
+-- what stands for a key under an SCI on the receive side: the SHA-256 of the SCI and the key, one after the other, 32 octets
 abbrev pub rx_fingerprint : List ℕ → List ℕ → List ℕ
 rx_fingerprint sci key = sha256 (sci ++ key)
 

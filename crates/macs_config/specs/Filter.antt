@@ -10,6 +10,6 @@ flags = 4096
 abbrev pub flag_of : List ℕ → ℕ
 flag_of fingerprint = 16 * get_or fingerprint 0 0 + get_or fingerprint 1 0 / 16
 
--- each spent fingerprint has its flag set
+-- each spent fingerprint has its flag set, so that none is missed; how many others are told apart is speed alone
 abbrev pub IsFilter : List (List ℕ) → List Bool → Type 0
 IsFilter spent filter = (fingerprint : List ℕ) → is_spent spent fingerprint ≡ true → get_or filter (flag_of fingerprint) false ≡ true

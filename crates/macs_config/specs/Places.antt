@@ -1,4 +1,4 @@
--- Where a channel is kept, or goes.
+-- Where a channel is kept.
 use Rattle.std.specs.Prelude.{◌≡◌, ◌<◌, ℕ, false, List, [], length, take, slice_index_or}
 use Rattle.macs_config.specs.Config.{is_among}
 

@@ -2,12 +2,13 @@
 
 use macs_frame::{An, Sci};
 
-/// What is done with a received frame that does not verify (IEEE Std 802.1AE-2018, 10.7.8).
+/// What is done with received frames that are not verified: those without a SecTAG, a channel or an
+/// association, and those that do not verify (IEEE Std 802.1AE-2018, 10.6 and 10.7.8).
 #[derive(Clone, Copy, Debug, PartialEq, Eq)]
 pub enum Validate {
-    /// It is discarded.
+    /// They are discarded.
     Strict,
-    /// It is delivered where its User Data were not changed: C is clear.
+    /// They are delivered where their User Data were not changed: C is clear.
     Check,
 }
 

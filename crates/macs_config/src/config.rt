@@ -121,7 +121,7 @@ impl Config {
         self.identity
     }
 
-    /// What is done with received frames that do not verify.
+    /// What is done with received frames that are not verified.
     pub fn validate(&self) -> Validate
         ensures { result ≡ (config_of self.now).validate }
     {

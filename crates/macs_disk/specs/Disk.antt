@@ -55,7 +55,7 @@ pub record Works (old new : Disk) : Type 0 where
 abbrev pub FailsOnce : Disk → Disk → Type 0
 FailsOnce old new = (new.failures ≡ old.failures + 1) ⊎ (new.worn ≡ true)
 
--- calls, and a result that tells whether the last of them failed: no call comes behind a failed one
+-- calls, and a result that tells whether one of them failed: Ok where none did, Err where exactly one did
 pub record IsWork {T E : Type 0} (old new : Disk) (result : Result T E) : Type 0 where
   pub works : Works old new
   pub ok : OnOk result (new.failures ≡ old.failures)

@@ -11,11 +11,13 @@ use Rattle.macs_disk.specs.declared.record.Entry.{Entry}
 
 -- ---- a disk behind a fuse
 
+-- a disk behind a fuse is now in the state of the disk itself
 pub fused-now : (disk : Disk) (failed : ℕ) → now (disk_behind_fuse disk failed) ≡ now disk
 fused-now disk failed =
     let same : min (disk.clock + failed) disk.clock ≡ disk.clock = omega arith in
     ap disk.past same
 
+-- which is as sound
 pub fused-sound : (disk : Disk) (failed : ℕ) → IsSound (now disk) → IsSound (now (disk_behind_fuse disk failed))
 fused-sound disk failed sound = subst IsSound (sym (fused-now disk failed)) sound
 

@@ -8,11 +8,11 @@ pub record FuseValue (D : Type 0) : Type 0 where
   pub left : ℕ
   pub failed : ℕ
 
--- after a call that the fuse failed: it counted it, up to 2^64 - 1
+-- the fuse after a call that it failed itself, and counted, up to 2^64 - 1
 abbrev pub after_blown_call : {D : Type 0} → FuseValue D → FuseValue D
 after_blown_call fuse = record { inner = fuse.inner; left = fuse.left; failed = min (fuse.failed + 1) (2 ^ 64 - 1) }
 
--- a disk, and behind its last call so many that failed and changed nothing
+-- the disk that a fuse shows: the one behind it, and after its last call so many that the fuse failed itself
 abbrev pub disk_behind_fuse : Disk → ℕ → Disk
 disk_behind_fuse disk failed =
     record {

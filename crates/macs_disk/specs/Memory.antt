@@ -24,7 +24,7 @@ blank_memory sectors =
       chosen = λ _. None;
     }
 
--- after this was chosen for a sector
+-- the disk after this was chosen for a sector
 abbrev pub with_choice : Memory → ℕ → List ℕ → Memory
 with_choice memory at octets = record { disk = memory.disk; chosen = put_sector memory.chosen at (Some octets) }
 
@@ -32,6 +32,6 @@ with_choice memory at octets = record { disk = memory.disk; chosen = put_sector 
 abbrev pub image_left : Memory → Image
 image_left memory i = unwrap_or (memory.chosen i) ((now memory.disk).seen i)
 
--- after a power loss
+-- the disk after a power loss
 abbrev pub memory_after_loss : Memory → Memory
 memory_after_loss memory = record { disk = disk_after_loss memory.disk (image_left memory); chosen = λ _. None }

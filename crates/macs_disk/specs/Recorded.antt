@@ -18,7 +18,7 @@ flag_at pending i = get_or pending i false
 abbrev pub choice_at : List (Option (List ℕ)) → ℕ → Option (List ℕ)
 choice_at choices i = get_or choices i None
 
--- after a call that was kept
+-- the state after a call that was kept
 abbrev pub state_after : DiskState → Call → DiskState
 state_after state (Write at octets) = after_write state at octets
 state_after state Sync = after_sync state

@@ -33,7 +33,7 @@ pub record IsSound (state : DiskState) : Type 0 where
 abbrev pub put_sector : {X : Type 0} → (ℕ → X) → ℕ → X → ℕ → X
 put_sector f at x i = if i == at then x else f i
 
--- after a write of these octets to a sector
+-- the state after a write of these octets to a sector
 abbrev pub after_write : DiskState → ℕ → List ℕ → DiskState
 after_write state at octets =
     record {
@@ -42,11 +42,11 @@ after_write state at octets =
       pending = put_sector state.pending at true;
     }
 
--- reads give this image, all of it is durable, and nothing is pending
+-- the state in which reads give this image, all of it is durable, and nothing is pending
 abbrev pub settled_state : Image → DiskState
 settled_state image = record { seen = image; durable = image; pending = λ _. false }
 
--- after a sync
+-- the state after a sync
 abbrev pub after_sync : DiskState → DiskState
 after_sync state = settled_state state.seen
 

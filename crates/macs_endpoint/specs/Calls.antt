@@ -17,7 +17,7 @@ use Rattle.macs_endpoint.specs.declared.fault.RefillFault.TheVariants as refill
 
 -- ---- on every disk
 
--- What a caller sees of one call: it is a step of the machine; what becomes of what stands; where the answers come that a step leaves
+-- What a caller sees of one call: it is a step of the machine; what becomes of configuration and ceilings; where the answers come that a step leaves
 -- to the endpoint; which calls make no device call; what is counted.
 pub record Behaves {D : Type 0} (old : EndpointValue D) (call : Call) (reply : Reply) (new : EndpointValue D) : Type 0 where
   pub step : (logs : Logs) → (after : Logs) × Step (state_of old logs) call reply (state_of new after)
@@ -29,7 +29,7 @@ pub record Behaves {D : Type 0} (old : EndpointValue D) (call : Call) (reply : R
   pub channel_counters : rxsc.channel_counters_of new.rx
       ≡ channel_counters_after (state_of old no_logs) call reply (rxsc.channel_counters_of old.rx)
 
--- the last device call between these failed, and no other, exactly where this is answered as Disk
+-- one device call between these failed, and no other, exactly where this is answered as Disk
 abbrev pub Fails : Disk → Disk → Reply → Type 0
 Fails old new (Ran (Err commit.Disk)) = FailsOnce old new
 Fails old new (Refilled (Err refill.Disk)) = FailsOnce old new

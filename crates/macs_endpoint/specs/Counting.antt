@@ -13,24 +13,24 @@ use Rattle.macs_rxsc.specs.declared.counters.RxCounters.{RxCounters}
 use Rattle.macs_endpoint.specs.State.{Call, Protected, Received, Receives, Reply, State, command_made, rx_side}
 use Rattle.macs_endpoint.specs.declared.fault.ProtectFault.TheVariants.{Tx}
 
--- answers of `protect`, but Stopped
+-- the transmit counters after an answer: those of `protect` are counted, but Stopped
 abbrev pub tx_counters_after : Reply → TxCounters → TxCounters
 tx_counters_after (Protected (Ok pn) out) c = with_answer (Ok pn) c
 tx_counters_after (Protected (Err (Tx fault)) out) c = with_answer (Err fault) c
 tx_counters_after reply c = c
 
--- answers of `receive`, but Stopped
+-- the receive counters after an answer: those of `receive` are counted, but Stopped
 abbrev pub rx_counters_after : Reply → RxCounters → RxCounters
 rx_counters_after (Received (Ok verdict) out) c = with_verdict verdict c
 rx_counters_after reply c = c
 
--- a new channel begins to count, and a channel that goes takes its counts along
+-- the counters of channels after a command: a new channel begins to count, and a channel that goes takes its counts along
 abbrev pub channels_after : Command → (List ℕ → Option ChannelCounters) → List ℕ → Option ChannelCounters
 channels_after (RxAdd sci) table = put_at table sci (Some no_channel_counts)
 channels_after (RxDrop sci) table = put_at table sci None
 channels_after command table = table
 
--- the same of a command that was made durable, if one was
+-- the counters of channels after a command that was made durable, if one was
 abbrev pub channels_made : Option Command → (List ℕ → Option ChannelCounters) → List ℕ → Option ChannelCounters
 channels_made None table = table
 channels_made (Some command) table = channels_after command table
@@ -40,6 +40,6 @@ abbrev pub channel_counters_after : State → Call → Reply → (List ℕ → O
 channel_counters_after s (Receives frame) (Received (Ok verdict) out) table = with_verdict_at (channel_of (rx_side s) frame) verdict table
 channel_counters_after s call reply table = channels_made (command_made s call reply) table
 
--- the channels of an endpoint that has opened
+-- the counters of the channels of an endpoint that has just opened
 abbrev pub new_channels : List (List ℕ) → List ℕ → Option ChannelCounters
 new_channels channels sci = if is_among channels sci then Some no_channel_counts else None

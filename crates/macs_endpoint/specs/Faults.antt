@@ -4,7 +4,7 @@ use Rattle.macs_journal.specs.declared.fault.JournalFault.TheVariants as journal
 use Rattle.macs_endpoint.specs.declared.fault.RefillFault.{RefillFault}
 use Rattle.macs_endpoint.specs.declared.fault.RefillFault.TheVariants.{AreaFull, Disk, Stopped}
 
--- a store answers a reservation with no other names
+-- the fault of a refill for that of a reservation, which is Stopped, AreaFull or Disk and no other
 abbrev pub refill_fault_of : JournalFault → RefillFault
 refill_fault_of journal.Stopped = Stopped
 refill_fault_of journal.AreaFull = AreaFull

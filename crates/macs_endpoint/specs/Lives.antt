@@ -18,7 +18,7 @@ pub record Turn (D : Type 0) : Type 0 where
 abbrev pub event_of : {D : Type 0} → Turn D → Event
 event_of turn = record { call = turn.call; reply = turn.reply }
 
--- these calls lead from old to new, each of them made of an endpoint of which holds what holds of every one
+-- these calls lead from old to new, and before each the endpoint is sound
 abbrev pub Lives : {D : Type 0} → (D → Disk) → EndpointValue D → List (Turn D) → EndpointValue D → Type 0
 Lives disk_of old [] new = new ≡ old
 Lives disk_of old (turn ∷ turns) new =

@@ -32,7 +32,8 @@ RxRises block (Some numbers) found =
 
 -- ---- a restart
 
--- the same configuration and logs, with numbers that rose, and nothing in hand, in a program of no smaller edition
+-- The same configuration and logs, with numbers that rose, and nothing in hand, in a program of no smaller edition. Where an opening is
+-- spoken of, the logs are the same by themselves; they count where restarts are put together.
 pub record Resumes (old new : State) : Type 0 where
   pub edition : IsUpTo old.edition new.edition
   pub identity : new.identity ≡ old.identity

@@ -18,27 +18,27 @@ pub record HasRoom {D : Type 0} (e : EndpointValue D) (an count : ℕ) : Type 0 
   pub is_ceiling : (standing_in e.store).ceilings.tx an ≡ Some ceiling
   pub room : (next + count ≤ ceiling) ⊎ (ceiling ≡ 2 ^ 32)
 
--- frames go out under the association, which stands
+-- the association at this AN is the encoding one, and it stands
 abbrev pub IsEncoding : {D : Type 0} → EndpointValue D → ℕ → Type 0
 IsEncoding e an = ((standing_in e.store).config.encoding ≡ Some an) × IsSome ((state_of e no_logs).next an)
 
--- a command, if there is one, neither takes it away nor puts another one in its place
+-- a command, if there is one, neither removes the transmit association at this AN nor installs another there
 abbrev pub SparesTx : ℕ → Option Command → Type 0
 SparesTx an (Some (TxInstall installed key start confidential offset)) = installed ≢ an
 SparesTx an (Some (TxRemove removed)) = removed ≢ an
 SparesTx an command = Unit {0}
 
--- nor does any that these calls made durable
+-- no command that these calls made durable removes or replaces the transmit association at this AN
 abbrev pub TxStays : {D : Type 0} → ℕ → EndpointValue D → List (Turn D) → Type 0
 TxStays an e [] = Unit {0}
 TxStays an e (turn ∷ turns) = SparesTx an (command_made (state_of e no_logs) turn.call turn.reply) × TxStays an turn.after turns
 
--- 1 for a frame that went out under it
+-- 1 where the encoding association is at this AN and a frame went out, else 0
 abbrev pub one_if : Option ℕ → ℕ → Reply → ℕ
 one_if (Some encoding) an (Protected (Ok pn) out) = if encoding == an then 1 else 0
 one_if encoding an reply = 0
 
--- how many frames went out under it
+-- how many frames went out under the transmit association at this AN
 abbrev pub frames_sent : {D : Type 0} → ℕ → EndpointValue D → List (Turn D) → ℕ
 frames_sent an e [] = 0
 frames_sent an e (turn ∷ turns) = one_if (standing_in e.store).config.encoding an turn.reply + frames_sent an turn.after turns
@@ -51,14 +51,14 @@ pub record IsBelow {D : Type 0} (e : EndpointValue D) (sci : List ℕ) (an pn : 
   pub is_ceiling : (standing_in e.store).ceilings.rx sci an ≡ Some ceiling
   pub below : pn < ceiling
 
--- a command, if there is one, neither takes it away nor puts another one in its place
+-- a command, if there is one, neither removes the receive association of this SCI and AN nor installs another there
 abbrev pub SparesRx : List ℕ → ℕ → Option Command → Type 0
 SparesRx sci an (Some (RxDrop dropped)) = dropped ≢ sci
 SparesRx sci an (Some (RxInstall channel installed key start offset)) = (channel ≢ sci) ⊎ (installed ≢ an)
 SparesRx sci an (Some (RxRemove channel removed)) = (channel ≢ sci) ⊎ (removed ≢ an)
 SparesRx sci an command = Unit {0}
 
--- nor does any that these calls made durable
+-- no command that these calls made durable removes or replaces the receive association of this SCI and AN
 abbrev pub RxStays : {D : Type 0} → List ℕ → ℕ → EndpointValue D → List (Turn D) → Type 0
 RxStays sci an e [] = Unit {0}
 RxStays sci an e (turn ∷ turns) = SparesRx sci an (command_made (state_of e no_logs) turn.call turn.reply) × RxStays sci an turn.after turns

@@ -29,7 +29,7 @@ reply_of (answer.Protected result out) = Protected result out.items
 reply_of (answer.Received result out) = Received result out.items
 reply_of (answer.Refilled result) = Refilled result
 
--- a device call failed, in this call or before
+-- an answer says that a device call failed, in its call or before
 abbrev pub halts : Reply → Bool
 halts (Ran (Err commit.Stopped)) = true
 halts (Ran (Err commit.Disk)) = true

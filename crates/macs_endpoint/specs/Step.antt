@@ -71,7 +71,7 @@ RefillStep old (Err refill.Stopped) new = ⊥
 
 -- ---- frames
 
--- a frame went out
+-- the state after a frame went out
 abbrev pub state_after_frame : State → Outgoing → State
 state_after_frame s o = record s {
   next = put s.next o.an (Some (o.pn + 1));
@@ -88,11 +88,11 @@ ProtectStep old plain (Err (protect.Tx fault)) out new =
     × (out ≡ []) × (new ≡ old)
 ProtectStep old plain (Err protect.Stopped) out new = ⊥
 
--- a frame that verified was held back
+-- the state after a frame that verified was held back
 abbrev pub state_after_hold : State → Arrival → State
 state_after_hold s a = record s { numbers = put_numbers s.numbers a.sci a.an (Some (after_hold a.numbers a.pn)) }
 
--- or delivered
+-- the state after a frame that verified was delivered
 abbrev pub state_after_delivery : State → Arrival → State
 state_after_delivery s a = record s {
   numbers = put_numbers s.numbers a.sci a.an (Some (after_delivery s.config.replay.window a.numbers a.pn));

@@ -22,11 +22,11 @@ pub record EndpointValue (D : Type 0) : Type 0 where
   pub rx : rxsc.RxValue
   pub in_hand : Option Command
 
--- its disk
+-- its device
 abbrev pub device_in : {D : Type 0} → EndpointValue D → D
 device_in e = store.device_in e.store
 
--- and what that is, by what a disk of this kind is
+-- the disk that its device is, where `disk_of` says what a device is
 abbrev pub disk_in : {D : Type 0} → (D → Disk) → EndpointValue D → Disk
 disk_in disk_of e = store.disk_in disk_of e.store
 
@@ -61,7 +61,7 @@ IsRxWithin block (Some numbers) (Some ceiling) = (numbers.next ≤ ceiling) × (
 IsRxWithin block None None = Unit {0}
 IsRxWithin block numbers ceiling = ⊥
 
--- channels that a standing makes, with whatever numbers, and with the ceilings that stand
+-- the channels have the configuration and the ceilings of a standing; their packet numbers are left open
 pub record AreChannels (tx : Tx) (rx : rxsc.RxValue) (s : Standing) : Type 0 where
   pub tx_is : txsc.tx_side_of tx ≡ tx_side_with s.identity s.config (txsc.tx_side_of tx).next
   pub rx_is : rxsc.rx_side_of rx ≡ rx_side_with s.config (rxsc.rx_side_of rx).numbers
@@ -83,8 +83,7 @@ pub record IsSoundEndpoint {D : Type 0} (e : EndpointValue D) : Type 0 where
 
 -- ---- what its disk holds
 
--- The disk, by what a disk of this kind is, holds what stands in memory, unless a device call failed; and what a power loss
--- leaves now fits the state
+-- The disk holds what stands in memory, unless a device call failed; and what a power loss leaves now fits the state.
 pub record IsBacked {D : Type 0} (disk_of : D → Disk) (e : EndpointValue D) : Type 0 where
   pub size : least_sectors ≤ (disk_in disk_of e).sectors
   pub stored : is_stopped e ≡ false → IsStored disk_of e.store

@@ -116,10 +116,10 @@ impl<D: SectorDisk> Endpoint<D> {
         outcome
     }
 
-    /// Protects a plain frame, of 14 octets to 9,216 less SecTAG and ICV, writes the frame that goes out on the common side to `out`, and answers
-    /// its packet number, which is then used. Refused as `Stopped`, then as the first fault of the
-    /// transmit channel; then `out` is empty, and no number is used. No device call is made. On
-    /// `NoNumber` call `refill` and hand the frame in again.
+    /// Protects a plain frame, writes the frame that goes out on the common side to `out`, and answers its
+    /// packet number, which is then used. Refused as `Stopped`, then as the first fault of the transmit
+    /// channel: below 14 octets, or above 9,216 with SecTAG and ICV, among others; then `out` is empty, and
+    /// no number is used. No device call is made. On `NoNumber` call `refill` and hand the frame in again.
     pub fn protect(&mut self, plain: &[u8], out: &mut FrameBuf) -> Result<Pn, ProtectFault>
         ensures call { IsCall D.disk self.old (Protects plain.now) (Protected result out.new.items) self.new }
         ensures store { self.new.store ≡ self.old.store }

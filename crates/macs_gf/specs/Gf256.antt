@@ -11,7 +11,7 @@ aes_modulus = 0x11B
 unfoldable pub octet_product : ℕ → ℕ → ℕ
 octet_product a b = remainder aes_modulus (product_below a b 8) 8
 
--- b is the inverse of a: their product is 1 (4.2), and that of 0 is 0 (5.1.1)
+-- b is the inverse of a: their product is 1 (4.2); the inverse of 0 is 0 (5.1.1)
 abbrev pub IsInverse : ℕ → ℕ → Type 0
 IsInverse a b = (b < 2 ^ 8) × ((a ≡ 0 → b ≡ 0) × (a ≢ 0 → octet_product a b ≡ 1))
 

@@ -18,11 +18,11 @@ pub record JournalValue (D : Type 0) : Type 0 where
   pub hand : Hand
   pub stopped : Bool
 
--- its disk
+-- its device
 abbrev pub device_in : {D : Type 0} → JournalValue D → D
 device_in j = j.disk
 
--- and what that is, by what a disk of this kind is
+-- the disk that its device is, where `disk_of` says what a device is
 abbrev pub disk_in : {D : Type 0} → (D → Disk) → JournalValue D → Disk
 disk_in disk_of j = disk_of j.disk
 
@@ -69,6 +69,6 @@ abbrev pub left_of : Hand → ℕ
 left_of Empty = 0
 left_of (Append work) = calls_left (Some work.stage)
 
--- the disk, by what a disk of this kind is, has this content, and nothing is in hand
+-- the disk has this content, and nothing is in hand
 abbrev pub Holds : {D : Type 0} → (D → Disk) → JournalValue D → Content → Type 0
 Holds disk_of j content = IsHolding (now (disk_in disk_of j)) j.place j.hand content content

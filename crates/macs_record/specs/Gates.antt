@@ -1,4 +1,4 @@
--- Gates: sectors whose first octets say whether what they stand for counts.
+-- Gates: a gate is a sector that says whether the body in front of it counts.
 use Rattle.std.specs.Prelude.{List, ℕ, [], ◌∷◌}
 use Rattle.macs_record.specs.Sectors.{Begins, padded_sector}
 

@@ -5,7 +5,8 @@ use Rattle.macs_config.specs.Identity.{Identity, IsBlock}
 use Rattle.macs_record.specs.Ranges.{IsSci}
 use Rattle.macs_record.specs.Sectors.{padded_sector}
 
--- generation: how often the journal began anew, from 1 on; count: how many records its snapshot has; identity: whose it is
+-- generation: 1 when the disk is formatted, one more with each new snapshot; count: how many records the snapshot has; identity: what the
+-- disk was formatted with
 pub record Head : Type 0 where
   pub generation : ℕ
   pub count : ℕ

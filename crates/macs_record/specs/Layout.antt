@@ -86,7 +86,7 @@ number_of kinds.RxRemove = 15
 number_of kinds.TxCeiling = 16
 number_of kinds.RxCeiling = 17
 
--- what a record is of
+-- the kind of a record
 abbrev pub kind_of : Record → Kind
 kind_of (Settings validate replay mode encoding) = kinds.Settings
 kind_of (TxSa an sa ceiling) = kinds.TxSa

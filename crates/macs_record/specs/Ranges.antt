@@ -31,6 +31,6 @@ abbrev pub IsEncoding : Option ℕ → Type 0
 IsEncoding None = Unit {0}
 IsEncoding (Some an) = IsAn an
 
--- what one record has of them: 1 to 15, of 32 octets each
+-- the fingerprints of one record: 1 to 15, of 32 octets each
 abbrev pub IsFingerprints : List (List ℕ) → Type 0
 IsFingerprints fingerprints = (1 ≤ length fingerprints) × (length fingerprints ≤ 15) × All (IsOctets 32) fingerprints

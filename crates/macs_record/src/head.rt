@@ -46,7 +46,7 @@ impl Head {
         }
     }
 
-    /// How often the journal began anew, 1 to 2^64 - 1.
+    /// 1 when the disk is formatted, and one more with each new snapshot, up to 2^64 - 1.
     pub fn generation(&self) -> u64
         ensures value { result ≡ self.now.generation }
         ensures range { 0 < result }

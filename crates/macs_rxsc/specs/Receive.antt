@@ -24,8 +24,8 @@ use Rattle.macs_rxsc.specs.declared.verdict.Reason.TheVariants.{Runt, Oversize, 
 use Rattle.macs_rxsc.specs.declared.verdict.Verdict.{Verdict}
 use Rattle.macs_rxsc.specs.declared.verdict.Verdict.TheVariants.{Delivered, Discarded, HeldBack}
 
--- next: one more than the greatest number delivered; lowest: the lowest acceptable number; seen: the greatest number of
--- this life that verified, if any did
+-- next: one more than the greatest number delivered as verified, and at first the number that the association began with; lowest: the
+-- lowest acceptable number; seen: the greatest number of this life that verified, if any did
 pub record Numbers : Type 0 where
   pub next : ℕ
   pub lowest : ℕ
@@ -94,7 +94,7 @@ pub record VerifiesAs (side : RxSide) (frame plain : List ℕ) : Type 0 where
 
 -- ---- the first nine steps, which may settle a frame
 
--- one of the five faults of a SecTAG, or one of the four steps behind them
+-- one of the five faults of a frame or its SecTAG, or one of the four steps behind them
 pub data RxStep : Type 0 where
   Tag : TagFault → RxStep
   NoChannel : RxStep
@@ -178,21 +178,21 @@ abbrev pub seen_after : Option ℕ → ℕ → Option ℕ
 seen_after None pn = Some pn
 seen_after (Some seen) pn = Some (max seen pn)
 
--- a frame is held back
+-- the numbers after a frame was held back
 abbrev pub after_hold : Numbers → ℕ → Numbers
 after_hold numbers pn = record numbers { seen = seen_after numbers.seen pn }
 
--- a frame is delivered
+-- the numbers after a frame was delivered
 abbrev pub after_delivery : ℕ → Numbers → ℕ → Numbers
 after_delivery window numbers pn =
     let next = max numbers.next (pn + 1) in
     record { next = next; lowest = max numbers.lowest (next - window); seen = seen_after numbers.seen pn }
 
--- the window changes
+-- the numbers after the window was set
 abbrev pub under_window : ℕ → Numbers → Numbers
 under_window window numbers = record numbers { lowest = max numbers.lowest (numbers.next - window) }
 
--- an association is installed
+-- the numbers that an association begins with, installed or found at an opening
 abbrev pub first_numbers : ℕ → Numbers
 first_numbers start = record { next = start; lowest = start; seen = None }
 
@@ -244,7 +244,7 @@ IsOutcome side ceilings frame outcome =
 
 -- ---- ranges
 
--- next - window <= lowest <= next <= ceiling <= 2^32
+-- 1 <= lowest, and next - window <= lowest <= next <= ceiling <= 2^32
 pub record InOrder (window : ℕ) (numbers : Numbers) (ceiling : ℕ) : Type 0 where
   pub numbered : 1 ≤ numbers.lowest
   pub windowed : numbers.next - window ≤ numbers.lowest

@@ -77,7 +77,7 @@ counters_among channels = λ sci. counters_in (channel_at channels sci)
 abbrev pub rx_side_of : RxValue → RxSide
 rx_side_of r = rx_side_in r.validate r.replay r.channels
 
--- only frames with numbers below an association's ceiling are delivered as verified
+-- the ceilings of all associations, by SCI and AN
 abbrev pub ceilings_of : RxValue → List ℕ → ℕ → Option ℕ
 ceilings_of r = ceilings_among r.channels
 

@@ -16,8 +16,8 @@ use macs_gcm::GcmKey;
 
 /// The packet numbers of a receive association.
 ///
-/// `next` is one more than the greatest number delivered, or the start; `lowest` is the lowest
-/// acceptable one. Both are 1 to 2^32.
+/// `next` is one more than the greatest number delivered as verified, and at first the number that the
+/// association began with; `lowest` is the lowest acceptable one. Both are 1 to 2^32.
 #[derive(Clone, Copy, Debug, PartialEq, Eq)]
 pub struct RxNumbers {
     pub next: u64,

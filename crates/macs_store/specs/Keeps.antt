@@ -22,7 +22,7 @@ use Rattle.macs_store.specs.declared.fault.CommitFault.TheVariants as commit
 
 -- ---- a reservation
 
--- A call keeps one thing, of which what stands becomes `after`. Refused as Stopped, then as AreaFull, and changes nothing then. Disk where
+-- A call keeps one change, which makes `after` of what stands. Refused as Stopped, then as AreaFull; these change nothing. Disk where
 -- a device call failed: memory is as it was, and a power loss leaves what stood before or what it becomes. Where the area is not full it
 -- takes four device calls at most and uses one slot.
 pub record Keeps {D : Type 0} (disk_of : D → disk.Disk) (old : StoreValue D) (after : Standing) (result : Result (Unit {0}) JournalFault) (new : StoreValue D) : Type 0 where
@@ -44,7 +44,7 @@ pub record Keeps {D : Type 0} (disk_of : D → disk.Disk) (old : StoreValue D) (
 
 -- ---- a command
 
--- calls of the disk, the last of which failed exactly where this is answered as Disk
+-- calls of the disk: one of them failed, and no other, exactly where this is answered as Disk
 abbrev pub CommitFails : disk.Disk → disk.Disk → Result (Unit {0}) CommitFault → Type 0
 CommitFails old new (Err commit.Disk) = FailsOnce old new
 CommitFails old new result = new.failures ≡ old.failures
@@ -54,8 +54,9 @@ pub record IsCommitOf (old new : disk.Disk) (result : Result (Unit {0}) CommitFa
   pub works : Works old new
   pub fails : CommitFails old new result
 
--- A call keeps a command and applies it. Refused as Stopped, then as Refused with the first refusal that holds, then as AreaFull, and
--- changes nothing then. The rest is as above.
+-- A call keeps a command and applies it. Refused as Stopped, then as Refused with the first refusal that holds, then as AreaFull; these
+-- change nothing. Disk where a device call failed: memory is as it was, and a power loss leaves what stood before or what the command makes
+-- of it. Where the area is not full it takes four device calls at most and uses one slot.
 pub record Commits {D : Type 0} (disk_of : D → disk.Disk) (old : StoreValue D) (command : Command) (result : Result (Unit {0}) CommitFault) (new : StoreValue D) : Type 0 where
   pub stopped : IsErrOf result commit.Stopped ↔ (is_stopped old ≡ true)
   pub refused : (refusal : Refusal) → (result ≡ Err (commit.Refused refusal))

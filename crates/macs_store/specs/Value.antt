@@ -18,11 +18,11 @@ pub record StoreValue (D : Type 0) : Type 0 where
 abbrev pub standing_in : {D : Type 0} → StoreValue D → Standing
 standing_in s = standing_of s.held
 
--- its disk
+-- its device
 abbrev pub device_in : {D : Type 0} → StoreValue D → D
 device_in s = journal.device_in s.journal
 
--- and what that is, by what a disk of this kind is
+-- the disk that its device is, where `disk_of` says what a device is
 abbrev pub disk_in : {D : Type 0} → (D → disk.Disk) → StoreValue D → disk.Disk
 disk_in disk_of s = journal.disk_in disk_of s.journal
 
@@ -34,7 +34,7 @@ is_stopped s = journal.is_stopped s.journal
 abbrev pub used_slots : {D : Type 0} → StoreValue D → ℕ
 used_slots s = journal.used_slots s.journal
 
--- the disk, by what a disk of this kind is, holds what stands in memory, and nothing is in hand
+-- the disk holds what stands in memory, and nothing is in hand
 pub record IsStored {D : Type 0} (disk_of : D → disk.Disk) (s : StoreValue D) : Type 0 where
   pub content : Content
   pub holding : Holds disk_of s.journal content

@@ -73,7 +73,7 @@ impl<D: SectorDisk> Store<D> {
     }
 
     /// Raises the ceiling of a receive association to a block beyond a packet number, to 2^32 at most. The
-    /// association stands, and its ceiling is below that. Refused as `reserve_tx`.
+    /// association stands, and its ceiling is below the new one. Refused as `reserve_tx`.
     pub fn reserve_rx(&mut self, sci: Sci, an: An, pn: Pn) -> Result<(), JournalFault>
         requires raised { IfSome ((standing_in self.old).ceilings.rx sci an)
             (λ old. old < ahead pn (standing_in self.old).identity.rx_block) }

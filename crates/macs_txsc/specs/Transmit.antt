@@ -50,7 +50,7 @@ outgoing_at side (Some an) = outgoing_if an (side.tx an) (side.next an)
 abbrev pub outgoing : TxSide → Option Outgoing
 outgoing side = outgoing_at side side.encoding
 
--- SC is set where SCIs are spelled out, ES for an end station, and else neither
+-- how SecTAGs name the channel of this SCI in a mode: with SC set and the SCI spelled out, with ES set, or with neither (9.5)
 abbrev pub name_in : SciMode → List ℕ → ScName
 name_in Explicit sci = NamesSci sci
 name_in EndStation sci = NamesStation
@@ -70,7 +70,7 @@ tag_for side o = record {
 abbrev pub frame_of : TxSide → Outgoing → List ℕ → List ℕ
 frame_of side o plain = protected_frame o.sa.key side.sci (tag_for side o) (octets_of (offset_of o.sa.protection)) plain
 
--- the next packet number is used
+-- the channel after the next packet number was used, if there is one
 abbrev pub side_after : TxSide → Option Outgoing → TxSide
 side_after side None = side
 side_after side (Some o) = record side { next = put side.next o.an (Some (o.pn + 1)) }

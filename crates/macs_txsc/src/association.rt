@@ -14,7 +14,7 @@ use macs_frame::{An, FrameBuf, Pn, ScName, Sci, SecTag, seal_frame};
 use macs_gcm::GcmKey;
 
 /// A transmit association: its key, what it does with User Data, the next packet number, 1 to 2^32,
-/// and the ceiling that only numbers below may be used of.
+/// and the ceiling: only numbers below it are used.
 #[derive(Drop)]
 pub struct Association {
     pub key: GcmKey,

@@ -25,7 +25,7 @@ texts = map (λ word. word.now)
 abbrev pub open_app : App
 open_app = new_app (codes "open")
 
--- the words begin after the program's name, and neither a flag nor a subcommand of the library's asks for help
+-- the words begin after the program's name, and no flag and no subcommand of the library's asks for help or the version
 abbrev pub macsecd : App
 macsecd = with_subcommand (on_top (λ s. record s {
   no_binary_name = true;
