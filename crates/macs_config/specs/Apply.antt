@@ -2,6 +2,7 @@
 use Rattle.std.specs.Prelude.{◌≡◌, ◌<◌, ◌⊎◌, ◌^◌, ℕ, if◌then◌else◌, ◌==◌, nat_le, Bool, true, false, not, ◌&&◌, ◌||◌, List, [], ◌∷◌, ◌++◌, length, Option, Some, None, is_none, is_some, Result, Ok, Err}
 use Rattle.std.specs.List.{filter}
 use Rattle.std.specs.Str.{bytes_eq}
+use Rattle.macs_frame.specs.Fields.{IsAn, IsOctets, IsSci}
 use Rattle.macs_frame.specs.First.{first}
 use Rattle.macs_frame.specs.declared.fields.Offset.{Offset}
 use Rattle.macs_frame.specs.declared.fields.Offset.TheVariants.{Zero, Thirty, Fifty}
@@ -20,7 +21,7 @@ use Rattle.macs_config.specs.declared.refusal.Refusal.TheVariants.{StartRange, O
 
 -- a key has 16 octets, or 32 where the edition takes those
 abbrev pub IsKey : Edition → List ℕ → Type 0
-IsKey edition key = (length key ≡ 16) ⊎ ((edition.long_keys ≡ true) × (length key ≡ 32))
+IsKey edition key = IsOctets 16 key ⊎ ((edition.long_keys ≡ true) × IsOctets 32 key)
 
 -- the fields of a command are in the ranges that their types keep
 abbrev pub IsCommand : Edition → Command → Type 0
@@ -28,14 +29,14 @@ IsCommand edition (SetValidate validate) = Unit {0}
 IsCommand edition (SetReplay on window) = window < 2 ^ 32
 IsCommand edition (SetSciMode mode) = Unit {0}
 IsCommand edition (TxInstall an key start confidential offset) =
-    (an < 4) × IsKey edition key × (start < 2 ^ 32) × (offset < 256)
-IsCommand edition (TxUse an) = an < 4
-IsCommand edition (TxRemove an) = an < 4
-IsCommand edition (RxAdd sci) = length sci ≡ 8
-IsCommand edition (RxDrop sci) = length sci ≡ 8
+    IsAn an × IsKey edition key × (start < 2 ^ 32) × (offset < 2 ^ 8)
+IsCommand edition (TxUse an) = IsAn an
+IsCommand edition (TxRemove an) = IsAn an
+IsCommand edition (RxAdd sci) = IsSci sci
+IsCommand edition (RxDrop sci) = IsSci sci
 IsCommand edition (RxInstall sci an key start offset) =
-    (length sci ≡ 8) × (an < 4) × IsKey edition key × (start < 2 ^ 32) × (offset < 256)
-IsCommand edition (RxRemove sci an) = (length sci ≡ 8) × (an < 4)
+    IsSci sci × IsAn an × IsKey edition key × (start < 2 ^ 32) × (offset < 2 ^ 8)
+IsCommand edition (RxRemove sci an) = IsSci sci × IsAn an
 
 -- ---- the tests of the refusals, each on every command
 

@@ -1,6 +1,7 @@
 -- What an endpoint is formatted with.
-use Rattle.std.specs.Prelude.{◌≡◌, ◌≤◌, ℕ, Bool, List, [], ◌∷◌, length, drop}
+use Rattle.std.specs.Prelude.{◌≤◌, ℕ, Bool, List, [], ◌∷◌, drop}
 use Rattle.std.specs.Str.{bytes_eq}
+use Rattle.macs_frame.specs.Fields.{IsSci}
 
 -- sci: the SCI of the transmit channel, 8 octets; the blocks: how many packet numbers are reserved at a time
 pub record Identity : Type 0 where
@@ -18,6 +19,6 @@ is_port_one sci = bytes_eq (drop 6 sci) (0 ∷ 1 ∷ [])
 
 -- the fields of an identity are in their ranges
 pub record IsIdentity (identity : Identity) : Type 0 where
-  pub sci : length identity.sci ≡ 8
+  pub sci : IsSci identity.sci
   pub tx_block : IsBlock identity.tx_block
   pub rx_block : IsBlock identity.rx_block

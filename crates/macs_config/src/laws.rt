@@ -2,6 +2,7 @@
 //! body reads the fields: that is how a proof learns their ranges.
 
 ghost use Rattle.std.specs.Prelude.{◌≡◌, ◌<◌, ◌^◌, ◌++◌, ℕ, List, length, Some, Ok};
+ghost use Rattle.macs_frame.specs.Fields.{IsAn, IsSci};
 ghost use Rattle.macs_config.specs.Apply.{IsCommand, IsKey, apply, spends};
 ghost use Rattle.macs_config.specs.Config.{Config, Edition, IsConfig, IsUpTo, default, spent_of, this_edition};
 ghost use Rattle.macs_config.specs.Identity.{Identity, IsIdentity};
@@ -11,6 +12,8 @@ ghost use Rattle.macs_config.specs.declared.command.Role.{Role};
 ghost use Rattle.macs_config.specs.declared.part.Part.{Part};
 
 use crate::{Command, Identity};
+use macs_frame::laws::{an_in_range, octets_in_range, sci_in_range};
+use macs_frame::{An, Sci};
 
 /// The fields of a command are in their ranges.
 pub fn command_in_range(command: &Command)
@@ -29,15 +32,11 @@ pub fn command_in_range(command: &Command)
             offset,
             ..
         } => {
-            let _an = an.get();
-            installs_in_range(&key, start, offset);
+            an_in_range(an);
+            install_in_range(key, start, offset);
         }
-        Command::TxUse { an } | Command::TxRemove { an } => {
-            let _an = an.get();
-        }
-        Command::RxAdd { sci } | Command::RxDrop { sci } => {
-            let _sci = sci.get();
-        }
+        Command::TxUse { an } | Command::TxRemove { an } => an_in_range(an),
+        Command::RxAdd { sci } | Command::RxDrop { sci } => sci_in_range(sci),
         Command::RxInstall {
             sci,
             an,
@@ -45,22 +44,28 @@ pub fn command_in_range(command: &Command)
             start,
             offset,
         } => {
-            let _place = (sci.get(), an.get());
-            installs_in_range(&key, start, offset);
+            place_in_range(sci, an);
+            install_in_range(key, start, offset);
         }
-        Command::RxRemove { sci, an } => {
-            let _place = (sci.get(), an.get());
-        }
+        Command::RxRemove { sci, an } => place_in_range(sci, an),
     }
 }
 
-/// The key and the numbers of a new association are in their ranges.
-fn installs_in_range(key: &[u8; 16], start: u32, offset: u8)
-    ensures key { IsKey this_edition key.now }
-    ensures start { start < 2 ^ 32 }
-    ensures offset { offset < 256 }
+/// The SCI and the number of a receive association are in their ranges.
+fn place_in_range(sci: Sci, an: An)
+    ensures { IsSci sci × IsAn an }
 {
-    let _octet = key[0];
+    sci_in_range(sci);
+    an_in_range(an);
+}
+
+/// The key and the numbers of a new association are in their ranges.
+fn install_in_range(key: [u8; 16], start: u32, offset: u8)
+    ensures key { IsKey this_edition key }
+    ensures start { start < 2 ^ 32 }
+    ensures offset { offset < 2 ^ 8 }
+{
+    octets_in_range(&key);
 }
 
 /// A key of this edition has 16 octets.
@@ -72,7 +77,7 @@ pub fn short_keys()
 pub fn identity_in_range(identity: &Identity)
     ensures { IsIdentity identity.now }
 {
-    let _sci = identity.sci().get();
+    sci_in_range(identity.sci());
     let _blocks = (identity.tx_block(), identity.rx_block());
 }
 

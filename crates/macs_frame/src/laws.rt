@@ -1,8 +1,10 @@
-//! Laws of the definitions, for the layers above.
+//! Laws of the definitions, for the layers above. Where a law speaks of a value behind a reference, its
+//! body reads it: that is how a proof learns its range.
 
-ghost use Rattle.std.specs.Prelude.{◌≡◌, ◌↔◌, ◌⊎◌, ◌≤◌, ◌+◌, ℕ, Bool, List, IsTrue, length};
+ghost use Rattle.std.specs.Prelude.{◌≡◌, ◌↔◌, ◌⊎◌, ◌≤◌, ◌<◌, ◌+◌, ◌^◌, ℕ, Bool, List, All, IsTrue, length};
 ghost use Rattle.std.specs.Bool.{IsFalse};
 ghost use Rattle.std.specs.List.{list_any};
+ghost use Rattle.macs_frame.specs.Fields.{IsAn, IsSci};
 ghost use Rattle.macs_frame.specs.First.{IsFirst, NoneHolds};
 ghost use Rattle.macs_frame.specs.Opening.{OpensTo, Verified};
 ghost use Rattle.macs_frame.specs.Protection.{IsWritten, overhead, parts_of, protected_frame};
@@ -10,6 +12,8 @@ ghost use Rattle.macs_frame.specs.Tag.{IsForKay, Tag, TagFaultHolds, tag_faults}
 ghost use Rattle.macs_frame.specs.declared.tag.Parts.{Parts};
 ghost use Rattle.macs_frame.specs.declared.tag.SecTag.{SecTag};
 ghost use Rattle.macs_frame.specs.declared.tag.TagFault.{TagFault};
+
+use crate::{An, Sci};
 
 /// A frame has one reading.
 pub fn one_reading()
@@ -80,3 +84,22 @@ pub fn one_first_refusal<R>()
         → NoneHolds (λ r. IsTrue (holds r)) refusals
         × ((r : R) → ¬ IsFirst (λ r. IsTrue (holds r)) refusals r) }
 {}
+
+/// Octets are below 2^8: a proof that calls this knows it of octets behind a reference.
+pub fn octets_in_range(octets: &[u8])
+    ensures { All (λ octet. octet < 2 ^ 8) octets.now }
+{}
+
+/// An SCI has 8 octets (9.9).
+pub fn sci_in_range(sci: Sci)
+    ensures { IsSci sci }
+{
+    let _octets = sci.get();
+}
+
+/// An association number is 0 to 3 (9.6).
+pub fn an_in_range(an: An)
+    ensures { IsAn an }
+{
+    let _number = an.get();
+}

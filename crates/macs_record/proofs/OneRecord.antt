@@ -20,7 +20,8 @@ use Rattle.macs_config.specs.declared.command.SciMode.TheVariants.{EndStation, E
 use Rattle.macs_config.specs.declared.command.Validate.{Validate}
 use Rattle.macs_config.specs.declared.command.Validate.TheVariants.{Check, Strict}
 use Rattle.macs_record.specs.Layout.{IsRecord, encoding_octet, fields_of, flag, front_of, kind_of, mode_octet, protection_octets, replay_octets, role_octet, sector_of, validate_octet}
-use Rattle.macs_record.specs.Ranges.{IsEncoding, IsOctets}
+use Rattle.macs_frame.specs.Fields.{IsOctets}
+use Rattle.macs_record.specs.Ranges.{IsEncoding}
 use Rattle.macs_record.specs.declared.kind.Kind.{Kind}
 use Rattle.macs_record.specs.declared.kind.Kind.TheVariants as kinds
 use Rattle.macs_record.specs.declared.record.Record.{Record}

@@ -2,7 +2,7 @@
 use Rattle.std.specs.Prelude.{◌≡◌, ◌<◌, ◌≤◌, ◌^◌, ◌++◌, ℕ, List, [], ◌∷◌}
 use Rattle.std.specs.Int.{to_be_bytes, w32, w64}
 use Rattle.macs_config.specs.Identity.{Identity, IsBlock}
-use Rattle.macs_record.specs.Ranges.{IsSci}
+use Rattle.macs_frame.specs.Fields.{IsSci}
 use Rattle.macs_record.specs.Sectors.{padded_sector}
 
 -- generation: 1 when the disk is formatted, one more with each new snapshot; count: how many records the snapshot has; identity: what the

@@ -13,7 +13,8 @@ use Rattle.macs_config.specs.declared.command.SciMode.{SciMode}
 use Rattle.macs_config.specs.declared.command.SciMode.TheVariants.{Explicit, EndStation, Implicit}
 use Rattle.macs_config.specs.declared.command.Validate.{Validate}
 use Rattle.macs_config.specs.declared.command.Validate.TheVariants.{Strict, Check}
-use Rattle.macs_record.specs.Ranges.{IsAn, IsCeiling, IsEncoding, IsFingerprints, IsKey, IsSci, IsStart}
+use Rattle.macs_frame.specs.Fields.{IsAn, IsSci}
+use Rattle.macs_record.specs.Ranges.{IsCeiling, IsEncoding, IsFingerprints, IsRecordKey, IsStart}
 use Rattle.macs_record.specs.Sectors.{padded_sector}
 use Rattle.macs_record.specs.declared.kind.Kind.{Kind}
 use Rattle.macs_record.specs.declared.kind.Kind.TheVariants as kinds
@@ -148,19 +149,19 @@ sector_of r = padded_sector (front_of r)
 -- the fields of a record are in their ranges
 abbrev pub IsRecord : Record → Type 0
 IsRecord (Settings validate replay mode encoding) = (replay.window < 2 ^ 32) × IsEncoding encoding
-IsRecord (TxSa an sa ceiling) = IsAn an × IsKey sa.key × IsCeiling ceiling
+IsRecord (TxSa an sa ceiling) = IsAn an × IsRecordKey sa.key × IsCeiling ceiling
 IsRecord (Channel sci) = IsSci sci
-IsRecord (RxSa sci an sa ceiling) = IsSci sci × IsAn an × IsKey sa.key × IsCeiling ceiling
+IsRecord (RxSa sci an sa ceiling) = IsSci sci × IsAn an × IsRecordKey sa.key × IsCeiling ceiling
 IsRecord (Spent role fingerprints) = IsFingerprints fingerprints
 IsRecord (SetValidate validate) = Unit {0}
 IsRecord (SetReplay replay) = replay.window < 2 ^ 32
 IsRecord (SetSciMode mode) = Unit {0}
-IsRecord (TxInstall an sa start) = IsAn an × IsKey sa.key × IsStart start
+IsRecord (TxInstall an sa start) = IsAn an × IsRecordKey sa.key × IsStart start
 IsRecord (TxUse an) = IsAn an
 IsRecord (TxRemove an) = IsAn an
 IsRecord (RxAdd sci) = IsSci sci
 IsRecord (RxDrop sci) = IsSci sci
-IsRecord (RxInstall sci an sa start) = IsSci sci × IsAn an × IsKey sa.key × IsStart start
+IsRecord (RxInstall sci an sa start) = IsSci sci × IsAn an × IsRecordKey sa.key × IsStart start
 IsRecord (RxRemove sci an) = IsSci sci × IsAn an
 IsRecord (TxCeiling an ceiling) = IsAn an × IsCeiling ceiling
 IsRecord (RxCeiling sci an ceiling) = IsSci sci × IsAn an × IsCeiling ceiling

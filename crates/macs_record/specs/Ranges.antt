@@ -1,22 +1,10 @@
 -- The ranges of a record's fields.
-use Rattle.std.specs.Prelude.{◌≡◌, ◌≤◌, ◌<◌, ◌^◌, ℕ, List, All, length, Option, Some, None}
-
--- so many octets, such as a key of 16
-pub record IsOctets (count : ℕ) (octets : List ℕ) : Type 0 where
-  pub size : length octets ≡ count
-  pub each : All (λ octet. octet < 2 ^ 8) octets
-
--- an association number, 0 to 3 (IEEE Std 802.1AE-2018, 9.6)
-abbrev pub IsAn : ℕ → Type 0
-IsAn an = an < 4
-
--- 8 octets: a MAC address and a port identifier (IEEE Std 802.1AE-2018, 9.9)
-abbrev pub IsSci : List ℕ → Type 0
-IsSci sci = IsOctets 8 sci
+use Rattle.std.specs.Prelude.{◌≤◌, ◌<◌, ◌^◌, ℕ, List, All, length, Option, Some, None}
+use Rattle.macs_frame.specs.Fields.{IsAn, IsOctets}
 
 -- 16 octets, for GCM-AES-128 (IEEE Std 802.1AE-2018, 14.5)
-abbrev pub IsKey : List ℕ → Type 0
-IsKey key = IsOctets 16 key
+abbrev pub IsRecordKey : List ℕ → Type 0
+IsRecordKey key = IsOctets 16 key
 
 -- the first packet number of an association
 abbrev pub IsStart : ℕ → Type 0

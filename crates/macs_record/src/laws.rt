@@ -1,14 +1,16 @@
 //! Laws of the definitions, for the layers above. Where a law speaks of a value behind a reference, its
 //! body reads the fields: that is how a proof learns their ranges.
 
-ghost use Rattle.std.specs.Prelude.{◌≡◌, ◌<◌, ◌^◌, List, ℕ, All, length};
+ghost use Rattle.std.specs.Prelude.{◌≡◌, ◌<◌, ◌^◌, List, ℕ, length};
 ghost use Rattle.macs_record.specs.Heads.{Head, IsHead, IsHeadOf, head_sector_of};
 ghost use Rattle.macs_record.specs.Layout.{IsRecord, sector_of};
-ghost use Rattle.macs_record.specs.Ranges.{IsAn, IsCeiling, IsEncoding, IsFingerprints, IsKey, IsOctets, IsSci, IsStart};
+ghost use Rattle.macs_frame.specs.Fields.{IsAn, IsOctets, IsSci};
+ghost use Rattle.macs_record.specs.Ranges.{IsCeiling, IsEncoding, IsFingerprints, IsRecordKey, IsStart};
 ghost use Rattle.macs_record.specs.declared.record.Record.{Record};
 
 use crate::{Ceiling, Head, Record};
 use macs_config::{Fingerprint, Fingerprints, Replay};
+use macs_frame::laws::{an_in_range, octets_in_range, sci_in_range};
 use macs_frame::{An, Pn, Sci};
 
 /// The fields of a record are in their ranges.
@@ -52,11 +54,6 @@ pub fn record_in_range(value: &Record)
     }
 }
 
-/// Octets are below 2^8: a proof that calls this knows it of octets behind a reference.
-pub(crate) fn octets_in_range(octets: &[u8])
-    ensures { All (λ octet. octet < 2 ^ 8) octets.now }
-{}
-
 /// A replay window is of 32 bits.
 fn replay_in_range(replay: Replay)
     ensures { replay.window < 2 ^ 32 }
@@ -79,20 +76,6 @@ fn settings_in_range(replay: Replay, encoding: Option<An>)
     encoding_in_range(encoding);
 }
 
-/// An SCI has 8 octets.
-fn sci_in_range(sci: Sci)
-    ensures { IsSci sci }
-{
-    let _octets = sci.get();
-}
-
-/// An association number is 0 to 3.
-fn an_in_range(an: An)
-    ensures { IsAn an }
-{
-    let _number = an.get();
-}
-
 /// The SCI and the number of a receive association.
 fn rx_in_range(sci: Sci, an: An)
     ensures { IsSci sci × IsAn an }
@@ -110,7 +93,7 @@ fn ceiling_in_range(an: An, ceiling: Ceiling)
 
 /// The number, the key and the ceiling of an association.
 fn sa_in_range(an: An, key: [u8; 16], ceiling: Ceiling)
-    ensures { IsAn an × IsKey key × IsCeiling ceiling }
+    ensures { IsAn an × IsRecordKey key × IsCeiling ceiling }
 {
     ceiling_in_range(an, ceiling);
     key_in_range(key);
@@ -118,7 +101,7 @@ fn sa_in_range(an: An, key: [u8; 16], ceiling: Ceiling)
 
 /// The number, the key and the first packet number of a new association.
 fn install_in_range(an: An, key: [u8; 16], start: Pn)
-    ensures { IsAn an × IsKey key × IsStart start }
+    ensures { IsAn an × IsRecordKey key × IsStart start }
 {
     let _numbers = (an.get(), start.get());
     key_in_range(key);
@@ -126,7 +109,7 @@ fn install_in_range(an: An, key: [u8; 16], start: Pn)
 
 /// A key has 16 octets.
 fn key_in_range(key: [u8; 16])
-    ensures { IsKey key }
+    ensures { IsRecordKey key }
 {
     octets_in_range(&key);
 }

@@ -9,14 +9,15 @@ ghost use Rattle.macs_config.specs.declared.command.Replay.{Replay};
 ghost use Rattle.macs_config.specs.declared.command.Role.{Role};
 ghost use Rattle.macs_config.specs.declared.command.SciMode.{SciMode};
 ghost use Rattle.macs_config.specs.declared.command.Validate.{Validate};
-ghost use Rattle.macs_record.specs.Ranges.{IsAn, IsCeiling, IsEncoding, IsFingerprints, IsKey, IsOctets, IsSci, IsStart};
+ghost use Rattle.macs_frame.specs.Fields.{IsAn, IsOctets, IsSci};
+ghost use Rattle.macs_record.specs.Ranges.{IsCeiling, IsEncoding, IsFingerprints, IsRecordKey, IsStart};
 ghost use Rattle.macs_record.specs.Layout.{encoding_octet, fingerprint_octets, flag, mode_octet, protection_octets, replay_octets, role_octet, validate_octet};
 
 use crate::ceiling::Ceiling;
-use crate::laws::octets_in_range;
 use crate::protection::protection;
 use crate::writing::NO_AN;
 use macs_config::{Fingerprint, Fingerprints, Protection, Replay, Role, SciMode, Validate};
+use macs_frame::laws::octets_in_range;
 use macs_frame::{An, Offset, Pn, Sci};
 use std::marker::Model;
 
@@ -157,8 +158,8 @@ impl<'a> Reader<'a> {
     }
 
     pub(crate) fn key(&mut self) -> Option<[u8; 16]>
-        ensures some { IfSome result (λ key. IsKey key × (self.old ≡ key ++ self.new)) }
-        ensures found { (key rest : List ℕ) → IsKey key → self.old ≡ key ++ rest
+        ensures some { IfSome result (λ key. IsRecordKey key × (self.old ≡ key ++ self.new)) }
+        ensures found { (key rest : List ℕ) → IsRecordKey key → self.old ≡ key ++ rest
             → (result ≡ Some key) × (self.new ≡ rest) }
     {
         self.octets()
