@@ -1,6 +1,6 @@
 //! Laws of the definitions, for the layers above.
 
-ghost use Rattle.std.specs.Prelude.{◌≡◌, ◌↔◌, ◌⊎◌, ◌≤◌, ◌+◌, ℕ, Bool, List, IsTrue, length};
+ghost use Rattle.std.specs.Prelude.{◌≡◌, ◌↔◌, ◌⊎◌, ◌<◌, ◌≤◌, ◌+◌, ◌^◌, ℕ, Bool, List, All, IsTrue, length};
 ghost use Rattle.std.specs.Bool.{IsFalse};
 ghost use Rattle.std.specs.List.{list_any};
 ghost use Rattle.macs_frame.specs.First.{IsFirst, NoneHolds};
@@ -10,6 +10,11 @@ ghost use Rattle.macs_frame.specs.Tag.{IsForKay, Tag, TagFaultHolds, tag_faults}
 ghost use Rattle.macs_frame.specs.declared.tag.Parts.{Parts};
 ghost use Rattle.macs_frame.specs.declared.tag.SecTag.{SecTag};
 ghost use Rattle.macs_frame.specs.declared.tag.TagFault.{TagFault};
+
+/// Octets are below 2^8: a proof that calls this knows it of octets behind a reference.
+pub fn octets_in_range(octets: &[u8])
+    ensures { All (λ octet. octet < 2 ^ 8) octets.now }
+{}
 
 /// A frame has one reading.
 pub fn one_reading()

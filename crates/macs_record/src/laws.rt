@@ -1,7 +1,7 @@
 //! Laws of the definitions, for the layers above. Where a law speaks of a value behind a reference, its
 //! body reads the fields: that is how a proof learns their ranges.
 
-ghost use Rattle.std.specs.Prelude.{◌≡◌, ◌<◌, ◌^◌, List, ℕ, All, length};
+ghost use Rattle.std.specs.Prelude.{◌≡◌, ◌<◌, ◌^◌, List, ℕ, length};
 ghost use Rattle.macs_record.specs.Heads.{Head, IsHead, IsHeadOf, head_sector_of};
 ghost use Rattle.macs_record.specs.Layout.{IsRecord, sector_of};
 ghost use Rattle.macs_record.specs.Ranges.{IsAn, IsCeiling, IsEncoding, IsFingerprints, IsKey, IsOctets, IsSci, IsStart};
@@ -9,6 +9,7 @@ ghost use Rattle.macs_record.specs.declared.record.Record.{Record};
 
 use crate::{Ceiling, Head, Record};
 use macs_config::{Fingerprint, Fingerprints, Replay};
+use macs_frame::laws::octets_in_range;
 use macs_frame::{An, Pn, Sci};
 
 /// The fields of a record are in their ranges.
@@ -51,11 +52,6 @@ pub fn record_in_range(value: &Record)
         }
     }
 }
-
-/// Octets are below 2^8: a proof that calls this knows it of octets behind a reference.
-pub(crate) fn octets_in_range(octets: &[u8])
-    ensures { All (λ octet. octet < 2 ^ 8) octets.now }
-{}
 
 /// A replay window is of 32 bits.
 fn replay_in_range(replay: Replay)

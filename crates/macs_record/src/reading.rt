@@ -13,10 +13,10 @@ ghost use Rattle.macs_record.specs.Ranges.{IsAn, IsCeiling, IsEncoding, IsFinger
 ghost use Rattle.macs_record.specs.Layout.{encoding_octet, fingerprint_octets, flag, mode_octet, protection_octets, replay_octets, role_octet, validate_octet};
 
 use crate::ceiling::Ceiling;
-use crate::laws::octets_in_range;
 use crate::protection::protection;
 use crate::writing::NO_AN;
 use macs_config::{Fingerprint, Fingerprints, Protection, Replay, Role, SciMode, Validate};
+use macs_frame::laws::octets_in_range;
 use macs_frame::{An, Offset, Pn, Sci};
 use std::marker::Model;
 
