@@ -21,6 +21,7 @@ use Rattle.macs_store.specs.Value.{standing_in}
 use Rattle.macs_store.specs.Value as store
 use Rattle.macs_store.specs.Standing.{Standing, standing_or_refusal, ceilings_after}
 use Rattle.macs_store.specs.Table.{standing_of}
+use Rattle.macs_store.proofs.Keeping.{accepted-in_range}
 use Rattle.macs_store.specs.declared.fault.CommitFault.{CommitFault}
 use Rattle.macs_store.specs.declared.fault.CommitFault.TheVariants.{AreaFull, Disk, Refused, Stopped}
 use Rattle.macs_endpoint.specs.Calls.{Fails, IsCall}
@@ -77,6 +78,7 @@ module _ {D : Type 0} (disk_of : D → disk.Disk) (e : EndpointValue D) (kept : 
       → Fails (disk_in disk_of e) (disk_in disk_of e) (Ran (Err fault)) → IsLimited e (Commands command) (Ran (Err fault)) e
       → IsStill e (Commands command) (Ran (Err fault)) e → IsCall disk_of e (Commands command) (Ran (Err fault)) e
   unchanged fault step fails limited still = alone-call disk_of e e.tx e.rx (Commands command) (Ran (Err fault)) fails (λ backed. backed) (record {
+    in_range = ranges;
     step = λ logs. (logs, step logs);
     ceilings = refl;
     limited = limited;
@@ -187,6 +189,7 @@ module _ {D : Type 0} (disk_of : D → disk.Disk) (e : EndpointValue D) (kept : 
     pub cut-call : IsCall disk_of e (Commands command) (Ran (Err Disk)) cut
     cut-call = record {
       behaves = record {
+        in_range = ranges;
         step = λ logs. (logs, inr (cut_running, (cut_accepts, cut_state logs)));
         ceilings = cut_same;
         limited = tt;
@@ -224,7 +227,8 @@ module _ {D : Type 0} (disk_of : D → disk.Disk) (e : EndpointValue D) (kept : 
         let old = standing_in e.store in
         let parts = accept-parts old command (standing_in s) commits.done in
         let made = parts.2 in
-        let first = command-ahead old.identity command (txsc.tx_side_of e.tx).next (rxsc.rx_side_of e.rx).numbers old.ceilings ranges (kept-ahead e kept) in
+        let first = command-ahead old.identity command (txsc.tx_side_of e.tx).next (rxsc.rx_side_of e.rx).numbers old.ceilings ranges
+        (accepted-in_range old command (ap is_ok commits.done)).0 (kept-ahead e kept) in
         let second : AreAhead old.identity (txsc.tx_side_of tx).next (rxsc.rx_side_of rx).numbers
         (ceilings_after old.identity command old.ceilings) =
         subst (λ (m : List ℕ → ℕ → Option Numbers). AreAhead old.identity (txsc.tx_side_of tx).next m
@@ -250,6 +254,7 @@ module _ {D : Type 0} (disk_of : D → disk.Disk) (e : EndpointValue D) (kept : 
         let parts = accept-parts (standing_in e.store) command (standing_in s) commits.done in
         record {
           behaves = record {
+            in_range = ranges;
             step = λ logs. (
               logs,
               inr (

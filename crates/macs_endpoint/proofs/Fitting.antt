@@ -1,13 +1,15 @@
 -- What a power loss leaves fits the state: what stands on the disk is a restart of it.
-use Rattle.std.proofs.Common.{◌≡◌, ◌≤◌, ◌<◌, ◌^◌, ◌==◌, ℕ, Bool, true, false, cond, inl, inr, List, bytes_eq, Option, Some, None, Result, Ok, Err, refl, sym, subst, arith}
+use Rattle.std.proofs.Common.{◌≡◌, ◌≤◌, ◌<◌, ◌^◌, ◌==◌, ℕ, zero, suc, Bool, true, false, cond, inl, inr, List, bytes_eq, Option, Some, None, Result, Ok, Err, is_ok, refl, sym, ap, subst, arith}
 use Rattle.std.specs.Option.{option_map}
-use Rattle.macs_config.specs.Apply.{IsCommand, apply}
+use Rattle.std.proofs.lemmas.Bool.{eq-eqb}
+use Rattle.macs_config.specs.Apply.{IsCommand, apply, start_range}
 use Rattle.macs_config.specs.Config.{Config, this_edition}
 use Rattle.macs_config.specs.Identity.{Identity}
 use Rattle.macs_config.specs.Tables.{put, put_at}
 use Rattle.macs_config.specs.declared.command.Command.{Command}
 use Rattle.macs_config.specs.declared.command.Command.TheVariants.{SetValidate, SetReplay, SetSciMode, TxInstall, TxUse, TxRemove, RxAdd, RxDrop, RxInstall, RxRemove}
 use Rattle.macs_config.specs.declared.refusal.Refusal.{Refusal}
+use Rattle.macs_config.proofs.Tables.{put_all}
 use Rattle.macs_disk.specs.Disk.{Disk}
 use Rattle.macs_disk.specs.States.{Image}
 use Rattle.macs_journal.specs.Areas.{least_sectors}
@@ -18,7 +20,7 @@ use Rattle.macs_rxsc.specs.Value as rxsc
 use Rattle.macs_store.specs.Found.{CommitLeaves, FindsStanding}
 use Rattle.macs_store.specs.Value.{IsStored, standing_in}
 use Rattle.macs_store.specs.Standing.{Ceilings, Standing, accept, standing_or_refusal, ahead, ceilings_after}
-use Rattle.macs_store.proofs.Keeping.{stored-image}
+use Rattle.macs_store.proofs.Keeping.{accepted-in_range, stored-image}
 use Rattle.macs_endpoint.specs.Value.{AreChannels, AreWithin, IsBacked, IsSoundEndpoint, IsRxWithin, IsTxWithin, EndpointValue, disk_in, state_of}
 use Rattle.macs_endpoint.specs.Restart.{Fits, Resumes, RxRises, TxRises, opened_state}
 use Rattle.macs_endpoint.specs.State.{Logs, State}
@@ -26,10 +28,11 @@ use Rattle.macs_endpoint.specs.Step.{next_after, numbers_after}
 
 -- ---- numbers and their ceilings
 
--- each association has its numbers and a ceiling that is not too far ahead
+-- each association has its numbers and a ceiling that is not too far ahead, and a receive channel has four associations at most
 pub record AreAhead (identity : Identity) (next : ℕ → Option ℕ) (numbers : List ℕ → ℕ → Option Numbers) (c : Ceilings) : Type 0 where
   pub tx_ahead : (an : ℕ) → IsTxWithin identity.tx_block (next an) (c.tx an)
   pub rx_ahead : (sci : List ℕ) (an : ℕ) → IsRxWithin identity.rx_block (numbers sci an) (c.rx sci an)
+  pub few : (sci : List ℕ) (an : ℕ) → 4 ≤ an → numbers sci an ≡ None
 
 -- those of channels, and of what stands
 pub channels-ahead : (tx : Tx) (rx : rxsc.RxValue) (s : Standing) → AreChannels tx rx s → AreWithin tx rx s.identity
@@ -39,6 +42,7 @@ channels-ahead tx rx s channels within = record {
       channels.tx_ceilings within.tx_within;
   rx_ahead = subst (λ (c : List ℕ → ℕ → Option ℕ). (sci : List ℕ) (an : ℕ)
       → IsRxWithin s.identity.rx_block ((rxsc.rx_side_of rx).numbers sci an) (c sci an)) channels.rx_ceilings within.rx_within;
+  few = within.few;
 }
 
 pub ahead-within : (tx : Tx) (rx : rxsc.RxValue) (s : Standing) → AreChannels tx rx s
@@ -48,6 +52,7 @@ ahead-within tx rx s channels are = record {
       (sym channels.tx_ceilings) are.tx_ahead;
   rx_within = subst (λ (c : List ℕ → ℕ → Option ℕ). (sci : List ℕ) (an : ℕ)
       → IsRxWithin s.identity.rx_block ((rxsc.rx_side_of rx).numbers sci an) (c sci an)) (sym channels.rx_ceilings) are.rx_ahead;
+  few = are.few;
 }
 
 pub kept-ahead : {D : Type 0} (e : EndpointValue D) → IsSoundEndpoint e
@@ -55,6 +60,9 @@ pub kept-ahead : {D : Type 0} (e : EndpointValue D) → IsSoundEndpoint e
 kept-ahead e kept = channels-ahead e.tx e.rx (standing_in e.store) kept.channels kept.within
 
 -- ---- one place changed
+
+pub put_here : {X : Type 0} (f : ℕ → X) (at : ℕ) (x : X) → put f at x at ≡ x
+put_here f at x = ap (λ b. cond b x (f at)) (eq-eqb at at refl)
 
 tx_by : (block : ℕ) (b : Bool) (n m c d : Option ℕ) → IsTxWithin block n c → IsTxWithin block m d → IsTxWithin block (cond b n m) (cond b c d)
 tx_by block true n m c d here there = here
@@ -94,43 +102,69 @@ rx_windowed block window None (Some c) within = absurd within
 rx_windowed block window (Some n) None within = absurd within
 rx_windowed block window (Some n) (Some c) within = within
 
+few_of : (b : Bool) (n m : ℕ → Option Numbers) (an : ℕ) → n an ≡ None → m an ≡ None → (cond b n m) an ≡ None
+few_of true n m an here there = here
+few_of false n m an here there = there
+
+-- a channel has four associations at most
+few-put_all : (numbers : List ℕ → ℕ → Option Numbers) (at : List ℕ) (n : ℕ → Option Numbers) → ((an : ℕ) → 4 ≤ an → n an ≡ None)
+    → ((sci : List ℕ) (an : ℕ) → 4 ≤ an → numbers sci an ≡ None) → (sci : List ℕ) (an : ℕ) → 4 ≤ an → put_at numbers at n sci an ≡ None
+few-put_all numbers at n here all sci an over = few_of (bytes_eq sci at) n (numbers sci) an (here an over) (all sci an over)
+
+few-put : (numbers : List ℕ → ℕ → Option Numbers) (at : List ℕ) (number : ℕ) (x : Option Numbers) → number < 4
+    → ((sci : List ℕ) (an : ℕ) → 4 ≤ an → numbers sci an ≡ None) → (sci : List ℕ) (an : ℕ) → 4 ≤ an → put_numbers numbers at number x sci an ≡ None
+few-put numbers at number x below all =
+    few-put_all numbers at (put (numbers at) number x)
+    (λ an over. put_all (λ (n : Option Numbers). n ≡ None) (numbers at) number x an
+    (λ same. absurd (omega (arith, below, over, same))) (λ other. all at an over)) all
+
 -- ---- a command
 
-started_tx : (block start : ℕ) → start < 2 ^ 32 → IsTxWithin block (Some start) (Some (ahead start block))
-started_tx block start below = (omega (arith, below), omega (arith, below), omega arith)
+from_one : (start : ℕ) → (start == 0) ≡ false → 1 ≤ start
+from_one zero is = absurd cc
+from_one (suc n) is = omega arith
 
--- with the numbers that a command makes go the ceilings that it makes
+started_tx : (block start : ℕ) → 1 ≤ start → start < 2 ^ 32 → IsTxWithin block (Some start) (Some (ahead start block))
+started_tx block start least below = (least, omega (arith, below), omega (arith, below), omega arith)
+
+-- with the numbers that a command makes go the ceilings that it makes, where its start is not 0
 pub command-ahead : (identity : Identity) (command : Command) (next : ℕ → Option ℕ) (numbers : List ℕ → ℕ → Option Numbers) (c : Ceilings)
-    → IsCommand this_edition command → AreAhead identity next numbers c
+    → IsCommand this_edition command → start_range command ≡ false → AreAhead identity next numbers c
     → AreAhead identity (next_after command next) (numbers_after command numbers) (ceilings_after identity command c)
-command-ahead identity (SetValidate validate) next numbers c ranges are = are
-command-ahead identity (SetReplay on window) next numbers c ranges are = record {
+command-ahead identity (SetValidate validate) next numbers c ranges numbered are = are
+command-ahead identity (SetReplay on window) next numbers c ranges numbered are = record {
   tx_ahead = are.tx_ahead;
   rx_ahead = λ sci an. rx_windowed identity.rx_block window (numbers sci an) (c.rx sci an) (are.rx_ahead sci an);
+  few = λ sci an over. ap (option_map (under_window window)) (are.few sci an over);
 }
-command-ahead identity (SetSciMode mode) next numbers c ranges are = are
-command-ahead identity (TxInstall an key start confidential offset) next numbers c ranges are = record {
+command-ahead identity (SetSciMode mode) next numbers c ranges numbered are = are
+command-ahead identity (TxInstall an key start confidential offset) next numbers c ranges numbered are = record {
   tx_ahead = tx-put identity.tx_block next c.tx an (Some start) (Some (ahead start identity.tx_block))
-      (started_tx identity.tx_block start ranges.2) are.tx_ahead;
+      (started_tx identity.tx_block start (from_one start numbered) ranges.2) are.tx_ahead;
   rx_ahead = are.rx_ahead;
+  few = are.few;
 }
-command-ahead identity (TxUse an) next numbers c ranges are = are
-command-ahead identity (TxRemove an) next numbers c ranges are = record {
+command-ahead identity (TxUse an) next numbers c ranges numbered are = are
+command-ahead identity (TxRemove an) next numbers c ranges numbered are = record {
   tx_ahead = tx-put identity.tx_block next c.tx an None None tt are.tx_ahead;
   rx_ahead = are.rx_ahead;
+  few = are.few;
 }
-command-ahead identity (RxAdd sci) next numbers c ranges are = are
-command-ahead identity (RxDrop sci) next numbers c ranges are = record {
+command-ahead identity (RxAdd sci) next numbers c ranges numbered are = are
+command-ahead identity (RxDrop sci) next numbers c ranges numbered are = record {
   tx_ahead = are.tx_ahead;
   rx_ahead = rx-put_all identity.rx_block numbers c.rx sci (λ an. None) (λ an. None) (λ an. tt) are.rx_ahead;
+  few = few-put_all numbers sci (λ an. None) (λ an over. refl) are.few;
 }
-command-ahead identity (RxInstall sci an key start offset) next numbers c ranges are = record {
+command-ahead identity (RxInstall sci an key start offset) next numbers c ranges numbered are = record {
   tx_ahead = are.tx_ahead;
   rx_ahead = rx-put identity.rx_block numbers c.rx sci an (Some (first_numbers start)) (Some start) (omega arith, omega arith) are.rx_ahead;
+  few = few-put numbers sci an (Some (first_numbers start)) ranges.1 are.few;
 }
-command-ahead identity (RxRemove sci an) next numbers c ranges are = record {
+command-ahead identity (RxRemove sci an) next numbers c ranges numbered are = record {
   tx_ahead = are.tx_ahead;
   rx_ahead = rx-put identity.rx_block numbers c.rx sci an None None tt are.rx_ahead;
+  few = few-put numbers sci an None ranges.1 are.few;
 }
 
 accepted_parts : (s : Standing) (command : Command) (result : Result Config Refusal) (made : Standing) → standing_or_refusal s command result ≡ Ok made
@@ -151,7 +185,7 @@ tx_rises : (block : ℕ) (next ceiling : Option ℕ) → IsTxWithin block next c
 tx_rises block None None within = refl
 tx_rises block None (Some ceiling) within = absurd within
 tx_rises block (Some next) None within = absurd within
-tx_rises block (Some next) (Some ceiling) within = (ceiling, refl, within.0, within.1, within.2)
+tx_rises block (Some next) (Some ceiling) within = (ceiling, refl, within.1, within.2, within.3)
 
 rx_rises : (block : ℕ) (numbers : Option Numbers) (ceiling : Option ℕ) → IsRxWithin block numbers ceiling → RxRises block numbers (option_map first_numbers ceiling)
 rx_rises block None None within = refl
@@ -198,7 +232,7 @@ module _ (sectors : ℕ) (image : Image) (size : least_sectors ≤ sectors) wher
         in_hand = None;
       } in
       let later : AreAhead mid.identity mid.next mid.numbers (ceilings_after s.identity command c) =
-      command-ahead s.identity command s.next s.numbers c ranges are in
+      command-ahead s.identity command s.next s.numbers c ranges (accepted-in_range (standing_with s c) command (ap is_ok accepts)).0 are in
       record {
         found = standing_with mid (ceilings_after s.identity command c);
         is_found = (size, subst (FindsStanding s.edition image) parts.2 finds);

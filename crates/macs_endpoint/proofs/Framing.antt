@@ -1,5 +1,5 @@
 -- Frames protected and received: from what the channels answer to what the endpoint does.
-use Rattle.std.proofs.Common.{◌≡◌, ◌≤◌, ◌<◌, ◌+◌, ◌==◌, ◌||◌, ◌↔◌, ◌⊎◌, inl, inr, ℕ, Bool, true, false, cond, List, [], ◌∷◌, ◌++◌, Option, Some, None, Result, Ok, Err, refl, sym, ◌∙◌, ap, subst, arith}
+use Rattle.std.proofs.Common.{◌≡◌, ◌≤◌, ◌<◌, ◌+◌, ◌==◌, ◌||◌, ◌^◌, ◌↔◌, ◌⊎◌, inl, inr, ℕ, Bool, true, false, cond, List, All, [], ◌∷◌, ◌++◌, Option, Some, None, Result, Ok, Err, refl, sym, ◌∙◌, ap, subst, arith}
 use Rattle.std.specs.Prelude.{IfOk, OnErr, OnOk, max}
 use Rattle.std.specs.Option.{option_map, option_map_or}
 use Rattle.std.proofs.lemmas.Bool.Decides.{nat_tests}
@@ -18,7 +18,9 @@ use Rattle.macs_txsc.specs.declared.fault.TxFault.TheVariants.{Runt, TooLong, Fo
 use Rattle.macs_rxsc.specs.Counting.{with_verdict, with_verdict_at}
 use Rattle.macs_rxsc.specs.Receive.{Arrival, Arrives, Numbers, Outcome, RxSide, RxStep, Tag, NoChannel, NoAssociation, BelowLowest, NotVerified, after_delivery, arrival_outcome, channel_of, given_at, after_hold, is_below, is_strict, kind_of, put_numbers, seen_after, verdict_at}
 use Rattle.macs_rxsc.specs.Receive as rx
+use Rattle.macs_rxsc.specs.Value.{association_in, channel_at}
 use Rattle.macs_rxsc.specs.Value as rxsc
+use Rattle.macs_rxsc.proofs.Needs.{unnumbered, unowned}
 use Rattle.macs_rxsc.specs.declared.verdict.Kind.{Kind}
 use Rattle.macs_rxsc.specs.declared.verdict.Kind.TheVariants.{Untagged, UnknownSci, UnusedSa, Invalid}
 use Rattle.macs_rxsc.specs.declared.verdict.Reason.{Reason}
@@ -106,7 +108,7 @@ numbered_next next an (Some sa) None o at is = absurd cc
 numbered_next next an None (Some pn) o at is = absurd cc
 numbered_next next an None None o at is = absurd cc
 
-outgoing_next : (side : TxSide) (encoding : Option ℕ) (o : Outgoing) → outgoing_at side encoding ≡ Some o → side.next o.an ≡ Some o.pn
+pub outgoing_next : (side : TxSide) (encoding : Option ℕ) (o : Outgoing) → outgoing_at side encoding ≡ Some o → side.next o.an ≡ Some o.pn
 outgoing_next side None o is = absurd cc
 outgoing_next side (Some an) o is = numbered_next side.next an (side.tx an) (side.next an) o refl is
 
@@ -133,9 +135,9 @@ sent_within : (block pn : ℕ) (ceiling : Option ℕ) → IsTxWithin block (Some
     → IsTxWithin block (Some (pn + 1)) ceiling
 sent_within block pn None within below = within
 sent_within block pn (Some ceiling) within below =
-    let order : pn ≤ ceiling = within.0 in
+    let order : pn ≤ ceiling = within.1 in
     let above : pn < ceiling = grind (arith, nat_tests) in
-    (omega (arith, above), omega (arith, within.1), within.2)
+    (omega arith, omega (arith, above), omega (arith, within.2), within.3)
 
 put_within : (block : ℕ) (next ceilings : ℕ → Option ℕ) (at pn : ℕ) → ((an : ℕ) → IsTxWithin block (next an) (ceilings an)) → next at ≡ Some pn
     → option_map_or (λ ceiling. ceiling == pn) (ceilings at) false ≡ false
@@ -187,13 +189,22 @@ protect_step s later ceilings plain (Err fault) out running sends =
     (s.logs, refused_step s later ceilings plain fault out running sends)
 
 -- NoNumber is none of the faults that come before it
-five_others : (a b c d e : Bool) → ¬ (first ((Runt, a) ∷ (TooLong, b) ∷ (ForeignSource, c) ∷ (NoEncodingSa, d) ∷ (Exhausted, e) ∷ []) ≡ Some NoNumber)
+pub five_others : (a b c d e : Bool) → ¬ (first ((Runt, a) ∷ (TooLong, b) ∷ (ForeignSource, c) ∷ (NoEncodingSa, d) ∷ (Exhausted, e) ∷ []) ≡ Some NoNumber)
 five_others true b c d e is = absurd cc
 five_others false true c d e is = absurd cc
 five_others false false true d e is = absurd cc
 five_others false false false true e is = absurd cc
 five_others false false false false true is = absurd cc
 five_others false false false false false is = absurd cc
+
+-- where no fault holds, not every number is used
+pub not_exhausted : (a b c d e : Bool) → first ((Runt, a) ∷ (TooLong, b) ∷ (ForeignSource, c) ∷ (NoEncodingSa, d) ∷ (Exhausted, e) ∷ []) ≡ None → e ≡ false
+not_exhausted true b c d e is = absurd cc
+not_exhausted false true c d e is = absurd cc
+not_exhausted false false true d e is = absurd cc
+not_exhausted false false false true e is = absurd cc
+not_exhausted false false false false true is = absurd cc
+not_exhausted false false false false false is = refl
 
 at_ceiling : (side later : TxSide) (ceilings : ℕ → Option ℕ) (plain : List ℕ) (out : List ℕ) → Sends side later ceilings plain (Err NoNumber) out
     → is_at_ceiling ceilings (outgoing side) ≡ true
@@ -247,6 +258,7 @@ module _ {D : Type 0} (old : EndpointValue D) (tx : Tx) (plain : List ℕ) (resu
           tx_within = λ an. subst (λ (side : TxSide). IsTxWithin s.identity.tx_block (side.next an) (txsc.ceilings_of tx an)) (sym is)
               (subst (λ (c : ℕ → Option ℕ). IsTxWithin s.identity.tx_block (next an) (c an)) (sym same) (within an));
           rx_within = kept.within.rx_within;
+          few = kept.within.few;
         };
         idle = kept.idle;
       }
@@ -276,11 +288,12 @@ module _ {D : Type 0} (disk_of : D → Disk) (old : EndpointValue D) (tx : Tx) (
   counted_after (Ok pn) is = is
   counted_after (Err fault) is = is
 
-  pub protected-call : is_stopped old ≡ false → txsc.counters_of tx ≡ with_answer result (txsc.counters_of old.tx)
+  pub protected-call : All (λ octet. octet < 2 ^ 8) plain → is_stopped old ≡ false → txsc.counters_of tx ≡ with_answer result (txsc.counters_of old.tx)
       → IsCall disk_of old (Protects plain) (Protected (answered result) out) (with_tx old tx)
-  protected-call running counters =
+  protected-call octets running counters =
       let standing = standing_sends old tx plain result out kept sends ceilings in
       alone-call disk_of old tx old.rx (Protects plain) (Protected (answered result) out) refl (λ backed. kept-backed disk_of (with_tx old tx) protected-kept backed.size (backed.stored running)) (record {
+        in_range = octets;
         step = λ logs. protect_step (state_of old logs) (txsc.tx_side_of tx) (standing_in old.store).ceilings.tx plain result out running standing;
         ceilings = refl;
         limited = protect_limited old tx plain (txsc.tx_side_of tx) result out standing;
@@ -291,10 +304,12 @@ module _ {D : Type 0} (disk_of : D → Disk) (old : EndpointValue D) (tx : Tx) (
       })
 
 -- an endpoint that is stopped
-pub protect-stopped : {D : Type 0} (disk_of : D → Disk) (old : EndpointValue D) (plain out : List ℕ) → is_stopped old ≡ true → out ≡ []
+pub protect-stopped : {D : Type 0} (disk_of : D → Disk) (old : EndpointValue D) (plain out : List ℕ) → All (λ octet. octet < 2 ^ 8) plain
+    → is_stopped old ≡ true → out ≡ []
     → IsCall disk_of old (Protects plain) (Protected (Err Stopped) out) old
-protect-stopped disk_of old plain out stopped empty =
+protect-stopped disk_of old plain out octets stopped empty =
     alone-call disk_of old old.tx old.rx (Protects plain) (Protected (Err Stopped) out) refl (λ backed. backed) (record {
+      in_range = octets;
       step = λ logs. (logs, inl (stopped, empty, refl));
       ceilings = refl;
       limited = tt;
@@ -490,17 +505,20 @@ module _ {D : Type 0} (disk_of : D → Disk) (old : EndpointValue D) (r : rxsc.R
         within = record {
           tx_within = kept.within.tx_within;
           rx_within = λ sci an. subst (λ (c : List ℕ → ℕ → Option ℕ). IsRxWithin s.identity.rx_block (numbers sci an) (c sci an)) (sym same) (within sci an);
+          few = λ sci an over. unnumbered (association_in (channel_at r.channels sci) an)
+              ((λ i. (side i).rx sci an) ∙ unowned (association_in (channel_at old.rx.channels sci) an) (kept.within.few sci an over));
         };
         idle = kept.idle;
       }
 
-  pub received-call : is_stopped old ≡ false → rxsc.counters_of r ≡ with_verdict verdict (rxsc.counters_of old.rx)
+  pub received-call : All (λ octet. octet < 2 ^ 8) frame → is_stopped old ≡ false → rxsc.counters_of r ≡ with_verdict verdict (rxsc.counters_of old.rx)
       → rxsc.channel_counters_of r ≡ with_verdict_at (channel_of (rxsc.rx_side_of old.rx) frame) verdict (rxsc.channel_counters_of old.rx)
       → IsCall disk_of old (state.Receives frame) (Received (Ok verdict) out) (with_rx old r)
-  received-call running counters channel_counters =
+  received-call octets running counters channel_counters =
       let s = standing_in old.store in
       let outcome : Outcome = record { verdict = verdict; given = out; numbers = (rxsc.rx_side_of r).numbers } in
       alone-call disk_of old old.tx r (state.Receives frame) (Received (Ok verdict) out) refl (λ backed. kept-backed disk_of (with_rx old r) received-kept backed.size (backed.stored running)) (record {
+        in_range = octets;
         step = λ logs. receive_step (state_of old logs) s.ceilings.rx frame outcome running (kept-ahead old kept).rx_ahead standing_receives;
         ceilings = refl;
         limited = receive_limited old (with_rx old r) frame verdict out
@@ -512,10 +530,11 @@ module _ {D : Type 0} (disk_of : D → Disk) (old : EndpointValue D) (r : rxsc.R
             ∙ ap (λ (x : RxSide). with_verdict_at (channel_of x frame) verdict (rxsc.channel_counters_of old.rx)) kept.channels.rx_is;
       })
 
-pub receive-stopped : {D : Type 0} (disk_of : D → Disk) (old : EndpointValue D) (frame out : List ℕ) (fault : StoppedFault) → is_stopped old ≡ true
-    → out ≡ [] → IsCall disk_of old (state.Receives frame) (Received (Err fault) out) old
-receive-stopped disk_of old frame out fault stopped empty =
+pub receive-stopped : {D : Type 0} (disk_of : D → Disk) (old : EndpointValue D) (frame out : List ℕ) (fault : StoppedFault) → All (λ octet. octet < 2 ^ 8) frame
+    → is_stopped old ≡ true → out ≡ [] → IsCall disk_of old (state.Receives frame) (Received (Err fault) out) old
+receive-stopped disk_of old frame out fault octets stopped empty =
     alone-call disk_of old old.tx old.rx (state.Receives frame) (Received (Err fault) out) refl (λ backed. backed) (record {
+      in_range = octets;
       step = λ logs. (logs, inl (stopped, empty, refl));
       ceilings = refl;
       limited = tt;

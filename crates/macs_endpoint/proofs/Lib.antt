@@ -1,6 +1,7 @@
 pub mod Fitting
 mod Alone
 pub mod Framing
+pub mod FrameNumbers
 pub mod Turns
 pub mod Formatted
 pub mod Following
@@ -8,4 +9,6 @@ pub mod Rooms
 pub mod Seen
 pub mod Opened
 pub mod Commanding
-pub mod Raising
+pub mod Raises
+pub mod Raised
+pub mod RefillCall

@@ -1,8 +1,8 @@
 -- How far ceilings are ahead: after a refill or an install, and through calls.
-use Rattle.std.proofs.Common.{◌≡◌, ◌≢◌, ◌≤◌, ◌<◌, ◌+◌, ◌-◌, ◌/◌, ◌^◌, ◌==◌, ◌||◌, ◌⊎◌, inl, inr, ℕ, Bool, true, false, cond, List, [], ◌∷◌, Option, Some, None, IsSome, Ok, Err, refl, sym, ◌∙◌, ap, subst, arith}
-use Rattle.std.specs.Prelude.{nat_le, nat_lt}
+use Rattle.std.proofs.Common.{◌≡◌, ◌≢◌, ◌≤◌, ◌<◌, ◌+◌, ◌-◌, ◌/◌, ◌^◌, ◌==◌, ◌⊎◌, inl, inr, ℕ, Bool, true, false, cond, List, [], ◌∷◌, Option, Some, None, IsSome, Ok, Err, refl, sym, ◌∙◌, ap, subst, arith}
+use Rattle.std.specs.Prelude.{IsSomeAnd, nat_lt}
 use Rattle.std.specs.Option.{option_map, option_map_or}
-use Rattle.std.proofs.lemmas.Bool.{and_parts, cases_lt, eq-eqb, eqb-true}
+use Rattle.std.proofs.lemmas.Bool.{cases_lt, eq-eqb, eqb-true}
 use Rattle.std.proofs.lemmas.Bool.Decides.{nat_tests}
 use Rattle.macs_frame.specs.First.{first}
 use Rattle.macs_config.specs.Config.{Config}
@@ -17,16 +17,21 @@ use Rattle.macs_txsc.specs.Transmit.{Outgoing, TxSide, is_at_ceiling, is_used_up
 use Rattle.macs_txsc.specs.Transmit as tx
 use Rattle.macs_txsc.specs.Value.{association_at, sa_of}
 use Rattle.macs_txsc.specs.declared.association.Association.{Association}
-use Rattle.macs_txsc.specs.declared.fault.TxFault.TheVariants.{Runt, TooLong, ForeignSource, NoEncodingSa, Exhausted, NoNumber}
-use Rattle.macs_rxsc.specs.Needs.{Need, is_needed, need_of, need_by_seen, raised_ceiling}
-use Rattle.macs_rxsc.specs.Receive.{Arrival, Arrives, Numbers, is_below}
+use Rattle.macs_txsc.proofs.Needs.{tx-unneeded}
+use Rattle.macs_txsc.specs.declared.fault.TxFault.TheVariants.{NoNumber}
+use Rattle.macs_rxsc.specs.Needs.{is_needed, need_of, needs_of}
+use Rattle.macs_rxsc.specs.Receive.{Arrival, Arrives, Numbers, RxSide, has_channel, is_below}
 use Rattle.macs_rxsc.specs.declared.verdict.Verdict.TheVariants.{HeldBack}
+use Rattle.macs_rxsc.proofs.Left.{no-needs}
+use Rattle.macs_rxsc.proofs.Needed.{unneeded}
+use Rattle.macs_rxsc.proofs.Needs.{among-numbered}
 use Rattle.macs_rxsc.proofs.Steps.{arrives_once}
+use Rattle.macs_rxsc.proofs.Told.{asked}
 use Rattle.macs_store.specs.Value.{standing_in}
 use Rattle.macs_store.specs.Standing.{Ceilings, Standing, ahead, ceilings_after}
 use Rattle.macs_store.specs.declared.fault.CommitFault.TheVariants as commit
 use Rattle.macs_endpoint.specs.Calls.{IsCall}
-use Rattle.macs_endpoint.specs.Ceilings.{CeilingsAfter, rx_refilled, rx_served, tx_refilled, tx_served}
+use Rattle.macs_endpoint.specs.Ceilings.{CeilingsAfter, Raise, RaiseRx, RaiseTx, first_raise, with_raise}
 use Rattle.macs_endpoint.specs.Value.{IsSoundEndpoint, IsRxWithin, IsTxWithin, EndpointValue, state_of}
 use Rattle.macs_endpoint.specs.Lives.{Lives, Turn}
 use Rattle.macs_endpoint.specs.Rooms.{HasRoom, IsBelow, IsEncoding, RxStays, SparesRx, SparesTx, TxStays, one_if, frames_sent}
@@ -34,15 +39,14 @@ use Rattle.macs_endpoint.specs.State.{Call, Commands, Protects, Protected, Ran, 
 use Rattle.macs_endpoint.specs.Step.{Step, next_after}
 use Rattle.macs_endpoint.specs.declared.fault.ProtectFault.TheVariants as protect
 use Rattle.macs_endpoint.specs.declared.fault.RefillFault.TheVariants as refill
-use Rattle.macs_endpoint.proofs.Fitting.{accept-parts, kept-ahead}
+use Rattle.macs_endpoint.proofs.Fitting.{accept-parts, kept-ahead, put_here}
+use Rattle.macs_endpoint.proofs.Framing.{five_others, not_exhausted}
+use Rattle.macs_endpoint.proofs.Raises.{AreRaised, no-first, raises-ahead, raises-keep, raises-parts, rx-first}
 
 -- ---- one place changed
 
 pub put_other : {X : Type 0} (f : ℕ → X) (at an : ℕ) (x : X) → at ≢ an → put f at x an ≡ f an
 put_other f at an x differ = put_all (λ y. y ≡ f an) f at x an (λ same. absurd (differ (sym same))) (λ other. refl)
-
-pub put_here : {X : Type 0} (f : ℕ → X) (at : ℕ) (x : X) → put f at x at ≡ x
-put_here f at x = ap (λ b. cond b x (f at)) (eq-eqb at at refl)
 
 pub put_at_other : {X : Type 0} (f : List ℕ → X) (at sci : List ℕ) (x : X) → at ≢ sci → put_at f at x sci ≡ f sci
 put_at_other f at sci x differ = put_at_all (λ y. y ≡ f sci) f at x sci (λ same. absurd (differ (sym same))) (λ other. refl)
@@ -104,14 +108,14 @@ covers_raised count used block (Some next) (Some ceiling) (inl below) = elim (ca
 ]
 covers_raised count used block (Some next) (Some ceiling) (inr all) = inr (omega (arith, all))
 
-covers_served : (count used an : ℕ) (n : Option ℕ) (s : Standing) (need : Option ℕ) → Covers count used n (s.ceilings.tx an)
-    → Covers count used n ((tx_served s need).ceilings.tx an)
-covers_served count used an n s None covers = covers
-covers_served count used an n s (Some at) covers =
+covers_raise : (count used an : ℕ) (n : Option ℕ) (s : Standing) (raise : Raise) → Covers count used n (s.ceilings.tx an)
+    → Covers count used n ((with_raise s raise).ceilings.tx an)
+covers_raise count used an n s (RaiseTx at) covers =
     let block = s.identity.tx_block in
     put_all (λ (c : Option ℕ). Covers count used n c) s.ceilings.tx at (option_map (λ ceiling. ahead ceiling block) (s.ceilings.tx at)) an
     (λ same. covers_raised count used block n (s.ceilings.tx at) (subst (λ (k : ℕ). Covers count used n (s.ceilings.tx k)) same covers))
     (λ differ. covers)
+covers_raise count used an n s (RaiseRx need) covers = covers
 
 -- a command on another association
 covers_put : (count used an at : ℕ) (next c : ℕ → Option ℕ) (n ceiling : Option ℕ) → at ≢ an → Covers count used (next an) (c an)
@@ -180,16 +184,10 @@ module _ (count used an : ℕ) (s t : State) (f g : Standing) where
   covers_stay extra is_next same covers =
       covers_next extra is_next (subst (λ (x : Standing). Covers count used (s.next an) (x.ceilings.tx an)) (sym same) covers)
 
-  covers_refilled : g.ceilings.tx ≡ (tx_refilled f (tx_side s)).ceilings.tx → Covers count used (s.next an) (f.ceilings.tx an)
-      → Covers count used (s.next an) (g.ceilings.tx an)
-  covers_refilled is covers =
-      subst (λ (x : ℕ → Option ℕ). Covers count used (s.next an) (x an)) (sym is)
-      (covers_served count used an (s.next an) f (tx.need_of (tx_side s) f.ceilings.tx f.identity.tx_block) covers)
-
-  covers_partly : (g ≡ f) ⊎ (g.ceilings.tx ≡ (tx_refilled f (tx_side s)).ceilings.tx) → Covers count used (s.next an) (f.ceilings.tx an)
-      → Covers count used (s.next an) (g.ceilings.tx an)
-  covers_partly (inl same) covers = subst (λ (x : Standing). Covers count used (s.next an) (x.ceilings.tx an)) (sym same) covers
-  covers_partly (inr is) covers = covers_refilled is covers
+  covers_refilled : AreRaised (tx_side s) (rx_side s) f g → Covers count used (s.next an) (f.ceilings.tx an) → Covers count used (s.next an) (g.ceilings.tx an)
+  covers_refilled raised covers =
+      raises-keep (tx_side s) (rx_side s) (λ (x : Standing). Covers count used (s.next an) (x.ceilings.tx an))
+      (λ x raise first. covers_raise count used an (s.next an) x raise) f g raised.0 raised.1 covers
 
   abbrev next_of : State → ℕ → Option ℕ
   next_of x = x.next
@@ -225,13 +223,17 @@ module _ (count used an : ℕ) (s t : State) (f g : Standing) where
   covers_step Refills (Ran result) (inr step) stands keeps covers = absurd step.1
   covers_step Refills (Refilled (Ok done)) (inl step) stands keeps covers = absurd step.1
   covers_step Refills (Refilled (Ok done)) (inr step) stands keeps covers =
-      covers_next (one_if s.config.encoding an (Refilled (Ok done))) (ap next_of step.1) (covers_refilled stands.tx covers)
-  covers_step Refills (Refilled (Err fault)) (inl step) stands keeps covers =
-      covers_next (one_if s.config.encoding an (Refilled (Err fault))) (ap next_of step.2) (covers_partly stands.either covers)
+      covers_next (one_if s.config.encoding an (Refilled (Ok done))) (ap next_of step.1) (covers_refilled (stands.raises, stands.raised) covers)
+  covers_step Refills (Refilled (Err refill.Stopped)) (inl step) stands keeps covers =
+      covers_stay (one_if s.config.encoding an (Refilled (Err refill.Stopped))) (ap next_of step.2) stands covers
+  covers_step Refills (Refilled (Err refill.AreaFull)) (inl step) stands keeps covers = absurd step.1
+  covers_step Refills (Refilled (Err refill.Disk)) (inl step) stands keeps covers = absurd step.1
   covers_step Refills (Refilled (Err refill.AreaFull)) (inr step) stands keeps covers =
-      covers_next (one_if s.config.encoding an (Refilled (Err refill.AreaFull))) (ap next_of step.1) (covers_partly stands.either covers)
+      covers_next (one_if s.config.encoding an (Refilled (Err refill.AreaFull))) (ap next_of step.1)
+      (covers_refilled (stands.1.raises, stands.1.raised) covers)
   covers_step Refills (Refilled (Err refill.Disk)) (inr step) stands keeps covers =
-      covers_next (one_if s.config.encoding an (Refilled (Err refill.Disk))) (ap next_of step.1) (covers_partly stands.either covers)
+      covers_next (one_if s.config.encoding an (Refilled (Err refill.Disk))) (ap next_of step.1)
+      (covers_refilled (stands.1.raises, stands.1.raised) covers)
   covers_step Refills (Refilled (Err refill.Stopped)) (inr step) stands keeps covers = absurd step.1
   covers_step Refills (Protected result out) (inl step) stands keeps covers = absurd step.1
   covers_step Refills (Protected result out) (inr step) stands keeps covers = absurd step.1
@@ -294,30 +296,32 @@ under_command sci an pn identity (RxInstall channel at key start offset) done c 
 under_command sci an pn identity (RxRemove channel at) done c keeps under =
     subst (λ (x : Option ℕ). IsUnder x pn) (sym (put_rx_other c.rx channel sci at an None keeps)) under
 
-under_needed : (block an pn next ceiling seen : ℕ) (sci : List ℕ) (is : Bool) → is_needed block next ceiling seen ≡ is → pn < ceiling
-    → IsUnder (rx_served block (Some ceiling) (cond is (Some (record { sci = sci; an = an; pn = seen })) None)) pn
-under_needed block an pn next ceiling seen sci true is under =
-    let higher : ceiling < raised_ceiling block seen = grind (arith, nat_tests, (and_parts (nat_le ceiling seen || nat_le (ceiling - next) (block / 2)) (nat_lt ceiling (raised_ceiling block seen)) is).1) in
-    omega (arith, higher, under)
-under_needed block an pn next ceiling seen sci false is under = under
+-- a ceiling that is raised
+under_higher : (c : Option ℕ) (pn top : ℕ) → IsUnder c pn → IsSomeAnd c (λ ceiling. ceiling < top) → pn < top
+under_higher None pn top under higher = absurd under
+under_higher (Some ceiling) pn top under higher = omega (arith, under, higher)
 
-under_seen : (block an pn : ℕ) (sci : List ℕ) (numbers : Numbers) (ceiling : ℕ) (seen : Option ℕ) → pn < ceiling
-    → IsUnder (rx_served block (Some ceiling) (need_by_seen block sci an numbers ceiling seen)) pn
-under_seen block an pn sci numbers ceiling None under = under
-under_seen block an pn sci numbers ceiling (Some seen) under =
-    under_needed block an pn numbers.next ceiling seen sci (is_needed block numbers.next ceiling seen) refl under
-
-under_served : (block an pn : ℕ) (sci : List ℕ) (numbers : Option Numbers) (c : Option ℕ) → IsUnder c pn
-    → IsUnder (rx_served block c (need_of block sci an numbers c)) pn
-under_served block an pn sci numbers None under = absurd under
-under_served block an pn sci None (Some ceiling) under = under
-under_served block an pn sci (Some numbers) (Some ceiling) under = under_seen block an pn sci numbers ceiling numbers.seen under
+under_raise : (sci : List ℕ) (an pn : ℕ) (tx_side : TxSide) (rx_side : RxSide) (s : Standing) (raise : Raise)
+    → first_raise s tx_side rx_side ≡ Some raise → IsUnder (s.ceilings.rx sci an) pn → IsUnder ((with_raise s raise).ceilings.rx sci an) pn
+under_raise sci an pn tx_side rx_side s (RaiseTx at) first under = under
+under_raise sci an pn tx_side rx_side s (RaiseRx need) first under =
+    let block = s.identity.rx_block in
+    let c = s.ceilings.rx in
+    let is = rx-first (tx.need_of tx_side s.ceilings.tx s.identity.tx_block) (needs_of rx_side c block) need first in
+    let higher = asked rx_side c block need is.1 in
+    let top = ahead need.pn block in
+    put_at_all (λ (row : ℕ → Option ℕ). IsUnder (row an) pn) c need.sci (put (c need.sci) need.an (Some top)) sci
+    (λ same. put_all (λ (o : Option ℕ). IsUnder o pn) (c need.sci) need.an (Some top) an
+    (λ same_an. under_higher (c need.sci need.an) pn top
+    (subst (λ (t : List ℕ). IsUnder (c t need.an) pn) same (subst (λ (k : ℕ). IsUnder (c sci k) pn) same_an under)) higher)
+    (λ other. subst (λ (t : List ℕ). IsUnder (c t an) pn) same under))
+    (λ other. under)
 
 module _ (sci : List ℕ) (an pn : ℕ) (s : State) (f g : Standing) where
-  under_refilled : g.ceilings.rx sci an ≡ rx_refilled f (rx_side s) sci an → IsUnder (f.ceilings.rx sci an) pn → IsUnder (g.ceilings.rx sci an) pn
-  under_refilled is under =
-      subst (λ (x : Option ℕ). IsUnder x pn) (sym is)
-      (under_served f.identity.rx_block an pn sci (s.numbers sci an) (f.ceilings.rx sci an) under)
+  under_refilled : AreRaised (tx_side s) (rx_side s) f g → IsUnder (f.ceilings.rx sci an) pn → IsUnder (g.ceilings.rx sci an) pn
+  under_refilled raised under =
+      raises-keep (tx_side s) (rx_side s) (λ (x : Standing). IsUnder (x.ceilings.rx sci an) pn)
+      (under_raise sci an pn (tx_side s) (rx_side s)) f g raised.0 raised.1 under
 
   under_same : g ≡ f → IsUnder (f.ceilings.rx sci an) pn → IsUnder (g.ceilings.rx sci an) pn
   under_same same under = subst (λ (x : Standing). IsUnder (x.ceilings.rx sci an) pn) (sym same) under
@@ -333,37 +337,31 @@ module _ (sci : List ℕ) (an pn : ℕ) (s : State) (f g : Standing) where
   under_stands (Commands command) (Protected result out) stands keeps under = under_same stands under
   under_stands (Commands command) (Received result out) stands keeps under = under_same stands under
   under_stands Refills (Ran result) stands keeps under = under_same stands under
-  under_stands Refills (Refilled (Ok done)) stands keeps under = under_refilled (stands.rx sci an) under
-  under_stands Refills (Refilled (Err fault)) stands keeps under = elim (stands.rx sci an) [
-    | inl same ↦ subst (λ (x : Option ℕ). IsUnder x pn) (sym same) under
-    | inr is ↦ under_refilled is under
-  ]
+  under_stands Refills (Refilled (Ok done)) stands keeps under = under_refilled (stands.raises, stands.raised) under
+  under_stands Refills (Refilled (Err refill.Stopped)) stands keeps under = under_same stands under
+  under_stands Refills (Refilled (Err refill.AreaFull)) stands keeps under = under_refilled (stands.1.raises, stands.1.raised) under
+  under_stands Refills (Refilled (Err refill.Disk)) stands keeps under = under_refilled (stands.1.raises, stands.1.raised) under
   under_stands Refills (Protected result out) stands keeps under = under_same stands under
   under_stands Refills (Received result out) stands keeps under = under_same stands under
   under_stands (Protects plain) reply stands keeps under = under_same stands under
   under_stands (Receives frame) reply stands keeps under = under_same stands under
 
--- a refill that was not needed leaves room, and one that was makes it
-reach_by : (block next seen pn ceiling : ℕ) (is : Bool) (need : Need) → is_needed block next ceiling seen ≡ is → need.pn ≡ seen → 1 ≤ block → pn < 2 ^ 32
-    → (pn ≤ seen) ⊎ ((pn < next + block / 2 + 1) × (pn < seen + block)) → IsUnder (rx_served block (Some ceiling) (cond is (Some need) None)) pn
-reach_by block next seen pn ceiling true need is is_seen least last reach = elim reach [
-  | inl lower ↦ omega (arith, is_seen, least, last, lower)
-  | inr near ↦ (let nearer = near.1 in omega (arith, is_seen, last, nearer))
-]
-reach_by block next seen pn ceiling false need is is_seen least last reach = elim reach [
+-- a ceiling that is not needed leaves room
+reach_unneeded : (block next seen pn ceiling : ℕ) → is_needed block next ceiling seen ≡ false → 1 ≤ block → pn < 2 ^ 32
+    → (pn ≤ seen) ⊎ ((pn < next + block / 2 + 1) × (pn < seen + block)) → pn < ceiling
+reach_unneeded block next seen pn ceiling is least last reach = elim reach [
   | inl lower ↦ grind (arith, nat_tests, is, least, last, lower)
   | inr near ↦ (let nearest = near.0 in let nearer = near.1 in grind (arith, nat_tests, is, least, last, nearest, nearer))
 ]
 
-reach_served : (block an pn next lowest seen : ℕ) (sci : List ℕ) (c d : Option ℕ) → 1 ≤ block → pn < 2 ^ 32
-    → d ≡ rx_served block c (need_of block sci an (Some (record { next = next; lowest = lowest; seen = Some seen })) c)
-    → IsRxWithin block (Some (record { next = next; lowest = lowest; seen = Some seen })) d
-    → (pn ≤ seen) ⊎ ((pn < next + block / 2 + 1) × (pn < seen + block)) → IsUnder d pn
-reach_served block an pn next lowest seen sci None d least last is within reach =
-    absurd (subst (λ (x : Option ℕ). IsRxWithin block (Some (record { next = next; lowest = lowest; seen = Some seen })) x) is within)
-reach_served block an pn next lowest seen sci (Some ceiling) d least last is within reach =
-    subst (λ (x : Option ℕ). IsUnder x pn) (sym is)
-    (reach_by block next seen pn ceiling (is_needed block next ceiling seen) (record { sci = sci; an = an; pn = seen }) refl refl least last reach)
+reach_by : (block an pn next lowest seen : ℕ) (sci : List ℕ) (c : Option ℕ) → 1 ≤ block → pn < 2 ^ 32
+    → need_of block sci an (Some (record { next = next; lowest = lowest; seen = Some seen })) c ≡ None
+    → IsRxWithin block (Some (record { next = next; lowest = lowest; seen = Some seen })) c
+    → (pn ≤ seen) ⊎ ((pn < next + block / 2 + 1) × (pn < seen + block)) → IsUnder c pn
+reach_by block an pn next lowest seen sci None least last none within reach = absurd within
+reach_by block an pn next lowest seen sci (Some ceiling) least last none within reach =
+    reach_unneeded block next seen pn ceiling
+    (unneeded block sci an (record { next = next; lowest = lowest; seen = Some seen }) ceiling seen none) least last reach
 
 -- ---- an endpoint
 
@@ -397,28 +395,27 @@ module _ {D : Type 0} (disk_of : D → Disk) where
       × (pn < seen + (standing_in new.store).identity.rx_block)))
       → IsBelow new sci an pn
   below-refilled old new sci an next lowest seen pn kept call are last reach =
-      let block = (standing_in new.store).identity.rx_block in
-      let before = standing_in old.store in
+      let s = standing_in new.store in
+      let t = state_of new no_logs in
+      let block = s.identity.rx_block in
       let numbers : Numbers = record { next = next; lowest = lowest; seen = Some seen } in
-      let d = (standing_in new.store).ceilings.rx sci an in
+      let c = s.ceilings.rx sci an in
+      let rx : RxSide = rx_side t in
       let ended = call.behaves.step no_logs in
-      let same : (state_of new no_logs).numbers ≡ (state_of old no_logs).numbers = elim ended.1 [
+      let same : rx ≡ rx_side (state_of old no_logs) = elim ended.1 [
         | inl stopped ↦ absurd stopped.1
-        | inr ran ↦ ap (λ (x : State). x.numbers) ran.1
+        | inr ran ↦ ap (λ (x : State). rx_side x) ran.1
       ] in
-      let stood : (state_of old no_logs).numbers sci an ≡ Some numbers = sym (ap (λ (x : List ℕ → ℕ → Option Numbers). x sci an) same) ∙ are in
-      let served : d ≡ rx_served before.identity.rx_block (before.ceilings.rx sci an)
-      (need_of before.identity.rx_block sci an (Some numbers) (before.ceilings.rx sci an)) =
-      call.behaves.ceilings.rx sci an
-      ∙ ap (λ (x : Option Numbers). rx_served before.identity.rx_block (before.ceilings.rx sci an)
-      (need_of before.identity.rx_block sci an x (before.ceilings.rx sci an))) stood in
-      let served_new : d ≡ rx_served block (before.ceilings.rx sci an) (need_of block sci an (Some numbers) (before.ceilings.rx sci an)) =
-      served ∙ ap (λ (i : Identity). rx_served i.rx_block (before.ceilings.rx sci an)
-      (need_of i.rx_block sci an (Some numbers) (before.ceilings.rx sci an))) (sym call.behaves.ceilings.identity) in
-      let within : IsRxWithin block (Some numbers) d =
-      subst (λ (x : Option Numbers). IsRxWithin block x d) are ((kept-ahead new kept).rx_ahead sci an) in
-      below_of new sci an pn d refl
-      (reach_served block an pn next lowest seen sci (before.ceilings.rx sci an) d kept.identity.rx_block.0 last served_new within reach)
+      let parts = no-first (tx.need_of (tx_side (state_of old no_logs)) s.ceilings.tx s.identity.tx_block)
+      (needs_of (rx_side (state_of old no_logs)) s.ceilings.rx block) call.behaves.ceilings.is_next in
+      let no_need : needs_of rx s.ceilings.rx block ≡ None = ap (λ (x : RxSide). needs_of x s.ceilings.rx block) same ∙ parts.1 in
+      let channels : (sci : List ℕ) (an : ℕ) → IsSome (rx.numbers sci an) → has_channel rx sci ≡ true = λ sci an some.
+      subst (λ (x : RxSide). has_channel x sci ≡ true) kept.channels.rx_is (among-numbered new.rx.channels sci an some) in
+      let none : need_of block sci an (Some numbers) c ≡ None = ap (λ (n : Option Numbers). need_of block sci an n c) (sym are)
+      ∙ no-needs rx s.ceilings.rx block channels kept.within.few no_need sci an in
+      let within : IsRxWithin block (Some numbers) c = subst (λ (x : Option Numbers). IsRxWithin block x c) are ((kept-ahead new kept).rx_ahead sci an) in
+      below_of new sci an pn c refl
+      (reach_by block an pn next lowest seen sci c kept.identity.rx_block.0 last none within reach)
 
   pub below-delivered : (old new : EndpointValue D) (frame out : List ℕ) (a : Arrival) → IsBelow old a.sci a.an a.pn
       → Arrives (rx_side (state_of old no_logs)) frame a → IsCall disk_of old (Receives frame) (Received (Ok HeldBack) out) new → ⊥
@@ -461,7 +458,7 @@ module _ {D : Type 0} (disk_of : D → Disk) where
     is_next = is_next;
     is_ceiling = is_ceiling;
     room = elim covers [
-      | inl below ↦ inl (let ordered = within.0 in omega (arith, ordered, below))
+      | inl below ↦ inl (let ordered = within.1 in omega (arith, ordered, below))
       | inr all ↦ inr all
     ];
   }
@@ -516,48 +513,26 @@ module _ {D : Type 0} (disk_of : D → Disk) where
   ceiling_of : (block next : ℕ) (c : Option ℕ) → IsTxWithin block (Some next) c
       → (ceiling : ℕ) × (c ≡ Some ceiling) × (next ≤ ceiling) × (ceiling ≤ 2 ^ 32)
   ceiling_of block next None within = absurd within
-  ceiling_of block next (Some ceiling) within = (ceiling, refl, within.0, within.2)
+  ceiling_of block next (Some ceiling) within = (ceiling, refl, within.1, within.3)
 
-  -- so many numbers are left, or all that there are
-  abbrev Leaves-room : Option ℕ → ℕ → ℕ → Type 0
-  Leaves-room c next count = (ceiling : ℕ) × (c ≡ Some ceiling) × ((next + count ≤ ceiling) ⊎ (ceiling ≡ 2 ^ 32))
-
-  served_by : (s : Standing) (an next ceiling : ℕ) (is : Bool) → tx.is_needed s.identity.tx_block next ceiling ≡ is → 1 ≤ s.identity.tx_block
-      → s.ceilings.tx an ≡ Some ceiling → next ≤ ceiling → ceiling ≤ 2 ^ 32
-      → Leaves-room ((tx_served s (cond is (Some an) None)).ceilings.tx an) next (s.identity.tx_block / 2 + 1)
-  served_by s an next ceiling true is least stands ordered bounded =
-      let block = s.identity.tx_block in (
-        ahead ceiling block,
-        put_here s.ceilings.tx an (option_map (λ c. ahead c block) (s.ceilings.tx an)) ∙ ap (option_map (λ c. ahead c block)) stands,
-        elim (cases_lt (ceiling + block) (2 ^ 32)) [
-          | inl under ↦ inl (omega (arith, under, least, ordered))
-          | inr over ↦ inr (omega (arith, over))
-        ],
-      )
-  served_by s an next ceiling false is least stands ordered bounded = (
-    ceiling,
-    stands,
-    elim (cases_lt ceiling (2 ^ 32)) [
-      | inl under ↦ inl (grind (arith, nat_tests, is, under, ordered))
-      | inr over ↦ inr (omega (arith, over, bounded))
-    ],
-  )
-
-  served_room : (s : Standing) (an next ceiling : ℕ) (sa : TxSa) → 1 ≤ s.identity.tx_block → s.ceilings.tx an ≡ Some ceiling → next ≤ ceiling
-      → ceiling ≤ 2 ^ 32 → Leaves-room ((tx_served s (tx.need_at s.ceilings.tx s.identity.tx_block
-      (Some (record { an = an; sa = sa; pn = next })))).ceilings.tx an) next (s.identity.tx_block / 2 + 1)
-  served_room s an next ceiling sa least stands ordered bounded =
-      let block = s.identity.tx_block in
-      subst (λ (c : Option ℕ). Leaves-room ((tx_served s (cond (option_map_or (tx.is_needed block next) c false) (Some an) None)).ceilings.tx an)
-      next (block / 2 + 1)) (sym stands)
-      (served_by s an next ceiling (tx.is_needed block next ceiling) refl least stands ordered bounded)
+  -- a ceiling that is not needed leaves room, or all the numbers that there are
+  enough_room : (block next ceiling : ℕ) → tx.is_needed block next ceiling ≡ false → next ≤ ceiling → ceiling ≤ 2 ^ 32
+      → (next + (block / 2 + 1) ≤ ceiling) ⊎ (ceiling ≡ 2 ^ 32)
+  enough_room block next ceiling is ordered bounded = elim (cases_lt ceiling (2 ^ 32)) [
+    | inl under ↦ inl (grind (arith, nat_tests, is, under, ordered))
+    | inr over ↦ inr (omega (arith, over, bounded))
+  ]
 
   pub room-refilled : (old new : EndpointValue D) (an : ℕ) → IsSoundEndpoint old → IsCall disk_of old Refills (Refilled (Ok tt)) new → IsEncoding new an
       → HasRoom new an ((standing_in new.store).identity.tx_block / 2 + 1)
   room-refilled old new an kept call encodes =
       let before = standing_in old.store in
+      let after = standing_in new.store in
       let side = tx_side (state_of old no_logs) in
-      let block = before.identity.tx_block in
+      let receives = rx_side (state_of old no_logs) in
+      let block = after.identity.tx_block in
+      let refilled = call.behaves.ceilings in
+      let same_config = (raises-parts side receives before after refilled.raises refilled.raised).1 in
       let ended = call.behaves.step no_logs in
       let same : (state_of new no_logs).next ≡ side.next = elim ended.1 [
         | inl stopped ↦ absurd stopped.1
@@ -568,41 +543,23 @@ module _ {D : Type 0} (disk_of : D → Disk) where
       let is_next : side.next an ≡ Some one.next = ap (option_map (λ (a : Association). a.next)) found.1 in
       let is_sa : side.tx an ≡ Some (sa_of one) =
       sym (ap (λ (x : TxSide). x.tx an) kept.channels.tx_is) ∙ ap (option_map sa_of) found.1 in
-      let ceiling = ceiling_of block one.next (before.ceilings.tx an)
-      (subst (λ (x : Option ℕ). IsTxWithin block x (before.ceilings.tx an)) is_next ((kept-ahead old kept).tx_ahead an)) in
-      let o : Outgoing = record { an = an; sa = sa_of one; pn = one.next } in
-      let chosen : side.encoding ≡ Some an = sym (ap (λ (x : Config). x.encoding) call.behaves.ceilings.config) ∙ encodes.0 in
-      let goes : outgoing side ≡ Some o = ap (outgoing_at side) chosen ∙ (λ i. outgoing_if an (is_sa i) (is_next i)) in
-      let room : Leaves-room ((tx_refilled before side).ceilings.tx an) one.next (block / 2 + 1) =
-      subst (λ (x : Option Outgoing). Leaves-room ((tx_served before (tx.need_at before.ceilings.tx block x)).ceilings.tx an) one.next (block / 2 + 1))
-      (sym goes) (served_room before an one.next ceiling.0 (sa_of one) kept.identity.tx_block.0 ceiling.1 ceiling.2 ceiling.3) in
-      let has : HasRoom new an (block / 2 + 1) = record {
+      let chosen : side.encoding ≡ Some an = sym (ap (λ (x : Config). x.encoding) same_config) ∙ encodes.0 in
+      let goes : outgoing side ≡ outgoing_if an (Some (sa_of one)) (Some one.next) =
+      ap (outgoing_at side) chosen ∙ (λ i. outgoing_if an (is_sa i) (is_next i)) in
+      let are = raises-ahead side receives before after refilled.raises refilled.raised (kept-ahead old kept) in
+      let ceiling = ceiling_of block one.next (after.ceilings.tx an)
+      (subst (λ (x : Option ℕ). IsTxWithin block x (after.ceilings.tx an)) is_next (are.tx_ahead an)) in
+      let none = no-first (tx.need_of side after.ceilings.tx block) (needs_of receives after.ceilings.rx after.identity.rx_block) refilled.is_next in
+      record {
         next = one.next;
-        ceiling = room.0;
+        ceiling = ceiling.0;
         is_next = said (state_of new no_logs).next side.next an (Some one.next) same is_next;
-        is_ceiling = said (standing_in new.store).ceilings.tx (tx_refilled before side).ceilings.tx an (Some room.0) call.behaves.ceilings.tx room.1;
-        room = room.2;
-      } in
-      subst (λ (i : Identity). HasRoom new an (i.tx_block / 2 + 1)) (sym call.behaves.ceilings.identity) has
+        is_ceiling = ceiling.1;
+        room = enough_room block one.next ceiling.0
+            (tx-unneeded side after.ceilings.tx block an one.next ceiling.0 (sa_of one) goes ceiling.1 none.0) ceiling.2 ceiling.3;
+      }
 
   -- ---- where no number is left
-
-  -- where no fault holds, not every number is used
-  not_exhausted : (a b c d e : Bool) → first ((Runt, a) ∷ (TooLong, b) ∷ (ForeignSource, c) ∷ (NoEncodingSa, d) ∷ (Exhausted, e) ∷ []) ≡ None → e ≡ false
-  not_exhausted true b c d e is = absurd cc
-  not_exhausted false true c d e is = absurd cc
-  not_exhausted false false true d e is = absurd cc
-  not_exhausted false false false true e is = absurd cc
-  not_exhausted false false false false true is = absurd cc
-  not_exhausted false false false false false is = refl
-
-  another_fault : (a b c d e : Bool) → first ((Runt, a) ∷ (TooLong, b) ∷ (ForeignSource, c) ∷ (NoEncodingSa, d) ∷ (Exhausted, e) ∷ []) ≡ Some NoNumber → ⊥
-  another_fault true b c d e is = cc
-  another_fault false true c d e is = cc
-  another_fault false false true d e is = cc
-  another_fault false false false true e is = cc
-  another_fault false false false false true is = cc
-  another_fault false false false false false is = cc
 
   numbers_left : (an next ceiling count : ℕ) (sa : Option TxSa) (ceilings : ℕ → Option ℕ) → ceilings an ≡ Some ceiling
       → (next + count ≤ ceiling) ⊎ (ceiling ≡ 2 ^ 32) → 1 ≤ count → is_at_ceiling ceilings (outgoing_if an sa (Some next)) ≡ true
@@ -627,7 +584,7 @@ module _ {D : Type 0} (disk_of : D → Disk) where
       elim ended.1 [
         | inl stopped ↦ stopped.1
         | inr ran ↦ elim ran.1.0 [
-          | inl is ↦ another_fault _ _ _ _ _ is
+          | inl is ↦ five_others _ _ _ _ _ is
           | inr none ↦
               let unused : is_used_up (outgoing side) ≡ false = not_exhausted _ _ _ _ _ none.0 in
               numbers_left an room.next room.ceiling count (side.tx an) c room.is_ceiling room.room least

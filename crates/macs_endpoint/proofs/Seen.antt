@@ -20,7 +20,8 @@ use Rattle.macs_endpoint.specs.Value.{EndpointValue, IsSoundEndpoint, state_of}
 use Rattle.macs_endpoint.specs.declared.fault.ProtectFault.TheVariants as protect
 use Rattle.macs_endpoint.specs.declared.fault.RefillFault.TheVariants as refill
 use Rattle.macs_endpoint.proofs.Following.{here_at}
-use Rattle.macs_endpoint.proofs.Rooms.{below-refilled, put_at_other, put_here, put_other}
+use Rattle.macs_endpoint.proofs.Fitting.{put_here}
+use Rattle.macs_endpoint.proofs.Rooms.{below-refilled, put_at_other, put_other}
 
 -- a number was seen that is not below this one
 abbrev IsReached : Option ℕ → ℕ → Type 0

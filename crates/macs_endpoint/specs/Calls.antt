@@ -1,5 +1,7 @@
 -- One call of an endpoint.
-use Rattle.std.specs.Prelude.{◌≡◌, Err}
+use Rattle.std.specs.Prelude.{◌≡◌, ◌<◌, ◌^◌, All, Err}
+use Rattle.macs_config.specs.Apply.{IsCommand}
+use Rattle.macs_config.specs.Config.{Edition}
 use Rattle.macs_disk.specs.Disk.{Disk, FailsOnce, IsHonest, Works}
 use Rattle.macs_disk.specs.Runs.{Leaves}
 use Rattle.macs_txsc.specs.Value as txsc
@@ -10,16 +12,26 @@ use Rattle.macs_endpoint.specs.Ceilings.{CeilingsAfter}
 use Rattle.macs_endpoint.specs.Counting.{channel_counters_after, rx_counters_after, tx_counters_after}
 use Rattle.macs_endpoint.specs.Limits.{IsLimited, IsStill}
 use Rattle.macs_endpoint.specs.Restart.{FitsCall}
-use Rattle.macs_endpoint.specs.State.{Call, Logs, Ran, Refilled, Reply, no_logs}
+use Rattle.macs_endpoint.specs.State.{Call, Commands, Logs, Protects, Ran, Receives, Refilled, Refills, Reply, no_logs}
 use Rattle.macs_endpoint.specs.Step.{Step}
 use Rattle.macs_endpoint.specs.Value.{EndpointValue, IsBacked, disk_in, state_of}
 use Rattle.macs_endpoint.specs.declared.fault.RefillFault.TheVariants as refill
 
+-- ---- what a call is given
+
+-- a command and the octets of a frame are in the ranges that their types keep
+abbrev pub IsInRange : Edition → Call → Type 0
+IsInRange edition (Commands command) = IsCommand edition command
+IsInRange edition Refills = Unit {0}
+IsInRange edition (Protects plain) = All (λ octet. octet < 2 ^ 8) plain
+IsInRange edition (Receives frame) = All (λ octet. octet < 2 ^ 8) frame
+
 -- ---- on every disk
 
--- What a caller sees of one call: it is a step of the machine; what becomes of configuration and ceilings; where the answers come that a step leaves
--- to the endpoint; which calls make no device call; what is counted.
+-- What a caller sees of one call: what it is given is in range; it is a step of the machine; what becomes of configuration and ceilings;
+-- where the answers come that a step leaves to the endpoint; which calls make no device call; what is counted.
 pub record Behaves {D : Type 0} (old : EndpointValue D) (call : Call) (reply : Reply) (new : EndpointValue D) : Type 0 where
+  pub in_range : IsInRange (standing_in old.store).edition call
   pub step : (logs : Logs) → (after : Logs) × Step (state_of old logs) call reply (state_of new after)
   pub ceilings : CeilingsAfter (state_of old no_logs) (standing_in old.store) call reply (standing_in new.store)
   pub limited : IsLimited old call reply new

@@ -1,17 +1,30 @@
 -- Reservations of packet numbers, whichever are made.
-use Rattle.std.specs.Prelude.{◌≡◌, Result}
+use Rattle.std.specs.Prelude.{◌≡◌, Option, Result}
 use Rattle.macs_disk.specs.Disk.{Disk, IsHonest, Works}
 use Rattle.macs_disk.specs.Runs.{Leaves}
 use Rattle.macs_disk.specs.States.{Image}
 use Rattle.macs_txsc.specs.Value as txsc
 use Rattle.macs_rxsc.specs.Value as rxsc
+use Rattle.macs_store.specs.Value.{standing_in}
 use Rattle.macs_endpoint.specs.Calls.{Fails}
+use Rattle.macs_endpoint.specs.Ceilings as ceilings
 use Rattle.macs_endpoint.specs.Value.{IsBacked, EndpointValue, disk_in, state_of}
 use Rattle.macs_endpoint.specs.Limits.{IsLimited}
 use Rattle.macs_endpoint.specs.Restart.{Fits}
-use Rattle.macs_endpoint.specs.State.{Logs, Refilled, Refills, State}
+use Rattle.macs_endpoint.specs.State.{Logs, Refilled, Refills, State, no_logs, rx_side, tx_side}
 use Rattle.macs_endpoint.specs.Step.{RefillStep}
 use Rattle.macs_endpoint.specs.declared.fault.RefillFault.{RefillFault}
+use Rattle.macs_endpoint.specs.declared.refilling.Raise.{Raise}
+use Rattle.macs_endpoint.specs.declared.refilling.Raise.TheVariants.{Rx, Tx}
+
+-- a ceiling that is to be raised, as it is told
+abbrev pub raise_of : Raise → ceilings.Raise
+raise_of (Tx an) = ceilings.RaiseTx an
+raise_of (Rx need) = ceilings.RaiseRx (record { sci = need.sci; an = need.an; pn = need.pn })
+
+-- the ceiling that an endpoint is to raise first, if any is needed
+abbrev pub raise_in : {D : Type 0} → EndpointValue D → Option ceilings.Raise
+raise_in e = ceilings.first_raise (standing_in e.store) (tx_side (state_of e no_logs)) (rx_side (state_of e no_logs))
 
 -- opening a disk of that size with this image is a restart of the state
 abbrev pub FitsState : State → Disk → Image → Type 0

@@ -49,9 +49,9 @@ state_of e logs = record {
 
 -- ---- what holds of it in memory
 
--- a transmit ceiling is not below the next number, and at most a block and a half above it
+-- a next transmit number is at least 1, its ceiling not below it, and at most a block and a half above it
 abbrev pub IsTxWithin : ℕ → Option ℕ → Option ℕ → Type 0
-IsTxWithin block (Some next) (Some ceiling) = (next ≤ ceiling) × (ceiling ≤ next + (block + block / 2)) × (ceiling ≤ 2 ^ 32)
+IsTxWithin block (Some next) (Some ceiling) = (1 ≤ next) × (next ≤ ceiling) × (ceiling ≤ next + (block + block / 2)) × (ceiling ≤ 2 ^ 32)
 IsTxWithin block None None = Unit {0}
 IsTxWithin block next ceiling = ⊥
 
@@ -68,11 +68,12 @@ pub record AreChannels (tx : Tx) (rx : rxsc.RxValue) (s : Standing) : Type 0 whe
   pub tx_ceilings : txsc.ceilings_of tx ≡ s.ceilings.tx
   pub rx_ceilings : rxsc.ceilings_of rx ≡ s.ceilings.rx
 
--- each association has its numbers and a ceiling that is not too far ahead
+-- each association has its numbers and a ceiling that is not too far ahead, and a receive channel has four associations at most
 pub record AreWithin (tx : Tx) (rx : rxsc.RxValue) (identity : Identity) : Type 0 where
   pub tx_within : (an : ℕ) → IsTxWithin identity.tx_block ((txsc.tx_side_of tx).next an) (txsc.ceilings_of tx an)
   pub rx_within : (sci : List ℕ) (an : ℕ)
       → IsRxWithin identity.rx_block ((rxsc.rx_side_of rx).numbers sci an) (rxsc.ceilings_of rx sci an)
+  pub few : (sci : List ℕ) (an : ℕ) → 4 ≤ an → (rxsc.rx_side_of rx).numbers sci an ≡ None
 
 -- and nothing is in hand unless a device call failed
 pub record IsSoundEndpoint {D : Type 0} (e : EndpointValue D) : Type 0 where

@@ -30,6 +30,7 @@ use crate::fault::{CommandFault, ProtectFault, Stopped};
 use macs_config::laws::{command_in_range, identity_in_range};
 use macs_config::{Command, Config, Identity};
 use macs_disk::SectorDisk;
+use macs_frame::laws::octets_in_range;
 use macs_frame::{An, FrameBuf, Pn, Sci};
 use macs_rxsc::{RxNumbers, Verdict};
 use macs_store::{OpenRefused, Store};
@@ -89,6 +90,7 @@ impl<D: SectorDisk> Endpoint<D> {
         let channels = Channels::opened(&store);
         identity_in_range(&store.identity());
         channels.tx.facts();
+        store.config().facts();
         Ok(Endpoint {
             store,
             channels,
@@ -124,6 +126,7 @@ impl<D: SectorDisk> Endpoint<D> {
         ensures call { IsCall D.disk self.old (Protects plain.now) (Protected result out.new.items) self.new }
         ensures store { self.new.store ≡ self.old.store }
     {
+        octets_in_range(plain);
         if self.is_stopped() {
             out.clear();
             return Err(ProtectFault::Stopped);
@@ -141,6 +144,7 @@ impl<D: SectorDisk> Endpoint<D> {
         ensures call { IsCall D.disk self.old (Receives frame.now) (Received result out.new.items) self.new }
         ensures store { self.new.store ≡ self.old.store }
     {
+        octets_in_range(frame);
         if self.is_stopped() {
             out.clear();
             return Err(Stopped);

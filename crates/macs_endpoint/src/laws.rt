@@ -15,6 +15,12 @@ ghost use Rattle.macs_endpoint.specs.declared.fault.ProtectFault.TheVariants.{Tx
 
 use macs_disk::SectorDisk;
 
+/// The packet number of a frame that goes out is 1 to 2^32 - 1.
+pub fn frame_numbers_in_range<D: SectorDisk>()
+    ensures { (old new : EndpointValue D) (plain out : List ℕ) (pn : ℕ) → IsSoundEndpoint old
+        → IsCall D.disk old (Protects plain) (Protected (Ok pn) out) new → (1 ≤ pn) × (pn < 2 ^ 32) }
+{}
+
 /// How many frames go out under an association before `NoNumber` may be answered.
 ///
 /// After `refill` answered Ok it is one more than half a transmit block, rounded down, under the

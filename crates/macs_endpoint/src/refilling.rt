@@ -1,21 +1,28 @@
 //! Reservations of packet numbers.
 
-ghost use Rattle.std.specs.Prelude.{◌≡◌, ◌⊎◌, ℕ, List, false, Some, None, OnOk, OnErr};
+ghost use Rattle.std.specs.Prelude.{◌≡◌, false, Some, OnOk, OnErr};
 ghost use Rattle.std.specs.Option.{option_map};
-ghost use Rattle.macs_rxsc.specs.Needs.{need_of, needs_of};
-ghost use Rattle.macs_rxsc.specs.declared.need.RxNeed.{RxNeed};
+ghost use Rattle.macs_txsc.specs.Transmit.{need_of};
+ghost use Rattle.macs_rxsc.specs.Needs.{needs_of};
 ghost use Rattle.macs_store.specs.Value.{standing_in};
-ghost use Rattle.macs_store.specs.Standing.{with_rx_raised};
+ghost use Rattle.macs_store.specs.Standing.{with_rx_raised, with_tx_raised};
 ghost use Rattle.macs_endpoint.specs.Calls.{IsCall};
-ghost use Rattle.macs_endpoint.specs.Ceilings.{rx_refilled, tx_refilled};
+ghost use Rattle.macs_endpoint.specs.Ceilings.{with_raise};
 ghost use Rattle.macs_endpoint.specs.Value.{is_stopped, state_of};
-ghost use Rattle.macs_endpoint.specs.Reserving.{Reserves};
+ghost use Rattle.macs_endpoint.specs.Reserving.{Reserves, raise_in, raise_of};
 ghost use Rattle.macs_endpoint.specs.State.{Refilled, Refills, no_logs, rx_side, tx_side};
 
 use crate::endpoint::Endpoint;
 use crate::fault::RefillFault;
 use macs_disk::SectorDisk;
+use macs_frame::An;
 use macs_rxsc::RxNeed;
+
+/// A ceiling that is to be raised: that of a transmit association, or of a receive association.
+pub(crate) enum Raise {
+    Tx(An),
+    Rx(RxNeed),
+}
 
 impl<D: SectorDisk> Endpoint<D> {
     /// Makes every reservation of packet numbers that is needed: that of the transmit association that
@@ -28,62 +35,56 @@ impl<D: SectorDisk> Endpoint<D> {
         if self.is_stopped() {
             return Err(RefillFault::Stopped);
         }
-        self.refill_tx()?;
-        self.refill_rx()
+        self.facts();
+        while let Some(raise) = self.first_raise() {
+            self.raise(raise)?;
+        }
+        Ok(())
     }
 
-    /// Makes the reservation of the transmit side, if one is needed.
-    fn refill_tx(&mut self) -> Result<(), RefillFault>
+    /// The ceiling that is to be raised first, if any is.
+    fn first_raise(&self) -> Option<Raise>
+        ensures { option_map raise_of result ≡ raise_in self.now }
+    {
+        if let Some(an) = self.channels.tx.needs(self.store.identity().tx_block()) {
+            return Some(Raise::Tx(an));
+        }
+        let need = self.channels.rx.needs(self.store.identity().rx_block())?;
+        Some(Raise::Rx(need))
+    }
+
+    /// Raises the ceiling that is to be raised first.
+    fn raise(&mut self, raise: Raise) -> Result<(), RefillFault>
         requires running { is_stopped self.old ≡ false }
+        requires first { raise_in self.old ≡ Some (raise_of raise) }
         ensures reserves { Reserves D.disk self.old result self.new }
-        ensures done { OnOk result
-            (standing_in self.new.store ≡ tx_refilled (standing_in self.old.store) (tx_side (state_of self.old no_logs))) }
+        ensures done { OnOk result (standing_in self.new.store ≡ with_raise (standing_in self.old.store) (raise_of raise)) }
+        ensures same { OnErr result (standing_in self.new.store ≡ standing_in self.old.store) }
+    {
+        match raise {
+            Raise::Tx(an) => self.raise_tx(an),
+            Raise::Rx(need) => self.raise_rx(need),
+        }
+    }
+
+    /// Raises the ceiling of a transmit association, which is needed.
+    fn raise_tx(&mut self, an: An) -> Result<(), RefillFault>
+        requires running { is_stopped self.old ≡ false }
+        requires needed { need_of (tx_side (state_of self.old no_logs)) (standing_in self.old.store).ceilings.tx
+            (standing_in self.old.store).identity.tx_block ≡ Some an }
+        ensures reserves { Reserves D.disk self.old result self.new }
+        ensures done { OnOk result (standing_in self.new.store ≡ with_tx_raised (standing_in self.old.store) an) }
         ensures same { OnErr result (standing_in self.new.store ≡ standing_in self.old.store) }
     {
         self.channels.tx.facts();
-        let Some(an) = self.channels.tx.needs(self.store.identity().tx_block()) else {
-            return Ok(());
-        };
         self.store.reserve_tx(an)?;
         let ceiling = self.store.tx_ceiling(an).unwrap();
         self.channels.tx.raise(an, ceiling.get());
         Ok(())
     }
 
-    /// Makes every reservation of the receive side that is needed.
-    fn refill_rx(&mut self) -> Result<(), RefillFault>
-        requires running { is_stopped self.old ≡ false }
-        ensures reserves { Reserves D.disk self.old result self.new }
-        ensures others { standing_in self.new.store ≡ record (standing_in self.old.store)
-            { ceilings = record (standing_in self.old.store).ceilings { rx = (standing_in self.new.store).ceilings.rx } } }
-        ensures done { OnOk result ((sci : List ℕ) (an : ℕ) → (standing_in self.new.store).ceilings.rx sci an
-            ≡ rx_refilled (standing_in self.old.store) (rx_side (state_of self.old no_logs)) sci an) }
-        ensures some { (sci : List ℕ) (an : ℕ)
-            → ((standing_in self.new.store).ceilings.rx sci an ≡ (standing_in self.old.store).ceilings.rx sci an)
-            ⊎ ((standing_in self.new.store).ceilings.rx sci an
-            ≡ rx_refilled (standing_in self.old.store) (rx_side (state_of self.old no_logs)) sci an) }
-    {
-        while let Some(need) = self.rx_need() {
-            self.reserve_rx(need)?;
-        }
-        Ok(())
-    }
-
-    /// The first reservation of the receive side that is needed.
-    fn rx_need(&self) -> Option<RxNeed>
-        ensures first { option_map (λ (need : RxNeed). record { sci = need.sci; an = need.an; pn = need.pn }) result
-            ≡ needs_of (rx_side (state_of self.now no_logs)) (standing_in self.now.store).ceilings.rx
-            (standing_in self.now.store).identity.rx_block }
-        ensures none { result ≡ None → (sci : List ℕ) (an : ℕ) → need_of (standing_in self.now.store).identity.rx_block sci an
-            ((state_of self.now no_logs).numbers sci an) ((standing_in self.now.store).ceilings.rx sci an) ≡ None }
-    {
-        self.store.config().facts();
-        self.channels.rx.facts();
-        self.channels.rx.needs(self.store.identity().rx_block())
-    }
-
-    /// Makes a reservation of the receive side that is needed.
-    fn reserve_rx(&mut self, need: RxNeed) -> Result<(), RefillFault>
+    /// Raises the ceiling of a receive association, which is needed.
+    fn raise_rx(&mut self, need: RxNeed) -> Result<(), RefillFault>
         requires running { is_stopped self.old ≡ false }
         requires needed { needs_of (rx_side (state_of self.old no_logs)) (standing_in self.old.store).ceilings.rx
             (standing_in self.old.store).identity.rx_block ≡ Some (record { sci = need.sci; an = need.an; pn = need.pn }) }

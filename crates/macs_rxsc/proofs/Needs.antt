@@ -1,6 +1,7 @@
 -- The first need of the channels that stand.
 use Rattle.std.proofs.Common.{◌≡◌, ◌∙◌, ◌≤◌, ◌<◌, ◌+◌, ◌++◌, ℕ, zero, suc, Bool, true, false, List, [], ◌∷◌, length, map, flat_map, drop, get_or, bytes_eq, Option, Some, None, IsSome, Ordering, Less, Equal, Greater, nat_cmp, is_lt, is_eq, refl, ap, sym, subst, arith}
 use Rattle.std.specs.List.{list_any}
+use Rattle.std.specs.Option.{option_map}
 use Rattle.std.proofs.lemmas.Bool.{and_from, and_parts, or_from, or_parts}
 use Rattle.std.proofs.lemmas.List.{drop_more}
 use Rattle.std.proofs.lemmas.Map.Text.{is_eq-slice_cmp}
@@ -11,7 +12,8 @@ use Rattle.macs_config.specs.declared.command.Replay.{Replay}
 use Rattle.macs_config.specs.declared.command.Validate.{Validate}
 use Rattle.macs_rxsc.proofs.Places.{bytes_eq-same, bytes_eq-sym, channel_at-none}
 use Rattle.macs_rxsc.specs.Needs.{Need, first_need, need_of, needs_of}
-use Rattle.macs_rxsc.specs.Value.{ceilings_among, ceilings_in, channel_at, numbers_in, sas_in, scis_of, rx_side_in}
+use Rattle.macs_rxsc.specs.Value.{association_in, ceilings_among, ceilings_in, channel_at, numbers_in, packet_numbers, sa_of, sas_in, scis_of, rx_side_in}
+use Rattle.macs_rxsc.specs.declared.association.Association.{Association}
 use Rattle.macs_rxsc.specs.declared.channel.Channel.{Channel}
 
 -- the needs of a channel's associations
@@ -126,3 +128,21 @@ among_by channels sci an false is some =
 
 pub among : (channels : List Channel) (sci : List ℕ) (an : ℕ) → IsSome (sas_in (channel_at channels sci) an) → list_any (λ other. bytes_eq other sci) (scis_of channels) ≡ true
 among channels sci an some = among_by channels sci an _ refl some
+
+by_association : (o : Option Association) → IsSome (option_map packet_numbers o) → IsSome (option_map sa_of o)
+by_association None some = absurd (cc)
+by_association (Some a) some = refl
+
+-- and so does one that has numbers
+pub among-numbered : (channels : List Channel) (sci : List ℕ) (an : ℕ) → IsSome (numbers_in (channel_at channels sci) an) → list_any (λ other. bytes_eq other sci) (scis_of channels) ≡ true
+among-numbered channels sci an some = among channels sci an (by_association (association_in (channel_at channels sci) an) some)
+
+-- where none stands there are no numbers
+pub unnumbered : (o : Option Association) → option_map sa_of o ≡ None → option_map packet_numbers o ≡ None
+unnumbered None none = refl
+unnumbered (Some a) none = absurd (cc)
+
+-- where there are no numbers none stands
+pub unowned : (o : Option Association) → option_map packet_numbers o ≡ None → option_map sa_of o ≡ None
+unowned None none = refl
+unowned (Some a) none = absurd (cc)

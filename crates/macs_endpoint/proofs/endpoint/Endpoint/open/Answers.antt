@@ -1,7 +1,7 @@
 use Rattle.std.proofs.Common.{◌≡◌, ◌≢◌, ◌≤◌, ℕ, false, List, Option, Some, None, Result, Ok, Err, refl, sym, ◌∙◌, ap, subst, arith}
 use Rattle.std.specs.Option.{option_map}
 use Rattle.std.proofs.lemmas.Result.{err_from_is_err_and}
-use Rattle.macs_config.specs.Config.{this_edition}
+use Rattle.macs_config.specs.Config.{Config, this_edition}
 use Rattle.macs_config.specs.Identity.{IsIdentity}
 use Rattle.macs_disk.specs.Disk.{now}
 use Rattle.macs_disk.specs.States.{Image}
@@ -12,7 +12,9 @@ use Rattle.macs_txsc.specs.Transmit.{InOrder}
 use Rattle.macs_txsc.specs.Value as txsc
 use Rattle.macs_txsc.specs.declared.channel.Tx.{Tx}
 use Rattle.macs_rxsc.specs.Receive.{Numbers, first_numbers}
+use Rattle.macs_rxsc.specs.Value.{association_in, channel_at}
 use Rattle.macs_rxsc.specs.Value as rxsc
+use Rattle.macs_rxsc.proofs.Needs.{unnumbered}
 use Rattle.macs_store.specs.Found.{IsFoundStanding}
 use Rattle.macs_store.specs.Value.{standing_in}
 use Rattle.macs_store.specs.Standing.{Standing}
@@ -22,7 +24,7 @@ use Rattle.macs_endpoint.specs.Restart.{Fits, opened_state}
 use Rattle.macs_endpoint.specs.State.{Logs, State, rx_side_with, tx_side_with}
 use Rattle.macs_endpoint.proofs.Fitting.{kept-backed}
 use Rattle.macs_endpoint.proofs.endpoint.Endpoint.open.Given.{Over}
-use Rattle.macs_endpoint.proofs.endpoint.Endpoint.open.Goals.{After-facts}
+use Rattle.macs_endpoint.proofs.endpoint.Endpoint.open.Goals.{After-facts-2}
 use Rattle.macs_endpoint.proofs.endpoint.Endpoint.open.Goals as goal
 
 -- ---- a disk that fits a state is refused for the device alone
@@ -94,7 +96,7 @@ tx_begins : (block : ℕ) (next ceiling : Option ℕ) → next ≡ ceiling → I
 tx_begins block None None same ordered = tt
 tx_begins block None (Some c) same ordered = absurd ordered
 tx_begins block (Some n) None same ordered = absurd ordered
-tx_begins block (Some n) (Some c) same ordered = let is : n ≡ c = cc in (ordered.1, omega (arith, is), ordered.2)
+tx_begins block (Some n) (Some c) same ordered = let is : n ≡ c = cc in (ordered.0, ordered.1, omega (arith, is), ordered.2)
 
 rx_started : (block : ℕ) (ceiling : Option ℕ) → IsRxWithin block (option_map first_numbers ceiling) ceiling
 rx_started block None = tt
@@ -104,7 +106,7 @@ rx_begins : (block : ℕ) (numbers : Option Numbers) (ceiling : Option ℕ) → 
 rx_begins block numbers ceiling same =
     subst (λ (n : Option Numbers). IsRxWithin block n ceiling) (sym same) (rx_started block ceiling)
 
-module _ (g : Over) (c : After-facts g) where
+module _ (g : Over) (c : After-facts-2 g) where
   abbrev s : Standing
   s = standing_in c.in_ok-store.store
 
@@ -136,12 +138,15 @@ module _ (g : Over) (c : After-facts g) where
               (λ i. (next ∙ sym opened.tx_ceilings) i an) (c.facts.ensures an).0;
           rx_within = λ sci an. rx_begins s.identity.rx_block ((rxsc.rx_side_of rx).numbers sci an) (rxsc.ceilings_of rx sci an)
               ((λ i. numbers i sci an) ∙ (λ i. option_map first_numbers (sym opened.rx_ceilings i sci an)));
+          few = λ sci an over. unnumbered (association_in (channel_at rx.channels sci) an)
+              ((λ i. (opened.rx i).rx sci an)
+              ∙ subst (λ (k : Config). k.rx sci an ≡ None) c.config.ensures.config (c.facts-2.ensures.rx_numbers sci an over));
         };
         idle = λ running. refl;
       }
 
 pub invariant_of-result : goal.invariant_of-result
-invariant_of-result g c = kept g (goal.at.invariant_of-result g c).After-facts
+invariant_of-result g c = kept g (goal.at.invariant_of-result g c).After-facts-2
 
 begins : {D : Type 0} (e : EndpointValue D) (logs : Logs) → (txsc.tx_side_of e.tx).next ≡ (standing_in e.store).ceilings.tx
     → (rxsc.rx_side_of e.rx).numbers ≡ (λ sci an. option_map first_numbers ((standing_in e.store).ceilings.rx sci an))
@@ -159,13 +164,13 @@ begins e logs next numbers running idle = λ i. record {
 
 pub returns-clause-state : goal.returns-clause-state
 returns-clause-state g c = λ logs.
-    let at = (goal.at.returns-clause-state g c).After-facts in
+    let at = (goal.at.returns-clause-state g c).After-facts-2 in
     begins {D = g.row.D.Denot} (record { store = c.in_ok-store.store; tx = c.opened-channels.result.tx; rx = c.opened-channels.result.rx; in_hand = None })
     logs (next g at) (numbers g at) c.in_ok-store.ensures.running refl
 
 pub returns-clause-backed : goal.returns-clause-backed
 returns-clause-backed g c = λ honest.
-    let at = (goal.at.returns-clause-backed g c).After-facts in
+    let at = (goal.at.returns-clause-backed g c).After-facts-2 in
     let found = c.in_ok-store.ensures in
     kept-backed g.D.SectorDisk.disk
     (record { store = c.in_ok-store.store; tx = c.opened-channels.result.tx; rx = c.opened-channels.result.rx; in_hand = None })

@@ -10,7 +10,8 @@ use Rattle.macs_endpoint.proofs.endpoint.Endpoint.protect.Goals as goal
 
 pub returns-then-is_stopped-clause-call : goal.returns-then-is_stopped-clause-call
 returns-then-is_stopped-clause-call g c =
-    protect-stopped g.D.SectorDisk.disk c.args.self.now c.args.plain.now c.clear.new.self.items (sym c.is_stopped.ensures ∙ c.if-is_stopped.true)
+    protect-stopped g.D.SectorDisk.disk c.args.self.now c.args.plain.now c.clear.new.self.items c.octets_in_range.ensures
+    (sym c.is_stopped.ensures ∙ c.if-is_stopped.true)
     c.clear.ensures
 
 module _ (g : Over) (c : After-protect g) where
@@ -46,7 +47,7 @@ returns-clause-call g c =
     ap (λ (e : EndpointValue g.row.D.Denot). is_stopped e) c.self.view_is ∙ sym c.is_stopped.ensures ∙ c.if-is_stopped.false in
     let call =
     protected-call disk (old g at) c.protect.new.self c.args.plain.now c.protect.result c.protect.new.out.items c.self.invariant
-    (sends g at) c.protect.ensures.ceilings running c.protect.ensures.counters in
+    (sends g at) c.protect.ensures.ceilings c.octets_in_range.ensures running c.protect.ensures.counters in
     let new = with_tx (old g at) c.protect.new.self in
     rw is (subst (λ (e : EndpointValue g.row.D.Denot).
     IsCall disk e (Protects c.args.plain.now) (Protected (answered c.protect.result) c.protect.new.out.items) new) c.self.view_is call)

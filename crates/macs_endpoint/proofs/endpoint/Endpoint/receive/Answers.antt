@@ -9,7 +9,7 @@ use Rattle.macs_endpoint.proofs.endpoint.Endpoint.receive.Goals as goal
 
 pub returns-then-is_stopped-clause-call : goal.returns-then-is_stopped-clause-call
 returns-then-is_stopped-clause-call g c =
-    receive-stopped g.D.SectorDisk.disk c.args.self.now c.args.frame.now c.clear.new.self.items _
+    receive-stopped g.D.SectorDisk.disk c.args.self.now c.args.frame.now c.clear.new.self.items _ c.octets_in_range.ensures
     (sym c.is_stopped.ensures ∙ c.if-is_stopped.true) c.clear.ensures
 
 module _ (g : Over) (c : After-receive g) where
@@ -30,7 +30,7 @@ returns-clause-call g c =
     ap (λ (e : EndpointValue g.row.D.Denot). is_stopped e) c.self.view_is ∙ sym c.is_stopped.ensures ∙ c.if-is_stopped.false in
     let call =
     received-call disk (old g at) c.receive.new.self c.args.frame.now c.receive.result c.receive.new.out.items c.self.invariant
-    c.receive.ensures.verdict c.receive.ensures.side c.receive.ensures.ceilings running c.receive.ensures.counters
+    c.receive.ensures.verdict c.receive.ensures.side c.receive.ensures.ceilings c.octets_in_range.ensures running c.receive.ensures.counters
     c.receive.ensures.channel_counters in
     let new = with_rx (old g at) c.receive.new.self in
     subst (λ (e : EndpointValue g.row.D.Denot). IsCall disk e (Receives c.args.frame.now) (Received (Ok c.receive.result) c.receive.new.out.items) new)

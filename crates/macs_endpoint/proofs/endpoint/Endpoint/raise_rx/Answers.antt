@@ -1,20 +1,26 @@
-use Rattle.std.proofs.Common.{◌≡◌, ◌≤◌, ℕ, List, false, Option, Some, Result, Ok, Err, refl, sym, ◌∙◌, ap, subst}
-use Rattle.std.specs.Option.{IfSome, is_some}
+use Rattle.std.proofs.Common.{◌≡◌, ◌≤◌, ◌<◌, ℕ, List, false, Option, Some, Result, Ok, Err, refl, sym, ◌∙◌, ap, subst, arith}
+use Rattle.std.specs.Option.{is_some}
 use Rattle.std.proofs.lemmas.Result.{err_from_is_err_and}
 use Rattle.macs_config.specs.Tables.{put, put_at}
 use Rattle.macs_journal.specs.declared.fault.JournalFault.{JournalFault}
 use Rattle.macs_txsc.specs.Value as txsc
-use Rattle.macs_rxsc.specs.Needs.{Need, need_of}
+use Rattle.macs_rxsc.specs.Needs.{Need, needs_of}
+use Rattle.macs_rxsc.specs.Receive.{RxSide}
 use Rattle.macs_rxsc.specs.Value as rxsc
+use Rattle.macs_rxsc.proofs.Left.{put-self}
+use Rattle.macs_rxsc.proofs.Needed.{first-place}
+use Rattle.macs_rxsc.proofs.Told.{IsAsked, asked, asked-stands, bounded, if_some, risen}
 use Rattle.macs_store.specs.Keeps.{Keeps}
 use Rattle.macs_store.specs.Value.{standing_in}
 use Rattle.macs_store.specs.Standing.{Ceilings, Standing, ahead, with_rx_raised}
+use Rattle.macs_endpoint.specs.State.{rx_side_with}
 use Rattle.macs_endpoint.specs.Value.{EndpointValue, is_stopped}
 use Rattle.macs_endpoint.proofs.Fitting.{AreAhead, kept-ahead}
-use Rattle.macs_endpoint.proofs.Raising.{faulted, first-place, need-ceiling, need-higher, need-not_below, need-stands, raised-kept, raised-reserves, rx-raised-ahead, rx-value}
-use Rattle.macs_endpoint.proofs.endpoint.Endpoint.reserve_rx.Given.{Over}
-use Rattle.macs_endpoint.proofs.endpoint.Endpoint.reserve_rx.Goals.{After-facts, After-get, After-reserve_rx, After-rx_ceiling}
-use Rattle.macs_endpoint.proofs.endpoint.Endpoint.reserve_rx.Goals as goal
+use Rattle.macs_endpoint.proofs.Raised.{faulted, raised-kept, raised-reserves}
+use Rattle.macs_endpoint.proofs.Raises.{rx-raised-ahead}
+use Rattle.macs_endpoint.proofs.endpoint.Endpoint.raise_rx.Given.{Over}
+use Rattle.macs_endpoint.proofs.endpoint.Endpoint.raise_rx.Goals.{After-facts, After-get, After-reserve_rx, After-rx_ceiling}
+use Rattle.macs_endpoint.proofs.endpoint.Endpoint.raise_rx.Goals as goal
 
 module _ (g : Over) (c : After-facts g) where
   abbrev old : EndpointValue g.row.D.Denot
@@ -34,28 +40,38 @@ module _ (g : Over) (c : After-facts g) where
   running : is_stopped old ≡ false
   running = rw (← c.self.view_is) at c.requires.running
 
-  is : need_of s.identity.rx_block need.sci need.an ((rxsc.rx_side_of old.rx).numbers need.sci need.an) (s.ceilings.rx need.sci need.an) ≡ Some need
-  is =
-      first-place (rxsc.rx_side_of old.rx).numbers s.ceilings.rx s.identity.rx_block s.config.channels need
-      (rw (← c.self.view_is) at c.requires.needed)
+  -- the receive channels, as what stands has them
+  abbrev side : RxSide
+  side = rx_side_with s.config (rxsc.rx_side_of old.rx).numbers
+
+  is : needs_of side s.ceilings.rx s.identity.rx_block ≡ Some need
+  is = rw (← c.self.view_is) at c.requires.needed
+
+  -- its ceiling is below the one that it asks for
+  asks : IsAsked s.ceilings.rx s.identity.rx_block need
+  asks = asked side s.ceilings.rx s.identity.rx_block need is
+
+  asks_held : IsAsked (rxsc.ceilings_of old.rx) s.identity.rx_block need
+  asks_held = subst (λ (x : List ℕ → ℕ → Option ℕ). IsAsked x s.identity.rx_block need) (sym c.self.invariant.channels.rx_ceilings) asks
 
   abbrev further : Ceilings
   further = (with_rx_raised s need.sci need.an need.pn).ceilings
 
   are : AreAhead s.identity (txsc.tx_side_of old.tx).next (rxsc.rx_side_of old.rx).numbers further
   are =
-      rx-raised-ahead s.identity (txsc.tx_side_of old.tx).next (rxsc.rx_side_of old.rx).numbers s.ceilings need is
+      rx-raised-ahead s.identity (txsc.tx_side_of old.tx).next (rxsc.rx_side_of old.rx).numbers s.ceilings need
+      (first-place side.numbers s.ceilings.rx s.identity.rx_block side.channels need is)
       (kept-ahead {D = g.row.D.Denot} old c.self.invariant)
 
 pub reserve_rx-requires-clause-raised : goal.reserve_rx-requires-clause-raised
 reserve_rx-requires-clause-raised g c =
     let at = (goal.at.reserve_rx-requires-clause-raised g c).After-facts in
-    need-higher _ _ _ _ _ _ (is g at)
+    if_some ((s g at).ceilings.rx (need g at).sci (need g at).an) (λ old. old < ahead (need g at).pn (s g at).identity.rx_block) (asks g at)
 
 pub reserve_rx-requires-clause-stands : goal.reserve_rx-requires-clause-stands
 reserve_rx-requires-clause-stands g c =
     let at = (goal.at.reserve_rx-requires-clause-stands g c).After-facts in
-    need-ceiling _ _ _ _ _ _ (is g at)
+    asked-stands _ _ (asks g at)
 
 -- what the store says of it
 raises : (g : Over) (c : After-reserve_rx g) (result : Result (Unit {0}) JournalFault) → c.reserve_rx.result ≡ result
@@ -80,7 +96,7 @@ value g c done =
     let s = standing_in c.self.inside.store in
     let top = ahead c.args.need.pn s.identity.rx_block in
     c.rx_ceiling.ensures ∙ (λ i. ((rw done at c.reserve_rx.ensures.done) i).ceilings.rx c.args.need.sci c.args.need.an)
-    ∙ rx-value s.ceilings.rx c.args.need.sci c.args.need.an top
+    ∙ put-self s.ceilings.rx c.args.need.sci c.args.need.an (Some top)
 
 pub unwrap-ceiling-requires : goal.unwrap-ceiling-requires
 unwrap-ceiling-requires g c = ap is_some (value g (goal.at.unwrap-ceiling-requires g c).After-rx_ceiling c.in_ok-reserve_rx.was)
@@ -95,14 +111,18 @@ got g c is = c.get.ensures.value ∙ some_same _ _ (sym c.unwrap-ceiling.ensures
 pub raise-requires-clause-stands : goal.raise-requires-clause-stands
 raise-requires-clause-stands g c =
     let at = goal.at.raise-requires-clause-stands g c in
-    need-stands _ _ _ _ _ _ (is g at.After-facts) _ _ _ (c.facts.ensures.ordered c.args.need.sci c.args.need.an)
+    bounded _ _ _ _ _ (c.facts.ensures.ordered c.args.need.sci c.args.need.an) (asks_held g at.After-facts)
 
 pub raise-requires-clause-higher : goal.raise-requires-clause-higher
 raise-requires-clause-higher g c =
     let at = goal.at.raise-requires-clause-higher g c in
-    subst (λ (x : List ℕ → ℕ → Option ℕ). IfSome (x c.args.need.sci c.args.need.an) (λ (o : ℕ). o ≤ c.get.result)) (sym c.self.invariant.channels.rx_ceilings)
-    (need-not_below _ _ _ _ _ _ (is g at.After-facts) c.get.result
-    (got g at.After-get (value g at.After-rx_ceiling c.in_ok-reserve_rx.was)))
+    let top = got g at.After-get (value g at.After-rx_ceiling c.in_ok-reserve_rx.was) in
+    let sci = c.args.need.sci in
+    let an = c.args.need.an in
+    let next = ahead c.args.need.pn (s g at.After-facts).identity.rx_block in
+    let held = rxsc.ceilings_of c.self.inside.channels.rx sci an in
+    let below : next ≤ c.get.result = omega (arith, top) in
+    risen held next c.get.result (if_some held (λ old. old < next) (asks_held g at.After-facts)) below
 
 -- the ceilings of the channel are those that stand
 raised_at : (new before standing : List ℕ → ℕ → Option ℕ) (sci : List ℕ) (an got top : ℕ) → new ≡ put_at before sci (put (before sci) an (Some got))
