@@ -1,9 +1,12 @@
--- A disk while it is formatted.
-use Rattle.std.specs.Prelude.{◌⊎◌, Ok, Err}
+-- A disk while it is formatted, and what a format promises.
+use Rattle.std.specs.Prelude.{◌⊎◌, Result, Ok, Err, OnOk}
 use Rattle.macs_config.specs.Config.{this_edition}
 use Rattle.macs_config.specs.Identity.{Identity}
-use Rattle.macs_disk.specs.Disk.{Disk, MayLeave}
+use Rattle.macs_disk.specs.Disk.{Disk, IsHonest, MayLeave, now}
+use Rattle.macs_disk.specs.Runs.{Leaves}
 use Rattle.macs_disk.specs.States.{Image}
+use Rattle.macs_journal.specs.Formatting.{IsFormatOf}
+use Rattle.macs_journal.specs.declared.fault.JournalFault.{JournalFault}
 use Rattle.macs_journal.specs.declared.fault.JournalFault.TheVariants.{NotFormatted}
 use Rattle.macs_store.specs.Found.{IsFoundStanding}
 use Rattle.macs_store.specs.Standing.{new_standing}
@@ -13,3 +16,13 @@ abbrev pub FormatLeaves : Disk → Identity → Image → Type 0
 FormatLeaves old identity image =
     MayLeave old image ⊎ (IsFoundStanding this_edition old.sectors image (Err NotFormatted)
     ⊎ IsFoundStanding this_edition old.sectors image (Ok (new_standing this_edition identity)))
+
+-- A disk that had no journal is made that of a new endpoint of this identity. On an honest disk a power loss on the way leaves what it
+-- could leave before, no journal, or the new endpoint; once it is done a power loss leaves the new endpoint alone.
+pub record IsFormat {D : Type 0} (disk_of : D → Disk) (old : D) (identity : Identity) (result : Result (Unit {0}) JournalFault) (new : D) : Type 0 where
+  pub device : IsFormatOf disk_of old result new
+  pub blank : OnOk result (IsHonest (disk_of new)
+      → IsFoundStanding this_edition (disk_of old).sectors (now (disk_of old)).seen (Err NotFormatted))
+  pub any_moment : IsHonest (disk_of new) → Leaves (disk_of old) (disk_of new) (FormatLeaves (disk_of old) identity)
+  pub kept : OnOk result (IsHonest (disk_of new) → (image : Image) → MayLeave (disk_of new) image
+      → IsFoundStanding this_edition (disk_of new).sectors image (Ok (new_standing this_edition identity)))

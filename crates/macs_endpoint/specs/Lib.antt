@@ -4,6 +4,7 @@ pub mod State
 pub mod Step
 pub mod Restart
 pub mod Value
+pub mod Opening
 pub mod Ceilings
 pub mod Limits
 pub mod Counting

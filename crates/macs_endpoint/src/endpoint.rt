@@ -1,28 +1,15 @@
 //! An endpoint: its channels and its store.
 
-ghost use Rattle.std.specs.Prelude.{◌≡◌, ◌≢◌, ◌<◌, ◌≤◌, ◌+◌, ◌↔◌, ℕ, List, false, true, Some, Ok, Err, IfOk, IfErr};
+ghost use Rattle.std.specs.Prelude.{◌≡◌, ◌<◌, ◌≤◌, ◌+◌};
 ghost use Rattle.std.specs.Option.{option_map};
-ghost use Rattle.macs_config.specs.Config.{this_edition};
 ghost use Rattle.macs_config.specs.Value.{config_of};
-ghost use Rattle.macs_disk.specs.Disk.{IsHonest, MayLeave, Works, now};
-ghost use Rattle.macs_disk.specs.Runs.{LeavesNothingNew};
-ghost use Rattle.macs_disk.specs.States.{Image, after_sync};
-ghost use Rattle.macs_journal.specs.Areas.{least_sectors, slots};
-ghost use Rattle.macs_journal.specs.Recovery.{IsLeftBy, IsRecoverName};
-ghost use Rattle.macs_journal.specs.Work.{FailsWith};
-ghost use Rattle.macs_journal.specs.declared.fault.JournalFault.TheVariants.{Disk, TooSmall};
-ghost use Rattle.macs_txsc.specs.Transmit as transmit;
-ghost use Rattle.macs_txsc.specs.Value as txsc;
-ghost use Rattle.macs_rxsc.specs.Counting as counting;
+ghost use Rattle.macs_journal.specs.Areas.{slots};
 ghost use Rattle.macs_rxsc.specs.Receive.{Numbers};
-ghost use Rattle.macs_rxsc.specs.Value as rxsc;
-ghost use Rattle.macs_store.specs.Found.{IsFoundStanding};
-ghost use Rattle.macs_store.specs.Value.{standing_in, used_slots};
+ghost use Rattle.macs_store.specs.Value.{used_slots};
 ghost use Rattle.macs_endpoint.specs.Calls.{IsCall};
-ghost use Rattle.macs_endpoint.specs.Counting.{new_channels};
-ghost use Rattle.macs_endpoint.specs.Value.{EndpointValue, IsBacked, IsSoundEndpoint, device_in, disk_in, state_of};
-ghost use Rattle.macs_endpoint.specs.Restart.{Fits, opened_state};
-ghost use Rattle.macs_endpoint.specs.State.{Commands, Logs, Protects, Protected, Ran, Received, Receives, State, no_logs};
+ghost use Rattle.macs_endpoint.specs.Opening.{IsOpening};
+ghost use Rattle.macs_endpoint.specs.Value.{EndpointValue, IsSoundEndpoint, device_in, disk_in, state_of};
+ghost use Rattle.macs_endpoint.specs.State.{Commands, Protects, Protected, Ran, Received, Receives, no_logs};
 
 use crate::channels::Channels;
 use crate::counters::Counters;
@@ -59,32 +46,7 @@ impl<D: SectorDisk> Endpoint<D> {
     /// of each association begin at its ceiling, and nothing is counted. Refused as `TooSmall`, then as
     /// `Disk` at the first call that fails, `NotFormatted` and `BadJournal`; the disk is given back.
     pub fn open(disk: D) -> Result<Endpoint<D>, OpenRefused<D>>
-        ensures found { IfOk result (λ e. IsHonest (disk_in D.disk e)
-            → IsFoundStanding this_edition (D.disk disk).sectors (now (D.disk disk)).seen (Ok (standing_in e.store))) }
-        ensures state { IfOk result (λ e. (logs : Logs) → state_of e logs ≡ opened_state (standing_in e.store) logs) }
-        ensures backed { IfOk result (λ e. IsHonest (disk_in D.disk e) → IsBacked D.disk e) }
-        ensures settled { IfOk result (λ e. IsHonest (disk_in D.disk e) → now (disk_in D.disk e) ≡ after_sync (now (D.disk disk))) }
-        ensures work { IfOk result (λ e. Works (D.disk disk) (disk_in D.disk e)
-            × ((disk_in D.disk e).failures ≡ (D.disk disk).failures)) }
-        ensures any_moment { IfOk result (λ e. IsHonest (disk_in D.disk e) → LeavesNothingNew (D.disk disk) (disk_in D.disk e)) }
-        ensures tx_counters { IfOk result (λ e. txsc.counters_of e.tx ≡ transmit.no_counts) }
-        ensures rx_counters { IfOk result (λ e. rxsc.counters_of e.rx ≡ counting.no_counts) }
-        ensures channel_counters { IfOk result (λ e.
-            rxsc.channel_counters_of e.rx ≡ new_channels (standing_in e.store).config.channels) }
-        ensures large { IfOk result (λ e. least_sectors ≤ (D.disk disk).sectors) }
-        ensures names { IfErr result (λ e. IsRecoverName e.fault) }
-        ensures too_small { IfErr result (λ e. e.fault ≡ TooSmall → e.disk ≡ disk) }
-        ensures small { IfErr result (λ e. (e.fault ≡ TooSmall) ↔ ((D.disk disk).sectors < least_sectors)) }
-        ensures refused { IfErr result (λ e. e.fault ≢ Disk → IsHonest (D.disk e.disk)
-            → IsFoundStanding this_edition (D.disk disk).sectors (now (D.disk disk)).seen (Err e.fault)) }
-        ensures opens { IfErr result (λ e. IsHonest (D.disk e.disk) → ((image : Image) → MayLeave (D.disk disk) image
-            → (s : State) × Fits this_edition (D.disk disk).sectors image s) → e.fault ≡ Disk) }
-        ensures unwritten { IfErr result (λ e. IsHonest (D.disk e.disk)
-            → IsLeftBy e.fault (now (D.disk disk)) (now (D.disk e.disk))) }
-        ensures work_refused { IfErr result (λ e. Works (D.disk disk) (D.disk e.disk)
-            × FailsWith (D.disk disk) (D.disk e.disk) e.fault) }
-        ensures any_moment_refused { IfErr result (λ e. IsHonest (D.disk e.disk)
-            → LeavesNothingNew (D.disk disk) (D.disk e.disk)) }
+        ensures { IsOpening D.disk disk result }
     {
         let store = Store::open(disk)?;
         let channels = Channels::opened(&store);

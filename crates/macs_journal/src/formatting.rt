@@ -1,20 +1,19 @@
 //! A disk made a journal.
 
-ghost use Rattle.std.specs.Prelude.{◌≡◌, ◌≢◌, ◌<◌, ◌≤◌, ◌+◌, ◌↔◌, ◌⊎◌, ℕ, false, true, IfOk, OnOk, OnErr, IsErrOf};
+ghost use Rattle.std.specs.Prelude.{◌≡◌, ◌≢◌, ◌<◌, ◌≤◌, ◌+◌, ℕ, false, true, IfOk, OnOk};
 ghost use Rattle.macs_config.specs.Identity.{Identity};
-ghost use Rattle.macs_disk.specs.Disk.{IsHonest, IsWork, MayLeave, now};
+ghost use Rattle.macs_disk.specs.Disk.{IsHonest, IsWork, now};
 ghost use Rattle.macs_disk.specs.Runs.{Leaves, LeavesNothingNew};
-ghost use Rattle.macs_disk.specs.States.{Image, after_sync};
+ghost use Rattle.macs_disk.specs.States.{after_sync};
 ghost use Rattle.macs_record.specs.Decoding.{IsSectorOf};
 ghost use Rattle.macs_record.specs.Gates.{closed_gate, open_gate};
 ghost use Rattle.macs_record.specs.Heads.{IsHeadOf};
 ghost use Rattle.macs_record.specs.Settings.{default_settings};
 ghost use Rattle.macs_journal.specs.Appending.{IsReady};
 ghost use Rattle.macs_journal.specs.Areas.{gate, head_body, least_sectors, slot_body, slots};
-ghost use Rattle.macs_journal.specs.Found.{FindsContent, IsGateOpen, IsNotFormatted};
-ghost use Rattle.macs_journal.specs.Formatting.{IsOldNoneOrNew, FormatWrites, HasNewGates, IsBlank, IsFormatting, IsNewOrNone, first_content, first_head};
-ghost use Rattle.macs_journal.specs.Work.{IsSpared, IsWorkOf};
-ghost use Rattle.macs_journal.specs.declared.fault.JournalFault.TheVariants.{AlreadyFormatted, Disk, TooSmall};
+ghost use Rattle.macs_journal.specs.Found.{IsGateOpen, IsNotFormatted};
+ghost use Rattle.macs_journal.specs.Formatting.{FormatWrites, HasNewGates, HasOpenHead, IsBlank, IsFormatting, IsJournalFormat, IsNewOrNone, first_content, first_head};
+ghost use Rattle.macs_journal.specs.Work.{IsSpared};
 
 use crate::area::{Area, LEAST_SECTORS, SLOTS};
 use crate::fault::JournalFault;
@@ -29,25 +28,7 @@ use macs_record::{CLOSED_GATE, Head, Record, SECTOR, encode, encode_head, is_ope
 /// `Disk` at the first call that fails, and as `AlreadyFormatted` where a head gate reads open after a
 /// first sync.
 pub fn format<D: SectorDisk>(disk: &mut D, identity: &Identity) -> Result<(), JournalFault>
-    ensures names { OnErr result (IsErrOf result TooSmall ⊎ (IsErrOf result Disk ⊎ IsErrOf result AlreadyFormatted)) }
-    ensures small { IsErrOf result TooSmall ↔ ((D.disk disk.old).sectors < least_sectors) }
-    ensures untouched { IsErrOf result TooSmall → disk.new ≡ disk.old }
-    ensures work { IsWorkOf (D.disk disk.old) (D.disk disk.new) result }
-    ensures taken { IsErrOf result AlreadyFormatted → IsHonest (D.disk disk.new)
-        → (IsGateOpen (now (D.disk disk.old)).seen 0 0 ⊎ IsGateOpen (now (D.disk disk.old)).seen 1 0)
-        × LeavesNothingNew (D.disk disk.old) (D.disk disk.new)
-        × (now (D.disk disk.new) ≡ after_sync (now (D.disk disk.old))) }
-    ensures journal { IsGateOpen (now (D.disk disk.old)).seen 0 0 ⊎ IsGateOpen (now (D.disk disk.old)).seen 1 0
-        → IsHonest (D.disk disk.new) → (i : ℕ) → IsSpared (D.disk disk.old) (D.disk disk.new) i }
-    ensures blank { OnOk result (IsHonest (D.disk disk.new) → IsNotFormatted (now (D.disk disk.old)).seen) }
-    ensures any_moment { IsHonest (D.disk disk.new)
-        → Leaves (D.disk disk.old) (D.disk disk.new) (IsOldNoneOrNew (now (D.disk disk.old)) identity.now) }
-    ensures done { OnOk result (IsHonest (D.disk disk.new) → IsReady (now (D.disk disk.new)) (first_content identity.now)) }
-    ensures kept { OnOk result (IsHonest (D.disk disk.new) → (image : Image) → MayLeave (D.disk disk.new) image
-        → FindsContent image (first_content identity.now)) }
-    ensures gates { OnOk result (IsHonest (D.disk disk.new) → HasNewGates (now (D.disk disk.old)).seen (now (D.disk disk.new)).seen) }
-    ensures others { IsHonest (D.disk disk.new) → (i : ℕ) → ¬ FormatWrites (now (D.disk disk.old)).seen i
-        → IsSpared (D.disk disk.old) (D.disk disk.new) i }
+    ensures { IsJournalFormat D.disk disk.old identity.now result disk.new }
 {
     if disk.sectors() < LEAST_SECTORS {
         return Err(JournalFault::TooSmall);
@@ -71,7 +52,7 @@ fn has_open_head<D: SectorDisk>(disk: &mut D) -> Result<bool, DeviceFault>
     ensures spared { IsHonest (D.disk disk.new) → (i : ℕ) → IsSpared (D.disk disk.old) (D.disk disk.new) i }
     ensures clear { IfOk result (λ is. is ≡ false → IsHonest (D.disk disk.new) → IsNotFormatted (now (D.disk disk.old)).seen) }
     ensures taken { IfOk result (λ is. is ≡ true → IsHonest (D.disk disk.new)
-        → IsGateOpen (now (D.disk disk.old)).seen 0 0 ⊎ IsGateOpen (now (D.disk disk.old)).seen 1 0) }
+        → HasOpenHead (now (D.disk disk.old)).seen) }
 {
     disk.sync()?; // What reads give is what a power loss leaves.
     let mut first = [0; SECTOR];

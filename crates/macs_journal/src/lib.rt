@@ -18,3 +18,4 @@ pub use fault::JournalFault;
 pub use formatting::format;
 pub use journal::Journal;
 pub use recovery::{RecoverRefused, Recovered, recover};
+pub use slots::Records;

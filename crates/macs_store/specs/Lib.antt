@@ -5,3 +5,4 @@ pub mod Table
 pub mod Found
 pub mod Value
 pub mod Keeps
+pub mod Opening

@@ -1,4 +1,4 @@
-use Rattle.std.proofs.Common.{◌≡◌, ◌≢◌, ◌≤◌, ℕ, false, List, Option, Some, None, Result, Ok, Err, refl, sym, ◌∙◌, ap, subst, arith}
+use Rattle.std.proofs.Common.{◌≡◌, ◌≢◌, ◌≤◌, ℕ, false, List, Option, Some, None, Result, Ok, Err, refl, sym, ◌∙◌, ap, subst, arith, rules}
 use Rattle.std.specs.Option.{option_map}
 use Rattle.std.proofs.lemmas.Result.{err_from_is_err_and}
 use Rattle.macs_config.specs.Config.{Config, this_edition}
@@ -44,51 +44,17 @@ by_device sectors image NotFormatted found fits = absurd (not_found sectors imag
 by_device sectors image BadJournal found fits = absurd (not_found sectors image BadJournal (found (λ is. cc)) fits)
 by_device sectors image AreaFull found fits = absurd (not_found sectors image AreaFull (found (λ is. cc)) fits)
 
-pub returns-in_err-store-clause-opens : goal.returns-in_err-store-clause-opens
-returns-in_err-store-clause-opens g c =
+pub returns-in_err-store : goal.returns-in_err-store
+returns-in_err-store g c =
     let refused = c.in_err-store.field-0.0 in
+    let is = c.in_err-store.ensures in
     let risen = err_from_is_err_and c.from_residual.result c.from_residual.ensures.1 in
-    let before = (g.D.SectorDisk.disk c.args.disk) in
-    rw (risen.1, risen.2) (λ honest fits.
-    by_device before.sectors (now before).seen refused.fault (λ other. c.in_err-store.ensures.refused other honest)
-    (fits (now before).seen (g.met.D.SectorDisk.sound c.args.disk (sym c.in_err-store.ensures.work_refused.0.honest ∙ honest)).fit))
-
--- ---- what the store says of a disk that is refused
-
-pub returns-in_err-store-clause-names : goal.returns-in_err-store-clause-names
-returns-in_err-store-clause-names g c =
-    let risen = err_from_is_err_and c.from_residual.result c.from_residual.ensures.1 in
-    rw (risen.1, risen.2) c.in_err-store.ensures.names
-
-pub returns-in_err-store-clause-too_small : goal.returns-in_err-store-clause-too_small
-returns-in_err-store-clause-too_small g c =
-    let risen = err_from_is_err_and c.from_residual.result c.from_residual.ensures.1 in
-    rw (risen.1, risen.2) c.in_err-store.ensures.too_small
-
-pub returns-in_err-store-clause-small : goal.returns-in_err-store-clause-small
-returns-in_err-store-clause-small g c =
-    let risen = err_from_is_err_and c.from_residual.result c.from_residual.ensures.1 in
-    rw (risen.1, risen.2) c.in_err-store.ensures.small
-
-pub returns-in_err-store-clause-refused : goal.returns-in_err-store-clause-refused
-returns-in_err-store-clause-refused g c =
-    let risen = err_from_is_err_and c.from_residual.result c.from_residual.ensures.1 in
-    rw (risen.1, risen.2) c.in_err-store.ensures.refused
-
-pub returns-in_err-store-clause-unwritten : goal.returns-in_err-store-clause-unwritten
-returns-in_err-store-clause-unwritten g c =
-    let risen = err_from_is_err_and c.from_residual.result c.from_residual.ensures.1 in
-    rw (risen.1, risen.2) c.in_err-store.ensures.unwritten
-
-pub returns-in_err-store-clause-work_refused : goal.returns-in_err-store-clause-work_refused
-returns-in_err-store-clause-work_refused g c =
-    let risen = err_from_is_err_and c.from_residual.result c.from_residual.ensures.1 in
-    rw (risen.1, risen.2) c.in_err-store.ensures.work_refused
-
-pub returns-in_err-store-clause-any_moment_refused : goal.returns-in_err-store-clause-any_moment_refused
-returns-in_err-store-clause-any_moment_refused g c =
-    let risen = err_from_is_err_and c.from_residual.result c.from_residual.ensures.1 in
-    rw (risen.1, risen.2) c.in_err-store.ensures.any_moment_refused
+    let before = g.D.SectorDisk.disk c.args.disk in
+    rw (risen.1, risen.2) (record {
+      refused = is;
+      opens = λ honest fits. by_device before.sectors (now before).seen refused.fault (λ other. is.found other honest)
+          (fits (now before).seen (g.met.D.SectorDisk.sound c.args.disk (sym is.works.honest ∙ honest)).fit);
+    })
 
 -- ---- numbers begin at their ceilings
 
@@ -162,16 +128,18 @@ begins e logs next numbers running idle = λ i. record {
   in_hand = idle i;
 }
 
-pub returns-clause-state : goal.returns-clause-state
-returns-clause-state g c = λ logs.
-    let at = (goal.at.returns-clause-state g c).After-facts-2 in
-    begins {D = g.row.D.Denot} (record { store = c.in_ok-store.store; tx = c.opened-channels.result.tx; rx = c.opened-channels.result.rx; in_hand = None })
-    logs (next g at) (numbers g at) c.in_ok-store.ensures.running refl
-
-pub returns-clause-backed : goal.returns-clause-backed
-returns-clause-backed g c = λ honest.
-    let at = (goal.at.returns-clause-backed g c).After-facts-2 in
-    let found = c.in_ok-store.ensures in
-    kept-backed g.D.SectorDisk.disk
-    (record { store = c.in_ok-store.store; tx = c.opened-channels.result.tx; rx = c.opened-channels.result.rx; in_hand = None })
-    (kept g at) (subst (λ (n : ℕ). least_sectors ≤ n) (sym found.work.0.sectors) found.large) (found.stored honest)
+pub returns : goal.returns
+returns g c =
+    let at = (goal.at.returns g c).After-facts-2 in
+    let d = g.D.SectorDisk.disk in
+    let opened = c.in_ok-store.ensures in
+    let e : EndpointValue g.row.D.Denot = record { store = c.in_ok-store.store; tx = c.opened-channels.result.tx; rx = c.opened-channels.result.rx; in_hand = None } in
+    record {
+      device = opened.device;
+      state = λ logs. begins e logs (next g at) (numbers g at) opened.running refl;
+      found = opened.found;
+      backed = λ honest. kept-backed d e (kept g at) (subst (λ (n : ℕ). least_sectors ≤ n) (sym opened.device.works.sectors) opened.device.large) (opened.stored honest);
+      tx_counters = search rules;
+      rx_counters = search rules;
+      channel_counters = search rules;
+    }

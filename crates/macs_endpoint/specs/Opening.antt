@@ -1,0 +1,43 @@
+-- What the opening of a disk promises: the endpoint that begins there, or why it is refused.
+use Rattle.std.specs.Prelude.{◌≡◌, Result, Ok, Err}
+use Rattle.macs_config.specs.Config.{this_edition}
+use Rattle.macs_disk.specs.Disk.{Disk, IsHonest, MayLeave, now}
+use Rattle.macs_disk.specs.States.{Image}
+use Rattle.macs_journal.specs.Opening.{IsOpened, IsRefused}
+use Rattle.macs_journal.specs.declared.fault.JournalFault.{JournalFault}
+use Rattle.macs_journal.specs.declared.fault.JournalFault.TheVariants as variant
+use Rattle.macs_journal.specs.declared.recovery.RecoverRefused.{RecoverRefused}
+use Rattle.macs_txsc.specs.Transmit as transmit
+use Rattle.macs_txsc.specs.Value as txsc
+use Rattle.macs_rxsc.specs.Counting as counting
+use Rattle.macs_rxsc.specs.Value as rxsc
+use Rattle.macs_store.specs.Found.{IsFoundStanding}
+use Rattle.macs_store.specs.Opening.{IsUnfit}
+use Rattle.macs_store.specs.Value.{standing_in}
+use Rattle.macs_endpoint.specs.Counting.{new_channels}
+use Rattle.macs_endpoint.specs.Restart.{Fits, opened_state}
+use Rattle.macs_endpoint.specs.State.{Logs, State}
+use Rattle.macs_endpoint.specs.Value.{EndpointValue, IsBacked, disk_in, state_of}
+
+-- A disk is opened to this endpoint. It is in the state of one that begins with what stands in its store, after whatever logs, and
+-- nothing is counted. On an honest disk the disk stood for that, and holds it.
+pub record Opens {D : Type 0} (disk_of : D → Disk) (disk : D) (e : EndpointValue D) : Type 0 where
+  pub device : IsOpened (disk_of disk) (disk_in disk_of e)
+  pub state : (logs : Logs) → state_of e logs ≡ opened_state (standing_in e.store) logs
+  pub found : IsHonest (disk_in disk_of e) → IsFoundStanding this_edition (disk_of disk).sectors (now (disk_of disk)).seen (Ok (standing_in e.store))
+  pub backed : IsHonest (disk_in disk_of e) → IsBacked disk_of e
+  pub tx_counters : txsc.counters_of e.tx ≡ transmit.no_counts
+  pub rx_counters : rxsc.counters_of e.rx ≡ counting.no_counts
+  pub channel_counters : rxsc.channel_counters_of e.rx ≡ new_channels (standing_in e.store).config.channels
+
+-- A disk is refused for what stands on it, or for a device call that failed. Where each image that a power loss could leave of an honest
+-- disk fits a state, only a failed device call remains.
+pub record RefusesOpening {D : Type 0} (disk_of : D → Disk) (disk left : D) (fault : JournalFault) : Type 0 where
+  pub refused : IsRefused disk_of (IsUnfit disk_of disk) disk left fault
+  pub opens : IsHonest (disk_of left) → ((image : Image) → MayLeave (disk_of disk) image
+      → (s : State) × Fits this_edition (disk_of disk).sectors image s) → fault ≡ variant.Disk
+
+-- A disk is opened, or refused.
+abbrev pub IsOpening : {D : Type 0} → (D → Disk) → D → Result (EndpointValue D) (RecoverRefused D) → Type 0
+IsOpening disk_of disk (Ok e) = Opens disk_of disk e
+IsOpening disk_of disk (Err refused) = RefusesOpening disk_of disk refused.disk refused.fault

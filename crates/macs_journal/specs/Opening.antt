@@ -1,0 +1,57 @@
+-- What the opening of a disk promises: the device calls that it makes, why it is refused, and what is recovered.
+use Rattle.std.specs.Prelude.{◌≡◌, ◌≢◌, ◌<◌, ◌≤◌, ◌↔◌, List, length, false, Result, Ok, Err}
+use Rattle.macs_disk.specs.Disk.{Disk, IsHonest, Works, now}
+use Rattle.macs_disk.specs.Runs.{LeavesNothingNew}
+use Rattle.macs_disk.specs.States.{after_sync}
+use Rattle.macs_record.specs.declared.record.Record.{Record}
+use Rattle.macs_journal.specs.Areas.{least_sectors}
+use Rattle.macs_journal.specs.Found.{IsFoundContent}
+use Rattle.macs_journal.specs.Recovery.{IsLeftBy, IsRecoverName}
+use Rattle.macs_journal.specs.Value.{Holds, IsIdle, content_of, disk_in, is_stopped, used_slots}
+use Rattle.macs_journal.specs.Work.{FailsWith}
+use Rattle.macs_journal.specs.declared.fault.JournalFault.{JournalFault}
+use Rattle.macs_journal.specs.declared.fault.JournalFault.TheVariants as variant
+use Rattle.macs_journal.specs.declared.recovery.RecoverRefused.{RecoverRefused}
+use Rattle.macs_journal.specs.declared.recovery.Recovered.{Recovered}
+
+-- The device calls of an opening that is not refused: the disk is large enough, and no call failed. On an honest disk what reads give is
+-- durable then, and no power loss on the way left anything that it could not leave before.
+pub record IsOpened (old new : Disk) : Type 0 where
+  pub large : least_sectors ≤ old.sectors
+  pub works : Works old new
+  pub fails : new.failures ≡ old.failures
+  pub settled : IsHonest new → now new ≡ after_sync (now old)
+  pub any_moment : IsHonest new → LeavesNothingNew old new
+
+-- An opening that is refused, and gives the disk back. TooSmall is told exactly of a disk that is too small, and then no call is made;
+-- Disk exactly where a device call failed, which was the last one. On an honest disk every other fault is what `Found` says, nothing is
+-- written, and no power loss on the way left anything that it could not leave before.
+pub record IsRefused {D : Type 0} (disk_of : D → Disk) (Found : JournalFault → Type 0) (disk left : D) (fault : JournalFault) : Type 0 where
+  pub name : IsRecoverName fault
+  pub small : (fault ≡ variant.TooSmall) ↔ ((disk_of disk).sectors < least_sectors)
+  pub untouched : fault ≡ variant.TooSmall → left ≡ disk
+  pub works : Works (disk_of disk) (disk_of left)
+  pub fails : FailsWith (disk_of disk) (disk_of left) fault
+  pub found : fault ≢ variant.Disk → IsHonest (disk_of left) → Found fault
+  pub unwritten : IsHonest (disk_of left) → IsLeftBy fault (now (disk_of disk)) (now (disk_of left))
+  pub any_moment : IsHonest (disk_of left) → LeavesNothingNew (disk_of disk) (disk_of left)
+
+-- A journal is recovered, and these are its records. It runs and has nothing in hand, its head has this identity and count, and its records
+-- fill the slots that are used, those of the snapshot first. On an honest disk this is what the disk stood for, and the journal holds it.
+pub record Recovers {D : Type 0} (disk_of : D → Disk) (disk : D) (recovered : Recovered D) (records : List Record) : Type 0 where
+  pub device : IsOpened (disk_of disk) (disk_in disk_of recovered.journal)
+  pub running : is_stopped recovered.journal ≡ false
+  pub idle : IsIdle recovered.journal
+  pub identity : recovered.identity ≡ (content_of recovered.journal records).head.identity
+  pub count : recovered.count ≡ (content_of recovered.journal records).head.count
+  pub used : length records ≡ used_slots recovered.journal
+  pub behind : recovered.count ≤ length records
+  pub found : IsHonest (disk_in disk_of recovered.journal)
+      → IsFoundContent (disk_of disk).sectors (now (disk_of disk)).seen (Ok (content_of recovered.journal records))
+  pub holds : IsHonest (disk_in disk_of recovered.journal) → Holds disk_of recovered.journal (content_of recovered.journal records)
+
+-- The journal of a disk is recovered with these records, or refused for what stands on the disk, or for a device call that failed.
+abbrev pub IsRecovery : {D : Type 0} → (D → Disk) → D → Result (Recovered D) (RecoverRefused D) → List Record → Type 0
+IsRecovery disk_of disk (Ok recovered) records = Recovers disk_of disk recovered records
+IsRecovery disk_of disk (Err refused) records =
+    IsRefused disk_of (λ fault. IsFoundContent (disk_of disk).sectors (now (disk_of disk)).seen (Err fault)) disk refused.disk refused.fault
