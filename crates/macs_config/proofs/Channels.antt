@@ -1,10 +1,11 @@
 -- Octet strings among others, and receive channels in ascending order: put among them, and filtered.
-use Rattle.std.proofs.Common.{◌≡◌, ◌∙◌, ◌≤◌, ℕ, suc, Bool, true, false, cond, ◌&&◌, ◌||◌, List, [], ◌∷◌, length, Ordering, Less, Equal, Greater, filter, bytes_eq, refl, ap, sym, arith, nat_cmp, is_lt, is_eq}
+use Rattle.std.proofs.Common.{◌≡◌, ◌∙◌, ◌≤◌, ◌<◌, ◌+◌, ℕ, suc, Bool, true, false, cond, ◌&&◌, ◌||◌, List, [], ◌∷◌, ◌++◌, length, take, drop, get_or, Some, Ordering, Less, Equal, Greater, filter, bytes_eq, refl, ap, sym, arith, append_assoc, nat_cmp, is_lt, is_eq}
 use Rattle.std.proofs.lemmas.Bool.{and_from, and_parts, or_from, or_parts}
 use Rattle.std.proofs.lemmas.Slice.Eq.{bytes_eq-Decides}
+use Rattle.std.proofs.lemmas.List.{drop_more, take_more}
 use Rattle.std.proofs.lemmas.Map.Text.{is_eq-slice_cmp}
-use Rattle.std.specs.Cmp.Lexicographic.{nat_list_cmp_total, nat_list_eq_equiv, slice_cmp}
-use Rattle.std.specs.Ordering.{ordering_reverse}
+use Rattle.std.specs.Cmp.Lexicographic.{lists_agrees, nat_list_cmp_total, nat_list_eq_equiv, slice_cmp, slice_partial_cmp}
+use Rattle.std.specs.Ordering.{is_some_and, ordering_reverse, partial_lt}
 use Rattle.macs_config.specs.Config.{comes_before, is_among, is_ascending, put_among}
 
 -- ---- octet strings
@@ -16,7 +17,14 @@ same_octets a b = (bytes_eq-Decides a b).0
 pub bytes_eq-itself : (a : List ℕ) → bytes_eq a a ≡ true
 bytes_eq-itself a = (bytes_eq-Decides a a).1 refl
 
+pub bytes_eq-sym : (a b : List ℕ) → bytes_eq a b ≡ bytes_eq b a
+bytes_eq-sym a b = nat_list_eq_equiv.symm a b
+
 -- ---- the order
+
+-- `<` of two arrays of octets, as the definitions compare SCIs
+pub before_by : (a b : List ℕ) → partial_lt (slice_partial_cmp (λ x y. Some (nat_cmp x y))) a b ≡ comes_before a b
+before_by a b = ap (is_some_and is_lt) (lists_agrees {R = nat_cmp} {C = λ x y. Some (nat_cmp x y)} (λ x y. refl) a b)
 
 less : (order : Ordering) → is_lt order ≡ true → order ≡ Less
 less Less is = refl
@@ -53,6 +61,20 @@ ascending_to : (sci : List ℕ) (others : List (List ℕ)) → is_ascending (sci
 ascending_to sci others is = and_parts (leads sci others) (is_ascending others) (sym (ascending_parts sci others) ∙ is)
 
 -- ---- put among
+
+-- an SCI goes behind those that it does not come before
+pub put_among-behind : (sci : List ℕ) (scis : List (List ℕ)) (place : ℕ) → place < length scis
+    → comes_before sci (get_or scis place []) ≡ false → put_among sci scis ≡ take place scis ++ put_among sci (drop place scis)
+    → put_among sci scis ≡ take (place + 1) scis ++ put_among sci (drop (place + 1) scis)
+put_among-behind sci scis place within behind so_far =
+    so_far ∙ (rw (drop_more scis place [] within, behind, take_more scis place [] within)
+    (sym (append_assoc (take place scis) (get_or scis place [] ∷ []) (put_among sci (drop (place + 1) scis)))))
+
+-- and in front of the first that it comes before
+pub put_among-front : (sci : List ℕ) (scis : List (List ℕ)) (place : ℕ) → place < length scis
+    → comes_before sci (get_or scis place []) ≡ true → put_among sci scis ≡ take place scis ++ put_among sci (drop place scis)
+    → put_among sci scis ≡ take place scis ++ sci ∷ drop place scis
+put_among-front sci scis place within before so_far = so_far ∙ (rw (drop_more scis place [] within, before) refl)
 
 length_by : (sci other : List ℕ) (others : List (List ℕ)) (before : Bool) → length (put_among sci others) ≡ suc (length others)
     → length (cond before (sci ∷ other ∷ others) (other ∷ put_among sci others)) ≡ suc (suc (length others))
@@ -98,7 +120,7 @@ ascending_by : (sci other : List ℕ) (others : List (List ℕ)) (before : Bool)
 ascending_by sci other others true is differ ascend later = ascending_from sci (other ∷ others) is ascend
 ascending_by sci other others false is differ ascend later =
     ascending_from other (put_among sci others)
-    (leads-put_among sci other others (before-turned sci other is (nat_list_eq_equiv.symm sci other ∙ differ)) (ascending_to other others ascend).0)
+    (leads-put_among sci other others (before-turned sci other is (bytes_eq-sym sci other ∙ differ)) (ascending_to other others ascend).0)
     later
 
 -- those that ascend do so after it, where it was not among them

@@ -3,6 +3,8 @@ pub mod StoredChannels
 pub mod Channels
 pub mod Spent
 pub mod Tables
+pub mod Keyed
+pub mod Lent
 pub mod Sides
 pub mod Kept
 pub mod Replayed

@@ -260,14 +260,7 @@ fn are_rx_spent(contents: &Contents) -> bool
 fn are_keys_spent(contents: &Contents, sci: Sci) -> bool
     ensures { result ≡ list_all (is_rx_spent (config_in contents.now) sci) every_an }
 {
-    for number in 0..4 {
-        if let Some(an) = An::new(number) {
-            if !is_rx_spent(contents, sci, an) {
-                return false;
-            }
-        }
-    }
-    true
+    An::all().iter().all(|an| is_rx_spent(contents, sci, *an))
 }
 
 /// Whether the key of a receive association is spent; true where none stands.

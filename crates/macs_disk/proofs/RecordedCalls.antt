@@ -86,11 +86,11 @@ module _ (n : ℕ) (s : DiskState) (calls : List Entry) (clock failures : ℕ) w
   }
 
 -- one that failed, where nothing more was kept
-pub failed-call : {T E : Type 0} (n : ℕ) (s : DiskState) (calls more : List Entry) (clock failures c f : ℕ) (result : Result T E) → IsErr result → clock < 2 ^ 64 → more ≡ calls
+pub failed_call : {T E : Type 0} (n : ℕ) (s : DiskState) (calls more : List Entry) (clock failures c f : ℕ) (result : Result T E) → IsErr result → clock < 2 ^ 64 → more ≡ calls
     → (clock ≡ most → (c ≡ clock) × (f ≡ failures)) → (clock < most → (c ≡ clock + 1) × (f ≡ failures + 1))
     → IsDeviceCall (disk_of_record n s calls clock failures) (disk_of_record n s more c f) result
-failed-call n s calls more clock failures c f (Ok x) is fits same worn fresh = absurd cc
-failed-call {T} n s calls more clock failures c f (Err e) is fits same worn fresh =
+failed_call n s calls more clock failures c f (Ok x) is fits same worn fresh = absurd cc
+failed_call {T} n s calls more clock failures c f (Err e) is fits same worn fresh =
     rw same (bad-call n s calls clock failures e c f (omega (arith, fits)) worn fresh)
 
 -- one that was kept

@@ -136,6 +136,7 @@ impl<A: Allocator> SectorDisk for MemDisk<A> {
         Ok(())
     }
 
+    #[tactic(auto, using(crate::proofs::RecordedCalls::failed_call))]
     fn write(&mut self, at: u64, from: &[u8; 512]) -> Result<(), DeviceFault>
         requires { at < (disk_of self.old).sectors }
         ensures call { IsDeviceCall (disk_of self.old) (disk_of self.new) result }
@@ -150,6 +151,7 @@ impl<A: Allocator> SectorDisk for MemDisk<A> {
         Ok(())
     }
 
+    #[tactic(auto, using(crate::proofs::RecordedCalls::failed_call))]
     fn sync(&mut self) -> Result<(), DeviceFault>
         ensures call { IsDeviceCall (disk_of self.old) (disk_of self.new) result }
         ensures effect { IsHonest (disk_of self.new)

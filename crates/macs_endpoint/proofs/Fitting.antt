@@ -9,7 +9,7 @@ use Rattle.macs_config.specs.Tables.{put, put_at}
 use Rattle.macs_config.specs.declared.command.Command.{Command}
 use Rattle.macs_config.specs.declared.command.Command.TheVariants.{SetValidate, SetReplay, SetSciMode, TxInstall, TxUse, TxRemove, RxAdd, RxDrop, RxInstall, RxRemove}
 use Rattle.macs_config.specs.declared.refusal.Refusal.{Refusal}
-use Rattle.macs_config.proofs.Tables.{put_all}
+use Rattle.macs_config.proofs.Tables.{put-here, put_all}
 use Rattle.macs_disk.specs.Disk.{Disk}
 use Rattle.macs_disk.specs.States.{Image}
 use Rattle.macs_journal.specs.Areas.{least_sectors}
@@ -60,9 +60,6 @@ pub kept-ahead : {D : Type 0} (e : EndpointValue D) → IsSoundEndpoint e
 kept-ahead e kept = channels-ahead e.tx e.rx (standing_in e.store) kept.channels kept.within
 
 -- ---- one place changed
-
-pub put_here : {X : Type 0} (f : ℕ → X) (at : ℕ) (x : X) → put f at x at ≡ x
-put_here f at x = ap (λ b. cond b x (f at)) (eq-eqb at at refl)
 
 tx_by : (block : ℕ) (b : Bool) (n m c d : Option ℕ) → IsTxWithin block n c → IsTxWithin block m d → IsTxWithin block (cond b n m) (cond b c d)
 tx_by block true n m c d here there = here

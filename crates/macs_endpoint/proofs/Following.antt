@@ -1,6 +1,6 @@
 -- The channels follow a command that is accepted: what installing an association asks then holds, and they become those of
 -- what stands after it.
-use Rattle.std.proofs.Common.{rules, ◌≡◌, ◌∙◌, ◌≤◌, ◌^◌, ◌⊎◌, inl, inr, ℕ, Bool, cond, List, Option, Some, None, is_some, IsSome, IfSome, Result, Ok, Err, refl, ap, sym, subst, arith}
+use Rattle.std.proofs.Common.{◌≡◌, ◌∙◌, ◌≤◌, ◌^◌, ◌⊎◌, inl, inr, ℕ, Bool, List, Option, Some, None, is_some, IsSome, IfSome, Result, Ok, Err, refl, ap, sym, subst, arith}
 use Rattle.std.specs.Option.{option_map}
 use Rattle.std.proofs.Math.Nat.{max-eq_left}
 use Rattle.std.proofs.Math.Path.{fun_ext}
@@ -18,8 +18,8 @@ use Rattle.macs_config.specs.declared.command.Command.TheVariants.{RxInstall, Se
 use Rattle.macs_config.specs.declared.command.Replay.{Replay}
 use Rattle.macs_config.specs.declared.command.Validate.{Validate}
 use Rattle.macs_config.specs.declared.refusal.Refusal.{Refusal}
-use Rattle.macs_config.proofs.Channels.{bytes_eq-itself}
 use Rattle.macs_config.proofs.Kept.{applied_by}
+use Rattle.macs_config.proofs.Tables.{put-here, put_rx-here}
 use Rattle.macs_txsc.specs.Transmit.{TxSide}
 use Rattle.macs_txsc.specs.Value as txsc
 use Rattle.macs_txsc.specs.declared.channel.Tx.{Tx}
@@ -49,14 +49,6 @@ made-is s command after done =
     let by_config = accepted_by s command (apply s.edition s.identity s.config command) after done in
     let by_tests = applied_by (refusal_of s.edition s.identity s.config command) (config_after s.config command) by_config.0 by_config.1 in
     ap (with_config s command) by_tests.1 ∙ by_config.2
-
--- ---- tables
-
-here : {X : Type 0} (f : ℕ → X) (at : ℕ) (x : X) → put f at x at ≡ x
-here f at x = search rules
-
-pub here_at : {X : Type 0} (f : List ℕ → X) (at : List ℕ) (x : X) → put_at f at x at ≡ x
-here_at f at x = ap (λ (b : Bool). cond b x (f at)) (bytes_eq-itself at)
 
 -- ---- the same window
 
@@ -163,12 +155,12 @@ module _ (before after : Standing) (tx : Tx) (rx : rxsc.RxValue) (are : AreChann
     tx_sa = record { key = key; protection = protection_of confidential (offset_or_zero (offset_at offset)) }
 
     tx_found : after.config.tx an ≡ Some tx_sa
-    tx_found = ap (λ (s : Standing). s.config.tx an) (sym (made-is before tx_install after done)) ∙ here before.config.tx an (Some tx_sa)
+    tx_found = ap (λ (s : Standing). s.config.tx an) (sym (made-is before tx_install after done)) ∙ put-here before.config.tx an (Some tx_sa)
 
     tx_ceiling : after.ceilings.tx an ≡ Some (ahead start before.identity.tx_block)
     tx_ceiling =
         ap (λ (s : Standing). s.ceilings.tx an) (sym (made-is before tx_install after done))
-        ∙ here before.ceilings.tx an (Some (ahead start before.identity.tx_block))
+        ∙ put-here before.ceilings.tx an (Some (ahead start before.identity.tx_block))
 
     pub tx-stands : IsSome (after.config.tx an)
     tx-stands = ap is_some tx_found
@@ -199,14 +191,12 @@ module _ (before after : Standing) (tx : Tx) (rx : rxsc.RxValue) (are : AreChann
     rx_found : after.config.rx sci an ≡ Some rx_sa
     rx_found =
         ap (λ (s : Standing). s.config.rx sci an) (sym (made-is before rx_install after done))
-        ∙ ap (λ (f : ℕ → Option RxSa). f an) (here_at before.config.rx sci (put (before.config.rx sci) an (Some rx_sa)))
-        ∙ here (before.config.rx sci) an (Some rx_sa)
+        ∙ put_rx-here before.config.rx sci an (Some rx_sa)
 
     rx_ceiling : after.ceilings.rx sci an ≡ Some start
     rx_ceiling =
         ap (λ (s : Standing). s.ceilings.rx sci an) (sym (made-is before rx_install after done))
-        ∙ ap (λ (f : ℕ → Option ℕ). f an) (here_at before.ceilings.rx sci (put (before.ceilings.rx sci) an (Some start)))
-        ∙ here (before.ceilings.rx sci) an (Some start)
+        ∙ put_rx-here before.ceilings.rx sci an (Some start)
 
     pub rx-stands : IsSome (after.config.rx sci an)
     rx-stands = ap is_some rx_found

@@ -13,7 +13,8 @@ use Rattle.macs_config.specs.Identity.{Identity}
 use Rattle.macs_config.specs.Tables.{put, put_at}
 use Rattle.macs_config.specs.declared.association.RxSa.{RxSa}
 use Rattle.macs_config.specs.declared.command.SciMode.{SciMode}
-use Rattle.macs_config.proofs.Channels.{among-put_among, before-trans, bytes_eq-itself, same_octets}
+use Rattle.macs_config.proofs.Channels.{among-put_among, before-trans, bytes_eq-itself, bytes_eq-sym, same_octets}
+use Rattle.macs_config.proofs.Tables.{put-same, put_at-here, put_at-same, put_at-twice}
 use Rattle.macs_txsc.specs.Transmit as transmit
 use Rattle.macs_txsc.specs.Transmit.{TxSide}
 use Rattle.macs_txsc.specs.Value as txsc
@@ -23,24 +24,16 @@ use Rattle.macs_rxsc.specs.Counting.{no_channel_counts}
 use Rattle.macs_rxsc.specs.Receive.{AreOrdered, Numbers, RxSide, IsNumbered, has_channel, new_rx_side, first_numbers, under_window}
 use Rattle.macs_rxsc.specs.Value as rxsc
 use Rattle.macs_rxsc.specs.declared.counters.ChannelCounters.{ChannelCounters}
-use Rattle.macs_rxsc.proofs.Places.{bytes_eq-sym, put-same, put_at-same}
 use Rattle.macs_store.specs.Standing.{IsStanding, Standing}
 use Rattle.macs_endpoint.specs.Counting.{new_channels}
 use Rattle.macs_endpoint.specs.State.{rx_side_with, tx_side_with}
-use Rattle.macs_endpoint.proofs.Following.{here_at, with_rx, with_tx}
+use Rattle.macs_endpoint.proofs.Following.{with_rx, with_tx}
 
 -- ---- number by number
 
 -- what stands at the numbers below this one
 abbrev pub below : {X : Type 0} → ℕ → (ℕ → Option X) → ℕ → Option X
 below n f k = cond (nat_lt k n) (f k) None
-
-twice : {Y : Type 0} (b : Bool) (x y z : Y) → cond b y (cond b x z) ≡ cond b y z
-twice true x y z = refl
-twice false x y z = refl
-
-put_at-twice : {Y : Type 0} (f : List ℕ → Y) (sci : List ℕ) (x y : Y) → put_at (put_at f sci x) sci y ≡ put_at f sci y
-put_at-twice f sci x y = fun_ext (λ s. twice (bytes_eq s sci) x y (f s))
 
 module _ {X : Type 0} (f : ℕ → Option X) where
   more_by : (n k : ℕ) (x : Option X) (same was becomes : Bool) → f n ≡ x → (k == n) ≡ same → nat_lt k n ≡ was → nat_lt k (n + 1) ≡ becomes
@@ -87,12 +80,12 @@ module _ {X : Type 0} (f : ℕ → Option X) where
     filled-none none = put_at-same old sci (below 0 f) (fun_ext none ∙ sym below-none)
 
     pub filled-next : (n : ℕ) → put_at old sci (below n f) sci n ≡ None
-    filled-next n = ap (λ (g : ℕ → Option X). g n) (here_at old sci (below n f)) ∙ below-next n
+    filled-next n = ap (λ (g : ℕ → Option X). g n) (put_at-here old sci (below n f)) ∙ below-next n
 
     pub filled-more : (n : ℕ) (x : Option X) → f n ≡ x
         → put_at (put_at old sci (below n f)) sci (put (put_at old sci (below n f) sci) n x) ≡ put_at old sci (below (n + 1) f)
     filled-more n x is =
-        ap (λ (g : ℕ → Option X). put_at (put_at old sci (below n f)) sci (put g n x)) (here_at old sci (below n f))
+        ap (λ (g : ℕ → Option X). put_at (put_at old sci (below n f)) sci (put g n x)) (put_at-here old sci (below n f))
         ∙ put_at-twice old sci (below n f) (put (below n f) n x) ∙ ap (put_at old sci) (below-more n x is)
 
     pub filled-passed : (n : ℕ) → f n ≡ None → put_at old sci (below n f) ≡ put_at old sci (below (n + 1) f)
@@ -264,9 +257,16 @@ rx_opened s scis = record {
 no_sa : {A B : Type 0} (ceiling : Option A) (sa : Option B) → is_some ceiling ≡ is_some sa → ceiling ≡ None → sa ≡ None
 no_sa ceiling sa same none = none_too sa ceiling (sym same) none
 
--- the number that an association was made of
-pub number_is : (made : Option ℕ) (an number : ℕ) → IfSome made (λ n. n ≡ number) → made ≡ Some an → an ≡ number
-number_is made an number is found = subst (λ (o : Option ℕ). IfSome o (λ n. n ≡ number)) found is
+-- the four numbers stand at their own places
+pub number_is : (numbers : List ℕ) (place d : ℕ) → numbers ≡ 0 ∷ 1 ∷ 2 ∷ 3 ∷ [] → place < 4 → get_or numbers place d ≡ place
+number_is numbers place d are within = ap (λ (ns : List ℕ). get_or ns place d) are ∙ at place within
+  where
+    at : (k : ℕ) → k < 4 → get_or (0 ∷ 1 ∷ 2 ∷ 3 ∷ []) k d ≡ k
+    at zero below = refl
+    at (suc zero) below = refl
+    at (suc (suc zero)) below = refl
+    at (suc (suc (suc zero))) below = refl
+    at (suc (suc (suc (suc k)))) below = absurd (omega arith)
 
 -- ---- the transmit channel
 

@@ -5,7 +5,7 @@ use Rattle.std.specs.Option.{option_map}
 use Rattle.std.proofs.lemmas.Bool.{and_parts, leb-true}
 use Rattle.macs_config.specs.Identity.{Identity}
 use Rattle.macs_config.specs.Tables.{put, put_at}
-use Rattle.macs_config.proofs.Tables.{put_all, put_at_all}
+use Rattle.macs_config.proofs.Tables.{put-here, put_all, put_at_all}
 use Rattle.macs_txsc.specs.Transmit.{TxSide}
 use Rattle.macs_txsc.specs.Transmit as transmit
 use Rattle.macs_txsc.proofs.Needs.{IsTxNeed, tx-ends, tx-need, tx-raised}
@@ -17,7 +17,7 @@ use Rattle.macs_store.specs.Standing.{Ceilings, Standing, ahead, with_tx_raised}
 use Rattle.macs_endpoint.specs.Ceilings.{Raise, RaiseRx, RaiseTx, Raises, either_raise, first_raise, with_raise}
 use Rattle.macs_endpoint.specs.Restart.{rx_limit}
 use Rattle.macs_endpoint.specs.Value.{IsRxWithin, IsTxWithin}
-use Rattle.macs_endpoint.proofs.Fitting.{AreAhead, put_here}
+use Rattle.macs_endpoint.proofs.Fitting.{AreAhead}
 
 -- ---- which is the first
 
@@ -199,7 +199,7 @@ module _ (tx_side : TxSide) (rx_side : RxSide) where
       let raised = (with_tx_raised s an).ceilings.tx in
       let ends : transmit.need_of tx_side raised block ≡ None =
       tx-ends tx_side s.ceilings.tx block an need raised
-      (put_here s.ceilings.tx an (option_map (λ ceiling. ahead ceiling block) (s.ceilings.tx an)) ∙ tx-raised tx_side s.ceilings.tx block an need)
+      (put-here s.ceilings.tx an (option_map (λ ceiling. ahead ceiling block) (s.ceilings.tx an)) ∙ tx-raised tx_side s.ceilings.tx block an need)
       least (in_order s an need are) in
       let none : one_if (transmit.need_of tx_side raised block) ≡ 0 = ap one_if ends in
       let one : one_if (transmit.need_of tx_side s.ceilings.tx block) ≡ 1 = ap one_if is in

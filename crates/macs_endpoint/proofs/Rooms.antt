@@ -11,7 +11,7 @@ use Rattle.macs_config.specs.Tables.{put, put_at}
 use Rattle.macs_config.specs.declared.association.TxSa.{TxSa}
 use Rattle.macs_config.specs.declared.command.Command.{Command}
 use Rattle.macs_config.specs.declared.command.Command.TheVariants.{SetValidate, SetReplay, SetSciMode, TxInstall, TxUse, TxRemove, RxAdd, RxDrop, RxInstall, RxRemove}
-use Rattle.macs_config.proofs.Tables.{put_all, put_at_all}
+use Rattle.macs_config.proofs.Tables.{put-here, put-other, put_all, put_at-other, put_at_all}
 use Rattle.macs_disk.specs.Disk.{Disk}
 use Rattle.macs_txsc.specs.Transmit.{Outgoing, TxSide, is_at_ceiling, is_used_up, outgoing_if, outgoing, outgoing_at, tx_faults}
 use Rattle.macs_txsc.specs.Transmit as tx
@@ -39,17 +39,11 @@ use Rattle.macs_endpoint.specs.State.{Call, Commands, Protects, Protected, Ran, 
 use Rattle.macs_endpoint.specs.Step.{Step, next_after}
 use Rattle.macs_endpoint.specs.declared.fault.ProtectFault.TheVariants as protect
 use Rattle.macs_endpoint.specs.declared.fault.RefillFault.TheVariants as refill
-use Rattle.macs_endpoint.proofs.Fitting.{accept-parts, kept-ahead, put_here}
+use Rattle.macs_endpoint.proofs.Fitting.{accept-parts, kept-ahead}
 use Rattle.macs_endpoint.proofs.Framing.{five_others, not_exhausted}
 use Rattle.macs_endpoint.proofs.Raises.{AreRaised, no-first, raises-ahead, raises-keep, raises-parts, rx-first}
 
 -- ---- one place changed
-
-pub put_other : {X : Type 0} (f : ℕ → X) (at an : ℕ) (x : X) → at ≢ an → put f at x an ≡ f an
-put_other f at an x differ = put_all (λ y. y ≡ f an) f at x an (λ same. absurd (differ (sym same))) (λ other. refl)
-
-pub put_at_other : {X : Type 0} (f : List ℕ → X) (at sci : List ℕ) (x : X) → at ≢ sci → put_at f at x sci ≡ f sci
-put_at_other f at sci x differ = put_at_all (λ y. y ≡ f sci) f at x sci (λ same. absurd (differ (sym same))) (λ other. refl)
 
 put_rx_other : (f : List ℕ → ℕ → Option ℕ) (channel sci : List ℕ) (at an : ℕ) (x : Option ℕ) → (channel ≢ sci) ⊎ (at ≢ an)
     → put_at f channel (put (f channel) at x) sci an ≡ f sci an
@@ -57,7 +51,7 @@ put_rx_other f channel sci at an x differ =
     put_at_all (λ (g : ℕ → Option ℕ). g an ≡ f sci an) f channel (put (f channel) at x) sci
     (λ same. elim differ [
       | inl other ↦ absurd (other (sym same))
-      | inr other ↦ put_other (f channel) at an x other ∙ ap (λ (s : List ℕ). f s an) (sym same)
+      | inr other ↦ put-other (f channel) at an x other ∙ ap (λ (s : List ℕ). f s an) (sym same)
     ])
     (λ other. refl)
 
@@ -121,8 +115,8 @@ covers_raise count used an n s (RaiseRx need) covers = covers
 covers_put : (count used an at : ℕ) (next c : ℕ → Option ℕ) (n ceiling : Option ℕ) → at ≢ an → Covers count used (next an) (c an)
     → Covers count used (put next at n an) (put c at ceiling an)
 covers_put count used an at next c n ceiling differ covers =
-    subst (λ (x : Option ℕ). Covers count used x (put c at ceiling an)) (sym (put_other next at an n differ))
-    (subst (λ (x : Option ℕ). Covers count used (next an) x) (sym (put_other c at an ceiling differ)) covers)
+    subst (λ (x : Option ℕ). Covers count used x (put c at ceiling an)) (sym (put-other next at an n differ))
+    (subst (λ (x : Option ℕ). Covers count used (next an) x) (sym (put-other c at an ceiling differ)) covers)
 
 covers_command : (count used an : ℕ) (identity : Identity) (command : Command) (done : Unit {0}) (next : ℕ → Option ℕ) (c : Ceilings)
     → SparesTx an (Some command) → Covers count used (next an) (c.tx an)
@@ -290,7 +284,7 @@ under_command sci an pn identity (TxUse at) done c keeps under = under
 under_command sci an pn identity (TxRemove at) done c keeps under = under
 under_command sci an pn identity (RxAdd added) done c keeps under = under
 under_command sci an pn identity (RxDrop dropped) done c keeps under =
-    subst (λ (f : ℕ → Option ℕ). IsUnder (f an) pn) (sym (put_at_other c.rx dropped sci (λ an. None) keeps)) under
+    subst (λ (f : ℕ → Option ℕ). IsUnder (f an) pn) (sym (put_at-other c.rx dropped sci (λ an. None) keeps)) under
 under_command sci an pn identity (RxInstall channel at key start offset) done c keeps under =
     subst (λ (x : Option ℕ). IsUnder x pn) (sym (put_rx_other c.rx channel sci at an (Some start) keeps)) under
 under_command sci an pn identity (RxRemove channel at) done c keeps under =
@@ -487,10 +481,10 @@ module _ {D : Type 0} (disk_of : D → Disk) where
       let ended = call.behaves.step no_logs in
       let is_next : (state_of new no_logs).next an ≡ Some start = elim ended.1 [
         | inl stopped ↦ absurd stopped.1
-        | inr ran ↦ ap (λ (x : State). x.next an) ran.1.2 ∙ put_here (state_of old no_logs).next an (Some start)
+        | inr ran ↦ ap (λ (x : State). x.next an) ran.1.2 ∙ put-here (state_of old no_logs).next an (Some start)
       ] in
       let is_ceiling : (standing_in new.store).ceilings.tx an ≡ Some (ahead start block) =
-      ap (λ (x : Standing). x.ceilings.tx an) parts.2 ∙ put_here before.ceilings.tx an (Some (ahead start before.identity.tx_block))
+      ap (λ (x : Standing). x.ceilings.tx an) parts.2 ∙ put-here before.ceilings.tx an (Some (ahead start before.identity.tx_block))
       ∙ ap (λ (i : Identity). Some (ahead start i.tx_block)) (sym kept) in
       record {
         next = start;

@@ -5,7 +5,7 @@ use Rattle.macs_frame.proofs.FirstRefusal.{none-first}
 use Rattle.macs_config.specs.Tables.{put, put_at}
 use Rattle.macs_config.specs.declared.command.Command.{Command}
 use Rattle.macs_config.specs.declared.command.Command.TheVariants.{SetValidate, SetReplay, SetSciMode, TxInstall, TxUse, TxRemove, RxAdd, RxDrop, RxInstall, RxRemove}
-use Rattle.macs_config.proofs.Tables.{put_all, put_at_all}
+use Rattle.macs_config.proofs.Tables.{put-other, put_all, put_at-other, put_at_all, put_rx-here}
 use Rattle.macs_disk.specs.Disk.{Disk}
 use Rattle.macs_rxsc.specs.Receive.{Arrival, Arrives, Holds, Numbers, after_delivery, after_hold, put_numbers, seen_after, first_numbers, rx_steps, under_window}
 use Rattle.macs_rxsc.specs.declared.verdict.Verdict.TheVariants.{HeldBack}
@@ -19,9 +19,7 @@ use Rattle.macs_endpoint.specs.Step.{ArriveStep, Step, state_after_hold, numbers
 use Rattle.macs_endpoint.specs.Value.{EndpointValue, IsSoundEndpoint, state_of}
 use Rattle.macs_endpoint.specs.declared.fault.ProtectFault.TheVariants as protect
 use Rattle.macs_endpoint.specs.declared.fault.RefillFault.TheVariants as refill
-use Rattle.macs_endpoint.proofs.Following.{here_at}
-use Rattle.macs_endpoint.proofs.Fitting.{put_here}
-use Rattle.macs_endpoint.proofs.Rooms.{below-refilled, put_at_other, put_other}
+use Rattle.macs_endpoint.proofs.Rooms.{below-refilled}
 
 -- a number was seen that is not below this one
 abbrev IsReached : Option ℕ → ℕ → Type 0
@@ -49,7 +47,7 @@ module _ (sci : List ℕ) (an pn : ℕ) where
   seen-dropped : (table : List ℕ → ℕ → Option Numbers) (at : List ℕ) → at ≢ sci → HasSeen (table sci an) pn
       → HasSeen (put_at table at (λ an. None) sci an) pn
   seen-dropped table at differ seen =
-      subst (λ (f : ℕ → Option Numbers). HasSeen (f an) pn) (sym (put_at_other table at sci (λ an. None) differ)) seen
+      subst (λ (f : ℕ → Option Numbers). HasSeen (f an) pn) (sym (put_at-other table at sci (λ an. None) differ)) seen
 
   -- another association changes
   seen-other : (table : List ℕ → ℕ → Option Numbers) (at : List ℕ) (number : ℕ) (x : Option Numbers) → (at ≢ sci) ⊎ (number ≢ an)
@@ -60,7 +58,7 @@ module _ (sci : List ℕ) (an pn : ℕ) where
         | inl other ↦ absurd (other (sym same))
         | inr other ↦
             let here : HasSeen (table at an) pn = subst (λ (s : List ℕ). HasSeen (table s an) pn) same seen in
-            subst (λ (n : Option Numbers). HasSeen n pn) (sym (put_other (table at) number an x other)) here
+            subst (λ (n : Option Numbers). HasSeen n pn) (sym (put-other (table at) number an x other)) here
       ])
       (λ other. seen)
 
@@ -171,7 +169,7 @@ module _ (sci : List ℕ) (an pn : ℕ) where
 -- what was put at a place is there
 here_now : (table : List ℕ → ℕ → Option Numbers) (sci : List ℕ) (an : ℕ) (x : Option Numbers) → put_numbers table sci an x sci an ≡ x
 here_now table sci an x =
-    ap (λ (f : ℕ → Option Numbers). f an) (here_at table sci (put (table sci) an x)) ∙ put_here (table sci) an x
+    put_rx-here table sci an x
 
 -- numbers that have seen one that is not below this
 reached-numbers : (numbers : Numbers) (seen : Option ℕ) (pn : ℕ) → numbers.seen ≡ seen → IsReached seen pn

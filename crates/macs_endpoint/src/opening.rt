@@ -23,9 +23,6 @@ use macs_txsc::Tx;
 /// A disk that is not opened, and why.
 pub use macs_store::OpenRefused;
 
-/// How many associations a channel may have.
-const ASSOCIATIONS: u8 = 4;
-
 impl Channels {
     /// The channels that a store has. The packet numbers of each association begin at its ceiling.
     pub(crate) fn opened<D: SectorDisk>(store: &Store<D>) -> Channels
@@ -58,8 +55,7 @@ fn opened_tx<D: SectorDisk>(store: &Store<D>) -> Tx
     store.facts();
     let mut tx = Tx::new(store.identity().sci());
     tx.set_mode(config.sci_mode());
-    for number in 0..ASSOCIATIONS {
-        let an = An::new(number).unwrap();
+    for an in An::all() {
         if let Some(ceiling) = store.tx_ceiling(an) {
             install_tx(&mut tx, store, an, ceiling.get());
         }
@@ -105,8 +101,7 @@ fn install_channel<D: SectorDisk>(rx: &mut Rx, store: &Store<D>, sci: Sci)
     store.config().facts();
     store.facts();
     rx.facts();
-    for number in 0..ASSOCIATIONS {
-        let an = An::new(number).unwrap();
+    for an in An::all() {
         if let Some(ceiling) = store.rx_ceiling(sci, an) {
             install_rx(rx, store, sci, an, ceiling.get());
         }

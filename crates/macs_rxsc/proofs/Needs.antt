@@ -6,11 +6,12 @@ use Rattle.std.proofs.lemmas.Bool.{and_from, and_parts, or_from, or_parts}
 use Rattle.std.proofs.lemmas.List.{drop_more}
 use Rattle.std.proofs.lemmas.Map.Text.{is_eq-slice_cmp}
 use Rattle.std.specs.Cmp.Lexicographic.{slice_cmp}
-use Rattle.macs_config.proofs.Channels.{before-trans}
+use Rattle.macs_config.proofs.Channels.{before-trans, bytes_eq-itself, bytes_eq-sym}
+use Rattle.macs_config.proofs.Keyed.{lookup-none}
 use Rattle.macs_config.specs.Config.{comes_before, is_ascending}
 use Rattle.macs_config.specs.declared.command.Replay.{Replay}
 use Rattle.macs_config.specs.declared.command.Validate.{Validate}
-use Rattle.macs_rxsc.proofs.Places.{bytes_eq-same, bytes_eq-sym, channel_at-none}
+use Rattle.macs_rxsc.proofs.Places.{channel_lookup}
 use Rattle.macs_rxsc.specs.Needs.{Need, first_need, need_of, needs_of}
 use Rattle.macs_rxsc.specs.Value.{association_in, ceilings_among, ceilings_in, channel_at, numbers_in, packet_numbers, sa_of, sas_in, scis_of, rx_side_in}
 use Rattle.macs_rxsc.specs.declared.association.Association.{Association}
@@ -98,7 +99,7 @@ not_at (c ∷ cs) sci (suc k) d none within = not_at cs sci k d (or_parts (bytes
 
 own : (channels : List Channel) → is_ascending (scis_of channels) ≡ true → (k : ℕ) (d : Channel) → k < length channels → channel_at channels (get_or channels k d).sci ≡ Some (get_or channels k d)
 own [] ascending k d within = absurd (omega arith)
-own (c ∷ cs) ascending zero d within = rw (bytes_eq-same c.sci) refl
+own (c ∷ cs) ascending zero d within = rw (bytes_eq-itself c.sci) refl
 own (c ∷ cs) ascending (suc k) d within =
     let lt : k < length cs = omega arith in
     let other : bytes_eq c.sci (get_or cs k d).sci ≡ false = bytes_eq-sym c.sci (get_or cs k d).sci ∙ not_at cs c.sci k d (not_again c.sci (scis_of cs) ascending) lt in
@@ -122,7 +123,7 @@ needs_are block channels ascending validate replay = ap first_need (sym (same_ne
 among_by : (channels : List Channel) (sci : List ℕ) (an : ℕ) (b : Bool) → list_any (λ other. bytes_eq other sci) (scis_of channels) ≡ b → IsSome (sas_in (channel_at channels sci) an) → b ≡ true
 among_by channels sci an true is some = refl
 among_by channels sci an false is some =
-    let none = channel_at-none channels sci is in
+    let none = lookup-none channel_lookup channels sci is in
     let gone = subst (λ (o : Option Channel). IsSome (sas_in o an)) none some in
     absurd (cc)
 

@@ -1,18 +1,19 @@
 -- What the channels show, after one of them has changed, came or went.
-use Rattle.std.proofs.Common.{◌≡◌, ◌∙◌, ◌<◌, ℕ, zero, suc, true, false, not, List, [], ◌∷◌, ◌++◌, length, map, take, drop, set, get_or, filter, Option, Some, None, refl, ap, sym, subst, arith, rules}
+use Rattle.std.proofs.Common.{◌≡◌, ◌∙◌, ◌<◌, ℕ, zero, suc, true, false, not, List, [], ◌∷◌, ◌++◌, length, map, take, drop, set, get_or, filter, Option, Some, None, refl, ap, sym, subst, arith}
 use Rattle.std.specs.Prelude.{position, slice_set}
-use Rattle.std.specs.List.{insert, list_any, refill}
+use Rattle.std.specs.List.{insert, list_any}
 use Rattle.std.specs.Option.{option_and_then, option_map}
 use Rattle.std.specs.Str.{bytes_eq}
-use Rattle.std.proofs.lemmas.List.{length-set}
 use Rattle.std.proofs.Math.Path.{fun_ext}
-use Rattle.arrayvec.proofs.ArrayVecLemmas.{items-with_items}
 use Rattle.macs_config.specs.Config.{is_ascending, put_among}
+use Rattle.macs_config.specs.Places.{IsPlace}
 use Rattle.macs_config.specs.Tables.{put, put_at}
 use Rattle.macs_config.specs.declared.association.RxSa.{RxSa}
 use Rattle.macs_config.specs.declared.command.Replay.{Replay}
 use Rattle.macs_config.specs.declared.command.Validate.{Validate}
 use Rattle.macs_config.specs.declared.command.Validate.TheVariants.{Strict, Check}
+use Rattle.macs_config.proofs.Keyed.{found-none, found-place, has_sci, is_other, lookup-filter, lookup-insert, lookup-none, lookup-place, lookup-set, place-among, place-there, scis-filter, scis-insert, scis-set}
+use Rattle.macs_config.proofs.Tables.{none_at, put-placed, put_at-read, put_at-same}
 use Rattle.macs_frame.specs.Tag.{name_of, tag_of}
 use Rattle.macs_frame.specs.declared.tag.SecTag.{SecTag}
 use Rattle.macs_frame.specs.declared.tag.TagFault.{TagFault}
@@ -27,59 +28,45 @@ use Rattle.macs_rxsc.specs.declared.counters.ChannelCounters.{ChannelCounters}
 use Rattle.macs_rxsc.specs.declared.counters.RxCounters.{RxCounters}
 use Rattle.macs_rxsc.specs.declared.verdict.Verdict.{Verdict}
 use Rattle.macs_rxsc.proofs.Order.{AllOrdered}
-use Rattle.macs_rxsc.proofs.Places.{IsPlace, among_at, channel_at-filter, channel_at-insert, channel_at-none, channel_at-place, channel_at-set, channel_at-slid, has_sci, is_other, is_place, not_there, place_there, put_at-same, read_of, scis_of-filter, scis_of-insert, scis_of-set, scis_of-slid}
+use Rattle.macs_rxsc.proofs.Places.{channel_at-slid, channel_lookup, sci_of, scis_of-slid}
 
--- a channel that is none
-abbrev pub blank : Channel
-blank = record { sci = []; associations = []; counters = no_channel_counts }
-
--- the array after one of its channels was lent
-pub lent : (items ws : List Channel) (place : ℕ) (new : Channel) → ws ≡ items → refill (length items) items (set ws place new) ≡ set items place new
-lent items ws place new is =
-    ap (λ (xs : List Channel). refill (length items) items (set xs place new)) is ∙ items-with_items (record { items = items }) (set items place new) (length-set items place new)
-
--- the channel that was lent
-pub lent_old : (items ws : List Channel) (place : ℕ) (d : Channel) → ws ≡ items → d ≡ get_or ws place d → get_or ws place d ≡ get_or items place (get_or ws place d)
-lent_old items ws place d same is = ap (λ (xs : List Channel). get_or xs place d) same ∙ ap (get_or items place) is
-
--- where a channel stands, as it was found
-pub found_place : (items ws : List Channel) (sci : List ℕ) (place : ℕ) (d : Channel) → ws ≡ items → Some place ≡ position (has_sci sci) ws → IsPlace items sci place d
-found_place items ws sci place d is found = is_place items sci place d (sym (found ∙ ap (position (has_sci sci)) is))
-
-pub found_none : (items ws : List Channel) (sci : List ℕ) → ws ≡ items → None ≡ position (has_sci sci) ws
+-- where no channel was found
+pub found_none : (items ws : List Channel) (sci : List ℕ) → ws ≡ items → None ≡ position (has_sci sci_of sci) ws
     → (channel_at items sci ≡ None) × (list_any (λ other. bytes_eq other sci) (scis_of items) ≡ false)
-found_none items ws sci is none = not_there items sci blank (sym (none ∙ ap (position (has_sci sci)) is))
+found_none items ws sci is none =
+    let absent = found-none sci_of items ws sci is none in
+    (lookup-none channel_lookup items sci absent, absent)
 
 -- ---- one channel has changed
 
-module _ (items : List Channel) (place : ℕ) (old new : Channel) (sci : List ℕ) (p : IsPlace items sci place old) (is : old ≡ get_or items place old) (same : new.sci ≡ old.sci) where
+module _ (items : List Channel) (place : ℕ) (old new : Channel) (sci : List ℕ) (p : IsPlace (scis_of items) sci place) (is : old ≡ get_or items place old) (same : new.sci ≡ old.sci) where
   pub there : old.sci ≡ sci
-  there = ap (λ (c : Channel). c.sci) is ∙ place_there items sci place old p
+  there = ap sci_of is ∙ place-there sci_of items sci place old p
 
   pub at_old : channel_at items sci ≡ Some old
-  at_old = channel_at-place items sci place old p ∙ ap Some (sym is)
+  at_old = lookup-place channel_lookup items sci place old p ∙ ap Some (sym is)
 
   each : (s : List ℕ) → channel_at (set items place new) s ≡ put_at (channel_at items) sci (Some new) s
-  each = channel_at-set items place new old sci p (same ∙ there)
+  each = lookup-set channel_lookup items place new sci p (same ∙ there)
 
   scis : scis_of (set items place new) ≡ scis_of items
-  scis = scis_of-set items place new old sci p (same ∙ there)
+  scis = scis-set sci_of items place new sci p (same ∙ there)
 
   pub shown-changed : (validate : Validate) (replay : Replay) (f : ℕ → Option RxSa) (g : ℕ → Option Numbers) → sas_in (Some new) ≡ f → numbers_in (Some new) ≡ g
       → rx_side_in validate replay (set items place new) ≡ record (rx_side_in validate replay items)
       { rx = put_at (rx_side_in validate replay items).rx sci f; numbers = put_at (rx_side_in validate replay items).numbers sci g }
   shown-changed validate replay f g sas numbers =
       let rx_is : (λ (s : List ℕ). sas_in (channel_at (set items place new) s)) ≡ put_at (λ (s : List ℕ). sas_in (channel_at items s)) sci f =
-      read_of sas_in _ _ sci (Some new) each ∙ ap (put_at (λ (s : List ℕ). sas_in (channel_at items s)) sci) sas in
+      put_at-read sas_in _ _ sci (Some new) each ∙ ap (put_at (λ (s : List ℕ). sas_in (channel_at items s)) sci) sas in
       let numbers_are : (λ (s : List ℕ). numbers_in (channel_at (set items place new) s)) ≡ put_at (λ (s : List ℕ). numbers_in (channel_at items s)) sci g =
-      read_of numbers_in _ _ sci (Some new) each ∙ ap (put_at (λ (s : List ℕ). numbers_in (channel_at items s)) sci) numbers in
+      put_at-read numbers_in _ _ sci (Some new) each ∙ ap (put_at (λ (s : List ℕ). numbers_in (channel_at items s)) sci) numbers in
       λ i. record { validate = validate; replay = replay; channels = scis i; rx = rx_is i; numbers = numbers_are i }
 
   pub ceilings-changed : (h : ℕ → Option ℕ) → ceilings_in (Some new) ≡ h → ceilings_among (set items place new) ≡ put_at (ceilings_among items) sci h
-  ceilings-changed h is = read_of ceilings_in _ _ sci (Some new) each ∙ ap (put_at (ceilings_among items) sci) is
+  ceilings-changed h is = put_at-read ceilings_in _ _ sci (Some new) each ∙ ap (put_at (ceilings_among items) sci) is
 
   pub counters-changed : (h : Option ChannelCounters) → Some new.counters ≡ h → counters_among (set items place new) ≡ put_at (counters_among items) sci h
-  counters-changed h is = read_of counters_in _ _ sci (Some new) each ∙ ap (put_at (counters_among items) sci) is
+  counters-changed h is = put_at-read counters_in _ _ sci (Some new) each ∙ ap (put_at (counters_among items) sci) is
 
   -- what the old channel said, put where it was
   pub sas-old : put_at (λ (s : List ℕ). sas_in (channel_at items s)) sci (sas_in (Some old)) ≡ (λ (s : List ℕ). sas_in (channel_at items s))
@@ -105,14 +92,14 @@ module _ (items : List Channel) (place : ℕ) (old new : Channel) (sci : List �
       → rx_side_in validate replay (set items place new) ≡ record (rx_side_in validate replay items) { numbers = (rx_side_in validate replay (set items place new)).numbers }
   shown-numbers validate replay sas =
       let rx_is : (λ (s : List ℕ). sas_in (channel_at (set items place new) s)) ≡ (λ (s : List ℕ). sas_in (channel_at items s)) =
-      read_of sas_in _ _ sci (Some new) each ∙ ap (put_at (λ (s : List ℕ). sas_in (channel_at items s)) sci) sas ∙ sas-old in
+      put_at-read sas_in _ _ sci (Some new) each ∙ ap (put_at (λ (s : List ℕ). sas_in (channel_at items s)) sci) sas ∙ sas-old in
       λ i. record { validate = validate; replay = replay; channels = scis i; rx = rx_is i; numbers = (rx_side_in validate replay (set items place new)).numbers }
 
   -- the numbers that the channel has now
   pub numbers-changed : put_at (λ (s : List ℕ). numbers_in (channel_at items s)) old.sci (numbers_in (Some new)) ≡ (λ (s : List ℕ). numbers_in (channel_at (set items place new) s))
   numbers-changed =
       ap (λ (s : List ℕ). put_at (λ (t : List ℕ). numbers_in (channel_at items t)) s (numbers_in (Some new))) there
-      ∙ sym (read_of numbers_in _ _ sci (Some new) each)
+      ∙ sym (put_at-read numbers_in _ _ sci (Some new) each)
 
   -- one more is counted for the channel
   pub counters-counted : (verdict : Verdict) → new.counters ≡ with_channel_verdict verdict old.counters
@@ -126,92 +113,85 @@ module _ (items : List Channel) (place : ℕ) (old new : Channel) (sci : List �
 abbrev pub fresh : List ℕ → Channel
 fresh sci = record { sci = sci; associations = None ∷ None ∷ None ∷ None ∷ []; counters = no_channel_counts }
 
-nothing_at : (an : ℕ) → get_or {A = Option Association} (None ∷ None ∷ None ∷ None ∷ []) an None ≡ None
-nothing_at zero = refl
-nothing_at (suc zero) = refl
-nothing_at (suc (suc zero)) = refl
-nothing_at (suc (suc (suc zero))) = refl
-nothing_at (suc (suc (suc (suc an)))) = refl
-
 module _ (items : List Channel) (place : ℕ) (sci : List ℕ) (free : list_any (λ other. bytes_eq other sci) (scis_of items) ≡ false) where
   inserted : (s : List ℕ) → channel_at (insert items place (fresh sci)) s ≡ put_at (channel_at items) sci (Some (fresh sci)) s
-  inserted = channel_at-insert items place (fresh sci) free
+  inserted = lookup-insert channel_lookup items place (fresh sci) free
 
   none_yet : channel_at items sci ≡ None
-  none_yet = channel_at-none items sci free
+  none_yet = lookup-none channel_lookup items sci free
 
   -- what is read of associations is as before
   unread : {X : Type 0} (f : Association → X) → ◌≡◌ {A = ℕ → Option X} (λ an. option_map f (get_or (fresh sci).associations an None)) (λ an. None)
-  unread f = fun_ext (λ an. ap (option_map f) (nothing_at an))
+  unread f = fun_ext (λ an. ap (option_map f) (none_at an))
 
   sas-added : ◌≡◌ {A = List ℕ → ℕ → Option RxSa} (λ s. sas_in (channel_at (insert items place (fresh sci)) s)) (λ s. sas_in (channel_at items s))
   sas-added =
-      read_of sas_in _ _ sci (Some (fresh sci)) inserted ∙ ap (put_at (λ (s : List ℕ). sas_in (channel_at items s)) sci) (unread sa_of)
+      put_at-read sas_in _ _ sci (Some (fresh sci)) inserted ∙ ap (put_at (λ (s : List ℕ). sas_in (channel_at items s)) sci) (unread sa_of)
       ∙ put_at-same (λ (s : List ℕ). sas_in (channel_at items s)) sci _ (ap sas_in none_yet)
 
   numbers-added : ◌≡◌ {A = List ℕ → ℕ → Option Numbers} (λ s. numbers_in (channel_at (insert items place (fresh sci)) s)) (λ s. numbers_in (channel_at items s))
   numbers-added =
-      read_of numbers_in _ _ sci (Some (fresh sci)) inserted ∙ ap (put_at (λ (s : List ℕ). numbers_in (channel_at items s)) sci) (unread packet_numbers)
+      put_at-read numbers_in _ _ sci (Some (fresh sci)) inserted ∙ ap (put_at (λ (s : List ℕ). numbers_in (channel_at items s)) sci) (unread packet_numbers)
       ∙ put_at-same (λ (s : List ℕ). numbers_in (channel_at items s)) sci _ (ap numbers_in none_yet)
 
   pub ceilings-added : ceilings_among (insert items place (fresh sci)) ≡ ceilings_among items
   ceilings-added =
-      read_of ceilings_in _ _ sci (Some (fresh sci)) inserted ∙ ap (put_at (ceilings_among items) sci) (unread (λ (a : Association). a.ceiling))
+      put_at-read ceilings_in _ _ sci (Some (fresh sci)) inserted ∙ ap (put_at (ceilings_among items) sci) (unread (λ (a : Association). a.ceiling))
       ∙ put_at-same (ceilings_among items) sci _ (ap ceilings_in none_yet)
 
   pub counters-added : counters_among (insert items place (fresh sci)) ≡ put_at (counters_among items) sci (Some no_channel_counts)
-  counters-added = read_of counters_in _ _ sci (Some (fresh sci)) inserted
+  counters-added = put_at-read counters_in _ _ sci (Some (fresh sci)) inserted
 
   pub shown-added : (validate : Validate) (replay : Replay) → put_among sci (scis_of items) ≡ take place (scis_of items) ++ sci ∷ drop place (scis_of items)
       → rx_side_in validate replay (insert items place (fresh sci)) ≡ record (rx_side_in validate replay items) { channels = put_among sci (scis_of items) }
   shown-added validate replay between =
-      let scis : scis_of (insert items place (fresh sci)) ≡ put_among sci (scis_of items) = scis_of-insert items place (fresh sci) ∙ sym between in
+      let scis : scis_of (insert items place (fresh sci)) ≡ put_among sci (scis_of items) = scis-insert sci_of items place (fresh sci) ∙ sym between in
       λ i. record { validate = validate; replay = replay; channels = scis i; rx = sas-added i; numbers = numbers-added i }
 
 -- ---- a channel goes
 
 module _ (items : List Channel) (sci : List ℕ) where
-  pub shown-gone : (validate : Validate) (replay : Replay) → rx_side_in validate replay (filter (is_other sci) items) ≡ record (rx_side_in validate replay items) {
+  pub shown-gone : (validate : Validate) (replay : Replay) → rx_side_in validate replay (filter (is_other sci_of sci) items) ≡ record (rx_side_in validate replay items) {
     channels = filter (λ other. not (bytes_eq other sci)) (scis_of items);
     rx = put_at (rx_side_in validate replay items).rx sci (λ an. None);
     numbers = put_at (rx_side_in validate replay items).numbers sci (λ an. None);
   }
   shown-gone validate replay =
-      let rx_is : (λ (s : List ℕ). sas_in (channel_at (filter (is_other sci) items) s)) ≡ put_at (λ (s : List ℕ). sas_in (channel_at items s)) sci (λ an. None) =
-      read_of sas_in _ _ sci None (channel_at-filter items sci) in
-      let numbers_are : (λ (s : List ℕ). numbers_in (channel_at (filter (is_other sci) items) s)) ≡ put_at (λ (s : List ℕ). numbers_in (channel_at items s)) sci (λ an. None) =
-      read_of numbers_in _ _ sci None (channel_at-filter items sci) in
-      λ i. record { validate = validate; replay = replay; channels = scis_of-filter items sci i; rx = rx_is i; numbers = numbers_are i }
+      let rx_is : (λ (s : List ℕ). sas_in (channel_at (filter (is_other sci_of sci) items) s)) ≡ put_at (λ (s : List ℕ). sas_in (channel_at items s)) sci (λ an. None) =
+      put_at-read sas_in _ _ sci None (lookup-filter channel_lookup items sci) in
+      let numbers_are : (λ (s : List ℕ). numbers_in (channel_at (filter (is_other sci_of sci) items) s)) ≡ put_at (λ (s : List ℕ). numbers_in (channel_at items s)) sci (λ an. None) =
+      put_at-read numbers_in _ _ sci None (lookup-filter channel_lookup items sci) in
+      λ i. record { validate = validate; replay = replay; channels = scis-filter sci_of items sci i; rx = rx_is i; numbers = numbers_are i }
 
-  pub ceilings-gone : ceilings_among (filter (is_other sci) items) ≡ put_at (ceilings_among items) sci (λ an. None)
-  ceilings-gone = read_of ceilings_in _ _ sci None (channel_at-filter items sci)
+  pub ceilings-gone : ceilings_among (filter (is_other sci_of sci) items) ≡ put_at (ceilings_among items) sci (λ an. None)
+  ceilings-gone = put_at-read ceilings_in _ _ sci None (lookup-filter channel_lookup items sci)
 
-  pub counters-gone : counters_among (filter (is_other sci) items) ≡ put_at (counters_among items) sci None
-  counters-gone = read_of counters_in _ _ sci None (channel_at-filter items sci)
+  pub counters-gone : counters_among (filter (is_other sci_of sci) items) ≡ put_at (counters_among items) sci None
+  counters-gone = put_at-read counters_in _ _ sci None (lookup-filter channel_lookup items sci)
 
 -- ---- the channel that a frame names
 
 -- the place that was found, over the channels as they are kept and the name in the frame's tag
 pub named_at : (items ws : List Channel) (frame : List ℕ) (tag : SecTag) (found : Option ℕ) → ws ≡ items → tag ≡ tag_of frame
-    → found ≡ option_and_then (λ (s : List ℕ). position (has_sci s) ws) (sci_named (scis_of ws) frame tag.name)
-    → found ≡ option_and_then (λ (s : List ℕ). position (has_sci s) items) (sci_named (scis_of items) frame (name_of frame))
+    → found ≡ option_and_then (λ (s : List ℕ). position (has_sci sci_of s) ws) (sci_named (scis_of ws) frame tag.name)
+    → found ≡ option_and_then (λ (s : List ℕ). position (has_sci sci_of s) items) (sci_named (scis_of items) frame (name_of frame))
 named_at items ws frame tag found same is found_is =
     found_is
-    ∙ ap (λ (t : SecTag). option_and_then (λ (s : List ℕ). position (has_sci s) ws) (sci_named (scis_of ws) frame t.name)) is
-    ∙ ap (λ (xs : List Channel). option_and_then (λ (s : List ℕ). position (has_sci s) xs) (sci_named (scis_of xs) frame (name_of frame))) same
+    ∙ ap (λ (t : SecTag). option_and_then (λ (s : List ℕ). position (has_sci sci_of s) ws) (sci_named (scis_of ws) frame t.name)) is
+    ∙ ap (λ (xs : List Channel). option_and_then (λ (s : List ℕ). position (has_sci sci_of s) xs) (sci_named (scis_of xs) frame (name_of frame))) same
 
-pub named_some : (items : List Channel) (place : ℕ) (d : Channel) (named : Option (List ℕ))
-    → ◌≡◌ {A = Option ℕ} (Some place) (option_and_then (λ (s : List ℕ). position (has_sci s) items) named)
-    → (sci : List ℕ) × (named ≡ Some sci) × IsPlace items sci place d × (option_and_then (if_channel (scis_of items)) named ≡ Some sci)
-named_some items place d None found = absurd (cc)
-named_some items place d (Some sci) found =
-    let p = is_place items sci place d (sym found) in
-    (sci, refl, p, rw (among_at items sci place d p) refl)
+pub named_some : (items : List Channel) (place : ℕ) (named : Option (List ℕ))
+    → ◌≡◌ {A = Option ℕ} (Some place) (option_and_then (λ (s : List ℕ). position (has_sci sci_of s) items) named)
+    → (sci : List ℕ) × (named ≡ Some sci) × IsPlace (scis_of items) sci place × (option_and_then (if_channel (scis_of items)) named ≡ Some sci)
+named_some items place None found = absurd (cc)
+named_some items place (Some sci) found =
+    let p = found-place sci_of items items sci refl place found in
+    (sci, refl, p, rw (place-among (scis_of items) sci place p) refl)
 
-pub named_none : (items : List Channel) (named : Option (List ℕ)) → ◌≡◌ {A = Option ℕ} None (option_and_then (λ (s : List ℕ). position (has_sci s) items) named)
+pub named_none : (items : List Channel) (named : Option (List ℕ)) → ◌≡◌ {A = Option ℕ} None (option_and_then (λ (s : List ℕ). position (has_sci sci_of s) items) named)
     → option_and_then (if_channel (scis_of items)) named ≡ None
 named_none items None none = refl
-named_none items (Some sci) none = rw ((not_there items sci blank (sym none)).1) refl
+named_none items (Some sci) none = rw (found-none sci_of items items sci refl none) refl
 
 -- ---- what is not counted for channels
 
@@ -295,10 +275,6 @@ kept_as validate replay items counters side ceilings is_side are_ceilings ascend
 
 -- ---- one association of a channel has changed
 
-placed : {A B : Type 0} (f : A → B) (xs : List (Option A)) (i : ℕ) (new : A) → i < length xs
-    → (λ (j : ℕ). option_map f (get_or (slice_set xs i (Some new)) j None)) ≡ put (λ (j : ℕ). option_map f (get_or xs j None)) i (Some (f new))
-placed f xs i new within = search rules
-
 -- the channel that its association has moved the numbers of
 pub decided_some : (side : RxSide) (ceilings : List ℕ → ℕ → Option ℕ) (frame : List ℕ) (channel : Channel) (i an : ℕ) (new : Association) (verdict : Verdict) (given : List ℕ)
     → i ≡ an → i < length channel.associations → side.numbers channel.sci ≡ numbers_in (Some channel)
@@ -312,7 +288,7 @@ decided_some side ceilings frame channel i an new verdict given same within are 
     let changed : put (side.numbers channel.sci) an (Some (packet_numbers new)) ≡ numbers_in (Some (record channel { associations = slice_set channel.associations i (Some new) })) =
     ap (λ (f : ℕ → Option Numbers). put f an (Some (packet_numbers new))) are
     ∙ ap (λ (k : ℕ). put (numbers_in (Some channel)) k (Some (packet_numbers new))) (sym same)
-    ∙ sym (placed packet_numbers channel.associations i new within) in
+    ∙ sym (put-placed packet_numbers channel.associations i new within) in
     subst (λ (f : ℕ → Option Numbers). IsOutcome side ceilings frame (record { verdict = verdict; given = given; numbers = put_at side.numbers channel.sci f })) changed received
 
 -- an element, whatever is read past the end

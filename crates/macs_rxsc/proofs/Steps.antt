@@ -22,7 +22,7 @@ use Rattle.macs_rxsc.specs.declared.verdict.Kind.{Kind}
 use Rattle.macs_rxsc.specs.declared.verdict.Reason.{Reason}
 use Rattle.macs_rxsc.specs.declared.verdict.Verdict.{Verdict}
 use Rattle.macs_rxsc.specs.declared.verdict.Verdict.TheVariants.{Delivered, Discarded, HeldBack}
-use Rattle.macs_rxsc.proofs.Places.{put-same, put_at-same}
+use Rattle.macs_config.proofs.Tables.{put-same, put_at-same}
 
 -- the steps behind those of the tag
 abbrev pub later_steps : List RxStep

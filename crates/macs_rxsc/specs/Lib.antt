@@ -3,3 +3,4 @@ pub mod Value
 pub mod Sound
 pub mod Needs
 pub mod Counting
+pub mod Receiving

@@ -3,11 +3,12 @@
 ghost use Rattle.std.specs.Prelude.{◌≡◌, Option, ◌<◌, ◌∷◌, ℕ, List, [], Some, None, IsSome, map};
 ghost use Rattle.std.specs.Option.{option_map};
 ghost use Rattle.macs_frame.specs.Tag.{IsForKay, Tag};
-ghost use Rattle.macs_rxsc.specs.Receive.{Numbers, IsOutcome, RxSide, channel_of};
+ghost use Rattle.macs_rxsc.specs.Receive.{Numbers};
+ghost use Rattle.macs_rxsc.specs.Receiving.{ChannelReceives};
 ghost use Rattle.macs_rxsc.specs.Needs.{Need, first_need, need_of};
 ghost use Rattle.macs_rxsc.specs.Counting.{with_channel_verdict, no_channel_counts};
 ghost use Rattle.macs_rxsc.specs.Value.{ceilings_in, numbers_in, packet_numbers, sa_of, sas_in, association_under, channel_under};
-ghost use Rattle.macs_config.specs.Tables.{put, put_at};
+ghost use Rattle.macs_config.specs.Tables.{put};
 ghost use Rattle.macs_rxsc.specs.declared.association.Association.{Association};
 
 use crate::association::{Association, RxNumbers, slide};
@@ -88,16 +89,7 @@ impl Channel {
     ) -> Verdict
         requires read { Tag frame.now parts.now × (¬ IsForKay frame.now) }
         requires empty { out.old.items ≡ [] }
-        ensures verdict { (side : RxSide) (ceilings : List ℕ → ℕ → Option ℕ) → side.validate ≡ validate
-            → side.replay ≡ replay → channel_of side frame.now ≡ Some self.old.sci
-            → side.rx self.old.sci ≡ sas_in (Some self.old)
-            → side.numbers self.old.sci ≡ numbers_in (Some self.old)
-            → ceilings self.old.sci ≡ ceilings_in (Some self.old)
-            → IsOutcome side ceilings frame.now (record {
-              verdict = result;
-              given = out.new.items;
-              numbers = put_at side.numbers self.old.sci (numbers_in (Some self.new));
-            }) }
+        ensures verdict { ChannelReceives validate replay self.old self.new frame.now result out.new.items }
         ensures sci { self.new.sci ≡ self.old.sci }
         ensures sas { sas_in (Some self.new) ≡ sas_in (Some self.old) }
         ensures ceilings { ceilings_in (Some self.new) ≡ ceilings_in (Some self.old) }
@@ -119,16 +111,7 @@ impl Channel {
     ) -> Verdict
         requires read { Tag frame.now parts.now × (¬ IsForKay frame.now) }
         requires empty { out.old.items ≡ [] }
-        ensures verdict { (side : RxSide) (ceilings : List ℕ → ℕ → Option ℕ) → side.validate ≡ validate
-            → side.replay ≡ replay → channel_of side frame.now ≡ Some self.old.sci
-            → side.rx self.old.sci ≡ sas_in (Some self.old)
-            → side.numbers self.old.sci ≡ numbers_in (Some self.old)
-            → ceilings self.old.sci ≡ ceilings_in (Some self.old)
-            → IsOutcome side ceilings frame.now (record {
-              verdict = result;
-              given = out.new.items;
-              numbers = put_at side.numbers self.old.sci (numbers_in (Some self.new));
-            }) }
+        ensures verdict { ChannelReceives validate replay self.old self.new frame.now result out.new.items }
         ensures sci { self.new.sci ≡ self.old.sci }
         ensures sas { sas_in (Some self.new) ≡ sas_in (Some self.old) }
         ensures ceilings { ceilings_in (Some self.new) ≡ ceilings_in (Some self.old) }

@@ -7,9 +7,10 @@ ghost use Rattle.std.specs.Str.{bytes_eq};
 ghost use Rattle.macs_config.specs.Config.{this_edition, is_ascending, put_among};
 ghost use Rattle.macs_config.specs.Tables.{put, put_at};
 ghost use Rattle.macs_frame.specs.Tag.{IsForKay, Tag};
-ghost use Rattle.macs_rxsc.specs.Receive.{IsOutcome, channel_of, put_numbers, sci_named};
+ghost use Rattle.macs_rxsc.specs.Receive.{put_numbers, sci_named};
+ghost use Rattle.macs_rxsc.specs.Receiving.{TableReceives};
 ghost use Rattle.macs_rxsc.specs.Needs.{Need, needs_of};
-ghost use Rattle.macs_rxsc.specs.Counting.{with_verdict_at, no_channel_counts};
+ghost use Rattle.macs_rxsc.specs.Counting.{no_channel_counts};
 ghost use Rattle.macs_rxsc.specs.Value.{ceilings_among, channel_at, counters_among, packet_numbers, sa_of, scis_of, rx_side_in, channel_under};
 ghost use Rattle.macs_config.specs.declared.command.Replay.{Replay};
 ghost use Rattle.macs_config.specs.declared.command.Validate.{Validate};
@@ -188,18 +189,7 @@ impl Table {
         frame: &[u8],
         out: &mut FrameBuf,
     ) -> Verdict
-        ensures verdict { IsOutcome (rx_side_in validate replay self.old.channels.items) (ceilings_among self.old.channels.items)
-            frame.now (record {
-              verdict = result;
-              given = out.new.items;
-              numbers = (rx_side_in validate replay self.new.channels.items).numbers;
-            }) }
-        ensures side { rx_side_in validate replay self.new.channels.items ≡ record (rx_side_in validate replay self.old.channels.items)
-            { numbers = (rx_side_in validate replay self.new.channels.items).numbers } }
-        ensures ceilings { ceilings_among self.new.channels.items ≡ ceilings_among self.old.channels.items }
-        ensures counters { counters_among self.new.channels.items ≡ with_verdict_at
-            (channel_of (rx_side_in validate replay self.old.channels.items) frame.now) result
-            (counters_among self.old.channels.items) }
+        ensures { TableReceives validate replay self.old.channels.items self.new.channels.items frame.now result out.new.items }
     {
         out.clear();
         match read_tag(frame) {
@@ -220,18 +210,7 @@ impl Table {
     ) -> Verdict
         requires read { Tag frame.now parts.now × (¬ IsForKay frame.now) }
         requires empty { out.old.items ≡ [] }
-        ensures verdict { IsOutcome (rx_side_in validate replay self.old.channels.items) (ceilings_among self.old.channels.items)
-            frame.now (record {
-              verdict = result;
-              given = out.new.items;
-              numbers = (rx_side_in validate replay self.new.channels.items).numbers;
-            }) }
-        ensures side { rx_side_in validate replay self.new.channels.items ≡ record (rx_side_in validate replay self.old.channels.items)
-            { numbers = (rx_side_in validate replay self.new.channels.items).numbers } }
-        ensures ceilings { ceilings_among self.new.channels.items ≡ ceilings_among self.old.channels.items }
-        ensures counters { counters_among self.new.channels.items ≡ with_verdict_at
-            (channel_of (rx_side_in validate replay self.old.channels.items) frame.now) result
-            (counters_among self.old.channels.items) }
+        ensures { TableReceives validate replay self.old.channels.items self.new.channels.items frame.now result out.new.items }
     {
         match place_named(self.channels.as_slice(), frame, parts.tag.name) {
             Some(place) => self.channels[place].receive(validate, replay, frame, parts, out),

@@ -1,5 +1,6 @@
 -- What the calls of a store promise, from what its journal promises of one record.
-use Rattle.std.proofs.Common.{◌≡◌, ◌≢◌, ◌↔◌, inl, inr, refl, sym, ◌∙◌, ap, subst, arith, true, false, Some, Result, Ok, Err, is_ok, IsOk}
+use Rattle.std.proofs.Common.{◌≡◌, ◌≢◌, ◌↔◌, ◌⊎◌, inl, inr, refl, sym, ◌∙◌, ap, subst, arith, true, false, Some, Result, Ok, Err, is_ok, IsOk}
+use Rattle.std.specs.Prelude.{IsErrOf}
 use Rattle.macs_disk.specs.Disk.{Disk, IsHonest}
 use Rattle.macs_disk.specs.Runs.{Leaves}
 use Rattle.macs_disk.proofs.Moments.{Leaves-start, Works-start}
@@ -8,10 +9,11 @@ use Rattle.macs_config.specs.declared.refusal.Refusal.{Refusal}
 use Rattle.macs_record.specs.Commands.{record_of}
 use Rattle.macs_record.specs.declared.record.Record.{Record}
 use Rattle.macs_journal.specs.Areas.{slots}
+use Rattle.macs_journal.specs.Work.{IsWorkOf}
 use Rattle.macs_journal.specs.declared.fault.JournalFault.{JournalFault}
 use Rattle.macs_journal.specs.declared.fault.JournalFault.TheVariants as journal_fault
 use Rattle.macs_store.specs.Found.{CommitLeaves, FindsEitherStanding}
-use Rattle.macs_store.specs.Keeps.{Commits, Keeps, Records}
+use Rattle.macs_store.specs.Keeps.{Commits, IsCommitOf, Keeps, Records}
 use Rattle.macs_store.specs.Replay.{after_record}
 use Rattle.macs_store.specs.Standing.{Standing, accept}
 use Rattle.macs_store.specs.Table.{StandingValue, standing_of}
@@ -20,47 +22,53 @@ use Rattle.macs_store.specs.declared.fault.CommitFault.{CommitFault}
 use Rattle.macs_store.specs.declared.fault.CommitFault.TheVariants as commit_fault
 use Rattle.macs_store.proofs.Keeping.{accepted-follows, commit-leaves, stored-image}
 
+-- no record is kept, no command is
+abbrev unkept : JournalFault → Result (Unit {0}) JournalFault
+unkept at = Err at
+
+abbrev undone : CommitFault → Result (Unit {0}) CommitFault
+undone fault = Err fault
+
 module _ {D : Type 0} (disk_of : D → Disk) (s : StoreValue D) where
   -- where nothing is done nothing new is left
   left_alone : (after : Standing) → IsStored disk_of s → Leaves (disk_in disk_of s) (disk_in disk_of s) (FindsEitherStanding (standing_in s) after)
   left_alone after stored =
       Leaves-start (disk_in disk_of s) (FindsEitherStanding (standing_in s) after) (λ image left. inl (stored-image disk_of s stored image left))
 
-  -- a store that is stopped keeps no record
-  pub stopped-records : (r : Record) → is_stopped s ≡ true → Records disk_of s r (Err journal_fault.Stopped) s
-  stopped-records r is = record {
-    stopped = (λ same. is, λ same. refl);
-    full = (λ same. absurd (let no : journal_fault.Stopped ≡ journal_fault.AreaFull = cc in cc), λ both. absurd (let no : true ≡ false = sym is ∙ both.0 in cc));
-    names = inl refl;
+  -- a record that is refused before a device call
+  alone-records : (r : Record) (at : JournalFault) → IsErrOf (unkept at) journal_fault.Stopped ↔ (is_stopped s ≡ true)
+      → IsErrOf (unkept at) journal_fault.AreaFull ↔ ((is_stopped s ≡ false) × (used_slots s ≡ slots))
+      → IsErrOf (unkept at) journal_fault.Stopped ⊎ (IsErrOf (unkept at) journal_fault.AreaFull ⊎ IsErrOf (unkept at) journal_fault.Disk)
+      → (at ≢ journal_fault.Disk) → IsWorkOf (disk_in disk_of s) (disk_in disk_of s) (unkept at) → Records disk_of s r (Err at) s
+  alone-records r at is_stop is_full names other work = record {
+    stopped = is_stop;
+    full = is_full;
+    names = names;
     same = inr refl;
     standing = refl;
-    halted = λ same. is;
+    halted = λ same. absurd (other (let is : at ≡ journal_fault.Disk = cc in is));
     running = tt;
     slot = tt;
     four = λ room. omega arith;
-    work = record { works = Works-start (disk_in disk_of s); fails = refl };
+    work = work;
     any_moment = λ honest stored after follows. left_alone after stored;
     stored = tt;
     kept = tt;
   }
 
+  -- a store that is stopped keeps no record
+  pub stopped-records : (r : Record) → is_stopped s ≡ true → Records disk_of s r (Err journal_fault.Stopped) s
+  stopped-records r is =
+      alone-records r journal_fault.Stopped (λ same. is, λ same. refl)
+      (λ same. absurd (let no : journal_fault.Stopped ≡ journal_fault.AreaFull = cc in cc), λ both. absurd (let no : true ≡ false = sym is ∙ both.0 in cc))
+      (inl refl) (λ same. cc) (record { works = Works-start (disk_in disk_of s); fails = refl })
+
   -- nor does one whose area is full
   pub full-records : (r : Record) → is_stopped s ≡ false → used_slots s ≡ slots → Records disk_of s r (Err journal_fault.AreaFull) s
-  full-records r running is = record {
-    stopped = (λ same. absurd (let no : journal_fault.AreaFull ≡ journal_fault.Stopped = cc in cc), λ stopped. absurd (let no : true ≡ false = sym stopped ∙ running in cc));
-    full = (λ same. (running, is), λ both. refl);
-    names = inr (inl refl);
-    same = inr refl;
-    standing = refl;
-    halted = λ same. absurd (let no : journal_fault.AreaFull ≡ journal_fault.Disk = cc in cc);
-    running = tt;
-    slot = tt;
-    four = λ room. omega arith;
-    work = record { works = Works-start (disk_in disk_of s); fails = refl };
-    any_moment = λ honest stored after follows. left_alone after stored;
-    stored = tt;
-    kept = tt;
-  }
+  full-records r running is =
+      alone-records r journal_fault.AreaFull
+      (λ same. absurd (let no : journal_fault.AreaFull ≡ journal_fault.Stopped = cc in cc), λ stopped. absurd (let no : true ≡ false = sym stopped ∙ running in cc))
+      (λ same. (running, is), λ both. refl) (inr (inl refl)) (λ same. cc) (record { works = Works-start (disk_in disk_of s); fails = refl })
 
   -- the record of a reservation was not kept
   pub refused-keeps : (r : Record) (after : Standing) (at : JournalFault) (new : StoreValue D) → after_record (standing_in s) r ≡ Some after
@@ -113,42 +121,45 @@ module _ {D : Type 0} (disk_of : D → Disk) (s : StoreValue D) where
   nothing_left command stored =
       Leaves-start (disk_in disk_of s) (CommitLeaves (standing_in s) command) (λ image left. inl (stored-image disk_of s stored image left))
 
-  -- a store that is stopped
-  pub stopped-commits : (command : Command) → is_stopped s ≡ true → Commits disk_of s command (Err commit_fault.Stopped) s
-  stopped-commits command is = record {
-    stopped = (λ same. is, λ same. refl);
-    refused = λ refusal. (λ same. absurd (let no : commit_fault.Stopped ≡ commit_fault.Refused refusal = cc in cc), λ both. absurd (let no : true ≡ false = sym is ∙ both.0 in cc));
-    full = (λ same. absurd (let no : commit_fault.Stopped ≡ commit_fault.AreaFull = cc in cc), λ all. absurd (let no : true ≡ false = sym is ∙ all.0 in cc));
+  -- a command that is refused before a device call
+  alone-commits : (command : Command) (fault : CommitFault) → IsErrOf (undone fault) commit_fault.Stopped ↔ (is_stopped s ≡ true)
+      → ((refusal : Refusal) → (undone fault ≡ Err (commit_fault.Refused refusal))
+      ↔ ((is_stopped s ≡ false) × (accept (standing_in s) command ≡ Err refusal)))
+      → IsErrOf (undone fault) commit_fault.AreaFull ↔ ((is_stopped s ≡ false) × IsOk (accept (standing_in s) command) × (used_slots s ≡ slots))
+      → (fault ≢ commit_fault.Disk) → IsCommitOf (disk_in disk_of s) (disk_in disk_of s) (undone fault) → Commits disk_of s command (Err fault) s
+  alone-commits command fault is_stop is_refused is_full other work = record {
+    stopped = is_stop;
+    refused = is_refused;
+    full = is_full;
     same = inr refl;
-    halted = λ same. absurd (let no : commit_fault.Stopped ≡ commit_fault.Disk = cc in cc);
+    halted = λ same. absurd (other (let is : fault ≡ commit_fault.Disk = cc in is));
     running = tt;
     slot = tt;
     four = λ room. omega arith;
     done = tt;
-    work = record { works = Works-start (disk_in disk_of s); fails = refl };
+    work = work;
     any_moment = λ honest stored. nothing_left command stored;
     stored = tt;
     kept = tt;
   }
 
+  -- a store that is stopped
+  pub stopped-commits : (command : Command) → is_stopped s ≡ true → Commits disk_of s command (Err commit_fault.Stopped) s
+  stopped-commits command is =
+      alone-commits command commit_fault.Stopped (λ same. is, λ same. refl)
+      (λ refusal. (λ same. absurd (let no : commit_fault.Stopped ≡ commit_fault.Refused refusal = cc in cc), λ both. absurd (let no : true ≡ false = sym is ∙ both.0 in cc)))
+      (λ same. absurd (let no : commit_fault.Stopped ≡ commit_fault.AreaFull = cc in cc), λ all. absurd (let no : true ≡ false = sym is ∙ all.0 in cc))
+      (λ same. cc) (record { works = Works-start (disk_in disk_of s); fails = refl })
+
   -- a command that is refused
   pub refused-commits : (command : Command) (refusal : Refusal) → is_stopped s ≡ false → accept (standing_in s) command ≡ Err refusal
       → Commits disk_of s command (Err (commit_fault.Refused refusal)) s
-  refused-commits command refusal running is = record {
-    stopped = (λ same. absurd (let no : commit_fault.Refused refusal ≡ commit_fault.Stopped = cc in cc), λ stopped. absurd (let no : true ≡ false = sym stopped ∙ running in cc));
-    refused = λ other. (λ same. (running, let alike : refusal ≡ other = cc in is ∙ ap Err alike), λ both. let alike : ◌≡◌ {A = Result Standing Refusal} (Err refusal) (Err other) = sym is ∙ both.1 in cc);
-    full = (λ same. absurd (let no : commit_fault.Refused refusal ≡ commit_fault.AreaFull = cc in cc), λ all. absurd (let no : false ≡ true = sym (ap is_ok is) ∙ all.1 in cc));
-    same = inr refl;
-    halted = λ same. absurd (let no : commit_fault.Refused refusal ≡ commit_fault.Disk = cc in cc);
-    running = tt;
-    slot = tt;
-    four = λ room. omega arith;
-    done = tt;
-    work = record { works = Works-start (disk_in disk_of s); fails = refl };
-    any_moment = λ honest stored. nothing_left command stored;
-    stored = tt;
-    kept = tt;
-  }
+  refused-commits command refusal running is =
+      alone-commits command (commit_fault.Refused refusal)
+      (λ same. absurd (let no : commit_fault.Refused refusal ≡ commit_fault.Stopped = cc in cc), λ stopped. absurd (let no : true ≡ false = sym stopped ∙ running in cc))
+      (λ other. (λ same. (running, let alike : refusal ≡ other = cc in is ∙ ap Err alike), λ both. let alike : ◌≡◌ {A = Result Standing Refusal} (Err refusal) (Err other) = sym is ∙ both.1 in cc))
+      (λ same. absurd (let no : commit_fault.Refused refusal ≡ commit_fault.AreaFull = cc in cc), λ all. absurd (let no : false ≡ true = sym (ap is_ok is) ∙ all.1 in cc))
+      (λ same. cc) (record { works = Works-start (disk_in disk_of s); fails = refl })
 
   module _ (command : Command) (r : Record) (new : StoreValue D) (has : record_of command ≡ Some r) (fits : IsOk (accept (standing_in s) command))
       (running : is_stopped s ≡ false) where

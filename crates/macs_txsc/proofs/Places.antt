@@ -5,6 +5,7 @@ use Rattle.std.specs.Option.{option_map}
 use Rattle.std.proofs.lemmas.List.{get_or_default}
 use Rattle.macs_config.specs.Tables.{put}
 use Rattle.macs_config.specs.declared.association.TxSa.{TxSa}
+use Rattle.macs_config.proofs.Tables.{put-placed}
 use Rattle.macs_txsc.specs.declared.association.Association.{Association}
 use Rattle.macs_txsc.specs.declared.channel.Tx.{Tx}
 use Rattle.macs_txsc.proofs.Faults.{chosen}
@@ -24,11 +25,6 @@ pub stands : {A : Type 0} (xs : List (Option A)) (i : ℕ) (otherwise : Option A
     → get_or xs i None ≡ Some a
 stands xs i otherwise a within is = get_or_default xs i None otherwise within ∙ is
 
--- after one place got another association
-pub placed : {A B : Type 0} (f : A → B) (xs : List (Option A)) (i : ℕ) (new : A) → i < length xs
-    → said f (slice_set xs i (Some new)) ≡ put (said f xs) i (Some (f new))
-placed f xs i new within = search rules
-
 -- after one place got another association, of which it says the same
 pub kept : {A B : Type 0} (f : A → B) (xs : List (Option A)) (i : ℕ) (old new : A) → i < length xs → get_or xs i None ≡ Some old → f new ≡ f old
     → said f (slice_set xs i (Some new)) ≡ said f xs
@@ -43,7 +39,7 @@ sent t an old new encoding within place sa next =
     let outgoing_is = chosen t an old encoding place in
     let sas : said sa_of (slice_set t.associations an (Some new)) ≡ said sa_of t.associations = kept sa_of t.associations an old new within place sa in
     let numbers : said (λ (a : Association). a.next) (slice_set t.associations an (Some new)) ≡ put side.next an (Some (old.next + 1)) =
-    placed (λ (a : Association). a.next) t.associations an new within ∙ ap (λ n. put side.next an (Some n)) next in
+    put-placed (λ (a : Association). a.next) t.associations an new within ∙ ap (λ n. put side.next an (Some n)) next in
     let changed : (x : ℕ → Option TxSa) (y : ℕ → Option ℕ) → x ≡ side.tx → y ≡ put side.next an (Some (old.next + 1))
     → record side { tx = x; next = y } ≡ record side { next = put side.next an (Some (old.next + 1)) } = λ x y p q. rw (p, q) refl in
     changed _ _ sas numbers ∙ ap (side_after side) (sym outgoing_is)

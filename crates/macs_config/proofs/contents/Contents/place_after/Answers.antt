@@ -1,25 +1,27 @@
 use Rattle.std.proofs.Common.{◌≡◌, ◌∙◌, [], get_or, sym, ap}
 use Rattle.macs_config.specs.Config.{comes_before}
-use Rattle.macs_config.proofs.StoredChannels.{before_by, place_within, put_behind, put_here, scis_of, sci_at}
+use Rattle.macs_config.proofs.Channels.{before_by, put_among-behind, put_among-front}
+use Rattle.macs_config.proofs.Keyed.{sci-at, within-scis}
+use Rattle.macs_config.proofs.StoredChannels.{sci_of, scis_of}
 use Rattle.macs_config.proofs.contents.Contents.place_after.Goals as goal
 use Rattle.macs_config.proofs.contents.Contents.place_after.Goals.{After-lt}
 
 tested : (c : After-lt) → c.lt.result ≡ comes_before c.args.sci (get_or (scis_of c.args.self.now.channels.items) c.loop-place.place [])
 tested c =
-    let there = sci_at c.args.self.now.channels.items c.deref-channel-items.result.now c.loop-place.place c.channel-item.result
-    c.deref-channel-items.ensures.0 c.loop-place-test.true c.channel-item.is in
+    let there = sci-at sci_of c.args.self.now.channels.items c.deref-channel-items.result.now c.loop-place.place
+    c.deref-channel-items.ensures.0 c.loop-place-test.true c.channel-item.result c.channel-item.is in
     c.lt.ensures ∙ before_by c.get.result c.get-in-loop-place.result
     ∙ ap (λ sci. comes_before sci c.get-in-loop-place.result) c.get.ensures
     ∙ ap (comes_before c.args.sci) (c.get-in-loop-place.ensures ∙ sym there)
 
 pub returns-then-lt-clause-between : goal.returns-then-lt-clause-between
 returns-then-lt-clause-between c =
-    put_here c.args.sci (scis_of c.args.self.now.channels.items) c.loop-place.place
-    (place_within c.args.self.now.channels.items c.deref-channel-items.result.now c.loop-place.place c.deref-channel-items.ensures.0 c.loop-place-test.true)
+    put_among-front c.args.sci (scis_of c.args.self.now.channels.items) c.loop-place.place
+    (within-scis sci_of c.args.self.now.channels.items c.deref-channel-items.result.now c.loop-place.place c.deref-channel-items.ensures.0 c.loop-place-test.true)
     (sym (tested (goal.at.returns-then-lt-clause-between c).After-lt) ∙ c.if-lt.true) c.loop-place.invariant
 
 pub loop-place-preserved : goal.loop-place-preserved
 loop-place-preserved c =
-    put_behind c.args.sci (scis_of c.args.self.now.channels.items) c.loop-place.place
-    (place_within c.args.self.now.channels.items c.deref-channel-items.result.now c.loop-place.place c.deref-channel-items.ensures.0 c.loop-place-test.true)
+    put_among-behind c.args.sci (scis_of c.args.self.now.channels.items) c.loop-place.place
+    (within-scis sci_of c.args.self.now.channels.items c.deref-channel-items.result.now c.loop-place.place c.deref-channel-items.ensures.0 c.loop-place-test.true)
     (sym (tested (goal.at.loop-place-preserved c).After-lt) ∙ c.if-lt.false) c.loop-place.invariant

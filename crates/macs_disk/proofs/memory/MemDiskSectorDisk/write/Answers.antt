@@ -2,17 +2,13 @@ use Rattle.std.proofs.Common.{◌+◌, refl, arith, length-set}
 use Rattle.macs_disk.specs.declared.record.Entry.{Entry}
 use Rattle.macs_disk.specs.declared.record.Call.TheVariants.{Write}
 use Rattle.macs_disk.proofs.Kept.{kept-on, kept-write, choices-write}
-use Rattle.macs_disk.proofs.RecordedCalls.{failed-call, kept-call}
+use Rattle.macs_disk.proofs.RecordedCalls.{kept-call}
 use Rattle.macs_disk.proofs.memory.MemDiskSectorDisk.write.Goals as goal
 
 pub invariant_of-self : goal.invariant_of-self
 invariant_of-self g c =
     let m = c.args.self.now in
     record { chosen = m.chosen; kept = kept-on _ _ _ _ _ _ m.calls.stamped m.kept _ _ c.in_err-keep.ensures.dropped c.keep.ensures.later }
-
-pub returns-in_err-keep-clause-call : goal.returns-in_err-keep-clause-call
-returns-in_err-keep-clause-call g c =
-    failed-call _ _ _ _ _ _ _ _ _ c.from_residual.ensures.0 c.in_err-keep.ensures.fits c.in_err-keep.ensures.dropped c.in_err-keep.ensures.worn c.in_err-keep.ensures.refused
 
 pub invariant_of-self-2 : goal.invariant_of-self-2
 invariant_of-self-2 g c =

@@ -1,6 +1,7 @@
 use Rattle.std.proofs.Common.{◌≡◌, ◌≤◌, ℕ, false, Option, Some, IsSome, Result, Ok, Err, refl, sym, ◌∙◌, ap, subst}
 use Rattle.std.specs.Option.{IfSome, is_some}
 use Rattle.std.proofs.lemmas.Result.{err_from_is_err_and}
+use Rattle.macs_config.proofs.Tables.{put-here}
 use Rattle.macs_config.specs.Tables.{put}
 use Rattle.macs_journal.specs.declared.fault.JournalFault.{JournalFault}
 use Rattle.macs_txsc.specs.Transmit.{TxSide, need_of}
@@ -12,7 +13,7 @@ use Rattle.macs_store.specs.Value.{standing_in}
 use Rattle.macs_store.specs.Standing.{Ceilings, Standing, ahead, with_tx_raised}
 use Rattle.macs_endpoint.specs.State.{no_logs, tx_side, tx_side_with}
 use Rattle.macs_endpoint.specs.Value.{EndpointValue, is_stopped, state_of}
-use Rattle.macs_endpoint.proofs.Fitting.{AreAhead, kept-ahead, put_here}
+use Rattle.macs_endpoint.proofs.Fitting.{AreAhead, kept-ahead}
 use Rattle.macs_endpoint.proofs.Raised.{faulted, raised-kept, raised-reserves}
 use Rattle.macs_endpoint.proofs.Raises.{tx-raised-ahead}
 use Rattle.macs_endpoint.proofs.endpoint.Endpoint.raise_tx.Given.{Over}
@@ -80,7 +81,7 @@ value g c done = c.tx_ceiling.ensures ∙ (λ i. ((rw done at c.reserve_tx.ensur
 
 -- as a number
 raised_value : (g : Over) (c : After-facts g) → (with_tx_raised (s g c) c.args.an).ceilings.tx c.args.an ≡ Some (ahead (need g c).top (s g c).identity.tx_block)
-raised_value g c = put_here (s g c).ceilings.tx c.args.an _ ∙ tx-raised _ _ _ _ (need g c)
+raised_value g c = put-here (s g c).ceilings.tx c.args.an _ ∙ tx-raised _ _ _ _ (need g c)
 
 pub unwrap-ceiling-requires : goal.unwrap-ceiling-requires
 unwrap-ceiling-requires g c =
@@ -117,7 +118,7 @@ pub invariant_of-self-2 : goal.invariant_of-self-2
 invariant_of-self-2 g c =
     let at = goal.at.invariant_of-self-2 g c in
     let channels = c.self.invariant.channels in
-    let is = value g at.After-tx_ceiling c.in_ok-reserve_tx.was ∙ put_here (s g at.After-facts).ceilings.tx c.args.an _ in
+    let is = value g at.After-tx_ceiling c.in_ok-reserve_tx.was ∙ put-here (s g at.After-facts).ceilings.tx c.args.an _ in
     raised-kept g.D.SectorDisk.disk (old g at.After-facts) c.self.invariant (running g at.After-facts) (further g at.After-facts) (are g at.After-facts)
     c.reserve_tx.new.self (raises g at.After-reserve_tx (Ok tt) c.in_ok-reserve_tx.was) c.raise.new.self c.self.inside.channels.rx
     c.raise.ensures.side refl (ceilings g at.After-get _ _ _ is c.raise.ensures.ceilings channels.tx_ceilings) channels.rx_ceilings
@@ -126,7 +127,7 @@ pub returns-clause-reserves : goal.returns-clause-reserves
 returns-clause-reserves g c =
     let at = goal.at.returns-clause-reserves g c in
     let channels = c.self.invariant.channels in
-    let is = value g at.After-tx_ceiling c.in_ok-reserve_tx.was ∙ put_here (s g at.After-facts).ceilings.tx c.args.an _ in
+    let is = value g at.After-tx_ceiling c.in_ok-reserve_tx.was ∙ put-here (s g at.After-facts).ceilings.tx c.args.an _ in
     rw (← c.self.view_is) (raised-reserves g.D.SectorDisk.disk (old g at.After-facts) c.self.invariant (running g at.After-facts) (further g at.After-facts)
     (are g at.After-facts) c.reserve_tx.new.self (raises g at.After-reserve_tx (Ok tt) c.in_ok-reserve_tx.was) c.raise.new.self c.self.inside.channels.rx
     c.raise.ensures.side refl (ceilings g at.After-get _ _ _ is c.raise.ensures.ceilings channels.tx_ceilings) channels.rx_ceilings

@@ -1,9 +1,12 @@
 use Rattle.std.proofs.Common.{◌≡◌, ◌∙◌, Option, Some, IsSome, get_or, ap, sym, subst}
 use Rattle.macs_config.specs.Tables.{put}
-use Rattle.macs_rxsc.proofs.Places.{IsPlace}
-use Rattle.macs_rxsc.specs.Value.{ceilings_in, rx_side_in, ceilings_among, counters_among}
+use Rattle.macs_config.specs.Places.{IsPlace}
+use Rattle.macs_config.proofs.Keyed.{found-place}
+use Rattle.macs_config.proofs.Lent.{lent, lent_old}
+use Rattle.macs_rxsc.proofs.Places.{sci_of}
+use Rattle.macs_rxsc.specs.Value.{ceilings_in, rx_side_in, ceilings_among, counters_among, scis_of}
 use Rattle.macs_rxsc.specs.declared.channel.Channel.{Channel}
-use Rattle.macs_rxsc.proofs.Shown.{at_old, ceilings-changed, counters-kept, found_none, found_place, lent, lent_old, shown-kept}
+use Rattle.macs_rxsc.proofs.Shown.{at_old, ceilings-changed, counters-kept, found_none, shown-kept}
 use Rattle.macs_rxsc.proofs.table.Table.raise.Goals as goal
 use Rattle.macs_rxsc.proofs.table.Table.raise.Goals.{After-raise}
 
@@ -11,8 +14,9 @@ use Rattle.macs_rxsc.proofs.table.Table.raise.Goals.{After-raise}
 abbrev old : After-raise → Channel
 old c = get_or c.deref_mut.result.now c.in-Some.place c.index-deref_mut-place.result
 
-stands : (c : After-raise) → IsPlace c.args.self.now.channels.items c.args.sci c.in-Some.place (old c)
-stands c = found_place c.args.self.now.channels.items c.as_slice.result.now c.args.sci c.in-Some.place (old c) c.as_slice.ensures.value c.in-Some.ensures
+stands : (c : After-raise) → IsPlace (scis_of c.args.self.now.channels.items) c.args.sci c.in-Some.place
+stands c =
+    found-place sci_of c.args.self.now.channels.items c.as_slice.result.now c.args.sci c.as_slice.ensures.value c.in-Some.place c.in-Some.ensures
 
 was : (c : After-raise) → old c ≡ get_or c.args.self.now.channels.items c.in-Some.place (old c)
 was c = lent_old c.args.self.now.channels.items c.deref_mut.result.now c.in-Some.place c.index-deref_mut-place.result c.deref_mut.ensures.value c.index-deref_mut-place.is

@@ -14,17 +14,17 @@ receive_tagged-requires-clause-read c = (c.read_tag.ensures.parts c.in-Ok.parts)
 pub refuse-requires-clause-fault : goal.refuse-requires-clause-fault
 refuse-requires-clause-fault c = (c.read_tag.ensures.fault c.in-Err.fault).0 c.in-Err.is
 
-pub returns-in-Err-clause-verdict : goal.returns-in-Err-clause-verdict
-returns-in-Err-clause-verdict c =
+pub returns-in-Err : goal.returns-in-Err
+returns-in-Err c =
     let side = rx_side_in c.args.validate c.args.replay c.args.self.now.channels.items in
     let verdict = c.refuse.ensures.verdict side refl in
-    settles side (ceilings_among c.args.self.now.channels.items) c.args.frame.now (TagStep c.in-Err.fault)
-    (first_fault side c.args.frame.now c.in-Err.fault ((c.read_tag.ensures.fault c.in-Err.fault).0 c.in-Err.is))
-    _ _ _ verdict (c.refuse.ensures.given ∙ ap (given_at c.args.frame.now) verdict) refl
-
-pub returns-in-Err-clause-counters : goal.returns-in-Err-clause-counters
-returns-in-Err-clause-counters c =
-    let side = rx_side_in c.args.validate c.args.replay c.args.self.now.channels.items in
-    let verdict = c.refuse.ensures.verdict side refl in
-    sym (uncounted (channel_of side c.args.frame.now) c.refuse.result (counters_among c.args.self.now.channels.items)
-    (λ (k : ChannelCounters). ap (λ (v : Verdict). with_channel_verdict v k) verdict ∙ tag_uncounted side c.args.frame.now c.in-Err.fault c.args.validate refl k))
+    record {
+      outcome = settles side (ceilings_among c.args.self.now.channels.items) c.args.frame.now (TagStep c.in-Err.fault)
+          (first_fault side c.args.frame.now c.in-Err.fault ((c.read_tag.ensures.fault c.in-Err.fault).0 c.in-Err.is))
+          _ _ _ verdict (c.refuse.ensures.given ∙ ap (given_at c.args.frame.now) verdict) refl;
+      side = refl;
+      ceilings = refl;
+      counters = sym (uncounted (channel_of side c.args.frame.now) c.refuse.result (counters_among c.args.self.now.channels.items)
+          (λ (k : ChannelCounters). ap (λ (v : Verdict). with_channel_verdict v k) verdict
+          ∙ tag_uncounted side c.args.frame.now c.in-Err.fault c.args.validate refl k));
+    }

@@ -1,4 +1,5 @@
 use Rattle.std.proofs.Common.{rules}
+use Rattle.macs_journal.specs.Value.{disk_in}
 use Rattle.macs_journal.proofs.Holding.{on_ok}
 use Rattle.macs_store.proofs.Keeping.{append-image, append-leaves, append-stored}
 use Rattle.macs_store.proofs.Promises.{full-records, stopped-records}
@@ -25,9 +26,9 @@ returns g c =
       four = search rules;
       work = search rules;
       any_moment = rw (← c.self.view_is) (λ honest stored after follows.
-          append-leaves d _ c.args.value.now (d c.append.new.self.disk) after stored follows (c.append.ensures.any_moment honest));
+          append-leaves d _ c.args.value.now (disk_in d c.append.new.self) after stored follows (c.append.ensures.any_moment honest));
       stored = rw (← c.self.view_is) (on_ok c.append.result (λ done honest stored held follows.
           append-stored d _ c.args.value.now c.append.new.self held stored follows (done honest)) c.append.ensures.done);
       kept = rw (← c.self.view_is) (on_ok c.append.result (λ kept honest stored after follows.
-          append-image d _ c.args.value.now (d c.append.new.self.disk) after stored follows (kept honest)) c.append.ensures.kept);
+          append-image d _ c.args.value.now (disk_in d c.append.new.self) after stored follows (kept honest)) c.append.ensures.kept);
     }
