@@ -4,7 +4,7 @@ use Rattle.std.proofs.lemmas.Bool.{and_from, and_parts, leb-false, lt-leb, ltb-t
 use Rattle.macs_config.specs.Apply.{IsCommand, IsKey, apply, config_after, refusal_of}
 use Rattle.macs_config.specs.Config.{Config, Edition, IsConfig, IsUpTo, default, has_channel}
 use Rattle.macs_config.specs.Identity.{Identity}
-use Rattle.macs_config.specs.Snapshot.{are_ordered, if_whole, may_follow, place_of, config_of_parts, with_part, with_parts}
+use Rattle.macs_config.specs.Snapshot.{are_ordered, whole_config, may_follow, place_of, config_of_parts, config_with_part, config_with_parts}
 use Rattle.macs_config.specs.declared.command.Command.{Command}
 use Rattle.macs_config.specs.declared.command.Command.TheVariants.{RxAdd, RxDrop, RxInstall, RxRemove, SetReplay, SetSciMode, SetValidate, TxInstall, TxRemove, TxUse}
 use Rattle.macs_config.specs.declared.part.Part.{Part}
@@ -64,30 +64,30 @@ module _ (small large : Edition) (up_to : IsUpTo small large) where
   follows identity c (Spent role fingerprints) may = may
 
   part_by : (identity : Identity) (c end : Config) (part : Part) (parts : List Part) (by_small by_large : Bool) → (by_small ≡ true → by_large ≡ true)
-      → (with_parts small identity (with_part c part) parts ≡ Some end → with_parts large identity (with_part c part) parts ≡ Some end)
-      → cond by_small (with_parts small identity (with_part c part) parts) None ≡ Some end
-      → cond by_large (with_parts large identity (with_part c part) parts) None ≡ Some end
+      → (config_with_parts small identity (config_with_part c part) parts ≡ Some end → config_with_parts large identity (config_with_part c part) parts ≡ Some end)
+      → cond by_small (config_with_parts small identity (config_with_part c part) parts) None ≡ Some end
+      → cond by_large (config_with_parts large identity (config_with_part c part) parts) None ≡ Some end
   part_by identity c end part parts true by_large wider later made =
-      ap (λ (may : Bool). cond may (with_parts large identity (with_part c part) parts) None) (wider refl) ∙ later made
+      ap (λ (may : Bool). cond may (config_with_parts large identity (config_with_part c part) parts) None) (wider refl) ∙ later made
   part_by identity c end part parts false by_large wider later made = cc
 
-  parts_follow : (identity : Identity) (c end : Config) (parts : List Part) → with_parts small identity c parts ≡ Some end → with_parts large identity c parts ≡ Some end
+  parts_follow : (identity : Identity) (c end : Config) (parts : List Part) → config_with_parts small identity c parts ≡ Some end → config_with_parts large identity c parts ≡ Some end
   parts_follow identity c end [] made = made
   parts_follow identity c end (part ∷ parts) made =
       part_by identity c end part parts (may_follow small identity c part) (may_follow large identity c part) (follows identity c part)
-      (parts_follow identity (with_part c part) end parts) made
+      (parts_follow identity (config_with_part c part) end parts) made
 
   checked_by : (identity : Identity) (by_small by_large : Option Config) (end : Config) → ((c : Config) → by_small ≡ Some c → by_large ≡ Some c)
-      → if_whole identity by_small ≡ Some end → if_whole identity by_large ≡ Some end
+      → whole_config identity by_small ≡ Some end → whole_config identity by_large ≡ Some end
   checked_by identity None by_large end wider is = cc
-  checked_by identity (Some c) by_large end wider is = ap (if_whole identity) (wider c refl) ∙ is
+  checked_by identity (Some c) by_large end wider is = ap (whole_config identity) (wider c refl) ∙ is
 
   restored_by : (identity : Identity) (part : Part) (parts : List Part) (c : Config) (ordered : Bool)
-      → cond ordered (if_whole identity (with_parts small identity (with_part default part) parts)) None ≡ Some c
-      → cond ordered (if_whole identity (with_parts large identity (with_part default part) parts)) None ≡ Some c
+      → cond ordered (whole_config identity (config_with_parts small identity (config_with_part default part) parts)) None ≡ Some c
+      → cond ordered (whole_config identity (config_with_parts large identity (config_with_part default part) parts)) None ≡ Some c
   restored_by identity part parts c true made =
-      checked_by identity (with_parts small identity (with_part default part) parts) (with_parts large identity (with_part default part) parts) c
-      (λ d. parts_follow identity (with_part default part) d parts) made
+      checked_by identity (config_with_parts small identity (config_with_part default part) parts) (config_with_parts large identity (config_with_part default part) parts) c
+      (λ d. parts_follow identity (config_with_part default part) d parts) made
   restored_by identity part parts c false made = cc
 
   pub larger-restores : (identity : Identity) (parts : List Part) (c : Config)

@@ -2,7 +2,7 @@
 use Rattle.std.proofs.Common.{◌≡◌, ◌∙◌, ◌<◌, ℕ, Bool, true, false, cond, not, ◌&&◌, nat_le, List, [], ◌∷◌, ◌++◌, length, Option, Some, None, is_some, is_none, Ok, filter, bytes_eq, refl, ap, subst, arith, length-append}
 use Rattle.std.proofs.lemmas.Bool.{leb-false, not-false, or_from, or_left, or_right}
 use Rattle.macs_frame.specs.First.{first}
-use Rattle.macs_config.specs.Apply.{apply, config_after, channel_taken, channels_full, offset_or_zero, end_station_sci, in_use, is_encoding, key_spent, no_channel, offset_at, own_sci, refusal_of, refusals, slot_empty, spent_full, unless}
+use Rattle.macs_config.specs.Apply.{apply, config_after, is_channel_taken, are_channels_full, offset_or_zero, is_wrong_end_station, is_in_use, is_encoding, is_key_spent, has_no_channel, offset_at, is_own_sci, refusal_of, refusals, is_slot_empty, are_spent_full, answer_or_refusal}
 use Rattle.macs_config.specs.Association.{is_end_station, protection_of}
 use Rattle.macs_config.specs.Config.{Config, Edition, IsConfig, is_among, is_spent, max_spent, put_among, rx_fingerprint, tx_fingerprint}
 use Rattle.macs_config.specs.Identity.{Identity, is_port_one}
@@ -35,22 +35,22 @@ no_test : {R : Type 0} (rows : List (R × Bool)) → first rows ≡ None → NoT
 no_test [] is = tt
 no_test (row ∷ rows) is = no_test_by row.0 row.1 rows (no_test rows) is
 
-pub applied_by : (refusal : Option Refusal) (made new : Config) → unless refusal made ≡ Ok new → (refusal ≡ None) × (made ≡ new)
+pub applied_by : (refusal : Option Refusal) (made new : Config) → answer_or_refusal refusal made ≡ Ok new → (refusal ≡ None) × (made ≡ new)
 applied_by None made new is = (refl, cc)
 applied_by (Some refusal) made new is = cc
 
 module _ (edition : Edition) (identity : Identity) (old : Config) where
   -- the tests that a command has passed
   record Passed (command : Command) : Type 0 where
-    own : own_sci identity command ≡ false
-    end_station : end_station_sci identity command ≡ false
-    no_channel : no_channel old command ≡ false
-    channel_taken : channel_taken old command ≡ false
-    channels_full : channels_full edition old command ≡ false
-    slot_empty : slot_empty old command ≡ false
-    in_use : in_use old command ≡ false
-    key_spent : key_spent old command ≡ false
-    spent_full : spent_full old command ≡ false
+    own : is_own_sci identity command ≡ false
+    end_station : is_wrong_end_station identity command ≡ false
+    no_channel : has_no_channel old command ≡ false
+    channel_taken : is_channel_taken old command ≡ false
+    channels_full : are_channels_full edition old command ≡ false
+    slot_empty : is_slot_empty old command ≡ false
+    in_use : is_in_use old command ≡ false
+    key_spent : is_key_spent old command ≡ false
+    spent_full : are_spent_full old command ≡ false
 
   passed : (command : Command) → refusal_of edition identity old command ≡ None → Passed command
   passed command is = let none : NoTest (refusals edition identity old command) = no_test (refusals edition identity old command) is in record {

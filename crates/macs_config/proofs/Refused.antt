@@ -1,23 +1,23 @@
 -- What is refused by exactly the first refusal.
 use Rattle.std.proofs.Common.{◌≡◌, ◌∙◌, ◌↔◌, Option, Some, None, Result, Ok, Err, IfOk, refl, ap, subst, sym}
-use Rattle.macs_config.specs.Apply.{unless}
+use Rattle.macs_config.specs.Apply.{answer_or_refusal}
 use Rattle.macs_config.specs.Config.{Config}
 use Rattle.macs_config.specs.declared.refusal.Refusal.{Refusal}
 
-unless_refused : {X : Type 0} (first : Option Refusal) (answer : X) (refusal : Refusal) → (first ≡ Some refusal) ↔ (unless first answer ≡ Err refusal)
+unless_refused : {X : Type 0} (first : Option Refusal) (answer : X) (refusal : Refusal) → (first ≡ Some refusal) ↔ (answer_or_refusal first answer ≡ Err refusal)
 unless_refused None answer refusal = (λ e. cc, λ e. cc)
 unless_refused (Some first) answer refusal = (λ e. cc, λ e. cc)
 
-unless_answered : {X : Type 0} (first : Option Refusal) (answer : X) → IfOk (unless first answer) (λ x. x ≡ answer)
+unless_answered : {X : Type 0} (first : Option Refusal) (answer : X) → IfOk (answer_or_refusal first answer) (λ x. x ≡ answer)
 unless_answered None answer = refl
 unless_answered (Some refusal) answer = tt
 
 -- where nothing is refused, there is the answer
-pub taken_by : {X : Type 0} (first : Option Refusal) (answer : X) → first ≡ None → unless first answer ≡ Ok answer
+pub taken_by : {X : Type 0} (first : Option Refusal) (answer : X) → first ≡ None → answer_or_refusal first answer ≡ Ok answer
 taken_by None answer is = refl
 taken_by (Some refusal) answer is = cc
 
-module _ {X : Type 0} (first : Option Refusal) (answer : X) (result : Result X Refusal) (is : result ≡ unless first answer) where
+module _ {X : Type 0} (first : Option Refusal) (answer : X) (result : Result X Refusal) (is : result ≡ answer_or_refusal first answer) where
   -- an error is the first refusal
   pub refused_unless : (refusal : Refusal) → (result ≡ Err refusal) ↔ (first ≡ Some refusal)
   refused_unless refusal =
@@ -30,7 +30,7 @@ module _ {X : Type 0} (first : Option Refusal) (answer : X) (result : Result X R
 
 -- the refusal of a check, handed on
 pub handed_on : {X : Type 0} (first : Option Refusal) (made : Config) (result : Result X Refusal) (was : Refusal)
-    → first ≡ Some was → result ≡ Err was → (refusal : Refusal) → (result ≡ Err refusal) ↔ (unless first made ≡ Err refusal)
+    → first ≡ Some was → result ≡ Err was → (refusal : Refusal) → (result ≡ Err refusal) ↔ (answer_or_refusal first made ≡ Err refusal)
 handed_on first made result was by_check risen refusal =
     let by_made = unless_refused first made refusal in (
       λ e. let same : was ≡ refusal = cc in by_made.0 (by_check ∙ ap Some same),
@@ -40,7 +40,7 @@ handed_on first made result was by_check risen refusal =
 module _ {X : Type 0} (first : Option Refusal) (made : Config) (result : Result X Refusal)
     (exact : (refusal : Refusal) → (result ≡ Err refusal) ↔ (first ≡ Some refusal)) where
   -- the refusals of a command are those of its check
-  pub refused_exactly : (refusal : Refusal) → (result ≡ Err refusal) ↔ (unless first made ≡ Err refusal)
+  pub refused_exactly : (refusal : Refusal) → (result ≡ Err refusal) ↔ (answer_or_refusal first made ≡ Err refusal)
   refused_exactly refusal =
       let by_first = exact refusal in
       let by_made = unless_refused first made refusal in
@@ -51,5 +51,5 @@ module _ {X : Type 0} (first : Option Refusal) (made : Config) (result : Result 
   none_by (Some refusal) answer is ok = let e = (exact refusal).1 is in cc
 
   -- a command that its check takes is applied
-  pub applied : {answer : X} → result ≡ Ok answer → unless first made ≡ Ok made
+  pub applied : {answer : X} → result ≡ Ok answer → answer_or_refusal first made ≡ Ok made
   applied {answer} ok = taken_by first made (none_by first answer refl ok)

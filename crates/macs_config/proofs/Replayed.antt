@@ -6,7 +6,7 @@ use Rattle.std.specs.Option.{option_map_or}
 use Rattle.macs_config.specs.Association.{is_end_station}
 use Rattle.macs_config.specs.Config.{Config, Edition, IsConfig, default, has_channel, is_among, is_spent, max_spent, rx_fingerprint, tx_fingerprint}
 use Rattle.macs_config.specs.Identity.{Identity, is_port_one}
-use Rattle.macs_config.specs.Snapshot.{are_new, are_ordered, if_whole, is_rx_spent, is_tx_spent, is_whole, may_follow, every_an, place_of, config_of_parts, with_part, with_parts}
+use Rattle.macs_config.specs.Snapshot.{are_new, are_ordered, whole_config, is_rx_spent, is_tx_spent, is_whole, may_follow, every_an, place_of, config_of_parts, config_with_part, config_with_parts}
 use Rattle.macs_config.specs.declared.association.RxSa.{RxSa as RxAssociation}
 use Rattle.macs_config.specs.declared.association.TxSa.{TxSa as TxAssociation}
 use Rattle.macs_config.specs.declared.command.Role.TheVariants.{Receive, Transmit}
@@ -40,7 +40,7 @@ spent_joined spent fingerprints is may =
     }
 
 module _ (edition : Edition) (identity : Identity) where
-  grown : (c : Config) (part : Part) → may_follow edition identity c part ≡ true → Grows edition identity c → Grows edition identity (with_part c part)
+  grown : (c : Config) (part : Part) → may_follow edition identity c part ≡ true → Grows edition identity c → Grows edition identity (config_with_part c part)
   grown c (Settings validate replay mode encoding) may grows = cc
   grown c (TxSa an sa) may grows =
       record { channels = grows.channels; have_channels = grows.have_channels; spent_tx = grows.spent_tx; spent_rx = grows.spent_rx }
@@ -76,12 +76,12 @@ module _ (edition : Edition) (identity : Identity) where
   }
 
   grown_by : (c end : Config) (part : Part) (parts : List Part) (may : Bool) → may_follow edition identity c part ≡ may → Grows edition identity c
-      → ((d : Config) → Grows edition identity d → with_parts edition identity d parts ≡ Some end → Grows edition identity end)
-      → cond may (with_parts edition identity (with_part c part) parts) None ≡ Some end → Grows edition identity end
-  grown_by c end part parts true is grows later made = later (with_part c part) (grown c part is grows) made
+      → ((d : Config) → Grows edition identity d → config_with_parts edition identity d parts ≡ Some end → Grows edition identity end)
+      → cond may (config_with_parts edition identity (config_with_part c part) parts) None ≡ Some end → Grows edition identity end
+  grown_by c end part parts true is grows later made = later (config_with_part c part) (grown c part is grows) made
   grown_by c end part parts false is grows later made = cc
 
-  all_grown : (c end : Config) (parts : List Part) → Grows edition identity c → with_parts edition identity c parts ≡ Some end → Grows edition identity end
+  all_grown : (c end : Config) (parts : List Part) → Grows edition identity c → config_with_parts edition identity c parts ≡ Some end → Grows edition identity end
   all_grown c end [] grows made = let same : c ≡ end = cc in subst (λ (d : Config). Grows edition identity d) same grows
   all_grown c end (part ∷ parts) grows made =
       grown_by c end part parts (may_follow edition identity c part) refl grows (λ d. all_grown d end parts) made
@@ -144,14 +144,14 @@ checked_by : (identity : Identity) (c end : Config) (test : Bool) → is_whole i
 checked_by identity c end true is made = (cc, is)
 checked_by identity c end false is made = cc
 
-checked_is : (edition : Edition) (identity : Identity) (made : Option Config) (end : Config) → if_whole identity made ≡ Some end
+checked_is : (edition : Edition) (identity : Identity) (made : Option Config) (end : Config) → whole_config identity made ≡ Some end
     → ((c : Config) → made ≡ Some c → Grows edition identity c) → IsConfig edition identity end
 checked_is edition identity None end is grows = cc
 checked_is edition identity (Some c) end is grows =
     let found = checked_by identity c end (is_whole identity c) refl is in
     subst (λ (d : Config). IsConfig edition identity d) found.0 (whole edition identity c (grows c refl) found.1)
 
-started : (edition : Edition) (identity : Identity) (part : Part) → nat_le (place_of part) 1 ≡ true → Grows edition identity (with_part default part)
+started : (edition : Edition) (identity : Identity) (part : Part) → nat_le (place_of part) 1 ≡ true → Grows edition identity (config_with_part default part)
 started edition identity (Settings validate replay mode encoding) first = record {
   channels = record { ascend = refl; fit = omega arith; own_sci_free = refl };
   have_channels = λ sci an sa stands. cc;
@@ -166,11 +166,11 @@ started edition identity (Spent Receive fingerprints) first = cc
 
 restored_by : (edition : Edition) (identity : Identity) (part : Part) (parts : List Part) (c : Config) (ordered : Bool)
     → (nat_le (place_of part) 1 && are_ordered 2 parts) ≡ ordered
-    → cond ordered (if_whole identity (with_parts edition identity (with_part default part) parts)) None ≡ Some c → IsConfig edition identity c
+    → cond ordered (whole_config identity (config_with_parts edition identity (config_with_part default part) parts)) None ≡ Some c → IsConfig edition identity c
 restored_by edition identity part parts c true is made =
     let first = (and_parts (nat_le (place_of part) 1) (are_ordered 2 parts) is).0 in
-    checked_is edition identity (with_parts edition identity (with_part default part) parts) c made
-    (λ d. all_grown edition identity (with_part default part) d parts (started edition identity part first))
+    checked_is edition identity (config_with_parts edition identity (config_with_part default part) parts) c made
+    (λ d. all_grown edition identity (config_with_part default part) d parts (started edition identity part first))
 restored_by edition identity part parts c false is made = cc
 
 -- what the parts of a snapshot make up is a configuration

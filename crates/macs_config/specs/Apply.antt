@@ -41,10 +41,10 @@ IsCommand edition (RxRemove sci an) = IsSci sci × IsAn an
 -- ---- the tests of the refusals, each on every command
 
 -- an association is to begin with packet number 0, which is none
-abbrev pub start_range : Command → Bool
-start_range (TxInstall an key start confidential offset) = start == 0
-start_range (RxInstall sci an key start offset) = start == 0
-start_range command = false
+abbrev pub has_wrong_start : Command → Bool
+has_wrong_start (TxInstall an key start confidential offset) = start == 0
+has_wrong_start (RxInstall sci an key start offset) = start == 0
+has_wrong_start command = false
 
 -- the confidentiality offset of so many octets
 abbrev pub offset_at : ℕ → Option Offset
@@ -52,51 +52,51 @@ offset_at octets =
     if octets == 0 then Some Zero else if octets == 30 then Some Thirty else if octets == 50 then Some Fifty else None
 
 -- the offset of an install is none of 0, 30 and 50 octets, or is not 0 without confidentiality
-abbrev pub offset_choice : Command → Bool
-offset_choice (TxInstall an key start confidential offset) =
+abbrev pub has_wrong_offset : Command → Bool
+has_wrong_offset (TxInstall an key start confidential offset) =
     is_none (offset_at offset) || (not confidential && not (offset == 0))
-offset_choice (RxInstall sci an key start offset) = is_none (offset_at offset)
-offset_choice command = false
+has_wrong_offset (RxInstall sci an key start offset) = is_none (offset_at offset)
+has_wrong_offset command = false
 
 -- a receive channel is to be added under the endpoint's own SCI
-abbrev pub own_sci : Identity → Command → Bool
-own_sci identity (RxAdd sci) = bytes_eq sci identity.sci
-own_sci identity command = false
+abbrev pub is_own_sci : Identity → Command → Bool
+is_own_sci identity (RxAdd sci) = bytes_eq sci identity.sci
+is_own_sci identity command = false
 
 -- ES is to be set, and the port of the endpoint's SCI is not 00-01 (IEEE Std 802.1AE-2018, 9.5)
-abbrev pub end_station_sci : Identity → Command → Bool
-end_station_sci identity (SetSciMode mode) = is_end_station mode && not (is_port_one identity.sci)
-end_station_sci identity command = false
+abbrev pub is_wrong_end_station : Identity → Command → Bool
+is_wrong_end_station identity (SetSciMode mode) = is_end_station mode && not (is_port_one identity.sci)
+is_wrong_end_station identity command = false
 
 -- the receive channel of the command does not stand
-abbrev pub no_channel : Config → Command → Bool
-no_channel c (RxDrop sci) = not (has_channel c sci)
-no_channel c (RxInstall sci an key start offset) = not (has_channel c sci)
-no_channel c (RxRemove sci an) = not (has_channel c sci)
-no_channel c command = false
+abbrev pub has_no_channel : Config → Command → Bool
+has_no_channel c (RxDrop sci) = not (has_channel c sci)
+has_no_channel c (RxInstall sci an key start offset) = not (has_channel c sci)
+has_no_channel c (RxRemove sci an) = not (has_channel c sci)
+has_no_channel c command = false
 
 -- the receive channel that is to be added stands
-abbrev pub channel_taken : Config → Command → Bool
-channel_taken c (RxAdd sci) = has_channel c sci
-channel_taken c command = false
+abbrev pub is_channel_taken : Config → Command → Bool
+is_channel_taken c (RxAdd sci) = has_channel c sci
+is_channel_taken c command = false
 
 -- a receive channel is to be added, and as many stand as the edition takes
-abbrev pub channels_full : Edition → Config → Command → Bool
-channels_full edition c (RxAdd sci) = nat_le edition.channels (length c.channels)
-channels_full edition c command = false
+abbrev pub are_channels_full : Edition → Config → Command → Bool
+are_channels_full edition c (RxAdd sci) = nat_le edition.channels (length c.channels)
+are_channels_full edition c command = false
 
 -- an association stands at the AN of an install
-abbrev pub slot_taken : Config → Command → Bool
-slot_taken c (TxInstall an key start confidential offset) = is_some (c.tx an)
-slot_taken c (RxInstall sci an key start offset) = is_some (c.rx sci an)
-slot_taken c command = false
+abbrev pub is_slot_taken : Config → Command → Bool
+is_slot_taken c (TxInstall an key start confidential offset) = is_some (c.tx an)
+is_slot_taken c (RxInstall sci an key start offset) = is_some (c.rx sci an)
+is_slot_taken c command = false
 
 -- no association stands at the AN that is to be used or removed
-abbrev pub slot_empty : Config → Command → Bool
-slot_empty c (TxUse an) = is_none (c.tx an)
-slot_empty c (TxRemove an) = is_none (c.tx an)
-slot_empty c (RxRemove sci an) = is_none (c.rx sci an)
-slot_empty c command = false
+abbrev pub is_slot_empty : Config → Command → Bool
+is_slot_empty c (TxUse an) = is_none (c.tx an)
+is_slot_empty c (TxRemove an) = is_none (c.tx an)
+is_slot_empty c (RxRemove sci an) = is_none (c.rx sci an)
+is_slot_empty c command = false
 
 -- frames go out under the association at this AN
 abbrev pub is_encoding : Option ℕ → ℕ → Bool
@@ -104,37 +104,37 @@ is_encoding None an = false
 is_encoding (Some encoding) an = encoding == an
 
 -- the encoding association is to be removed
-abbrev pub in_use : Config → Command → Bool
-in_use c (TxRemove an) = is_encoding c.encoding an
-in_use c command = false
+abbrev pub is_in_use : Config → Command → Bool
+is_in_use c (TxRemove an) = is_encoding c.encoding an
+is_in_use c command = false
 
 -- the fingerprint of an install's key is among the spent ones of its side
-abbrev pub key_spent : Config → Command → Bool
-key_spent c (TxInstall an key start confidential offset) = is_spent c.spent_tx (tx_fingerprint key)
-key_spent c (RxInstall sci an key start offset) = is_spent c.spent_rx (rx_fingerprint sci key)
-key_spent c command = false
+abbrev pub is_key_spent : Config → Command → Bool
+is_key_spent c (TxInstall an key start confidential offset) = is_spent c.spent_tx (tx_fingerprint key)
+is_key_spent c (RxInstall sci an key start offset) = is_spent c.spent_rx (rx_fingerprint sci key)
+is_key_spent c command = false
 
 -- as many keys are spent on the side of an install as may be
-abbrev pub spent_full : Config → Command → Bool
-spent_full c (TxInstall an key start confidential offset) = nat_le max_spent (length c.spent_tx)
-spent_full c (RxInstall sci an key start offset) = nat_le max_spent (length c.spent_rx)
-spent_full c command = false
+abbrev pub are_spent_full : Config → Command → Bool
+are_spent_full c (TxInstall an key start confidential offset) = nat_le max_spent (length c.spent_tx)
+are_spent_full c (RxInstall sci an key start offset) = nat_le max_spent (length c.spent_rx)
+are_spent_full c command = false
 
 -- every refusal with its test, in the order in which they are looked for
 abbrev pub refusals : Edition → Identity → Config → Command → List (Refusal × Bool)
 refusals edition identity c command =
-    (StartRange, start_range command)
-    ∷ (OffsetChoice, offset_choice command)
-    ∷ (OwnSci, own_sci identity command)
-    ∷ (EndStationSci, end_station_sci identity command)
-    ∷ (NoChannel, no_channel c command)
-    ∷ (ChannelTaken, channel_taken c command)
-    ∷ (ChannelsFull, channels_full edition c command)
-    ∷ (SlotTaken, slot_taken c command)
-    ∷ (SlotEmpty, slot_empty c command)
-    ∷ (InUse, in_use c command)
-    ∷ (KeySpent, key_spent c command)
-    ∷ (SpentFull, spent_full c command)
+    (StartRange, has_wrong_start command)
+    ∷ (OffsetChoice, has_wrong_offset command)
+    ∷ (OwnSci, is_own_sci identity command)
+    ∷ (EndStationSci, is_wrong_end_station identity command)
+    ∷ (NoChannel, has_no_channel c command)
+    ∷ (ChannelTaken, is_channel_taken c command)
+    ∷ (ChannelsFull, are_channels_full edition c command)
+    ∷ (SlotTaken, is_slot_taken c command)
+    ∷ (SlotEmpty, is_slot_empty c command)
+    ∷ (InUse, is_in_use c command)
+    ∷ (KeySpent, is_key_spent c command)
+    ∷ (SpentFull, are_spent_full c command)
     ∷ []
 
 -- the first refusal that holds of a command, if any does
@@ -171,13 +171,13 @@ config_after c (RxInstall sci an key start offset) = record c {
 config_after c (RxRemove sci an) = record c { rx = put_at c.rx sci (put (c.rx sci) an None) }
 
 -- the refusal, or the answer where there is none
-abbrev pub unless : {X : Type 0} → Option Refusal → X → Result X Refusal
-unless None answer = Ok answer
-unless (Some refusal) answer = Err refusal
+abbrev pub answer_or_refusal : {X : Type 0} → Option Refusal → X → Result X Refusal
+answer_or_refusal None answer = Ok answer
+answer_or_refusal (Some refusal) answer = Err refusal
 
 -- the configuration after a command, or the first refusal that holds
 abbrev pub apply : Edition → Identity → Config → Command → Result Config Refusal
-apply edition identity c command = unless (refusal_of edition identity c command) (config_after c command)
+apply edition identity c command = answer_or_refusal (refusal_of edition identity c command) (config_after c command)
 
 -- the fingerprint that a command spends, if it installs
 abbrev pub fingerprint_of : Command → Option (List ℕ)
@@ -186,7 +186,7 @@ fingerprint_of (RxInstall sci an key start offset) = Some (rx_fingerprint sci ke
 fingerprint_of command = None
 
 -- the fingerprint that a command spends on a side, if it installs there
-abbrev pub spends : Role → Command → List (List ℕ)
-spends Transmit (TxInstall an key start confidential offset) = tx_fingerprint key ∷ []
-spends Receive (RxInstall sci an key start offset) = rx_fingerprint sci key ∷ []
-spends role command = []
+abbrev pub spent_by : Role → Command → List (List ℕ)
+spent_by Transmit (TxInstall an key start confidential offset) = tx_fingerprint key ∷ []
+spent_by Receive (RxInstall sci an key start offset) = rx_fingerprint sci key ∷ []
+spent_by role command = []

@@ -1,4 +1,5 @@
 pub mod Tables
+pub mod Numbers
 pub mod Identity
 pub mod Association
 pub mod Config

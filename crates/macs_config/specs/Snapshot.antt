@@ -49,20 +49,20 @@ may_follow edition identity c (Spent role fingerprints) =
     are_new (spent_of role c) fingerprints && nat_le (length (spent_of role c) + length fingerprints) max_spent
 
 -- what a part adds
-abbrev pub with_part : Config → Part → Config
-with_part c (Settings validate replay mode encoding) =
+abbrev pub config_with_part : Config → Part → Config
+config_with_part c (Settings validate replay mode encoding) =
     record c { validate = validate; replay = replay; mode = mode; encoding = encoding }
-with_part c (TxSa an sa) = record c { tx = put c.tx an (Some sa) }
-with_part c (Channel sci) = record c { channels = put_among sci c.channels }
-with_part c (RxSa sci an sa) = record c { rx = put_at c.rx sci (put (c.rx sci) an (Some sa)) }
-with_part c (Spent Transmit fingerprints) = record c { spent_tx = c.spent_tx ++ fingerprints }
-with_part c (Spent Receive fingerprints) = record c { spent_rx = c.spent_rx ++ fingerprints }
+config_with_part c (TxSa an sa) = record c { tx = put c.tx an (Some sa) }
+config_with_part c (Channel sci) = record c { channels = put_among sci c.channels }
+config_with_part c (RxSa sci an sa) = record c { rx = put_at c.rx sci (put (c.rx sci) an (Some sa)) }
+config_with_part c (Spent Transmit fingerprints) = record c { spent_tx = c.spent_tx ++ fingerprints }
+config_with_part c (Spent Receive fingerprints) = record c { spent_rx = c.spent_rx ++ fingerprints }
 
 -- what all these parts make, None where one may not follow those in front of it
-abbrev pub with_parts : Edition → Identity → Config → List Part → Option Config
-with_parts edition identity c [] = Some c
-with_parts edition identity c (part ∷ parts) =
-    if may_follow edition identity c part then with_parts edition identity (with_part c part) parts else None
+abbrev pub config_with_parts : Edition → Identity → Config → List Part → Option Config
+config_with_parts edition identity c [] = Some c
+config_with_parts edition identity c (part ∷ parts) =
+    if may_follow edition identity c part then config_with_parts edition identity (config_with_part c part) parts else None
 
 -- ---- the whole
 
@@ -87,9 +87,9 @@ is_whole identity c =
     && not (is_end_station c.mode && not (is_port_one identity.sci))
 
 -- the configuration, if there is one and it is whole
-abbrev pub if_whole : Identity → Option Config → Option Config
-if_whole identity None = None
-if_whole identity (Some c) = if is_whole identity c then Some c else None
+abbrev pub whole_config : Identity → Option Config → Option Config
+whole_config identity None = None
+whole_config identity (Some c) = if is_whole identity c then Some c else None
 
 -- Settings, once, and then the other parts in the snapshot's order, none of which is refused: the configuration that they
 -- make, where it is whole
@@ -97,5 +97,5 @@ abbrev pub config_of_parts : Edition → Identity → List Part → Option Confi
 config_of_parts edition identity [] = None
 config_of_parts edition identity (part ∷ parts) =
     if nat_le (place_of part) 1 && are_ordered 2 parts
-    then if_whole identity (with_parts edition identity (with_part default part) parts)
+    then whole_config identity (config_with_parts edition identity (config_with_part default part) parts)
     else None

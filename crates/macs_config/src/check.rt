@@ -1,7 +1,7 @@
 //! Whether a command may be applied.
 
 ghost use Rattle.std.specs.Prelude.{◌≡◌, ◌==◌, ◌||◌, ◌&&◌, Some, None, not, length, nat_le, if◌then◌else◌, is_none};
-ghost use Rattle.macs_config.specs.Apply.{fingerprint_of, offset_at, refusal_of, unless};
+ghost use Rattle.macs_config.specs.Apply.{fingerprint_of, offset_at, refusal_of, answer_or_refusal};
 ghost use Rattle.macs_config.specs.Config.{is_spent, max_spent, rx_fingerprint, this_edition, tx_fingerprint};
 ghost use Rattle.macs_config.specs.Identity.{is_port_one};
 ghost use Rattle.macs_config.specs.Value.{config_in};
@@ -26,7 +26,7 @@ pub(crate) fn check(
     identity: &Identity,
     command: &Command,
 ) -> Result<Checked, Refusal>
-    ensures { result ≡ unless (refusal_of this_edition identity.now (config_in contents.now) command.now) (fingerprint_of command.now) }
+    ensures { result ≡ answer_or_refusal (refusal_of this_edition identity.now (config_in contents.now) command.now) (fingerprint_of command.now) }
 {
     match *command {
         Command::SetValidate(_) | Command::SetReplay { .. } => Ok(Checked::new(None)),
@@ -55,7 +55,7 @@ pub(crate) fn check(
 
 /// What the check of a command that spends no key answers.
 fn without_key(refusal: Option<Refusal>) -> Result<Checked, Refusal>
-    ensures { result ≡ unless refusal None }
+    ensures { result ≡ answer_or_refusal refusal None }
 {
     match refusal {
         Some(refusal) => Err(refusal),
@@ -89,7 +89,7 @@ fn check_tx_install(
     confidential: bool,
     offset: u8,
 ) -> Result<Checked, Refusal>
-    ensures { (identity : _) → result ≡ unless (refusal_of this_edition identity (config_in contents.now)
+    ensures { (identity : _) → result ≡ answer_or_refusal (refusal_of this_edition identity (config_in contents.now)
         (TxInstall an key.now start confidential offset)) (Some (tx_fingerprint key.now)) }
 {
     if start == 0 {
@@ -157,7 +157,7 @@ fn check_rx_install(
     start: u32,
     offset: u8,
 ) -> Result<Checked, Refusal>
-    ensures { (identity : _) → result ≡ unless (refusal_of this_edition identity (config_in contents.now)
+    ensures { (identity : _) → result ≡ answer_or_refusal (refusal_of this_edition identity (config_in contents.now)
         (RxInstall sci an key.now start offset)) (Some (rx_fingerprint sci key.now)) }
 {
     if start == 0 {
@@ -194,7 +194,7 @@ fn is_wrong_offset(confidential: bool, octets: u8) -> bool
 
 /// What a new key spends among those of its side, or what keeps it from being spent.
 fn check_key(spent: &SpentKeys, fingerprint: Fingerprint) -> Result<Checked, Refusal>
-    ensures { result ≡ unless (if is_spent spent.now fingerprint then Some KeySpent
+    ensures { result ≡ answer_or_refusal (if is_spent spent.now fingerprint then Some KeySpent
         else if nat_le max_spent (length spent.now) then Some SpentFull else None) (Some fingerprint) }
 {
     if spent.contains(&fingerprint) {

@@ -3,7 +3,7 @@
 
 ghost use Rattle.std.specs.Prelude.{◌≡◌, ◌<◌, ◌^◌, ◌++◌, ℕ, List, length, Some, Ok};
 ghost use Rattle.macs_frame.specs.Fields.{IsAn, IsSci};
-ghost use Rattle.macs_config.specs.Apply.{IsCommand, IsKey, apply, spends};
+ghost use Rattle.macs_config.specs.Apply.{IsCommand, IsKey, apply, spent_by};
 ghost use Rattle.macs_config.specs.Config.{Config, Edition, IsConfig, IsUpTo, default, spent_of, this_edition};
 ghost use Rattle.macs_config.specs.Identity.{Identity, IsIdentity};
 ghost use Rattle.macs_config.specs.Snapshot.{config_of_parts};
@@ -103,7 +103,7 @@ pub fn restored_is_config()
 pub fn spent_for_good()
     ensures { (edition : Edition) (identity : Identity) (old new : Config) (command : Command) (role : Role)
         → apply edition identity old command ≡ Ok new
-        → spent_of role new ≡ spent_of role old ++ spends role command }
+        → spent_of role new ≡ spent_of role old ++ spent_by role command }
 {}
 
 /// What an edition applies, one that takes as much or more applies too, and with the same result.

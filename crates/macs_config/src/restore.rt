@@ -6,7 +6,7 @@ ghost use Rattle.std.specs.List.{list_all};
 ghost use Rattle.std.specs.Str.{bytes_eq};
 ghost use Rattle.macs_config.specs.Config.{are_distinct, default, has_channel, is_spent, max_spent, put_among, spent_of, this_edition, tx_fingerprint};
 ghost use Rattle.macs_config.specs.Identity.{is_port_one};
-ghost use Rattle.macs_config.specs.Snapshot.{are_new, are_ordered, is_rx_spent, is_tx_spent, is_whole, may_follow, every_an, place_of, config_of_parts, with_part, with_parts};
+ghost use Rattle.macs_config.specs.Snapshot.{are_new, are_ordered, is_rx_spent, is_tx_spent, is_whole, may_follow, every_an, place_of, config_of_parts, config_with_part, config_with_parts};
 ghost use Rattle.macs_config.specs.Value.{config_in};
 ghost use Rattle.macs_config.specs.Tables.{put, put_at};
 ghost use Rattle.macs_config.specs.declared.part.Part.TheVariants.{Spent};
@@ -40,7 +40,7 @@ pub(crate) fn restored(identity: &Identity, parts: &[Part]) -> Option<Contents>
 /// The settings of a first part, on what an endpoint is formatted with; `None` for another part.
 fn settled(first: &Part) -> Option<Contents>
     ensures { option_map config_in result
-        ≡ (if nat_le (place_of first.now) 1 then Some (with_part default first.now) else None) }
+        ≡ (if nat_le (place_of first.now) 1 then Some (config_with_part default first.now) else None) }
 {
     match first {
         Part::Settings {
@@ -63,7 +63,7 @@ fn settled(first: &Part) -> Option<Contents>
 /// those in front of it.
 fn replayed(identity: &Identity, mut contents: Contents, parts: &[Part]) -> Option<Contents>
     ensures { option_map config_in result
-        ≡ (if are_ordered 2 parts.now then with_parts this_edition identity.now (config_in contents) parts.now else None) }
+        ≡ (if are_ordered 2 parts.now then config_with_parts this_edition identity.now (config_in contents) parts.now else None) }
 {
     let mut place = BEHIND_SETTINGS;
     for part in parts {
@@ -99,7 +99,7 @@ fn place_of(part: &Part) -> u8
 /// Adds a part, and answers whether it may follow what stands.
 fn add(identity: &Identity, contents: &mut Contents, part: &Part) -> bool
     ensures test { result ≡ may_follow this_edition identity.now (config_in contents.old) part.now }
-    ensures added { result ≡ true → config_in contents.new ≡ with_part (config_in contents.old) part.now }
+    ensures added { result ≡ true → config_in contents.new ≡ config_with_part (config_in contents.old) part.now }
 {
     match part {
         Part::Settings { .. } => false,
@@ -154,7 +154,7 @@ fn add_rx(contents: &mut Contents, sci: Sci, an: An, sa: RxSa) -> bool
 fn add_spent(contents: &mut Contents, role: Role, fingerprints: &[Fingerprint]) -> bool
     ensures test { result ≡ (are_new (spent_of role (config_in contents.old)) fingerprints.now
         && nat_le (length (spent_of role (config_in contents.old)) + length fingerprints.now) max_spent) }
-    ensures added { result ≡ true → config_in contents.new ≡ with_part (config_in contents.old) (Spent role fingerprints.now) }
+    ensures added { result ≡ true → config_in contents.new ≡ config_with_part (config_in contents.old) (Spent role fingerprints.now) }
 {
     let may_follow = may_be_spent(spent_of(contents, role), fingerprints);
     if may_follow {
@@ -178,7 +178,7 @@ fn spent_of(contents: &Contents, role: Role) -> &SpentKeys
 /// Adds a spent key of a side.
 fn spend(contents: &mut Contents, role: Role, fingerprint: Fingerprint)
     requires { length (spent_of role (config_in contents.old)) < max_spent }
-    ensures { config_in contents.new ≡ with_part (config_in contents.old) (Spent role (fingerprint ∷ [])) }
+    ensures { config_in contents.new ≡ config_with_part (config_in contents.old) (Spent role (fingerprint ∷ [])) }
 {
     match role {
         Role::Transmit => contents.spend_tx(fingerprint),

@@ -1,7 +1,7 @@
 -- What one call leaves, done or failed, and what it counts.
 use Rattle.std.proofs.Common.{◌≡◌, ◌⊎◌, ◌+◌, inl, inr, ⊎_elim, ℕ, subst, arith, List, Result, Ok, Err, IsOk, IsErr, true, false}
 use Rattle.std.proofs.lemmas.Bool.{cases_lt}
-use Rattle.macs_disk.specs.States.{Image, DiskState, IsImage, IsSound, IsSector, after_write}
+use Rattle.macs_disk.specs.States.{Image, DiskState, IsImage, IsSound, IsSector, state_after_write}
 use Rattle.macs_disk.specs.Disk.{Disk, now, IsDeviceCall, Reads, Writes, Syncs}
 use Rattle.macs_disk.specs.Runs.{Leaves, LeavesNothingNew}
 use Rattle.macs_disk.proofs.Images.{synced-image}
@@ -29,7 +29,7 @@ sync-failed old new (Err e) syncs is = syncs.err
 -- a write leaves what could be left before, or what the write of some octets leaves
 pub write-leaves : {T E : Type 0} (old new : Disk) (at : ℕ) (octets : List ℕ) (result : Result T E) (P : Image → Type 0) → IsSector octets → IsDeviceCall old new result
     → Writes (now old) (now new) at octets result → ((image : Image) → IsImage (now old) image → P image)
-    → ((sector : List ℕ) (image : Image) → IsSector sector → IsImage (after_write (now old) at sector) image → P image) → Leaves old new P
+    → ((sector : List ℕ) (image : Image) → IsSector sector → IsImage (state_after_write (now old) at sector) image → P image) → Leaves old new P
 write-leaves old new at octets (Ok x) P whole call writes before after =
     Leaves-call old old new (Ok x) P (Leaves-start old P before) call (λ image left. after octets image whole (subst (λ (s : DiskState). IsImage s image) writes.ok left))
 write-leaves old new at octets (Err e) P whole call writes before after =

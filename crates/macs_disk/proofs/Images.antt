@@ -2,7 +2,7 @@
 use Rattle.std.proofs.Common.{◌≡◌, ◌≢◌, ◌==◌, inl, inr, ℕ, refl, sym, ◌∙◌, ap, subst, arith, Bool, true, false, List}
 use Rattle.std.proofs.lemmas.Bool.{cases_eq, eq-eqb}
 use Rattle.std.proofs.lemmas.Bool.Decides.{nat_tests}
-use Rattle.macs_disk.specs.States.{IsSector, Image, DiskState, IsImage, IsSound, put_sector, after_write, after_sync}
+use Rattle.macs_disk.specs.States.{IsSector, Image, DiskState, IsImage, IsSound, put_sector, state_after_write, state_after_sync}
 
 -- f, but x at one place
 pub put-same : {X : Type 0} (f : ℕ → X) (at i : ℕ) (x : X) → i ≡ at → put_sector f at x i ≡ x
@@ -27,14 +27,14 @@ sound-image s image sound left i = by_pending (s.pending i) refl where
   by_pending false is = subst IsSector (sym (left.kept i is)) (sound.durable i)
 
 -- what a power loss may leave after a sync it could leave before
-pub synced-image : (s : DiskState) (image : Image) → IsImage s s.seen → IsImage (after_sync s) image → IsImage s image
+pub synced-image : (s : DiskState) (image : Image) → IsImage s s.seen → IsImage (state_after_sync s) image → IsImage s image
 synced-image s image fit left = record {
   kept = λ i clean. left.kept i refl ∙ fit.kept i clean;
   whole = λ i is. subst IsSector (sym (left.kept i refl)) (fit.whole i is);
 }
 
 -- what it may leave after a write, it could leave before but for that sector
-module _ (s : DiskState) (at : ℕ) (octets : List ℕ) (image : Image) (left : IsImage (after_write s at octets) image) where
+module _ (s : DiskState) (at : ℕ) (octets : List ℕ) (image : Image) (left : IsImage (state_after_write s at octets) image) where
   pub written-here : IsSector (image at)
   written-here = left.whole at (put-same s.pending at at true refl)
 

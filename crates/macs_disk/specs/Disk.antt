@@ -1,6 +1,6 @@
 -- A disk through time, and what one call of it does.
 use Rattle.std.specs.Prelude.{◌≡◌, ◌≤◌, ◌<◌, ◌+◌, ◌⊎◌, ℕ, Bool, true, false, List, Result, IsErr, OnOk, OnErr}
-use Rattle.macs_disk.specs.States.{IsSector, Image, DiskState, IsImage, settled_state, after_write, after_sync}
+use Rattle.macs_disk.specs.States.{IsSector, Image, DiskState, IsImage, settled_state, state_after_write, state_after_sync}
 
 -- a disk through time. `past k` is its state at moment k, for each k up to the clock. A worn disk
 -- fails each call. Whether it is honest says whether its calls do what is said of an honest disk.
@@ -80,10 +80,10 @@ pub record Reads {T E : Type 0} (old new : DiskState) (at : ℕ) (into : List �
 
 -- what a write does on an honest disk: where it fails nothing was written, or some 512 octets were
 pub record Writes {T E : Type 0} (old new : DiskState) (at : ℕ) (octets : List ℕ) (result : Result T E) : Type 0 where
-  pub ok : OnOk result (new ≡ after_write old at octets)
-  pub err : OnErr result ((new ≡ old) ⊎ ((other : List ℕ) × IsSector other × (new ≡ after_write old at other)))
+  pub ok : OnOk result (new ≡ state_after_write old at octets)
+  pub err : OnErr result ((new ≡ old) ⊎ ((other : List ℕ) × IsSector other × (new ≡ state_after_write old at other)))
 
 -- what a sync does on an honest disk: where it fails nothing is durable that was not
 pub record Syncs {T E : Type 0} (old new : DiskState) (result : Result T E) : Type 0 where
-  pub ok : OnOk result (new ≡ after_sync old)
+  pub ok : OnOk result (new ≡ state_after_sync old)
   pub err : OnErr result (new ≡ old)

@@ -5,25 +5,25 @@ use Rattle.std.proofs.lemmas.Bool.{cases_eq}
 use Rattle.std.proofs.lemmas.Bool.Decides.{nat_tests}
 use Rattle.macs_disk.specs.States.{IsSound, settled_state}
 use Rattle.macs_disk.specs.Disk.{Disk, now}
-use Rattle.macs_disk.specs.Fused.{disk_behind_fuse}
+use Rattle.macs_disk.specs.Fused.{fused_disk}
 use Rattle.macs_disk.specs.Recorded.{IsSoundMemory, state_at, sectors_in}
 use Rattle.macs_disk.specs.declared.record.Entry.{Entry}
 
 -- ---- a disk behind a fuse
 
 -- a disk behind a fuse is now in the state of the disk itself
-pub fused-now : (disk : Disk) (failed : ℕ) → now (disk_behind_fuse disk failed) ≡ now disk
+pub fused-now : (disk : Disk) (failed : ℕ) → now (fused_disk disk failed) ≡ now disk
 fused-now disk failed =
     let same : min (disk.clock + failed) disk.clock ≡ disk.clock = omega arith in
     ap disk.past same
 
 -- which is as sound
-pub fused-sound : (disk : Disk) (failed : ℕ) → IsSound (now disk) → IsSound (now (disk_behind_fuse disk failed))
+pub fused-sound : (disk : Disk) (failed : ℕ) → IsSound (now disk) → IsSound (now (fused_disk disk failed))
 fused-sound disk failed sound = subst IsSound (sym (fused-now disk failed)) sound
 
 -- a disk behind a fuse is worn no sooner than one of the two counts is full
-pub fused-wear : (disk : Disk) (failed : ℕ) → (disk.worn ≡ true → 2 ^ 64 - 1 ≤ disk.clock) → (disk_behind_fuse disk failed).worn ≡ true
-    → 2 ^ 64 - 1 ≤ (disk_behind_fuse disk failed).clock
+pub fused-wear : (disk : Disk) (failed : ℕ) → (disk.worn ≡ true → 2 ^ 64 - 1 ≤ disk.clock) → (fused_disk disk failed).worn ≡ true
+    → 2 ^ 64 - 1 ≤ (fused_disk disk failed).clock
 fused-wear disk failed inner is = elim (cases_eq failed (2 ^ 64 - 1)) [
   | inl full ↦ omega (arith, full)
   | inr other ↦ inner_worn disk.worn refl other
@@ -32,7 +32,7 @@ fused-wear disk failed inner is = elim (cases_eq failed (2 ^ 64 - 1)) [
   inner_worn true worn other = let h = inner worn in omega (arith, h)
   inner_worn false worn other = absurd (
       let no : (failed == 2 ^ 64 - 1) ≡ false = grind (arith, nat_tests) in
-      let fresh : (disk_behind_fuse disk failed).worn ≡ false = rw (worn, no) refl in
+      let fresh : (fused_disk disk failed).worn ≡ false = rw (worn, no) refl in
       cc)
 
 -- ---- a disk in memory

@@ -9,12 +9,12 @@ pub record FuseValue (D : Type 0) : Type 0 where
   pub failed : ℕ
 
 -- the fuse after a call that it failed itself, and counted, up to 2^64 - 1
-abbrev pub after_blown_call : {D : Type 0} → FuseValue D → FuseValue D
-after_blown_call fuse = record { inner = fuse.inner; left = fuse.left; failed = min (fuse.failed + 1) (2 ^ 64 - 1) }
+abbrev pub fuse_after_blown_call : {D : Type 0} → FuseValue D → FuseValue D
+fuse_after_blown_call fuse = record { inner = fuse.inner; left = fuse.left; failed = min (fuse.failed + 1) (2 ^ 64 - 1) }
 
 -- the disk that a fuse shows: the one behind it, and after its last call so many that the fuse failed itself
-abbrev pub disk_behind_fuse : Disk → ℕ → Disk
-disk_behind_fuse disk failed =
+abbrev pub fused_disk : Disk → ℕ → Disk
+fused_disk disk failed =
     record {
       sectors = disk.sectors;
       past = λ k. disk.past (min k disk.clock);
@@ -25,5 +25,5 @@ disk_behind_fuse disk failed =
     }
 
 -- what a fuse is, where this is what the disk behind it is
-abbrev pub fuse_disk : {D : Type 0} → (D → Disk) → FuseValue D → Disk
-fuse_disk disk fuse = disk_behind_fuse (disk fuse.inner) fuse.failed
+abbrev pub disk_of_fuse : {D : Type 0} → (D → Disk) → FuseValue D → Disk
+disk_of_fuse disk fuse = fused_disk (disk fuse.inner) fuse.failed

@@ -25,8 +25,8 @@ blank_memory sectors =
     }
 
 -- the disk after this was chosen for a sector
-abbrev pub with_choice : Memory → ℕ → List ℕ → Memory
-with_choice memory at octets = record { disk = memory.disk; chosen = put_sector memory.chosen at (Some octets) }
+abbrev pub memory_with_choice : Memory → ℕ → List ℕ → Memory
+memory_with_choice memory at octets = record { disk = memory.disk; chosen = put_sector memory.chosen at (Some octets) }
 
 -- what a power loss leaves now: the choices, and the last writes where none was made
 abbrev pub image_left : Memory → Image

@@ -1,6 +1,6 @@
 -- What a disk in memory keeps: its record of writes and syncs, and what these made of its sectors.
 use Rattle.std.specs.Prelude.{◌≡◌, ◌≤◌, ◌-◌, ◌^◌, ◌==◌, ℕ, if◌then◌else◌, Bool, true, false, List, [], ◌∷◌, length, get_or, nat_le, Option, Some, None}
-use Rattle.macs_disk.specs.States.{IsSector, Image, DiskState, settled_state, after_write, after_sync, zero_sector}
+use Rattle.macs_disk.specs.States.{IsSector, Image, DiskState, settled_state, state_after_write, state_after_sync, zero_sector}
 use Rattle.macs_disk.specs.Disk.{Disk}
 use Rattle.macs_disk.specs.declared.record.Entry.{Entry}
 use Rattle.macs_disk.specs.declared.record.Call.{Call}
@@ -19,14 +19,14 @@ abbrev pub choice_at : List (Option (List ℕ)) → ℕ → Option (List ℕ)
 choice_at choices i = get_or choices i None
 
 -- the state after a call that was kept
-abbrev pub state_after : DiskState → Call → DiskState
-state_after state (Write at octets) = after_write state at octets
-state_after state Sync = after_sync state
+abbrev pub state_after_call : DiskState → Call → DiskState
+state_after_call state (Write at octets) = state_after_write state at octets
+state_after_call state Sync = state_after_sync state
 
 -- the state at moment k: what the calls up to k made of the state that the record began with
 abbrev pub state_at : DiskState → List Entry → ℕ → DiskState
 state_at state [] k = state
-state_at state (e ∷ es) k = state_at (if nat_le e.clock k then state_after state e.call else state) es k
+state_at state (e ∷ es) k = state_at (if nat_le e.clock k then state_after_call state e.call else state) es k
 
 -- a disk by what it keeps: it is worn once its clock is full
 abbrev pub disk_of_record : ℕ → DiskState → List Entry → ℕ → ℕ → Disk

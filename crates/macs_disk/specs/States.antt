@@ -34,8 +34,8 @@ abbrev pub put_sector : {X : Type 0} → (ℕ → X) → ℕ → X → ℕ → X
 put_sector f at x i = if i == at then x else f i
 
 -- the state after a write of these octets to a sector
-abbrev pub after_write : DiskState → ℕ → List ℕ → DiskState
-after_write state at octets =
+abbrev pub state_after_write : DiskState → ℕ → List ℕ → DiskState
+state_after_write state at octets =
     record {
       seen = put_sector state.seen at octets;
       durable = state.durable;
@@ -47,8 +47,8 @@ abbrev pub settled_state : Image → DiskState
 settled_state image = record { seen = image; durable = image; pending = λ _. false }
 
 -- the state after a sync
-abbrev pub after_sync : DiskState → DiskState
-after_sync state = settled_state state.seen
+abbrev pub state_after_sync : DiskState → DiskState
+state_after_sync state = settled_state state.seen
 
 -- a sector of zeros
 unfoldable pub zero_sector : List ℕ

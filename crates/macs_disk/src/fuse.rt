@@ -2,7 +2,7 @@
 
 ghost use Rattle.std.specs.Prelude.{◌≡◌, ◌<◌, ◌+◌, ◌^◌, IsErr, OnOk, OnErr};
 ghost use Rattle.macs_disk.specs.Disk.{IsDeviceCall, IsHonest, Reads, Syncs, Writes, now};
-ghost use Rattle.macs_disk.specs.Fused.{FuseValue, fuse_disk, after_blown_call};
+ghost use Rattle.macs_disk.specs.Fused.{FuseValue, disk_of_fuse, fuse_after_blown_call};
 
 use crate::disk::{DeviceFault, SectorDisk};
 use std::marker::Model;
@@ -50,7 +50,7 @@ impl<D: SectorDisk> Fuse<D> {
             × (self.new.left + 1 ≡ self.old.left) × (self.new.failed ≡ self.old.failed)) }
         ensures unblown { OnOk result (self.new.failed ≡ 0) }
         ensures err { OnErr result ((self.old.left ≡ 0) × (self.old.failed < 2 ^ 64)
-            × (self.new ≡ after_blown_call self.old)) }
+            × (self.new ≡ fuse_after_blown_call self.old)) }
     {
         if self.left == 0 {
             self.failed = self.failed.saturating_add(1);
@@ -64,7 +64,7 @@ impl<D: SectorDisk> Fuse<D> {
 impl<D: SectorDisk> SectorDisk for Fuse<D> {
     ghost use Rattle.macs_disk.specs.Evidence.{fused-sound, fused-wear};
 
-    ghost disk = { fuse_disk D.disk };
+    ghost disk = { disk_of_fuse D.disk };
 
     ghost sound = { λ fuse honest. fused-sound (D.disk fuse.inner) fuse.failed (D.sound fuse.inner honest) };
 
@@ -75,38 +75,38 @@ impl<D: SectorDisk> SectorDisk for Fuse<D> {
     }
 
     fn read(&mut self, at: u64, into: &mut [u8; 512]) -> Result<(), DeviceFault>
-        requires { at < (fuse_disk D.disk self.old).sectors }
-        ensures call { IsDeviceCall (fuse_disk D.disk self.old) (fuse_disk D.disk self.new) result }
-        ensures effect { IsHonest (fuse_disk D.disk self.new)
-            → Reads (now (fuse_disk D.disk self.old)) (now (fuse_disk D.disk self.new)) at into.new result }
+        requires { at < (disk_of_fuse D.disk self.old).sectors }
+        ensures call { IsDeviceCall (disk_of_fuse D.disk self.old) (disk_of_fuse D.disk self.new) result }
+        ensures effect { IsHonest (disk_of_fuse D.disk self.new)
+            → Reads (now (disk_of_fuse D.disk self.old)) (now (disk_of_fuse D.disk self.new)) at into.new result }
         ensures passed { 0 < self.old.left → (self.new.left + 1 ≡ self.old.left)
             × IsDeviceCall (D.disk self.old.inner) (D.disk self.new.inner) result }
-        ensures stopped { self.old.left ≡ 0 → IsErr result × (self.new ≡ after_blown_call self.old) }
+        ensures stopped { self.old.left ≡ 0 → IsErr result × (self.new ≡ fuse_after_blown_call self.old) }
     {
         self.pass()?;
         self.disk.read(at, into)
     }
 
     fn write(&mut self, at: u64, from: &[u8; 512]) -> Result<(), DeviceFault>
-        requires { at < (fuse_disk D.disk self.old).sectors }
-        ensures call { IsDeviceCall (fuse_disk D.disk self.old) (fuse_disk D.disk self.new) result }
-        ensures effect { IsHonest (fuse_disk D.disk self.new)
-            → Writes (now (fuse_disk D.disk self.old)) (now (fuse_disk D.disk self.new)) at from.now result }
+        requires { at < (disk_of_fuse D.disk self.old).sectors }
+        ensures call { IsDeviceCall (disk_of_fuse D.disk self.old) (disk_of_fuse D.disk self.new) result }
+        ensures effect { IsHonest (disk_of_fuse D.disk self.new)
+            → Writes (now (disk_of_fuse D.disk self.old)) (now (disk_of_fuse D.disk self.new)) at from.now result }
         ensures passed { 0 < self.old.left → (self.new.left + 1 ≡ self.old.left)
             × IsDeviceCall (D.disk self.old.inner) (D.disk self.new.inner) result }
-        ensures stopped { self.old.left ≡ 0 → IsErr result × (self.new ≡ after_blown_call self.old) }
+        ensures stopped { self.old.left ≡ 0 → IsErr result × (self.new ≡ fuse_after_blown_call self.old) }
     {
         self.pass()?;
         self.disk.write(at, from)
     }
 
     fn sync(&mut self) -> Result<(), DeviceFault>
-        ensures call { IsDeviceCall (fuse_disk D.disk self.old) (fuse_disk D.disk self.new) result }
-        ensures effect { IsHonest (fuse_disk D.disk self.new)
-            → Syncs (now (fuse_disk D.disk self.old)) (now (fuse_disk D.disk self.new)) result }
+        ensures call { IsDeviceCall (disk_of_fuse D.disk self.old) (disk_of_fuse D.disk self.new) result }
+        ensures effect { IsHonest (disk_of_fuse D.disk self.new)
+            → Syncs (now (disk_of_fuse D.disk self.old)) (now (disk_of_fuse D.disk self.new)) result }
         ensures passed { 0 < self.old.left → (self.new.left + 1 ≡ self.old.left)
             × IsDeviceCall (D.disk self.old.inner) (D.disk self.new.inner) result }
-        ensures stopped { self.old.left ≡ 0 → IsErr result × (self.new ≡ after_blown_call self.old) }
+        ensures stopped { self.old.left ≡ 0 → IsErr result × (self.new ≡ fuse_after_blown_call self.old) }
     {
         self.pass()?;
         self.disk.sync()

@@ -2,11 +2,11 @@
 //! several, and how the promises of calls that follow one another are put together.
 
 ghost use Rattle.std.specs.Prelude.{◌≡◌, ◌≢◌, ◌≤◌, ◌+◌, ◌⊎◌, ℕ, false, true, List, Result, IsErr, IsOk};
-ghost use Rattle.macs_disk.specs.States.{Image, IsImage, IsSector, IsSound, DiskState, after_sync, after_write};
+ghost use Rattle.macs_disk.specs.States.{Image, IsImage, IsSector, IsSound, DiskState, state_after_sync, state_after_write};
 ghost use Rattle.macs_disk.specs.Disk.{Disk, FailsOnce, IsDeviceCall, IsHonest, IsWork, LeftSince, MayLeave, Reads, Syncs};
 ghost use Rattle.macs_disk.specs.Disk.{Works, Writes, now};
 ghost use Rattle.macs_disk.specs.Runs.{Leaves, LeavesNothingNew};
-ghost use Rattle.macs_disk.specs.Fused.{FuseValue, fuse_disk};
+ghost use Rattle.macs_disk.specs.Fused.{FuseValue, disk_of_fuse};
 ghost use Rattle.macs_disk.specs.MemDisks.{disk_of};
 ghost use Rattle.macs_disk.specs.declared.memory.MemDisk.{MemDisk};
 
@@ -33,7 +33,7 @@ pub fn images_are_sectors()
 
 /// What a power loss may leave after a sync, it could leave before.
 pub fn a_sync_leaves_nothing_new()
-    ensures { (state : DiskState) (image : Image) → IsSound state → IsImage (after_sync state) image
+    ensures { (state : DiskState) (image : Image) → IsSound state → IsImage (state_after_sync state) image
         → IsImage state image }
 {}
 
@@ -41,7 +41,7 @@ pub fn a_sync_leaves_nothing_new()
 /// written.
 pub fn a_write_leaves_one_sector()
     ensures { (state : DiskState) (at : ℕ) (octets : List ℕ) (image : Image) → IsSound state
-        → IsImage (after_write state at octets) image
+        → IsImage (state_after_write state at octets) image
         → (before : Image) × IsImage state before × ((i : ℕ) → i ≢ at → image i ≡ before i) }
 {}
 
@@ -83,7 +83,7 @@ pub fn a_write_call_leaves<P: Property, T, E>()
         → IsDeviceCall old new result → Writes (now old) (now new) at octets result
         → ((image : Image) → MayLeave old image → P.holds image)
         → ((sector : List ℕ) (image : Image) → IsSector sector
-        → IsImage (after_write (now old) at sector) image → P.holds image)
+        → IsImage (state_after_write (now old) at sector) image → P.holds image)
         → Leaves old new P.holds }
 {}
 
@@ -167,5 +167,5 @@ pub fn memory_is_honest<A: Allocator>()
 
 /// A fuse in front of an honest disk is an honest disk.
 pub fn fuses_are_honest<D: SectorDisk>()
-    ensures { (fuse : FuseValue D) → IsHonest (D.disk fuse.inner) → IsHonest (fuse_disk D.disk fuse) }
+    ensures { (fuse : FuseValue D) → IsHonest (D.disk fuse.inner) → IsHonest (disk_of_fuse D.disk fuse) }
 {}

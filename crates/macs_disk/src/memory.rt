@@ -198,7 +198,7 @@ impl<A: Allocator + Copy> MemDisk<A> {
 impl<A: Allocator> MemDisk<A> {
     ghost use Rattle.std.specs.Prelude.{◌≡◌, ◌<◌, true, false};
     ghost use Rattle.macs_disk.specs.Disk.{MayLeave, now};
-    ghost use Rattle.macs_disk.specs.Memory.{memory_after_loss, with_choice};
+    ghost use Rattle.macs_disk.specs.Memory.{memory_after_loss, memory_with_choice};
     ghost use Rattle.macs_disk.specs.MemDisks.{disk_of, memory_of};
 
     /// Whether sector `at` is pending: written, and since then neither a sync that succeeded nor a
@@ -224,7 +224,7 @@ impl<A: Allocator> MemDisk<A> {
     pub fn tear(&mut self, at: u64, octets: &[u8; 512]) -> bool
         requires { at < (disk_of self.old).sectors }
         ensures result { result ≡ (now (disk_of self.old)).pending at }
-        ensures chosen { result ≡ true → memory_of self.new ≡ with_choice (memory_of self.old) at octets.now }
+        ensures chosen { result ≡ true → memory_of self.new ≡ memory_with_choice (memory_of self.old) at octets.now }
         ensures same { result ≡ false → memory_of self.new ≡ memory_of self.old }
     {
         if !self.pending[at as usize] {

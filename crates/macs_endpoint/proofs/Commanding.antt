@@ -25,11 +25,11 @@ use Rattle.macs_store.proofs.Keeping.{accepted-in_range}
 use Rattle.macs_store.specs.declared.fault.CommitFault.{CommitFault}
 use Rattle.macs_store.specs.declared.fault.CommitFault.TheVariants.{AreaFull, Disk, Refused, Stopped}
 use Rattle.macs_endpoint.specs.Calls.{Fails, IsCall}
-use Rattle.macs_endpoint.specs.Counting.{channels_after}
+use Rattle.macs_endpoint.specs.Counting.{channel_counters_after_command}
 use Rattle.macs_endpoint.specs.Value.{AreChannels, AreWithin, EndpointValue, IsBacked, IsSoundEndpoint, disk_in, is_stopped, state_of}
 use Rattle.macs_endpoint.specs.Limits.{IsLimited, IsStill}
 use Rattle.macs_endpoint.specs.Restart.{Fits, FitsCall, state_during}
-use Rattle.macs_endpoint.specs.State.{Accepts, Commands, Logs, Ran, State, after_fault, with_in_hand}
+use Rattle.macs_endpoint.specs.State.{Accepts, Commands, Logs, Ran, State, state_after_fault, state_with_in_hand}
 use Rattle.macs_endpoint.specs.Step.{Step, next_after, numbers_after}
 use Rattle.macs_endpoint.proofs.Alone.{alone-call}
 use Rattle.macs_endpoint.proofs.Fitting.{AreAhead, accept-parts, ahead-within, command-ahead, fits-commit, kept-ahead, kept-backed}
@@ -56,8 +56,8 @@ by_refused s command (Ok config) refusal is = absurd cc
 by_refused s command (Err other) refusal is = let same : other ≡ refusal = cc in ap Err same
 
 -- a command is in hand while it is kept
-during-held : (s : State) (command : Command) → s.stopped ≡ false → Accepts s command → state_during s (Commands command) ≡ with_in_hand s command
-during-held s command running accepts = λ i. if not (running i) && accepts i then with_in_hand s command else s
+during-held : (s : State) (command : Command) → s.stopped ≡ false → Accepts s command → state_during s (Commands command) ≡ state_with_in_hand s command
+during-held s command running accepts = λ i. if not (running i) && accepts i then state_with_in_hand s command else s
 
 -- ---- what does not change
 
@@ -138,7 +138,7 @@ module _ {D : Type 0} (disk_of : D → disk.Disk) (e : EndpointValue D) (kept : 
       let old = state_of e logs in
       Leaves-weaker (disk_in disk_of e) new (CommitLeaves (standing_in e.store) command) (FitsCall sectors old (Commands command) later)
       (λ image left. inl (subst (λ (s : State). Fits this_edition sectors image s) (sym (during-held old command running accepts))
-      (fits-commit sectors image backed.size (with_in_hand old command) (standing_in e.store).ceilings command (kept-ahead e kept) ranges refl left)))
+      (fits-commit sectors image backed.size (state_with_in_hand old command) (standing_in e.store).ceilings command (kept-ahead e kept) ranges refl left)))
       leaves
 
   -- ---- a device call failed
@@ -161,7 +161,7 @@ module _ {D : Type 0} (disk_of : D → disk.Disk) (e : EndpointValue D) (kept : 
     pub cut-kept : IsSoundEndpoint cut
     cut-kept = kept-held e kept s (Some command) cut_same (λ running. absurd (let stopped = (commits.halted refl).0 in cc))
 
-    cut_state : (logs : Logs) → state_of cut logs ≡ after_fault (with_in_hand (state_of e logs) command)
+    cut_state : (logs : Logs) → state_of cut logs ≡ state_after_fault (state_with_in_hand (state_of e logs) command)
     cut_state logs = λ i. record {
       edition = this_edition;
       identity = (cut_same i).identity;
@@ -182,7 +182,7 @@ module _ {D : Type 0} (disk_of : D → disk.Disk) (e : EndpointValue D) (kept : 
           size = size;
           stored = λ running. absurd (let stopped = (commits.halted refl).0 in cc);
           fits = λ logs image left. subst (λ (x : State). Fits this_edition sectors image x) (sym (cut_state logs))
-              (fits-commit sectors image size (after_fault (with_in_hand (state_of e logs) command)) (standing_in e.store).ceilings command (kept-ahead e kept) ranges refl
+              (fits-commit sectors image size (state_after_fault (state_with_in_hand (state_of e logs) command)) (standing_in e.store).ceilings command (kept-ahead e kept) ranges refl
               (Leaves-now (disk_in disk_of e) (disk_in disk_of cut) (CommitLeaves (standing_in e.store) command) leaves image left));
         }
 
@@ -248,7 +248,7 @@ module _ {D : Type 0} (disk_of : D → disk.Disk) (e : EndpointValue D) (kept : 
     done_accepts = ap is_ok (accept-parts (standing_in e.store) command (standing_in s) commits.done).1
 
     pub done-call : txsc.counters_of tx ≡ txsc.counters_of e.tx → rxsc.counters_of rx ≡ rxsc.counters_of e.rx
-        → rxsc.channel_counters_of rx ≡ channels_after command (rxsc.channel_counters_of e.rx)
+        → rxsc.channel_counters_of rx ≡ channel_counters_after_command command (rxsc.channel_counters_of e.rx)
         → IsCall disk_of e (Commands command) (Ran (Ok tt)) done
     done-call tx_counters rx_counters channel_counters =
         let parts = accept-parts (standing_in e.store) command (standing_in s) commits.done in

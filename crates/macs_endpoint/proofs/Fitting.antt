@@ -2,7 +2,7 @@
 use Rattle.std.proofs.Common.{◌≡◌, ◌≤◌, ◌<◌, ◌^◌, ◌==◌, ℕ, zero, suc, Bool, true, false, cond, inl, inr, List, bytes_eq, Option, Some, None, Result, Ok, Err, is_ok, refl, sym, ap, subst, arith}
 use Rattle.std.specs.Option.{option_map}
 use Rattle.std.proofs.lemmas.Bool.{eq-eqb}
-use Rattle.macs_config.specs.Apply.{IsCommand, apply, start_range}
+use Rattle.macs_config.specs.Apply.{IsCommand, apply, has_wrong_start}
 use Rattle.macs_config.specs.Config.{Config, this_edition}
 use Rattle.macs_config.specs.Identity.{Identity}
 use Rattle.macs_config.specs.Tables.{put, put_at}
@@ -15,11 +15,12 @@ use Rattle.macs_disk.specs.States.{Image}
 use Rattle.macs_journal.specs.Areas.{least_sectors}
 use Rattle.macs_txsc.specs.Value as txsc
 use Rattle.macs_txsc.specs.declared.channel.Tx.{Tx}
-use Rattle.macs_rxsc.specs.Receive.{Numbers, put_numbers, first_numbers, under_window}
+use Rattle.macs_rxsc.specs.Receive.{Numbers, put_numbers, first_numbers, numbers_under_window}
 use Rattle.macs_rxsc.specs.Value as rxsc
-use Rattle.macs_store.specs.Found.{CommitLeaves, FindsStanding}
+use Rattle.macs_store.specs.Found.{CommitLeaves, StandsFor}
 use Rattle.macs_store.specs.Value.{IsStored, standing_in}
-use Rattle.macs_store.specs.Standing.{Ceilings, Standing, accept, standing_or_refusal, ahead, ceilings_after}
+use Rattle.macs_config.specs.Numbers.{block_beyond}
+use Rattle.macs_store.specs.Standing.{Ceilings, Standing, accept, standing_or_refusal, ceilings_after}
 use Rattle.macs_store.proofs.Keeping.{accepted-in_range, stored-image}
 use Rattle.macs_endpoint.specs.Value.{AreChannels, AreWithin, IsBacked, IsSoundEndpoint, IsRxWithin, IsTxWithin, EndpointValue, disk_in, state_of}
 use Rattle.macs_endpoint.specs.Restart.{Fits, Resumes, RxRises, TxRises, opened_state}
@@ -93,7 +94,7 @@ rx-put block numbers c at number n ceiling here all =
     rx-put_all block numbers c at (put (numbers at) number n) (put (c at) number ceiling)
     (λ an. rx_by block (an == number) n (numbers at an) ceiling (c at an) here (all at an)) all
 
-rx_windowed : (block window : ℕ) (n : Option Numbers) (c : Option ℕ) → IsRxWithin block n c → IsRxWithin block (option_map (under_window window) n) c
+rx_windowed : (block window : ℕ) (n : Option Numbers) (c : Option ℕ) → IsRxWithin block n c → IsRxWithin block (option_map (numbers_under_window window) n) c
 rx_windowed block window None None within = tt
 rx_windowed block window None (Some c) within = absurd within
 rx_windowed block window (Some n) None within = absurd within
@@ -121,22 +122,22 @@ from_one : (start : ℕ) → (start == 0) ≡ false → 1 ≤ start
 from_one zero is = absurd cc
 from_one (suc n) is = omega arith
 
-started_tx : (block start : ℕ) → 1 ≤ start → start < 2 ^ 32 → IsTxWithin block (Some start) (Some (ahead start block))
+started_tx : (block start : ℕ) → 1 ≤ start → start < 2 ^ 32 → IsTxWithin block (Some start) (Some (block_beyond start block))
 started_tx block start least below = (least, omega (arith, below), omega (arith, below), omega arith)
 
 -- with the numbers that a command makes go the ceilings that it makes, where its start is not 0
 pub command-ahead : (identity : Identity) (command : Command) (next : ℕ → Option ℕ) (numbers : List ℕ → ℕ → Option Numbers) (c : Ceilings)
-    → IsCommand this_edition command → start_range command ≡ false → AreAhead identity next numbers c
+    → IsCommand this_edition command → has_wrong_start command ≡ false → AreAhead identity next numbers c
     → AreAhead identity (next_after command next) (numbers_after command numbers) (ceilings_after identity command c)
 command-ahead identity (SetValidate validate) next numbers c ranges numbered are = are
 command-ahead identity (SetReplay on window) next numbers c ranges numbered are = record {
   tx_ahead = are.tx_ahead;
   rx_ahead = λ sci an. rx_windowed identity.rx_block window (numbers sci an) (c.rx sci an) (are.rx_ahead sci an);
-  few = λ sci an over. ap (option_map (under_window window)) (are.few sci an over);
+  few = λ sci an over. ap (option_map (numbers_under_window window)) (are.few sci an over);
 }
 command-ahead identity (SetSciMode mode) next numbers c ranges numbered are = are
 command-ahead identity (TxInstall an key start confidential offset) next numbers c ranges numbered are = record {
-  tx_ahead = tx-put identity.tx_block next c.tx an (Some start) (Some (ahead start identity.tx_block))
+  tx_ahead = tx-put identity.tx_block next c.tx an (Some start) (Some (block_beyond start identity.tx_block))
       (started_tx identity.tx_block start (from_one start numbered) ranges.2) are.tx_ahead;
   rx_ahead = are.rx_ahead;
   few = are.few;
@@ -212,12 +213,12 @@ standing_with s c = record { edition = s.edition; identity = s.identity; config 
 
 module _ (sectors : ℕ) (image : Image) (size : least_sectors ≤ sectors) where
   -- ceilings that are not too far ahead
-  pub fits-ahead : (s : State) (c : Ceilings) → AreAhead s.identity s.next s.numbers c → FindsStanding s.edition image (standing_with s c) → Fits s.edition sectors image s
+  pub fits-ahead : (s : State) (c : Ceilings) → AreAhead s.identity s.next s.numbers c → StandsFor s.edition image (standing_with s c) → Fits s.edition sectors image s
   fits-ahead s c are finds = record { found = standing_with s c; is_found = (size, finds); restart = inl (resumed s c are) }
 
   -- what the command in hand makes of the configuration
   pub fits-command : (s : State) (c : Ceilings) (command : Command) (made : Standing) → AreAhead s.identity s.next s.numbers c
-      → IsCommand this_edition command → s.in_hand ≡ Some command → accept (standing_with s c) command ≡ Ok made → FindsStanding s.edition image made
+      → IsCommand this_edition command → s.in_hand ≡ Some command → accept (standing_with s c) command ≡ Ok made → StandsFor s.edition image made
       → Fits s.edition sectors image s
   fits-command s c command made are ranges holds accepts finds =
       let parts = accept-parts (standing_with s c) command made accepts in
@@ -232,7 +233,7 @@ module _ (sectors : ℕ) (image : Image) (size : least_sectors ≤ sectors) wher
       command-ahead s.identity command s.next s.numbers c ranges (accepted-in_range (standing_with s c) command (ap is_ok accepts)).0 are in
       record {
         found = standing_with mid (ceilings_after s.identity command c);
-        is_found = (size, subst (FindsStanding s.edition image) parts.2 finds);
+        is_found = (size, subst (StandsFor s.edition image) parts.2 finds);
         restart = inr (command, mid, holds, (config, parts.1, refl), resumed mid (ceilings_after s.identity command c) later);
       }
 
@@ -248,7 +249,7 @@ module _ (sectors : ℕ) (image : Image) (size : least_sectors ≤ sectors) wher
 
 module _ {D : Type 0} (disk_of : D → Disk) (e : EndpointValue D) (kept : IsSoundEndpoint e) where
   -- an image that stands for what it has in memory
-  pub kept-fits : (sectors : ℕ) → least_sectors ≤ sectors → (logs : Logs) (image : Image) → FindsStanding this_edition image (standing_in e.store)
+  pub kept-fits : (sectors : ℕ) → least_sectors ≤ sectors → (logs : Logs) (image : Image) → StandsFor this_edition image (standing_in e.store)
       → Fits this_edition sectors image (state_of e logs)
   kept-fits sectors size logs image finds =
       fits-ahead sectors image size (state_of e logs) (standing_in e.store).ceilings (kept-ahead e kept) finds

@@ -23,9 +23,10 @@ use Rattle.macs_config.proofs.Tables.{put-here, put_rx-here}
 use Rattle.macs_txsc.specs.Transmit.{TxSide}
 use Rattle.macs_txsc.specs.Value as txsc
 use Rattle.macs_txsc.specs.declared.channel.Tx.{Tx}
-use Rattle.macs_rxsc.specs.Receive.{AreOrdered, Numbers, RxSide, IsNumbered, put_numbers, first_numbers, under_window}
+use Rattle.macs_rxsc.specs.Receive.{AreOrdered, Numbers, RxSide, IsNumbered, put_numbers, first_numbers, numbers_under_window}
 use Rattle.macs_rxsc.specs.Value as rxsc
-use Rattle.macs_store.specs.Standing.{Standing, accept, standing_or_refusal, ahead, ceilings_after}
+use Rattle.macs_config.specs.Numbers.{block_beyond}
+use Rattle.macs_store.specs.Standing.{Standing, accept, standing_or_refusal, ceilings_after}
 use Rattle.macs_endpoint.specs.Value.{AreChannels}
 use Rattle.macs_endpoint.specs.State.{rx_side_with, tx_side_with}
 use Rattle.macs_endpoint.specs.Step.{numbers_after}
@@ -52,7 +53,7 @@ made-is s command after done =
 
 -- ---- the same window
 
-same_numbers : (window : ℕ) (sa : Option RxSa) (n : Option Numbers) (ceiling : Option ℕ) → IsNumbered window sa n ceiling → option_map (under_window window) n ≡ n
+same_numbers : (window : ℕ) (sa : Option RxSa) (n : Option Numbers) (ceiling : Option ℕ) → IsNumbered window sa n ceiling → option_map (numbers_under_window window) n ≡ n
 same_numbers window sa None ceiling stands = refl
 same_numbers window None (Some n) None stands = absurd stands
 same_numbers window None (Some n) (Some ceiling) stands = absurd stands
@@ -62,7 +63,7 @@ same_numbers window (Some sa) (Some n) (Some ceiling) stands =
 
 -- under another window
 abbrev all_windowed : (List ℕ → ℕ → Option Numbers) → ℕ → List ℕ → ℕ → Option Numbers
-all_windowed numbers window sci an = option_map (under_window window) (numbers sci an)
+all_windowed numbers window sci an = option_map (numbers_under_window window) (numbers sci an)
 
 pub window-same : (side new : RxSide) (ceilings : List ℕ → ℕ → Option ℕ) (validate : Validate) (replay : Replay)
     → ((sci : List ℕ) (an : ℕ) → AreOrdered side ceilings sci an)
@@ -157,17 +158,17 @@ module _ (before after : Standing) (tx : Tx) (rx : rxsc.RxValue) (are : AreChann
     tx_found : after.config.tx an ≡ Some tx_sa
     tx_found = ap (λ (s : Standing). s.config.tx an) (sym (made-is before tx_install after done)) ∙ put-here before.config.tx an (Some tx_sa)
 
-    tx_ceiling : after.ceilings.tx an ≡ Some (ahead start before.identity.tx_block)
+    tx_ceiling : after.ceilings.tx an ≡ Some (block_beyond start before.identity.tx_block)
     tx_ceiling =
         ap (λ (s : Standing). s.ceilings.tx an) (sym (made-is before tx_install after done))
-        ∙ put-here before.ceilings.tx an (Some (ahead start before.identity.tx_block))
+        ∙ put-here before.ceilings.tx an (Some (block_beyond start before.identity.tx_block))
 
     pub tx-stands : IsSome (after.config.tx an)
     tx-stands = ap is_some tx_found
 
     pub tx-ordered : (next : ℕ) → next ≡ start → start ≤ 2 ^ 32 → IfSome (after.ceilings.tx an) (λ ceiling. next ≤ ceiling)
     tx-ordered next is small =
-        let below : next ≤ ahead start before.identity.tx_block = omega arith in
+        let below : next ≤ block_beyond start before.identity.tx_block = omega arith in
         subst (λ (o : Option ℕ). IfSome o (λ ceiling. next ≤ ceiling)) (sym tx_ceiling) below
 
     pub tx-installed : (next : ℕ) (tx' : Tx) → txsc.tx_side_of tx' ≡ with_tx (txsc.tx_side_of tx) an next (after.config.tx an)
@@ -177,7 +178,7 @@ module _ (before after : Standing) (tx : Tx) (rx : rxsc.RxValue) (are : AreChann
           tx_is = tx_follows tx_install tx' (λ t. with_tx t an next (Some tx_sa)) (side ∙ ap (with_tx (txsc.tx_side_of tx) an next) tx_found) (λ n. refl);
           rx_is = are.rx_is;
           tx_ceilings = ceilings ∙ ap (put (txsc.ceilings_of tx) an) tx_ceiling
-              ∙ ap (λ (f : ℕ → Option ℕ). put f an (Some (ahead start before.identity.tx_block))) are.tx_ceilings;
+              ∙ ap (λ (f : ℕ → Option ℕ). put f an (Some (block_beyond start before.identity.tx_block))) are.tx_ceilings;
           rx_ceilings = are.rx_ceilings;
         })
 

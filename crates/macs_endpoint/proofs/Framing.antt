@@ -10,13 +10,13 @@ use Rattle.macs_config.specs.Tables.{put}
 use Rattle.macs_config.specs.declared.association.TxSa.{TxSa}
 use Rattle.macs_config.proofs.Tables.{put_all, put_at_all}
 use Rattle.macs_disk.specs.Disk.{Disk}
-use Rattle.macs_txsc.specs.Transmit.{Outgoing, TxSide, all_tx_faults, frame_of, is_at_ceiling, outgoing_if, outgoing, outgoing_at, side_after, side_after_frame, with_answer, tx_faults}
+use Rattle.macs_txsc.specs.Transmit.{Outgoing, TxSide, all_tx_faults, frame_of, is_at_ceiling, outgoing_with, next_outgoing, outgoing_at, side_after, side_after_frame, counters_after_answer, tx_faults}
 use Rattle.macs_txsc.specs.Value as txsc
 use Rattle.macs_txsc.specs.declared.channel.Tx.{Tx}
 use Rattle.macs_txsc.specs.declared.fault.TxFault.{TxFault}
 use Rattle.macs_txsc.specs.declared.fault.TxFault.TheVariants.{Runt, TooLong, ForeignSource, NoEncodingSa, Exhausted, NoNumber}
-use Rattle.macs_rxsc.specs.Counting.{with_verdict, with_verdict_at}
-use Rattle.macs_rxsc.specs.Receive.{Arrival, Arrives, Numbers, Outcome, RxSide, RxStep, Tag, NoChannel, NoAssociation, BelowLowest, NotVerified, after_delivery, arrival_outcome, channel_of, given_at, after_hold, is_below, is_strict, kind_of, put_numbers, seen_after, verdict_at}
+use Rattle.macs_rxsc.specs.Counting.{counters_after_verdict, counters_after_verdict_at}
+use Rattle.macs_rxsc.specs.Receive.{Arrival, Arrives, Numbers, Outcome, RxSide, RxStep, Tag, NoChannel, NoAssociation, BelowLowest, NotVerified, numbers_after_delivery, arrival_outcome, channel_of, given_at, numbers_after_hold, is_below, is_strict, delivery_kind, put_numbers, seen_after, verdict_at}
 use Rattle.macs_rxsc.specs.Receive as rx
 use Rattle.macs_rxsc.specs.Value.{association_in, channel_at}
 use Rattle.macs_rxsc.specs.Value as rxsc
@@ -82,8 +82,8 @@ first_none ((z, false) ∷ rows) x b is = first_none rows x b is
 -- what a transmit channel answers
 pub record Sends (side later : TxSide) (ceilings : ℕ → Option ℕ) (plain : List ℕ) (result : Result ℕ TxFault) (out : List ℕ) : Type 0 where
   pub fault : (fault : TxFault) → (result ≡ Err fault) ↔ (first (all_tx_faults side ceilings plain) ≡ Some fault)
-  pub number : IfOk result (λ pn. option_map (λ (o : Outgoing). o.pn) (outgoing side) ≡ Some pn)
-  pub frame : OnOk result (option_map (λ (o : Outgoing). frame_of side o plain) (outgoing side) ≡ Some out)
+  pub number : IfOk result (λ pn. option_map (λ (o : Outgoing). o.pn) (next_outgoing side) ≡ Some pn)
+  pub frame : OnOk result (option_map (λ (o : Outgoing). frame_of side o plain) (next_outgoing side) ≡ Some out)
   pub sent : OnOk result (later ≡ side_after_frame side)
   pub same : OnErr result (later ≡ side)
   pub empty : OnErr result (out ≡ [])
@@ -93,13 +93,13 @@ record Goes (side later : TxSide) (ceilings : ℕ → Option ℕ) (plain : List 
   pub o : Outgoing
   pub none : first (tx_faults side plain) ≡ None
   pub below : is_at_ceiling ceilings (Some o) ≡ false
-  pub is : outgoing side ≡ Some o
+  pub is : next_outgoing side ≡ Some o
   pub next_is : side.next o.an ≡ Some o.pn
   pub number : pn ≡ o.pn
   pub frame : out ≡ frame_of side o plain
   pub sent : later ≡ record side { next = put side.next o.an (Some (o.pn + 1)) }
 
-numbered_next : (next : ℕ → Option ℕ) (an : ℕ) (sa : Option TxSa) (pn : Option ℕ) (o : Outgoing) → next an ≡ pn → outgoing_if an sa pn ≡ Some o
+numbered_next : (next : ℕ → Option ℕ) (an : ℕ) (sa : Option TxSa) (pn : Option ℕ) (o : Outgoing) → next an ≡ pn → outgoing_with an sa pn ≡ Some o
     → next o.an ≡ Some o.pn
 numbered_next next an (Some sa) (Some pn) o at is =
     let same : ◌≡◌ {A = Outgoing} (record { an = an; sa = sa; pn = pn }) o = cc in
@@ -117,8 +117,8 @@ goes : (side later : TxSide) (ceilings : ℕ → Option ℕ) (plain : List ℕ) 
 goes side later ceilings plain pn out sends =
     let unfaulted : first (all_tx_faults side ceilings plain) ≡ None =
     none_of (first (all_tx_faults side ceilings plain)) (λ fault is. let wrong = (sends.fault fault).1 is in absurd cc) in
-    let parts = first_none (tx_faults side plain) NoNumber (is_at_ceiling ceilings (outgoing side)) unfaulted in
-    let found = some_of (λ (o : Outgoing). o.pn) (outgoing side) pn sends.number in
+    let parts = first_none (tx_faults side plain) NoNumber (is_at_ceiling ceilings (next_outgoing side)) unfaulted in
+    let found = some_of (λ (o : Outgoing). o.pn) (next_outgoing side) pn sends.number in
     record {
       o = found.0;
       none = parts.0;
@@ -126,7 +126,7 @@ goes side later ceilings plain pn out sends =
       is = found.1;
       next_is = outgoing_next side side.encoding found.0 found.1;
       number = sym found.2;
-      frame = mapped (λ (o : Outgoing). frame_of side o plain) (outgoing side) found.0 out found.1 sends.frame;
+      frame = mapped (λ (o : Outgoing). frame_of side o plain) (next_outgoing side) found.0 out found.1 sends.frame;
       sent = sends.sent ∙ ap (side_after side) found.1;
     }
 
@@ -167,7 +167,7 @@ refused_step : (s : State) (later : TxSide) (ceilings : ℕ → Option ℕ) (pla
 refused_step s later ceilings plain fault out running sends =
     let next : later.next ≡ s.next = ap (λ (side : TxSide). side.next) sends.same in
     let same : record s { next = later.next } ≡ s = ap (λ (n : ℕ → Option ℕ). record s { next = n }) next in
-    let found = first_join (tx_faults (tx_side s) plain) NoNumber (is_at_ceiling ceilings (outgoing (tx_side s))) fault ((sends.fault fault).0 refl) in
+    let found = first_join (tx_faults (tx_side s) plain) NoNumber (is_at_ceiling ceilings (next_outgoing (tx_side s))) fault ((sends.fault fault).0 refl) in
     inr (
       running,
       (
@@ -207,9 +207,9 @@ not_exhausted false false false false true is = absurd cc
 not_exhausted false false false false false is = refl
 
 at_ceiling : (side later : TxSide) (ceilings : ℕ → Option ℕ) (plain : List ℕ) (out : List ℕ) → Sends side later ceilings plain (Err NoNumber) out
-    → is_at_ceiling ceilings (outgoing side) ≡ true
+    → is_at_ceiling ceilings (next_outgoing side) ≡ true
 at_ceiling side later ceilings plain out sends =
-    elim (first_join (tx_faults side plain) NoNumber (is_at_ceiling ceilings (outgoing side)) NoNumber ((sends.fault NoNumber).0 refl)) [
+    elim (first_join (tx_faults side plain) NoNumber (is_at_ceiling ceilings (next_outgoing side)) NoNumber ((sends.fault NoNumber).0 refl)) [
       | inl is ↦ absurd (five_others _ _ _ _ _ is)
       | inr is ↦ is.2
     ]
@@ -283,12 +283,12 @@ module _ {D : Type 0} (disk_of : D → Disk) (old : EndpointValue D) (tx : Tx) (
   pub protected-kept : IsSoundEndpoint (with_tx old tx)
   protected-kept = kept_sent old tx plain result out kept sends ceilings (standing_sends old tx plain result out kept sends ceilings)
 
-  counted_after : (result : Result ℕ TxFault) → txsc.counters_of tx ≡ with_answer result (txsc.counters_of old.tx)
+  counted_after : (result : Result ℕ TxFault) → txsc.counters_of tx ≡ counters_after_answer result (txsc.counters_of old.tx)
       → txsc.counters_of tx ≡ tx_counters_after (Protected (answered result) out) (txsc.counters_of old.tx)
   counted_after (Ok pn) is = is
   counted_after (Err fault) is = is
 
-  pub protected-call : All (λ octet. octet < 2 ^ 8) plain → is_stopped old ≡ false → txsc.counters_of tx ≡ with_answer result (txsc.counters_of old.tx)
+  pub protected-call : All (λ octet. octet < 2 ^ 8) plain → is_stopped old ≡ false → txsc.counters_of tx ≡ counters_after_answer result (txsc.counters_of old.tx)
       → IsCall disk_of old (Protects plain) (Protected (answered result) out) (with_tx old tx)
   protected-call octets running counters =
       let standing = standing_sends old tx plain result out kept sends ceilings in
@@ -324,16 +324,16 @@ protect-stopped disk_of old plain out octets stopped empty =
 -- what becomes of numbers below a ceiling, and at it
 abbrev delivered : RxSide → Arrival → Outcome
 delivered side a = record {
-  verdict = Delivered (kind_of a.numbers a.pn);
+  verdict = Delivered (delivery_kind a.numbers a.pn);
   given = a.plain;
-  numbers = put_numbers side.numbers a.sci a.an (Some (after_delivery side.replay.window a.numbers a.pn));
+  numbers = put_numbers side.numbers a.sci a.an (Some (numbers_after_delivery side.replay.window a.numbers a.pn));
 }
 
 abbrev kept_back : RxSide → Arrival → Outcome
 kept_back side a = record {
   verdict = HeldBack;
   given = [];
-  numbers = put_numbers side.numbers a.sci a.an (Some (after_hold a.numbers a.pn));
+  numbers = put_numbers side.numbers a.sci a.an (Some (numbers_after_hold a.numbers a.pn));
 }
 
 -- what holds of both holds of an arrival
@@ -348,7 +348,7 @@ limit_rises block next later pn ceiling None order within = omega arith
 limit_rises block next later pn ceiling (Some seen) order within = omega arith
 
 advanced_within : (block window : ℕ) (numbers : Numbers) (pn : ℕ) (ceiling : Option ℕ) → IsRxWithin block (Some numbers) ceiling
-    → is_below ceiling pn ≡ true → IsRxWithin block (Some (after_delivery window numbers pn)) ceiling
+    → is_below ceiling pn ≡ true → IsRxWithin block (Some (numbers_after_delivery window numbers pn)) ceiling
 advanced_within block window numbers pn None within below = within
 advanced_within block window numbers pn (Some ceiling) within below =
     let above : pn < ceiling = grind (arith, nat_tests) in
@@ -356,7 +356,7 @@ advanced_within block window numbers pn (Some ceiling) within below =
     (omega arith, limit_rises block numbers.next (max numbers.next (pn + 1)) pn ceiling numbers.seen (omega arith) within.1)
 
 held_within : (block : ℕ) (numbers : Numbers) (pn : ℕ) (ceiling : Option ℕ) → IsRxWithin block (Some numbers) ceiling
-    → IsRxWithin block (Some (after_hold numbers pn)) ceiling
+    → IsRxWithin block (Some (numbers_after_hold numbers pn)) ceiling
 held_within block numbers pn None within = within
 held_within block numbers pn (Some ceiling) within =
     (within.0, limit_rises block numbers.next numbers.next pn ceiling numbers.seen (omega arith) within.1)
@@ -395,9 +395,9 @@ module _ (block : ℕ) (side : RxSide) (ceilings : List ℕ → ℕ → Option �
         let a = arrives.0 in
         let here = here_within frame a arrives.1 in
         subst P (sym arrives.2) (arrived_by P side ceilings a
-        (λ below. put_one a.sci a.an (after_delivery side.replay.window a.numbers a.pn)
+        (λ below. put_one a.sci a.an (numbers_after_delivery side.replay.window a.numbers a.pn)
         (advanced_within block side.replay.window a.numbers a.pn (ceilings a.sci a.an) here below) sci an)
-        (λ above. put_one a.sci a.an (after_hold a.numbers a.pn) (held_within block a.numbers a.pn (ceilings a.sci a.an) here) sci an))
+        (λ above. put_one a.sci a.an (numbers_after_hold a.numbers a.pn) (held_within block a.numbers a.pn (ceilings a.sci a.an) here) sci an))
   ]
 
 -- the endpoint receives what its channels do
@@ -418,7 +418,7 @@ receive_step s ceilings frame outcome running all receives = elim receives [
       subst P (sym arrives.2) (arrived_by P (rx_side s) ceilings a
       (λ below. (
         record s.logs {
-          given = record { sci = a.sci; key = a.sa.key; pn = a.pn; kind = kind_of a.numbers a.pn } ∷ s.logs.given;
+          given = record { sci = a.sci; key = a.sa.key; pn = a.pn; kind = delivery_kind a.numbers a.pn } ∷ s.logs.given;
         },
         inr (running, inr (a, arrives.1, inr (refl, refl, refl))),
       ))
@@ -511,8 +511,8 @@ module _ {D : Type 0} (disk_of : D → Disk) (old : EndpointValue D) (r : rxsc.R
         idle = kept.idle;
       }
 
-  pub received-call : All (λ octet. octet < 2 ^ 8) frame → is_stopped old ≡ false → rxsc.counters_of r ≡ with_verdict verdict (rxsc.counters_of old.rx)
-      → rxsc.channel_counters_of r ≡ with_verdict_at (channel_of (rxsc.rx_side_of old.rx) frame) verdict (rxsc.channel_counters_of old.rx)
+  pub received-call : All (λ octet. octet < 2 ^ 8) frame → is_stopped old ≡ false → rxsc.counters_of r ≡ counters_after_verdict verdict (rxsc.counters_of old.rx)
+      → rxsc.channel_counters_of r ≡ counters_after_verdict_at (channel_of (rxsc.rx_side_of old.rx) frame) verdict (rxsc.channel_counters_of old.rx)
       → IsCall disk_of old (state.Receives frame) (Received (Ok verdict) out) (with_rx old r)
   received-call octets running counters channel_counters =
       let s = standing_in old.store in
@@ -527,7 +527,7 @@ module _ {D : Type 0} (disk_of : D → Disk) (old : EndpointValue D) (r : rxsc.R
         tx_counters = refl;
         rx_counters = counters;
         channel_counters = channel_counters
-            ∙ ap (λ (x : RxSide). with_verdict_at (channel_of x frame) verdict (rxsc.channel_counters_of old.rx)) kept.channels.rx_is;
+            ∙ ap (λ (x : RxSide). counters_after_verdict_at (channel_of x frame) verdict (rxsc.channel_counters_of old.rx)) kept.channels.rx_is;
       })
 
 pub receive-stopped : {D : Type 0} (disk_of : D → Disk) (old : EndpointValue D) (frame out : List ℕ) (fault : StoppedFault) → All (λ octet. octet < 2 ^ 8) frame

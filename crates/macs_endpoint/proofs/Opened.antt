@@ -21,11 +21,11 @@ use Rattle.macs_txsc.specs.Value as txsc
 use Rattle.macs_txsc.specs.declared.channel.Tx.{Tx}
 use Rattle.macs_rxsc.specs.Counting as receive
 use Rattle.macs_rxsc.specs.Counting.{no_channel_counts}
-use Rattle.macs_rxsc.specs.Receive.{AreOrdered, Numbers, RxSide, IsNumbered, has_channel, new_rx_side, first_numbers, under_window}
+use Rattle.macs_rxsc.specs.Receive.{AreOrdered, Numbers, RxSide, IsNumbered, has_channel, new_rx_side, first_numbers, numbers_under_window}
 use Rattle.macs_rxsc.specs.Value as rxsc
 use Rattle.macs_rxsc.specs.declared.counters.ChannelCounters.{ChannelCounters}
 use Rattle.macs_store.specs.Standing.{IsStanding, Standing}
-use Rattle.macs_endpoint.specs.Counting.{new_channels}
+use Rattle.macs_endpoint.specs.Counting.{new_channel_counters}
 use Rattle.macs_endpoint.specs.State.{rx_side_with, tx_side_with}
 use Rattle.macs_endpoint.proofs.Following.{with_rx, with_tx}
 
@@ -451,7 +451,7 @@ pub record IsRxOpened (s : Standing) (rx : rxsc.RxValue) (scis : List (List ℕ)
   pub side : rxsc.rx_side_of rx ≡ rx_opened s scis
   pub ceilings : rxsc.ceilings_of rx ≡ among scis s.ceilings.rx (λ an. None)
   pub counters : rxsc.counters_of rx ≡ receive.no_counts
-  pub channel_counters : rxsc.channel_counters_of rx ≡ new_channels scis
+  pub channel_counters : rxsc.channel_counters_of rx ≡ new_channel_counters scis
 
 module _ (s : Standing) (scis : List (List ℕ)) (i : ℕ) (sci : List ℕ) (is : IsNext scis i sci) (now : rxsc.RxValue)
     (so_far : IsRxOpened s now (take i scis)) where
@@ -526,15 +526,15 @@ module _ (s : Standing) (is : IsStanding s) (rx : rxsc.RxValue) (i : ℕ) (opene
       opened.ceilings ∙ ap (λ (scis : List (List ℕ)). among scis s.ceilings.rx (λ an. None)) all_are
       ∙ among-all s.ceilings.rx (λ an. None) s.config.channels (λ sci absent. fun_ext (λ an. no_ceiling sci an absent))
 
-  pub opened-channels : rxsc.channel_counters_of rx ≡ new_channels s.config.channels
-  opened-channels = opened.channel_counters ∙ ap new_channels all_are
+  pub opened-channels : rxsc.channel_counters_of rx ≡ new_channel_counters s.config.channels
+  opened-channels = opened.channel_counters ∙ ap new_channel_counters all_are
 
 -- no channel yet
 pub nothing-opened : (s : Standing) (first rx : rxsc.RxValue) → rxsc.rx_side_of first ≡ new_rx_side
     → rxsc.rx_side_of rx ≡ record (rxsc.rx_side_of first) {
       validate = s.config.validate;
       replay = s.config.replay;
-      numbers = λ sci an. option_map (under_window s.config.replay.window) ((rxsc.rx_side_of first).numbers sci an);
+      numbers = λ sci an. option_map (numbers_under_window s.config.replay.window) ((rxsc.rx_side_of first).numbers sci an);
     }
     → rxsc.ceilings_of first ≡ (λ sci an. None) → rxsc.ceilings_of rx ≡ rxsc.ceilings_of first
     → rxsc.counters_of first ≡ receive.no_counts → rxsc.counters_of rx ≡ rxsc.counters_of first
@@ -543,7 +543,7 @@ nothing-opened s first rx new set no_ceilings ceilings none_counted counters no_
     let policy = λ (r : RxSide). record r {
       validate = s.config.validate;
       replay = s.config.replay;
-      numbers = λ sci an. option_map (under_window s.config.replay.window) (r.numbers sci an);
+      numbers = λ sci an. option_map (numbers_under_window s.config.replay.window) (r.numbers sci an);
     } in
     record {
       side = set ∙ ap policy new;

@@ -16,7 +16,7 @@ use Rattle.macs_txsc.specs.Value as txsc
 use Rattle.macs_txsc.specs.declared.channel.Tx.{Tx}
 use Rattle.macs_rxsc.specs.Receive.{Numbers, RxSide}
 use Rattle.macs_rxsc.specs.Value as rxsc
-use Rattle.macs_store.specs.Found.{FindsEitherStanding}
+use Rattle.macs_store.specs.Found.{StandsForEither}
 use Rattle.macs_store.specs.Keeps.{Keeps}
 use Rattle.macs_store.specs.Value.{standing_in, used_slots}
 use Rattle.macs_store.specs.Value as store
@@ -25,7 +25,7 @@ use Rattle.macs_store.specs.Table.{standing_of}
 use Rattle.macs_endpoint.specs.Faults.{refill_fault_of}
 use Rattle.macs_endpoint.specs.Reserving.{FitsState, Reserves}
 use Rattle.macs_endpoint.specs.Restart.{Fits}
-use Rattle.macs_endpoint.specs.State.{Logs, State, after_fault, rx_side_with, tx_side_with}
+use Rattle.macs_endpoint.specs.State.{Logs, State, state_after_fault, rx_side_with, tx_side_with}
 use Rattle.macs_endpoint.specs.Value.{AreChannels, AreWithin, EndpointValue, IsBacked, IsSoundEndpoint, disk_in, is_stopped, state_of}
 use Rattle.macs_endpoint.specs.declared.fault.RefillFault.TheVariants as refill
 use Rattle.macs_endpoint.proofs.Commanding.{kept-held}
@@ -33,7 +33,7 @@ use Rattle.macs_endpoint.proofs.Fitting.{AreAhead, ahead-within, fits-ahead, kep
 
 -- an image that stands for either ceilings fits
 either_fits : (sectors : ℕ) (image : Image) → least_sectors ≤ sectors → (s : State) (c d : Ceilings) → AreAhead s.identity s.next s.numbers c
-    → AreAhead s.identity s.next s.numbers d → FindsEitherStanding (standing_with s c) (standing_with s d) image → Fits s.edition sectors image s
+    → AreAhead s.identity s.next s.numbers d → StandsForEither (standing_with s c) (standing_with s d) image → Fits s.edition sectors image s
 either_fits sectors image size s c d first second left = elim left [
   | inl before ↦ fits-ahead sectors image size s c first before
   | inr later ↦ fits-ahead sectors image size s d second later
@@ -49,7 +49,7 @@ module _ {D : Type 0} (disk_of : D → disk.Disk) (e : EndpointValue D) (kept : 
       → IsHonest (store.disk_in disk_of s) → IsBacked disk_of e → (logs : Logs)
       → Leaves (disk_in disk_of e) (store.disk_in disk_of s) (FitsState (state_of e logs) (disk_in disk_of e))
   raise_moments s result raises honest backed logs =
-      Leaves-weaker (disk_in disk_of e) (store.disk_in disk_of s) (FindsEitherStanding (standing_in e.store) raised_to)
+      Leaves-weaker (disk_in disk_of e) (store.disk_in disk_of s) (StandsForEither (standing_in e.store) raised_to)
       (FitsState (state_of e logs) (disk_in disk_of e))
       (λ image left. either_fits (disk_in disk_of e).sectors image backed.size (state_of e logs) (standing_in e.store).ceilings c (kept-ahead e kept) are left)
       (raises.any_moment honest (backed.stored running))
@@ -117,7 +117,7 @@ module _ {D : Type 0} (disk_of : D → disk.Disk) (e : EndpointValue D) (kept : 
     cut_reserves raises =
         let same : standing_in s ≡ standing_in e.store = ap standing_of (raises.halted refl).1 in
         let stopped : store.is_stopped s ≡ true = (raises.halted refl).0 in
-        let step : (logs : Logs) → state_of kept_in logs ≡ after_fault (state_of e logs) = λ logs. λ i. record {
+        let step : (logs : Logs) → state_of kept_in logs ≡ state_after_fault (state_of e logs) = λ logs. λ i. record {
           edition = this_edition;
           identity = (same i).identity;
           config = (same i).config;
@@ -140,8 +140,8 @@ module _ {D : Type 0} (disk_of : D → disk.Disk) (e : EndpointValue D) (kept : 
                 size = size;
                 stored = λ going. absurd cc;
                 fits = λ logs image left. subst (λ (x : State). Fits this_edition sectors image x) (sym (step logs))
-                    (either_fits sectors image size (after_fault (state_of e logs)) (standing_in e.store).ceilings c (kept-ahead e kept) are
-                    (Leaves-now (disk_in disk_of e) (store.disk_in disk_of s) (FindsEitherStanding (standing_in e.store) raised_to) leaves image left));
+                    (either_fits sectors image size (state_after_fault (state_of e logs)) (standing_in e.store).ceilings c (kept-ahead e kept) are
+                    (Leaves-now (disk_in disk_of e) (store.disk_in disk_of s) (StandsForEither (standing_in e.store) raised_to) leaves image left));
               };
           limited = tt;
           tx_counters = refl;

@@ -8,7 +8,7 @@ use Rattle.macs_disk.proofs.Moments.{FailsOnce-before, Leaves-join, Leaves-start
 use Rattle.macs_store.specs.Standing.{Standing}
 use Rattle.macs_store.specs.Value.{standing_in}
 use Rattle.macs_endpoint.specs.Calls.{Fails, IsCall}
-use Rattle.macs_endpoint.specs.Ceilings.{CeilingsAfter, IsRefilled, Raise, StandsRefilled, first_raise, with_raise}
+use Rattle.macs_endpoint.specs.Ceilings.{CeilingsAfter, IsRefilled, Raise, StandsRefilled, first_raise, standing_with_raise}
 use Rattle.macs_endpoint.specs.Limits.{IsLimited, IsStill}
 use Rattle.macs_endpoint.specs.Reserving.{FitsState, Reserves, raise_in}
 use Rattle.macs_endpoint.specs.Restart.{Fits, FitsCall}
@@ -138,14 +138,14 @@ module _ {D : Type 0} (disk_of : D → disk.Disk) where
 
     -- ---- one more is raised
 
-    pub turn-raised : (raise : Raise) → raise_in mid ≡ Some raise → standing_in new.store ≡ with_raise (standing_in mid.store) raise
+    pub turn-raised : (raise : Raise) → raise_in mid ≡ Some raise → standing_in new.store ≡ standing_with_raise (standing_in mid.store) raise
         → AreRaisedIn old new
     turn-raised raise first done =
         raises-more (tx_side (state_of old no_logs)) (rx_side (state_of old no_logs)) (standing_in old.store) (standing_in mid.store)
         (standing_in new.store) raise raised (first_before (Some raise) first) done
 
     pub turn-less : IsSoundEndpoint old → (raise : Raise) → raise_in mid ≡ Some raise
-        → Reserves disk_of mid (Ok tt) new → standing_in new.store ≡ with_raise (standing_in mid.store) raise
+        → Reserves disk_of mid (Ok tt) new → standing_in new.store ≡ standing_with_raise (standing_in mid.store) raise
         → left (tx_side (state_of new no_logs)) (rx_side (state_of new no_logs)) (standing_in new.store)
         < left (tx_side (state_of mid no_logs)) (rx_side (state_of mid no_logs)) (standing_in mid.store)
     turn-less kept raise first step done =

@@ -13,13 +13,13 @@ use Rattle.macs_config.specs.declared.command.Command.{Command}
 use Rattle.macs_config.specs.declared.command.Command.TheVariants.{SetValidate, SetReplay, SetSciMode, TxInstall, TxUse, TxRemove, RxAdd, RxDrop, RxInstall, RxRemove}
 use Rattle.macs_config.proofs.Tables.{put-here, put-other, put_all, put_at-other, put_at_all}
 use Rattle.macs_disk.specs.Disk.{Disk}
-use Rattle.macs_txsc.specs.Transmit.{Outgoing, TxSide, is_at_ceiling, is_used_up, outgoing_if, outgoing, outgoing_at, tx_faults}
+use Rattle.macs_txsc.specs.Transmit.{Outgoing, TxSide, is_at_ceiling, is_used_up, outgoing_with, next_outgoing, outgoing_at, tx_faults}
 use Rattle.macs_txsc.specs.Transmit as tx
 use Rattle.macs_txsc.specs.Value.{association_at, sa_of}
 use Rattle.macs_txsc.specs.declared.association.Association.{Association}
 use Rattle.macs_txsc.proofs.Needs.{tx-unneeded}
 use Rattle.macs_txsc.specs.declared.fault.TxFault.TheVariants.{NoNumber}
-use Rattle.macs_rxsc.specs.Needs.{is_needed, need_of, needs_of}
+use Rattle.macs_rxsc.specs.Needs.{is_needed, need_of, first_need_of}
 use Rattle.macs_rxsc.specs.Receive.{Arrival, Arrives, Numbers, RxSide, has_channel, is_below}
 use Rattle.macs_rxsc.specs.declared.verdict.Verdict.TheVariants.{HeldBack}
 use Rattle.macs_rxsc.proofs.Left.{no-needs}
@@ -28,13 +28,14 @@ use Rattle.macs_rxsc.proofs.Needs.{among-numbered}
 use Rattle.macs_rxsc.proofs.Steps.{arrives_once}
 use Rattle.macs_rxsc.proofs.Told.{asked}
 use Rattle.macs_store.specs.Value.{standing_in}
-use Rattle.macs_store.specs.Standing.{Ceilings, Standing, ahead, ceilings_after}
+use Rattle.macs_config.specs.Numbers.{block_beyond}
+use Rattle.macs_store.specs.Standing.{Ceilings, Standing, ceilings_after}
 use Rattle.macs_store.specs.declared.fault.CommitFault.TheVariants as commit
 use Rattle.macs_endpoint.specs.Calls.{IsCall}
-use Rattle.macs_endpoint.specs.Ceilings.{CeilingsAfter, Raise, RaiseRx, RaiseTx, first_raise, with_raise}
+use Rattle.macs_endpoint.specs.Ceilings.{CeilingsAfter, Raise, RaiseRx, RaiseTx, first_raise, standing_with_raise}
 use Rattle.macs_endpoint.specs.Value.{IsSoundEndpoint, IsRxWithin, IsTxWithin, EndpointValue, state_of}
 use Rattle.macs_endpoint.specs.Lives.{Lives, Turn}
-use Rattle.macs_endpoint.specs.Rooms.{HasRoom, IsBelow, IsEncoding, RxStays, SparesRx, SparesTx, TxStays, one_if, frames_sent}
+use Rattle.macs_endpoint.specs.Rooms.{HasRoom, IsBelow, IsEncodingAn, RxStays, SparesRx, SparesTx, TxStays, frames_in_reply, frames_sent}
 use Rattle.macs_endpoint.specs.State.{Call, Commands, Protects, Protected, Ran, Received, Receives, Refilled, Refills, Reply, State, command_made, no_logs, rx_side, tx_side}
 use Rattle.macs_endpoint.specs.Step.{Step, next_after}
 use Rattle.macs_endpoint.specs.declared.fault.ProtectFault.TheVariants as protect
@@ -92,7 +93,7 @@ covers_one count used pn (Some ceiling) (inl below) = inl (omega (arith, below))
 covers_one count used pn (Some ceiling) (inr all) = inr all
 
 -- a ceiling is raised
-covers_raised : (count used block : ℕ) (n c : Option ℕ) → Covers count used n c → Covers count used n (option_map (λ ceiling. ahead ceiling block) c)
+covers_raised : (count used block : ℕ) (n c : Option ℕ) → Covers count used n c → Covers count used n (option_map (λ ceiling. block_beyond ceiling block) c)
 covers_raised count used block None None covers = absurd covers
 covers_raised count used block None (Some ceiling) covers = absurd covers
 covers_raised count used block (Some next) None covers = absurd covers
@@ -103,10 +104,10 @@ covers_raised count used block (Some next) (Some ceiling) (inl below) = elim (ca
 covers_raised count used block (Some next) (Some ceiling) (inr all) = inr (omega (arith, all))
 
 covers_raise : (count used an : ℕ) (n : Option ℕ) (s : Standing) (raise : Raise) → Covers count used n (s.ceilings.tx an)
-    → Covers count used n ((with_raise s raise).ceilings.tx an)
+    → Covers count used n ((standing_with_raise s raise).ceilings.tx an)
 covers_raise count used an n s (RaiseTx at) covers =
     let block = s.identity.tx_block in
-    put_all (λ (c : Option ℕ). Covers count used n c) s.ceilings.tx at (option_map (λ ceiling. ahead ceiling block) (s.ceilings.tx at)) an
+    put_all (λ (c : Option ℕ). Covers count used n c) s.ceilings.tx at (option_map (λ ceiling. block_beyond ceiling block) (s.ceilings.tx at)) an
     (λ same. covers_raised count used block n (s.ceilings.tx at) (subst (λ (k : ℕ). Covers count used n (s.ceilings.tx k)) same covers))
     (λ differ. covers)
 covers_raise count used an n s (RaiseRx need) covers = covers
@@ -125,7 +126,7 @@ covers_command count used an identity (SetValidate validate) done next c keeps c
 covers_command count used an identity (SetReplay on window) done next c keeps covers = covers
 covers_command count used an identity (SetSciMode mode) done next c keeps covers = covers
 covers_command count used an identity (TxInstall at key start confidential offset) done next c keeps covers =
-    covers_put count used an at next c.tx (Some start) (Some (ahead start identity.tx_block)) keeps covers
+    covers_put count used an at next c.tx (Some start) (Some (block_beyond start identity.tx_block)) keeps covers
 covers_command count used an identity (TxUse at) done next c keeps covers = covers
 covers_command count used an identity (TxRemove at) done next c keeps covers = covers_put count used an at next c.tx None None keeps covers
 covers_command count used an identity (RxAdd sci) done next c keeps covers = covers
@@ -134,7 +135,7 @@ covers_command count used an identity (RxInstall sci at key start offset) done n
 covers_command count used an identity (RxRemove sci at) done next c keeps covers = covers
 
 -- what goes out does so under the association that is chosen, with its next number
-outgoing_numbered : (an : ℕ) (sa : Option TxSa) (n : Option ℕ) (o : Outgoing) → outgoing_if an sa n ≡ Some o → (o.an ≡ an) × (n ≡ Some o.pn)
+outgoing_numbered : (an : ℕ) (sa : Option TxSa) (n : Option ℕ) (o : Outgoing) → outgoing_with an sa n ≡ Some o → (o.an ≡ an) × (n ≡ Some o.pn)
 outgoing_numbered an None n o is = absurd cc
 outgoing_numbered an (Some sa) None o is = absurd cc
 outgoing_numbered an (Some sa) (Some pn) o is =
@@ -142,7 +143,7 @@ outgoing_numbered an (Some sa) (Some pn) o is =
     (sym (ap (λ (x : Outgoing). x.an) same), ap (λ (x : Outgoing). Some x.pn) same)
 
 covers_sent_by : (count used an encoding pn : ℕ) (o : Outgoing) (next : ℕ → Option ℕ) (c : Option ℕ) (out : List ℕ) → o.an ≡ encoding → next encoding ≡ Some o.pn
-    → Covers count used (next an) c → Covers count (used + one_if (Some encoding) an (Protected (Ok pn) out)) (put next o.an (Some (o.pn + 1)) an) c
+    → Covers count used (next an) c → Covers count (used + frames_in_reply (Some encoding) an (Protected (Ok pn) out)) (put next o.an (Some (o.pn + 1)) an) c
 covers_sent_by count used an encoding pn o next c out is_an is_next covers =
     put_all (λ (x : Option ℕ). Covers count (used + cond (encoding == an) 1 0) x c) next o.an (Some (o.pn + 1)) an
     (λ same.
@@ -153,7 +154,7 @@ covers_sent_by count used an encoding pn o next c out is_an is_next covers =
     (λ differ. covers_more count used (cond (encoding == an) 1 0) (next an) c covers)
 
 covers_sent : (count used an pn : ℕ) (side : TxSide) (encoding : Option ℕ) (o : Outgoing) (c : Option ℕ) (out : List ℕ) → outgoing_at side encoding ≡ Some o
-    → Covers count used (side.next an) c → Covers count (used + one_if encoding an (Protected (Ok pn) out)) (put side.next o.an (Some (o.pn + 1)) an) c
+    → Covers count used (side.next an) c → Covers count (used + frames_in_reply encoding an (Protected (Ok pn) out)) (put side.next o.an (Some (o.pn + 1)) an) c
 covers_sent count used an pn side None o c out is covers = absurd cc
 covers_sent count used an pn side (Some encoding) o c out is covers =
     let parts = outgoing_numbered encoding (side.tx encoding) (side.next encoding) o is in
@@ -189,23 +190,23 @@ module _ (count used an : ℕ) (s t : State) (f g : Standing) where
   -- through a call
   covers_step : (call : Call) (reply : Reply) → Step s call reply t → CeilingsAfter s f call reply g → SparesTx an (command_made s call reply)
       → Covers count used (s.next an) (f.ceilings.tx an)
-      → Covers count (used + one_if s.config.encoding an reply) (t.next an) (g.ceilings.tx an)
+      → Covers count (used + frames_in_reply s.config.encoding an reply) (t.next an) (g.ceilings.tx an)
   covers_step (Commands command) (Ran (Ok done)) (inl step) stands keeps covers = absurd step.1
   covers_step (Commands command) (Ran (Ok done)) (inr step) stands keeps covers =
       let parts = accept-parts f command g stands in
-      let extra = one_if s.config.encoding an (Ran (Ok done)) in
+      let extra = frames_in_reply s.config.encoding an (Ran (Ok done)) in
       let next = next_after command s.next in
       let c = ceilings_after f.identity command f.ceilings in
       covers_moved (used + extra) next c.tx (ap next_of step.1.2) (ap (λ (x : Standing). x.ceilings.tx) parts.2)
       (covers_more count used extra (next an) (c.tx an) (covers_command count used an f.identity command done s.next f.ceilings keeps covers))
   covers_step (Commands command) (Ran (Err fault)) (inl step) stands keeps covers =
-      covers_stay (one_if s.config.encoding an (Ran (Err fault))) (ap next_of step.2) stands covers
+      covers_stay (frames_in_reply s.config.encoding an (Ran (Err fault))) (ap next_of step.2) stands covers
   covers_step (Commands command) (Ran (Err (commit.Refused refusal))) (inr step) stands keeps covers =
-      covers_stay (one_if s.config.encoding an (Ran (Err (commit.Refused refusal)))) (ap next_of step.1.1) stands covers
+      covers_stay (frames_in_reply s.config.encoding an (Ran (Err (commit.Refused refusal)))) (ap next_of step.1.1) stands covers
   covers_step (Commands command) (Ran (Err commit.AreaFull)) (inr step) stands keeps covers =
-      covers_stay (one_if s.config.encoding an (Ran (Err commit.AreaFull))) (ap next_of step.1.1) stands covers
+      covers_stay (frames_in_reply s.config.encoding an (Ran (Err commit.AreaFull))) (ap next_of step.1.1) stands covers
   covers_step (Commands command) (Ran (Err commit.Disk)) (inr step) stands keeps covers =
-      covers_stay (one_if s.config.encoding an (Ran (Err commit.Disk))) (ap next_of step.1.1) stands covers
+      covers_stay (frames_in_reply s.config.encoding an (Ran (Err commit.Disk))) (ap next_of step.1.1) stands covers
   covers_step (Commands command) (Ran (Err commit.Stopped)) (inr step) stands keeps covers = absurd step.1
   covers_step (Commands command) (Refilled result) (inl step) stands keeps covers = absurd step.1
   covers_step (Commands command) (Refilled result) (inr step) stands keeps covers = absurd step.1
@@ -217,16 +218,16 @@ module _ (count used an : ℕ) (s t : State) (f g : Standing) where
   covers_step Refills (Ran result) (inr step) stands keeps covers = absurd step.1
   covers_step Refills (Refilled (Ok done)) (inl step) stands keeps covers = absurd step.1
   covers_step Refills (Refilled (Ok done)) (inr step) stands keeps covers =
-      covers_next (one_if s.config.encoding an (Refilled (Ok done))) (ap next_of step.1) (covers_refilled (stands.raises, stands.raised) covers)
+      covers_next (frames_in_reply s.config.encoding an (Refilled (Ok done))) (ap next_of step.1) (covers_refilled (stands.raises, stands.raised) covers)
   covers_step Refills (Refilled (Err refill.Stopped)) (inl step) stands keeps covers =
-      covers_stay (one_if s.config.encoding an (Refilled (Err refill.Stopped))) (ap next_of step.2) stands covers
+      covers_stay (frames_in_reply s.config.encoding an (Refilled (Err refill.Stopped))) (ap next_of step.2) stands covers
   covers_step Refills (Refilled (Err refill.AreaFull)) (inl step) stands keeps covers = absurd step.1
   covers_step Refills (Refilled (Err refill.Disk)) (inl step) stands keeps covers = absurd step.1
   covers_step Refills (Refilled (Err refill.AreaFull)) (inr step) stands keeps covers =
-      covers_next (one_if s.config.encoding an (Refilled (Err refill.AreaFull))) (ap next_of step.1)
+      covers_next (frames_in_reply s.config.encoding an (Refilled (Err refill.AreaFull))) (ap next_of step.1)
       (covers_refilled (stands.1.raises, stands.1.raised) covers)
   covers_step Refills (Refilled (Err refill.Disk)) (inr step) stands keeps covers =
-      covers_next (one_if s.config.encoding an (Refilled (Err refill.Disk))) (ap next_of step.1)
+      covers_next (frames_in_reply s.config.encoding an (Refilled (Err refill.Disk))) (ap next_of step.1)
       (covers_refilled (stands.1.raises, stands.1.raised) covers)
   covers_step Refills (Refilled (Err refill.Stopped)) (inr step) stands keeps covers = absurd step.1
   covers_step Refills (Protected result out) (inl step) stands keeps covers = absurd step.1
@@ -241,14 +242,14 @@ module _ (count used an : ℕ) (s t : State) (f g : Standing) where
   covers_step (Protects plain) (Protected (Ok pn) out) (inr step) stands keeps covers =
       let went = step.1.1 in
       let o = went.0 in
-      covers_moved (used + one_if s.config.encoding an (Protected (Ok pn) out)) (put s.next o.an (Some (o.pn + 1))) f.ceilings.tx
+      covers_moved (used + frames_in_reply s.config.encoding an (Protected (Ok pn) out)) (put s.next o.an (Some (o.pn + 1))) f.ceilings.tx
       (ap next_of went.4) (ap (λ (x : Standing). x.ceilings.tx) stands)
       (covers_sent count used an pn (tx_side s) s.config.encoding o (f.ceilings.tx an) out went.1 covers)
   covers_step (Protects plain) (Protected (Err (protect.Tx fault)) out) (inl step) stands keeps covers = absurd step.1
   covers_step (Protects plain) (Protected (Err (protect.Tx fault)) out) (inr step) stands keeps covers =
-      covers_stay (one_if s.config.encoding an (Protected (Err (protect.Tx fault)) out)) (ap next_of step.1.2) stands covers
+      covers_stay (frames_in_reply s.config.encoding an (Protected (Err (protect.Tx fault)) out)) (ap next_of step.1.2) stands covers
   covers_step (Protects plain) (Protected (Err protect.Stopped) out) (inl step) stands keeps covers =
-      covers_stay (one_if s.config.encoding an (Protected (Err protect.Stopped) out)) (ap next_of step.2) stands covers
+      covers_stay (frames_in_reply s.config.encoding an (Protected (Err protect.Stopped) out)) (ap next_of step.2) stands covers
   covers_step (Protects plain) (Protected (Err protect.Stopped) out) (inr step) stands keeps covers = absurd step.1
   covers_step (Protects plain) (Received result out) (inl step) stands keeps covers = absurd step.1
   covers_step (Protects plain) (Received result out) (inr step) stands keeps covers = absurd step.1
@@ -259,9 +260,9 @@ module _ (count used an : ℕ) (s t : State) (f g : Standing) where
   covers_step (Receives frame) (Protected result out) (inl step) stands keeps covers = absurd step.1
   covers_step (Receives frame) (Protected result out) (inr step) stands keeps covers = absurd step.1
   covers_step (Receives frame) (Received result out) (inl step) stands keeps covers =
-      covers_stay (one_if s.config.encoding an (Received result out)) (ap next_of step.2) stands covers
+      covers_stay (frames_in_reply s.config.encoding an (Received result out)) (ap next_of step.2) stands covers
   covers_step (Receives frame) (Received (Ok verdict) out) (inr step) stands keeps covers =
-      covers_stay (one_if s.config.encoding an (Received (Ok verdict) out)) (elim step.1 [
+      covers_stay (frames_in_reply s.config.encoding an (Received (Ok verdict) out)) (elim step.1 [
         | inl settles ↦ ap next_of settles.4
         | inr arrives ↦ elim arrives.2 [ inl held ↦ ap next_of held.3 | inr taken ↦ ap next_of taken.2 ]
       ]) stands covers
@@ -296,14 +297,14 @@ under_higher None pn top under higher = absurd under
 under_higher (Some ceiling) pn top under higher = omega (arith, under, higher)
 
 under_raise : (sci : List ℕ) (an pn : ℕ) (tx_side : TxSide) (rx_side : RxSide) (s : Standing) (raise : Raise)
-    → first_raise s tx_side rx_side ≡ Some raise → IsUnder (s.ceilings.rx sci an) pn → IsUnder ((with_raise s raise).ceilings.rx sci an) pn
+    → first_raise s tx_side rx_side ≡ Some raise → IsUnder (s.ceilings.rx sci an) pn → IsUnder ((standing_with_raise s raise).ceilings.rx sci an) pn
 under_raise sci an pn tx_side rx_side s (RaiseTx at) first under = under
 under_raise sci an pn tx_side rx_side s (RaiseRx need) first under =
     let block = s.identity.rx_block in
     let c = s.ceilings.rx in
-    let is = rx-first (tx.need_of tx_side s.ceilings.tx s.identity.tx_block) (needs_of rx_side c block) need first in
+    let is = rx-first (tx.need_of tx_side s.ceilings.tx s.identity.tx_block) (first_need_of rx_side c block) need first in
     let higher = asked rx_side c block need is.1 in
-    let top = ahead need.pn block in
+    let top = block_beyond need.pn block in
     put_at_all (λ (row : ℕ → Option ℕ). IsUnder (row an) pn) c need.sci (put (c need.sci) need.an (Some top)) sci
     (λ same. put_all (λ (o : Option ℕ). IsUnder o pn) (c need.sci) need.an (Some top) an
     (λ same_an. under_higher (c need.sci need.an) pn top
@@ -401,8 +402,8 @@ module _ {D : Type 0} (disk_of : D → Disk) where
         | inr ran ↦ ap (λ (x : State). rx_side x) ran.1
       ] in
       let parts = no-first (tx.need_of (tx_side (state_of old no_logs)) s.ceilings.tx s.identity.tx_block)
-      (needs_of (rx_side (state_of old no_logs)) s.ceilings.rx block) call.behaves.ceilings.is_next in
-      let no_need : needs_of rx s.ceilings.rx block ≡ None = ap (λ (x : RxSide). needs_of x s.ceilings.rx block) same ∙ parts.1 in
+      (first_need_of (rx_side (state_of old no_logs)) s.ceilings.rx block) call.behaves.ceilings.is_next in
+      let no_need : first_need_of rx s.ceilings.rx block ≡ None = ap (λ (x : RxSide). first_need_of x s.ceilings.rx block) same ∙ parts.1 in
       let channels : (sci : List ℕ) (an : ℕ) → IsSome (rx.numbers sci an) → has_channel rx sci ≡ true = λ sci an some.
       subst (λ (x : RxSide). has_channel x sci ≡ true) kept.channels.rx_is (among-numbered new.rx.channels sci an some) in
       let none : need_of block sci an (Some numbers) c ≡ None = ap (λ (n : Option Numbers). need_of block sci an n c) (sym are)
@@ -431,7 +432,7 @@ module _ {D : Type 0} (disk_of : D → Disk) where
       subst (λ (e : EndpointValue D). Covers count (used + 0) ((state_of e no_logs).next an) ((standing_in e.store).ceilings.tx an)) (sym lives)
       (covers_more count used 0 ((state_of old no_logs).next an) ((standing_in old.store).ceilings.tx an) covers)
   covers_lives count an (turn ∷ turns) used old new lives stays covers =
-      let one = one_if (standing_in old.store).config.encoding an turn.reply in
+      let one = frames_in_reply (standing_in old.store).config.encoding an turn.reply in
       let rest = frames_sent an turn.after turns in
       let ended = lives.1.behaves.step no_logs in
       let here : Covers count (used + one) ((state_of turn.after no_logs).next an) ((standing_in turn.after.store).ceilings.tx an) =
@@ -483,12 +484,12 @@ module _ {D : Type 0} (disk_of : D → Disk) where
         | inl stopped ↦ absurd stopped.1
         | inr ran ↦ ap (λ (x : State). x.next an) ran.1.2 ∙ put-here (state_of old no_logs).next an (Some start)
       ] in
-      let is_ceiling : (standing_in new.store).ceilings.tx an ≡ Some (ahead start block) =
-      ap (λ (x : Standing). x.ceilings.tx an) parts.2 ∙ put-here before.ceilings.tx an (Some (ahead start before.identity.tx_block))
-      ∙ ap (λ (i : Identity). Some (ahead start i.tx_block)) (sym kept) in
+      let is_ceiling : (standing_in new.store).ceilings.tx an ≡ Some (block_beyond start block) =
+      ap (λ (x : Standing). x.ceilings.tx an) parts.2 ∙ put-here before.ceilings.tx an (Some (block_beyond start before.identity.tx_block))
+      ∙ ap (λ (i : Identity). Some (block_beyond start i.tx_block)) (sym kept) in
       record {
         next = start;
-        ceiling = ahead start block;
+        ceiling = block_beyond start block;
         is_next = is_next;
         is_ceiling = is_ceiling;
         room = elim (cases_lt (start + block) (2 ^ 32)) [
@@ -517,7 +518,7 @@ module _ {D : Type 0} (disk_of : D → Disk) where
     | inr over ↦ inr (omega (arith, over, bounded))
   ]
 
-  pub room-refilled : (old new : EndpointValue D) (an : ℕ) → IsSoundEndpoint old → IsCall disk_of old Refills (Refilled (Ok tt)) new → IsEncoding new an
+  pub room-refilled : (old new : EndpointValue D) (an : ℕ) → IsSoundEndpoint old → IsCall disk_of old Refills (Refilled (Ok tt)) new → IsEncodingAn new an
       → HasRoom new an ((standing_in new.store).identity.tx_block / 2 + 1)
   room-refilled old new an kept call encodes =
       let before = standing_in old.store in
@@ -538,12 +539,12 @@ module _ {D : Type 0} (disk_of : D → Disk) where
       let is_sa : side.tx an ≡ Some (sa_of one) =
       sym (ap (λ (x : TxSide). x.tx an) kept.channels.tx_is) ∙ ap (option_map sa_of) found.1 in
       let chosen : side.encoding ≡ Some an = sym (ap (λ (x : Config). x.encoding) same_config) ∙ encodes.0 in
-      let goes : outgoing side ≡ outgoing_if an (Some (sa_of one)) (Some one.next) =
-      ap (outgoing_at side) chosen ∙ (λ i. outgoing_if an (is_sa i) (is_next i)) in
+      let goes : next_outgoing side ≡ outgoing_with an (Some (sa_of one)) (Some one.next) =
+      ap (outgoing_at side) chosen ∙ (λ i. outgoing_with an (is_sa i) (is_next i)) in
       let are = raises-ahead side receives before after refilled.raises refilled.raised (kept-ahead old kept) in
       let ceiling = ceiling_of block one.next (after.ceilings.tx an)
       (subst (λ (x : Option ℕ). IsTxWithin block x (after.ceilings.tx an)) is_next (are.tx_ahead an)) in
-      let none = no-first (tx.need_of side after.ceilings.tx block) (needs_of receives after.ceilings.rx after.identity.rx_block) refilled.is_next in
+      let none = no-first (tx.need_of side after.ceilings.tx block) (first_need_of receives after.ceilings.rx after.identity.rx_block) refilled.is_next in
       record {
         next = one.next;
         ceiling = ceiling.0;
@@ -556,8 +557,8 @@ module _ {D : Type 0} (disk_of : D → Disk) where
   -- ---- where no number is left
 
   numbers_left : (an next ceiling count : ℕ) (sa : Option TxSa) (ceilings : ℕ → Option ℕ) → ceilings an ≡ Some ceiling
-      → (next + count ≤ ceiling) ⊎ (ceiling ≡ 2 ^ 32) → 1 ≤ count → is_at_ceiling ceilings (outgoing_if an sa (Some next)) ≡ true
-      → is_used_up (outgoing_if an sa (Some next)) ≡ false → ⊥
+      → (next + count ≤ ceiling) ⊎ (ceiling ≡ 2 ^ 32) → 1 ≤ count → is_at_ceiling ceilings (outgoing_with an sa (Some next)) ≡ true
+      → is_used_up (outgoing_with an sa (Some next)) ≡ false → ⊥
   numbers_left an next ceiling count None ceilings is_ceiling room least at unused = cc
   numbers_left an next ceiling count (Some sa) ceilings is_ceiling room least at unused =
       let reached : (ceiling == next) ≡ true = ap (λ (c : Option ℕ). option_map_or (λ x. x == next) c false) (sym is_ceiling) ∙ at in
@@ -567,20 +568,20 @@ module _ {D : Type 0} (disk_of : D → Disk) where
         | inr all ↦ (let last = eq-eqb next (2 ^ 32) (omega (arith, same, all)) in cc)
       ]
 
-  pub room-numbered : (old new : EndpointValue D) (an count : ℕ) (plain out : List ℕ) → IsEncoding old an → HasRoom old an count → 1 ≤ count
+  pub room-numbered : (old new : EndpointValue D) (an count : ℕ) (plain out : List ℕ) → IsEncodingAn old an → HasRoom old an count → 1 ≤ count
       → IsCall disk_of old (Protects plain) (Protected (Err (protect.Tx NoNumber)) out) new → ⊥
   room-numbered old new an count plain out encodes room least call =
       let side = tx_side (state_of old no_logs) in
       let c = (standing_in old.store).ceilings.tx in
-      let goes : outgoing side ≡ outgoing_if an (side.tx an) (Some room.next) =
-      ap (outgoing_at side) encodes.0 ∙ ap (outgoing_if an (side.tx an)) room.is_next in
+      let goes : next_outgoing side ≡ outgoing_with an (side.tx an) (Some room.next) =
+      ap (outgoing_at side) encodes.0 ∙ ap (outgoing_with an (side.tx an)) room.is_next in
       let ended = call.behaves.step no_logs in
       elim ended.1 [
         | inl stopped ↦ stopped.1
         | inr ran ↦ elim ran.1.0 [
           | inl is ↦ five_others _ _ _ _ _ is
           | inr none ↦
-              let unused : is_used_up (outgoing side) ≡ false = not_exhausted _ _ _ _ _ none.0 in
+              let unused : is_used_up (next_outgoing side) ≡ false = not_exhausted _ _ _ _ _ none.0 in
               numbers_left an room.next room.ceiling count (side.tx an) c room.is_ceiling room.room least
               (subst (λ (o : Option Outgoing). is_at_ceiling c o ≡ true) goes call.behaves.limited)
               (subst (λ (o : Option Outgoing). is_used_up o ≡ false) goes unused)

@@ -7,7 +7,7 @@ use Rattle.macs_config.specs.declared.command.Command.{Command}
 use Rattle.macs_config.specs.declared.command.Command.TheVariants.{SetValidate, SetReplay, SetSciMode, TxInstall, TxUse, TxRemove, RxAdd, RxDrop, RxInstall, RxRemove}
 use Rattle.macs_config.proofs.Tables.{put-other, put_all, put_at-other, put_at_all, put_rx-here}
 use Rattle.macs_disk.specs.Disk.{Disk}
-use Rattle.macs_rxsc.specs.Receive.{Arrival, Arrives, Holds, Numbers, after_delivery, after_hold, put_numbers, seen_after, first_numbers, rx_steps, under_window}
+use Rattle.macs_rxsc.specs.Receive.{Arrival, Arrives, RxStepHolds, Numbers, numbers_after_delivery, numbers_after_hold, put_numbers, seen_after, first_numbers, rx_steps, numbers_under_window}
 use Rattle.macs_rxsc.specs.declared.verdict.Verdict.TheVariants.{HeldBack}
 use Rattle.macs_rxsc.proofs.Steps.{arrives_once}
 use Rattle.macs_store.specs.declared.fault.CommitFault.TheVariants as commit
@@ -38,7 +38,7 @@ reached-still : (seen : Option ℕ) (pn other : ℕ) → IsReached seen pn → I
 reached-still None pn other reached = absurd reached
 reached-still (Some seen) pn other reached = omega (arith, reached)
 
-seen-windowed : (window : ℕ) (numbers : Option Numbers) (pn : ℕ) → HasSeen numbers pn → HasSeen (option_map (under_window window) numbers) pn
+seen-windowed : (window : ℕ) (numbers : Option Numbers) (pn : ℕ) → HasSeen numbers pn → HasSeen (option_map (numbers_under_window window) numbers) pn
 seen-windowed window None pn seen = absurd seen
 seen-windowed window (Some numbers) pn seen = seen
 
@@ -158,8 +158,8 @@ module _ (sci : List ℕ) (an pn : ℕ) where
       | inr arrives ↦
           let a = arrives.0 in
           elim arrives.2 [
-            | inl back ↦ seen-arrived a (after_hold a.numbers a.pn) arrives.1.are_numbers refl (ap numbers_in back.3) seen
-            | inr kept ↦ seen-arrived a (after_delivery s.config.replay.window a.numbers a.pn) arrives.1.are_numbers refl (ap numbers_in kept.2) seen
+            | inl back ↦ seen-arrived a (numbers_after_hold a.numbers a.pn) arrives.1.are_numbers refl (ap numbers_in back.3) seen
+            | inr kept ↦ seen-arrived a (numbers_after_delivery s.config.replay.window a.numbers a.pn) arrives.1.are_numbers refl (ap numbers_in kept.2) seen
           ]
     ]
     seen-step (Receives frame) (Received (Err stopped) out) (inr step) spares seen = absurd step.1
@@ -199,15 +199,15 @@ module _ {D : Type 0} (disk_of : D → Disk) where
       elim ended.1 [
         | inl stopped ↦ absurd stopped.1
         | inr ran ↦ elim ran.1 [
-          | inl settles ↦ absurd (none-first (Holds side frame) rx_steps settles.0 arrives.unsettled settles.1)
+          | inl settles ↦ absurd (none-first (RxStepHolds side frame) rx_steps settles.0 arrives.unsettled settles.1)
           | inr arrived ↦
               let same : arrived.0 ≡ a = arrives_once side frame arrived.0 a arrived.1 arrives in
               let arriving : ArriveStep s a HeldBack out t = subst (λ (x : Arrival). ArriveStep s x HeldBack out t) same arrived.2 in
               elim arriving [
                 | inl back ↦
-                    let is : t.numbers ≡ put_numbers s.numbers a.sci a.an (Some (after_hold a.numbers a.pn)) = ap (λ (x : State). x.numbers) back.3 in
+                    let is : t.numbers ≡ put_numbers s.numbers a.sci a.an (Some (numbers_after_hold a.numbers a.pn)) = ap (λ (x : State). x.numbers) back.3 in
                     subst (λ (f : List ℕ → ℕ → Option Numbers). HasSeen (f a.sci a.an) a.pn) (sym is)
-                    (subst (λ (n : Option Numbers). HasSeen n a.pn) (sym (here_now s.numbers a.sci a.an (Some (after_hold a.numbers a.pn))))
+                    (subst (λ (n : Option Numbers). HasSeen n a.pn) (sym (here_now s.numbers a.sci a.an (Some (numbers_after_hold a.numbers a.pn))))
                     (reached-now a.numbers.seen a.pn))
                 | inr kept ↦ absurd (let differ = kept.0 in cc)
               ]

@@ -10,10 +10,10 @@ use Rattle.macs_disk.specs.States.{Image, IsImage}
 use Rattle.macs_disk.proofs.Moments.{Left-before}
 use Rattle.macs_endpoint.specs.Calls.{IsCall}
 use Rattle.macs_endpoint.specs.Value.{EndpointValue, IsBacked, IsSoundEndpoint, disk_in, is_stopped, state_of}
-use Rattle.macs_endpoint.specs.Lives.{FitsLife, LeavesLife, Lives, Turn, event_of}
+use Rattle.macs_endpoint.specs.Lives.{FitsLife, LeavesLife, Lives, Turn, exchange_of}
 use Rattle.macs_endpoint.specs.Restart.{Fits, FitsCall, state_during}
-use Rattle.macs_endpoint.specs.Serving.{Ends, IsServed, Takes, Told, call_of, halts, reply_of}
-use Rattle.macs_endpoint.specs.State.{Call, Commands, Logs, Protects, Receives, Refills, Reply, State, with_in_hand, no_logs}
+use Rattle.macs_endpoint.specs.Serving.{Ends, IsServed, Takes, Told, call_of, is_halt, reply_of}
+use Rattle.macs_endpoint.specs.State.{Call, Commands, Logs, Protects, Receives, Refills, Reply, State, state_with_in_hand, no_logs}
 use Rattle.macs_endpoint.specs.Step.{Steps, Step}
 use Rattle.macs_endpoint.specs.declared.event.Answer.{Answer}
 use Rattle.macs_endpoint.specs.declared.event.Event.{Event}
@@ -25,7 +25,7 @@ use Rattle.macs_endpoint.specs.declared.event.ServeEnd.TheVariants.{Ended, Halte
 -- no device call failed
 abbrev pub AllGo : List Reply → Type 0
 AllGo [] = Unit {0}
-AllGo (reply ∷ replies) = (halts reply ≡ false) × AllGo replies
+AllGo (reply ∷ replies) = (is_halt reply ≡ false) × AllGo replies
 
 pub ends-ended : (replies : List Reply) → AllGo replies → Ends replies Ended
 ends-ended [] go = tt
@@ -37,7 +37,7 @@ ends-spent [] go = tt
 ends-spent (reply ∷ []) go = (go.0, tt)
 ends-spent (reply ∷ other ∷ others) go = (go.0, ends-spent (other ∷ others) go.1)
 
-ends_last : (replies : List Reply) (reply : Reply) → AllGo replies → halts reply ≡ true → Ends (replies ++ reply ∷ []) Halted
+ends_last : (replies : List Reply) (reply : Reply) → AllGo replies → is_halt reply ≡ true → Ends (replies ++ reply ∷ []) Halted
 ends_last [] reply go halt = halt
 ends_last (first ∷ []) reply go halt = (go.0, halt)
 ends_last (first ∷ other ∷ others) reply go halt = (go.0, ends_last (other ∷ others) reply go.1 halt)
@@ -46,7 +46,7 @@ ends_last (first ∷ other ∷ others) reply go halt = (go.0, ends_last (other �
 
 -- nothing was in hand before a command
 fits_holding : (edition : Edition) (sectors : ℕ) (image : Image) (s : State) (command : Command) → s.in_hand ≡ None → Fits edition sectors image s
-    → Fits edition sectors image (with_in_hand s command)
+    → Fits edition sectors image (state_with_in_hand s command)
 fits_holding edition sectors image s command idle fits = record {
   found = fits.found;
   is_found = fits.is_found;
@@ -73,7 +73,7 @@ held_or_not P false false x y this other = other
 fits_during : (edition : Edition) (sectors : ℕ) (image : Image) (s : State) (call : Call) → (s.stopped ≡ false → s.in_hand ≡ None) → Fits edition sectors image s
     → Fits edition sectors image (state_during s call)
 fits_during edition sectors image s (Commands command) idle fits =
-    held_or_not (Fits edition sectors image) s.stopped (is_ok (apply s.edition s.identity s.config command)) (with_in_hand s command) s
+    held_or_not (Fits edition sectors image) s.stopped (is_ok (apply s.edition s.identity s.config command)) (state_with_in_hand s command) s
     (λ running. fits_holding edition sectors image s command (idle running) fits) fits
 fits_during edition sectors image s Refills idle fits = fits
 fits_during edition sectors image s (Protects plain) idle fits = fits
@@ -93,12 +93,12 @@ module _ {D : Type 0} (disk_of : D → Disk) (turn : Turn D) where
       (subst (λ (e : EndpointValue D). IsSoundEndpoint e) lives kept, subst (λ (e : EndpointValue D). IsCall disk_of e turn.call turn.reply turn.after) lives call, refl)
   lives_more (first ∷ turns) old mid lives kept call = (lives.0, lives.1, lives_more turns first.after mid lives.2 kept call)
 
-  run_more : (turns : List (Turn D)) (s mid new : State) → Steps s (map event_of turns) mid → Step mid turn.call turn.reply new
-      → Steps s (map event_of (turns ++ turn ∷ [])) new
+  run_more : (turns : List (Turn D)) (s mid new : State) → Steps s (map exchange_of turns) mid → Step mid turn.call turn.reply new
+      → Steps s (map exchange_of (turns ++ turn ∷ [])) new
   run_more [] s mid new run step = (new, subst (λ (x : State). Step x turn.call turn.reply new) run step, refl)
   run_more (first ∷ turns) s mid new run step = (run.0, run.1, run_more turns run.0 mid new run.2 step)
 
-  go_more : (turns : List (Turn D)) → AllGo (map (λ (t : Turn D). t.reply) turns) → halts turn.reply ≡ false
+  go_more : (turns : List (Turn D)) → AllGo (map (λ (t : Turn D). t.reply) turns) → is_halt turn.reply ≡ false
       → AllGo (map (λ (t : Turn D). t.reply) (turns ++ turn ∷ []))
   go_more [] go goes = (goes, tt)
   go_more (first ∷ turns) go goes = (go.0, go_more turns go.1 goes)
@@ -158,7 +158,7 @@ module _ {D : Type 0} (disk_of : D → Disk) (turn : Turn D) where
 -- What so many turns did, between what a source and a sink told before and after
 pub record AreTurns {D : Type 0} (disk_of : D → Disk) (turns : List (Turn D)) (old : EndpointValue D) (told : Told) (new : EndpointValue D) (tells : Told) : Type 0 where
   pub lives : Lives disk_of old turns new
-  pub run : (logs : Logs) → (after : Logs) × Steps (state_of old logs) (map event_of turns) (state_of new after)
+  pub run : (logs : Logs) → (after : Logs) × Steps (state_of old logs) (map exchange_of turns) (state_of new after)
   pub honest : (disk_in disk_of new).honest ≡ (disk_in disk_of old).honest
   pub any_moment : IsHonest (disk_in disk_of new) → IsBacked disk_of old → LeavesLife disk_of (disk_in disk_of new) old turns
   pub backed : IsHonest (disk_in disk_of new) → IsBacked disk_of old → IsBacked disk_of new
@@ -306,7 +306,7 @@ module _ {D : Type 0} (disk_of : D → Disk) (old : EndpointValue D) (told : Tol
     module _ (event : Event) (answer : Answer) (new : EndpointValue D) (later : Told) (call : IsCall disk_of mid (call_of event) (reply_of answer) new)
         (kept : IsSoundEndpoint mid) (taken : HasTaken tells (Some event) later) (given : HasGiven tells answer later) where
       -- one more
-      pub serving-more : halts (reply_of answer) ≡ false → IsServing disk_of (count + 1) old told new later
+      pub serving-more : is_halt (reply_of answer) ≡ false → IsServing disk_of (count + 1) old told new later
       serving-more goes =
           let turn : Turn D = record { call = call_of event; reply = reply_of answer; after = new } in
           record {
@@ -317,7 +317,7 @@ module _ {D : Type 0} (disk_of : D → Disk) (old : EndpointValue D) (told : Tol
           }
 
       -- a device call failed
-      pub served-halted : (most : ℕ) → count < most → halts (reply_of answer) ≡ true → IsServed disk_of most old told Halted new later
+      pub served-halted : (most : ℕ) → count < most → is_halt (reply_of answer) ≡ true → IsServed disk_of most old told Halted new later
       served-halted most few halt =
           let turn : Turn D = record { call = call_of event; reply = reply_of answer; after = new } in
           let replies = λ (turns : List (Turn D)). map (λ (t : Turn D). t.reply) turns in

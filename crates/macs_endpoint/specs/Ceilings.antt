@@ -6,7 +6,7 @@ use Rattle.macs_txsc.specs.Transmit as tx
 use Rattle.macs_rxsc.specs.Needs.{Need}
 use Rattle.macs_rxsc.specs.Needs as rx
 use Rattle.macs_rxsc.specs.Receive.{RxSide}
-use Rattle.macs_store.specs.Standing.{Standing, accept, with_rx_raised, with_tx_raised}
+use Rattle.macs_store.specs.Standing.{Standing, accept, standing_with_rx_raised, standing_with_tx_raised}
 use Rattle.macs_endpoint.specs.State.{Call, Refilled, Refills, Reply, State, command_made, rx_side, tx_side}
 use Rattle.macs_endpoint.specs.declared.fault.RefillFault.{RefillFault}
 use Rattle.macs_endpoint.specs.declared.fault.RefillFault.TheVariants as refill
@@ -19,9 +19,9 @@ pub data Raise : Type 0 where
   RaiseRx : Need → Raise
 
 -- what stands after a ceiling was raised
-abbrev pub with_raise : Standing → Raise → Standing
-with_raise s (RaiseTx an) = with_tx_raised s an
-with_raise s (RaiseRx need) = with_rx_raised s need.sci need.an need.pn
+abbrev pub standing_with_raise : Standing → Raise → Standing
+standing_with_raise s (RaiseTx an) = standing_with_tx_raised s an
+standing_with_raise s (RaiseRx need) = standing_with_rx_raised s need.sci need.an need.pn
 
 -- the need of the transmit side, or else that of the receive side
 abbrev pub either_raise : Option ℕ → Option Need → Option Raise
@@ -33,13 +33,13 @@ either_raise None None = None
 abbrev pub first_raise : Standing → TxSide → RxSide → Option Raise
 first_raise s tx_side rx_side = either_raise
     (tx.need_of tx_side s.ceilings.tx s.identity.tx_block)
-    (rx.needs_of rx_side s.ceilings.rx s.identity.rx_block)
+    (rx.first_need_of rx_side s.ceilings.rx s.identity.rx_block)
 
 -- these ceilings were raised one after the other, each the first that was needed then
 abbrev pub Raises : TxSide → RxSide → Standing → List Raise → Standing → Type 0
 Raises tx_side rx_side old [] new = new ≡ old
 Raises tx_side rx_side old (raise ∷ raises) new =
-    (first_raise old tx_side rx_side ≡ Some raise) × Raises tx_side rx_side (with_raise old raise) raises new
+    (first_raise old tx_side rx_side ≡ Some raise) × Raises tx_side rx_side (standing_with_raise old raise) raises new
 
 -- some ceilings were raised, and this one is to be raised next, if any is
 pub record IsRefilled (tx_side : TxSide) (rx_side : RxSide) (old new : Standing) (next : Option Raise) : Type 0 where

@@ -8,21 +8,21 @@ use Rattle.macs_disk.specs.States.{Image}
 use Rattle.macs_journal.specs.Formatting.{IsFormatOf}
 use Rattle.macs_journal.specs.declared.fault.JournalFault.{JournalFault}
 use Rattle.macs_journal.specs.declared.fault.JournalFault.TheVariants.{NotFormatted}
-use Rattle.macs_store.specs.Found.{IsFoundStanding}
+use Rattle.macs_store.specs.Found.{StandingIs}
 use Rattle.macs_store.specs.Standing.{new_standing}
 
 -- an image that the disk could leave before, or one of no journal, or one that stands for what an endpoint is formatted with
 abbrev pub FormatLeaves : Disk → Identity → Image → Type 0
 FormatLeaves old identity image =
-    MayLeave old image ⊎ (IsFoundStanding this_edition old.sectors image (Err NotFormatted)
-    ⊎ IsFoundStanding this_edition old.sectors image (Ok (new_standing this_edition identity)))
+    MayLeave old image ⊎ (StandingIs this_edition old.sectors image (Err NotFormatted)
+    ⊎ StandingIs this_edition old.sectors image (Ok (new_standing this_edition identity)))
 
 -- A disk that had no journal is made that of a new endpoint of this identity. On an honest disk a power loss on the way leaves what it
 -- could leave before, no journal, or the new endpoint; once it is done a power loss leaves the new endpoint alone.
 pub record IsFormat {D : Type 0} (disk_of : D → Disk) (old : D) (identity : Identity) (result : Result (Unit {0}) JournalFault) (new : D) : Type 0 where
   pub device : IsFormatOf disk_of old result new
   pub blank : OnOk result (IsHonest (disk_of new)
-      → IsFoundStanding this_edition (disk_of old).sectors (now (disk_of old)).seen (Err NotFormatted))
+      → StandingIs this_edition (disk_of old).sectors (now (disk_of old)).seen (Err NotFormatted))
   pub any_moment : IsHonest (disk_of new) → Leaves (disk_of old) (disk_of new) (FormatLeaves (disk_of old) identity)
   pub kept : OnOk result (IsHonest (disk_of new) → (image : Image) → MayLeave (disk_of new) image
-      → IsFoundStanding this_edition (disk_of new).sectors image (Ok (new_standing this_edition identity)))
+      → StandingIs this_edition (disk_of new).sectors image (Ok (new_standing this_edition identity)))

@@ -1,6 +1,6 @@
 -- Where the answers that a step leaves to the endpoint come, and which calls make no device call.
 use Rattle.std.specs.Prelude.{◌≡◌, true, false, Ok, Err}
-use Rattle.macs_txsc.specs.Transmit.{is_at_ceiling, outgoing}
+use Rattle.macs_txsc.specs.Transmit.{is_at_ceiling, next_outgoing}
 use Rattle.macs_txsc.specs.declared.fault.TxFault.TheVariants.{NoNumber}
 use Rattle.macs_rxsc.specs.Receive.{Arrival, Arrives, is_below}
 use Rattle.macs_rxsc.specs.declared.verdict.Verdict.TheVariants.{HeldBack}
@@ -18,7 +18,7 @@ abbrev pub IsLimited : {D : Type 0} → EndpointValue D → Call → Reply → E
 IsLimited old (Commands command) (Ran (Err commit.AreaFull)) new = used_slots old.store ≡ slots
 IsLimited old Refills (Refilled (Err refill.AreaFull)) new = used_slots new.store ≡ slots
 IsLimited old (Protects plain) (Protected (Err (Tx NoNumber)) out) new =
-    is_at_ceiling (standing_in old.store).ceilings.tx (outgoing (tx_side (state_of old no_logs))) ≡ true
+    is_at_ceiling (standing_in old.store).ceilings.tx (next_outgoing (tx_side (state_of old no_logs))) ≡ true
 IsLimited old (Receives frame) (Received (Ok HeldBack) out) new =
     (a : Arrival) × Arrives (rx_side (state_of old no_logs)) frame a × (is_below ((standing_in old.store).ceilings.rx a.sci a.an) a.pn ≡ false)
 IsLimited old call reply new = Unit {0}

@@ -6,7 +6,7 @@ use Rattle.macs_endpoint.specs.Calls.{IsCall}
 use Rattle.macs_endpoint.specs.Value.{IsSoundEndpoint, EndpointValue, disk_in, state_of}
 use Rattle.macs_endpoint.specs.Restart.{Fits, state_during}
 use Rattle.macs_endpoint.specs.State.{Call, Reply, no_logs}
-use Rattle.macs_endpoint.specs.Step.{Event}
+use Rattle.macs_endpoint.specs.Step.{Exchange}
 
 -- a call with its answer, and the endpoint after it
 pub record Turn (D : Type 0) : Type 0 where
@@ -15,8 +15,8 @@ pub record Turn (D : Type 0) : Type 0 where
   pub after : EndpointValue D
 
 -- a call and its answer, without the endpoint after them
-abbrev pub event_of : {D : Type 0} → Turn D → Event
-event_of turn = record { call = turn.call; reply = turn.reply }
+abbrev pub exchange_of : {D : Type 0} → Turn D → Exchange
+exchange_of turn = record { call = turn.call; reply = turn.reply }
 
 -- these calls lead from old to new, and before each the endpoint is sound
 abbrev pub Lives : {D : Type 0} → (D → Disk) → EndpointValue D → List (Turn D) → EndpointValue D → Type 0

@@ -11,10 +11,10 @@ use Rattle.macs_txsc.specs.Transmit as transmit
 use Rattle.macs_txsc.specs.Value as txsc
 use Rattle.macs_rxsc.specs.Counting as counting
 use Rattle.macs_rxsc.specs.Value as rxsc
-use Rattle.macs_store.specs.Found.{IsFoundStanding}
+use Rattle.macs_store.specs.Found.{StandingIs}
 use Rattle.macs_store.specs.Opening.{IsUnfit}
 use Rattle.macs_store.specs.Value.{standing_in}
-use Rattle.macs_endpoint.specs.Counting.{new_channels}
+use Rattle.macs_endpoint.specs.Counting.{new_channel_counters}
 use Rattle.macs_endpoint.specs.Restart.{Fits, opened_state}
 use Rattle.macs_endpoint.specs.State.{Logs, State}
 use Rattle.macs_endpoint.specs.Value.{EndpointValue, IsBacked, disk_in, state_of}
@@ -24,11 +24,11 @@ use Rattle.macs_endpoint.specs.Value.{EndpointValue, IsBacked, disk_in, state_of
 pub record Opens {D : Type 0} (disk_of : D → Disk) (disk : D) (e : EndpointValue D) : Type 0 where
   pub device : IsOpened (disk_of disk) (disk_in disk_of e)
   pub state : (logs : Logs) → state_of e logs ≡ opened_state (standing_in e.store) logs
-  pub found : IsHonest (disk_in disk_of e) → IsFoundStanding this_edition (disk_of disk).sectors (now (disk_of disk)).seen (Ok (standing_in e.store))
+  pub found : IsHonest (disk_in disk_of e) → StandingIs this_edition (disk_of disk).sectors (now (disk_of disk)).seen (Ok (standing_in e.store))
   pub backed : IsHonest (disk_in disk_of e) → IsBacked disk_of e
   pub tx_counters : txsc.counters_of e.tx ≡ transmit.no_counts
   pub rx_counters : rxsc.counters_of e.rx ≡ counting.no_counts
-  pub channel_counters : rxsc.channel_counters_of e.rx ≡ new_channels (standing_in e.store).config.channels
+  pub channel_counters : rxsc.channel_counters_of e.rx ≡ new_channel_counters (standing_in e.store).config.channels
 
 -- A disk is refused for what stands on it, or for a device call that failed. Where each image that a power loss could leave of an honest
 -- disk fits a state, only a failed device call remains.

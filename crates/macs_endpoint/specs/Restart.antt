@@ -6,9 +6,9 @@ use Rattle.macs_config.specs.Config.{Edition, IsUpTo}
 use Rattle.macs_config.specs.declared.command.Command.{Command}
 use Rattle.macs_disk.specs.States.{Image}
 use Rattle.macs_rxsc.specs.Receive.{Numbers, first_numbers}
-use Rattle.macs_store.specs.Found.{IsFoundStanding}
+use Rattle.macs_store.specs.Found.{StandingIs}
 use Rattle.macs_store.specs.Standing.{Standing}
-use Rattle.macs_endpoint.specs.State.{Call, Commands, Logs, State, with_in_hand}
+use Rattle.macs_endpoint.specs.State.{Call, Commands, Logs, State, state_with_in_hand}
 use Rattle.macs_endpoint.specs.Step.{Makes}
 
 -- ---- numbers rise
@@ -67,13 +67,13 @@ opened_state found logs = record {
 -- opening a disk of so many sectors with this image in a program of an edition is a restart of the state
 pub record Fits (edition : Edition) (sectors : ℕ) (image : Image) (s : State) : Type 0 where
   pub found : Standing
-  pub is_found : IsFoundStanding edition sectors image (Ok found)
+  pub is_found : StandingIs edition sectors image (Ok found)
   pub restart : Restart s (opened_state found s.logs)
 
 -- The state while a call is under way: a command is in hand where work on it may have begun
 abbrev pub state_during : State → Call → State
 state_during s (Commands command) =
-    if not s.stopped && is_ok (apply s.edition s.identity s.config command) then with_in_hand s command else s
+    if not s.stopped && is_ok (apply s.edition s.identity s.config command) then state_with_in_hand s command else s
 state_during s call = s
 
 -- what a power loss during a call or after it leaves

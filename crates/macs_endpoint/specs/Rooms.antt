@@ -19,8 +19,8 @@ pub record HasRoom {D : Type 0} (e : EndpointValue D) (an count : ℕ) : Type 0 
   pub room : (next + count ≤ ceiling) ⊎ (ceiling ≡ 2 ^ 32)
 
 -- the association at this AN is the encoding one, and it stands
-abbrev pub IsEncoding : {D : Type 0} → EndpointValue D → ℕ → Type 0
-IsEncoding e an = ((standing_in e.store).config.encoding ≡ Some an) × IsSome ((state_of e no_logs).next an)
+abbrev pub IsEncodingAn : {D : Type 0} → EndpointValue D → ℕ → Type 0
+IsEncodingAn e an = ((standing_in e.store).config.encoding ≡ Some an) × IsSome ((state_of e no_logs).next an)
 
 -- a command, if there is one, neither removes the transmit association at this AN nor installs another there
 abbrev pub SparesTx : ℕ → Option Command → Type 0
@@ -34,14 +34,14 @@ TxStays an e [] = Unit {0}
 TxStays an e (turn ∷ turns) = SparesTx an (command_made (state_of e no_logs) turn.call turn.reply) × TxStays an turn.after turns
 
 -- 1 where the encoding association is at this AN and a frame went out, else 0
-abbrev pub one_if : Option ℕ → ℕ → Reply → ℕ
-one_if (Some encoding) an (Protected (Ok pn) out) = if encoding == an then 1 else 0
-one_if encoding an reply = 0
+abbrev pub frames_in_reply : Option ℕ → ℕ → Reply → ℕ
+frames_in_reply (Some encoding) an (Protected (Ok pn) out) = if encoding == an then 1 else 0
+frames_in_reply encoding an reply = 0
 
 -- how many frames went out under the transmit association at this AN
 abbrev pub frames_sent : {D : Type 0} → ℕ → EndpointValue D → List (Turn D) → ℕ
 frames_sent an e [] = 0
-frames_sent an e (turn ∷ turns) = one_if (standing_in e.store).config.encoding an turn.reply + frames_sent an turn.after turns
+frames_sent an e (turn ∷ turns) = frames_in_reply (standing_in e.store).config.encoding an turn.reply + frames_sent an turn.after turns
 
 -- ---- reception
 

@@ -3,7 +3,7 @@ use Rattle.std.specs.Prelude.{◌≡◌, ◌≤◌, ℕ, Bool, true, false, List
 use Rattle.macs_disk.specs.Disk.{Disk, IsHonest}
 use Rattle.macs_store.specs.declared.fault.CommitFault.TheVariants as commit
 use Rattle.macs_endpoint.specs.Value.{IsBacked, EndpointValue, disk_in, state_of}
-use Rattle.macs_endpoint.specs.Lives.{LeavesLife, Lives, Turn, event_of}
+use Rattle.macs_endpoint.specs.Lives.{LeavesLife, Lives, Turn, exchange_of}
 use Rattle.macs_endpoint.specs.State.{Call, Commands, Logs, Protects, Protected, Ran, Received, Receives, Refilled, Refills, Reply}
 use Rattle.macs_endpoint.specs.Step.{Steps}
 use Rattle.macs_endpoint.specs.declared.event.Answer.{Answer}
@@ -30,14 +30,14 @@ reply_of (answer.Received result out) = Received result out.items
 reply_of (answer.Refilled result) = Refilled result
 
 -- an answer says that a device call failed, in its call or before
-abbrev pub halts : Reply → Bool
-halts (Ran (Err commit.Stopped)) = true
-halts (Ran (Err commit.Disk)) = true
-halts (Refilled (Err refill.Stopped)) = true
-halts (Refilled (Err refill.Disk)) = true
-halts (Protected (Err protect.Stopped) out) = true
-halts (Received (Err stopped) out) = true
-halts reply = false
+abbrev pub is_halt : Reply → Bool
+is_halt (Ran (Err commit.Stopped)) = true
+is_halt (Ran (Err commit.Disk)) = true
+is_halt (Refilled (Err refill.Stopped)) = true
+is_halt (Refilled (Err refill.Disk)) = true
+is_halt (Protected (Err protect.Stopped) out) = true
+is_halt (Received (Err stopped) out) = true
+is_halt reply = false
 
 -- the next of the events that are left, if any is
 abbrev pub Takes : List Event → Option Event → List Event → Type 0
@@ -48,8 +48,8 @@ Takes old (Some event) new = old ≡ event ∷ new
 abbrev pub Ends : List Reply → ServeEnd → Type 0
 Ends [] Halted = ⊥
 Ends [] end = Unit {0}
-Ends (reply ∷ []) Halted = halts reply ≡ true
-Ends (reply ∷ replies) end = (halts reply ≡ false) × Ends replies end
+Ends (reply ∷ []) Halted = is_halt reply ≡ true
+Ends (reply ∷ replies) end = (is_halt reply ≡ false) × Ends replies end
 
 -- what a source tells of the events that it has left, if it tells, and a sink of the answers that it took
 pub record Told : Type 0 where
@@ -58,20 +58,21 @@ pub record Told : Type 0 where
   pub sink_tells : Bool
   pub took : List Answer
 
--- What was served in at most so many turns
-pub record IsServed {D : Type 0} (disk_of : D → Disk) (most : ℕ) (old : EndpointValue D) (told : Told) (end : ServeEnd) (new : EndpointValue D) (tells : Told) : Type 0 where
+-- What was served in at most so many turns, with what source and sink tell before and after: the calls link the endpoint of before to that of
+-- after, their answers are a run of the machine, and a power loss at any moment leaves what fits one of their states.
+pub record IsServed {D : Type 0} (disk_of : D → Disk) (most : ℕ) (old : EndpointValue D) (before : Told) (end : ServeEnd) (new : EndpointValue D) (after : Told) : Type 0 where
   pub turns : List (Turn D)
   pub lives : Lives disk_of old turns new
   pub few : length turns ≤ most
-  pub run : (logs : Logs) → (after : Logs) × Steps (state_of old logs) (map event_of turns) (state_of new after)
+  pub run : (logs : Logs) → (later : Logs) × Steps (state_of old logs) (map exchange_of turns) (state_of new later)
   pub any_moment : IsHonest (disk_in disk_of new) → IsBacked disk_of old → LeavesLife disk_of (disk_in disk_of new) old turns
   pub backed : IsHonest (disk_in disk_of new) → IsBacked disk_of old → IsBacked disk_of new
-  pub source : tells.source_tells ≡ told.source_tells
-  pub sink : tells.sink_tells ≡ told.sink_tells
-  pub taken : told.source_tells ≡ true → (events : List Event)
-      × (told.left ≡ events ++ tells.left) × (map call_of events ≡ map (λ turn. turn.call) turns)
-  pub given : told.sink_tells ≡ true → (answers : List Answer)
-      × (tells.took ≡ told.took ++ answers) × (map reply_of answers ≡ map (λ turn. turn.reply) turns)
-  pub ended : end ≡ Ended → told.source_tells ≡ true → tells.left ≡ []
+  pub source : after.source_tells ≡ before.source_tells
+  pub sink : after.sink_tells ≡ before.sink_tells
+  pub taken : before.source_tells ≡ true → (events : List Event)
+      × (before.left ≡ events ++ after.left) × (map call_of events ≡ map (λ turn. turn.call) turns)
+  pub given : before.sink_tells ≡ true → (answers : List Answer)
+      × (after.took ≡ before.took ++ answers) × (map reply_of answers ≡ map (λ turn. turn.reply) turns)
+  pub ended : end ≡ Ended → before.source_tells ≡ true → after.left ≡ []
   pub spent : end ≡ TurnsSpent → length turns ≡ most
   pub ends : Ends (map (λ turn. turn.reply) turns) end

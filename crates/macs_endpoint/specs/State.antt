@@ -79,12 +79,12 @@ abbrev pub rx_side : State → RxSide
 rx_side s = rx_side_with s.config s.numbers
 
 -- the state with a command in hand
-abbrev pub with_in_hand : State → Command → State
-with_in_hand s command = record s { in_hand = Some command }
+abbrev pub state_with_in_hand : State → Command → State
+state_with_in_hand s command = record s { in_hand = Some command }
 
 -- the state after a device call failed: the disk is to be opened again
-abbrev pub after_fault : State → State
-after_fault s = record s { stopped = true }
+abbrev pub state_after_fault : State → State
+state_after_fault s = record s { stopped = true }
 
 -- a command would not be refused
 abbrev pub Accepts : State → Command → Type 0

@@ -7,9 +7,9 @@ use Rattle.macs_config.specs.Config.{Config}
 use Rattle.macs_config.specs.Tables.{put, put_at}
 use Rattle.macs_config.specs.declared.command.Command.{Command}
 use Rattle.macs_config.specs.declared.command.Command.TheVariants.{SetReplay, TxInstall, TxRemove, RxDrop, RxInstall, RxRemove}
-use Rattle.macs_txsc.specs.Transmit.{Outgoing, frame_of, outgoing, tx_faults}
+use Rattle.macs_txsc.specs.Transmit.{Outgoing, frame_of, next_outgoing, tx_faults}
 use Rattle.macs_txsc.specs.declared.fault.TxFault.TheVariants.{NoNumber}
-use Rattle.macs_rxsc.specs.Receive.{Arrival, Arrives, Holds, Numbers, after_delivery, given_at, after_hold, kind_of, put_numbers, first_numbers, rx_steps, verdict_at, under_window}
+use Rattle.macs_rxsc.specs.Receive.{Arrival, Arrives, RxStepHolds, Numbers, numbers_after_delivery, given_at, numbers_after_hold, delivery_kind, put_numbers, first_numbers, rx_steps, verdict_at, numbers_under_window}
 use Rattle.macs_rxsc.specs.Receive as rx
 use Rattle.macs_rxsc.specs.declared.verdict.Verdict.{Verdict}
 use Rattle.macs_rxsc.specs.declared.verdict.Verdict.TheVariants.{Delivered, HeldBack}
@@ -20,7 +20,7 @@ use Rattle.macs_endpoint.specs.declared.fault.ProtectFault.TheVariants as protec
 use Rattle.macs_endpoint.specs.declared.fault.RefillFault.{RefillFault}
 use Rattle.macs_endpoint.specs.declared.fault.RefillFault.TheVariants as refill
 use Rattle.macs_endpoint.specs.declared.fault.Stopped.{Stopped}
-use Rattle.macs_endpoint.specs.State.{Accepts, Call, Commands, Protects, Protected, Ran, Received, Receives, Refilled, Refills, Reply, State, after_fault, with_in_hand, rx_side, tx_side}
+use Rattle.macs_endpoint.specs.State.{Accepts, Call, Commands, Protects, Protected, Ran, Received, Receives, Refilled, Refills, Reply, State, state_after_fault, state_with_in_hand, rx_side, tx_side}
 
 -- ---- commands
 
@@ -32,15 +32,15 @@ next_after command next = next
 
 -- the same of receive associations; and a new window raises the lowest acceptable number of each
 abbrev pub numbers_after : Command → (List ℕ → ℕ → Option Numbers) → List ℕ → ℕ → Option Numbers
-numbers_after (SetReplay on window) numbers = λ sci an. option_map (under_window window) (numbers sci an)
+numbers_after (SetReplay on window) numbers = λ sci an. option_map (numbers_under_window window) (numbers sci an)
 numbers_after (RxDrop sci) numbers = put_at numbers sci (λ an. None)
 numbers_after (RxInstall sci an key start offset) numbers = put_numbers numbers sci an (Some (first_numbers start))
 numbers_after (RxRemove sci an) numbers = put_numbers numbers sci an None
 numbers_after command numbers = numbers
 
 -- the state after a command that made this configuration
-abbrev pub state_after : State → Command → Config → State
-state_after s command config = record s {
+abbrev pub state_after_command : State → Command → Config → State
+state_after_command s command config = record s {
   config = config;
   next = next_after command s.next;
   numbers = numbers_after command s.numbers;
@@ -49,7 +49,7 @@ state_after s command config = record s {
 
 -- a command is not refused, and leads from old to new
 abbrev pub Makes : State → Command → State → Type 0
-Makes old command new = (config : Config) × (apply old.edition old.identity old.config command ≡ Ok config) × (new ≡ state_after old command config)
+Makes old command new = (config : Config) × (apply old.edition old.identity old.config command ≡ Ok config) × (new ≡ state_after_command old command config)
 
 -- A command takes effect, or nothing changes, or a device call failed and the command is in hand.
 abbrev pub CommandStep : State → Command → Result (Unit {0}) CommitFault → State → Type 0
@@ -57,7 +57,7 @@ CommandStep old command (Ok done) new = Makes old command new
 CommandStep old command (Err (commit.Refused refusal)) new =
     (apply old.edition old.identity old.config command ≡ Err refusal) × (new ≡ old)
 CommandStep old command (Err commit.AreaFull) new = Accepts old command × (new ≡ old)
-CommandStep old command (Err commit.Disk) new = Accepts old command × (new ≡ after_fault (with_in_hand old command))
+CommandStep old command (Err commit.Disk) new = Accepts old command × (new ≡ state_after_fault (state_with_in_hand old command))
 CommandStep old command (Err commit.Stopped) new = ⊥
 
 -- ---- work on the disk
@@ -66,7 +66,7 @@ CommandStep old command (Err commit.Stopped) new = ⊥
 abbrev pub RefillStep : State → Result (Unit {0}) RefillFault → State → Type 0
 RefillStep old (Ok done) new = new ≡ old
 RefillStep old (Err refill.AreaFull) new = new ≡ old
-RefillStep old (Err refill.Disk) new = new ≡ after_fault old
+RefillStep old (Err refill.Disk) new = new ≡ state_after_fault old
 RefillStep old (Err refill.Stopped) new = ⊥
 
 -- ---- frames
@@ -82,7 +82,7 @@ state_after_frame s o = record s {
 abbrev pub ProtectStep : State → List ℕ → Result ℕ ProtectFault → List ℕ → State → Type 0
 ProtectStep old plain (Ok pn) out new =
     (first (tx_faults (tx_side old) plain) ≡ None)
-    × ((o : Outgoing) × (outgoing (tx_side old) ≡ Some o) × (pn ≡ o.pn) × (out ≡ frame_of (tx_side old) o plain) × (new ≡ state_after_frame old o))
+    × ((o : Outgoing) × (next_outgoing (tx_side old) ≡ Some o) × (pn ≡ o.pn) × (out ≡ frame_of (tx_side old) o plain) × (new ≡ state_after_frame old o))
 ProtectStep old plain (Err (protect.Tx fault)) out new =
     ((first (tx_faults (tx_side old) plain) ≡ Some fault) ⊎ ((first (tx_faults (tx_side old) plain) ≡ None) × (fault ≡ NoNumber)))
     × (out ≡ []) × (new ≡ old)
@@ -90,14 +90,14 @@ ProtectStep old plain (Err protect.Stopped) out new = ⊥
 
 -- the state after a frame that verified was held back
 abbrev pub state_after_hold : State → Arrival → State
-state_after_hold s a = record s { numbers = put_numbers s.numbers a.sci a.an (Some (after_hold a.numbers a.pn)) }
+state_after_hold s a = record s { numbers = put_numbers s.numbers a.sci a.an (Some (numbers_after_hold a.numbers a.pn)) }
 
 -- the state after a frame that verified was delivered
 abbrev pub state_after_delivery : State → Arrival → State
 state_after_delivery s a = record s {
-  numbers = put_numbers s.numbers a.sci a.an (Some (after_delivery s.config.replay.window a.numbers a.pn));
+  numbers = put_numbers s.numbers a.sci a.an (Some (numbers_after_delivery s.config.replay.window a.numbers a.pn));
   logs = record s.logs {
-    given = record { sci = a.sci; key = a.sa.key; pn = a.pn; kind = kind_of a.numbers a.pn } ∷ s.logs.given;
+    given = record { sci = a.sci; key = a.sa.key; pn = a.pn; kind = delivery_kind a.numbers a.pn } ∷ s.logs.given;
   };
 }
 
@@ -105,12 +105,12 @@ state_after_delivery s a = record s {
 abbrev pub ArriveStep : State → Arrival → Verdict → List ℕ → State → Type 0
 ArriveStep old a verdict out new =
     ((verdict ≡ HeldBack) × (a.numbers.next ≤ a.pn) × (out ≡ []) × (new ≡ state_after_hold old a))
-    ⊎ ((verdict ≡ Delivered (kind_of a.numbers a.pn)) × (out ≡ a.plain) × (new ≡ state_after_delivery old a))
+    ⊎ ((verdict ≡ Delivered (delivery_kind a.numbers a.pn)) × (out ≡ a.plain) × (new ≡ state_after_delivery old a))
 
 -- one of the first nine steps settles the frame
 abbrev pub SettleStep : State → List ℕ → Verdict → List ℕ → State → Type 0
 SettleStep old frame verdict out new =
-    (step : rx.RxStep) × IsFirst (Holds (rx_side old) frame) rx_steps step
+    (step : rx.RxStep) × IsFirst (RxStepHolds (rx_side old) frame) rx_steps step
     × (verdict ≡ verdict_at (rx_side old) frame step) × (out ≡ given_at frame verdict) × (new ≡ old)
 
 -- a received frame is settled by one of the first nine steps, or verified and arrives
@@ -144,11 +144,11 @@ Step old call reply new =
     ⊎ ((old.stopped ≡ false) × RunningStep old call reply new)
 
 -- a call and its answer
-pub record Event : Type 0 where
+pub record Exchange : Type 0 where
   pub call : Call
   pub reply : Reply
 
 -- one step after another
-abbrev pub Steps : State → List Event → State → Type 0
+abbrev pub Steps : State → List Exchange → State → Type 0
 Steps old [] new = new ≡ old
 Steps old (e ∷ es) new = (mid : State) × Step old e.call e.reply mid × Steps mid es new

@@ -5,10 +5,10 @@ ghost use Rattle.std.specs.Option.{option_map};
 ghost use Rattle.macs_config.specs.Tables.{put, put_at};
 ghost use Rattle.macs_txsc.specs.Value as txsc;
 ghost use Rattle.macs_rxsc.specs.Value as rxsc;
-ghost use Rattle.macs_rxsc.specs.Receive.{has_channel, put_numbers, first_numbers, under_window};
+ghost use Rattle.macs_rxsc.specs.Receive.{has_channel, put_numbers, first_numbers, numbers_under_window};
 ghost use Rattle.macs_store.specs.Value.{standing_in};
 ghost use Rattle.macs_store.specs.Standing.{Standing, accept};
-ghost use Rattle.macs_endpoint.specs.Counting.{channels_after};
+ghost use Rattle.macs_endpoint.specs.Counting.{channel_counters_after_command};
 ghost use Rattle.macs_endpoint.specs.Value.{AreChannels};
 ghost use Rattle.macs_endpoint.specs.Step.{next_after, numbers_after};
 
@@ -37,7 +37,7 @@ impl Channels {
         ensures tx_counters { txsc.counters_of self.new.tx ≡ txsc.counters_of self.old.tx }
         ensures rx_counters { rxsc.counters_of self.new.rx ≡ rxsc.counters_of self.old.rx }
         ensures channel_counters { rxsc.channel_counters_of self.new.rx
-            ≡ channels_after command.now (rxsc.channel_counters_of self.old.rx) }
+            ≡ channel_counters_after_command command.now (rxsc.channel_counters_of self.old.rx) }
     {
         match command {
             Command::SetValidate(_) | Command::SetReplay { .. } => set_policy(&mut self.rx, store),
@@ -62,7 +62,7 @@ pub(crate) fn set_policy<D: SectorDisk>(rx: &mut Rx, store: &Store<D>)
     ensures side { rxsc.rx_side_of rx.new ≡ record (rxsc.rx_side_of rx.old) {
       validate = (standing_in store.now).config.validate;
       replay = (standing_in store.now).config.replay;
-      numbers = λ sci an. option_map (under_window (standing_in store.now).config.replay.window) ((rxsc.rx_side_of rx.old).numbers sci an);
+      numbers = λ sci an. option_map (numbers_under_window (standing_in store.now).config.replay.window) ((rxsc.rx_side_of rx.old).numbers sci an);
     } }
     ensures same_window { (rxsc.rx_side_of rx.old).replay.window ≡ (standing_in store.now).config.replay.window
         → (rxsc.rx_side_of rx.new).numbers ≡ (rxsc.rx_side_of rx.old).numbers }

@@ -9,7 +9,7 @@ ghost use Rattle.macs_store.specs.Value.{standing_in};
 ghost use Rattle.macs_endpoint.specs.Calls.{IsCall};
 ghost use Rattle.macs_endpoint.specs.Value.{IsSoundEndpoint, EndpointValue, state_of};
 ghost use Rattle.macs_endpoint.specs.Lives.{Lives, Turn};
-ghost use Rattle.macs_endpoint.specs.Rooms.{HasRoom, IsBelow, IsEncoding, RxStays, TxStays, frames_sent};
+ghost use Rattle.macs_endpoint.specs.Rooms.{HasRoom, IsBelow, IsEncodingAn, RxStays, TxStays, frames_sent};
 ghost use Rattle.macs_endpoint.specs.State.{Commands, Protects, Protected, Ran, Received, Receives, Refilled, Refills, no_logs, rx_side};
 ghost use Rattle.macs_endpoint.specs.declared.fault.ProtectFault.TheVariants.{Tx};
 
@@ -27,14 +27,14 @@ pub fn frame_numbers_in_range<D: SectorDisk>()
 /// association that frames go out under; after an install it is a block; or until the numbers end, when
 /// `Exhausted` comes. It is one less for each frame that goes out under the association while it stands.
 pub fn frames_before_no_number<D: SectorDisk>()
-    ensures refilled { (old new : EndpointValue D) (an : ℕ) → IsSoundEndpoint old → IsCall D.disk old Refills (Refilled (Ok tt)) new → IsEncoding new an
+    ensures refilled { (old new : EndpointValue D) (an : ℕ) → IsSoundEndpoint old → IsCall D.disk old Refills (Refilled (Ok tt)) new → IsEncodingAn new an
         → HasRoom new an ((standing_in new.store).identity.tx_block / 2 + 1) }
     ensures installed { (old new : EndpointValue D) (an : ℕ) (key : List ℕ) (start : ℕ) (confidential : Bool) (offset : ℕ)
         → IsCall D.disk old (Commands (TxInstall an key start confidential offset)) (Ran (Ok tt)) new
         → HasRoom new an (standing_in new.store).identity.tx_block }
     ensures stays { (old new : EndpointValue D) (turns : List (Turn D)) (an count : ℕ) → IsSoundEndpoint new → Lives D.disk old turns new → TxStays an old turns
         → HasRoom old an count → HasRoom new an (count - frames_sent an old turns) }
-    ensures numbered { (old new : EndpointValue D) (an count : ℕ) (plain out : List ℕ) → IsEncoding old an → HasRoom old an count → 1 ≤ count
+    ensures numbered { (old new : EndpointValue D) (an count : ℕ) (plain out : List ℕ) → IsEncodingAn old an → HasRoom old an count → 1 ≤ count
         → IsCall D.disk old (Protects plain) (Protected (Err (Tx NoNumber)) out) new → ⊥ }
 {}
 

@@ -10,7 +10,7 @@ ghost use Rattle.macs_rxsc.specs.Counting as counting;
 ghost use Rattle.macs_rxsc.specs.Receive.{has_channel, first_numbers};
 ghost use Rattle.macs_rxsc.specs.Value as rxsc;
 ghost use Rattle.macs_store.specs.Value.{standing_in};
-ghost use Rattle.macs_endpoint.specs.Counting.{new_channels};
+ghost use Rattle.macs_endpoint.specs.Counting.{new_channel_counters};
 ghost use Rattle.macs_endpoint.specs.State.{rx_side_with, tx_side_with};
 
 use crate::channels::{Channels, install_rx, install_tx, set_policy};
@@ -34,7 +34,7 @@ impl Channels {
         ensures rx_ceilings { rxsc.ceilings_of result.rx ≡ (standing_in store.now).ceilings.rx }
         ensures tx_counters { txsc.counters_of result.tx ≡ transmit.no_counts }
         ensures rx_counters { rxsc.counters_of result.rx ≡ counting.no_counts }
-        ensures channel_counters { rxsc.channel_counters_of result.rx ≡ new_channels (standing_in store.now).config.channels }
+        ensures channel_counters { rxsc.channel_counters_of result.rx ≡ new_channel_counters (standing_in store.now).config.channels }
     {
         Channels {
             tx: opened_tx(store),
@@ -72,7 +72,7 @@ fn opened_rx<D: SectorDisk>(store: &Store<D>) -> Rx
         (λ sci an. option_map first_numbers ((standing_in store.now).ceilings.rx sci an)) }
     ensures ceilings { rxsc.ceilings_of result ≡ (standing_in store.now).ceilings.rx }
     ensures counters { rxsc.counters_of result ≡ counting.no_counts }
-    ensures channel_counters { rxsc.channel_counters_of result ≡ new_channels (standing_in store.now).config.channels }
+    ensures channel_counters { rxsc.channel_counters_of result ≡ new_channel_counters (standing_in store.now).config.channels }
 {
     let config = store.config();
     config.facts();

@@ -3,11 +3,11 @@
 ghost use Rattle.std.specs.Prelude.{◌≡◌, false, Some, OnOk, OnErr};
 ghost use Rattle.std.specs.Option.{option_map};
 ghost use Rattle.macs_txsc.specs.Transmit.{need_of};
-ghost use Rattle.macs_rxsc.specs.Needs.{needs_of};
+ghost use Rattle.macs_rxsc.specs.Needs.{first_need_of};
 ghost use Rattle.macs_store.specs.Value.{standing_in};
-ghost use Rattle.macs_store.specs.Standing.{with_rx_raised, with_tx_raised};
+ghost use Rattle.macs_store.specs.Standing.{standing_with_rx_raised, standing_with_tx_raised};
 ghost use Rattle.macs_endpoint.specs.Calls.{IsCall};
-ghost use Rattle.macs_endpoint.specs.Ceilings.{with_raise};
+ghost use Rattle.macs_endpoint.specs.Ceilings.{standing_with_raise};
 ghost use Rattle.macs_endpoint.specs.Value.{is_stopped, state_of};
 ghost use Rattle.macs_endpoint.specs.Reserving.{Reserves, raise_in, raise_of};
 ghost use Rattle.macs_endpoint.specs.State.{Refilled, Refills, no_logs, rx_side, tx_side};
@@ -58,7 +58,7 @@ impl<D: SectorDisk> Endpoint<D> {
         requires running { is_stopped self.old ≡ false }
         requires first { raise_in self.old ≡ Some (raise_of raise) }
         ensures reserves { Reserves D.disk self.old result self.new }
-        ensures done { OnOk result (standing_in self.new.store ≡ with_raise (standing_in self.old.store) (raise_of raise)) }
+        ensures done { OnOk result (standing_in self.new.store ≡ standing_with_raise (standing_in self.old.store) (raise_of raise)) }
         ensures same { OnErr result (standing_in self.new.store ≡ standing_in self.old.store) }
     {
         match raise {
@@ -73,7 +73,7 @@ impl<D: SectorDisk> Endpoint<D> {
         requires needed { need_of (tx_side (state_of self.old no_logs)) (standing_in self.old.store).ceilings.tx
             (standing_in self.old.store).identity.tx_block ≡ Some an }
         ensures reserves { Reserves D.disk self.old result self.new }
-        ensures done { OnOk result (standing_in self.new.store ≡ with_tx_raised (standing_in self.old.store) an) }
+        ensures done { OnOk result (standing_in self.new.store ≡ standing_with_tx_raised (standing_in self.old.store) an) }
         ensures same { OnErr result (standing_in self.new.store ≡ standing_in self.old.store) }
     {
         self.channels.tx.facts();
@@ -86,10 +86,10 @@ impl<D: SectorDisk> Endpoint<D> {
     /// Raises the ceiling of a receive association, which is needed.
     fn raise_rx(&mut self, need: RxNeed) -> Result<(), RefillFault>
         requires running { is_stopped self.old ≡ false }
-        requires needed { needs_of (rx_side (state_of self.old no_logs)) (standing_in self.old.store).ceilings.rx
+        requires needed { first_need_of (rx_side (state_of self.old no_logs)) (standing_in self.old.store).ceilings.rx
             (standing_in self.old.store).identity.rx_block ≡ Some (record { sci = need.sci; an = need.an; pn = need.pn }) }
         ensures reserves { Reserves D.disk self.old result self.new }
-        ensures done { OnOk result (standing_in self.new.store ≡ with_rx_raised (standing_in self.old.store) need.sci need.an need.pn) }
+        ensures done { OnOk result (standing_in self.new.store ≡ standing_with_rx_raised (standing_in self.old.store) need.sci need.an need.pn) }
         ensures same { OnErr result (standing_in self.new.store ≡ standing_in self.old.store) }
     {
         self.channels.rx.facts();

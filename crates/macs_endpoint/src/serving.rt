@@ -2,7 +2,7 @@
 
 ghost use Rattle.std.specs.Prelude.{◌≡◌};
 ghost use Rattle.macs_endpoint.specs.Calls.{IsCall};
-ghost use Rattle.macs_endpoint.specs.Serving.{IsServed, call_of, halts, reply_of};
+ghost use Rattle.macs_endpoint.specs.Serving.{IsServed, call_of, is_halt, reply_of};
 
 use crate::endpoint::Endpoint;
 use crate::event::{Answer, Event, ServeEnd};
@@ -14,7 +14,7 @@ use macs_frame::FrameBuf;
 impl Answer {
     /// Whether it says that a device call failed, now or before.
     fn is_halt(&self) -> bool
-        ensures { result ≡ halts (reply_of self.now) }
+        ensures { result ≡ is_halt (reply_of self.now) }
     {
         match self {
             Answer::Ran(Err(CommandFault::Stopped | CommandFault::Disk))

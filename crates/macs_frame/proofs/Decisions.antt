@@ -5,8 +5,8 @@ use Rattle.macs_frame.specs.declared.tag.Parts.{Parts}
 use Rattle.macs_frame.specs.declared.tag.TagFault.{TagFault}
 use Rattle.macs_frame.specs.declared.tag.TagFault.TheVariants.{Runt, Oversize, NoTag, BadTag, ForKay}
 use Rattle.macs_frame.specs.First.{IsFirst, NoneHolds}
-use Rattle.macs_frame.specs.Tag.{Agrees, IsForKay, IsGoodControl, IsGoodTag, IsTagged, Tag, TagFaultHolds, changed, control, encrypted, end_of, end_station, has_sci, number_of, short_length, single_copy_broadcast, start_of, tag_faults, tag_of, version}
-use Rattle.macs_frame.specs.Opening.{OpensTo, Verified, extra_of, hidden_of, icv_of, iv_of, secure_data}
+use Rattle.macs_frame.specs.Tag.{Agrees, IsForKay, IsGoodControl, IsGoodTag, IsTagged, Tag, TagFaultHolds, changed, control, encrypted, end_of, end_station, has_sci, pn_of, short_length, single_copy_broadcast, start_of, tag_faults, tag_of, has_version}
+use Rattle.macs_frame.specs.Opening.{OpensTo, Verified, additional_data, hidden_of, icv_of, iv_of, secure_data}
 use Rattle.macs_frame.proofs.FirstRefusal.{none-first}
 use Rattle.macs_frame.proofs.OpenFaults.{no_tag_fault}
 use Rattle.macs_frame.proofs.Readings.{verified_by_its_parts}
@@ -74,7 +74,7 @@ decided_agrees octets start short =
 -- that octet 3 breaks no rule
 decided_control : (octet : ℕ) → Decided (IsGoodControl octet)
 decided_control octet =
-    elim (decided_and (decided_false (version octet)) (decided_and (decided_false (single_copy_broadcast octet)) (decided_false (has_sci octet && end_station octet)))) [
+    elim (decided_and (decided_false (has_version octet)) (decided_and (decided_false (single_copy_broadcast octet)) (decided_false (has_sci octet && end_station octet)))) [
       | inl good ↦ inl (record { version_clear = good.0; single_copy_clear = good.1.0; one_name = good.1.1 })
       | inr bad ↦ inr (λ good. bad (good.version_clear, (good.single_copy_clear, good.one_name)))
     ]
@@ -83,7 +83,7 @@ decided_control octet =
 decided_good : (frame : List ℕ) → Decided (IsGoodTag frame)
 decided_good frame =
     elim (decided_and (decided_le (start_of frame) (length frame)) (decided_and (decided_control (control frame)) (decided_and (decided_lt (short_length frame) 64)
-    (decided_and (decided_not (cases_eq (number_of frame) 0)) (decided_agrees (length frame) (start_of frame) (short_length frame)))))) [
+    (decided_and (decided_not (cases_eq (pn_of frame) 0)) (decided_agrees (length frame) (start_of frame) (short_length frame)))))) [
       | inl good ↦ inl (record { whole = good.0; good_control = good.1.0; reserved_clear = good.1.1.0; numbered = good.1.1.1.0; agrees = good.1.1.1.1 })
       | inr bad ↦ inr (λ good. bad (good.whole, (good.good_control, (good.reserved_clear, (good.numbered, good.agrees)))))
     ]
@@ -150,7 +150,7 @@ module _ (frame key sci : List ℕ) (offset : ℕ) where
   -- that parts open to some plain frame
   decided_opens : (parts : Parts) → Decided ((plain : List ℕ) × OpensTo frame key sci offset parts plain)
   decided_opens parts =
-      let exact = Opens-tag key (iv_of sci parts.tag.pn) (extra_of frame offset parts) (hidden_of parts.tag.encrypted offset (secure_data frame parts)) (icv_of frame parts) in
+      let exact = Opens-tag key (iv_of sci parts.tag.pn) (additional_data frame offset parts) (hidden_of parts.tag.encrypted offset (secure_data frame parts)) (icv_of frame parts) in
       elim (decided_list _ (icv_of frame parts)) [
         | inl is ↦ let opens = exact.1 is in inl (_, record { plaintext = opens.0; sealed = opens.1; plain_is = refl })
         | inr differs ↦ inr (λ opens. differs (exact.0 (opens.1.plaintext, opens.1.sealed)))

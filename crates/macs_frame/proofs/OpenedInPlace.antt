@@ -3,11 +3,11 @@ use Rattle.std.proofs.Common.{◌≡◌, ℕ, List, ◌++◌, take, drop, sym, s
 use Rattle.std.proofs.lemmas.List.{take-append-drop}
 use Rattle.macs_frame.specs.declared.tag.Parts.{Parts}
 use Rattle.macs_gcm.specs.Gcm.{Opens, seal}
-use Rattle.macs_frame.specs.Opening.{OpensTo, clear_of, extra_of, hidden_of, icv_of, iv_of, secure_data}
+use Rattle.macs_frame.specs.Opening.{OpensTo, clear_of, additional_data, hidden_of, icv_of, iv_of, secure_data}
 
 -- what the code takes from the frame is what the parts say
 pub record Pieces (frame sci : List ℕ) (offset : ℕ) (parts : Parts) (clear : ℕ) (iv icv : List ℕ) : Type 0 where
-  pub extra_is : take clear frame ≡ extra_of frame offset parts
+  pub extra_is : take clear frame ≡ additional_data frame offset parts
   pub clear_is : slice_range frame parts.start clear ≡ clear_of parts.tag.encrypted offset (secure_data frame parts)
   pub hidden_is : slice_range frame clear parts.end ≡ hidden_of parts.tag.encrypted offset (secure_data frame parts)
   pub iv_is : iv ≡ iv_of sci parts.tag.pn

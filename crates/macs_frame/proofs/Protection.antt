@@ -8,7 +8,7 @@ use Rattle.macs_gcm.specs.Gcm.{seal}
 use Rattle.macs_frame.specs.declared.tag.Parts.{Parts}
 use Rattle.macs_frame.specs.declared.tag.SecTag.{SecTag}
 use Rattle.macs_frame.specs.Opening.{OpensTo, Verified, clear_of, hidden_of, iv_of}
-use Rattle.macs_frame.specs.Protection.{IsWritten, header_of, overhead, parts_of, protected_frame, tag_octets, user_data, written_tag}
+use Rattle.macs_frame.specs.Protection.{IsWritten, header_of, overhead, written_parts, protected_frame, tag_octets, user_data, written_tag}
 use Rattle.macs_frame.specs.Tag.{IsForKay, Tag}
 use Rattle.macs_frame.proofs.Readings.{verified_once}
 use Rattle.macs_frame.proofs.WrittenTag.{length-written_tag, parts_at, written_is_read}
@@ -150,12 +150,12 @@ module _ (key sci : List ℕ) (tag : SecTag) (offset : ℕ) (plain : List ℕ) (
         length-user_data,
       )
 
-  same_parts : parts_at tag (length (user_data plain)) ≡ parts_of tag (length plain)
+  same_parts : parts_at tag (length (user_data plain)) ≡ written_parts tag (length plain)
   same_parts =
       let end : 12 + tag_octets tag.name + length (user_data plain) ≡ length plain + tag_octets tag.name = omega (arith, length-user_data) in
       ap (λ (e : ℕ). parts_to tag (12 + tag_octets tag.name) e) end
 
-  protected_stands : length plain + overhead tag.name ≤ 9216 → Stands (protected_frame key sci tag offset plain) key sci offset (parts_of tag (length plain)) plain
+  protected_stands : length plain + overhead tag.name ≤ 9216 → Stands (protected_frame key sci tag offset plain) key sci offset (written_parts tag (length plain)) plain
   unfolding protected_frame
   protected_stands fits =
       let user = user_data plain in
@@ -167,7 +167,7 @@ module _ (key sci : List ℕ) (tag : SecTag) (offset : ℕ) (plain : List ℕ) (
 
 -- a protected frame is read as it was written
 pub protected_is_read : (key sci : List ℕ) (tag : SecTag) (offset : ℕ) (plain : List ℕ) → IsWritten tag → 14 ≤ length plain → length plain + overhead tag.name ≤ 9216
-    → Tag (protected_frame key sci tag offset plain) (parts_of tag (length plain)) × (¬ IsForKay (protected_frame key sci tag offset plain))
+    → Tag (protected_frame key sci tag offset plain) (written_parts tag (length plain)) × (¬ IsForKay (protected_frame key sci tag offset plain))
 protected_is_read key sci tag offset plain is long fits =
     let found = protected_stands key sci tag offset plain is long fits in
     (found.0, found.1)
@@ -178,7 +178,7 @@ pub protected_is_verified : (key sci : List ℕ) (tag : SecTag) (offset : ℕ) (
 protected_is_verified key sci tag offset plain other is long fits =
     let found = protected_stands key sci tag offset plain is long fits in
     let verified : Verified (protected_frame key sci tag offset plain) key sci offset plain = record {
-      parts = parts_of tag (length plain);
+      parts = written_parts tag (length plain);
       tag = found.0;
       not_for_kay = found.1;
       opens = found.2;

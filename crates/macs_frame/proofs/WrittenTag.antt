@@ -10,7 +10,7 @@ use Rattle.macs_frame.specs.declared.tag.ScName.TheVariants.{Explicit, EndStatio
 use Rattle.macs_frame.specs.declared.tag.SecTag.{SecTag}
 use Rattle.macs_frame.specs.declared.tag.Parts.{Parts}
 use Rattle.macs_frame.specs.Protection.{IsName, IsWritten, name_bits, sci_octets, short_of, tag_octets, written_tag}
-use Rattle.macs_frame.specs.Tag.{Agrees, IsForKay, IsTagged, Tag, changed, control, encrypted, end_at, end_station, has_bit, has_sci, name_of, number_of, sci_of, short_length, single_copy_broadcast, start_of, version}
+use Rattle.macs_frame.specs.Tag.{Agrees, IsForKay, IsTagged, Tag, changed, control, encrypted, end_at, end_station, has_bit, has_sci, name_of, pn_of, sci_of, short_length, single_copy_broadcast, start_of, has_version}
 
 -- ---- octet 3
 
@@ -30,7 +30,7 @@ is_end_station Implicit = false
 
 -- what the octet says is what it was made of
 record Bits (name : ScName) (e c : Bool) (an : ℕ) : Type 0 where
-  pub version : version (octet_of name e c an) ≡ false
+  pub version : has_version (octet_of name e c an) ≡ false
   pub end_station : end_station (octet_of name e c an) ≡ is_end_station name
   pub has_sci : has_sci (octet_of name e c an) ≡ is_explicit name
   pub single_copy : single_copy_broadcast (octet_of name e c an) ≡ false
@@ -73,7 +73,7 @@ record Reads (frame : List ℕ) (tag : SecTag) (secure : ℕ) : Type 0 where
   pub tagged : IsTagged frame
   pub control : control frame ≡ octet_of tag.name tag.encrypted tag.changed tag.an
   pub short : short_length frame ≡ short_of secure
-  pub number : number_of frame ≡ tag.pn
+  pub number : pn_of frame ≡ tag.pn
   pub sci : SciAt tag.name frame
 
 start_is : (name : ScName) (frame : List ℕ) → has_sci (control frame) ≡ is_explicit name → start_of frame ≡ 12 + tag_octets name

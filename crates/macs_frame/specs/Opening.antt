@@ -31,15 +31,15 @@ abbrev pub icv_of : List ℕ → Parts → List ℕ
 icv_of frame parts = slice_range frame parts.end (parts.end + 16)
 
 -- what is authenticated and not encrypted: the addresses, the SecTAG and the Secure Data in the clear (14.5)
-abbrev pub extra_of : List ℕ → ℕ → Parts → List ℕ
-extra_of frame offset parts =
+abbrev pub additional_data : List ℕ → ℕ → Parts → List ℕ
+additional_data frame offset parts =
     take parts.start frame ++ clear_of parts.tag.encrypted offset (secure_data frame parts)
 
 -- Under the key, the SCI and the offset these parts of the frame open to the plain frame: its User Data are the octets in
 -- the clear and then the plaintext, and what the plaintext is sealed to is the encrypted Secure Data and the ICV.
 pub record OpensTo (frame key sci : List ℕ) (offset : ℕ) (parts : Parts) (plain : List ℕ) : Type 0 where
   pub plaintext : List ℕ
-  pub sealed : seal key (iv_of sci parts.tag.pn) (extra_of frame offset parts) plaintext
+  pub sealed : seal key (iv_of sci parts.tag.pn) (additional_data frame offset parts) plaintext
       ≡ (hidden_of parts.tag.encrypted offset (secure_data frame parts), icv_of frame parts)
   pub plain_is : plain
       ≡ take 12 frame ++ clear_of parts.tag.encrypted offset (secure_data frame parts) ++ plaintext

@@ -66,8 +66,8 @@ protected_frame key sci tag offset plain =
     header_of tag plain ++ clear ++ sealed.0 ++ sealed.1
 
 -- the parts of the frame that protects a plain frame of so many octets
-abbrev pub parts_of : SecTag → ℕ → Parts
-parts_of tag octets = record { tag = tag; start = 12 + tag_octets tag.name; end = octets + tag_octets tag.name }
+abbrev pub written_parts : SecTag → ℕ → Parts
+written_parts tag octets = record { tag = tag; start = 12 + tag_octets tag.name; end = octets + tag_octets tag.name }
 
 -- ---- ranges
 

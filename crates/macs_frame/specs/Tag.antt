@@ -24,8 +24,8 @@ abbrev pub has_bit : ℕ → ℕ → Bool
 has_bit octet mask = not (bit_and octet mask == 0)
 
 -- V: the version is not 0 (9.5)
-abbrev pub version : ℕ → Bool
-version octet = has_bit octet 0x80
+abbrev pub has_version : ℕ → Bool
+has_version octet = has_bit octet 0x80
 
 -- ES: the SCI is the source address with port 00-01 (9.5)
 abbrev pub end_station : ℕ → Bool
@@ -52,8 +52,8 @@ abbrev pub short_length : List ℕ → ℕ
 short_length frame = slice_index frame 15
 
 -- octets 5 to 8: the PN (9.8)
-abbrev pub number_of : List ℕ → ℕ
-number_of frame = from_be_bytes w32 (slice_range frame 16 20)
+abbrev pub pn_of : List ℕ → ℕ
+pn_of frame = from_be_bytes w32 (slice_range frame 16 20)
 
 -- octets 9 to 16, only where SC is set: the SCI (9.9)
 abbrev pub sci_of : List ℕ → List ℕ
@@ -94,7 +94,7 @@ name_of frame =
 abbrev pub tag_of : List ℕ → SecTag
 tag_of frame = record {
   an = control frame % 4;
-  pn = number_of frame;
+  pn = pn_of frame;
   name = name_of frame;
   encrypted = encrypted (control frame);
   changed = changed (control frame);
@@ -102,7 +102,7 @@ tag_of frame = record {
 
 -- octet 3 breaks no rule (9.12): V and SCB are clear, and SC and ES are not both set
 pub record IsGoodControl (octet : ℕ) : Type 0 where
-  pub version_clear : version octet ≡ false
+  pub version_clear : has_version octet ≡ false
   pub single_copy_clear : single_copy_broadcast octet ≡ false
   pub one_name : has_sci octet && end_station octet ≡ false
 
@@ -112,7 +112,7 @@ pub record IsGoodTag (frame : List ℕ) : Type 0 where
   pub whole : start_of frame ≤ length frame
   pub good_control : IsGoodControl (control frame)
   pub reserved_clear : short_length frame < 64
-  pub numbered : number_of frame ≢ 0
+  pub numbered : pn_of frame ≢ 0
   pub agrees : Agrees (length frame) (start_of frame) (short_length frame)
 
 -- the frame's tag is good, and these are the frame's parts

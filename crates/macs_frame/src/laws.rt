@@ -7,7 +7,7 @@ ghost use Rattle.std.specs.List.{list_any};
 ghost use Rattle.macs_frame.specs.Fields.{IsAn, IsSci};
 ghost use Rattle.macs_frame.specs.First.{IsFirst, NoneHolds};
 ghost use Rattle.macs_frame.specs.Opening.{OpensTo, Verified};
-ghost use Rattle.macs_frame.specs.Protection.{IsWritten, overhead, parts_of, protected_frame};
+ghost use Rattle.macs_frame.specs.Protection.{IsWritten, overhead, written_parts, protected_frame};
 ghost use Rattle.macs_frame.specs.Tag.{IsForKay, Tag, TagFaultHolds, tag_faults};
 ghost use Rattle.macs_frame.specs.declared.tag.Parts.{Parts};
 ghost use Rattle.macs_frame.specs.declared.tag.SecTag.{SecTag};
@@ -61,7 +61,7 @@ pub fn protected_length()
 pub fn protected_is_read()
     ensures { (key sci : List ℕ) (tag : SecTag) (offset : ℕ) (plain : List ℕ) → IsWritten tag → 14 ≤ length plain
         → length plain + overhead tag.name ≤ 9216
-        → Tag (protected_frame key sci tag offset plain) (parts_of tag (length plain))
+        → Tag (protected_frame key sci tag offset plain) (written_parts tag (length plain))
         × (¬ IsForKay (protected_frame key sci tag offset plain)) }
 {}
 

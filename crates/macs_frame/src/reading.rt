@@ -2,7 +2,7 @@
 
 ghost use Rattle.std.specs.Prelude.{◌≡◌, ◌<◌, ◌≤◌, ◌+◌, ◌↔◌, length, IsTrue, MatchOption};
 ghost use Rattle.macs_frame.specs.First.{IsFirst};
-ghost use Rattle.macs_frame.specs.Tag.{Agrees, IsForKay, IsGoodControl, IsGoodTag, IsReading, Tag, TagFaultHolds, end_at, has_bit, name_of, number_of, sci_of, start_of, tag_faults};
+ghost use Rattle.macs_frame.specs.Tag.{Agrees, IsForKay, IsGoodControl, IsGoodTag, IsReading, Tag, TagFaultHolds, end_at, has_bit, name_of, pn_of, sci_of, start_of, tag_faults};
 
 use crate::fields::{An, Pn, Sci};
 use crate::tag::{ICV_OCTETS, MAX_FRAME, MIN_FRAME, Parts, ScName, SecTag, TagFault};
@@ -37,7 +37,7 @@ fn is_set(octet: u8, mask: u8) -> bool
 /// The PN's four octets as a number.
 fn number_of(frame: &[u8]) -> u32
     requires { 20 ≤ length frame.now }
-    ensures { result ≡ number_of frame.now }
+    ensures { result ≡ pn_of frame.now }
 {
     let mut number = [0; 4];
     number.copy_from_slice(&frame[16..20]);

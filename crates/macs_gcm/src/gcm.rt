@@ -2,7 +2,7 @@
 
 ghost use Rattle.std.specs.Prelude.{◌≡◌, ◌^◌, ◌<◌, ◌↔◌, ℕ, List, length, IsTrue};
 ghost use Rattle.std.specs.Bool.{OnFalse, OnTrue};
-ghost use Rattle.macs_gcm.specs.Gcm.{Opens, ciphertext_of, hash_subkey, pre_counter_block, seal, tag_of};
+ghost use Rattle.macs_gcm.specs.Gcm.{Opens, ciphertext_of, hash_subkey, pre_counter_block, seal, authentication_tag};
 
 use crate::counter::{gctr, inc32};
 use crate::hash::ghash;
@@ -60,7 +60,7 @@ fn apply_key_stream(key: &GcmKey, iv: &[u8; 12], text: &mut [u8])
 fn tag_of(key: &GcmKey, iv: &[u8; 12], extra: &[u8], ciphertext: &[u8]) -> [u8; 16]
     requires extra { length extra.now < 2 ^ 32 }
     requires text { length ciphertext.now < 2 ^ 32 }
-    ensures { result ≡ tag_of key.now iv.now extra.now ciphertext.now }
+    ensures { result ≡ authentication_tag key.now iv.now extra.now ciphertext.now }
 {
     let mut tag = ghash(key.subkey, extra, ciphertext).to_be_bytes();
     gctr(&key.schedule, &pre_counter_block(iv), &mut tag);

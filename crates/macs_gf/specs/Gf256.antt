@@ -16,9 +16,9 @@ abbrev pub IsInverse : ℕ → ℕ → Type 0
 IsInverse a b = (b < 2 ^ 8) × ((a ≡ 0 → b ≡ 0) × (a ≢ 0 → octet_product a b ≡ 1))
 
 -- each octet, in order
-abbrev pub octets : List ℕ
-octets = range_with_len 0 256
+abbrev pub every_octet : List ℕ
+every_octet = range_with_len 0 256
 
 -- the octet whose product with a is 1, or 0 where there is none
 unfoldable pub inverse : ℕ → ℕ
-inverse a = unwrap_or (find (λ b. octet_product a b == 1) octets) 0
+inverse a = unwrap_or (find (λ b. octet_product a b == 1) every_octet) 0

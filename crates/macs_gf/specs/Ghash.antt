@@ -18,9 +18,9 @@ abbrev pub ghash : ℕ → List ℕ → ℕ
 ghash h blocks = ghash_from h 0 blocks
 
 -- the hash subkey h to the power n, where h^0 is the one: the block whose only set bit is bit 0
-unfoldable pub key_power : ℕ → ℕ → ℕ
-key_power h zero = 2 ^ 127
-key_power h (suc n) = block_product h (key_power h n)
+unfoldable pub subkey_power : ℕ → ℕ → ℕ
+subkey_power h zero = 2 ^ 127
+subkey_power h (suc n) = block_product h (subkey_power h n)
 
 -- a string and zero octets after it, up to a whole number of blocks of 16 octets (7.1, step 4)
 abbrev pub padded_string : List ℕ → List ℕ

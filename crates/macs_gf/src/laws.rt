@@ -3,7 +3,7 @@
 ghost use Rattle.std.specs.Prelude.{◌≡◌, ◌↔◌, ◌%◌, ◌^◌, ◌<◌, ◌++◌, List, bit_xor, length, ℕ};
 ghost use Rattle.macs_gf.specs.Gf128.{block_product};
 ghost use Rattle.macs_gf.specs.Gf256.{IsInverse, aes_modulus, inverse, octet_product};
-ghost use Rattle.macs_gf.specs.Ghash.{blocks_of, ghash, ghash_from, key_power, padded_string};
+ghost use Rattle.macs_gf.specs.Ghash.{blocks_of, ghash, ghash_from, subkey_power, padded_string};
 ghost use Rattle.macs_gf.specs.Polynomial.{IsRemainder, product_below};
 
 /// The product of two octets is the remainder of the product of their polynomials on division by
@@ -69,7 +69,7 @@ pub fn block_one(a: u128)
 /// GHASH from a state is the state's product with the power of the hash subkey that counts the
 /// blocks, and GHASH of the blocks.
 pub fn ghash_from_state(h: u128, y: u128, blocks: &[u128])
-    ensures { let power = key_power h (length blocks.now) in
+    ensures { let power = subkey_power h (length blocks.now) in
         ghash_from h y blocks.now ≡ bit_xor (block_product y power) (ghash h blocks.now) }
 {}
 

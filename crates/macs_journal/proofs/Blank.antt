@@ -4,7 +4,7 @@ use Rattle.std.specs.List.{slice_get}
 use Rattle.std.proofs.lemmas.Bool.{cases_eq}
 use Rattle.std.proofs.lemmas.Option.{slice_get_within}
 use Rattle.macs_config.specs.Identity.{Identity}
-use Rattle.macs_disk.specs.States.{Image, IsImage, DiskState, put_sector, after_sync, after_write}
+use Rattle.macs_disk.specs.States.{Image, IsImage, DiskState, put_sector, state_after_sync, state_after_write}
 use Rattle.macs_disk.proofs.Images.{put-other, put-same}
 use Rattle.macs_record.specs.Decoding.{IsSectorOf}
 use Rattle.macs_record.specs.Gates.{IsOpen, open_gate}
@@ -14,7 +14,7 @@ use Rattle.macs_record.specs.declared.record.Record.{Record}
 use Rattle.macs_journal.specs.Appending.{IsReady}
 use Rattle.macs_journal.specs.Areas.{gate, head_body, slot_body}
 use Rattle.macs_journal.specs.Formatting.{IsBlank, IsFormatting, IsNewOrNone, first_content, first_head}
-use Rattle.macs_journal.specs.Found.{FindsContent, IsGateOpen, IsNotFormatted}
+use Rattle.macs_journal.specs.Found.{HasJournal, IsGateOpen, IsNotFormatted}
 use Rattle.macs_journal.proofs.Appends.{open_or_closed}
 
 -- ---- both head gates closed
@@ -26,21 +26,21 @@ blank-image s blank image left = (
 )
 
 -- a write elsewhere
-blank-write : (s : DiskState) (at : ℕ) (octets : List ℕ) → at ≢ 1 → at ≢ 515 → IsBlank s → IsBlank (after_write s at octets)
+blank-write : (s : DiskState) (at : ℕ) (octets : List ℕ) → at ≢ 1 → at ≢ 515 → IsBlank s → IsBlank (state_after_write s at octets)
 blank-write s at octets not_first not_second blank = record {
   clean = λ area le. put-other s.pending at (gate area 0) true (omega (arith, not_first, not_second, le)) ∙ blank.clean area le;
   fresh = λ area le. put-other s.seen at (gate area 0) octets (omega (arith, not_first, not_second, le)) ∙ blank.fresh area le;
   closed = blank.closed;
 }
 
-pub blank-wrote : (old new : DiskState) (at : ℕ) → at ≢ 1 → at ≢ 515 → (new ≡ old) ⊎ ((other : List ℕ) × (new ≡ after_write old at other)) → IsBlank old → IsBlank new
+pub blank-wrote : (old new : DiskState) (at : ℕ) → at ≢ 1 → at ≢ 515 → (new ≡ old) ⊎ ((other : List ℕ) × (new ≡ state_after_write old at other)) → IsBlank old → IsBlank new
 blank-wrote old new at not_first not_second wrote blank = elim wrote [
   | inl same ↦ subst IsBlank (sym same) blank
   | inr torn ↦ subst IsBlank (sym torn.1) (blank-write old at torn.0 not_first not_second blank)
 ]
 
 -- what reads give, once it is durable
-pub blank-synced : (s : DiskState) → IsNotFormatted s.seen → IsBlank (after_sync s)
+pub blank-synced : (s : DiskState) → IsNotFormatted s.seen → IsBlank (state_after_sync s)
 blank-synced s none = record { clean = λ area le. refl; fresh = λ area le. refl; closed = none }
 
 -- ---- the bodies written, and the gates closed one by one
@@ -57,9 +57,9 @@ formatting-skip s identity k shut f = record {
 }
 
 pub formatting-close : (s : DiskState) (identity : Identity) (closed : List ℕ) (k at : ℕ) → k < 256 → at ≡ gate 0 (k + 1) → (¬ IsOpen closed)
-    → IsFormatting s identity k → IsFormatting (after_write s at closed) identity (k + 1)
+    → IsFormatting s identity k → IsFormatting (state_after_write s at closed) identity (k + 1)
 formatting-close s identity closed k at lt is shut f =
-    formatting-skip (after_write s at closed) identity k
+    formatting-skip (state_after_write s at closed) identity k
     (λ opens. shut (subst IsOpen (put-same s.seen at (gate 0 (k + 1)) closed (sym is)) opens))
     (record {
       blank = blank-write s at closed (omega (arith, is)) (omega (arith, is, lt)) f.blank;
@@ -68,7 +68,7 @@ formatting-close s identity closed k at lt is shut f =
       gates = λ j less opens. f.gates j less (subst IsOpen (put-other s.seen at (gate 0 (j + 1)) closed (omega (arith, is, less))) opens);
     })
 
-formatting-sync : (s : DiskState) (identity : Identity) (k : ℕ) → IsFormatting s identity k → IsFormatting (after_sync s) identity k
+formatting-sync : (s : DiskState) (identity : Identity) (k : ℕ) → IsFormatting s identity k → IsFormatting (state_after_sync s) identity k
 formatting-sync s identity k f = record {
   blank = record {
     clean = λ area le. refl;
@@ -94,7 +94,7 @@ one_item r other j at =
 
 -- all is durable but the head gate
 module _ (s : DiskState) (identity : Identity) (f : IsFormatting s identity 256) (clean : (i : ℕ) → s.pending i ≡ false) (fresh : (i : ℕ) → s.seen i ≡ s.durable i) where
-  first-finds : (image : Image) → ((i : ℕ) → i ≢ 1 → image i ≡ s.durable i) → IsOpen (image 1) → FindsContent image (first_content identity)
+  first-finds : (image : Image) → ((i : ℕ) → i ≢ 1 → image i ≡ s.durable i) → IsOpen (image 1) → HasJournal image (first_content identity)
   first-finds image same opens = record {
     stands = record {
       area = omega arith;
@@ -111,7 +111,7 @@ module _ (s : DiskState) (identity : Identity) (f : IsFormatting s identity 256)
     past = λ is. absurd (f.blank.closed.1 (subst IsOpen (same 515 (omega arith)) is));
   }
 
-  first-image : (octets : List ℕ) (image : Image) → IsImage (after_write s 1 octets) image → IsNewOrNone identity image
+  first-image : (octets : List ℕ) (image : Image) → IsImage (state_after_write s 1 octets) image → IsNewOrNone identity image
   first-image octets image left =
       let same : (i : ℕ) → i ≢ 1 → image i ≡ s.durable i = λ i differs. left.kept i (put-other s.pending 1 i true differs ∙ clean i) in
       elim (open_or_closed (image 1)) [
@@ -119,7 +119,7 @@ module _ (s : DiskState) (identity : Identity) (f : IsFormatting s identity 256)
         | inr shut ↦ inl (shut, λ opens. f.blank.closed.1 (subst IsOpen (same 515 (omega arith)) opens))
       ]
 
-  first-synced : (opening : List ℕ) → IsOpen opening → IsReady (after_sync (after_write s 1 opening)) (first_content identity)
+  first-synced : (opening : List ℕ) → IsOpen opening → IsReady (state_after_sync (state_after_write s 1 opening)) (first_content identity)
   first-synced opening opens = record {
     clean = λ i. refl;
     fresh = λ i. refl;
@@ -128,23 +128,23 @@ module _ (s : DiskState) (identity : Identity) (f : IsFormatting s identity 256)
   }
 
 -- the bodies are durable, and the gate was written, whole or torn, or not at all
-pub opened : (s mid new : DiskState) (identity : Identity) (at : ℕ) → at ≡ 1 → IsFormatting s identity 256 → mid ≡ after_sync s
-    → (new ≡ mid) ⊎ ((other : List ℕ) × (new ≡ after_write mid at other)) → (image : Image) → IsImage new image → IsNewOrNone identity image
+pub opened : (s mid new : DiskState) (identity : Identity) (at : ℕ) → at ≡ 1 → IsFormatting s identity 256 → mid ≡ state_after_sync s
+    → (new ≡ mid) ⊎ ((other : List ℕ) × (new ≡ state_after_write mid at other)) → (image : Image) → IsImage new image → IsNewOrNone identity image
 opened s mid new identity at is_at f is wrote image left =
     let durable = formatting-sync s identity 256 f in
     elim wrote [
-      | inl same ↦ inl (blank-image (after_sync s) durable.blank image (subst (λ (s : DiskState). IsImage s image) (same ∙ is) left))
+      | inl same ↦ inl (blank-image (state_after_sync s) durable.blank image (subst (λ (s : DiskState). IsImage s image) (same ∙ is) left))
       | inr torn ↦
-          let gate : new ≡ after_write (after_sync s) 1 torn.0 = torn.1 ∙ (λ i. after_write (is i) (is_at i) torn.0) in
-          first-image (after_sync s) identity durable (λ i. refl) (λ i. refl) torn.0 image (subst (λ (s : DiskState). IsImage s image) gate left)
+          let gate : new ≡ state_after_write (state_after_sync s) 1 torn.0 = torn.1 ∙ (λ i. state_after_write (is i) (is_at i) torn.0) in
+          first-image (state_after_sync s) identity durable (λ i. refl) (λ i. refl) torn.0 image (subst (λ (s : DiskState). IsImage s image) gate left)
     ]
 
-pub formatted : (s mid wrote new : DiskState) (identity : Identity) (at : ℕ) (opening : List ℕ) → at ≡ 1 → IsFormatting s identity 256 → mid ≡ after_sync s
-    → IsOpen opening → wrote ≡ after_write mid at opening → new ≡ after_sync wrote → IsReady new (first_content identity)
+pub formatted : (s mid wrote new : DiskState) (identity : Identity) (at : ℕ) (opening : List ℕ) → at ≡ 1 → IsFormatting s identity 256 → mid ≡ state_after_sync s
+    → IsOpen opening → wrote ≡ state_after_write mid at opening → new ≡ state_after_sync wrote → IsReady new (first_content identity)
 formatted s mid wrote new identity at opening is_at f is opens is_written is_synced =
-    let whole : new ≡ after_sync (after_write (after_sync s) 1 opening) = is_synced ∙ ap after_sync (is_written ∙ (λ i. after_write (is i) (is_at i) opening)) in
+    let whole : new ≡ state_after_sync (state_after_write (state_after_sync s) 1 opening) = is_synced ∙ ap state_after_sync (is_written ∙ (λ i. state_after_write (is i) (is_at i) opening)) in
     subst (λ (s : DiskState). IsReady s (first_content identity)) (sym whole)
-    (first-synced (after_sync s) identity (formatting-sync s identity 256 f) (λ i. refl) (λ i. refl) opening opens)
+    (first-synced (state_after_sync s) identity (formatting-sync s identity 256 f) (λ i. refl) (λ i. refl) opening opens)
 
 -- zeros close a gate
 pub zeros-closed : ¬ IsOpen (replicate 512 0)

@@ -4,7 +4,7 @@ use Rattle.macs_disk.specs.States.{Image}
 use Rattle.macs_record.specs.Heads.{Head}
 use Rattle.macs_record.specs.declared.record.Record.{Record}
 use Rattle.macs_journal.specs.Areas.{slots}
-use Rattle.macs_journal.specs.Found.{Content, FindsContent, IsCurrent, IsFoundContent}
+use Rattle.macs_journal.specs.Found.{Content, HasJournal, IsCurrent, JournalIs}
 use Rattle.macs_journal.specs.Recovery.{AreRecords, IsCountOf}
 use Rattle.macs_journal.specs.declared.fault.JournalFault.{JournalFault}
 use Rattle.macs_journal.specs.declared.fault.JournalFault.TheVariants.{Stopped, TooSmall, Disk, AlreadyFormatted, NotFormatted, BadJournal, AreaFull}
@@ -12,7 +12,7 @@ use Rattle.macs_journal.proofs.Current.{bad_not_blank, not_blank, not_both, one_
 
 -- the content that was read is found
 pub read_found : (image : Image) (area free : ℕ) (head : Head) (records : List Record) → IsCurrent image area head
-    → IsCountOf image area head.count slots free → AreRecords image area free records → FindsContent image (record { area = area; head = head; records = records })
+    → IsCountOf image area head.count slots free → AreRecords image area free records → HasJournal image (record { area = area; head = head; records = records })
 read_found image area free head records is counts are =
     let size = are.count in
     record {
@@ -30,7 +30,7 @@ read_found image area free head records is counts are =
 
 -- ---- one finding
 
-small : (sectors : ℕ) (image : Image) (found : Result Content JournalFault) → sectors < 1028 → IsFoundContent sectors image found → found ≡ Err TooSmall
+small : (sectors : ℕ) (image : Image) (found : Result Content JournalFault) → sectors < 1028 → JournalIs sectors image found → found ≡ Err TooSmall
 small sectors image (Ok c) less is = absurd (let large = is.0 in omega (arith, less, large))
 small sectors image (Err Stopped) less is = absurd is
 small sectors image (Err TooSmall) less is = refl
@@ -40,7 +40,7 @@ small sectors image (Err NotFormatted) less is = absurd (let large = is.0 in ome
 small sectors image (Err BadJournal) less is = absurd (let large = is.0 in omega (arith, less, large))
 small sectors image (Err AreaFull) less is = absurd is
 
-pub one_finding : (sectors : ℕ) (image : Image) (a b : Result Content JournalFault) → IsFoundContent sectors image a → IsFoundContent sectors image b → a ≡ b
+pub one_finding : (sectors : ℕ) (image : Image) (a b : Result Content JournalFault) → JournalIs sectors image a → JournalIs sectors image b → a ≡ b
 one_finding sectors image (Err Stopped) b is_a is_b = absurd is_a
 one_finding sectors image (Err Disk) b is_a is_b = absurd is_a
 one_finding sectors image (Err AlreadyFormatted) b is_a is_b = absurd is_a

@@ -1,16 +1,18 @@
 -- What the opening of a disk promises: the device calls that it makes, why it is refused, and what is recovered.
-use Rattle.std.specs.Prelude.{◌≡◌, ◌≢◌, ◌<◌, ◌≤◌, ◌↔◌, List, length, false, Result, Ok, Err}
+use Rattle.std.specs.Prelude.{ℕ, ◌≡◌, ◌≢◌, ◌<◌, ◌≤◌, ◌↔◌, List, length, false, Result, Ok, Err}
+use Rattle.macs_config.specs.Identity.{Identity}
 use Rattle.macs_disk.specs.Disk.{Disk, IsHonest, Works, now}
 use Rattle.macs_disk.specs.Runs.{LeavesNothingNew}
-use Rattle.macs_disk.specs.States.{after_sync}
+use Rattle.macs_disk.specs.States.{state_after_sync}
 use Rattle.macs_record.specs.declared.record.Record.{Record}
 use Rattle.macs_journal.specs.Areas.{least_sectors}
-use Rattle.macs_journal.specs.Found.{IsFoundContent}
+use Rattle.macs_journal.specs.Found.{JournalIs}
 use Rattle.macs_journal.specs.Recovery.{IsLeftBy, IsRecoverName}
-use Rattle.macs_journal.specs.Value.{Holds, IsIdle, content_of, disk_in, is_stopped, used_slots}
+use Rattle.macs_journal.specs.Value.{HoldsContent, IsIdle, JournalValue, content_of, disk_in, is_stopped, used_slots}
 use Rattle.macs_journal.specs.Work.{FailsWith}
 use Rattle.macs_journal.specs.declared.fault.JournalFault.{JournalFault}
 use Rattle.macs_journal.specs.declared.fault.JournalFault.TheVariants as variant
+use Rattle.macs_journal.specs.declared.recovery.Found.{Found}
 use Rattle.macs_journal.specs.declared.recovery.RecoverRefused.{RecoverRefused}
 use Rattle.macs_journal.specs.declared.recovery.Recovered.{Recovered}
 
@@ -20,7 +22,7 @@ pub record IsOpened (old new : Disk) : Type 0 where
   pub large : least_sectors ≤ old.sectors
   pub works : Works old new
   pub fails : new.failures ≡ old.failures
-  pub settled : IsHonest new → now new ≡ after_sync (now old)
+  pub settled : IsHonest new → now new ≡ state_after_sync (now old)
   pub any_moment : IsHonest new → LeavesNothingNew old new
 
 -- An opening that is refused, and gives the disk back. TooSmall is told exactly of a disk that is too small, and then no call is made;
@@ -38,20 +40,28 @@ pub record IsRefused {D : Type 0} (disk_of : D → Disk) (Found : JournalFault �
 
 -- A journal is recovered, and these are its records. It runs and has nothing in hand, its head has this identity and count, and its records
 -- fill the slots that are used, those of the snapshot first. On an honest disk this is what the disk stood for, and the journal holds it.
-pub record Recovers {D : Type 0} (disk_of : D → Disk) (disk : D) (recovered : Recovered D) (records : List Record) : Type 0 where
-  pub device : IsOpened (disk_of disk) (disk_in disk_of recovered.journal)
-  pub running : is_stopped recovered.journal ≡ false
-  pub idle : IsIdle recovered.journal
-  pub identity : recovered.identity ≡ (content_of recovered.journal records).head.identity
-  pub count : recovered.count ≡ (content_of recovered.journal records).head.count
-  pub used : length records ≡ used_slots recovered.journal
-  pub behind : recovered.count ≤ length records
-  pub found : IsHonest (disk_in disk_of recovered.journal)
-      → IsFoundContent (disk_of disk).sectors (now (disk_of disk)).seen (Ok (content_of recovered.journal records))
-  pub holds : IsHonest (disk_in disk_of recovered.journal) → Holds disk_of recovered.journal (content_of recovered.journal records)
+pub record Recovers {D : Type 0} (disk_of : D → Disk) (disk : D) (journal : JournalValue D) (identity : Identity) (count : ℕ) (records : List Record) : Type 0 where
+  pub device : IsOpened (disk_of disk) (disk_in disk_of journal)
+  pub running : is_stopped journal ≡ false
+  pub idle : IsIdle journal
+  pub whose : identity ≡ (content_of journal records).head.identity
+  pub counted : count ≡ (content_of journal records).head.count
+  pub used : length records ≡ used_slots journal
+  pub behind : count ≤ length records
+  pub found : IsHonest (disk_in disk_of journal)
+      → JournalIs (disk_of disk).sectors (now (disk_of disk)).seen (Ok (content_of journal records))
+  pub holds : IsHonest (disk_in disk_of journal) → HoldsContent disk_of journal (content_of journal records)
+
+-- what a disk is refused for: it is that of no journal
+abbrev pub IsNoJournal : {D : Type 0} → (D → Disk) → D → JournalFault → Type 0
+IsNoJournal disk_of disk fault = JournalIs (disk_of disk).sectors (now (disk_of disk)).seen (Err fault)
 
 -- The journal of a disk is recovered with these records, or refused for what stands on the disk, or for a device call that failed.
-abbrev pub IsRecovery : {D : Type 0} → (D → Disk) → D → Result (Recovered D) (RecoverRefused D) → List Record → Type 0
-IsRecovery disk_of disk (Ok recovered) records = Recovers disk_of disk recovered records
-IsRecovery disk_of disk (Err refused) records =
-    IsRefused disk_of (λ fault. IsFoundContent (disk_of disk).sectors (now (disk_of disk)).seen (Err fault)) disk refused.disk refused.fault
+abbrev pub IsRecoveryInto : {D : Type 0} → (D → Disk) → D → Result (Found D) (RecoverRefused D) → List Record → Type 0
+IsRecoveryInto disk_of disk (Ok found) records = Recovers disk_of disk found.journal found.identity found.count records
+IsRecoveryInto disk_of disk (Err refused) records = IsRefused disk_of (IsNoJournal disk_of disk) disk refused.disk refused.fault
+
+-- the same, with the records in the answer
+abbrev pub IsRecovery : {D : Type 0} → (D → Disk) → D → Result (Recovered D) (RecoverRefused D) → Type 0
+IsRecovery disk_of disk (Ok r) = Recovers disk_of disk r.journal r.identity r.count r.records.items
+IsRecovery disk_of disk (Err refused) = IsRefused disk_of (IsNoJournal disk_of disk) disk refused.disk refused.fault

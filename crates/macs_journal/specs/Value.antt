@@ -5,7 +5,7 @@ use Rattle.macs_disk.specs.States.{DiskState}
 use Rattle.macs_record.specs.Decoding.{IsSectorOf}
 use Rattle.macs_record.specs.declared.record.Record.{Record}
 use Rattle.macs_journal.specs.Areas.{slots}
-use Rattle.macs_journal.specs.Found.{Content, with_record}
+use Rattle.macs_journal.specs.Found.{Content, content_with_record}
 use Rattle.macs_journal.specs.Appending.{AtAppend, IsReady, calls_left}
 use Rattle.macs_journal.specs.declared.hand.Hand.{Hand}
 use Rattle.macs_journal.specs.declared.hand.Hand.TheVariants.{Append, Empty}
@@ -52,7 +52,7 @@ pub record IsAt (place : Place) (c : Content) : Type 0 where
 abbrev pub HoldsHand : DiskState → Hand → Content → Content → Type 0
 HoldsHand s Empty before after = IsReady s before × (after ≡ before)
 HoldsHand s (Append work) before after =
-    (r : Record) × IsSectorOf r work.sector × (after ≡ with_record before r) × AtAppend s before work.sector work.stage × (length before.records < slots)
+    (r : Record) × IsSectorOf r work.sector × (after ≡ content_with_record before r) × AtAppend s before work.sector work.stage × (length before.records < slots)
 
 -- The disk has the content `before`, and `after` once the work in hand is done.
 pub record IsHolding (s : DiskState) (place : Place) (hand : Hand) (before after : Content) : Type 0 where
@@ -70,5 +70,5 @@ left_of Empty = 0
 left_of (Append work) = calls_left (Some work.stage)
 
 -- the disk has this content, and nothing is in hand
-abbrev pub Holds : {D : Type 0} → (D → Disk) → JournalValue D → Content → Type 0
-Holds disk_of j content = IsHolding (now (disk_in disk_of j)) j.place j.hand content content
+abbrev pub HoldsContent : {D : Type 0} → (D → Disk) → JournalValue D → Content → Type 0
+HoldsContent disk_of j content = IsHolding (now (disk_in disk_of j)) j.place j.hand content content

@@ -1,7 +1,7 @@
 //! Where things stand on a disk.
 
 ghost use Rattle.std.specs.Prelude.{◌≡◌, ◌<◌, ◌≤◌, ◌+◌, ℕ};
-ghost use Rattle.macs_journal.specs.Areas.{IsArea, gate, head_body, least_sectors, other, slot_body, slots};
+ghost use Rattle.macs_journal.specs.Areas.{IsArea, gate, head_body, least_sectors, other_area, slot_body, slots};
 
 use std::marker::Model;
 

@@ -4,7 +4,7 @@ ghost use Rattle.std.specs.Prelude.{◌≡◌, ◌≢◌, ◌<◌, ◌≤◌, �
 ghost use Rattle.macs_config.specs.Identity.{Identity};
 ghost use Rattle.macs_disk.specs.Disk.{IsHonest, IsWork, now};
 ghost use Rattle.macs_disk.specs.Runs.{Leaves, LeavesNothingNew};
-ghost use Rattle.macs_disk.specs.States.{after_sync};
+ghost use Rattle.macs_disk.specs.States.{state_after_sync};
 ghost use Rattle.macs_record.specs.Decoding.{IsSectorOf};
 ghost use Rattle.macs_record.specs.Gates.{closed_gate, open_gate};
 ghost use Rattle.macs_record.specs.Heads.{IsHeadOf};
@@ -48,7 +48,7 @@ fn has_open_head<D: SectorDisk>(disk: &mut D) -> Result<bool, DeviceFault>
     requires size { least_sectors ≤ (D.disk disk.old).sectors }
     ensures work { IsWork (D.disk disk.old) (D.disk disk.new) result }
     ensures nothing { IsHonest (D.disk disk.new) → LeavesNothingNew (D.disk disk.old) (D.disk disk.new) }
-    ensures settled { OnOk result (IsHonest (D.disk disk.new) → now (D.disk disk.new) ≡ after_sync (now (D.disk disk.old))) }
+    ensures settled { OnOk result (IsHonest (D.disk disk.new) → now (D.disk disk.new) ≡ state_after_sync (now (D.disk disk.old))) }
     ensures spared { IsHonest (D.disk disk.new) → (i : ℕ) → IsSpared (D.disk disk.old) (D.disk disk.new) i }
     ensures clear { IfOk result (λ is. is ≡ false → IsHonest (D.disk disk.new) → IsNotFormatted (now (D.disk disk.old)).seen) }
     ensures taken { IfOk result (λ is. is ≡ true → IsHonest (D.disk disk.new)

@@ -7,9 +7,9 @@ ghost use Rattle.macs_disk.specs.States.{Image};
 ghost use Rattle.macs_record.specs.Gates.{open_gate};
 ghost use Rattle.macs_record.specs.declared.record.Record.{Record};
 ghost use Rattle.macs_journal.specs.Areas.{gate, least_sectors, slot_body, slots};
-ghost use Rattle.macs_journal.specs.Found.{Content, FindsContent, with_record};
-ghost use Rattle.macs_journal.specs.Appending.{FindsEitherContent};
-ghost use Rattle.macs_journal.specs.Value.{ComesTo, Holds, IsHolding, IsIdle, JournalValue, device_in, disk_in, is_stopped, left_of, used_slots};
+ghost use Rattle.macs_journal.specs.Found.{Content, HasJournal, content_with_record};
+ghost use Rattle.macs_journal.specs.Appending.{HasEitherJournal};
+ghost use Rattle.macs_journal.specs.Value.{ComesTo, HoldsContent, IsHolding, IsIdle, JournalValue, device_in, disk_in, is_stopped, left_of, used_slots};
 ghost use Rattle.macs_journal.specs.Work.{IsSpared, IsWorkOf};
 ghost use Rattle.macs_journal.specs.declared.fault.JournalFault.TheVariants.{Disk, Stopped};
 ghost use Rattle.macs_journal.specs.declared.hand.Hand.TheVariants.{Empty};
@@ -98,13 +98,13 @@ impl<D: SectorDisk> Journal<D> {
         ensures slot { OnOk result (used_slots self.new ≡ used_slots self.old + 1) }
         ensures place { OnOk result (self.new.place ≡ record self.old.place { free = self.old.place.free + 1 }) }
         ensures at_fault { OnErr result (self.new.place ≡ self.old.place) }
-        ensures any_moment { IsHonest (disk_in D.disk self.new) → (before : Content) → Holds D.disk self.old before
-            → Leaves (disk_in D.disk self.old) (disk_in D.disk self.new) (FindsEitherContent before (with_record before value.now)) }
-        ensures done { OnOk result (IsHonest (disk_in D.disk self.new) → (before : Content) → Holds D.disk self.old before
-            → Holds D.disk self.new (with_record before value.now)) }
-        ensures kept { OnOk result (IsHonest (disk_in D.disk self.new) → (before : Content) → Holds D.disk self.old before
-            → (image : Image) → MayLeave (disk_in D.disk self.new) image → FindsContent image (with_record before value.now)) }
-        ensures gate { OnOk result (IsHonest (disk_in D.disk self.new) → (before : Content) → Holds D.disk self.old before
+        ensures any_moment { IsHonest (disk_in D.disk self.new) → (before : Content) → HoldsContent D.disk self.old before
+            → Leaves (disk_in D.disk self.old) (disk_in D.disk self.new) (HasEitherJournal before (content_with_record before value.now)) }
+        ensures done { OnOk result (IsHonest (disk_in D.disk self.new) → (before : Content) → HoldsContent D.disk self.old before
+            → HoldsContent D.disk self.new (content_with_record before value.now)) }
+        ensures kept { OnOk result (IsHonest (disk_in D.disk self.new) → (before : Content) → HoldsContent D.disk self.old before
+            → (image : Image) → MayLeave (disk_in D.disk self.new) image → HasJournal image (content_with_record before value.now)) }
+        ensures gate { OnOk result (IsHonest (disk_in D.disk self.new) → (before : Content) → HoldsContent D.disk self.old before
             → (now (disk_in D.disk self.new)).seen (gate self.old.place.area (self.old.place.free + 1)) ≡ open_gate) }
         ensures others { IsHonest (disk_in D.disk self.new) → (i : ℕ) → i ≢ slot_body self.old.place.area self.old.place.free
             → i ≢ gate self.old.place.area (self.old.place.free + 1)
@@ -134,7 +134,7 @@ impl<D: SectorDisk> Journal<D> {
         ensures at_fault { OnErr result (self.new.place ≡ self.old.place) }
         ensures any_moment { IsHonest (disk_in D.disk self.new) → (before after : Content)
             → IsHolding (now (disk_in D.disk self.old)) self.old.place self.old.hand before after
-            → Leaves (disk_in D.disk self.old) (disk_in D.disk self.new) (FindsEitherContent before after) }
+            → Leaves (disk_in D.disk self.old) (disk_in D.disk self.new) (HasEitherJournal before after) }
         ensures done { OnOk result (IsHonest (disk_in D.disk self.new) → (before after : Content)
             → IsHolding (now (disk_in D.disk self.old)) self.old.place self.old.hand before after
             → IsHolding (now (disk_in D.disk self.new)) self.new.place self.new.hand after after) }
@@ -174,7 +174,7 @@ impl<D: SectorDisk> Journal<D> {
         ensures idle { OnErr result (IsIdle self.new) }
         ensures any_moment { IsHonest (disk_in D.disk self.new) → (before after : Content)
             → IsHolding (now (disk_in D.disk self.old)) self.old.place self.old.hand before after
-            → Leaves (disk_in D.disk self.old) (disk_in D.disk self.new) (FindsEitherContent before after) }
+            → Leaves (disk_in D.disk self.old) (disk_in D.disk self.new) (HasEitherJournal before after) }
         ensures next { OnOk result (IsHonest (disk_in D.disk self.new) → (before after : Content)
             → IsHolding (now (disk_in D.disk self.old)) self.old.place self.old.hand before after
             → ComesTo (now (disk_in D.disk self.new)) self.new.place self.new.hand before after) }

@@ -17,5 +17,5 @@ mod slots;
 pub use fault::JournalFault;
 pub use formatting::format;
 pub use journal::Journal;
-pub use recovery::{RecoverRefused, Recovered, recover};
+pub use recovery::{Found, RecoverRefused, Recovered, recover, recover_into};
 pub use slots::Records;

@@ -2,7 +2,7 @@
 use Rattle.std.proofs.Common.{◌≡◌, ◌-◌, ◌++◌, ◌∙◌, ℕ, List, length, replicate, Some, None, Option, inl, inr, refl, sym, subst, ap, arith, length-append}
 use Rattle.std.proofs.lemmas.List.{length-replicate}
 use Rattle.macs_frame.specs.First.{IsFirst, NoneHolds}
-use Rattle.macs_record.specs.Decoding.{HasFields, HasKind, Holds, IsSectorOf, faults}
+use Rattle.macs_record.specs.Decoding.{HasFields, HasKind, RecordFaultHolds, IsSectorOf, record_faults}
 use Rattle.macs_record.specs.Layout.{IsRecord, fields_of, front_of, kind_of, octets_of_kind}
 use Rattle.macs_record.specs.Sectors.{padded_sector}
 use Rattle.macs_record.specs.declared.kind.Kind.{Kind}
@@ -65,7 +65,7 @@ is_sector r sector left size range whole zeros = record { range = range; octets 
 -- ---- the faults
 
 pub first_field : (kind : Kind) (sector behind left : List ℕ) → sector ≡ octets_of_kind kind ++ behind
-    → KindFound sector (Some kind) behind → FieldsFound kind behind None left → IsFirst (Holds sector) faults Field
+    → KindFound sector (Some kind) behind → FieldsFound kind behind None left → IsFirst (RecordFaultHolds sector) record_faults Field
 first_field kind sector behind left here kinds fields =
     inr ((λ no. no (kind, (behind, here))), inl (no_fields kind sector behind left kinds fields, refl))
 
@@ -75,7 +75,7 @@ all_zeros left n zeros =
 
 pub first_rest : (kind : Kind) (r : Record) (sector behind left : List ℕ) → sector ≡ octets_of_kind kind ++ behind
     → IsRecord r × (kind_of r ≡ kind) × (behind ≡ fields_of r ++ left) → KindFound sector (Some kind) behind → FieldsFound kind behind (Some r) left
-    → (left ≡ replicate (length left) 0 → ⊥) → IsFirst (Holds sector) faults Rest
+    → (left ≡ replicate (length left) 0 → ⊥) → IsFirst (RecordFaultHolds sector) record_faults Rest
 first_rest kind r sector behind left here read kinds fields more =
     let stands : HasFields sector = (r, read.0, (left, begins kind r sector behind left here read.1 read.2)) in
     inr (
@@ -90,7 +90,7 @@ first_rest kind r sector behind left here read kinds fields more =
       ),
     )
 
-pub no_fault : (r : Record) (sector : List ℕ) → IsSectorOf r sector → NoneHolds (Holds sector) faults
+pub no_fault : (r : Record) (sector : List ℕ) → IsSectorOf r sector → NoneHolds (RecordFaultHolds sector) record_faults
 no_fault r sector is =
     let stands = has_fields r sector is in
     ((λ no. no (fields_have_kind sector stands)), ((λ no. no stands), ((λ no. no (r, is)), tt)))

@@ -19,7 +19,7 @@ use Rattle.macs_config.specs.declared.command.SciMode.{SciMode}
 use Rattle.macs_config.specs.declared.command.SciMode.TheVariants.{EndStation, Explicit, Implicit}
 use Rattle.macs_config.specs.declared.command.Validate.{Validate}
 use Rattle.macs_config.specs.declared.command.Validate.TheVariants.{Check, Strict}
-use Rattle.macs_record.specs.Layout.{IsRecord, encoding_octet, fields_of, flag, front_of, kind_of, mode_octet, protection_octets, replay_octets, role_octet, sector_of, validate_octet}
+use Rattle.macs_record.specs.Layout.{IsRecord, encoding_octet, fields_of, flag_octet, front_of, kind_of, mode_octet, protection_octets, replay_octets, role_octet, sector_of, validate_octet}
 use Rattle.macs_frame.specs.Fields.{IsOctets}
 use Rattle.macs_record.specs.Ranges.{IsEncoding}
 use Rattle.macs_record.specs.declared.kind.Kind.{Kind}
@@ -33,7 +33,7 @@ use Rattle.macs_record.proofs.RecordKinds.{one_kind}
 abbrev octet : ℕ → List ℕ → ℕ
 octet place octets = get_or octets place 0
 
-flag_back : (is : Bool) → (flag is == 1) ≡ is
+flag_back : (is : Bool) → (flag_octet is == 1) ≡ is
 flag_back false = refl
 flag_back true = refl
 
@@ -77,7 +77,7 @@ offset_back Fifty = refl
 abbrev protection_from : ℕ → ℕ → Protection
 protection_from confidential octet = if confidential == 1 then Confidentiality (offset_from octet) else Integrity
 
-protection_back : (protection : Protection) → protection_from (flag (is_confidential protection)) (octets_of (offset_of protection)) ≡ protection
+protection_back : (protection : Protection) → protection_from (flag_octet (is_confidential protection)) (octets_of (offset_of protection)) ≡ protection
 protection_back Integrity = refl
 protection_back (Confidentiality offset) = ap Confidentiality (offset_back offset)
 

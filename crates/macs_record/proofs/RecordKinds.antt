@@ -4,7 +4,7 @@ use Rattle.std.specs.List.{find}
 use Rattle.std.proofs.lemmas.Bool.{cases_Bool, eqb-true}
 use Rattle.macs_config.specs.declared.association.RxSa.{RxSa as RxSaFields}
 use Rattle.macs_config.specs.declared.association.TxSa.{TxSa as TxSaFields}
-use Rattle.macs_record.specs.Layout.{kind_of, mark, number_of, octets_of_kind}
+use Rattle.macs_record.specs.Layout.{kind_of, record_mark, kind_number, octets_of_kind}
 use Rattle.macs_record.specs.declared.kind.Kind.{Kind}
 use Rattle.macs_record.specs.declared.kind.Kind.TheVariants as kinds
 use Rattle.macs_record.specs.declared.kind.TheConstants.{KINDS}
@@ -14,9 +14,9 @@ use Rattle.macs_record.specs.declared.record.Record.TheVariants.{TxSa, RxSa, TxI
 -- ---- the kind of a number
 
 abbrev pub of_number : ℕ → Option Kind
-of_number number = find (λ (kind : Kind). number_of kind == number) KINDS
+of_number number = find (λ (kind : Kind). kind_number kind == number) KINDS
 
-of_its_number : (kind : Kind) → of_number (number_of kind) ≡ Some kind
+of_its_number : (kind : Kind) → of_number (kind_number kind) ≡ Some kind
 of_its_number kinds.Settings = refl
 of_its_number kinds.TxSa = refl
 of_its_number kinds.Channel = refl
@@ -35,7 +35,7 @@ of_its_number kinds.RxRemove = refl
 of_its_number kinds.TxCeiling = refl
 of_its_number kinds.RxCeiling = refl
 
-pub one_kind : (a b : Kind) → number_of a ≡ number_of b → a ≡ b
+pub one_kind : (a b : Kind) → kind_number a ≡ kind_number b → a ≡ b
 one_kind a b same = let found = sym (of_its_number a) ∙ ap of_number same ∙ of_its_number b in cc
 
 found_passes : (test : Kind → Bool) (all : List Kind) (kind : Kind) → find test all ≡ Some kind → test kind ≡ true
@@ -47,18 +47,18 @@ found_passes test (first ∷ others) kind found = elim (cases_Bool (test first))
 
 -- the kind that was found is the one of this number
 pub has_number : (number : ℕ) (result : Option Kind) → result ≡ of_number number
-    → (kind : Kind) → (result ≡ Some kind → number_of kind ≡ number) × (number_of kind ≡ number → result ≡ Some kind)
+    → (kind : Kind) → (result ≡ Some kind → kind_number kind ≡ number) × (kind_number kind ≡ number → result ≡ Some kind)
 has_number number result is kind = (
-  (λ found. eqb-true (number_of kind) number (found_passes (λ (k : Kind). number_of k == number) KINDS kind (sym is ∙ found))),
+  (λ found. eqb-true (kind_number kind) number (found_passes (λ (k : Kind). kind_number k == number) KINDS kind (sym is ∙ found))),
   (λ same. is ∙ ap of_number (sym same) ∙ of_its_number kind),
 )
 
 -- the octets behind the mark are the kind's
 pub kind_read : (result : Option Kind) (number : ℕ) (old left : List ℕ)
-    → ((kind : Kind) → (result ≡ Some kind → number_of kind ≡ number) × (number_of kind ≡ number → result ≡ Some kind))
-    → old ≡ mark ++ number ∷ left → IfSome result (λ kind. old ≡ octets_of_kind kind ++ left)
+    → ((kind : Kind) → (result ≡ Some kind → kind_number kind ≡ number) × (kind_number kind ≡ number → result ≡ Some kind))
+    → old ≡ record_mark ++ number ∷ left → IfSome result (λ kind. old ≡ octets_of_kind kind ++ left)
 kind_read None number old left of here = tt
-kind_read (Some kind) number old left of here = here ∙ ap (λ (n : ℕ). mark ++ n ∷ left) (sym ((of kind).0 refl))
+kind_read (Some kind) number old left of here = here ∙ ap (λ (n : ℕ). record_mark ++ n ∷ left) (sym ((of kind).0 refl))
 
 -- ---- what is shown of the records of one kind
 

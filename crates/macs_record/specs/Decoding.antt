@@ -25,11 +25,11 @@ abbrev pub HasRecord : List ℕ → Type 0
 HasRecord sector = (r : Record) × IsSectorOf r sector
 
 -- what each fault says of a sector
-abbrev pub Holds : List ℕ → RecordFault → Type 0
-Holds sector fault.Kind = ¬ HasKind sector
-Holds sector fault.Field = ¬ HasFields sector
-Holds sector fault.Rest = ¬ HasRecord sector
+abbrev pub RecordFaultHolds : List ℕ → RecordFault → Type 0
+RecordFaultHolds sector fault.Kind = ¬ HasKind sector
+RecordFaultHolds sector fault.Field = ¬ HasFields sector
+RecordFaultHolds sector fault.Rest = ¬ HasRecord sector
 
 -- in the order in which they are looked for
-abbrev pub faults : List RecordFault
-faults = fault.Kind ∷ fault.Field ∷ fault.Rest ∷ []
+abbrev pub record_faults : List RecordFault
+record_faults = fault.Kind ∷ fault.Field ∷ fault.Rest ∷ []

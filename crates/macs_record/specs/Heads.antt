@@ -27,8 +27,8 @@ abbrev pub head_mark : List ℕ
 head_mark = 0x4d ∷ 0x53 ∷ 0x45 ∷ 0x43 ∷ 0x48 ∷ 0x45 ∷ 0x41 ∷ 0x44 ∷ []
 
 -- which layout it is, written in 4 octets
-abbrev pub version : ℕ
-version = 1
+abbrev pub layout_version : ℕ
+layout_version = 1
 
 -- 16 octets: the SCI, then the transmit and the receive block in 4 octets each
 abbrev pub identity_octets : Identity → List ℕ
@@ -37,7 +37,7 @@ identity_octets identity = identity.sci ++ (to_be_bytes w32 identity.tx_block ++
 -- the mark and the version, then the fields
 abbrev pub head_octets : Head → List ℕ
 head_octets head =
-    head_mark ++ (to_be_bytes w32 version ++ (to_be_bytes w64 head.generation ++ (to_be_bytes w32 head.count
+    head_mark ++ (to_be_bytes w32 layout_version ++ (to_be_bytes w64 head.generation ++ (to_be_bytes w32 head.count
     ++ identity_octets head.identity)))
 
 -- the sector of a head

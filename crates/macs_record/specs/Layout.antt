@@ -24,9 +24,9 @@ use Rattle.macs_record.specs.declared.record.Record.TheVariants.{Settings, TxSa,
 -- ---- fields
 
 -- yes or no in one octet, 1 for yes
-abbrev pub flag : Bool → ℕ
-flag false = 0
-flag true = 1
+abbrev pub flag_octet : Bool → ℕ
+flag_octet false = 0
+flag_octet true = 1
 
 -- how frames are validated, in one octet, 0 or 1
 abbrev pub validate_octet : Validate → ℕ
@@ -51,11 +51,11 @@ role_octet Receive = 1
 
 -- whether protection is on, then the window
 abbrev pub replay_octets : Replay → List ℕ
-replay_octets replay = flag replay.on ∷ to_be_bytes w32 replay.window
+replay_octets replay = flag_octet replay.on ∷ to_be_bytes w32 replay.window
 
 -- whether User Data are encrypted, then the confidentiality offset
 abbrev pub protection_octets : Protection → List ℕ
-protection_octets protection = flag (is_confidential protection) ∷ octets_of (offset_of protection) ∷ []
+protection_octets protection = flag_octet (is_confidential protection) ∷ octets_of (offset_of protection) ∷ []
 
 -- how many there are, then one after the other
 abbrev pub fingerprint_octets : List (List ℕ) → List ℕ
@@ -64,28 +64,28 @@ fingerprint_octets fingerprints = length fingerprints ∷ concat fingerprints
 -- ---- records
 
 -- MREC
-abbrev pub mark : List ℕ
-mark = 0x4d ∷ 0x52 ∷ 0x45 ∷ 0x43 ∷ []
+abbrev pub record_mark : List ℕ
+record_mark = 0x4d ∷ 0x52 ∷ 0x45 ∷ 0x43 ∷ []
 
 -- the octet that stands for a kind
-abbrev pub number_of : Kind → ℕ
-number_of kinds.Settings = 1
-number_of kinds.TxSa = 2
-number_of kinds.Channel = 3
-number_of kinds.RxSa = 4
-number_of kinds.Spent = 5
-number_of kinds.SetValidate = 6
-number_of kinds.SetReplay = 7
-number_of kinds.SetSciMode = 8
-number_of kinds.TxInstall = 9
-number_of kinds.TxUse = 10
-number_of kinds.TxRemove = 11
-number_of kinds.RxAdd = 12
-number_of kinds.RxDrop = 13
-number_of kinds.RxInstall = 14
-number_of kinds.RxRemove = 15
-number_of kinds.TxCeiling = 16
-number_of kinds.RxCeiling = 17
+abbrev pub kind_number : Kind → ℕ
+kind_number kinds.Settings = 1
+kind_number kinds.TxSa = 2
+kind_number kinds.Channel = 3
+kind_number kinds.RxSa = 4
+kind_number kinds.Spent = 5
+kind_number kinds.SetValidate = 6
+kind_number kinds.SetReplay = 7
+kind_number kinds.SetSciMode = 8
+kind_number kinds.TxInstall = 9
+kind_number kinds.TxUse = 10
+kind_number kinds.TxRemove = 11
+kind_number kinds.RxAdd = 12
+kind_number kinds.RxDrop = 13
+kind_number kinds.RxInstall = 14
+kind_number kinds.RxRemove = 15
+kind_number kinds.TxCeiling = 16
+kind_number kinds.RxCeiling = 17
 
 -- the kind of a record
 abbrev pub kind_of : Record → Kind
@@ -134,7 +134,7 @@ fields_of (RxCeiling sci an ceiling) = sci ++ (an ∷ to_be_bytes w64 ceiling)
 
 -- the mark and the kind
 abbrev pub octets_of_kind : Kind → List ℕ
-octets_of_kind kind = mark ++ (number_of kind ∷ [])
+octets_of_kind kind = record_mark ++ (kind_number kind ∷ [])
 
 -- the mark and the kind, then the fields
 abbrev pub front_of : Record → List ℕ

@@ -2,7 +2,7 @@
 
 ghost use Rattle.std.specs.Prelude.{◌≡◌, ◌≤◌, ◌↔◌, ◌++◌, ℕ, List, IfSome, IsTrue, Ok, Err, Some};
 ghost use Rattle.macs_frame.specs.First.{IsFirst};
-ghost use Rattle.macs_record.specs.Decoding.{Holds, IsSectorOf, faults};
+ghost use Rattle.macs_record.specs.Decoding.{RecordFaultHolds, IsSectorOf, record_faults};
 ghost use Rattle.macs_record.specs.Layout.{IsRecord, fields_of, kind_of, octets_of_kind};
 ghost use Rattle.macs_record.specs.declared.kind.Kind.{Kind};
 ghost use Rattle.macs_record.specs.declared.kind.Kind.TheVariants as kinds;
@@ -19,7 +19,7 @@ use macs_config::{RxSa, TxSa};
 /// The record of a sector. Refused as `Kind`, `Field` and `Rest`, the first that holds.
 pub fn decode(sector: &[u8; SECTOR]) -> Result<Record, RecordFault>
     ensures exactly { (r : Record) → (result ≡ Ok r) ↔ IsSectorOf r sector.now }
-    ensures fault { (fault : RecordFault) → (result ≡ Err fault) ↔ IsFirst (Holds sector.now) faults fault }
+    ensures fault { (fault : RecordFault) → (result ≡ Err fault) ↔ IsFirst (RecordFaultHolds sector.now) record_faults fault }
 {
     let mut reader = Reader::new(sector);
     let Some(kind) = read_kind(&mut reader) else {

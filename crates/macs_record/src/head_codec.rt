@@ -3,7 +3,7 @@
 ghost use Rattle.std.specs.Prelude.{◌≡◌, ◌↔◌, ◌++◌, List, ℕ, IfSome, Some};
 ghost use Rattle.std.specs.Int.{to_be_bytes, w32};
 ghost use Rattle.macs_config.specs.Identity.{Identity, IsBlock};
-ghost use Rattle.macs_record.specs.Heads.{Head, IsHead, IsHeadOf, head_mark, head_octets, head_sector_of, identity_octets, version};
+ghost use Rattle.macs_record.specs.Heads.{Head, IsHead, IsHeadOf, head_mark, head_octets, head_sector_of, identity_octets, layout_version};
 ghost use Rattle.macs_frame.specs.Fields.{IsSci};
 
 use crate::SECTOR;
@@ -60,8 +60,8 @@ fn read_head(from: &mut Reader<'_>) -> Option<Head>
 
 /// Reads the mark and the version of a head.
 fn read_version(from: &mut Reader<'_>) -> Option<()>
-    ensures some { IfSome result (λ done. from.old ≡ head_mark ++ to_be_bytes w32 version ++ from.new) }
-    ensures found { (rest : List ℕ) → from.old ≡ head_mark ++ to_be_bytes w32 version ++ rest
+    ensures some { IfSome result (λ done. from.old ≡ head_mark ++ to_be_bytes w32 layout_version ++ from.new) }
+    ensures found { (rest : List ℕ) → from.old ≡ head_mark ++ to_be_bytes w32 layout_version ++ rest
         → (result ≡ Some tt) × (from.new ≡ rest) }
 {
     let mark: [u8; 8] = from.octets()?;

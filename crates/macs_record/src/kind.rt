@@ -1,7 +1,7 @@
 //! The kinds of records.
 
 ghost use Rattle.std.specs.Prelude.{◌≡◌, ◌↔◌, Some};
-ghost use Rattle.macs_record.specs.Layout.{number_of};
+ghost use Rattle.macs_record.specs.Layout.{kind_number};
 ghost use Rattle.macs_record.specs.declared.kind.Kind.{Kind};
 
 /// What a record is of, in the order of its number: first what a snapshot has, then the commands, then
@@ -51,7 +51,7 @@ const KINDS: [Kind; 17] = [
 impl Kind {
     /// The number that stands for a kind in a sector, 1 to 17.
     pub fn number(self) -> u8
-        ensures { result ≡ number_of self }
+        ensures { result ≡ kind_number self }
     {
         match self {
             Kind::Settings => 1,
@@ -76,7 +76,7 @@ impl Kind {
 
     /// The kind of a number, `None` where none has it: the inverse of `number`.
     pub fn of(number: u8) -> Option<Kind>
-        ensures { (kind : Kind) → (result ≡ Some kind) ↔ (number_of kind ≡ number) }
+        ensures { (kind : Kind) → (result ≡ Some kind) ↔ (kind_number kind ≡ number) }
     {
         KINDS.iter().find(|kind| kind.number() == number).copied()
     }

@@ -11,7 +11,7 @@ ghost use Rattle.macs_config.specs.declared.command.SciMode.{SciMode};
 ghost use Rattle.macs_config.specs.declared.command.Validate.{Validate};
 ghost use Rattle.macs_frame.specs.Fields.{IsAn, IsOctets, IsSci};
 ghost use Rattle.macs_record.specs.Ranges.{IsCeiling, IsEncoding, IsFingerprints, IsRecordKey, IsStart};
-ghost use Rattle.macs_record.specs.Layout.{encoding_octet, fingerprint_octets, flag, mode_octet, protection_octets, replay_octets, role_octet, validate_octet};
+ghost use Rattle.macs_record.specs.Layout.{encoding_octet, fingerprint_octets, flag_octet, mode_octet, protection_octets, replay_octets, role_octet, validate_octet};
 
 use crate::ceiling::Ceiling;
 use crate::protection::protection;
@@ -83,8 +83,8 @@ impl<'a> Reader<'a> {
     }
 
     pub(crate) fn flag(&mut self) -> Option<bool>
-        ensures some { IfSome result (λ is. self.old ≡ flag is ∷ self.new) }
-        ensures found { (is : Bool) (rest : List ℕ) → self.old ≡ flag is ∷ rest
+        ensures some { IfSome result (λ is. self.old ≡ flag_octet is ∷ self.new) }
+        ensures found { (is : Bool) (rest : List ℕ) → self.old ≡ flag_octet is ∷ rest
             → (result ≡ Some is) × (self.new ≡ rest) }
     {
         match self.octet()? {

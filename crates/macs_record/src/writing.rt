@@ -4,7 +4,7 @@ ghost use Rattle.std.specs.Prelude.{◌≡◌, ◌≤◌, ◌+◌, ◌++◌, ◌
 ghost use Rattle.std.specs.Int.{to_be_bytes, w32, w64};
 ghost use Rattle.macs_frame.specs.Fields.{octets_of};
 ghost use Rattle.macs_record.specs.Sectors.{padded_sector};
-ghost use Rattle.macs_record.specs.Layout.{encoding_octet, fingerprint_octets, flag, mode_octet, protection_octets, replay_octets, role_octet, validate_octet};
+ghost use Rattle.macs_record.specs.Layout.{encoding_octet, fingerprint_octets, flag_octet, mode_octet, protection_octets, replay_octets, role_octet, validate_octet};
 
 use crate::SECTOR;
 use crate::ceiling::Ceiling;
@@ -70,7 +70,7 @@ impl Writer {
 
     pub(crate) fn flag(self, is: bool) -> Writer
         requires room { length self + 1 ≤ 512 }
-        ensures { result ≡ self ++ flag is ∷ [] }
+        ensures { result ≡ self ++ flag_octet is ∷ [] }
     {
         self.octet(u8::from(is))
     }

@@ -5,7 +5,7 @@ use Rattle.std.proofs.lemmas.Bool.{cases_lt, eq-eqb}
 use Rattle.macs_config.specs.Tables.{put, put_at}
 use Rattle.macs_config.proofs.Channels.{same_octets}
 use Rattle.macs_config.proofs.Tables.{put_all, put_at_all}
-use Rattle.macs_rxsc.specs.Needs.{Need, first_need, need_of, needs_of, raised_ceiling}
+use Rattle.macs_rxsc.specs.Needs.{Need, first_need, need_of, first_need_of, raised_ceiling}
 use Rattle.macs_rxsc.specs.Receive.{Numbers, RxSide, has_channel}
 use Rattle.macs_rxsc.proofs.Needed.{is-need, need-ends, need_at, needs_among, own-place}
 use Rattle.macs_rxsc.proofs.Places.{bytes_eq-same}
@@ -152,7 +152,7 @@ module _ (side : RxSide) (c : List ℕ → ℕ → Option ℕ) (block : ℕ) whe
         outside sci an (no_numbers (side.numbers sci an) (λ stands. let both = channels sci an stands in cc))
 
     -- where no association has the first need, none has one
-    pub no-needs : needs_of side c block ≡ None → (sci : List ℕ) (an : ℕ) → need_at side.numbers c block sci an ≡ None
+    pub no-needs : first_need_of side c block ≡ None → (sci : List ℕ) (an : ℕ) → need_at side.numbers c block sci an ≡ None
     no-needs is sci an = elim (cases_lt an 4) [
       | inl below ↦ by_channel sci an below is (has_channel side sci) refl
       | inr over ↦ outside sci an (few sci an over)

@@ -12,7 +12,7 @@ use Rattle.macs_config.specs.Config.{comes_before, is_ascending}
 use Rattle.macs_config.specs.declared.command.Replay.{Replay}
 use Rattle.macs_config.specs.declared.command.Validate.{Validate}
 use Rattle.macs_rxsc.proofs.Places.{channel_lookup}
-use Rattle.macs_rxsc.specs.Needs.{Need, first_need, need_of, needs_of}
+use Rattle.macs_rxsc.specs.Needs.{Need, first_need, need_of, first_need_of}
 use Rattle.macs_rxsc.specs.Value.{association_in, ceilings_among, ceilings_in, channel_at, numbers_in, packet_numbers, sa_of, sas_in, scis_of, rx_side_in}
 use Rattle.macs_rxsc.specs.declared.association.Association.{Association}
 use Rattle.macs_rxsc.specs.declared.channel.Channel.{Channel}
@@ -115,7 +115,7 @@ same_needs block all (x ∷ xs) each =
 
 -- the first need of all
 pub needs_are : (block : ℕ) (channels : List Channel) → is_ascending (scis_of channels) ≡ true → (validate : Validate) (replay : Replay)
-    → first_need (needs_among block channels) ≡ needs_of (rx_side_in validate replay channels) (ceilings_among channels) block
+    → first_need (needs_among block channels) ≡ first_need_of (rx_side_in validate replay channels) (ceilings_among channels) block
 needs_are block channels ascending validate replay = ap first_need (sym (same_needs block channels channels (own channels ascending)))
 
 -- ---- an association stands in a channel that stands

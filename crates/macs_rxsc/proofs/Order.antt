@@ -7,7 +7,7 @@ use borrow.Author.Tests.{eqb-true, ltb-true}
 use Rattle.macs_config.specs.Tables.{put, put_at}
 use Rattle.macs_config.specs.declared.association.RxSa.{RxSa}
 use Rattle.macs_config.specs.declared.command.Validate.{Validate}
-use Rattle.macs_rxsc.specs.Receive.{AreOrdered, Arrival, Numbers, Outcome, IsOutcome, RxSide, IsNumbered, after_delivery, arrival_outcome, after_hold, put_numbers, first_numbers, under_window}
+use Rattle.macs_rxsc.specs.Receive.{AreOrdered, Arrival, Numbers, Outcome, IsOutcome, RxSide, IsNumbered, numbers_after_delivery, arrival_outcome, numbers_after_hold, put_numbers, first_numbers, numbers_under_window}
 
 -- ---- numbers
 
@@ -80,7 +80,7 @@ ordered-raised side ceilings old sci an ceiling some higher bounded = λ s k.
     (λ _. old s k)
 
 -- the window changes
-windowed_stands : (w window : ℕ) (sa : Option RxSa) (n : Option Numbers) (c : Option ℕ) → IsNumbered w sa n c → IsNumbered window sa (option_map (under_window window) n) c
+windowed_stands : (w window : ℕ) (sa : Option RxSa) (n : Option Numbers) (c : Option ℕ) → IsNumbered w sa n c → IsNumbered window sa (option_map (numbers_under_window window) n) c
 windowed_stands w window None None None old = tt
 windowed_stands w window None None (Some c) old = absurd old
 windowed_stands w window None (Some n) None old = absurd old
@@ -94,7 +94,7 @@ windowed_stands w window (Some sa) (Some n) (Some c) old =
     record { numbered = omega arith; windowed = omega arith; ordered = omega arith; below = old.below; bounded = old.bounded }
 
 pub ordered-windowed : (side : RxSide) (ceilings : List ℕ → ℕ → Option ℕ) → AllOrdered side ceilings → (validate : Validate) (on : Bool) (window : ℕ)
-    → AllOrdered (record side { validate = validate; replay = record { on = on; window = window }; numbers = λ sci an. option_map (under_window window) (side.numbers sci an) }) ceilings
+    → AllOrdered (record side { validate = validate; replay = record { on = on; window = window }; numbers = λ sci an. option_map (numbers_under_window window) (side.numbers sci an) }) ceilings
 ordered-windowed side ceilings old validate on window = λ s k.
     windowed_stands side.replay.window window (side.rx s k) (side.numbers s k) (ceilings s k) (old s k)
 
@@ -104,7 +104,7 @@ started_stands w sa start ceiling numbered below bounded =
     record { numbered = numbered; windowed = omega arith; ordered = omega arith; below = below; bounded = bounded }
 
 -- a frame arrives
-advanced_stands : (w : ℕ) (sa : Option RxSa) (n : Numbers) (c pn : ℕ) → IsNumbered w sa (Some n) (Some c) → pn < c → IsNumbered w sa (Some (after_delivery w n pn)) (Some c)
+advanced_stands : (w : ℕ) (sa : Option RxSa) (n : Numbers) (c pn : ℕ) → IsNumbered w sa (Some n) (Some c) → pn < c → IsNumbered w sa (Some (numbers_after_delivery w n pn)) (Some c)
 advanced_stands w None n c pn old below = absurd old
 advanced_stands w (Some sa) n c pn old below =
     let o1 : 1 ≤ n.lowest = old.numbered in
@@ -112,7 +112,7 @@ advanced_stands w (Some sa) n c pn old below =
     let o3 : n.next ≤ c = old.below in
     record { numbered = omega arith; windowed = omega arith; ordered = omega arith; below = omega arith; bounded = old.bounded }
 
-held_stands : (w : ℕ) (sa : Option RxSa) (n : Numbers) (c : Option ℕ) (pn : ℕ) → IsNumbered w sa (Some n) c → IsNumbered w sa (Some (after_hold n pn)) c
+held_stands : (w : ℕ) (sa : Option RxSa) (n : Numbers) (c : Option ℕ) (pn : ℕ) → IsNumbered w sa (Some n) c → IsNumbered w sa (Some (numbers_after_hold n pn)) c
 held_stands w None n None pn old = absurd old
 held_stands w None n (Some c) pn old = absurd old
 held_stands w (Some sa) n None pn old = absurd old
@@ -141,18 +141,18 @@ ordered-numbers side ceilings old sci an n new = λ s k.
 by_ceiling : (side : RxSide) (ceilings : List ℕ → ℕ → Option ℕ) → AllOrdered side ceilings → (a : Arrival) → IsNumbered side.replay.window (side.rx a.sci a.an) (Some a.numbers) (ceilings a.sci a.an)
     → (c : ℕ) → ceilings a.sci a.an ≡ Some c → (b : Bool) → nat_lt a.pn c ≡ b → AllOrdered (record side { numbers = (arrival_outcome side ceilings a).numbers }) ceilings
 by_ceiling side ceilings old a here c is true lt =
-    let stands : IsNumbered side.replay.window (side.rx a.sci a.an) (Some (after_delivery side.replay.window a.numbers a.pn)) (ceilings a.sci a.an) =
-    subst (λ (x : Option ℕ). IsNumbered side.replay.window (side.rx a.sci a.an) (Some (after_delivery side.replay.window a.numbers a.pn)) x) (sym is)
+    let stands : IsNumbered side.replay.window (side.rx a.sci a.an) (Some (numbers_after_delivery side.replay.window a.numbers a.pn)) (ceilings a.sci a.an) =
+    subst (λ (x : Option ℕ). IsNumbered side.replay.window (side.rx a.sci a.an) (Some (numbers_after_delivery side.replay.window a.numbers a.pn)) x) (sym is)
     (advanced_stands side.replay.window (side.rx a.sci a.an) a.numbers c a.pn
     (subst (λ (x : Option ℕ). IsNumbered side.replay.window (side.rx a.sci a.an) (Some a.numbers) x) is here) (ltb-true a.pn c lt)) in
-    rw (is, lt) (ordered-numbers side ceilings old a.sci a.an (Some (after_delivery side.replay.window a.numbers a.pn)) stands)
+    rw (is, lt) (ordered-numbers side ceilings old a.sci a.an (Some (numbers_after_delivery side.replay.window a.numbers a.pn)) stands)
 by_ceiling side ceilings old a here c is false lt =
-    rw (is, lt) (ordered-numbers side ceilings old a.sci a.an (Some (after_hold a.numbers a.pn)) (held_stands side.replay.window (side.rx a.sci a.an) a.numbers (ceilings a.sci a.an) a.pn here))
+    rw (is, lt) (ordered-numbers side ceilings old a.sci a.an (Some (numbers_after_hold a.numbers a.pn)) (held_stands side.replay.window (side.rx a.sci a.an) a.numbers (ceilings a.sci a.an) a.pn here))
 
 arrived_ordered : (side : RxSide) (ceilings : List ℕ → ℕ → Option ℕ) → AllOrdered side ceilings → (a : Arrival) → IsNumbered side.replay.window (side.rx a.sci a.an) (Some a.numbers) (ceilings a.sci a.an)
     → (c : Option ℕ) → ceilings a.sci a.an ≡ c → AllOrdered (record side { numbers = (arrival_outcome side ceilings a).numbers }) ceilings
 arrived_ordered side ceilings old a here None is =
-    rw is (ordered-numbers side ceilings old a.sci a.an (Some (after_hold a.numbers a.pn)) (held_stands side.replay.window (side.rx a.sci a.an) a.numbers (ceilings a.sci a.an) a.pn here))
+    rw is (ordered-numbers side ceilings old a.sci a.an (Some (numbers_after_hold a.numbers a.pn)) (held_stands side.replay.window (side.rx a.sci a.an) a.numbers (ceilings a.sci a.an) a.pn here))
 arrived_ordered side ceilings old a here (Some c) is = by_ceiling side ceilings old a here c is (nat_lt a.pn c) refl
 
 pub ordered-received : (side : RxSide) (ceilings : List ℕ → ℕ → Option ℕ) (frame : List ℕ) (o : Outcome) → AllOrdered side ceilings → IsOutcome side ceilings frame o

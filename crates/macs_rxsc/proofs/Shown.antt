@@ -19,8 +19,8 @@ use Rattle.macs_frame.specs.declared.tag.SecTag.{SecTag}
 use Rattle.macs_frame.specs.declared.tag.TagFault.{TagFault}
 use Rattle.macs_frame.specs.declared.tag.TagFault.TheVariants.{Runt as IsRunt, Oversize as IsOversize, NoTag as HasNoTag, BadTag as HasBadTag, ForKay as IsForKay}
 use Rattle.macs_rxsc.specs.Sound.{IsSoundRx}
-use Rattle.macs_rxsc.specs.Receive.{Numbers, IsOutcome, RxSide, Tag as TagStep, put_numbers, sci_named, if_channel, verdict_at, under_window}
-use Rattle.macs_rxsc.specs.Counting.{with_channel_verdict, with_verdict_at, no_channel_counts}
+use Rattle.macs_rxsc.specs.Receive.{Numbers, IsOutcome, RxSide, Tag as TagStep, put_numbers, sci_named, standing_channel, verdict_at, numbers_under_window}
+use Rattle.macs_rxsc.specs.Counting.{channel_counters_after_verdict, counters_after_verdict_at, no_channel_counts}
 use Rattle.macs_rxsc.specs.Value.{ceilings_among, ceilings_in, channel_at, counters_among, counters_in, numbers_in, packet_numbers, sa_of, sas_in, scis_of, rx_side_in, association_under, channel_under, association_in}
 use Rattle.macs_rxsc.specs.declared.association.Association.{Association}
 use Rattle.macs_rxsc.specs.declared.channel.Channel.{Channel}
@@ -102,11 +102,11 @@ module _ (items : List Channel) (place : ℕ) (old new : Channel) (sci : List �
       ∙ sym (put_at-read numbers_in _ _ sci (Some new) each)
 
   -- one more is counted for the channel
-  pub counters-counted : (verdict : Verdict) → new.counters ≡ with_channel_verdict verdict old.counters
-      → counters_among (set items place new) ≡ with_verdict_at (Some sci) verdict (counters_among items)
+  pub counters-counted : (verdict : Verdict) → new.counters ≡ channel_counters_after_verdict verdict old.counters
+      → counters_among (set items place new) ≡ counters_after_verdict_at (Some sci) verdict (counters_among items)
   counters-counted verdict is =
       counters-changed _ (ap Some is)
-      ∙ ap (λ (o : Option Channel). put_at (counters_among items) sci (option_map (with_channel_verdict verdict) (counters_in o))) (sym at_old)
+      ∙ ap (λ (o : Option Channel). put_at (counters_among items) sci (option_map (channel_counters_after_verdict verdict) (counters_in o))) (sym at_old)
 
 -- ---- a new channel
 
@@ -182,28 +182,28 @@ named_at items ws frame tag found same is found_is =
 
 pub named_some : (items : List Channel) (place : ℕ) (named : Option (List ℕ))
     → ◌≡◌ {A = Option ℕ} (Some place) (option_and_then (λ (s : List ℕ). position (has_sci sci_of s) items) named)
-    → (sci : List ℕ) × (named ≡ Some sci) × IsPlace (scis_of items) sci place × (option_and_then (if_channel (scis_of items)) named ≡ Some sci)
+    → (sci : List ℕ) × (named ≡ Some sci) × IsPlace (scis_of items) sci place × (option_and_then (standing_channel (scis_of items)) named ≡ Some sci)
 named_some items place None found = absurd (cc)
 named_some items place (Some sci) found =
     let p = found-place sci_of items items sci refl place found in
     (sci, refl, p, rw (place-among (scis_of items) sci place p) refl)
 
 pub named_none : (items : List Channel) (named : Option (List ℕ)) → ◌≡◌ {A = Option ℕ} None (option_and_then (λ (s : List ℕ). position (has_sci sci_of s) items) named)
-    → option_and_then (if_channel (scis_of items)) named ≡ None
+    → option_and_then (standing_channel (scis_of items)) named ≡ None
 named_none items None none = refl
 named_none items (Some sci) none = rw (found-none sci_of items items sci refl none) refl
 
 -- ---- what is not counted for channels
 
-same_in : (o : Option ChannelCounters) (verdict : Verdict) → ((c : ChannelCounters) → with_channel_verdict verdict c ≡ c) → o ≡ option_map (with_channel_verdict verdict) o
+same_in : (o : Option ChannelCounters) (verdict : Verdict) → ((c : ChannelCounters) → channel_counters_after_verdict verdict c ≡ c) → o ≡ option_map (channel_counters_after_verdict verdict) o
 same_in None verdict same = refl
 same_in (Some c) verdict same = ap Some (sym (same c))
 
-pub uncounted : (channel : Option (List ℕ)) (verdict : Verdict) (table : List ℕ → Option ChannelCounters) → ((c : ChannelCounters) → with_channel_verdict verdict c ≡ c) → with_verdict_at channel verdict table ≡ table
+pub uncounted : (channel : Option (List ℕ)) (verdict : Verdict) (table : List ℕ → Option ChannelCounters) → ((c : ChannelCounters) → channel_counters_after_verdict verdict c ≡ c) → counters_after_verdict_at channel verdict table ≡ table
 uncounted None verdict table same = refl
 uncounted (Some sci) verdict table same = put_at-same table sci _ (same_in (table sci) verdict same)
 
-pub tag_uncounted : (side : RxSide) (frame : List ℕ) (fault : TagFault) (validate : Validate) → side.validate ≡ validate → (c : ChannelCounters) → with_channel_verdict (verdict_at side frame (TagStep fault)) c ≡ c
+pub tag_uncounted : (side : RxSide) (frame : List ℕ) (fault : TagFault) (validate : Validate) → side.validate ≡ validate → (c : ChannelCounters) → channel_counters_after_verdict (verdict_at side frame (TagStep fault)) c ≡ c
 tag_uncounted side frame IsRunt validate is c = refl
 tag_uncounted side frame IsOversize validate is c = refl
 tag_uncounted side frame HasNoTag Strict is c = rw is refl
@@ -213,7 +213,7 @@ tag_uncounted side frame IsForKay validate is c = refl
 
 -- ---- the window changes
 
-windowed_read : (window : ℕ) (a : Option Association) → option_map packet_numbers (option_map (association_under window) a) ≡ option_map (under_window window) (option_map packet_numbers a)
+windowed_read : (window : ℕ) (a : Option Association) → option_map packet_numbers (option_map (association_under window) a) ≡ option_map (numbers_under_window window) (option_map packet_numbers a)
 windowed_read window None = refl
 windowed_read window (Some a) = refl
 
@@ -241,12 +241,12 @@ module _ (items : List Channel) (window : ℕ) where
   pub shown-slid : (validate : Validate) (replay : Replay) (old : Validate) (before : Replay) → rx_side_in validate replay (map (channel_under window) items) ≡ record (rx_side_in old before items) {
     validate = validate;
     replay = replay;
-    numbers = λ sci an. option_map (under_window window) ((rx_side_in old before items).numbers sci an);
+    numbers = λ sci an. option_map (numbers_under_window window) ((rx_side_in old before items).numbers sci an);
   }
   shown-slid validate replay old before =
       let rx_is : (λ (s : List ℕ). sas_in (channel_at (map (channel_under window) items) s)) ≡ (λ (s : List ℕ). sas_in (channel_at items s)) =
       fun_ext (λ s. fun_ext (λ an. ap (option_map sa_of) (slid_there s an) ∙ sa_read window (association_in (channel_at items s) an))) in
-      let numbers_are : (λ (s : List ℕ). numbers_in (channel_at (map (channel_under window) items) s)) ≡ (λ (s : List ℕ) (an : ℕ). option_map (under_window window) (numbers_in (channel_at items s) an)) =
+      let numbers_are : (λ (s : List ℕ). numbers_in (channel_at (map (channel_under window) items) s)) ≡ (λ (s : List ℕ) (an : ℕ). option_map (numbers_under_window window) (numbers_in (channel_at items s) an)) =
       fun_ext (λ s. fun_ext (λ an. ap (option_map packet_numbers) (slid_there s an) ∙ windowed_read window (association_in (channel_at items s) an))) in
       λ i. record { validate = validate; replay = replay; channels = scis_of-slid items window i; rx = rx_is i; numbers = numbers_are i }
 

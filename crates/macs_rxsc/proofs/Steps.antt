@@ -16,7 +16,7 @@ use Rattle.macs_frame.proofs.FirstRefusal.{first-map-append, first-behind, none-
 use Rattle.macs_frame.proofs.Decisions.{read_or_refused, verified_or_not}
 use Rattle.macs_frame.proofs.OpenFaults.{no_tag_fault}
 use Rattle.macs_frame.proofs.Readings.{verified_once}
-use Rattle.macs_rxsc.specs.Receive.{AreNumbered, Arrival, Arrives, Holds, Numbers, Outcome, IsOutcome, RxSide, RxStep, Tag as TagStep, NoChannel, NoAssociation, BelowLowest, NotVerified, VerifiesAs, after_delivery, arrival_outcome, association_of, channel_of, given_at, after_hold, is_strict, kind_of, numbers_of, put_numbers, settled_outcome, rx_steps, unless_checked, verdict_at}
+use Rattle.macs_rxsc.specs.Receive.{AreNumbered, Arrival, Arrives, RxStepHolds, Numbers, Outcome, IsOutcome, RxSide, RxStep, Tag as TagStep, NoChannel, NoAssociation, BelowLowest, NotVerified, VerifiesAs, numbers_after_delivery, arrival_outcome, association_of, channel_of, given_at, numbers_after_hold, is_strict, delivery_kind, numbers_of, put_numbers, settled_outcome, rx_steps, verdict_unless_checked, verdict_at}
 use Rattle.macs_config.specs.declared.command.Validate.{Validate}
 use Rattle.macs_rxsc.specs.declared.verdict.Kind.{Kind}
 use Rattle.macs_rxsc.specs.declared.verdict.Reason.{Reason}
@@ -35,7 +35,7 @@ bare_given true frame reason kind is = refl
 bare_given false frame reason kind is = sym is
 
 -- a frame is settled by the first step that holds
-pub settles : (side : RxSide) (ceilings : List ℕ → ℕ → Option ℕ) (frame : List ℕ) (step : RxStep) → IsFirst (Holds side frame) rx_steps step
+pub settles : (side : RxSide) (ceilings : List ℕ → ℕ → Option ℕ) (frame : List ℕ) (step : RxStep) → IsFirst (RxStepHolds side frame) rx_steps step
     → (verdict : Verdict) (given : List ℕ) (numbers : List ℕ → ℕ → Option Numbers)
     → verdict ≡ verdict_at side frame step → given ≡ given_at frame (verdict_at side frame step) → numbers ≡ side.numbers
     → IsOutcome side ceilings frame (record { verdict = verdict; given = given; numbers = numbers })
@@ -44,16 +44,16 @@ settles side ceilings frame step first verdict given numbers v g n =
     λ i. record { verdict = v i; given = g i; numbers = n i } in
     inl (step, first, same)
 
-pub first_fault : (side : RxSide) (frame : List ℕ) (fault : TagFault) → IsFirst (TagFaultHolds frame) tag_faults fault → IsFirst (Holds side frame) rx_steps (TagStep fault)
-first_fault side frame fault first = first-map-append (Holds side frame) TagStep tag_faults later_steps fault first
+pub first_fault : (side : RxSide) (frame : List ℕ) (fault : TagFault) → IsFirst (TagFaultHolds frame) tag_faults fault → IsFirst (RxStepHolds side frame) rx_steps (TagStep fault)
+first_fault side frame fault first = first-map-append (RxStepHolds side frame) TagStep tag_faults later_steps fault first
 
 -- ---- once the parts are read
 
 module _ (side : RxSide) (frame : List ℕ) (parts : Parts) (read : Tag frame parts × (¬ IsForKay frame)) where
-  behind_tag : (step : RxStep) → IsFirst (Holds side frame) later_steps step → IsFirst (Holds side frame) rx_steps step
-  behind_tag step first = first-behind (Holds side frame) TagStep tag_faults later_steps step (no_tag_fault frame parts read) first
+  behind_tag : (step : RxStep) → IsFirst (RxStepHolds side frame) later_steps step → IsFirst (RxStepHolds side frame) rx_steps step
+  behind_tag step first = first-behind (RxStepHolds side frame) TagStep tag_faults later_steps step (no_tag_fault frame parts read) first
 
-  pub first_no_channel : channel_of side frame ≡ None → IsFirst (Holds side frame) rx_steps NoChannel
+  pub first_no_channel : channel_of side frame ≡ None → IsFirst (RxStepHolds side frame) rx_steps NoChannel
   first_no_channel none = behind_tag NoChannel (inl (none, refl))
 
   module _ (sci : List ℕ) (is_channel : channel_of side frame ≡ Some sci) where
@@ -66,26 +66,26 @@ module _ (side : RxSide) (frame : List ℕ) (parts : Parts) (read : Tag frame pa
     pub numbers_are : numbers_of side frame ≡ side.numbers sci (tag_of frame).an
     numbers_are = ap (option_and_then (λ (s : List ℕ). side.numbers s (tag_of frame).an)) is_channel
 
-    pub first_no_association : side.rx sci (tag_of frame).an ≡ None → IsFirst (Holds side frame) rx_steps NoAssociation
+    pub first_no_association : side.rx sci (tag_of frame).an ≡ None → IsFirst (RxStepHolds side frame) rx_steps NoAssociation
     first_no_association none = behind_tag NoAssociation (inr (some_channel, inl (association_is ∙ none, refl)))
 
     module _ (sa : RxSa) (numbers : Numbers) (is_association : side.rx sci (tag_of frame).an ≡ Some sa) (are_numbers : side.numbers sci (tag_of frame).an ≡ Some numbers) where
       some_association : ¬ (association_of side frame ≡ None)
       some_association none = let is : association_of side frame ≡ Some sa = association_is ∙ is_association in absurd (cc)
 
-      pub first_late : side.replay.on ≡ true → (tag_of frame).pn < numbers.lowest → IsFirst (Holds side frame) rx_steps BelowLowest
+      pub first_late : side.replay.on ≡ true → (tag_of frame).pn < numbers.lowest → IsFirst (RxStepHolds side frame) rx_steps BelowLowest
       first_late on late =
-          let holds : Holds side frame BelowLowest = (on, subst (λ n. IsSomeAnd n (λ (m : Numbers). (tag_of frame).pn < m.lowest)) (sym (numbers_are ∙ are_numbers)) late) in
+          let holds : RxStepHolds side frame BelowLowest = (on, subst (λ n. IsSomeAnd n (λ (m : Numbers). (tag_of frame).pn < m.lowest)) (sym (numbers_are ∙ are_numbers)) late) in
           behind_tag BelowLowest (inr (some_channel, inr (some_association, inl (holds, refl))))
 
       -- the frame is not late
       module _ (in_time : side.replay.on ≡ true → ¬ ((tag_of frame).pn < numbers.lowest)) where
-        not_late : ¬ Holds side frame BelowLowest
+        not_late : ¬ RxStepHolds side frame BelowLowest
         not_late holds = in_time holds.0 (subst (λ n. IsSomeAnd n (λ (m : Numbers). (tag_of frame).pn < m.lowest)) (numbers_are ∙ are_numbers) holds.1)
 
-        pub first_not_verified : ((plain : List ℕ) → ¬ Verified frame sa.key sci (octets_of sa.offset) plain) → IsFirst (Holds side frame) rx_steps NotVerified
+        pub first_not_verified : ((plain : List ℕ) → ¬ Verified frame sa.key sci (octets_of sa.offset) plain) → IsFirst (RxStepHolds side frame) rx_steps NotVerified
         first_not_verified closed =
-            let holds : Holds side frame NotVerified = λ plain found.
+            let holds : RxStepHolds side frame NotVerified = λ plain found.
             let same_sci : found.sci ≡ sci = let f = found.is_channel in cc in
             let same_sa : found.sa ≡ sa = let f = found.is_association in let g : association_of side frame ≡ Some sa = association_is ∙ is_association in cc in
             let under_sci = subst (λ (x : List ℕ). Verified frame found.sa.key x (octets_of found.sa.offset) plain) same_sci found.verified in
@@ -100,7 +100,7 @@ module _ (side : RxSide) (frame : List ℕ) (parts : Parts) (read : Tag frame pa
             let found : VerifiesAs side frame plain =
             record { sci = sci; sa = sa; is_channel = is_channel; is_association = association_is ∙ is_association; verified = verified } in
             record {
-              unsettled = none-map-append (Holds side frame) TagStep tag_faults later_steps (no_tag_fault frame parts read)
+              unsettled = none-map-append (RxStepHolds side frame) TagStep tag_faults later_steps (no_tag_fault frame parts read)
                   (some_channel, (some_association, (not_late, ((λ wrong. wrong plain found), tt))));
               is_channel = is_channel;
               is_an = refl;
@@ -114,8 +114,8 @@ module _ (side : RxSide) (frame : List ℕ) (parts : Parts) (read : Tag frame pa
 
 arrival_by : (side : RxSide) (a : Arrival) (ceiling : Option ℕ) (c : ℕ) (b : Bool) → ceiling ≡ Some c → nat_lt a.pn c ≡ b
     → (verdict : Verdict) (given : List ℕ) (numbers : List ℕ → ℕ → Option Numbers)
-    → verdict ≡ cond b (Delivered (kind_of a.numbers a.pn)) HeldBack → given ≡ cond b a.plain []
-    → numbers ≡ put_numbers side.numbers a.sci a.an (Some (cond b (after_delivery side.replay.window a.numbers a.pn) (after_hold a.numbers a.pn)))
+    → verdict ≡ cond b (Delivered (delivery_kind a.numbers a.pn)) HeldBack → given ≡ cond b a.plain []
+    → numbers ≡ put_numbers side.numbers a.sci a.an (Some (cond b (numbers_after_delivery side.replay.window a.numbers a.pn) (numbers_after_hold a.numbers a.pn)))
     → (ceilings : List ℕ → ℕ → Option ℕ) → ceilings a.sci a.an ≡ ceiling
     → ◌≡◌ {A = Outcome} (record { verdict = verdict; given = given; numbers = numbers }) (arrival_outcome side ceilings a)
 arrival_by side a ceiling c true is lt verdict given numbers v g n ceilings at =
@@ -127,8 +127,8 @@ arrival_by side a ceiling c false is lt verdict given numbers v g n ceilings at 
 pub arrives_as : (side : RxSide) (ceilings : List ℕ → ℕ → Option ℕ) (frame : List ℕ) (a : Arrival) (c : ℕ) (b : Bool) → Arrives side frame a
     → ceilings a.sci a.an ≡ Some c → nat_lt a.pn c ≡ b
     → (verdict : Verdict) (given : List ℕ) (numbers : List ℕ → ℕ → Option Numbers)
-    → verdict ≡ cond b (Delivered (kind_of a.numbers a.pn)) HeldBack → given ≡ cond b a.plain []
-    → numbers ≡ put_numbers side.numbers a.sci a.an (Some (cond b (after_delivery side.replay.window a.numbers a.pn) (after_hold a.numbers a.pn)))
+    → verdict ≡ cond b (Delivered (delivery_kind a.numbers a.pn)) HeldBack → given ≡ cond b a.plain []
+    → numbers ≡ put_numbers side.numbers a.sci a.an (Some (cond b (numbers_after_delivery side.replay.window a.numbers a.pn) (numbers_after_hold a.numbers a.pn)))
     → IsOutcome side ceilings frame (record { verdict = verdict; given = given; numbers = numbers })
 arrives_as side ceilings frame a c b arrives at lt verdict given numbers v g n =
     inr (a, arrives, arrival_by side a (Some c) c b refl lt verdict given numbers v g n ceilings at)
@@ -144,7 +144,7 @@ is_held false k is = refl
 
 -- what is not verified is discarded, or delivered without SecTAG and ICV
 pub settles_bare : (side : RxSide) (ceilings : List ℕ → ℕ → Option ℕ) (frame : List ℕ) (step : RxStep) (reason : Reason) (kind : Kind) (validate : Validate)
-    → IsFirst (Holds side frame) rx_steps step → verdict_at side frame step ≡ unless_checked side frame reason kind → given_at frame (Delivered kind) ≡ bare_frame frame
+    → IsFirst (RxStepHolds side frame) rx_steps step → verdict_at side frame step ≡ verdict_unless_checked side frame reason kind → given_at frame (Delivered kind) ≡ bare_frame frame
     → side.validate ≡ validate → (verdict : Verdict) (given : List ℕ) (numbers : List ℕ → ℕ → Option Numbers)
     → verdict ≡ cond (is_strict validate || changed (control frame)) (Discarded reason) (Delivered kind)
     → given ≡ cond (is_strict validate || changed (control frame)) [] (bare_frame frame) → numbers ≡ side.numbers
@@ -172,7 +172,7 @@ in_time_by false pn lowest fails is late = absurd (cc)
 -- ---- laws
 
 abbrev Settled : RxSide → List ℕ → Type 0
-Settled side frame = ((step : RxStep) × IsFirst (Holds side frame) rx_steps step) ⊎ ((a : Arrival) × Arrives side frame a)
+Settled side frame = ((step : RxStep) × IsFirst (RxStepHolds side frame) rx_steps step) ⊎ ((a : Arrival) × Arrives side frame a)
 
 module _ (side : RxSide) (frame : List ℕ) (numbered : AreNumbered side) (parts : Parts) (read : Tag frame parts × (¬ IsForKay frame)) where
   at_end : (sci : List ℕ) (is : channel_of side frame ≡ Some sci) (sa : RxSa) (numbers : Numbers) → side.rx sci (tag_of frame).an ≡ Some sa → side.numbers sci (tag_of frame).an ≡ Some numbers
@@ -203,7 +203,7 @@ module _ (side : RxSide) (frame : List ℕ) (numbered : AreNumbered side) (parts
   at_channel (Some sci) is = at_association sci is _ refl
 
 -- a frame is settled or arrives
-pub settled_or_arrives : (side : RxSide) (frame : List ℕ) → AreNumbered side → ((step : RxStep) × IsFirst (Holds side frame) rx_steps step) ⊎ ((a : Arrival) × Arrives side frame a)
+pub settled_or_arrives : (side : RxSide) (frame : List ℕ) → AreNumbered side → ((step : RxStep) × IsFirst (RxStepHolds side frame) rx_steps step) ⊎ ((a : Arrival) × Arrives side frame a)
 settled_or_arrives side frame numbered = elim (read_or_refused frame) [
   | inl read ↦ at_channel side frame numbered read.0 (read.1, read.2) _ refl
   | inr refused ↦ inl (TagStep refused.0, first_fault side frame refused.0 refused.1)
@@ -231,7 +231,7 @@ arrives_once side frame a b x y =
 -- a frame has one outcome
 pub receives_once : (side : RxSide) (ceilings : List ℕ → ℕ → Option ℕ) (frame : List ℕ) (a b : Outcome) → IsOutcome side ceilings frame a → IsOutcome side ceilings frame b → a ≡ b
 receives_once side ceilings frame a b (inl x) (inl y) =
-    x.2 ∙ ap (settled_outcome side frame) (first-once (Holds side frame) rx_steps x.0 y.0 x.1 y.1) ∙ sym y.2
-receives_once side ceilings frame a b (inl x) (inr y) = absurd (none-first (Holds side frame) rx_steps x.0 y.1.unsettled x.1)
-receives_once side ceilings frame a b (inr x) (inl y) = absurd (none-first (Holds side frame) rx_steps y.0 x.1.unsettled y.1)
+    x.2 ∙ ap (settled_outcome side frame) (first-once (RxStepHolds side frame) rx_steps x.0 y.0 x.1 y.1) ∙ sym y.2
+receives_once side ceilings frame a b (inl x) (inr y) = absurd (none-first (RxStepHolds side frame) rx_steps x.0 y.1.unsettled x.1)
+receives_once side ceilings frame a b (inr x) (inl y) = absurd (none-first (RxStepHolds side frame) rx_steps y.0 x.1.unsettled y.1)
 receives_once side ceilings frame a b (inr x) (inr y) = x.2 ∙ ap (arrival_outcome side ceilings) (arrives_once side frame x.0 y.0 x.1 y.1) ∙ sym y.2

@@ -5,7 +5,7 @@ use Rattle.std.specs.List.{list_any}
 use Rattle.std.specs.Option.{is_some, option_map}
 use Rattle.macs_config.specs.declared.association.RxSa.{RxSa}
 use Rattle.macs_rxsc.specs.Receive.{Numbers, RxSide, IsNumbered}
-use Rattle.macs_rxsc.specs.Needs.{Need, needs_of, raised_ceiling}
+use Rattle.macs_rxsc.specs.Needs.{Need, first_need_of, raised_ceiling}
 use Rattle.macs_rxsc.specs.Value.{channel_at, counters_among, counters_in, scis_of}
 use Rattle.macs_rxsc.specs.declared.channel.Channel.{Channel}
 use Rattle.macs_rxsc.specs.declared.counters.ChannelCounters.{ChannelCounters}
@@ -40,7 +40,7 @@ abbrev pub IsAsked : (List ℕ → ℕ → Option ℕ) → ℕ → Need → Type
 IsAsked ceilings block need = IsSomeAnd (ceilings need.sci need.an) (λ old. old < raised_ceiling block need.pn)
 
 -- what a need asks for may be raised
-pub asked : (side : RxSide) (ceilings : List ℕ → ℕ → Option ℕ) (block : ℕ) (need : Need) → needs_of side ceilings block ≡ Some need → IsAsked ceilings block need
+pub asked : (side : RxSide) (ceilings : List ℕ → ℕ → Option ℕ) (block : ℕ) (need : Need) → first_need_of side ceilings block ≡ Some need → IsAsked ceilings block need
 asked side ceilings block need is =
     let sci = need.sci in
     let an = need.an in
@@ -71,13 +71,13 @@ need_shown need = record { sci = need.sci; an = need.an; pn = need.pn }
 
 module _ (side : RxSide) (ceilings : List ℕ → ℕ → Option ℕ) (block : ℕ) where
   -- what a need names stands
-  pub need_stands : AllOrdered side ceilings → (result : Option RxNeed) → option_map need_shown result ≡ needs_of side ceilings block
+  pub need_stands : AllOrdered side ceilings → (result : Option RxNeed) → option_map need_shown result ≡ first_need_of side ceilings block
       → IfSome result (λ need. IsSome (side.rx need.sci need.an))
   need_stands ordered None is = tt
   need_stands ordered (Some need) is = bounded _ _ _ _ _ (ordered need.sci need.an) (asked side ceilings block (need_shown need) (sym is))
 
   -- and its ceiling is below the one that is asked for
-  pub need_higher : (result : Option RxNeed) → option_map need_shown result ≡ needs_of side ceilings block
+  pub need_higher : (result : Option RxNeed) → option_map need_shown result ≡ first_need_of side ceilings block
       → IfSome result (λ need. IfSome (ceilings need.sci need.an) (λ old. old < raised_ceiling block need.pn))
   need_higher None is = tt
   need_higher (Some need) is = if_some (ceilings need.sci need.an) (λ old. old < raised_ceiling block need.pn) (asked side ceilings block (need_shown need) (sym is))

@@ -1,6 +1,7 @@
 -- What is counted.
 use Rattle.std.specs.Prelude.{◌^◌, ℕ, ◌+◌, ◌-◌, min, List, Option, Some, None}
 use Rattle.std.specs.Option.{option_map}
+use Rattle.macs_config.specs.Numbers.{one_more}
 use Rattle.macs_config.specs.Tables.{put_at}
 use Rattle.macs_rxsc.specs.declared.counters.RxCounters.{RxCounters}
 use Rattle.macs_rxsc.specs.declared.counters.ChannelCounters.{ChannelCounters}
@@ -8,10 +9,6 @@ use Rattle.macs_rxsc.specs.declared.verdict.Kind.TheVariants.{Ok, Delayed, Inval
 use Rattle.macs_rxsc.specs.declared.verdict.Reason.TheVariants.{Runt, Oversize, NoTag, BadTag, ForKay, NoSci, NotUsingSa, Late, NotValid}
 use Rattle.macs_rxsc.specs.declared.verdict.Verdict.{Verdict}
 use Rattle.macs_rxsc.specs.declared.verdict.Verdict.TheVariants.{Delivered, Discarded, HeldBack}
-
--- one more, up to 2^64 - 1
-abbrev pub one_more : ℕ → ℕ
-one_more count = min (count + 1) (2 ^ 64 - 1)
 
 -- how often a verdict was given; a frame that is held back is not counted
 abbrev pub count_of : Verdict → RxCounters → ℕ
@@ -33,23 +30,23 @@ count_of (Discarded NotValid) c = c.not_valid
 count_of HeldBack c = 0
 
 -- the counters after one more verdict; a frame that is held back is not counted
-abbrev pub with_verdict : Verdict → RxCounters → RxCounters
-with_verdict (Delivered Ok) c = record c { ok = one_more c.ok }
-with_verdict (Delivered Delayed) c = record c { delayed = one_more c.delayed }
-with_verdict (Delivered Invalid) c = record c { invalid = one_more c.invalid }
-with_verdict (Delivered Untagged) c = record c { untagged = one_more c.untagged }
-with_verdict (Delivered UnknownSci) c = record c { unknown_sci = one_more c.unknown_sci }
-with_verdict (Delivered UnusedSa) c = record c { unused_sa = one_more c.unused_sa }
-with_verdict (Discarded Runt) c = record c { runt = one_more c.runt }
-with_verdict (Discarded Oversize) c = record c { oversize = one_more c.oversize }
-with_verdict (Discarded NoTag) c = record c { no_tag = one_more c.no_tag }
-with_verdict (Discarded BadTag) c = record c { bad_tag = one_more c.bad_tag }
-with_verdict (Discarded ForKay) c = record c { for_kay = one_more c.for_kay }
-with_verdict (Discarded NoSci) c = record c { no_sci = one_more c.no_sci }
-with_verdict (Discarded NotUsingSa) c = record c { not_using_sa = one_more c.not_using_sa }
-with_verdict (Discarded Late) c = record c { late = one_more c.late }
-with_verdict (Discarded NotValid) c = record c { not_valid = one_more c.not_valid }
-with_verdict HeldBack c = c
+abbrev pub counters_after_verdict : Verdict → RxCounters → RxCounters
+counters_after_verdict (Delivered Ok) c = record c { ok = one_more c.ok }
+counters_after_verdict (Delivered Delayed) c = record c { delayed = one_more c.delayed }
+counters_after_verdict (Delivered Invalid) c = record c { invalid = one_more c.invalid }
+counters_after_verdict (Delivered Untagged) c = record c { untagged = one_more c.untagged }
+counters_after_verdict (Delivered UnknownSci) c = record c { unknown_sci = one_more c.unknown_sci }
+counters_after_verdict (Delivered UnusedSa) c = record c { unused_sa = one_more c.unused_sa }
+counters_after_verdict (Discarded Runt) c = record c { runt = one_more c.runt }
+counters_after_verdict (Discarded Oversize) c = record c { oversize = one_more c.oversize }
+counters_after_verdict (Discarded NoTag) c = record c { no_tag = one_more c.no_tag }
+counters_after_verdict (Discarded BadTag) c = record c { bad_tag = one_more c.bad_tag }
+counters_after_verdict (Discarded ForKay) c = record c { for_kay = one_more c.for_kay }
+counters_after_verdict (Discarded NoSci) c = record c { no_sci = one_more c.no_sci }
+counters_after_verdict (Discarded NotUsingSa) c = record c { not_using_sa = one_more c.not_using_sa }
+counters_after_verdict (Discarded Late) c = record c { late = one_more c.late }
+counters_after_verdict (Discarded NotValid) c = record c { not_valid = one_more c.not_valid }
+counters_after_verdict HeldBack c = c
 
 -- of the verdicts that name a channel, those that are counted for it
 abbrev pub channel_count_of : Verdict → ChannelCounters → ℕ
@@ -63,20 +60,20 @@ channel_count_of (Discarded NotValid) c = c.not_valid
 channel_count_of verdict c = 0
 
 -- the counters of a channel after one more verdict on a frame that names it
-abbrev pub with_channel_verdict : Verdict → ChannelCounters → ChannelCounters
-with_channel_verdict (Delivered Ok) c = record c { ok = one_more c.ok }
-with_channel_verdict (Delivered Delayed) c = record c { delayed = one_more c.delayed }
-with_channel_verdict (Delivered Invalid) c = record c { invalid = one_more c.invalid }
-with_channel_verdict (Delivered UnusedSa) c = record c { unused_sa = one_more c.unused_sa }
-with_channel_verdict (Discarded NotUsingSa) c = record c { not_using_sa = one_more c.not_using_sa }
-with_channel_verdict (Discarded Late) c = record c { late = one_more c.late }
-with_channel_verdict (Discarded NotValid) c = record c { not_valid = one_more c.not_valid }
-with_channel_verdict verdict c = c
+abbrev pub channel_counters_after_verdict : Verdict → ChannelCounters → ChannelCounters
+channel_counters_after_verdict (Delivered Ok) c = record c { ok = one_more c.ok }
+channel_counters_after_verdict (Delivered Delayed) c = record c { delayed = one_more c.delayed }
+channel_counters_after_verdict (Delivered Invalid) c = record c { invalid = one_more c.invalid }
+channel_counters_after_verdict (Delivered UnusedSa) c = record c { unused_sa = one_more c.unused_sa }
+channel_counters_after_verdict (Discarded NotUsingSa) c = record c { not_using_sa = one_more c.not_using_sa }
+channel_counters_after_verdict (Discarded Late) c = record c { late = one_more c.late }
+channel_counters_after_verdict (Discarded NotValid) c = record c { not_valid = one_more c.not_valid }
+channel_counters_after_verdict verdict c = c
 
 -- a verdict is counted for the channel that its frame names, if one stands
-abbrev pub with_verdict_at : Option (List ℕ) → Verdict → (List ℕ → Option ChannelCounters) → List ℕ → Option ChannelCounters
-with_verdict_at None verdict table = table
-with_verdict_at (Some sci) verdict table = put_at table sci (option_map (with_channel_verdict verdict) (table sci))
+abbrev pub counters_after_verdict_at : Option (List ℕ) → Verdict → (List ℕ → Option ChannelCounters) → List ℕ → Option ChannelCounters
+counters_after_verdict_at None verdict table = table
+counters_after_verdict_at (Some sci) verdict table = put_at table sci (option_map (channel_counters_after_verdict verdict) (table sci))
 
 -- each count over all channels at 0
 abbrev pub no_counts : RxCounters

@@ -1,5 +1,7 @@
 -- Which ceiling is to be raised, and how far.
 use Rattle.std.specs.Prelude.{◌^◌, ℕ, ◌+◌, ◌-◌, ◌/◌, min, nat_le, nat_lt, Bool, ◌&&◌, ◌||◌, if◌then◌else◌, List, [], ◌∷◌, map, flat_map, Option, Some, None}
+use Rattle.macs_config.specs.Numbers.{block_beyond}
+use Rattle.macs_config.specs.Snapshot.{every_an}
 use Rattle.macs_rxsc.specs.Receive.{Numbers, RxSide}
 
 -- a need: the association, and the greatest number that was seen
@@ -10,7 +12,7 @@ pub record Need : Type 0 where
 
 -- the ceiling that a number asks for
 abbrev pub raised_ceiling : ℕ → ℕ → ℕ
-raised_ceiling block seen = min (seen + block) (2 ^ 32)
+raised_ceiling block seen = block_beyond seen block
 
 -- A frame was seen, and it is at or above the ceiling, or at most half a block is left below that, and a higher ceiling is
 -- to be had.
@@ -36,6 +38,6 @@ first_need (None ∷ needs) = first_need needs
 first_need (Some need ∷ needs) = Some need
 
 -- the need that is served first, by ascending SCI and then AN, if there is any
-abbrev pub needs_of : RxSide → (List ℕ → ℕ → Option ℕ) → ℕ → Option Need
-needs_of side ceilings block = first_need
-    (flat_map (λ sci. map (λ an. need_of block sci an (side.numbers sci an) (ceilings sci an)) (0 ∷ 1 ∷ 2 ∷ 3 ∷ [])) side.channels)
+abbrev pub first_need_of : RxSide → (List ℕ → ℕ → Option ℕ) → ℕ → Option Need
+first_need_of side ceilings block = first_need
+    (flat_map (λ sci. map (λ an. need_of block sci an (side.numbers sci an) (ceilings sci an)) every_an) side.channels)

@@ -1,9 +1,8 @@
 -- Reception (IEEE Std 802.1AE-2018, 10.6 and 10.7): the verdict on a frame from the common side, and what a frame that
 -- verifies does to the packet numbers of its association.
 use Rattle.std.specs.Prelude.{◌≡◌, ◌≤◌, ◌<◌, ◌⊎◌, ◌^◌, ℕ, ◌+◌, ◌-◌, max, nat_lt, Bool, true, false, ◌||◌, if◌then◌else◌, List, [], ◌∷◌, ◌++◌, map, Option, Some, None, IsSome, IsSomeAnd}
-use Rattle.std.specs.List.{list_any}
 use Rattle.std.specs.Option.{option_and_then}
-use Rattle.std.specs.Str.{bytes_eq}
+use Rattle.macs_config.specs.Config.{is_among}
 use Rattle.macs_config.specs.Tables.{put, put_at}
 use Rattle.macs_config.specs.declared.association.RxSa.{RxSa}
 use Rattle.macs_config.specs.declared.command.Replay.{Replay}
@@ -51,7 +50,7 @@ new_rx_side = record {
 
 -- a receive channel of that SCI stands
 abbrev pub has_channel : RxSide → List ℕ → Bool
-has_channel side sci = list_any (λ other. bytes_eq other sci) side.channels
+has_channel side sci = is_among side.channels sci
 
 -- ---- the channel, the association and its numbers that a frame names
 
@@ -69,12 +68,12 @@ sci_named channels frame EndStation = named_sci frame EndStation
 sci_named channels frame Implicit = only_one channels
 
 -- the SCI, if a channel of it stands
-abbrev pub if_channel : List (List ℕ) → List ℕ → Option (List ℕ)
-if_channel channels sci = if list_any (λ other. bytes_eq other sci) channels then Some sci else None
+abbrev pub standing_channel : List (List ℕ) → List ℕ → Option (List ℕ)
+standing_channel channels sci = if is_among channels sci then Some sci else None
 
 -- the SCI of the channel that a frame names, if that stands
 abbrev pub channel_of : RxSide → List ℕ → Option (List ℕ)
-channel_of side frame = option_and_then (if_channel side.channels) (sci_named side.channels frame (name_of frame))
+channel_of side frame = option_and_then (standing_channel side.channels) (sci_named side.channels frame (name_of frame))
 
 -- the association that a frame names, by its channel and AN, if it stands
 abbrev pub association_of : RxSide → List ℕ → Option RxSa
@@ -103,13 +102,13 @@ pub data RxStep : Type 0 where
   NotVerified : RxStep
 
 -- what each step says of a frame
-abbrev pub Holds : RxSide → List ℕ → RxStep → Type 0
-Holds side frame (Tag fault) = TagFaultHolds frame fault
-Holds side frame NoChannel = channel_of side frame ≡ None
-Holds side frame NoAssociation = association_of side frame ≡ None
-Holds side frame BelowLowest =
+abbrev pub RxStepHolds : RxSide → List ℕ → RxStep → Type 0
+RxStepHolds side frame (Tag fault) = TagFaultHolds frame fault
+RxStepHolds side frame NoChannel = channel_of side frame ≡ None
+RxStepHolds side frame NoAssociation = association_of side frame ≡ None
+RxStepHolds side frame BelowLowest =
     (side.replay.on ≡ true) × IsSomeAnd (numbers_of side frame) (λ numbers. (tag_of frame).pn < numbers.lowest)
-Holds side frame NotVerified = (plain : List ℕ) → ¬ VerifiesAs side frame plain
+RxStepHolds side frame NotVerified = (plain : List ℕ) → ¬ VerifiesAs side frame plain
 
 -- in their order
 abbrev pub rx_steps : List RxStep
@@ -121,8 +120,8 @@ is_strict Strict = true
 is_strict Check = false
 
 -- discarded where validation is strict or C is set, else delivered
-abbrev pub unless_checked : RxSide → List ℕ → Reason → Kind → Verdict
-unless_checked side frame reason kind =
+abbrev pub verdict_unless_checked : RxSide → List ℕ → Reason → Kind → Verdict
+verdict_unless_checked side frame reason kind =
     if is_strict side.validate || changed (control frame) then Discarded reason else Delivered kind
 
 -- the verdict where a step is the first that holds
@@ -132,10 +131,10 @@ verdict_at side frame (Tag IsOversize) = Discarded Oversize
 verdict_at side frame (Tag HasNoTag) = if is_strict side.validate then Discarded NoTag else Delivered Untagged
 verdict_at side frame (Tag HasBadTag) = Discarded BadTag
 verdict_at side frame (Tag IsForKay) = Discarded ForKay
-verdict_at side frame NoChannel = unless_checked side frame NoSci UnknownSci
-verdict_at side frame NoAssociation = unless_checked side frame NotUsingSa UnusedSa
+verdict_at side frame NoChannel = verdict_unless_checked side frame NoSci UnknownSci
+verdict_at side frame NoAssociation = verdict_unless_checked side frame NotUsingSa UnusedSa
 verdict_at side frame BelowLowest = Discarded Late
-verdict_at side frame NotVerified = unless_checked side frame NotValid Invalid
+verdict_at side frame NotVerified = verdict_unless_checked side frame NotValid Invalid
 
 -- what such a verdict gives: an untagged frame whole, others without SecTAG and ICV
 abbrev pub given_at : List ℕ → Verdict → List ℕ
@@ -161,7 +160,7 @@ pub record Arrival : Type 0 where
 
 -- the first nine steps do not settle the frame, and this is what it is
 pub record Arrives (side : RxSide) (frame : List ℕ) (a : Arrival) : Type 0 where
-  pub unsettled : NoneHolds (Holds side frame) rx_steps
+  pub unsettled : NoneHolds (RxStepHolds side frame) rx_steps
   pub is_channel : channel_of side frame ≡ Some a.sci
   pub is_an : a.an ≡ (tag_of frame).an
   pub is_pn : a.pn ≡ (tag_of frame).pn
@@ -170,8 +169,8 @@ pub record Arrives (side : RxSide) (frame : List ℕ) (a : Arrival) : Type 0 whe
   pub verified : Verified frame a.sa.key a.sci (octets_of a.sa.offset) a.plain
 
 -- how a frame that verified is delivered: Delayed where its number is below lowest, else Ok
-abbrev pub kind_of : Numbers → ℕ → Kind
-kind_of numbers pn = if nat_lt pn numbers.lowest then Delayed else Ok
+abbrev pub delivery_kind : Numbers → ℕ → Kind
+delivery_kind numbers pn = if nat_lt pn numbers.lowest then Delayed else Ok
 
 -- the greatest number that verified, after one more did
 abbrev pub seen_after : Option ℕ → ℕ → Option ℕ
@@ -179,18 +178,18 @@ seen_after None pn = Some pn
 seen_after (Some seen) pn = Some (max seen pn)
 
 -- the numbers after a frame was held back
-abbrev pub after_hold : Numbers → ℕ → Numbers
-after_hold numbers pn = record numbers { seen = seen_after numbers.seen pn }
+abbrev pub numbers_after_hold : Numbers → ℕ → Numbers
+numbers_after_hold numbers pn = record numbers { seen = seen_after numbers.seen pn }
 
 -- the numbers after a frame was delivered
-abbrev pub after_delivery : ℕ → Numbers → ℕ → Numbers
-after_delivery window numbers pn =
+abbrev pub numbers_after_delivery : ℕ → Numbers → ℕ → Numbers
+numbers_after_delivery window numbers pn =
     let next = max numbers.next (pn + 1) in
     record { next = next; lowest = max numbers.lowest (next - window); seen = seen_after numbers.seen pn }
 
 -- the numbers after the window was set
-abbrev pub under_window : ℕ → Numbers → Numbers
-under_window window numbers = record numbers { lowest = max numbers.lowest (numbers.next - window) }
+abbrev pub numbers_under_window : ℕ → Numbers → Numbers
+numbers_under_window window numbers = record numbers { lowest = max numbers.lowest (numbers.next - window) }
 
 -- the numbers that an association begins with, installed or found at an opening
 abbrev pub first_numbers : ℕ → Numbers
@@ -226,20 +225,20 @@ abbrev pub arrival_outcome : RxSide → (List ℕ → ℕ → Option ℕ) → Ar
 arrival_outcome side ceilings a =
     if is_below (ceilings a.sci a.an) a.pn
     then record {
-      verdict = Delivered (kind_of a.numbers a.pn);
+      verdict = Delivered (delivery_kind a.numbers a.pn);
       given = a.plain;
-      numbers = put_numbers side.numbers a.sci a.an (Some (after_delivery side.replay.window a.numbers a.pn));
+      numbers = put_numbers side.numbers a.sci a.an (Some (numbers_after_delivery side.replay.window a.numbers a.pn));
     }
     else record {
       verdict = HeldBack;
       given = [];
-      numbers = put_numbers side.numbers a.sci a.an (Some (after_hold a.numbers a.pn));
+      numbers = put_numbers side.numbers a.sci a.an (Some (numbers_after_hold a.numbers a.pn));
     }
 
 -- the outcome is that of the first of nine steps that holds, or that of the frame's arrival
 abbrev pub IsOutcome : RxSide → (List ℕ → ℕ → Option ℕ) → List ℕ → Outcome → Type 0
 IsOutcome side ceilings frame outcome =
-    ((step : RxStep) × IsFirst (Holds side frame) rx_steps step × (outcome ≡ settled_outcome side frame step))
+    ((step : RxStep) × IsFirst (RxStepHolds side frame) rx_steps step × (outcome ≡ settled_outcome side frame step))
     ⊎ ((a : Arrival) × Arrives side frame a × (outcome ≡ arrival_outcome side ceilings a))
 
 -- ---- ranges

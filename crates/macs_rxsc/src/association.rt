@@ -3,7 +3,7 @@
 ghost use Rattle.std.specs.Prelude.{◌≡◌, Option, ◌≤◌, ◌<◌, ℕ, List, [], Some, None, nat_lt, if◌then◌else◌, ◌&&◌};
 ghost use Rattle.std.specs.Option.{option_map};
 ghost use Rattle.macs_frame.specs.Tag.{IsForKay, Tag, tag_of};
-ghost use Rattle.macs_rxsc.specs.Receive.{IsOutcome, RxSide, after_delivery, channel_of, after_hold, kind_of, put_numbers, seen_after};
+ghost use Rattle.macs_rxsc.specs.Receive.{IsOutcome, RxSide, numbers_after_delivery, channel_of, numbers_after_hold, delivery_kind, put_numbers, seen_after};
 ghost use Rattle.macs_rxsc.specs.Needs.{Need, need_of};
 ghost use Rattle.macs_rxsc.specs.Value.{packet_numbers, sa_of, association_under};
 
@@ -75,9 +75,9 @@ impl Association {
     /// As what a frame that verified is delivered, by its packet number: `None` where that is not
     /// below the ceiling, and the frame is held back.
     fn arrive(&mut self, pn: Pn, window: u32) -> Option<Kind>
-        ensures kind { result ≡ (if nat_lt pn self.old.ceiling then Some (kind_of (packet_numbers self.old) pn) else None) }
+        ensures kind { result ≡ (if nat_lt pn self.old.ceiling then Some (delivery_kind (packet_numbers self.old) pn) else None) }
         ensures numbers { packet_numbers self.new ≡ (if nat_lt pn self.old.ceiling
-            then after_delivery window (packet_numbers self.old) pn else after_hold (packet_numbers self.old) pn) }
+            then numbers_after_delivery window (packet_numbers self.old) pn else numbers_after_hold (packet_numbers self.old) pn) }
         ensures sa { sa_of self.new ≡ sa_of self.old }
         ensures ceiling { self.new.ceiling ≡ self.old.ceiling }
     {

@@ -6,7 +6,7 @@ ghost use Rattle.macs_frame.specs.Tag.{IsForKay, Tag};
 ghost use Rattle.macs_rxsc.specs.Receive.{Numbers};
 ghost use Rattle.macs_rxsc.specs.Receiving.{ChannelReceives};
 ghost use Rattle.macs_rxsc.specs.Needs.{Need, first_need, need_of};
-ghost use Rattle.macs_rxsc.specs.Counting.{with_channel_verdict, no_channel_counts};
+ghost use Rattle.macs_rxsc.specs.Counting.{channel_counters_after_verdict, no_channel_counts};
 ghost use Rattle.macs_rxsc.specs.Value.{ceilings_in, numbers_in, packet_numbers, sa_of, sas_in, association_under, channel_under};
 ghost use Rattle.macs_config.specs.Tables.{put};
 ghost use Rattle.macs_rxsc.specs.declared.association.Association.{Association};
@@ -93,7 +93,7 @@ impl Channel {
         ensures sci { self.new.sci ≡ self.old.sci }
         ensures sas { sas_in (Some self.new) ≡ sas_in (Some self.old) }
         ensures ceilings { ceilings_in (Some self.new) ≡ ceilings_in (Some self.old) }
-        ensures counters { self.new.counters ≡ with_channel_verdict result self.old.counters }
+        ensures counters { self.new.counters ≡ channel_counters_after_verdict result self.old.counters }
     {
         let verdict = self.decide(validate, replay, frame, parts, out);
         self.counters.count(verdict);

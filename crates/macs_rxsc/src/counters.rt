@@ -1,7 +1,7 @@
 //! What is counted.
 
 ghost use Rattle.std.specs.Prelude.{◌≡◌};
-ghost use Rattle.macs_rxsc.specs.Counting.{one_more};
+ghost use Rattle.macs_config.specs.Numbers.{one_more};
 
 use crate::verdict::{Kind, Reason, Verdict};
 
@@ -46,7 +46,7 @@ pub struct ChannelCounters {
 
 impl RxCounters {
     ghost use Rattle.std.specs.Prelude.{◌≡◌};
-    ghost use Rattle.macs_rxsc.specs.Counting.{count_of, with_verdict, no_counts};
+    ghost use Rattle.macs_rxsc.specs.Counting.{count_of, counters_after_verdict, no_counts};
 
     /// Nothing is counted yet.
     pub(crate) fn new() -> RxCounters
@@ -97,7 +97,7 @@ impl RxCounters {
 
     /// A verdict is given once more.
     pub(crate) fn count(&mut self, verdict: Verdict)
-        ensures { self.new ≡ with_verdict verdict self.old }
+        ensures { self.new ≡ counters_after_verdict verdict self.old }
     {
         match verdict {
             Verdict::Delivered(Kind::Ok) => count_one(&mut self.ok),
@@ -122,7 +122,7 @@ impl RxCounters {
 
 impl ChannelCounters {
     ghost use Rattle.std.specs.Prelude.{◌≡◌};
-    ghost use Rattle.macs_rxsc.specs.Counting.{channel_count_of, with_channel_verdict, no_channel_counts};
+    ghost use Rattle.macs_rxsc.specs.Counting.{channel_count_of, channel_counters_after_verdict, no_channel_counts};
 
     /// Nothing is counted yet.
     pub(crate) fn new() -> ChannelCounters
@@ -157,7 +157,7 @@ impl ChannelCounters {
 
     /// A verdict is given once more.
     pub(crate) fn count(&mut self, verdict: Verdict)
-        ensures { self.new ≡ with_channel_verdict verdict self.old }
+        ensures { self.new ≡ channel_counters_after_verdict verdict self.old }
     {
         match verdict {
             Verdict::Delivered(Kind::Ok) => count_one(&mut self.ok),

@@ -2,12 +2,12 @@
 
 ghost use Rattle.std.specs.Prelude.{◌≡◌, ◌⊎◌, ℕ, List, Option, IsSome};
 ghost use Rattle.macs_frame.specs.First.{IsFirst, NoneHolds};
-ghost use Rattle.macs_rxsc.specs.Receive.{AreNumbered, Arrival, Arrives, Holds, Outcome, IsOutcome, RxSide, RxStep, rx_steps};
+ghost use Rattle.macs_rxsc.specs.Receive.{AreNumbered, Arrival, Arrives, RxStepHolds, Outcome, IsOutcome, RxSide, RxStep, rx_steps};
 
 /// A frame is settled by one of the first nine steps, or it is one arrival, and no other.
 pub fn settled_or_arrives()
     ensures either { (side : RxSide) (frame : List ℕ) → AreNumbered side
-        → ((step : RxStep) × IsFirst (Holds side frame) rx_steps step) ⊎ ((a : Arrival) × Arrives side frame a) }
+        → ((step : RxStep) × IsFirst (RxStepHolds side frame) rx_steps step) ⊎ ((a : Arrival) × Arrives side frame a) }
     ensures once { (side : RxSide) (frame : List ℕ) (a b : Arrival)
         → Arrives side frame a → Arrives side frame b → a ≡ b }
 {}

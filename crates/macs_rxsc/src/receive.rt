@@ -6,9 +6,9 @@ ghost use Rattle.std.specs.Option.{is_some, option_map};
 ghost use Rattle.std.specs.Str.{bytes_eq};
 ghost use Rattle.macs_config.specs.Config.{this_edition, is_ascending, put_among};
 ghost use Rattle.macs_config.specs.Tables.{put, put_at};
-ghost use Rattle.macs_rxsc.specs.Receive.{AreOrdered, Numbers, IsOutcome, channel_of, has_channel, new_rx_side, put_numbers, first_numbers, under_window};
-ghost use Rattle.macs_rxsc.specs.Needs.{Need, needs_of, raised_ceiling};
-ghost use Rattle.macs_rxsc.specs.Counting.{channel_count_of, count_of, with_verdict, with_verdict_at, no_counts, no_channel_counts};
+ghost use Rattle.macs_rxsc.specs.Receive.{AreOrdered, Numbers, IsOutcome, channel_of, has_channel, new_rx_side, put_numbers, first_numbers, numbers_under_window};
+ghost use Rattle.macs_rxsc.specs.Needs.{Need, first_need_of, raised_ceiling};
+ghost use Rattle.macs_rxsc.specs.Counting.{channel_count_of, count_of, counters_after_verdict, counters_after_verdict_at, no_counts, no_channel_counts};
 ghost use Rattle.macs_rxsc.specs.Value.{ceilings_of, channel_counters_of, counters_of, rx_side_of};
 
 use crate::association::{Association, RxNumbers};
@@ -72,7 +72,7 @@ impl Rx {
         ensures side { rx_side_of self.new ≡ record (rx_side_of self.old) {
           validate = validate;
           replay = record { on = on; window = window };
-          numbers = λ sci an. option_map (under_window window) ((rx_side_of self.old).numbers sci an);
+          numbers = λ sci an. option_map (numbers_under_window window) ((rx_side_of self.old).numbers sci an);
         } }
         ensures ceilings { ceilings_of self.new ≡ ceilings_of self.old }
         ensures counters { counters_of self.new ≡ counters_of self.old }
@@ -198,7 +198,7 @@ impl Rx {
     /// `rx_block` is 1 to 65,536 packet numbers. What is named stands, and may be raised that far.
     pub fn needs(&self, rx_block: u32) -> Option<RxNeed>
         ensures need { option_map (λ (need : RxNeed). record { sci = need.sci; an = need.an; pn = need.pn }) result
-            ≡ needs_of (rx_side_of self.now) (ceilings_of self.now) rx_block }
+            ≡ first_need_of (rx_side_of self.now) (ceilings_of self.now) rx_block }
         ensures stands { IfSome result (λ need. IsSome ((rx_side_of self.now).rx need.sci need.an)) }
         ensures higher { IfSome result (λ need. IfSome (ceilings_of self.now need.sci need.an)
             (λ old. old < raised_ceiling rx_block need.pn)) }
@@ -221,9 +221,9 @@ impl Rx {
             (record { verdict = result; given = out.new.items; numbers = (rx_side_of self.new).numbers }) }
         ensures side { rx_side_of self.new ≡ record (rx_side_of self.old) { numbers = (rx_side_of self.new).numbers } }
         ensures ceilings { ceilings_of self.new ≡ ceilings_of self.old }
-        ensures counters { counters_of self.new ≡ with_verdict result (counters_of self.old) }
+        ensures counters { counters_of self.new ≡ counters_after_verdict result (counters_of self.old) }
         ensures channel_counters { channel_counters_of self.new
-            ≡ with_verdict_at (channel_of (rx_side_of self.old) frame.now) result (channel_counters_of self.old) }
+            ≡ counters_after_verdict_at (channel_of (rx_side_of self.old) frame.now) result (channel_counters_of self.old) }
     {
         let verdict = self.table.receive(self.validate, self.replay, frame, out);
         self.counters.count(verdict);

@@ -9,7 +9,7 @@ ghost use Rattle.macs_config.specs.Tables.{put, put_at};
 ghost use Rattle.macs_frame.specs.Tag.{IsForKay, Tag};
 ghost use Rattle.macs_rxsc.specs.Receive.{put_numbers, sci_named};
 ghost use Rattle.macs_rxsc.specs.Receiving.{TableReceives};
-ghost use Rattle.macs_rxsc.specs.Needs.{Need, needs_of};
+ghost use Rattle.macs_rxsc.specs.Needs.{Need, first_need_of};
 ghost use Rattle.macs_rxsc.specs.Counting.{no_channel_counts};
 ghost use Rattle.macs_rxsc.specs.Value.{ceilings_among, channel_at, counters_among, packet_numbers, sa_of, scis_of, rx_side_in, channel_under};
 ghost use Rattle.macs_config.specs.declared.command.Replay.{Replay};
@@ -171,7 +171,7 @@ impl Table {
         requires { is_ascending (scis_of self.now.channels.items) ≡ true }
         ensures { (validate : Validate) (replay : Replay)
             → option_map (λ (need : RxNeed). record { sci = need.sci; an = need.an; pn = need.pn }) result
-            ≡ needs_of (rx_side_in validate replay self.now.channels.items) (ceilings_among self.now.channels.items) block }
+            ≡ first_need_of (rx_side_in validate replay self.now.channels.items) (ceilings_among self.now.channels.items) block }
     {
         for channel in self.channels.iter() {
             if let Some(need) = channel.need(block) {

@@ -8,7 +8,7 @@ use Rattle.macs_journal.specs.Found as journal
 use Rattle.macs_journal.specs.declared.fault.JournalFault.{JournalFault}
 use Rattle.macs_journal.specs.declared.fault.JournalFault.TheVariants.{Stopped, TooSmall, Disk, AlreadyFormatted, NotFormatted, BadJournal, AreaFull}
 use Rattle.macs_journal.proofs.Findings.{one_finding}
-use Rattle.macs_store.specs.Found.{FindsRefused, IsFoundStanding}
+use Rattle.macs_store.specs.Found.{HasRefusedReplay, StandingIs}
 use Rattle.macs_store.specs.Replay.{meaning_of}
 use Rattle.macs_store.specs.Standing.{Standing}
 
@@ -25,17 +25,17 @@ said edition (Err fault) = Err fault
 -- what a disk stands for follows from what its journal holds
 record IsSaid (edition : Edition) (sectors : ℕ) (image : Image) (a : Result Standing JournalFault) : Type 0 where
   found : Result Content JournalFault
-  is : journal.IsFoundContent sectors image found
+  is : journal.JournalIs sectors image found
   says : said edition found ≡ a
 
-bad : (edition : Edition) (sectors : ℕ) (image : Image) → least_sectors ≤ sectors → IsBadJournal image ⊎ FindsRefused edition image
+bad : (edition : Edition) (sectors : ℕ) (image : Image) → least_sectors ≤ sectors → IsBadJournal image ⊎ HasRefusedReplay edition image
     → IsSaid edition sectors image (Err BadJournal)
 bad edition sectors image large is = elim is [
   | inl broken ↦ record { found = Err BadJournal; is = (large, broken); says = refl }
   | inr refused ↦ record { found = Ok refused.content; is = (large, refused.found); says = ap said_by refused.refused }
 ]
 
-found-said : (edition : Edition) (sectors : ℕ) (image : Image) (a : Result Standing JournalFault) → IsFoundStanding edition sectors image a → IsSaid edition sectors image a
+found-said : (edition : Edition) (sectors : ℕ) (image : Image) (a : Result Standing JournalFault) → StandingIs edition sectors image a → IsSaid edition sectors image a
 found-said edition sectors image (Ok s) is = record { found = Ok is.1.content; is = (is.0, is.1.found); says = ap said_by is.1.stands }
 found-said edition sectors image (Err BadJournal) is = bad edition sectors image is.0 is.1
 found-said edition sectors image (Err TooSmall) is = record { found = Err TooSmall; is = is; says = refl }
@@ -46,7 +46,7 @@ found-said edition sectors image (Err AlreadyFormatted) is = absurd is
 found-said edition sectors image (Err AreaFull) is = absurd is
 
 pub one_standing : (edition : Edition) (sectors : ℕ) (image : Image) (a b : Result Standing JournalFault)
-    → IsFoundStanding edition sectors image a → IsFoundStanding edition sectors image b → a ≡ b
+    → StandingIs edition sectors image a → StandingIs edition sectors image b → a ≡ b
 one_standing edition sectors image a b is_a is_b =
     let first = found-said edition sectors image a is_a in
     let second = found-said edition sectors image b is_b in

@@ -12,9 +12,9 @@ use Rattle.macs_journal.specs.Areas.{slots}
 use Rattle.macs_journal.specs.Work.{IsWorkOf}
 use Rattle.macs_journal.specs.declared.fault.JournalFault.{JournalFault}
 use Rattle.macs_journal.specs.declared.fault.JournalFault.TheVariants as journal_fault
-use Rattle.macs_store.specs.Found.{CommitLeaves, FindsEitherStanding}
-use Rattle.macs_store.specs.Keeps.{Commits, IsCommitOf, Keeps, Records}
-use Rattle.macs_store.specs.Replay.{after_record}
+use Rattle.macs_store.specs.Found.{CommitLeaves, StandsForEither}
+use Rattle.macs_store.specs.Keeps.{Commits, IsCommitOf, Keeps, KeepsRecord}
+use Rattle.macs_store.specs.Replay.{standing_after_record}
 use Rattle.macs_store.specs.Standing.{Standing, accept}
 use Rattle.macs_store.specs.Table.{StandingValue, standing_of}
 use Rattle.macs_store.specs.Value.{IsStored, StoreValue, disk_in, is_stopped, standing_in, used_slots}
@@ -31,15 +31,15 @@ undone fault = Err fault
 
 module _ {D : Type 0} (disk_of : D → Disk) (s : StoreValue D) where
   -- where nothing is done nothing new is left
-  left_alone : (after : Standing) → IsStored disk_of s → Leaves (disk_in disk_of s) (disk_in disk_of s) (FindsEitherStanding (standing_in s) after)
+  left_alone : (after : Standing) → IsStored disk_of s → Leaves (disk_in disk_of s) (disk_in disk_of s) (StandsForEither (standing_in s) after)
   left_alone after stored =
-      Leaves-start (disk_in disk_of s) (FindsEitherStanding (standing_in s) after) (λ image left. inl (stored-image disk_of s stored image left))
+      Leaves-start (disk_in disk_of s) (StandsForEither (standing_in s) after) (λ image left. inl (stored-image disk_of s stored image left))
 
   -- a record that is refused before a device call
   alone-records : (r : Record) (at : JournalFault) → IsErrOf (unkept at) journal_fault.Stopped ↔ (is_stopped s ≡ true)
       → IsErrOf (unkept at) journal_fault.AreaFull ↔ ((is_stopped s ≡ false) × (used_slots s ≡ slots))
       → IsErrOf (unkept at) journal_fault.Stopped ⊎ (IsErrOf (unkept at) journal_fault.AreaFull ⊎ IsErrOf (unkept at) journal_fault.Disk)
-      → (at ≢ journal_fault.Disk) → IsWorkOf (disk_in disk_of s) (disk_in disk_of s) (unkept at) → Records disk_of s r (Err at) s
+      → (at ≢ journal_fault.Disk) → IsWorkOf (disk_in disk_of s) (disk_in disk_of s) (unkept at) → KeepsRecord disk_of s r (Err at) s
   alone-records r at is_stop is_full names other work = record {
     stopped = is_stop;
     full = is_full;
@@ -57,22 +57,22 @@ module _ {D : Type 0} (disk_of : D → Disk) (s : StoreValue D) where
   }
 
   -- a store that is stopped keeps no record
-  pub stopped-records : (r : Record) → is_stopped s ≡ true → Records disk_of s r (Err journal_fault.Stopped) s
+  pub stopped-records : (r : Record) → is_stopped s ≡ true → KeepsRecord disk_of s r (Err journal_fault.Stopped) s
   stopped-records r is =
       alone-records r journal_fault.Stopped (λ same. is, λ same. refl)
       (λ same. absurd (let no : journal_fault.Stopped ≡ journal_fault.AreaFull = cc in cc), λ both. absurd (let no : true ≡ false = sym is ∙ both.0 in cc))
       (inl refl) (λ same. cc) (record { works = Works-start (disk_in disk_of s); fails = refl })
 
   -- nor does one whose area is full
-  pub full-records : (r : Record) → is_stopped s ≡ false → used_slots s ≡ slots → Records disk_of s r (Err journal_fault.AreaFull) s
+  pub full-records : (r : Record) → is_stopped s ≡ false → used_slots s ≡ slots → KeepsRecord disk_of s r (Err journal_fault.AreaFull) s
   full-records r running is =
       alone-records r journal_fault.AreaFull
       (λ same. absurd (let no : journal_fault.AreaFull ≡ journal_fault.Stopped = cc in cc), λ stopped. absurd (let no : true ≡ false = sym stopped ∙ running in cc))
       (λ same. (running, is), λ both. refl) (inr (inl refl)) (λ same. cc) (record { works = Works-start (disk_in disk_of s); fails = refl })
 
   -- the record of a reservation was not kept
-  pub refused-keeps : (r : Record) (after : Standing) (at : JournalFault) (new : StoreValue D) → after_record (standing_in s) r ≡ Some after
-      → Records disk_of s r (Err at) new → Keeps disk_of s after (Err at) new
+  pub refused-keeps : (r : Record) (after : Standing) (at : JournalFault) (new : StoreValue D) → standing_after_record (standing_in s) r ≡ Some after
+      → KeepsRecord disk_of s r (Err at) new → Keeps disk_of s after (Err at) new
   refused-keeps r after at new follows records = record {
     stopped = records.stopped;
     full = records.full;
@@ -90,8 +90,8 @@ module _ {D : Type 0} (disk_of : D → Disk) (s : StoreValue D) where
   }
 
   -- it was, and stands in memory
-  pub kept-keeps : (r : Record) (after : Standing) (new : StoreValue D) (held : StandingValue) → after_record (standing_in s) r ≡ Some after
-      → after ≡ standing_of held → Records disk_of s r (Ok tt) new → Keeps disk_of s after (Ok tt) (record new { held = held })
+  pub kept-keeps : (r : Record) (after : Standing) (new : StoreValue D) (held : StandingValue) → standing_after_record (standing_in s) r ≡ Some after
+      → after ≡ standing_of held → KeepsRecord disk_of s r (Ok tt) new → Keeps disk_of s after (Ok tt) (record new { held = held })
   kept-keeps r after new held follows same records = record {
     stopped = records.stopped;
     full = records.full;
@@ -112,7 +112,7 @@ module _ {D : Type 0} (disk_of : D → Disk) (s : StoreValue D) where
 
   -- the commit moments of a record that was kept or not
   commit_moments : (command : Command) (r : Record) (result : Result (Unit {0}) JournalFault) (new : StoreValue D) → record_of command ≡ Some r
-      → IsOk (accept (standing_in s) command) → Records disk_of s r result new → IsHonest (disk_in disk_of new) → IsStored disk_of s
+      → IsOk (accept (standing_in s) command) → KeepsRecord disk_of s r result new → IsHonest (disk_in disk_of new) → IsStored disk_of s
       → Leaves (disk_in disk_of s) (disk_in disk_of new) (CommitLeaves (standing_in s) command)
   commit_moments command r result new has fits records honest stored =
       commit-leaves (disk_in disk_of s) (disk_in disk_of new) (standing_in s) command r has fits (records.any_moment honest stored)
@@ -172,7 +172,7 @@ module _ {D : Type 0} (disk_of : D → Disk) (s : StoreValue D) where
     )
 
     -- the area is full
-    pub full-commits : Records disk_of s r (Err journal_fault.AreaFull) new → Commits disk_of s command (Err commit_fault.AreaFull) new
+    pub full-commits : KeepsRecord disk_of s r (Err journal_fault.AreaFull) new → Commits disk_of s command (Err commit_fault.AreaFull) new
     full-commits records = record {
       stopped = (λ same. absurd (let no : commit_fault.AreaFull ≡ commit_fault.Stopped = cc in cc), λ stopped. absurd (let no : true ≡ false = sym stopped ∙ running in cc));
       refused = unrefused commit_fault.AreaFull (λ refusal same. absurd cc);
@@ -193,7 +193,7 @@ module _ {D : Type 0} (disk_of : D → Disk) (s : StoreValue D) where
     }
 
     -- a device call failed
-    cut_commits : Records disk_of s r (Err journal_fault.Disk) new → Commits disk_of s command (Err commit_fault.Disk) new
+    cut_commits : KeepsRecord disk_of s r (Err journal_fault.Disk) new → Commits disk_of s command (Err commit_fault.Disk) new
     cut_commits records = record {
       stopped = (λ same. absurd (let no : commit_fault.Disk ≡ commit_fault.Stopped = cc in cc), λ stopped. absurd (let no : true ≡ false = sym stopped ∙ running in cc));
       refused = unrefused commit_fault.Disk (λ refusal same. absurd cc);
@@ -214,17 +214,17 @@ module _ {D : Type 0} (disk_of : D → Disk) (s : StoreValue D) where
     }
 
     -- no other fault is left
-    pub failed-commits : (at : JournalFault) → (at ≢ journal_fault.AreaFull) → Records disk_of s r (Err at) new → Commits disk_of s command (Err commit_fault.Disk) new
+    pub failed-commits : (at : JournalFault) → (at ≢ journal_fault.AreaFull) → KeepsRecord disk_of s r (Err at) new → Commits disk_of s command (Err commit_fault.Disk) new
     failed-commits at other records = elim records.names [
       | inl stopped ↦ absurd (let is = records.stopped.0 stopped in let no : true ≡ false = sym is ∙ running in cc)
       | inr rest ↦ elim rest [
         | inl full ↦ absurd (other (let is : at ≡ journal_fault.AreaFull = cc in is))
-        | inr failed ↦ cut_commits (subst (λ (x : Result (Unit {0}) JournalFault). Records disk_of s r x new) failed records)
+        | inr failed ↦ cut_commits (subst (λ (x : Result (Unit {0}) JournalFault). KeepsRecord disk_of s r x new) failed records)
       ]
     ]
 
     -- the command was kept and applied
-    pub kept-commits : (held : StandingValue) → accept (standing_in s) command ≡ Ok (standing_of held) → Records disk_of s r (Ok tt) new
+    pub kept-commits : (held : StandingValue) → accept (standing_in s) command ≡ Ok (standing_of held) → KeepsRecord disk_of s r (Ok tt) new
         → Commits disk_of s command (Ok tt) (record new { held = held })
     kept-commits held done records =
         let follows = accepted-follows (standing_in s) (standing_of held) command r has done in

@@ -12,8 +12,8 @@ use Rattle.macs_journal.specs.Work.{IsWorkOf}
 use Rattle.macs_journal.specs.declared.fault.JournalFault.{JournalFault}
 use Rattle.macs_journal.specs.declared.fault.JournalFault.TheVariants as journal
 use Rattle.macs_record.specs.declared.record.Record.{Record}
-use Rattle.macs_store.specs.Found.{CommitLeaves, FindsStanding, FindsEitherStanding}
-use Rattle.macs_store.specs.Replay.{after_record}
+use Rattle.macs_store.specs.Found.{CommitLeaves, StandsFor, StandsForEither}
+use Rattle.macs_store.specs.Replay.{standing_after_record}
 use Rattle.macs_store.specs.Standing.{Standing, accept}
 use Rattle.macs_store.specs.Table.{StandingValue, standing_of}
 use Rattle.macs_store.specs.Value.{IsStored, StoreValue, disk_in, is_stopped, standing_in, used_slots}
@@ -37,10 +37,10 @@ pub record Keeps {D : Type 0} (disk_of : D → disk.Disk) (old : StoreValue D) (
   pub done : OnOk result (standing_in new ≡ after)
   pub work : IsWorkOf (disk_in disk_of old) (disk_in disk_of new) result
   pub any_moment : IsHonest (disk_in disk_of new) → IsStored disk_of old
-      → Leaves (disk_in disk_of old) (disk_in disk_of new) (FindsEitherStanding (standing_in old) after)
+      → Leaves (disk_in disk_of old) (disk_in disk_of new) (StandsForEither (standing_in old) after)
   pub stored : OnOk result (IsHonest (disk_in disk_of new) → IsStored disk_of old → IsStored disk_of new)
   pub kept : OnOk result (IsHonest (disk_in disk_of new) → IsStored disk_of old
-      → (image : Image) → MayLeave (disk_in disk_of new) image → FindsStanding this_edition image (standing_in new))
+      → (image : Image) → MayLeave (disk_in disk_of new) image → StandsFor this_edition image (standing_in new))
 
 -- ---- a command
 
@@ -73,12 +73,12 @@ pub record Commits {D : Type 0} (disk_of : D → disk.Disk) (old : StoreValue D)
       → Leaves (disk_in disk_of old) (disk_in disk_of new) (CommitLeaves (standing_in old) command)
   pub stored : OnOk result (IsHonest (disk_in disk_of new) → IsStored disk_of old → IsStored disk_of new)
   pub kept : OnOk result (IsHonest (disk_in disk_of new) → IsStored disk_of old
-      → (image : Image) → MayLeave (disk_in disk_of new) image → FindsStanding this_edition image (standing_in new))
+      → (image : Image) → MayLeave (disk_in disk_of new) image → StandsFor this_edition image (standing_in new))
 
 -- ---- a record
 
 -- A record is kept; what stands in memory does not change yet.
-pub record Records {D : Type 0} (disk_of : D → disk.Disk) (old : StoreValue D) (r : Record) (result : Result (Unit {0}) JournalFault) (new : StoreValue D) : Type 0 where
+pub record KeepsRecord {D : Type 0} (disk_of : D → disk.Disk) (old : StoreValue D) (r : Record) (result : Result (Unit {0}) JournalFault) (new : StoreValue D) : Type 0 where
   pub stopped : IsErrOf result journal.Stopped ↔ (is_stopped old ≡ true)
   pub full : IsErrOf result journal.AreaFull ↔ ((is_stopped old ≡ false) × (used_slots old ≡ slots))
   pub names : OnErr result (IsErrOf result journal.Stopped ⊎ (IsErrOf result journal.AreaFull ⊎ IsErrOf result journal.Disk))
@@ -89,10 +89,10 @@ pub record Records {D : Type 0} (disk_of : D → disk.Disk) (old : StoreValue D)
   pub slot : OnOk result (used_slots old < slots → used_slots new ≡ used_slots old + 1)
   pub four : used_slots old < slots → (disk_in disk_of new).clock ≤ (disk_in disk_of old).clock + 4
   pub work : IsWorkOf (disk_in disk_of old) (disk_in disk_of new) result
-  pub any_moment : IsHonest (disk_in disk_of new) → IsStored disk_of old → (after : Standing) → after_record (standing_in old) r ≡ Some after
-      → Leaves (disk_in disk_of old) (disk_in disk_of new) (FindsEitherStanding (standing_in old) after)
+  pub any_moment : IsHonest (disk_in disk_of new) → IsStored disk_of old → (after : Standing) → standing_after_record (standing_in old) r ≡ Some after
+      → Leaves (disk_in disk_of old) (disk_in disk_of new) (StandsForEither (standing_in old) after)
   pub stored : OnOk result (IsHonest (disk_in disk_of new) → IsStored disk_of old
-      → (held : StandingValue) → after_record (standing_in old) r ≡ Some (standing_of held) → IsStored disk_of (record new { held = held }))
+      → (held : StandingValue) → standing_after_record (standing_in old) r ≡ Some (standing_of held) → IsStored disk_of (record new { held = held }))
   pub kept : OnOk result (IsHonest (disk_in disk_of new) → IsStored disk_of old
-      → (after : Standing) → after_record (standing_in old) r ≡ Some after
-      → (image : Image) → MayLeave (disk_in disk_of new) image → FindsStanding this_edition image after)
+      → (after : Standing) → standing_after_record (standing_in old) r ≡ Some after
+      → (image : Image) → MayLeave (disk_in disk_of new) image → StandsFor this_edition image after)

@@ -3,7 +3,7 @@ use Rattle.std.specs.Prelude.{◌≡◌, ℕ, Bool, Some}
 use Rattle.macs_config.specs.Config.{this_edition}
 use Rattle.macs_disk.specs.Disk as disk
 use Rattle.macs_journal.specs.Found.{Content}
-use Rattle.macs_journal.specs.Value.{Holds, JournalValue}
+use Rattle.macs_journal.specs.Value.{HoldsContent, JournalValue}
 use Rattle.macs_journal.specs.Value as journal
 use Rattle.macs_store.specs.Replay.{meaning_of}
 use Rattle.macs_store.specs.Standing.{Standing}
@@ -37,5 +37,5 @@ used_slots s = journal.used_slots s.journal
 -- the disk holds what stands in memory, and nothing is in hand
 pub record IsStored {D : Type 0} (disk_of : D → disk.Disk) (s : StoreValue D) : Type 0 where
   pub content : Content
-  pub holding : Holds disk_of s.journal content
+  pub holding : HoldsContent disk_of s.journal content
   pub stands : meaning_of this_edition content ≡ Some (standing_in s)

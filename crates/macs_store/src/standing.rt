@@ -9,9 +9,9 @@ ghost use Rattle.macs_config.specs.Snapshot.{config_of_parts};
 ghost use Rattle.macs_config.specs.Value.{config_of};
 ghost use Rattle.macs_config.specs.declared.part.Part.{Part};
 ghost use Rattle.macs_journal.specs.Areas.{slots};
-ghost use Rattle.macs_store.specs.Replay.{after_record, parts_of, replay_of, rises, snapshot_of, with_ceilings};
-ghost use Rattle.macs_store.specs.Standing.{IsStanding, accept, ceilings_after, no_ceilings, with_rx_ceiling, with_tx_ceiling};
-ghost use Rattle.macs_store.specs.Table.{StandingValue, ceilings_of, scis_of, standing_of};
+ghost use Rattle.macs_store.specs.Replay.{standing_after_record, snapshot_parts, replay_of, is_raise, snapshot_of, ceilings_with_records};
+ghost use Rattle.macs_store.specs.Standing.{IsStanding, accept, ceilings_after, no_ceilings, standing_with_rx_ceiling, standing_with_tx_ceiling};
+ghost use Rattle.macs_store.specs.Table.{StandingValue, table_ceilings, table_scis, standing_of};
 
 use crate::ahead::ahead;
 use crate::reading::{command_of, part_of};
@@ -38,13 +38,13 @@ impl Model for Standing {
     ghost view = { λ s. record { config = s.config; table = s.ceilings } };
 
     ghost invariant = { λ s. IsStanding (standing_of (record { config = s.config; table = s.ceilings }))
-        × (scis_of s.ceilings ≡ (config_of s.config).channels) };
+        × (table_scis s.ceilings ≡ (config_of s.config).channels) };
 }
 
 /// The parts of a snapshot, `None` where a record is of another kind.
 fn parts_of(records: &[Record]) -> Option<ArrayVec<Part, MAX_RECORDS>>
     requires few { length records.now ≤ slots }
-    ensures { option_map (λ parts. parts.items) result ≡ parts_of records.now }
+    ensures { option_map (λ parts. parts.items) result ≡ snapshot_parts records.now }
 {
     let mut parts = ArrayVec::new();
     for value in records {
@@ -87,8 +87,8 @@ impl Standing {
 
     /// Goes on with the record of a command or of a raised ceiling, and answers whether it fits.
     fn follow(&mut self, value: &Record) -> bool
-        ensures fits { result ≡ true → after_record (standing_of self.old) value.now ≡ Some (standing_of self.new) }
-        ensures refused { result ≡ false → after_record (standing_of self.old) value.now ≡ None }
+        ensures fits { result ≡ true → standing_after_record (standing_of self.old) value.now ≡ Some (standing_of self.new) }
+        ensures refused { result ≡ false → standing_after_record (standing_of self.old) value.now ≡ None }
     {
         match value {
             Record::TxCeiling { an, ceiling } => self.follow_tx(*an, *ceiling),
@@ -102,8 +102,8 @@ impl Standing {
 
     /// Goes on with a raised ceiling of a transmit association, and answers whether it is one.
     fn follow_tx(&mut self, an: An, ceiling: Ceiling) -> bool
-        ensures fits { result ≡ rises ((standing_of self.old).ceilings.tx an) ceiling }
-        ensures raised { result ≡ true → standing_of self.new ≡ with_tx_ceiling (standing_of self.old) an ceiling }
+        ensures fits { result ≡ is_raise ((standing_of self.old).ceilings.tx an) ceiling }
+        ensures raised { result ≡ true → standing_of self.new ≡ standing_with_tx_ceiling (standing_of self.old) an ceiling }
     {
         let is_raised = rises(self.ceilings.tx(an), ceiling);
         if is_raised {
@@ -114,8 +114,8 @@ impl Standing {
 
     /// Goes on with a raised ceiling of a receive association, and answers whether it is one.
     fn follow_rx(&mut self, sci: Sci, an: An, ceiling: Ceiling) -> bool
-        ensures fits { result ≡ rises ((standing_of self.old).ceilings.rx sci an) ceiling }
-        ensures raised { result ≡ true → standing_of self.new ≡ with_rx_ceiling (standing_of self.old) sci an ceiling }
+        ensures fits { result ≡ is_raise ((standing_of self.old).ceilings.rx sci an) ceiling }
+        ensures raised { result ≡ true → standing_of self.new ≡ standing_with_rx_ceiling (standing_of self.old) sci an ceiling }
     {
         let is_raised = rises(self.ceilings.rx(sci, an), ceiling);
         if is_raised {
@@ -127,7 +127,7 @@ impl Standing {
     /// Raises the ceiling of a transmit association that stands.
     pub(crate) fn raise_tx(&mut self, an: An, ceiling: Ceiling)
         requires stands { IsSome ((standing_of self.old).ceilings.tx an) }
-        ensures { standing_of self.new ≡ with_tx_ceiling (standing_of self.old) an ceiling }
+        ensures { standing_of self.new ≡ standing_with_tx_ceiling (standing_of self.old) an ceiling }
     {
         self.ceilings.put_tx(an, Some(ceiling));
     }
@@ -135,7 +135,7 @@ impl Standing {
     /// Raises the ceiling of a receive association that stands.
     pub(crate) fn raise_rx(&mut self, sci: Sci, an: An, ceiling: Ceiling)
         requires stands { IsSome ((standing_of self.old).ceilings.rx sci an) }
-        ensures { standing_of self.new ≡ with_rx_ceiling (standing_of self.old) sci an ceiling }
+        ensures { standing_of self.new ≡ standing_with_rx_ceiling (standing_of self.old) sci an ceiling }
     {
         self.ceilings.put_rx(sci, an, Some(ceiling));
     }
@@ -173,10 +173,10 @@ impl Standing {
 
 /// The ceilings in a snapshot that makes up a configuration.
 fn ceilings_in(config: &Config, records: &[Record]) -> CeilingTable
-    requires restored { (parts : List Part) × (parts_of records.now ≡ Some parts)
+    requires restored { (parts : List Part) × (snapshot_parts records.now ≡ Some parts)
         × (config_of_parts this_edition config.now.identity parts ≡ Some (config_of config.now)) }
-    ensures ceilings { ceilings_of result ≡ with_ceilings no_ceilings records.now }
-    ensures channels { scis_of result ≡ (config_of config.now).channels }
+    ensures ceilings { table_ceilings result ≡ ceilings_with_records no_ceilings records.now }
+    ensures channels { table_scis result ≡ (config_of config.now).channels }
 {
     let mut ceilings = CeilingTable::new();
     ceilings.keep(config.channels().as_slice());
@@ -197,10 +197,10 @@ fn ceilings_in(config: &Config, records: &[Record]) -> CeilingTable
 
 /// What becomes of the ceilings by a command that made this configuration.
 fn adjust(config: &Config, ceilings: &mut CeilingTable, command: &Command)
-    requires applied { (old : spec.Config) × (scis_of ceilings.old ≡ old.channels)
+    requires applied { (old : spec.Config) × (table_scis ceilings.old ≡ old.channels)
         × (apply this_edition config.now.identity old command.now ≡ Ok (config_of config.now)) }
-    ensures ceilings { ceilings_of ceilings.new ≡ ceilings_after config.now.identity command.now (ceilings_of ceilings.old) }
-    ensures channels { scis_of ceilings.new ≡ (config_of config.now).channels }
+    ensures ceilings { table_ceilings ceilings.new ≡ ceilings_after config.now.identity command.now (table_ceilings ceilings.old) }
+    ensures channels { table_scis ceilings.new ≡ (config_of config.now).channels }
 {
     match *command {
         Command::SetValidate(_)
@@ -224,7 +224,7 @@ fn adjust(config: &Config, ceilings: &mut CeilingTable, command: &Command)
 
 /// Whether a ceiling is above the one that stands.
 fn rises(old: Option<Ceiling>, ceiling: Ceiling) -> bool
-    ensures { result ≡ rises old ceiling }
+    ensures { result ≡ is_raise old ceiling }
 {
     match old {
         Some(old) => old.get() < ceiling.get(),

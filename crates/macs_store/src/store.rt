@@ -2,9 +2,10 @@
 
 ghost use Rattle.std.specs.Prelude.{◌≡◌, ◌<◌, ◌^◌, IsSome, IfSome};
 ghost use Rattle.macs_config.specs.Value.{config_of};
-ghost use Rattle.macs_store.specs.Keeps.{Commits, Keeps, Records};
+ghost use Rattle.macs_store.specs.Keeps.{Commits, Keeps, KeepsRecord};
 ghost use Rattle.macs_store.specs.Value.{StoreValue, device_in, is_stopped, standing_in};
-ghost use Rattle.macs_store.specs.Standing.{IsStanding, ahead, with_rx_raised, with_tx_raised};
+ghost use Rattle.macs_config.specs.Numbers.{block_beyond};
+ghost use Rattle.macs_store.specs.Standing.{IsStanding, standing_with_rx_raised, standing_with_tx_raised};
 
 use crate::ahead::ahead;
 use crate::fault::CommitFault;
@@ -63,7 +64,7 @@ impl<D: SectorDisk> Store<D> {
     pub fn reserve_tx(&mut self, an: An) -> Result<(), JournalFault>
         requires raised { IfSome ((standing_in self.old).ceilings.tx an) (λ old. old < 2 ^ 32) }
         requires stands { IsSome ((standing_in self.old).ceilings.tx an) }
-        ensures { Keeps D.disk self.old (with_tx_raised (standing_in self.old) an) result self.new }
+        ensures { Keeps D.disk self.old (standing_with_tx_raised (standing_in self.old) an) result self.new }
     {
         let old = self.tx_ceiling(an).unwrap();
         let ceiling = ahead(old.get(), self.identity().tx_block());
@@ -76,9 +77,9 @@ impl<D: SectorDisk> Store<D> {
     /// association stands, and its ceiling is below the new one. Refused as `reserve_tx`.
     pub fn reserve_rx(&mut self, sci: Sci, an: An, pn: Pn) -> Result<(), JournalFault>
         requires raised { IfSome ((standing_in self.old).ceilings.rx sci an)
-            (λ old. old < ahead pn (standing_in self.old).identity.rx_block) }
+            (λ old. old < block_beyond pn (standing_in self.old).identity.rx_block) }
         requires stands { IsSome ((standing_in self.old).ceilings.rx sci an) }
-        ensures { Keeps D.disk self.old (with_rx_raised (standing_in self.old) sci an pn) result self.new }
+        ensures { Keeps D.disk self.old (standing_with_rx_raised (standing_in self.old) sci an pn) result self.new }
     {
         let ceiling = ahead(u64::from(pn.get()), self.identity().rx_block());
         self.keep(&Record::RxCeiling { sci, an, ceiling })?;
@@ -88,7 +89,7 @@ impl<D: SectorDisk> Store<D> {
 
     /// Keeps a record; what stands in memory does not change yet.
     fn keep(&mut self, value: &Record) -> Result<(), JournalFault>
-        ensures { Records D.disk self.old value.now result self.new }
+        ensures { KeepsRecord D.disk self.old value.now result self.new }
     {
         if self.journal.is_stopped() {
             return Err(JournalFault::Stopped);

@@ -12,7 +12,7 @@ use Rattle.macs_txsc.specs.declared.association.Association.{Association}
 use Rattle.macs_txsc.specs.declared.channel.Tx.{Tx}
 use Rattle.macs_txsc.specs.declared.fault.TxFault.{TxFault}
 use Rattle.macs_txsc.specs.declared.fault.TxFault.TheVariants.{Runt, TooLong, ForeignSource, NoEncodingSa, Exhausted, NoNumber}
-use Rattle.macs_txsc.specs.Transmit.{Outgoing, TxSide, all_tx_faults, frame_of, is_at_ceiling, is_own_source, is_used_up, name_in, outgoing}
+use Rattle.macs_txsc.specs.Transmit.{Outgoing, TxSide, all_tx_faults, frame_of, is_at_ceiling, is_own_source, is_used_up, name_in, next_outgoing}
 use Rattle.macs_txsc.specs.Value.{ceilings_of, sa_of, tx_side_of}
 
 -- what lies in the frame, with its tests
@@ -55,24 +55,24 @@ has_length n m r none = search (rules, nat_tests, arith)
 -- a fault of the frame comes first
 pub in_frame : (side : TxSide) (ceilings : ℕ → Option ℕ) (plain : List ℕ) (fault : TxFault) → first (frame_faults side plain) ≡ Some fault
     → first (all_tx_faults side ceilings plain) ≡ Some fault
-in_frame side ceilings plain fault is = front _ _ _ (association_faults ceilings (outgoing side)) fault is
+in_frame side ceilings plain fault is = front _ _ _ (association_faults ceilings (next_outgoing side)) fault is
 
 -- behind a frame without faults come those of the association
-pub behind : (side : TxSide) (ceilings : ℕ → Option ℕ) (plain : List ℕ) (o : Option Outgoing) → first (frame_faults side plain) ≡ None → outgoing side ≡ o
+pub behind : (side : TxSide) (ceilings : ℕ → Option ℕ) (plain : List ℕ) (o : Option Outgoing) → first (frame_faults side plain) ≡ None → next_outgoing side ≡ o
     → first (all_tx_faults side ceilings plain) ≡ first (association_faults ceilings o)
 behind side ceilings plain o none is =
-    back _ _ _ (association_faults ceilings (outgoing side)) none ∙ ap (λ x. first (association_faults ceilings x)) is
+    back _ _ _ (association_faults ceilings (next_outgoing side)) none ∙ ap (λ x. first (association_faults ceilings x)) is
 
 -- no association is chosen, or none stands at the number
-pub unset : (t : Tx) → t.encoding ≡ None → outgoing (tx_side_of t) ≡ None
+pub unset : (t : Tx) → t.encoding ≡ None → next_outgoing (tx_side_of t) ≡ None
 unset t encoding = rw encoding refl
 
-pub vacant : (t : Tx) (an : ℕ) → t.encoding ≡ Some an → get_or t.associations an None ≡ None → outgoing (tx_side_of t) ≡ None
+pub vacant : (t : Tx) (an : ℕ) → t.encoding ≡ Some an → get_or t.associations an None ≡ None → next_outgoing (tx_side_of t) ≡ None
 vacant t an encoding place = rw (encoding, place) refl
 
 -- the association that frames go out under
 pub chosen : (t : Tx) (an : ℕ) (a : Association) → t.encoding ≡ Some an → get_or t.associations an None ≡ Some a
-    → outgoing (tx_side_of t) ≡ Some (record { an = an; sa = sa_of a; pn = a.next })
+    → next_outgoing (tx_side_of t) ≡ Some (record { an = an; sa = sa_of a; pn = a.next })
 chosen t an a encoding place = rw (encoding, place) refl
 
 -- behind a frame without faults come those of the numbers of the association
@@ -94,5 +94,5 @@ pub goes_out : (t : Tx) (an : ℕ) (a : Association) (pn : ℕ) (name : ScName) 
       encrypted = is_confidential a.protection;
       changed = is_confidential a.protection;
     }) (octets_of (offset_of a.protection)) plain
-    → option_map (λ (o : Outgoing). frame_of (tx_side_of t) o plain) (outgoing (tx_side_of t)) ≡ Some out
+    → option_map (λ (o : Outgoing). frame_of (tx_side_of t) o plain) (next_outgoing (tx_side_of t)) ≡ Some out
 goes_out t an a pn name plain out encoding place number named is = rw (encoding, place, is, number, named) refl

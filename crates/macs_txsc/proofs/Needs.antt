@@ -5,13 +5,13 @@ use Rattle.std.specs.Option.{option_map, option_map_or}
 use Rattle.std.proofs.Math.Bool.{and-false}
 use Rattle.std.proofs.lemmas.Bool.{and_parts, cases_lt, le-ltb, lt-leb, ltb-true}
 use Rattle.macs_config.specs.declared.association.TxSa.{TxSa}
-use Rattle.macs_txsc.specs.Transmit.{TxSide, is_needed, need_at, need_of, outgoing, outgoing_if, outgoing_at}
+use Rattle.macs_txsc.specs.Transmit.{TxSide, is_needed, need_at, need_of, next_outgoing, outgoing_with, outgoing_at}
 
 by_test : (e an : ℕ) (b : Bool) → cond b (Some e) None ≡ Some an → e ≡ an
 by_test e an true is = cc
 by_test e an false is = absurd (cc)
 
-by_number : (ceilings : ℕ → Option ℕ) (block e : ℕ) (sa : Option TxSa) (pn : Option ℕ) (an : ℕ) → need_at ceilings block (outgoing_if e sa pn) ≡ Some an → e ≡ an
+by_number : (ceilings : ℕ → Option ℕ) (block e : ℕ) (sa : Option TxSa) (pn : Option ℕ) (an : ℕ) → need_at ceilings block (outgoing_with e sa pn) ≡ Some an → e ≡ an
 by_number ceilings block e (Some sa) (Some pn) an is = by_test e an _ is
 by_number ceilings block e (Some sa) None an is = absurd (cc)
 by_number ceilings block e None pn an is = absurd (cc)
@@ -60,7 +60,7 @@ module _ (side : TxSide) (ceilings : ℕ → Option ℕ) (block an : ℕ) (chose
   need_by_top next sa is_sa is_next (Some top) is_top is = need_by_test next top sa is_sa is_next is_top (is_needed block next top) refl is
 
   need_by_next : (sa : Option TxSa) (next : Option ℕ) → side.tx an ≡ sa → side.next an ≡ next
-      → need_at ceilings block (outgoing_if an sa next) ≡ Some an → IsTxNeed side ceilings block an
+      → need_at ceilings block (outgoing_with an sa next) ≡ Some an → IsTxNeed side ceilings block an
   need_by_next None None is_sa is_next is = absurd cc
   need_by_next None (Some next) is_sa is_next is = absurd cc
   need_by_next (Some sa) None is_sa is_next is = absurd cc
@@ -110,9 +110,9 @@ module _ (side : TxSide) (ceilings : ℕ → Option ℕ) (block an : ℕ) (need 
   -- with that ceiling there is no need
   pub tx-ends : (raised : ℕ → Option ℕ) → raised an ≡ Some (further block need.top) → 1 ≤ block → need.next ≤ need.top → need_of side raised block ≡ None
   tx-ends raised is least ordered =
-      let goes : need_of side raised block ≡ need_at raised block (outgoing_if an (Some need.sa) (Some need.next)) =
+      let goes : need_of side raised block ≡ need_at raised block (outgoing_with an (Some need.sa) (Some need.next)) =
       (λ i. need_at raised block (outgoing_at side (need.chosen i)))
-      ∙ (λ i. need_at raised block (outgoing_if an (need.is_sa i) (need.is_next i))) in
+      ∙ (λ i. need_at raised block (outgoing_with an (need.is_sa i) (need.is_next i))) in
       goes
       ∙ ap (λ (o : Option ℕ). cond (option_map_or (is_needed block need.next) o false) (Some an) None) is
       ∙ ap (λ (b : Bool). cond b (Some an) None) (no_more block need.next need.top least ordered)
@@ -124,7 +124,7 @@ unneeded_by an true is = absurd cc
 unneeded_by an false is = refl
 
 -- where frames go out under the association and nothing is needed, its ceiling is far enough
-pub tx-unneeded : (side : TxSide) (ceilings : ℕ → Option ℕ) (block an next top : ℕ) (sa : TxSa) → outgoing side ≡ outgoing_if an (Some sa) (Some next)
+pub tx-unneeded : (side : TxSide) (ceilings : ℕ → Option ℕ) (block an next top : ℕ) (sa : TxSa) → next_outgoing side ≡ outgoing_with an (Some sa) (Some next)
     → ceilings an ≡ Some top → need_of side ceilings block ≡ None → is_needed block next top ≡ false
 tx-unneeded side ceilings block an next top sa goes is_top is =
     let same : need_of side ceilings block ≡ cond (is_needed block next top) (Some an) None =

@@ -3,6 +3,7 @@ use Rattle.std.specs.Prelude.{◌≡◌, ◌≤◌, ℕ, ◌+◌, ◌-◌, ◌/�
 use Rattle.std.specs.Option.{option_map_or}
 use Rattle.std.specs.Str.{bytes_eq}
 use Rattle.macs_config.specs.Association.{is_confidential, is_end_station, offset_of}
+use Rattle.macs_config.specs.Numbers.{one_more}
 use Rattle.macs_config.specs.Tables.{put}
 use Rattle.macs_config.specs.declared.association.TxSa.{TxSa}
 use Rattle.macs_config.specs.declared.command.SciMode.{SciMode}
@@ -37,18 +38,18 @@ pub record Outgoing : Type 0 where
   pub pn : ℕ
 
 -- an AN with its association and next packet number, None where one of the two is missing
-abbrev pub outgoing_if : ℕ → Option TxSa → Option ℕ → Option Outgoing
-outgoing_if an (Some sa) (Some pn) = Some (record { an = an; sa = sa; pn = pn })
-outgoing_if an sa pn = None
+abbrev pub outgoing_with : ℕ → Option TxSa → Option ℕ → Option Outgoing
+outgoing_with an (Some sa) (Some pn) = Some (record { an = an; sa = sa; pn = pn })
+outgoing_with an sa pn = None
 
 -- the association at a chosen AN, None where none is chosen or none stands there
 abbrev pub outgoing_at : TxSide → Option ℕ → Option Outgoing
 outgoing_at side None = None
-outgoing_at side (Some an) = outgoing_if an (side.tx an) (side.next an)
+outgoing_at side (Some an) = outgoing_with an (side.tx an) (side.next an)
 
 -- what the next frame goes out under, None where no encoding association stands
-abbrev pub outgoing : TxSide → Option Outgoing
-outgoing side = outgoing_at side side.encoding
+abbrev pub next_outgoing : TxSide → Option Outgoing
+next_outgoing side = outgoing_at side side.encoding
 
 -- how SecTAGs name the channel of this SCI in a mode: with SC set and the SCI spelled out, with ES set, or with neither (9.5)
 abbrev pub name_in : SciMode → List ℕ → ScName
@@ -77,7 +78,7 @@ side_after side (Some o) = record side { next = put side.next o.an (Some (o.pn +
 
 -- the channel after a frame went out under its encoding association
 abbrev pub side_after_frame : TxSide → TxSide
-side_after_frame side = side_after side (outgoing side)
+side_after_frame side = side_after side (next_outgoing side)
 
 -- ---- faults
 
@@ -96,8 +97,8 @@ tx_faults side plain =
     (Runt, nat_lt (length plain) 14)
     ∷ (TooLong, nat_lt 9216 (length plain + overhead (name_in side.mode side.sci)))
     ∷ (ForeignSource, is_end_station side.mode && not (is_own_source side.sci plain))
-    ∷ (NoEncodingSa, is_none (outgoing side))
-    ∷ (Exhausted, is_used_up (outgoing side))
+    ∷ (NoEncodingSa, is_none (next_outgoing side))
+    ∷ (Exhausted, is_used_up (next_outgoing side))
     ∷ []
 
 -- the next packet number is the ceiling, so that it is not reserved yet
@@ -107,7 +108,7 @@ is_at_ceiling ceilings (Some o) = option_map_or (λ ceiling. ceiling == o.pn) (c
 
 -- and NoNumber last, where the ceilings are known
 abbrev pub all_tx_faults : TxSide → (ℕ → Option ℕ) → List ℕ → List (TxFault × Bool)
-all_tx_faults side ceilings plain = tx_faults side plain ++ (NoNumber, is_at_ceiling ceilings (outgoing side)) ∷ []
+all_tx_faults side ceilings plain = tx_faults side plain ++ (NoNumber, is_at_ceiling ceilings (next_outgoing side)) ∷ []
 
 -- ---- needs
 
@@ -123,7 +124,7 @@ need_at ceilings block (Some o) =
 
 -- the AN of the encoding association, if its ceiling is to be raised
 abbrev pub need_of : TxSide → (ℕ → Option ℕ) → ℕ → Option ℕ
-need_of side ceilings block = need_at ceilings block (outgoing side)
+need_of side ceilings block = need_at ceilings block (next_outgoing side)
 
 -- ---- ranges
 
@@ -152,10 +153,6 @@ no_counts = record {
   no_number = 0;
 }
 
--- one more, up to 2^64 - 1
-abbrev pub one_more : ℕ → ℕ
-one_more count = min (count + 1) (2 ^ 64 - 1)
-
 -- how often frames were refused for a fault
 abbrev pub fault_count : TxFault → TxCounters → ℕ
 fault_count Runt c = c.runt
@@ -166,15 +163,15 @@ fault_count Exhausted c = c.exhausted
 fault_count NoNumber c = c.no_number
 
 -- the counters after one more frame was refused for a fault
-abbrev pub with_fault : TxFault → TxCounters → TxCounters
-with_fault Runt c = record c { runt = one_more c.runt }
-with_fault TooLong c = record c { too_long = one_more c.too_long }
-with_fault ForeignSource c = record c { foreign_source = one_more c.foreign_source }
-with_fault NoEncodingSa c = record c { no_encoding_sa = one_more c.no_encoding_sa }
-with_fault Exhausted c = record c { exhausted = one_more c.exhausted }
-with_fault NoNumber c = record c { no_number = one_more c.no_number }
+abbrev pub counters_after_fault : TxFault → TxCounters → TxCounters
+counters_after_fault Runt c = record c { runt = one_more c.runt }
+counters_after_fault TooLong c = record c { too_long = one_more c.too_long }
+counters_after_fault ForeignSource c = record c { foreign_source = one_more c.foreign_source }
+counters_after_fault NoEncodingSa c = record c { no_encoding_sa = one_more c.no_encoding_sa }
+counters_after_fault Exhausted c = record c { exhausted = one_more c.exhausted }
+counters_after_fault NoNumber c = record c { no_number = one_more c.no_number }
 
 -- what an answer adds
-abbrev pub with_answer : Result ℕ TxFault → TxCounters → TxCounters
-with_answer (Ok pn) c = record c { protected = one_more c.protected }
-with_answer (Err fault) c = with_fault fault c
+abbrev pub counters_after_answer : Result ℕ TxFault → TxCounters → TxCounters
+counters_after_answer (Ok pn) c = record c { protected = one_more c.protected }
+counters_after_answer (Err fault) c = counters_after_fault fault c

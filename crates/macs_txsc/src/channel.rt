@@ -9,7 +9,7 @@ ghost use Rattle.macs_config.specs.declared.command.SciMode.TheVariants.{EndStat
 ghost use Rattle.macs_frame.specs.First.{first};
 ghost use Rattle.macs_frame.specs.Protection.{overhead};
 ghost use Rattle.macs_txsc.specs.declared.fault.TxFault.TheVariants.{Runt, TooLong, ForeignSource};
-ghost use Rattle.macs_txsc.specs.Transmit.{AreOrdered, Outgoing, all_tx_faults, fault_count, frame_of, is_own_source, name_in, need_of, new_tx_side, no_counts, outgoing, side_after_frame, with_answer};
+ghost use Rattle.macs_txsc.specs.Transmit.{AreOrdered, Outgoing, all_tx_faults, fault_count, frame_of, is_own_source, name_in, need_of, new_tx_side, no_counts, next_outgoing, side_after_frame, counters_after_answer};
 ghost use Rattle.macs_txsc.specs.Value.{ceilings_of, counters_of, tx_side_of};
 
 use crate::association::Association;
@@ -151,14 +151,14 @@ impl Tx {
     pub fn protect(&mut self, plain: &[u8], out: &mut FrameBuf) -> Result<Pn, TxFault>
         ensures fault { (fault : TxFault) → (result ≡ Err fault)
             ↔ (first (all_tx_faults (tx_side_of self.old) (ceilings_of self.old) plain.now) ≡ Some fault) }
-        ensures number { IfOk result (λ pn. option_map (λ (o : Outgoing). o.pn) (outgoing (tx_side_of self.old)) ≡ Some pn) }
+        ensures number { IfOk result (λ pn. option_map (λ (o : Outgoing). o.pn) (next_outgoing (tx_side_of self.old)) ≡ Some pn) }
         ensures frame { OnOk result
-            (option_map (λ (o : Outgoing). frame_of (tx_side_of self.old) o plain.now) (outgoing (tx_side_of self.old)) ≡ Some out.new.items) }
+            (option_map (λ (o : Outgoing). frame_of (tx_side_of self.old) o plain.now) (next_outgoing (tx_side_of self.old)) ≡ Some out.new.items) }
         ensures sent { OnOk result (tx_side_of self.new ≡ side_after_frame (tx_side_of self.old)) }
         ensures same { OnErr result (tx_side_of self.new ≡ tx_side_of self.old) }
         ensures ceilings { ceilings_of self.new ≡ ceilings_of self.old }
         ensures empty { OnErr result (out.new.items ≡ []) }
-        ensures counters { counters_of self.new ≡ with_answer result (counters_of self.old) }
+        ensures counters { counters_of self.new ≡ counters_after_answer result (counters_of self.old) }
     {
         out.clear();
         let answer = self.send(plain, out);
@@ -191,9 +191,9 @@ impl Tx {
         ensures fault { IfErr result
             (λ fault. first (all_tx_faults (tx_side_of self.old) (ceilings_of self.old) plain.now) ≡ Some fault) }
         ensures none { OnOk result (first (all_tx_faults (tx_side_of self.old) (ceilings_of self.old) plain.now) ≡ None) }
-        ensures number { IfOk result (λ pn. option_map (λ (o : Outgoing). o.pn) (outgoing (tx_side_of self.old)) ≡ Some pn) }
+        ensures number { IfOk result (λ pn. option_map (λ (o : Outgoing). o.pn) (next_outgoing (tx_side_of self.old)) ≡ Some pn) }
         ensures frame { OnOk result
-            (option_map (λ (o : Outgoing). frame_of (tx_side_of self.old) o plain.now) (outgoing (tx_side_of self.old)) ≡ Some out.new.items) }
+            (option_map (λ (o : Outgoing). frame_of (tx_side_of self.old) o plain.now) (next_outgoing (tx_side_of self.old)) ≡ Some out.new.items) }
         ensures sent { OnOk result (tx_side_of self.new ≡ side_after_frame (tx_side_of self.old)) }
         ensures same { OnErr result (tx_side_of self.new ≡ tx_side_of self.old) }
         ensures ceilings { ceilings_of self.new ≡ ceilings_of self.old }

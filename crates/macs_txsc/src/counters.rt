@@ -1,7 +1,8 @@
 //! What is counted.
 
 ghost use Rattle.std.specs.Prelude.{◌≡◌};
-ghost use Rattle.macs_txsc.specs.Transmit.{fault_count, with_fault, no_counts, one_more, with_answer};
+ghost use Rattle.macs_config.specs.Numbers.{one_more};
+ghost use Rattle.macs_txsc.specs.Transmit.{fault_count, counters_after_fault, no_counts, counters_after_answer};
 
 use crate::fault::TxFault;
 use macs_frame::Pn;
@@ -50,7 +51,7 @@ impl TxCounters {
 
     /// One more frame met this fault.
     fn count_fault(&mut self, fault: TxFault)
-        ensures { self.new ≡ with_fault fault self.old }
+        ensures { self.new ≡ counters_after_fault fault self.old }
     {
         match fault {
             TxFault::Runt => count_one(&mut self.runt),
@@ -64,7 +65,7 @@ impl TxCounters {
 
     /// One more frame got this answer.
     pub fn count(&mut self, answer: &Result<Pn, TxFault>)
-        ensures { self.new ≡ with_answer answer.now self.old }
+        ensures { self.new ≡ counters_after_answer answer.now self.old }
     {
         match answer {
             Ok(_) => count_one(&mut self.protected),

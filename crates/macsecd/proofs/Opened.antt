@@ -5,7 +5,7 @@ use Rattle.macs_frame.specs.First.{IsFirst, NoneHolds}
 use Rattle.macs_frame.specs.Opening.{OpenFaultHolds, Verified, open_faults}
 use Rattle.macs_frame.specs.Tag.{tag_of}
 use Rattle.macs_frame.specs.declared.opening.OpenFault.{OpenFault}
-use Rattle.macsecd.specs.Answer.{AnswersRequest, Opens}
+use Rattle.macsecd.specs.Answer.{AnswersRequest, OpensRequest}
 use Rattle.macsecd.specs.declared.answer.Answer.TheVariants.{Refused}
 use Rattle.macsecd.specs.declared.request.Request.{Request}
 use Rattle.macsecd.proofs.FirstFault.{nothing_first}
@@ -21,7 +21,7 @@ at_same P key other_key frame other_frame same_key same_frame held =
 pub opens : (request : Request) (key frame plain : List ℕ) (an pn : ℕ) → key ≡ request.key → frame ≡ request.frame.items
     → ((fault : OpenFault) → ¬ IsFirst (OpenFaultHolds frame key request.sci (octets_of request.offset)) open_faults fault)
     → Verified frame key request.sci (octets_of request.offset) plain → an ≡ (tag_of frame).an → pn ≡ (tag_of frame).pn
-    → Opens request an pn plain
+    → OpensRequest request an pn plain
 opens request key frame plain an pn same_key same_frame none verified association number =
     let offset = octets_of request.offset in
     record {

@@ -25,7 +25,7 @@ FrameFaultHolds request = OpenFaultHolds request.frame.items request.key request
 
 -- no fault holds, and under the request's key, SCI and offset its frame is verified as this plain frame; its SecTAG has
 -- this AN and this PN
-pub record Opens (request : Request) (an pn : ℕ) (plain : List ℕ) : Type 0 where
+pub record OpensRequest (request : Request) (an pn : ℕ) (plain : List ℕ) : Type 0 where
   pub faultless : NoneHolds (FrameFaultHolds request) open_faults
   pub verified : Verified request.frame.items request.key request.sci (octets_of request.offset) plain
   pub association : an ≡ (tag_of request.frame.items).an
@@ -33,7 +33,7 @@ pub record Opens (request : Request) (an pn : ℕ) (plain : List ℕ) : Type 0 w
 
 -- the frame is opened, or refused for the first fault that holds
 abbrev pub AnswersRequest : Request → Answer → Type 0
-AnswersRequest request (Valid an pn plain) = Opens request an pn plain.items
+AnswersRequest request (Valid an pn plain) = OpensRequest request an pn plain.items
 AnswersRequest request (Refused fault) = IsFirst (FrameFaultHolds request) open_faults fault
 
 -- the answer is that of the request that the input spells

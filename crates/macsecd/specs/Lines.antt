@@ -12,9 +12,9 @@ lines [] = []
 lines (octet ∷ rest) = if octet == 10 then [] ∷ lines rest else led_by octet (lines rest)
 
 -- a line without one carriage return (13) at its end
-abbrev pub trimmed : List ℕ → List ℕ
-trimmed line = if slice_index line (length line - 1) == 13 then take (length line - 1) line else line
+abbrev pub trimmed_line : List ℕ → List ℕ
+trimmed_line line = if slice_index line (length line - 1) == 13 then take (length line - 1) line else line
 
 -- a line of a text, counted from 0
 abbrev pub line_at : List ℕ → ℕ → List ℕ
-line_at text i = trimmed (slice_index_or (lines text) i [])
+line_at text i = trimmed_line (slice_index_or (lines text) i [])

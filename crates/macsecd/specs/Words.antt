@@ -35,7 +35,7 @@ macsecd = with_subcommand (on_top (λ s. record s {
 }) (new_app (codes "macsecd"))) open_app.top
 
 -- the command is this one, and has no global argument
-pub record IsCommand (command : Command) (app : App) : Type 0 where
+pub record IsClapCommand (command : Command) (app : App) : Type 0 where
   pub app_is : app_of command ≡ app
   pub local : (fields_of command).has_globals ≡ false
 

@@ -3,7 +3,7 @@
 ghost use Rattle.std.specs.Prelude.{◌≡◌, ◌↔◌, IfOk, IfErr, OnOk, true, [], string_bytes};
 ghost use Rattle.clap.specs.Words.{app_of, fault_of, subcommand_of, subcommand_rows_of, takes};
 ghost use Rattle.macsecd.specs.Controls.{IsPrintable};
-ghost use Rattle.macsecd.specs.Words.{HasPrintableCause, IsCommand, IsFaultOf, Names, macsecd, open_app, texts};
+ghost use Rattle.macsecd.specs.Words.{HasPrintableCause, IsClapCommand, IsFaultOf, Names, macsecd, open_app, texts};
 
 use crate::plain_text::printable;
 use clap::error::ErrorKind;
@@ -38,7 +38,7 @@ impl From<AllocError> for UsageFault {
 
 /// The words of `open`: none of its own.
 fn open_words<'a>(alloc: Global) -> Command<'a>
-    ensures { IsCommand result open_app }
+    ensures { IsClapCommand result open_app }
 {
     Command::new(alloc, "open")
 }

@@ -1,7 +1,7 @@
 //! The four lines of a text.
 
 ghost use Rattle.std.specs.Prelude.{◌≡◌, ◌==◌, ◌↔◌, [], ◌∷◌, length, map, position, IsSome, IfSome, MatchOption};
-ghost use Rattle.macsecd.specs.Lines.{line_at, lines, trimmed};
+ghost use Rattle.macsecd.specs.Lines.{line_at, lines, trimmed_line};
 
 /// The four lines of a text, each without its end, in octets.
 #[derive(Clone, Copy)]
@@ -35,7 +35,7 @@ fn cut_line(text: &[u8]) -> Option<(&[u8], &[u8])>
 
 /// A line without a carriage return at its end.
 fn without_return(line: &[u8]) -> &[u8]
-    ensures { result.now ≡ trimmed line.now }
+    ensures { result.now ≡ trimmed_line line.now }
 {
     match line {
         [front @ .., b'\r'] => front,

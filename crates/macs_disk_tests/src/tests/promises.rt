@@ -5,7 +5,7 @@ ghost use Rattle.std.specs.Prelude.{◌≡◌, ◌<◌, ℕ, true, IsErr};
 ghost use Rattle.macs_disk.specs.States.{settled_state, zero_sector};
 ghost use Rattle.macs_disk.specs.Disk.{IsHonest, IsWork, now};
 ghost use Rattle.macs_disk.specs.Runs.{Leaves};
-ghost use Rattle.macs_disk.specs.Fused.{fuse_disk};
+ghost use Rattle.macs_disk.specs.Fused.{disk_of_fuse};
 ghost use Rattle.macs_disk.specs.MemDisks.{disk_of};
 
 use super::Step::{Crash, Find, Tear};
@@ -65,9 +65,9 @@ fn replace_in_memory<A: Allocator>(
     disk: &mut Fuse<MemDisk<A>>,
     octets: &[u8; 512],
 ) -> Result<(), DeviceFault>
-    requires { 1 < (fuse_disk disk_of disk.old).sectors }
-    ensures { now (fuse_disk disk_of disk.old) ≡ settled_state (λ _. zero_sector)
-        → Leaves (fuse_disk disk_of disk.old) (fuse_disk disk_of disk.new) (λ image. image 0 ≡ zero_sector) }
+    requires { 1 < (disk_of_fuse disk_of disk.old).sectors }
+    ensures { now (disk_of_fuse disk_of disk.old) ≡ settled_state (λ _. zero_sector)
+        → Leaves (disk_of_fuse disk_of disk.old) (disk_of_fuse disk_of disk.new) (λ image. image 0 ≡ zero_sector) }
 {
     memory_is_honest::<A>();
     fuses_are_honest::<MemDisk<A>>();

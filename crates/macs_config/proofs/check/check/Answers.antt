@@ -1,12 +1,12 @@
 use Rattle.std.proofs.Common.{◌∙◌, ℕ, List, Option, None, Result, ap}
-use Rattle.macs_config.specs.Apply.{unless}
+use Rattle.macs_config.specs.Apply.{answer_or_refusal}
 use Rattle.macs_config.specs.Value.{config_in}
 use Rattle.macs_config.specs.declared.refusal.Refusal.{Refusal}
 use Rattle.macs_config.proofs.check.check.Goals as goal
 
 -- what is answered where no key is spent
 abbrev keyless : Option Refusal → Result (Option (List ℕ)) Refusal
-keyless refusal = unless refusal None
+keyless refusal = answer_or_refusal refusal None
 
 pub returns-in-SetSciMode : goal.returns-in-SetSciMode
 returns-in-SetSciMode c = rw c.in-SetSciMode.is (c.without_key.ensures ∙ ap keyless (c.sci_mode_refusal.ensures (config_in c.args.contents.now)))

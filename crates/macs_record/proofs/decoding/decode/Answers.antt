@@ -1,7 +1,7 @@
 use Rattle.std.proofs.Common.{rules, ◌≡◌, List, ℕ, Ok, length, refl, sym, subst, ap}
 use Rattle.macs_frame.specs.First.{IsFirst, NoneHolds}
 use Rattle.macs_frame.proofs.FirstRefusal.{exactly_first, exactly_none}
-use Rattle.macs_record.specs.Decoding.{Holds, IsSectorOf, faults}
+use Rattle.macs_record.specs.Decoding.{RecordFaultHolds, IsSectorOf, record_faults}
 use Rattle.macs_record.specs.declared.record.RecordFault.TheVariants.{Field, Rest}
 use Rattle.macs_record.proofs.Decoded.{begins, exactly, first_field, first_rest, is_sector, no_fault}
 use Rattle.macs_record.proofs.decoding.decode.Goals as goal
@@ -9,7 +9,7 @@ use Rattle.macs_record.proofs.decoding.decode.Goals as goal
 pub returns-in_default-read_fields-clause-fault : goal.returns-in_default-read_fields-clause-fault
 returns-in_default-read_fields-clause-fault c =
     let first = first_field c.in-Some.kind c.new-reader.result c.read_kind.new.from c.read_fields.new.from c.in-Some.ensures.some c.in-Some.ensures.found c.in_default-read_fields.ensures.found in
-    exactly_first (Holds c.args.sector.now) faults _ Field refl (subst (λ (s : List ℕ). IsFirst (Holds s) faults Field) c.new-reader.ensures first)
+    exactly_first (RecordFaultHolds c.args.sector.now) record_faults _ Field refl (subst (λ (s : List ℕ). IsFirst (RecordFaultHolds s) record_faults Field) c.new-reader.ensures first)
 
 pub returns-then-is_zero-clause-exactly : goal.returns-then-is_zero-clause-exactly
 returns-then-is_zero-clause-exactly c = λ r.
@@ -28,12 +28,12 @@ returns-then-is_zero-clause-fault c =
     let whole = begins c.in-Some.kind c.in-Some-read_fields.value c.new-reader.result c.read_kind.new.from c.read_fields.new.from c.in-Some.ensures.some read.1 read.2 in
     let size : length c.new-reader.result ≡ 512 = rw c.new-reader.ensures (search rules) in
     let is = is_sector c.in-Some-read_fields.value c.new-reader.result c.read_fields.new.from size read.0 whole (c.is_zero.ensures.0 c.if-is_zero.true) in
-    exactly_none (Holds c.args.sector.now) faults _ c.in-Some-read_fields.value refl
-    (subst (λ (s : List ℕ). NoneHolds (Holds s) faults) c.new-reader.ensures (no_fault c.in-Some-read_fields.value c.new-reader.result is))
+    exactly_none (RecordFaultHolds c.args.sector.now) record_faults _ c.in-Some-read_fields.value refl
+    (subst (λ (s : List ℕ). NoneHolds (RecordFaultHolds s) record_faults) c.new-reader.ensures (no_fault c.in-Some-read_fields.value c.new-reader.result is))
 
 pub returns-else-is_zero-clause-fault : goal.returns-else-is_zero-clause-fault
 returns-else-is_zero-clause-fault c =
     let first = first_rest c.in-Some.kind c.in-Some-read_fields.value c.new-reader.result c.read_kind.new.from c.read_fields.new.from c.in-Some.ensures.some
     c.in-Some-read_fields.ensures.some c.in-Some.ensures.found c.in-Some-read_fields.ensures.found
     (λ zeros. let yes = c.is_zero.ensures.1 zeros in let no = c.if-is_zero.false in cc) in
-    exactly_first (Holds c.args.sector.now) faults _ Rest refl (subst (λ (s : List ℕ). IsFirst (Holds s) faults Rest) c.new-reader.ensures first)
+    exactly_first (RecordFaultHolds c.args.sector.now) record_faults _ Rest refl (subst (λ (s : List ℕ). IsFirst (RecordFaultHolds s) record_faults Rest) c.new-reader.ensures first)

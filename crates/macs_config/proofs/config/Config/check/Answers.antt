@@ -1,5 +1,5 @@
 use Rattle.std.proofs.Common.{◌≡◌, ◌∙◌, Option, ap}
-use Rattle.macs_config.specs.Apply.{fingerprint_of, refusal_of, unless}
+use Rattle.macs_config.specs.Apply.{fingerprint_of, refusal_of, answer_or_refusal}
 use Rattle.macs_config.specs.Config.{this_edition}
 use Rattle.macs_config.specs.Value.{ConfigValue, config_of}
 use Rattle.macs_config.specs.declared.refusal.Refusal.{Refusal}
@@ -10,10 +10,10 @@ use Rattle.macs_config.proofs.config.Config.check.Goals.{After-check}
 abbrev first : (c : After-check) → Option Refusal
 first c = refusal_of this_edition c.args.self.now.identity (config_of c.args.self.now) c.args.command.now
 
-checked : (c : After-check) → c.check.result ≡ unless (first c) (fingerprint_of c.args.command.now)
+checked : (c : After-check) → c.check.result ≡ answer_or_refusal (first c) (fingerprint_of c.args.command.now)
 checked c =
     c.check.ensures
-    ∙ ap (λ (s : ConfigValue). unless (refusal_of this_edition s.identity (config_of s) c.args.command.now) (fingerprint_of c.args.command.now)) c.self.view_is
+    ∙ ap (λ (s : ConfigValue). answer_or_refusal (refusal_of this_edition s.identity (config_of s) c.args.command.now) (fingerprint_of c.args.command.now)) c.self.view_is
 
 pub returns-clause-refused : goal.returns-clause-refused
 returns-clause-refused c =

@@ -1,5 +1,5 @@
 use Rattle.std.proofs.Common.{◌≡◌, ◌≢◌, ◌∙◌, refl, ℕ, List, sym, subst, arith, Result, Ok, Err, IsErr}
-use Rattle.macs_disk.specs.States.{Image, DiskState, IsImage, IsSector, after_write, settled_state, zero_sector}
+use Rattle.macs_disk.specs.States.{Image, DiskState, IsImage, IsSector, state_after_write, settled_state, zero_sector}
 use Rattle.macs_disk.specs.Disk.{Disk, FailsOnce, IsHonest, IsWork, Reads, Works, now}
 use Rattle.macs_disk.specs.Runs.{Leaves, LeavesNothingNew}
 use Rattle.macs_disk.proofs.Images.{written-elsewhere}
@@ -23,9 +23,9 @@ before s is image left =
     let left_blank : IsImage blank image = subst (λ (s : DiskState). IsImage s image) is left in
     λ i. left_blank.kept i refl
 
-after : (s : DiskState) → s ≡ blank → (sector : List ℕ) (image : Image) → IsSector sector → IsImage (after_write s 1 sector) image → FirstBlank image
+after : (s : DiskState) → s ≡ blank → (sector : List ℕ) (image : Image) → IsSector sector → IsImage (state_after_write s 1 sector) image → FirstBlank image
 after s is sector image whole left =
-    let left_blank : IsImage (after_write blank 1 sector) image = subst (λ (s : DiskState). IsImage (after_write s 1 sector) image) is left in
+    let left_blank : IsImage (state_after_write blank 1 sector) image = subst (λ (s : DiskState). IsImage (state_after_write s 1 sector) image) is left in
     let other : 0 ≢ 1 = omega arith in
     written-elsewhere blank 1 sector image left_blank 0 other refl
 

@@ -15,7 +15,7 @@ use Rattle.macs_rxsc.specs.Receive.{Numbers, first_numbers}
 use Rattle.macs_rxsc.specs.Value.{association_in, channel_at}
 use Rattle.macs_rxsc.specs.Value as rxsc
 use Rattle.macs_rxsc.proofs.Needs.{unnumbered}
-use Rattle.macs_store.specs.Found.{IsFoundStanding}
+use Rattle.macs_store.specs.Found.{StandingIs}
 use Rattle.macs_store.specs.Value.{standing_in}
 use Rattle.macs_store.specs.Standing.{Standing}
 use Rattle.macs_store.proofs.OneStanding.{one_standing}
@@ -29,12 +29,12 @@ use Rattle.macs_endpoint.proofs.endpoint.Endpoint.open.Goals as goal
 
 -- ---- a disk that fits a state is refused for the device alone
 
-not_found : (sectors : ℕ) (image : Image) (fault : JournalFault) → IsFoundStanding this_edition sectors image (Err fault) → (s : State) × Fits this_edition sectors image s → ⊥
+not_found : (sectors : ℕ) (image : Image) (fault : JournalFault) → StandingIs this_edition sectors image (Err fault) → (s : State) × Fits this_edition sectors image s → ⊥
 not_found sectors image fault is fits =
     let same : ◌≡◌ {A = Result Standing JournalFault} (Err fault) (Ok fits.1.found) =
     one_standing this_edition sectors image (Err fault) (Ok fits.1.found) is fits.1.is_found in cc
 
-by_device : (sectors : ℕ) (image : Image) (fault : JournalFault) → (fault ≢ Disk → IsFoundStanding this_edition sectors image (Err fault)) → (s : State) × Fits this_edition sectors image s
+by_device : (sectors : ℕ) (image : Image) (fault : JournalFault) → (fault ≢ Disk → StandingIs this_edition sectors image (Err fault)) → (s : State) × Fits this_edition sectors image s
     → fault ≡ Disk
 by_device sectors image Disk found fits = refl
 by_device sectors image Stopped found fits = absurd (not_found sectors image Stopped (found (λ is. cc)) fits)

@@ -4,7 +4,7 @@ use Rattle.std.proofs.lemmas.Result.{err_from_is_err_and}
 use Rattle.macs_config.specs.Tables.{put, put_at}
 use Rattle.macs_journal.specs.declared.fault.JournalFault.{JournalFault}
 use Rattle.macs_txsc.specs.Value as txsc
-use Rattle.macs_rxsc.specs.Needs.{Need, needs_of}
+use Rattle.macs_rxsc.specs.Needs.{Need, first_need_of}
 use Rattle.macs_rxsc.specs.Receive.{RxSide}
 use Rattle.macs_rxsc.specs.Value as rxsc
 use Rattle.macs_rxsc.proofs.Left.{put-self}
@@ -12,7 +12,8 @@ use Rattle.macs_rxsc.proofs.Needed.{first-place}
 use Rattle.macs_rxsc.proofs.Told.{IsAsked, asked, asked-stands, bounded, if_some, risen}
 use Rattle.macs_store.specs.Keeps.{Keeps}
 use Rattle.macs_store.specs.Value.{standing_in}
-use Rattle.macs_store.specs.Standing.{Ceilings, Standing, ahead, with_rx_raised}
+use Rattle.macs_config.specs.Numbers.{block_beyond}
+use Rattle.macs_store.specs.Standing.{Ceilings, Standing, standing_with_rx_raised}
 use Rattle.macs_endpoint.specs.State.{rx_side_with}
 use Rattle.macs_endpoint.specs.Value.{EndpointValue, is_stopped}
 use Rattle.macs_endpoint.proofs.Fitting.{AreAhead, kept-ahead}
@@ -44,7 +45,7 @@ module _ (g : Over) (c : After-facts g) where
   abbrev side : RxSide
   side = rx_side_with s.config (rxsc.rx_side_of old.rx).numbers
 
-  is : needs_of side s.ceilings.rx s.identity.rx_block ≡ Some need
+  is : first_need_of side s.ceilings.rx s.identity.rx_block ≡ Some need
   is = rw (← c.self.view_is) at c.requires.needed
 
   -- its ceiling is below the one that it asks for
@@ -55,7 +56,7 @@ module _ (g : Over) (c : After-facts g) where
   asks_held = subst (λ (x : List ℕ → ℕ → Option ℕ). IsAsked x s.identity.rx_block need) (sym c.self.invariant.channels.rx_ceilings) asks
 
   abbrev further : Ceilings
-  further = (with_rx_raised s need.sci need.an need.pn).ceilings
+  further = (standing_with_rx_raised s need.sci need.an need.pn).ceilings
 
   are : AreAhead s.identity (txsc.tx_side_of old.tx).next (rxsc.rx_side_of old.rx).numbers further
   are =
@@ -66,7 +67,7 @@ module _ (g : Over) (c : After-facts g) where
 pub reserve_rx-requires-clause-raised : goal.reserve_rx-requires-clause-raised
 reserve_rx-requires-clause-raised g c =
     let at = (goal.at.reserve_rx-requires-clause-raised g c).After-facts in
-    if_some ((s g at).ceilings.rx (need g at).sci (need g at).an) (λ old. old < ahead (need g at).pn (s g at).identity.rx_block) (asks g at)
+    if_some ((s g at).ceilings.rx (need g at).sci (need g at).an) (λ old. old < block_beyond (need g at).pn (s g at).identity.rx_block) (asks g at)
 
 pub reserve_rx-requires-clause-stands : goal.reserve_rx-requires-clause-stands
 reserve_rx-requires-clause-stands g c =
@@ -75,11 +76,11 @@ reserve_rx-requires-clause-stands g c =
 
 -- what the store says of it
 raises : (g : Over) (c : After-reserve_rx g) (result : Result (Unit {0}) JournalFault) → c.reserve_rx.result ≡ result
-    → Keeps g.D.SectorDisk.disk c.self.inside.store (with_rx_raised (standing_in c.self.inside.store) c.args.need.sci c.args.need.an c.args.need.pn) result
+    → Keeps g.D.SectorDisk.disk c.self.inside.store (standing_with_rx_raised (standing_in c.self.inside.store) c.args.need.sci c.args.need.an c.args.need.pn) result
     c.reserve_rx.new.self
 raises g c result is =
     subst (λ (r : Result (Unit {0}) JournalFault). Keeps g.D.SectorDisk.disk c.self.inside.store
-    (with_rx_raised (standing_in c.self.inside.store) c.args.need.sci c.args.need.an c.args.need.pn) r c.reserve_rx.new.self) is c.reserve_rx.ensures
+    (standing_with_rx_raised (standing_in c.self.inside.store) c.args.need.sci c.args.need.an c.args.need.pn) r c.reserve_rx.new.self) is c.reserve_rx.ensures
 
 pub returns-in_err-reserve_rx-clause-reserves : goal.returns-in_err-reserve_rx-clause-reserves
 returns-in_err-reserve_rx-clause-reserves g c =
@@ -91,10 +92,10 @@ returns-in_err-reserve_rx-clause-reserves g c =
 
 -- the ceiling that the store has now
 value : (g : Over) (c : After-rx_ceiling g) → c.reserve_rx.result ≡ Ok tt
-    → c.rx_ceiling.result ≡ Some (ahead c.args.need.pn (standing_in c.self.inside.store).identity.rx_block)
+    → c.rx_ceiling.result ≡ Some (block_beyond c.args.need.pn (standing_in c.self.inside.store).identity.rx_block)
 value g c done =
     let s = standing_in c.self.inside.store in
-    let top = ahead c.args.need.pn s.identity.rx_block in
+    let top = block_beyond c.args.need.pn s.identity.rx_block in
     c.rx_ceiling.ensures ∙ (λ i. ((rw done at c.reserve_rx.ensures.done) i).ceilings.rx c.args.need.sci c.args.need.an)
     ∙ put-self s.ceilings.rx c.args.need.sci c.args.need.an (Some top)
 
@@ -104,8 +105,8 @@ unwrap-ceiling-requires g c = ap is_some (value g (goal.at.unwrap-ceiling-requir
 some_same : (a b : ℕ) → Some a ≡ Some b → a ≡ b
 some_same a b is = cc
 
-got : (g : Over) (c : After-get g) → c.rx_ceiling.result ≡ Some (ahead c.args.need.pn (standing_in c.self.inside.store).identity.rx_block)
-    → c.get.result ≡ ahead c.args.need.pn (standing_in c.self.inside.store).identity.rx_block
+got : (g : Over) (c : After-get g) → c.rx_ceiling.result ≡ Some (block_beyond c.args.need.pn (standing_in c.self.inside.store).identity.rx_block)
+    → c.get.result ≡ block_beyond c.args.need.pn (standing_in c.self.inside.store).identity.rx_block
 got g c is = c.get.ensures.value ∙ some_same _ _ (sym c.unwrap-ceiling.ensures ∙ is)
 
 pub raise-requires-clause-stands : goal.raise-requires-clause-stands
@@ -119,7 +120,7 @@ raise-requires-clause-higher g c =
     let top = got g at.After-get (value g at.After-rx_ceiling c.in_ok-reserve_rx.was) in
     let sci = c.args.need.sci in
     let an = c.args.need.an in
-    let next = ahead c.args.need.pn (s g at.After-facts).identity.rx_block in
+    let next = block_beyond c.args.need.pn (s g at.After-facts).identity.rx_block in
     let held = rxsc.ceilings_of c.self.inside.channels.rx sci an in
     let below : next ≤ c.get.result = omega (arith, top) in
     risen held next c.get.result (if_some held (λ old. old < next) (asks_held g at.After-facts)) below

@@ -10,7 +10,8 @@ use Rattle.macs_txsc.proofs.Needs.{IsTxNeed, tx-below, tx-ceiling, tx-need, tx-n
 use Rattle.macs_rxsc.specs.Value as rxsc
 use Rattle.macs_store.specs.Keeps.{Keeps}
 use Rattle.macs_store.specs.Value.{standing_in}
-use Rattle.macs_store.specs.Standing.{Ceilings, Standing, ahead, with_tx_raised}
+use Rattle.macs_config.specs.Numbers.{block_beyond}
+use Rattle.macs_store.specs.Standing.{Ceilings, Standing, standing_with_tx_raised}
 use Rattle.macs_endpoint.specs.State.{no_logs, tx_side, tx_side_with}
 use Rattle.macs_endpoint.specs.Value.{EndpointValue, is_stopped, state_of}
 use Rattle.macs_endpoint.proofs.Fitting.{AreAhead, kept-ahead}
@@ -46,7 +47,7 @@ module _ (g : Over) (c : After-facts g) where
       (standing_in e.store).identity.tx_block ≡ Some c.args.an) (sym c.self.view_is) c.requires.needed)
 
   abbrev further : Ceilings
-  further = (with_tx_raised s c.args.an).ceilings
+  further = (standing_with_tx_raised s c.args.an).ceilings
 
   are : AreAhead s.identity (txsc.tx_side_of old.tx).next (rxsc.rx_side_of old.rx).numbers further
   are =
@@ -61,10 +62,10 @@ reserve_tx-requires-clause-stands g c = tx-ceiling _ _ _ _ (need g (goal.at.rese
 
 -- what the store says of it
 raises : (g : Over) (c : After-reserve_tx g) (result : Result (Unit {0}) JournalFault) → c.reserve_tx.result ≡ result
-    → Keeps g.D.SectorDisk.disk c.self.inside.store (with_tx_raised (standing_in c.self.inside.store) c.args.an) result c.reserve_tx.new.self
+    → Keeps g.D.SectorDisk.disk c.self.inside.store (standing_with_tx_raised (standing_in c.self.inside.store) c.args.an) result c.reserve_tx.new.self
 raises g c result is =
     subst (λ (r : Result (Unit {0}) JournalFault). Keeps g.D.SectorDisk.disk c.self.inside.store
-    (with_tx_raised (standing_in c.self.inside.store) c.args.an) r c.reserve_tx.new.self) is c.reserve_tx.ensures
+    (standing_with_tx_raised (standing_in c.self.inside.store) c.args.an) r c.reserve_tx.new.self) is c.reserve_tx.ensures
 
 pub returns-in_err-reserve_tx-clause-reserves : goal.returns-in_err-reserve_tx-clause-reserves
 returns-in_err-reserve_tx-clause-reserves g c =
@@ -76,11 +77,11 @@ returns-in_err-reserve_tx-clause-reserves g c =
 
 -- the ceiling that the store has now
 value : (g : Over) (c : After-tx_ceiling g) → c.reserve_tx.result ≡ Ok tt
-    → c.tx_ceiling.result ≡ (with_tx_raised (standing_in c.self.inside.store) c.args.an).ceilings.tx c.args.an
+    → c.tx_ceiling.result ≡ (standing_with_tx_raised (standing_in c.self.inside.store) c.args.an).ceilings.tx c.args.an
 value g c done = c.tx_ceiling.ensures ∙ (λ i. ((rw done at c.reserve_tx.ensures.done) i).ceilings.tx c.args.an)
 
 -- as a number
-raised_value : (g : Over) (c : After-facts g) → (with_tx_raised (s g c) c.args.an).ceilings.tx c.args.an ≡ Some (ahead (need g c).top (s g c).identity.tx_block)
+raised_value : (g : Over) (c : After-facts g) → (standing_with_tx_raised (s g c) c.args.an).ceilings.tx c.args.an ≡ Some (block_beyond (need g c).top (s g c).identity.tx_block)
 raised_value g c = put-here (s g c).ceilings.tx c.args.an _ ∙ tx-raised _ _ _ _ (need g c)
 
 pub unwrap-ceiling-requires : goal.unwrap-ceiling-requires

@@ -8,7 +8,7 @@ use Rattle.macs_frame.specs.Opening.{Verified}
 use Rattle.macs_frame.specs.Tag.{tag_of}
 use Rattle.macs_frame.specs.declared.tag.SecTag.{SecTag}
 use Rattle.macs_rxsc.proofs.Steps.{arrives, arrives_as, first_late, first_not_verified, in_time_by, is_delivered, is_held, late_parts, put_numbers-same, settles, settles_bare}
-use Rattle.macs_rxsc.specs.Receive.{BelowLowest, Numbers, NotVerified, RxSide, after_delivery, after_hold, kind_of, put_numbers}
+use Rattle.macs_rxsc.specs.Receive.{BelowLowest, Numbers, NotVerified, RxSide, numbers_after_delivery, numbers_after_hold, delivery_kind, put_numbers}
 use Rattle.macs_rxsc.specs.Value.{packet_numbers, sa_of}
 use Rattle.macs_rxsc.specs.declared.verdict.Kind.TheVariants.{Invalid}
 use Rattle.macs_rxsc.specs.declared.verdict.Reason.TheVariants.{NotValid}
@@ -49,26 +49,26 @@ opened c =
     (verified_by_its_parts c.args.frame.now c.args.self.now.key c.args.sci (octets_of c.args.self.now.offset) c.args.parts.now c.open_parts.new.out.items c.requires.read.0 c.requires.read.1).1
     c.if-not-open_parts.ensures.opened
 
-kinds : (c : After-arrive) → c.arrive.result ≡ cond (nat_lt (tag_of c.args.frame.now).pn c.args.self.now.ceiling) (Some (kind_of (packet_numbers c.args.self.now) (tag_of c.args.frame.now).pn)) None
+kinds : (c : After-arrive) → c.arrive.result ≡ cond (nat_lt (tag_of c.args.frame.now).pn c.args.self.now.ceiling) (Some (delivery_kind (packet_numbers c.args.self.now) (tag_of c.args.frame.now).pn)) None
 kinds c =
     c.arrive.ensures.kind
-    ∙ ap (λ (t : SecTag). cond (nat_lt t.pn c.args.self.now.ceiling) (Some (kind_of (packet_numbers c.args.self.now) t.pn)) None) c.requires.read.0.reading.tag
+    ∙ ap (λ (t : SecTag). cond (nat_lt t.pn c.args.self.now.ceiling) (Some (delivery_kind (packet_numbers c.args.self.now) t.pn)) None) c.requires.read.0.reading.tag
 
 moved : (c : After-arrive) (side : RxSide) → side.replay ≡ c.args.replay
     → packet_numbers c.arrive.new.self ≡ cond (nat_lt (tag_of c.args.frame.now).pn c.args.self.now.ceiling)
-    (after_delivery side.replay.window (packet_numbers c.args.self.now) (tag_of c.args.frame.now).pn) (after_hold (packet_numbers c.args.self.now) (tag_of c.args.frame.now).pn)
+    (numbers_after_delivery side.replay.window (packet_numbers c.args.self.now) (tag_of c.args.frame.now).pn) (numbers_after_hold (packet_numbers c.args.self.now) (tag_of c.args.frame.now).pn)
 moved c side r =
     c.arrive.ensures.numbers
-    ∙ ap (λ (t : SecTag). cond (nat_lt t.pn c.args.self.now.ceiling) (after_delivery c.args.replay.window (packet_numbers c.args.self.now) t.pn) (after_hold (packet_numbers c.args.self.now) t.pn)) c.requires.read.0.reading.tag
+    ∙ ap (λ (t : SecTag). cond (nat_lt t.pn c.args.self.now.ceiling) (numbers_after_delivery c.args.replay.window (packet_numbers c.args.self.now) t.pn) (numbers_after_hold (packet_numbers c.args.self.now) t.pn)) c.requires.read.0.reading.tag
     ∙ ap (λ (p : Replay). cond (nat_lt (tag_of c.args.frame.now).pn c.args.self.now.ceiling)
-    (after_delivery p.window (packet_numbers c.args.self.now) (tag_of c.args.frame.now).pn) (after_hold (packet_numbers c.args.self.now) (tag_of c.args.frame.now).pn)) (sym r)
+    (numbers_after_delivery p.window (packet_numbers c.args.self.now) (tag_of c.args.frame.now).pn) (numbers_after_hold (packet_numbers c.args.self.now) (tag_of c.args.frame.now).pn)) (sym r)
 
 pub returns-in-Some-clause-verdict : goal.returns-in-Some-clause-verdict
 returns-in-Some-clause-verdict c = λ side ceilings v r ch rx nu ce.
     let path = (goal.at.returns-in-Some-clause-verdict c).After-arrive in
     let start = (goal.at.returns-in-Some-clause-verdict c).After-is_late in
     let below = nat_lt (tag_of c.args.frame.now).pn c.args.self.now.ceiling in
-    let is = is_delivered below (kind_of (packet_numbers c.args.self.now) (tag_of c.args.frame.now).pn) c.in-Some.kind (sym c.in-Some.is ∙ kinds path) in
+    let is = is_delivered below (delivery_kind (packet_numbers c.args.self.now) (tag_of c.args.frame.now).pn) c.in-Some.kind (sym c.in-Some.is ∙ kinds path) in
     arrives_as side ceilings c.args.frame.now _ c.args.self.now.ceiling below
     (arrives side c.args.frame.now c.args.parts.now c.requires.read c.args.sci ch (sa_of c.args.self.now) (packet_numbers c.args.self.now) rx nu
     (in_time start c.if-is_late.false side r) c.open_parts.new.out.items (opened path))
@@ -80,7 +80,7 @@ returns-in-None-clause-verdict c = λ side ceilings v r ch rx nu ce.
     let path = (goal.at.returns-in-None-clause-verdict c).After-arrive in
     let start = (goal.at.returns-in-None-clause-verdict c).After-is_late in
     let below = nat_lt (tag_of c.args.frame.now).pn c.args.self.now.ceiling in
-    let is = is_held below (kind_of (packet_numbers c.args.self.now) (tag_of c.args.frame.now).pn) (sym c.in-None.is ∙ kinds path) in
+    let is = is_held below (delivery_kind (packet_numbers c.args.self.now) (tag_of c.args.frame.now).pn) (sym c.in-None.is ∙ kinds path) in
     arrives_as side ceilings c.args.frame.now _ c.args.self.now.ceiling below
     (arrives side c.args.frame.now c.args.parts.now c.requires.read c.args.sci ch (sa_of c.args.self.now) (packet_numbers c.args.self.now) rx nu
     (in_time start c.if-is_late.false side r) c.open_parts.new.out.items (opened path))

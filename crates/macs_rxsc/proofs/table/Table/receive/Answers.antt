@@ -2,7 +2,7 @@ use Rattle.std.proofs.Common.{◌∙◌, refl, ap, sym}
 use Rattle.macs_rxsc.proofs.Shown.{tag_uncounted, uncounted}
 use Rattle.macs_rxsc.proofs.Steps.{first_fault, settles}
 use Rattle.macs_rxsc.specs.Receive.{Tag as TagStep, channel_of, given_at}
-use Rattle.macs_rxsc.specs.Counting.{with_channel_verdict}
+use Rattle.macs_rxsc.specs.Counting.{channel_counters_after_verdict}
 use Rattle.macs_rxsc.specs.Value.{ceilings_among, counters_among, rx_side_in}
 use Rattle.macs_rxsc.specs.declared.counters.ChannelCounters.{ChannelCounters}
 use Rattle.macs_rxsc.specs.declared.verdict.Verdict.{Verdict}
@@ -25,6 +25,6 @@ returns-in-Err c =
       side = refl;
       ceilings = refl;
       counters = sym (uncounted (channel_of side c.args.frame.now) c.refuse.result (counters_among c.args.self.now.channels.items)
-          (λ (k : ChannelCounters). ap (λ (v : Verdict). with_channel_verdict v k) verdict
+          (λ (k : ChannelCounters). ap (λ (v : Verdict). channel_counters_after_verdict v k) verdict
           ∙ tag_uncounted side c.args.frame.now c.in-Err.fault c.args.validate refl k));
     }

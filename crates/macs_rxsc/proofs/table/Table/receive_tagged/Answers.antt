@@ -5,9 +5,9 @@ use Rattle.macs_config.specs.Places.{IsPlace}
 use Rattle.macs_config.proofs.Lent.{lent, lent_old}
 use Rattle.macs_rxsc.proofs.Shown.{at_old, ceilings-kept, counters-counted, named_at, named_none, named_some, numbers-changed, shown-numbers, there}
 use Rattle.macs_rxsc.proofs.Steps.{first_no_channel, settles_bare}
-use Rattle.macs_rxsc.specs.Receive.{NoChannel, Numbers, IsOutcome, channel_of, sci_named, if_channel}
+use Rattle.macs_rxsc.specs.Receive.{NoChannel, Numbers, IsOutcome, channel_of, sci_named, standing_channel}
 use Rattle.macs_rxsc.specs.Receiving.{TableReceives}
-use Rattle.macs_rxsc.specs.Counting.{with_verdict_at}
+use Rattle.macs_rxsc.specs.Counting.{counters_after_verdict_at}
 use Rattle.macs_rxsc.specs.Value.{ceilings_among, ceilings_in, channel_at, counters_among, numbers_in, sas_in, scis_of, rx_side_in}
 use Rattle.macs_rxsc.specs.declared.channel.Channel.{Channel}
 use Rattle.macs_rxsc.specs.declared.verdict.Kind.TheVariants.{UnknownSci}
@@ -21,7 +21,7 @@ old c = get_or c.deref_mut.result.now c.in-Some.place c.index-deref_mut-place.re
 
 found : (c : After-receive) → (sci : List ℕ) × (sci_named (scis_of c.args.self.now.channels.items) c.args.frame.now (name_of c.args.frame.now) ≡ Some sci)
     × IsPlace (scis_of c.args.self.now.channels.items) sci c.in-Some.place
-    × (option_and_then (if_channel (scis_of c.args.self.now.channels.items)) (sci_named (scis_of c.args.self.now.channels.items) c.args.frame.now (name_of c.args.frame.now)) ≡ Some sci)
+    × (option_and_then (standing_channel (scis_of c.args.self.now.channels.items)) (sci_named (scis_of c.args.self.now.channels.items) c.args.frame.now (name_of c.args.frame.now)) ≡ Some sci)
 found c = named_some c.args.self.now.channels.items c.in-Some.place _ (sym c.in-Some.is
     ∙ named_at c.args.self.now.channels.items c.as_slice.result.now c.args.frame.now c.args.parts.now.tag c.place_named.result c.as_slice.ensures.value c.requires.read.0.reading.tag c.place_named.ensures)
 
@@ -57,7 +57,7 @@ returns-in-Some c =
       side = shown-numbers items c.in-Some.place (old p) new (sci p) (stands p) (was p) received.sci c.args.validate c.args.replay received.sas;
       ceilings = ceilings-kept items c.in-Some.place (old p) new (sci p) (stands p) (was p) received.sci received.ceilings;
       counters = counters-counted items c.in-Some.place (old p) new (sci p) (stands p) (was p) received.sci c.receive.result c.receive.ensures.counters
-          ∙ ap (λ (o : Option (List ℕ)). with_verdict_at o c.receive.result (counters_among items)) (sym (channel_is p));
+          ∙ ap (λ (o : Option (List ℕ)). counters_after_verdict_at o c.receive.result (counters_among items)) (sym (channel_is p));
     })
 
 absent : (c : After-place_named) → c.place_named.result ≡ None → channel_of (rx_side_in c.args.validate c.args.replay c.args.self.now.channels.items) c.args.frame.now ≡ None
@@ -74,5 +74,5 @@ returns-in-None c =
           refl refl refl _ _ _ c.settle.ensures.verdict c.settle.ensures.given refl;
       side = refl;
       ceilings = refl;
-      counters = sym (ap (λ (o : Option (List ℕ)). with_verdict_at o c.settle.result (counters_among c.args.self.now.channels.items)) (absent p c.in-None.is));
+      counters = sym (ap (λ (o : Option (List ℕ)). counters_after_verdict_at o c.settle.result (counters_among c.args.self.now.channels.items)) (absent p c.in-None.is));
     }

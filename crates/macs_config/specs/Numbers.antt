@@ -1,0 +1,10 @@
+-- Numbers that end: packet numbers and counts.
+use Rattle.std.specs.Prelude.{◌+◌, ◌-◌, ◌^◌, ℕ, min}
+
+-- a block beyond a number, as far as packet numbers go
+abbrev pub block_beyond : ℕ → ℕ → ℕ
+block_beyond number block = min (number + block) (2 ^ 32)
+
+-- one more, up to 2^64 - 1
+abbrev pub one_more : ℕ → ℕ
+one_more count = min (count + 1) (2 ^ 64 - 1)
