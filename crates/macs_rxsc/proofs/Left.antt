@@ -1,14 +1,13 @@
 -- How many needs are left: one less where a ceiling is raised as far as it is to be, none where no association has one.
 use Rattle.std.proofs.Common.{◌≡◌, ◌≤◌, ◌<◌, ◌+◌, ◌||◌, ◌⊎◌, inl, inr, ℕ, zero, suc, Bool, true, false, cond, List, [], ◌∷◌, bytes_eq, Option, Some, None, IsSome, refl, sym, ◌∙◌, ap, subst, arith}
 use Rattle.std.specs.List.{list_any}
-use Rattle.std.proofs.lemmas.Bool.{cases_lt, eq-eqb}
+use Rattle.std.proofs.lemmas.Bool.{cases_lt}
 use Rattle.macs_config.specs.Tables.{put, put_at}
 use Rattle.macs_config.proofs.Channels.{same_octets}
-use Rattle.macs_config.proofs.Tables.{put_all, put_at_all}
+use Rattle.macs_config.proofs.Tables.{put_all, put_at_all, put_rx-here}
 use Rattle.macs_rxsc.specs.Needs.{Need, first_need, need_of, first_need_of, raised_ceiling}
 use Rattle.macs_rxsc.specs.Receive.{Numbers, RxSide, has_channel}
 use Rattle.macs_rxsc.proofs.Needed.{is-need, need-ends, need_at, needs_among, own-place}
-use Rattle.macs_rxsc.proofs.Places.{bytes_eq-same}
 
 abbrev pub count : List (Option Need) → ℕ
 count [] = 0
@@ -52,11 +51,6 @@ count_lt need (None ∷ xs) (Some m ∷ ys) all is = absurd (no_new need m all.0
 count_lt need (Some n ∷ xs) (None ∷ ys) all is = let rest = count_le need xs ys all.1 in omega (arith, rest)
 count_lt need (Some n ∷ xs) (Some m ∷ ys) all is = absurd (some_none m (all.0.ends is))
 
--- what was put at a place
-pub put-self : (c : List ℕ → ℕ → Option ℕ) (at : List ℕ) (number : ℕ) (o : Option ℕ) → put_at c at (put (c at) number o) at number ≡ o
-put-self c at number o =
-    (λ i. (cond (bytes_eq-same at i) (put (c at) number o) (c at)) number) ∙ (λ i. cond (eq-eqb number number refl i) o (c at number))
-
 module _ (numbers : List ℕ → ℕ → Option Numbers) (c : List ℕ → ℕ → Option ℕ) (block : ℕ) (need : Need)
     (is : need_of block need.sci need.an (numbers need.sci need.an) (c need.sci need.an) ≡ Some need) where
   -- with the ceiling raised that is needed
@@ -73,7 +67,7 @@ module _ (numbers : List ℕ → ℕ → Option Numbers) (c : List ℕ → ℕ �
     ends = λ has.
         let place = own-place numbers c block sci an need has in
         (λ i. need_at numbers served block (place.0 i) (place.1 i))
-        ∙ ap (need_of block need.sci need.an (numbers need.sci need.an)) (put-self c need.sci need.an (Some (raised_ceiling block need.pn))) ∙ ended;
+        ∙ ap (need_of block need.sci need.an (numbers need.sci need.an)) (put_rx-here c need.sci need.an (Some (raised_ceiling block need.pn))) ∙ ended;
     either =
         put_at_all (λ (row : ℕ → Option ℕ). (need_of block sci an (numbers sci an) (row an) ≡ need_at numbers c block sci an)
         ⊎ (need_of block sci an (numbers sci an) (row an) ≡ None)) c need.sci (put (c need.sci) need.an (Some (raised_ceiling block need.pn))) sci

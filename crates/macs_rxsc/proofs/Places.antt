@@ -4,7 +4,6 @@ use Rattle.std.specs.Option.{option_map}
 use Rattle.macs_config.proofs.Keyed.{IsLookup}
 use Rattle.macs_rxsc.specs.Value.{channel_at, scis_of, channel_under}
 use Rattle.macs_rxsc.specs.declared.channel.Channel.{Channel}
-pub use Rattle.macs_config.proofs.Channels.{bytes_eq-itself as bytes_eq-same}
 
 abbrev pub sci_of : Channel → List ℕ
 sci_of channel = channel.sci

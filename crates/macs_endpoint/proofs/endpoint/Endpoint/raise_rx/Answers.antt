@@ -7,7 +7,7 @@ use Rattle.macs_txsc.specs.Value as txsc
 use Rattle.macs_rxsc.specs.Needs.{Need, first_need_of}
 use Rattle.macs_rxsc.specs.Receive.{RxSide}
 use Rattle.macs_rxsc.specs.Value as rxsc
-use Rattle.macs_rxsc.proofs.Left.{put-self}
+use Rattle.macs_config.proofs.Tables.{put_rx-here}
 use Rattle.macs_rxsc.proofs.Needed.{first-place}
 use Rattle.macs_rxsc.proofs.Told.{IsAsked, asked, asked-stands, bounded, if_some, risen}
 use Rattle.macs_store.specs.Keeps.{Keeps}
@@ -97,7 +97,7 @@ value g c done =
     let s = standing_in c.self.inside.store in
     let top = block_beyond c.args.need.pn s.identity.rx_block in
     c.rx_ceiling.ensures ∙ (λ i. ((rw done at c.reserve_rx.ensures.done) i).ceilings.rx c.args.need.sci c.args.need.an)
-    ∙ put-self s.ceilings.rx c.args.need.sci c.args.need.an (Some top)
+    ∙ put_rx-here s.ceilings.rx c.args.need.sci c.args.need.an (Some top)
 
 pub unwrap-ceiling-requires : goal.unwrap-ceiling-requires
 unwrap-ceiling-requires g c = ap is_some (value g (goal.at.unwrap-ceiling-requires g c).After-rx_ceiling c.in_ok-reserve_rx.was)
