@@ -7,5 +7,9 @@ pub mod Ready
 pub mod Spared
 pub mod Appends
 pub mod Holding
+pub mod OpenGates
+pub mod HeadOpened
 pub mod Blank
 pub mod Closing
+pub mod Rewriting
+pub mod Compacting

@@ -1,6 +1,6 @@
 -- Calls of a disk, and an answer that tells of them in a type of its own.
-use Rattle.std.proofs.Common.{◌≡◌, Result, Ok, Err, IsErr, IfOk}
-use Rattle.macs_disk.specs.Disk.{Disk, FailsOnce, IsWork, Works}
+use Rattle.std.proofs.Common.{◌≡◌, ◌+◌, refl, Bool, true, false, Result, Ok, Err, IsErr, IfOk, OnOk}
+use Rattle.macs_disk.specs.Disk.{Disk, FailsOnce, IsDeviceCall, IsWork, Works}
 use Rattle.macs_disk.proofs.Moments.{FailsOnce-before, Works-on}
 
 pub failed : {T E : Type 0} (old new : Disk) (answer : Result T E) → IsErr answer → Works old new → FailsOnce old new → IsWork old new answer
@@ -16,3 +16,11 @@ failed-later old mid new answer is first steady second once =
 pub not-owed : {T E : Type 0} (P : T → Type 0) (answer : Result T E) → IsErr answer → IfOk answer P
 not-owed P (Ok x) is = absurd cc
 not-owed P (Err e) is = tt
+
+-- a call that did not fail takes one moment
+pub done-call : {T E : Type 0} (old new : Disk) (answer : Result T E) → IsDeviceCall old new answer → OnOk answer (new.clock ≡ old.clock + 1)
+done-call old new (Ok x) call = by_worn old.worn refl where
+  by_worn : (worn : Bool) → old.worn ≡ worn → new.clock ≡ old.clock + 1
+  by_worn false fresh = call.one fresh
+  by_worn true spent = absurd (let no = call.refused spent in cc)
+done-call old new (Err e) call = tt

@@ -3,6 +3,8 @@ pub mod Found
 pub mod Appending
 pub mod Value
 pub mod Work
+pub mod Rewriting
 pub mod Formatting
 pub mod Recovery
 pub mod Opening
+pub mod Compacting

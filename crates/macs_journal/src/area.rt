@@ -1,7 +1,7 @@
 //! Where things stand on a disk.
 
 ghost use Rattle.std.specs.Prelude.{◌≡◌, ◌<◌, ◌≤◌, ◌+◌, ℕ};
-ghost use Rattle.macs_journal.specs.Areas.{IsArea, gate, head_body, least_sectors, other_area, slot_body, slots};
+ghost use Rattle.macs_journal.specs.Areas.{IsArea, gate, gates, head_body, least_sectors, other_area, slot_body, slots};
 
 use std::marker::Model;
 
@@ -10,6 +10,9 @@ pub(crate) const LEAST_SECTORS: u64 = 1_028;
 
 /// How many slots an area has.
 pub(crate) const SLOTS: u64 = 256;
+
+/// How many gates an area has: that of its head, and those of its slots.
+pub(crate) const GATES: u64 = 1 + SLOTS;
 
 /// How many sectors an area has: a body and a gate for its head, and for each of its slots.
 const AREA_SECTORS: u64 = 2 + 2 * SLOTS;
@@ -43,6 +46,14 @@ impl Area {
         Area(1)
     }
 
+    /// The area that this one is not.
+    pub(crate) fn other(self) -> Area
+        ensures { result ≡ other_area self }
+    {
+        let Area(number) = self;
+        Area(1 - number)
+    }
+
     /// The sector of the head body.
     pub(crate) fn head_body(self) -> u64
         ensures at { result ≡ head_body self }
@@ -50,6 +61,15 @@ impl Area {
     {
         let Area(number) = self;
         AREA_SECTORS * number
+    }
+
+    /// The sector of a gate: gate 0 is that of the head, gate k + 1 that of slot k.
+    pub(crate) fn gate(self, k: u64) -> u64
+        requires { k < gates }
+        ensures at { result ≡ gate self k }
+        ensures within { result < least_sectors }
+    {
+        self.head_body() + 1 + 2 * k
     }
 
     /// The sector of the head gate.

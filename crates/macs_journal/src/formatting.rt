@@ -1,26 +1,24 @@
 //! A disk made a journal.
 
-ghost use Rattle.std.specs.Prelude.{◌≡◌, ◌≢◌, ◌<◌, ◌≤◌, ◌+◌, ℕ, false, true, IfOk, OnOk};
+ghost use Rattle.std.specs.Prelude.{◌≡◌, ◌≤◌, ℕ, false, true, IfOk, OnOk};
 ghost use Rattle.macs_config.specs.Identity.{Identity};
 ghost use Rattle.macs_disk.specs.Disk.{IsHonest, IsWork, now};
 ghost use Rattle.macs_disk.specs.Runs.{Leaves, LeavesNothingNew};
 ghost use Rattle.macs_disk.specs.States.{state_after_sync};
-ghost use Rattle.macs_record.specs.Decoding.{IsSectorOf};
-ghost use Rattle.macs_record.specs.Gates.{closed_gate, open_gate};
-ghost use Rattle.macs_record.specs.Heads.{IsHeadOf};
-ghost use Rattle.macs_record.specs.Settings.{default_settings};
 ghost use Rattle.macs_journal.specs.Appending.{IsReady};
-ghost use Rattle.macs_journal.specs.Areas.{gate, head_body, least_sectors, slot_body, slots};
+ghost use Rattle.macs_journal.specs.Areas.{least_sectors};
 ghost use Rattle.macs_journal.specs.Found.{IsGateOpen, IsNotFormatted};
-ghost use Rattle.macs_journal.specs.Formatting.{FormatWrites, HasNewGates, HasOpenHead, IsBlank, IsFormatting, IsJournalFormat, IsNewOrNone, first_content, first_head};
+ghost use Rattle.macs_journal.specs.Formatting.{FormatWrites, HasNewGates, HasOpenHead, IsBlank, IsJournalFormat, IsNewOrNone, first_content, first_head};
 ghost use Rattle.macs_journal.specs.Work.{IsSpared};
 
-use crate::area::{Area, LEAST_SECTORS, SLOTS};
+use crate::area::{Area, LEAST_SECTORS};
 use crate::fault::JournalFault;
+use crate::filling::write_bodies;
+use crate::gates::close_gates;
+use crate::opening::open_head;
 use macs_config::Identity;
 use macs_disk::{DeviceFault, SectorDisk};
-use macs_record::laws::{head_in_range, record_in_range};
-use macs_record::{CLOSED_GATE, Head, Record, SECTOR, encode, encode_head, is_open, open_gate};
+use macs_record::{Head, Record, SECTOR, is_open};
 
 /// Makes a journal of a disk that has none: its one record is the settings that an endpoint begins
 /// with. Of the first area it writes the bodies of the head and of that record, the head gate, and the
@@ -74,106 +72,18 @@ fn fill<D: SectorDisk>(disk: &mut D, identity: &Identity) -> Result<(), DeviceFa
     ensures others { IsHonest (D.disk disk.new) → (i : ℕ) → ¬ FormatWrites (now (D.disk disk.old)).seen i
         → IsSpared (D.disk disk.old) (D.disk disk.new) i }
 {
-    write_bodies(disk, identity)?;
-    close_slots(disk)?;
-    open_head(disk)?;
-    Ok(())
-}
-
-/// Writes the bodies of the head and of the first slot.
-fn write_bodies<D: SectorDisk>(disk: &mut D, identity: &Identity) -> Result<(), DeviceFault>
-    requires size { least_sectors ≤ (D.disk disk.old).sectors }
-    ensures work { IsWork (D.disk disk.old) (D.disk disk.new) result }
-    ensures images { IsHonest (D.disk disk.new) → IsBlank (now (D.disk disk.old))
-        → Leaves (D.disk disk.old) (D.disk disk.new) IsNotFormatted }
-    ensures done { OnOk result (IsHonest (D.disk disk.new) → IsBlank (now (D.disk disk.old))
-        → IsFormatting (now (D.disk disk.new)) identity.now 0) }
-    ensures others { IsHonest (D.disk disk.new) → (i : ℕ) → i ≢ head_body 0 → i ≢ slot_body 0 0
-        → IsSpared (D.disk disk.old) (D.disk disk.new) i }
-{
+    let head = first_head(identity);
+    let records = [Record::default()];
     let area = Area::first();
-    disk.write(area.head_body(), &first_head(identity))?;
-    disk.write(area.slot_body(0), &first_record())?;
-    Ok(())
-}
-
-/// Closes the gates of the first area's slots where they read open.
-fn close_slots<D: SectorDisk>(disk: &mut D) -> Result<(), DeviceFault>
-    requires size { least_sectors ≤ (D.disk disk.old).sectors }
-    ensures work { IsWork (D.disk disk.old) (D.disk disk.new) result }
-    ensures images { IsHonest (D.disk disk.new) → IsBlank (now (D.disk disk.old))
-        → Leaves (D.disk disk.old) (D.disk disk.new) IsNotFormatted }
-    ensures done { OnOk result (IsHonest (D.disk disk.new) → (identity : Identity)
-        → IsFormatting (now (D.disk disk.old)) identity 0 → IsFormatting (now (D.disk disk.new)) identity slots) }
-    ensures gates { OnOk result (IsHonest (D.disk disk.new) → (slot : ℕ) → slot < slots
-        → IsGateOpen (now (D.disk disk.old)).seen 0 (slot + 1) → (now (D.disk disk.new)).seen (gate 0 (slot + 1)) ≡ closed_gate) }
-    ensures others { IsHonest (D.disk disk.new) → (i : ℕ)
-        → ((slot : ℕ) → slot < slots → IsGateOpen (now (D.disk disk.old)).seen 0 (slot + 1) → i ≢ gate 0 (slot + 1))
-        → IsSpared (D.disk disk.old) (D.disk disk.new) i }
-{
-    for slot in 0..SLOTS {
-        close_slot(disk, slot)?;
-    }
-    Ok(())
-}
-
-/// Closes the gate of a slot of the first area where it reads open.
-fn close_slot<D: SectorDisk>(disk: &mut D, slot: u64) -> Result<(), DeviceFault>
-    requires room { slot < slots }
-    requires size { least_sectors ≤ (D.disk disk.old).sectors }
-    ensures work { IsWork (D.disk disk.old) (D.disk disk.new) result }
-    ensures images { IsHonest (D.disk disk.new) → IsBlank (now (D.disk disk.old))
-        → Leaves (D.disk disk.old) (D.disk disk.new) IsNotFormatted }
-    ensures blank { IsHonest (D.disk disk.new) → IsBlank (now (D.disk disk.old)) → IsBlank (now (D.disk disk.new)) }
-    ensures done { OnOk result (IsHonest (D.disk disk.new) → (identity : Identity)
-        → IsFormatting (now (D.disk disk.old)) identity slot → IsFormatting (now (D.disk disk.new)) identity (slot + 1)) }
-    ensures gate { OnOk result (IsHonest (D.disk disk.new) → IsGateOpen (now (D.disk disk.old)).seen 0 (slot + 1)
-        → (now (D.disk disk.new)).seen (gate 0 (slot + 1)) ≡ closed_gate) }
-    ensures closed { IsHonest (D.disk disk.new) → ¬ IsGateOpen (now (D.disk disk.old)).seen 0 (slot + 1)
-        → (i : ℕ) → IsSpared (D.disk disk.old) (D.disk disk.new) i }
-    ensures others { IsHonest (D.disk disk.new) → (i : ℕ) → i ≢ gate 0 (slot + 1)
-        → IsSpared (D.disk disk.old) (D.disk disk.new) i }
-{
-    let at = Area::first().slot_gate(slot);
-    let mut gate = [0; SECTOR];
-    disk.read(at, &mut gate)?;
-    if is_open(&gate) {
-        disk.write(at, &CLOSED_GATE)?;
-    }
-    Ok(())
-}
-
-/// Makes sure of the bodies and the closed gates, and then opens the head gate.
-fn open_head<D: SectorDisk>(disk: &mut D) -> Result<(), DeviceFault>
-    requires size { least_sectors ≤ (D.disk disk.old).sectors }
-    ensures work { IsWork (D.disk disk.old) (D.disk disk.new) result }
-    ensures images { IsHonest (D.disk disk.new) → (identity : Identity) → IsFormatting (now (D.disk disk.old)) identity slots
-        → Leaves (D.disk disk.old) (D.disk disk.new) (IsNewOrNone identity) }
-    ensures done { OnOk result (IsHonest (D.disk disk.new) → (identity : Identity) → IsFormatting (now (D.disk disk.old)) identity slots
-        → IsReady (now (D.disk disk.new)) (first_content identity)) }
-    ensures gate { OnOk result (IsHonest (D.disk disk.new) → (now (D.disk disk.new)).seen (gate 0 0) ≡ open_gate) }
-    ensures others { IsHonest (D.disk disk.new) → (i : ℕ) → i ≢ gate 0 0 → IsSpared (D.disk disk.old) (D.disk disk.new) i }
-{
-    disk.sync()?; // The bodies and closed gates stand before the head says so.
-    disk.write(Area::first().head_gate(), &open_gate())?;
-    disk.sync()?; // The head stands before that is answered.
+    write_bodies(disk, area, &head, &records)?;
+    close_gates(disk, area, 1)?;
+    open_head(disk, area)?;
     Ok(())
 }
 
 /// The head that a journal begins with.
-fn first_head(identity: &Identity) -> [u8; SECTOR]
-    ensures { IsHeadOf (first_head identity.now) result }
+fn first_head(identity: &Identity) -> Head
+    ensures { result ≡ first_head identity.now }
 {
-    let head = Head::new(1, 1, *identity).unwrap();
-    head_in_range(&head);
-    encode_head(&head)
-}
-
-/// The record that a journal begins with: the settings of a new configuration.
-fn first_record() -> [u8; SECTOR]
-    ensures { IsSectorOf default_settings result }
-{
-    let settings = Record::default();
-    record_in_range(&settings);
-    encode(&settings)
+    Head::new(1, 1, *identity).unwrap()
 }

@@ -4,12 +4,16 @@
 
 mod appending;
 mod area;
+mod compaction;
 mod fault;
+mod filling;
 mod formatting;
+mod gates;
 mod hand;
 mod heads;
 mod journal;
 pub mod laws;
+mod opening;
 mod place;
 mod recovery;
 mod slots;

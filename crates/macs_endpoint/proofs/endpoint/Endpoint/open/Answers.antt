@@ -7,7 +7,7 @@ use Rattle.macs_disk.specs.Disk.{now}
 use Rattle.macs_disk.specs.States.{Image}
 use Rattle.macs_journal.specs.Areas.{least_sectors}
 use Rattle.macs_journal.specs.declared.fault.JournalFault.{JournalFault}
-use Rattle.macs_journal.specs.declared.fault.JournalFault.TheVariants.{Stopped, TooSmall, Disk, AlreadyFormatted, NotFormatted, BadJournal, AreaFull}
+use Rattle.macs_journal.specs.declared.fault.JournalFault.TheVariants.{Stopped, TooSmall, Disk, AlreadyFormatted, NotFormatted, BadJournal, AreaFull, GenerationsSpent}
 use Rattle.macs_txsc.specs.Transmit.{InOrder}
 use Rattle.macs_txsc.specs.Value as txsc
 use Rattle.macs_txsc.specs.declared.channel.Tx.{Tx}
@@ -42,6 +42,7 @@ by_device sectors image TooSmall found fits = absurd (not_found sectors image To
 by_device sectors image AlreadyFormatted found fits = absurd (not_found sectors image AlreadyFormatted (found (λ is. cc)) fits)
 by_device sectors image NotFormatted found fits = absurd (not_found sectors image NotFormatted (found (λ is. cc)) fits)
 by_device sectors image BadJournal found fits = absurd (not_found sectors image BadJournal (found (λ is. cc)) fits)
+by_device sectors image GenerationsSpent found fits = absurd (not_found sectors image GenerationsSpent (found (λ is. cc)) fits)
 by_device sectors image AreaFull found fits = absurd (not_found sectors image AreaFull (found (λ is. cc)) fits)
 
 pub returns-in_err-store : goal.returns-in_err-store

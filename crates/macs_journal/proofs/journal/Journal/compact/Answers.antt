@@ -1,0 +1,73 @@
+use Rattle.std.proofs.Common.{length, refl, rules}
+use Rattle.macs_disk.specs.Disk.{now}
+use Rattle.macs_journal.specs.Compacting.{compacted}
+use Rattle.macs_journal.specs.declared.fault.JournalFault.TheVariants.{GenerationsSpent, Stopped}
+use Rattle.macs_journal.specs.declared.hand.Hand.TheVariants.{Empty}
+use Rattle.macs_journal.proofs.Compacting.{compact-calls, compact-holding, compact-leaves, compact-others, compact-until, refused-compacts}
+use Rattle.macs_journal.proofs.Holding.{kept-image}
+use Rattle.macs_journal.proofs.journal.Journal.compact.Goals as goal
+
+pub returns-then-self : goal.returns-then-self
+returns-then-self g c =
+    refused-compacts g.D.SectorDisk.disk c.args.self.now c.args.records.now Stopped (search rules) (search rules) (search rules) (search rules) refl
+
+pub returns-in_default : goal.returns-in_default
+returns-in_default g c =
+    refused-compacts g.D.SectorDisk.disk c.args.self.now c.args.records.now GenerationsSpent (search rules) (search rules) (search rules) (search rules) refl
+
+pub returns-in-Ok : goal.returns-in-Ok
+returns-in-Ok g c =
+    let d = g.D.SectorDisk.disk in
+    let j = c.self.inside in
+    let old = d j.disk in
+    let new = d c.rewrite.new.disk in
+    let area = c.other-other.result in
+    let next = c.in-Some.next in
+    let records = c.args.records.now in
+    record {
+      stopped = search rules;
+      spent = search rules;
+      names = tt;
+      same = tt;
+      halted = search rules;
+      at_fault = tt;
+      running = search rules;
+      place = search rules;
+      work = search rules;
+      most = search rules;
+      calls = rw (← c.self.view_is) (λ honest. compact-calls old new j.place j.hand area next records c.other-other.ensures (c.in-Ok.ensures.calls honest));
+      until = rw (← c.self.view_is) (λ honest before holds. compact-until old new j.place j.hand area next records c.other-other.ensures before holds (c.rewrite.ensures.until honest));
+      any_moment = rw (← c.self.view_is) (λ honest before holds. compact-leaves old new j.place j.hand area next records c.other-other.ensures before holds c.in-Some.ensures.value (c.rewrite.ensures.images honest));
+      done = rw (← c.self.view_is) (λ honest before holds. compact-holding old new j.place j.hand area next records c.other-other.ensures before holds c.in-Some.ensures.value (c.in-Ok.ensures.done honest));
+      kept = rw (← c.self.view_is) (λ honest before holds.
+          kept-image (now new) (record { area = area; head = next; free = length records }) Empty (compacted before records) (compact-holding old new j.place j.hand area next records c.other-other.ensures before holds c.in-Some.ensures.value (c.in-Ok.ensures.done honest)));
+      others = rw (← c.self.view_is) (λ honest. compact-others old new j.place j.hand area next records c.other-other.ensures (c.rewrite.ensures.others honest));
+    }
+
+pub returns-in-Err : goal.returns-in-Err
+returns-in-Err g c =
+    let d = g.D.SectorDisk.disk in
+    let j = c.self.inside in
+    let old = d j.disk in
+    let new = d c.rewrite.new.disk in
+    let area = c.other-other.result in
+    let next = c.in-Some.next in
+    let records = c.args.records.now in
+    record {
+      stopped = search rules;
+      spent = search rules;
+      names = search rules;
+      same = search rules;
+      halted = search rules;
+      at_fault = search rules;
+      running = tt;
+      place = tt;
+      work = search rules;
+      most = search rules;
+      calls = tt;
+      until = rw (← c.self.view_is) (λ honest before holds. compact-until old new j.place j.hand area next records c.other-other.ensures before holds (c.rewrite.ensures.until honest));
+      any_moment = rw (← c.self.view_is) (λ honest before holds. compact-leaves old new j.place j.hand area next records c.other-other.ensures before holds c.in-Some.ensures.value (c.rewrite.ensures.images honest));
+      done = tt;
+      kept = tt;
+      others = rw (← c.self.view_is) (λ honest. compact-others old new j.place j.hand area next records c.other-other.ensures (c.rewrite.ensures.others honest));
+    }

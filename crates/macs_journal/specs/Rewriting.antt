@@ -1,0 +1,43 @@
+-- An area written anew: its gates closed, its bodies written, and its head opened.
+use Rattle.std.specs.Prelude.{◌≡◌, ◌≢◌, ◌<◌, ◌≤◌, ◌⊎◌, ℕ, false, List, slice_get, Some}
+use Rattle.macs_disk.specs.States.{DiskState, Image, IsImage}
+use Rattle.macs_record.specs.Decoding.{IsSectorOf}
+use Rattle.macs_record.specs.Gates.{closed_gate}
+use Rattle.macs_record.specs.declared.record.Record.{Record}
+use Rattle.macs_journal.specs.Areas.{gate, gates, slot_body}
+use Rattle.macs_journal.specs.Found.{IsGateOpen}
+
+-- ---- gates closed
+
+-- the sector is none of the gates of an area, from one up to another, that read open
+abbrev pub IsNoOpenGate : Image → (area from until i : ℕ) → Type 0
+IsNoOpenGate seen area from until i = (k : ℕ) → from ≤ k → k < until → IsGateOpen seen area k → i ≢ gate area k
+
+-- of these gates of an area, each that read open before is closed
+abbrev pub AreClosed : (old new : Image) → (area from until : ℕ) → Type 0
+AreClosed old new area from until = (k : ℕ) → from ≤ k → k < until → IsGateOpen old area k → new (gate area k) ≡ closed_gate
+
+-- no gate of an area reads open
+abbrev pub IsShut : Image → ℕ → Type 0
+IsShut seen area = (k : ℕ) → k < gates → ¬ IsGateOpen seen area k
+
+-- ---- bodies written
+
+-- the bodies of an area's first slots are those of these records
+abbrev pub AreBodies : Image → ℕ → List Record → Type 0
+AreBodies seen area records = (j : ℕ) (r : Record) → slice_get records j ≡ Some r → IsSectorOf r (seen (slot_body area j))
+
+-- the sector is none of the bodies of an area's first slots
+abbrev pub IsNoBody : (area count i : ℕ) → Type 0
+IsNoBody area count i = (j : ℕ) → j < count → i ≢ slot_body area j
+
+-- ---- the head opened
+
+-- nothing is pending: what reads give is durable
+pub record IsSettled (s : DiskState) : Type 0 where
+  pub clean : (i : ℕ) → s.pending i ≡ false
+  pub fresh : (i : ℕ) → s.seen i ≡ s.durable i
+
+-- what may be left while a head gate is opened: what could be left before, or what reads gave but for the gate
+abbrev pub IsOldOrOpening : DiskState → ℕ → Image → Type 0
+IsOldOrOpening old area image = IsImage old image ⊎ ((i : ℕ) → i ≢ gate area 0 → image i ≡ old.seen i)

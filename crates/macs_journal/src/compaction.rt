@@ -1,0 +1,118 @@
+//! A journal that begins anew in its other area.
+
+ghost use Rattle.std.specs.Prelude.{◌≡◌, ◌≤◌, ◌+◌, ◌-◌, ◌^◌, ◌↔◌, ℕ, None, IfSome, length, OnOk};
+ghost use Rattle.macs_disk.specs.Disk.{IsHonest, IsWork, now};
+ghost use Rattle.macs_disk.specs.Runs.{Leaves};
+ghost use Rattle.macs_journal.specs.Appending.{HasEitherJournal, IsReady};
+ghost use Rattle.macs_journal.specs.Areas.{gates, least_sectors, other_area, slots};
+ghost use Rattle.macs_journal.specs.Compacting.{CompactWrites, Compacts, FindsUntil, HasOpenGates, compacted, next_head};
+ghost use Rattle.macs_journal.specs.Found.{Content};
+ghost use Rattle.macs_journal.specs.Rewriting.{IsNoOpenGate, IsSettled, IsShut};
+ghost use Rattle.macs_journal.specs.Work.{IsSpared};
+
+use crate::area::Area;
+use crate::fault::JournalFault;
+use crate::filling::write_bodies;
+use crate::gates::close_gates;
+use crate::hand::Hand;
+use crate::journal::Journal;
+use crate::opening::open_head;
+use crate::place::Place;
+use macs_disk::{DeviceFault, SectorDisk};
+use macs_record::{Head, Record};
+
+impl<D: SectorDisk> Journal<D> {
+    /// Begins anew with these records, 1 to 256, in the area that is not current: the gates there that
+    /// read open are closed, that of the head included, and this is made durable; the bodies of the
+    /// records and of a head of the next generation are written and made durable; the head gate is
+    /// opened and made durable. Refused as `Stopped`, and as `GenerationsSpent`, where nothing is
+    /// changed; as `Disk` at the first call that fails: then a power loss leaves the journal with the
+    /// records of before or with these, and no work is in hand.
+    pub fn compact(&mut self, records: &[Record]) -> Result<(), JournalFault>
+        requires some { (1 ≤ length records.now) × (length records.now ≤ slots) }
+        ensures { Compacts D.disk self.old records.now result self.new }
+    {
+        if self.stopped {
+            return Err(JournalFault::Stopped);
+        }
+        let Place { area, head, .. } = self.place;
+        let Some(next) = next_head(&head, records.len() as u32) else {
+            return Err(JournalFault::GenerationsSpent);
+        };
+        let other = area.other();
+        self.hand = Hand::Empty;
+        match rewrite(&mut self.disk, other, &next, records) {
+            Ok(()) => {
+                self.place = Place {
+                    area: other,
+                    head: next,
+                    free: records.len() as u64,
+                };
+                Ok(())
+            }
+            Err(_) => {
+                self.stopped = true; // The next recovery finds the records of before or these.
+                Err(JournalFault::Disk)
+            }
+        }
+    }
+}
+
+/// The head of the next generation, `None` behind the last.
+fn next_head(head: &Head, count: u32) -> Option<Head>
+    requires { (1 ≤ count) × (count ≤ slots) }
+    ensures value { IfSome result (λ next. next ≡ next_head head.now count) }
+    ensures spent { result ≡ None ↔ (head.now.generation ≡ 2 ^ 64 - 1) }
+{
+    let generation = head.generation().checked_add(1)?;
+    Head::new(generation, count, head.identity())
+}
+
+/// Writes these records into an area under this head, while the other area is current.
+fn rewrite<D: SectorDisk>(
+    disk: &mut D,
+    area: Area,
+    head: &Head,
+    records: &[Record],
+) -> Result<(), DeviceFault>
+    requires few { length records.now ≤ slots }
+    requires size { least_sectors ≤ (D.disk disk.old).sectors }
+    ensures work { IsWork (D.disk disk.old) (D.disk disk.new) result }
+    ensures most { (D.disk disk.new).clock ≤ (D.disk disk.old).clock + (519 + length records.now) }
+    ensures calls { OnOk result (IsHonest (D.disk disk.new) → (opened : ℕ) → HasOpenGates (now (D.disk disk.old)).seen area gates opened
+        → (D.disk disk.new).clock ≡ (D.disk disk.old).clock + (262 + opened + length records.now)) }
+    ensures until { IsHonest (D.disk disk.new) → (before : Content) → IsReady (now (D.disk disk.old)) before → other_area before.area ≡ area
+        → (opened : ℕ) → HasOpenGates (now (D.disk disk.old)).seen area gates opened
+        → FindsUntil (D.disk disk.old) (D.disk disk.new) ((D.disk disk.old).clock + (261 + opened + length records.now)) before }
+    ensures images { IsHonest (D.disk disk.new) → (before : Content) → IsReady (now (D.disk disk.old)) before
+        → other_area before.area ≡ area → next_head before.head (length records.now) ≡ head.now
+        → Leaves (D.disk disk.old) (D.disk disk.new) (HasEitherJournal before (compacted before records.now)) }
+    ensures done { OnOk result (IsHonest (D.disk disk.new) → (before : Content) → IsReady (now (D.disk disk.old)) before
+        → other_area before.area ≡ area → next_head before.head (length records.now) ≡ head.now
+        → IsReady (now (D.disk disk.new)) (compacted before records.now)) }
+    ensures others { IsHonest (D.disk disk.new) → (i : ℕ)
+        → ¬ CompactWrites (now (D.disk disk.old)).seen area (length records.now) i
+        → IsSpared (D.disk disk.old) (D.disk disk.new) i }
+{
+    clear(disk, area)?;
+    write_bodies(disk, area, head, records)?;
+    open_head(disk, area)?;
+    Ok(())
+}
+
+/// Closes the gates of an area that read open, and makes that durable.
+fn clear<D: SectorDisk>(disk: &mut D, area: Area) -> Result<(), DeviceFault>
+    requires size { least_sectors ≤ (D.disk disk.old).sectors }
+    ensures work { IsWork (D.disk disk.old) (D.disk disk.new) result }
+    ensures most { (D.disk disk.new).clock ≤ (D.disk disk.old).clock + 515 }
+    ensures calls { OnOk result (IsHonest (D.disk disk.new) → (opened : ℕ) → HasOpenGates (now (D.disk disk.old)).seen area gates opened
+        → (D.disk disk.new).clock ≡ (D.disk disk.old).clock + (258 + opened)) }
+    ensures settled { OnOk result (IsHonest (D.disk disk.new) → IsSettled (now (D.disk disk.new))) }
+    ensures shut { OnOk result (IsHonest (D.disk disk.new) → IsShut (now (D.disk disk.new)).seen area) }
+    ensures others { IsHonest (D.disk disk.new) → (i : ℕ) → IsNoOpenGate (now (D.disk disk.old)).seen area 0 gates i
+        → IsSpared (D.disk disk.old) (D.disk disk.new) i }
+{
+    close_gates(disk, area, 0)?;
+    disk.sync()?; // The gates are closed before a body behind them changes.
+    Ok(())
+}

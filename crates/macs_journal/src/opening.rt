@@ -1,0 +1,34 @@
+//! A head gate opened.
+
+ghost use Rattle.std.specs.Prelude.{◌≡◌, ◌≢◌, ◌<◌, ◌≤◌, ◌+◌, ℕ, OnOk};
+ghost use Rattle.macs_disk.specs.Disk.{IsHonest, IsWork, MayLeave, now};
+ghost use Rattle.macs_disk.specs.Runs.{Leaves};
+ghost use Rattle.macs_disk.specs.States.{Image, IsImage};
+ghost use Rattle.macs_record.specs.Gates.{open_gate};
+ghost use Rattle.macs_journal.specs.Areas.{gate, least_sectors};
+ghost use Rattle.macs_journal.specs.Rewriting.{IsOldOrOpening, IsSettled};
+ghost use Rattle.macs_journal.specs.Work.{IsSpared};
+
+use crate::area::Area;
+use macs_disk::{DeviceFault, SectorDisk};
+use macs_record::open_gate;
+
+/// Makes sure of the bodies and the closed gates of an area, and then opens its head gate.
+pub(crate) fn open_head<D: SectorDisk>(disk: &mut D, area: Area) -> Result<(), DeviceFault>
+    requires size { least_sectors ≤ (D.disk disk.old).sectors }
+    ensures work { IsWork (D.disk disk.old) (D.disk disk.new) result }
+    ensures most { (D.disk disk.new).clock ≤ (D.disk disk.old).clock + 3 }
+    ensures calls { OnOk result ((D.disk disk.new).clock ≡ (D.disk disk.old).clock + 3) }
+    ensures until { IsHonest (D.disk disk.new) → (k : ℕ) → (D.disk disk.old).clock ≤ k → k ≤ (D.disk disk.new).clock
+        → k < (D.disk disk.old).clock + 2 → (image : Image) → IsImage ((D.disk disk.new).past k) image → MayLeave (D.disk disk.old) image }
+    ensures images { IsHonest (D.disk disk.new)
+        → Leaves (D.disk disk.old) (D.disk disk.new) (IsOldOrOpening (now (D.disk disk.old)) area) }
+    ensures settled { OnOk result (IsHonest (D.disk disk.new) → IsSettled (now (D.disk disk.new))) }
+    ensures gate { OnOk result (IsHonest (D.disk disk.new) → (now (D.disk disk.new)).seen (gate area 0) ≡ open_gate) }
+    ensures others { IsHonest (D.disk disk.new) → (i : ℕ) → i ≢ gate area 0 → IsSpared (D.disk disk.old) (D.disk disk.new) i }
+{
+    disk.sync()?; // The bodies and closed gates stand before the head says so.
+    disk.write(area.head_gate(), &open_gate())?;
+    disk.sync()?; // The head stands before that is answered.
+    Ok(())
+}
