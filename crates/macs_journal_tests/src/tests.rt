@@ -2,10 +2,12 @@
 
 mod appends;
 mod areas;
+mod compactions;
 mod formats;
 mod sectors;
 mod torn;
 
+use arrayvec::ArrayVec;
 use macs_config::{Identity, Replay};
 use macs_disk::{DeviceFault, Fuse, MemDisk, SectorDisk};
 use macs_frame::Sci;
@@ -80,6 +82,11 @@ enum Step {
     /// Appends windows 1, 2 and 3 until a call behind so many of the disk fails. The windows up to this
     /// number were answered.
     CutAppend(u64, u32),
+    /// Begins anew with these records.
+    Compact(&'static [Item]),
+    /// Begins anew with these records, and fails behind so many calls of the disk, those of the recovery
+    /// before it included; or is refused.
+    CutCompact(u64, &'static [Item], Option<JournalFault>),
 }
 
 /// An identity that is told from others by the last octet of its SCI, and by its receive block.
@@ -200,6 +207,42 @@ fn appended_until(rt: &impl Abort, disk: MemDisk, calls: u64, done: u32) -> MemD
     found.journal.into_disk().into_inner()
 }
 
+/// Begins anew with these records, of which there are 1 to 4.
+fn compact<D: SectorDisk>(
+    rt: &impl Abort,
+    journal: &mut Journal<D>,
+    items: &[Item],
+) -> Result<(), JournalFault> {
+    let mut records: ArrayVec<Record, 4> = ArrayVec::new();
+    for item in items {
+        assert!(rt; records.len() < 4);
+        records.push(record(*item));
+    }
+    assert!(rt; !records.is_empty());
+    journal.compact(records.as_slice())
+}
+
+fn compacted(rt: &impl Abort, disk: MemDisk, items: &[Item]) -> Result<MemDisk, Fail> {
+    let mut found = opened(rt, disk);
+    compact(rt, &mut found.journal, items)?;
+    Ok(found.journal.into_disk())
+}
+
+fn compacted_until(
+    rt: &impl Abort,
+    disk: MemDisk,
+    calls: u64,
+    items: &[Item],
+    answer: Option<JournalFault>,
+) -> MemDisk {
+    let mut found = opened(rt, Fuse::new(disk, calls));
+    assert!(rt; compact(rt, &mut found.journal, items).err() == answer);
+    if answer == Some(JournalFault::Disk) {
+        is_stopped(rt, &mut found.journal);
+    }
+    found.journal.into_disk().into_inner()
+}
+
 fn found(rt: &impl Abort, disk: MemDisk, count: u32, items: &[Item]) -> MemDisk {
     let found = opened(rt, disk);
     has(rt, &found, count, items);
@@ -285,6 +328,10 @@ fn take(rt: &impl Abort, mut disk: MemDisk, step: Step) -> Result<MemDisk, Fail>
         Step::CutFormat(calls, answer) => Ok(formatted_until(rt, disk, calls, answer)),
         Step::CutRecovery(calls) => Ok(refused_until(rt, disk, calls)),
         Step::CutAppend(calls, done) => Ok(appended_until(rt, disk, calls, done)),
+        Step::Compact(items) => compacted(rt, disk, items),
+        Step::CutCompact(calls, items, answer) => {
+            Ok(compacted_until(rt, disk, calls, items, answer))
+        }
         _ => {
             touch(rt, &mut disk, step)?;
             Ok(disk)
