@@ -4,3 +4,13 @@ pub mod Adjusting
 pub mod Keeping
 mod Promises
 pub mod OneStanding
+pub mod Filling
+pub mod Ascending
+pub mod Making
+mod FreshKeys
+pub mod Sections
+mod Whole
+pub mod Snapshots
+mod SnapshotLength
+mod Written
+mod ReadFingerprints

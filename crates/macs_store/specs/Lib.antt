@@ -1,6 +1,7 @@
 pub mod Standing
 pub mod Commands
 pub mod Replay
+pub mod Snapshot
 pub mod Table
 pub mod Found
 pub mod Value

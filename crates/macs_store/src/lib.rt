@@ -7,6 +7,7 @@ mod fault;
 pub mod laws;
 mod opening;
 mod reading;
+mod snapshot;
 mod standing;
 mod store;
 mod table;

@@ -65,7 +65,7 @@ impl Standing {
         ensures { option_map standing_of result ≡ replay_of this_edition identity.now count records.now }
     {
         let (snapshot, later) = records.split_at(count);
-        let mut standing = Standing::snapshot(identity, snapshot)?;
+        let mut standing = Standing::from_snapshot(identity, snapshot)?;
         for value in later {
             if !standing.follow(value) {
                 return None;
@@ -75,7 +75,7 @@ impl Standing {
     }
 
     /// What a snapshot stands for, `None` where it is refused.
-    fn snapshot(identity: &Identity, records: &[Record]) -> Option<Standing>
+    fn from_snapshot(identity: &Identity, records: &[Record]) -> Option<Standing>
         requires few { length records.now ≤ slots }
         ensures { option_map standing_of result ≡ snapshot_of this_edition identity.now records.now }
     {
