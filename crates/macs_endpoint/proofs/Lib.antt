@@ -5,6 +5,7 @@ pub mod FrameNumbers
 pub mod Turns
 pub mod Formatted
 pub mod Following
+mod PacketNumber
 pub mod Rooms
 pub mod Seen
 pub mod Opened

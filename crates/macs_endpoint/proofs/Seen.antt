@@ -19,6 +19,7 @@ use Rattle.macs_endpoint.specs.Step.{ArriveStep, Step, state_after_hold, numbers
 use Rattle.macs_endpoint.specs.Value.{EndpointValue, IsSoundEndpoint, state_of}
 use Rattle.macs_endpoint.specs.declared.fault.ProtectFault.TheVariants as protect
 use Rattle.macs_endpoint.specs.declared.fault.RefillFault.TheVariants as refill
+use Rattle.macs_endpoint.proofs.PacketNumber.{pn-in-range}
 use Rattle.macs_endpoint.proofs.Rooms.{below-refilled}
 
 -- a number was seen that is not below this one
@@ -216,19 +217,22 @@ module _ {D : Type 0} (disk_of : D → Disk) where
 
   -- what was held back is below the ceiling once a refill was answered with Ok, where its association stood all the time
   pub below-again : (old mid late new : EndpointValue D) (turns : List (Turn D)) (frame out : List ℕ) (a : Arrival) → IsSoundEndpoint new
-      → Arrives (rx_side (state_of old no_logs)) frame a → a.pn < 2 ^ 32 → IsCall disk_of old (Receives frame) (Received (Ok HeldBack) out) mid
+      → Arrives (rx_side (state_of old no_logs)) frame a → IsCall disk_of old (Receives frame) (Received (Ok HeldBack) out) mid
       → Lives disk_of mid turns late → RxStays a.sci a.an mid turns → IsCall disk_of late Refills (Refilled (Ok tt)) new → IsBelow new a.sci a.an a.pn
-  below-again old mid late new turns frame out a kept arrives last state_after_hold lives stays refill =
+  below-again old mid late new turns frame out a kept arrives held lives stays refill =
       let ended = refill.behaves.step no_logs in
       let same : (state_of new no_logs).numbers ≡ (state_of late no_logs).numbers = elim ended.1 [
         | inl stopped ↦ absurd stopped.1
         | inr ran ↦ ap (λ (x : State). x.numbers) ran.1
       ] in
       let seen : HasSeen ((state_of late no_logs).numbers a.sci a.an) a.pn =
-      seen-lives a.sci a.an a.pn turns mid late lives stays (seen-held old mid frame out a arrives state_after_hold) in
+      seen-lives a.sci a.an a.pn turns mid late lives stays (seen-held old mid frame out a arrives held) in
       by ((state_of new no_logs).numbers a.sci a.an) refl
       (subst (λ (f : List ℕ → ℕ → Option Numbers). HasSeen (f a.sci a.an) a.pn) (sym same) seen)
     where
+      last : a.pn < 2 ^ 32
+      last = subst (λ (pn : ℕ). pn < 2 ^ 32) (sym arrives.is_pn) (pn-in-range frame held.behaves.in_range)
+
       by : (numbers : Option Numbers) → (state_of new no_logs).numbers a.sci a.an ≡ numbers → HasSeen numbers a.pn → IsBelow new a.sci a.an a.pn
       by None are seen = absurd seen
       by (Some numbers) are seen =

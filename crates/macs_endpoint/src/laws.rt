@@ -52,7 +52,7 @@ pub fn frames_not_held_back<D: SectorDisk>()
         × (pn < seen + (standing_in new.store).identity.rx_block)))
         → IsBelow new sci an pn }
     ensures again { (old mid late new : EndpointValue D) (turns : List (Turn D)) (frame out : List ℕ) (a : Arrival) → IsSoundEndpoint new
-        → Arrives (rx_side (state_of old no_logs)) frame a → a.pn < 2 ^ 32
+        → Arrives (rx_side (state_of old no_logs)) frame a
         → IsCall D.disk old (Receives frame) (Received (Ok HeldBack) out) mid
         → Lives D.disk mid turns late → RxStays a.sci a.an mid turns → IsCall D.disk late Refills (Refilled (Ok tt)) new
         → IsBelow new a.sci a.an a.pn }

@@ -49,20 +49,20 @@ fn icv_at(frame: &[u8], end: usize) -> [u8; ICV_OCTETS]
 fn open_from(
     key: &GcmKey,
     iv: &[u8; 12],
-    extra: &[u8],
+    aad: &[u8],
     octets: &mut [u8],
     start: usize,
     icv: &[u8; ICV_OCTETS],
 ) -> bool
     requires start { start ≤ length octets.old }
-    requires extra { length extra.now < 2 ^ 32 }
+    requires aad { length aad.now < 2 ^ 32 }
     requires octets { length octets.old < 2 ^ 32 }
-    ensures exactly { IsTrue result ↔ Opens key.now iv.now extra.now (drop start octets.old) icv.now }
+    ensures exactly { IsTrue result ↔ Opens key.now iv.now aad.now (drop start octets.old) icv.now }
     ensures opened { OnTrue result
-        (seal key.now iv.now extra.now (drop start octets.new) ≡ (drop start octets.old, icv.now)) }
+        (seal key.now iv.now aad.now (drop start octets.new) ≡ (drop start octets.old, icv.now)) }
     ensures front { take start octets.new ≡ take start octets.old }
 {
-    open(key, iv, extra, &mut octets[start..], icv)
+    open(key, iv, aad, &mut octets[start..], icv)
 }
 
 /// Opens the Secure Data and the ICV of a frame, and writes its plain frame to `out`. The parts are a

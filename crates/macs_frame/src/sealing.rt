@@ -62,8 +62,8 @@ fn seal_from(key: &GcmKey, iv: &[u8; 12], octets: &mut [u8], start: usize) -> [u
         ≡ seal key.now iv.now (take start octets.old) (drop start octets.old) }
     ensures front { take start octets.new ≡ take start octets.old }
 {
-    let (extra, text) = octets.split_at_mut(start);
-    seal(key, iv, extra, text)
+    let (aad, text) = octets.split_at_mut(start);
+    seal(key, iv, aad, text)
 }
 
 /// Protects a plain frame of 14 octets or more under a key, and writes the protected frame to `out`

@@ -57,12 +57,12 @@ fn apply_key_stream(key: &GcmKey, iv: &[u8; 12], text: &mut [u8])
 }
 
 /// The tag of additional data and a ciphertext (7.1, steps 4 to 6).
-fn tag_of(key: &GcmKey, iv: &[u8; 12], extra: &[u8], ciphertext: &[u8]) -> [u8; 16]
-    requires extra { length extra.now < 2 ^ 32 }
+fn tag_of(key: &GcmKey, iv: &[u8; 12], aad: &[u8], ciphertext: &[u8]) -> [u8; 16]
+    requires aad { length aad.now < 2 ^ 32 }
     requires text { length ciphertext.now < 2 ^ 32 }
-    ensures { result ≡ authentication_tag key.now iv.now extra.now ciphertext.now }
+    ensures { result ≡ authentication_tag key.now iv.now aad.now ciphertext.now }
 {
-    let mut tag = ghash(key.subkey, extra, ciphertext).to_be_bytes();
+    let mut tag = ghash(key.subkey, aad, ciphertext).to_be_bytes();
     gctr(&key.schedule, &pre_counter_block(iv), &mut tag);
     tag
 }
@@ -83,13 +83,13 @@ fn is_equal(one: &[u8; 16], other: &[u8; 16]) -> bool
 ///
 /// The initialisation vector has 96 bits, and no two calls with one key may have the same (8). The
 /// text and the additional data have any number of octets below 2^32, also none.
-pub fn seal(key: &GcmKey, iv: &[u8; 12], extra: &[u8], text: &mut [u8]) -> [u8; 16]
-    requires extra { length extra.now < 2 ^ 32 }
+pub fn seal(key: &GcmKey, iv: &[u8; 12], aad: &[u8], text: &mut [u8]) -> [u8; 16]
+    requires aad { length aad.now < 2 ^ 32 }
     requires text { length text.old < 2 ^ 32 }
-    ensures { (text.new, result) ≡ seal key.now iv.now extra.now text.old }
+    ensures { (text.new, result) ≡ seal key.now iv.now aad.now text.old }
 {
     apply_key_stream(key, iv, text);
-    tag_of(key, iv, extra, text)
+    tag_of(key, iv, aad, text)
 }
 
 /// Decrypts the text in place and answers true where the tag of 128 bits authenticates the text and
@@ -97,14 +97,14 @@ pub fn seal(key: &GcmKey, iv: &[u8; 12], extra: &[u8], text: &mut [u8]) -> [u8; 
 ///
 /// The text and the additional data have any number of octets below 2^32, also none. The tag is
 /// compared before anything is decrypted, by all of its octets.
-pub fn open(key: &GcmKey, iv: &[u8; 12], extra: &[u8], text: &mut [u8], tag: &[u8; 16]) -> bool
-    requires extra { length extra.now < 2 ^ 32 }
+pub fn open(key: &GcmKey, iv: &[u8; 12], aad: &[u8], text: &mut [u8], tag: &[u8; 16]) -> bool
+    requires aad { length aad.now < 2 ^ 32 }
     requires text { length text.old < 2 ^ 32 }
-    ensures exactly { IsTrue result ↔ Opens key.now iv.now extra.now text.old tag.now }
-    ensures opened { OnTrue result (seal key.now iv.now extra.now text.new ≡ (text.old, tag.now)) }
+    ensures exactly { IsTrue result ↔ Opens key.now iv.now aad.now text.old tag.now }
+    ensures opened { OnTrue result (seal key.now iv.now aad.now text.new ≡ (text.old, tag.now)) }
     ensures same { OnFalse result (text.new ≡ text.old) }
 {
-    if !is_equal(&tag_of(key, iv, extra, text), tag) {
+    if !is_equal(&tag_of(key, iv, aad, text), tag) {
         return false;
     }
     apply_key_stream(key, iv, text);

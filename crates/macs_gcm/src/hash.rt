@@ -33,25 +33,25 @@ fn absorb_padded(subkey: u128, state: u128, octets: &[u8]) -> u128
 }
 
 /// The block of the two lengths in bits, each in 64 bits (7.1, step 5).
-fn lengths_block(extra: &[u8], text: &[u8]) -> u128
-    requires extra { length extra.now < 2 ^ 32 }
+fn lengths_block(aad: &[u8], text: &[u8]) -> u128
+    requires aad { length aad.now < 2 ^ 32 }
     requires text { length text.now < 2 ^ 32 }
     ensures { result ≡ from_be_bytes w128
-        (to_be_bytes w64 (8 * length extra.now) ++ to_be_bytes w64 (8 * length text.now)) }
+        (to_be_bytes w64 (8 * length aad.now) ++ to_be_bytes w64 (8 * length text.now)) }
 {
-    let extra_bits = 8 * extra.len() as u128;
+    let aad_bits = 8 * aad.len() as u128;
     let text_bits = 8 * text.len() as u128;
-    (extra_bits << 64) | text_bits
+    (aad_bits << 64) | text_bits
 }
 
 /// GHASH under the hash subkey: of the additional data and the ciphertext, each padded to whole
 /// blocks, and of the block of their lengths (7.1, step 5).
-pub(crate) fn ghash(subkey: u128, extra: &[u8], text: &[u8]) -> u128
-    requires extra { length extra.now < 2 ^ 32 }
+pub(crate) fn ghash(subkey: u128, aad: &[u8], text: &[u8]) -> u128
+    requires aad { length aad.now < 2 ^ 32 }
     requires text { length text.now < 2 ^ 32 }
-    ensures { result ≡ ghash subkey (blocks_of (hash_input extra.now text.now)) }
+    ensures { result ≡ ghash subkey (blocks_of (hash_input aad.now text.now)) }
 {
-    let after_extra = absorb_padded(subkey, 0, extra);
-    let after_text = absorb_padded(subkey, after_extra, text);
-    mul128(after_text ^ lengths_block(extra, text), subkey)
+    let after_aad = absorb_padded(subkey, 0, aad);
+    let after_text = absorb_padded(subkey, after_aad, text);
+    mul128(after_text ^ lengths_block(aad, text), subkey)
 }

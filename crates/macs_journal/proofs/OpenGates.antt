@@ -1,5 +1,5 @@
 -- Gates of an area closed one by one where they read open, and counted.
-use Rattle.std.proofs.Common.{◌≡◌, ◌≢◌, ◌<◌, ◌≤◌, ◌⊎◌, ◌+◌, inl, inr, ℕ, zero, suc, sym, ◌∙◌, ap, subst, arith, List, get_or}
+use Rattle.std.proofs.Common.{◌≡◌, ◌≢◌, ◌<◌, ◌≤◌, ◌⊎◌, ◌+◌, inl, inr, ℕ, zero, suc, refl, sym, ◌∙◌, ap, subst, arith, List, get_or}
 use Rattle.std.proofs.lemmas.Bool.{cases_eq}
 use Rattle.macs_disk.specs.States.{Image}
 use Rattle.macs_disk.specs.Disk.{Disk, Works, now}
@@ -31,6 +31,27 @@ unfolding HasOpenGates
 gate-counted seen area k count has =
     let is : k + 1 ≡ suc k = omega arith in
     subst (λ (n : ℕ). HasOpenGates seen area n count) is has
+
+-- there is a count
+pub gates-counted : (seen : Image) (area upto : ℕ) → (count : ℕ) × HasOpenGates seen area upto count × (count ≤ upto)
+unfolding HasOpenGates
+gates-counted seen area zero = (0, refl, omega arith)
+gates-counted seen area (suc k) =
+    let below = gates-counted seen area k in
+    elim (open_or_closed (seen (gate area k))) [
+      | inl opens ↦ (below.0 + 1, inl (opens, (below.0, refl, below.1)), let le = below.2 in omega (arith, le))
+      | inr closed ↦ (below.0, inr (closed, below.1), let le = below.2 in omega (arith, le))
+    ]
+
+-- and no other
+pub gates-once : (seen : Image) (area upto a b : ℕ) → HasOpenGates seen area upto a → HasOpenGates seen area upto b → a ≡ b
+unfolding HasOpenGates
+gates-once seen area zero a b has_a has_b = has_a ∙ sym has_b
+gates-once seen area (suc k) a b (inl (opens, (m, a_is, has_m))) (inl (opens_too, (n, b_is, has_n))) =
+    a_is ∙ ap (λ (x : ℕ). x + 1) (gates-once seen area k m n has_m has_n) ∙ sym b_is
+gates-once seen area (suc k) a b (inl (opens, (m, a_is, has_m))) (inr (closed, has_b)) = absurd (closed opens)
+gates-once seen area (suc k) a b (inr (closed, has_a)) (inl (opens, (n, b_is, has_n))) = absurd (closed opens)
+gates-once seen area (suc k) a b (inr (closed, has_a)) (inr (closed_too, has_b)) = gates-once seen area k a b has_a has_b
 
 -- ---- one gate more
 

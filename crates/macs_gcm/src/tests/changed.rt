@@ -8,7 +8,7 @@ fn sealing() -> Sealing {
     Sealing {
         key: [7; 16],
         iv: [9; 12],
-        extra: Octets::by_rule(11, 5, 20),
+        aad: Octets::by_rule(11, 5, 20),
         text: Octets::by_rule(7, 3, 33),
     }
 }
@@ -43,9 +43,9 @@ fn refuses_changed_additional_data(rt: HostRuntime) {
     let mut sealed = sealing();
     let tag = sealed.seal(&rt);
     for i in 0..20 {
-        flip(&rt, sealed.extra.as_mut_slice(), i);
+        flip(&rt, sealed.aad.as_mut_slice(), i);
         check_refused(&rt, &mut sealed, &tag);
-        flip(&rt, sealed.extra.as_mut_slice(), i);
+        flip(&rt, sealed.aad.as_mut_slice(), i);
     }
     assert!(rt; sealed.open(&rt, &tag));
 }

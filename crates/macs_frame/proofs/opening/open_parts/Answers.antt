@@ -28,7 +28,7 @@ append-requires-3 c =
 pieces : (c : After-open_from-is_valid)
     → Pieces c.args.frame.now c.args.sci (octets_of c.args.offset) c.args.parts.now c.clear_end-clear.result c.iv_of-iv.result c.icv_at-icv.result
 pieces c = record {
-  extra_is =
+  aad_is =
       sym (take-append-slice_range c.args.parts.now.start c.clear_end-clear.result c.args.frame.now c.clear_end-clear.ensures.low)
       ∙ ap (λ (l : List ℕ). take c.args.parts.now.start c.args.frame.now ++ l) (c.clear_end-clear.ensures.clear c.args.frame.now);
   clear_is = c.clear_end-clear.ensures.clear c.args.frame.now;
