@@ -8,6 +8,7 @@ pub mod Lent
 pub mod Sides
 pub mod Kept
 pub mod Replayed
+pub mod Listed
 pub mod Refused
 pub mod SpentForGood
 pub mod Editions

@@ -1,6 +1,6 @@
 -- A configuration replayed from the parts of a snapshot of it.
 use Rattle.std.specs.Prelude.{ℕ, ◌+◌, nat_le, nat_lt, Bool, true, false, not, ◌&&◌, if◌then◌else◌, List, [], ◌∷◌, ◌++◌, length, Option, Some, None, is_none, is_some}
-use Rattle.std.specs.Option.{option_map_or}
+use Rattle.std.specs.Option.{option_and_then, option_map, option_map_or}
 use Rattle.std.specs.List.{list_all}
 use Rattle.std.specs.Str.{bytes_eq}
 use Rattle.macs_config.specs.Association.{is_end_station}
@@ -99,3 +99,20 @@ config_of_parts edition identity (part ∷ parts) =
     if nat_le (place_of part) 1 && are_ordered 2 parts
     then whole_config identity (config_with_parts edition identity (config_with_part default part) parts)
     else None
+
+-- ---- parts by their places
+
+-- the parts, if there is one at each place
+abbrev pub all_parts : List (Option Part) → Option (List Part)
+all_parts [] = Some []
+all_parts (one ∷ others) = option_and_then (λ part. option_map (λ parts. part ∷ parts) (all_parts others)) one
+
+-- What the parts at these places make of what those in front of them made, the last of which has this place in a snapshot's
+-- order: None where a place has no part, a part is out of order, or one may not follow.
+abbrev pub config_with_listed : Edition → Identity → ℕ → Config → List (Option Part) → Option Config
+config_with_listed edition identity place c listed =
+    option_and_then (λ parts. if are_ordered place parts then config_with_parts edition identity c parts else None) (all_parts listed)
+
+-- the configuration that the parts at these places make up, None where a place has none, or the snapshot is refused
+abbrev pub config_of_listed : Edition → Identity → List (Option Part) → Option Config
+config_of_listed edition identity listed = option_and_then (λ parts. config_of_parts edition identity parts) (all_parts listed)

@@ -1,10 +1,10 @@
 //! The configuration.
 
-ghost use Rattle.std.specs.Prelude.{◌≡◌, ◌≤◌, ◌↔◌, ℕ, List, length, slice_get, IfSome, None, Some, Ok, Err, IfOk, OnOk, OnErr};
+ghost use Rattle.std.specs.Prelude.{◌≡◌, ◌≤◌, ◌↔◌, ℕ, List, false, if◌then◌else◌, length, slice_get, IfSome, None, Some, Ok, Err, IfOk, OnOk, OnErr};
 ghost use Rattle.std.specs.Option.{option_map};
 ghost use Rattle.macs_config.specs.Apply.{apply, fingerprint_of, refusal_of};
 ghost use Rattle.macs_config.specs.Config.{IsConfig, default, has_channel, is_spent, rx_fingerprint, spent_of, this_edition, tx_fingerprint};
-ghost use Rattle.macs_config.specs.Snapshot.{config_of_parts};
+ghost use Rattle.macs_config.specs.Snapshot.{config_of_listed, config_of_parts};
 ghost use Rattle.macs_config.specs.Value.{config_of};
 
 use crate::association::{RxSa, TxSa};
@@ -16,8 +16,9 @@ use crate::contents::{Contents, MAX_CHANNELS};
 use crate::fingerprint::{Fingerprint, rx_fingerprint, tx_fingerprint};
 use crate::identity::Identity;
 use crate::part::Part;
+use crate::part_source::PartSource;
 use crate::refusal::Refusal;
-use crate::restore::restored;
+use crate::restore::restore;
 use arrayvec::ArrayVec;
 use macs_frame::{An, Sci};
 use std::marker::Model;
@@ -64,11 +65,28 @@ impl Config {
         ensures restored { option_map config_of result ≡ config_of_parts this_edition identity.now parts.now }
         ensures identity { IfSome result (λ config. config.identity ≡ identity.now) }
     {
-        let contents = restored(identity, parts)?;
-        Some(Config {
-            identity: *identity,
-            contents,
-        })
+        let mut config = Config::new(identity);
+        if config.restore_from(&parts) {
+            Some(config)
+        } else {
+            None
+        }
+    }
+
+    /// Makes it, in its place, the configuration that the parts of a snapshot make up under its identity, and
+    /// answers whether there is one. Where a place has no part, or `restore` refuses the parts, it is then what
+    /// an endpoint is formatted with.
+    pub fn restore_from<P: PartSource>(&mut self, parts: &P) -> bool
+        ensures restored { config_of_listed this_edition self.old.identity (P.listed parts.now)
+            ≡ (if result then Some (config_of self.new) else None) }
+        ensures refused { result ≡ false → config_of self.new ≡ default }
+        ensures identity { self.new.identity ≡ self.old.identity }
+    {
+        let is_restored = restore(&self.identity, &mut self.contents, parts);
+        if !is_restored {
+            self.contents.reset();
+        }
+        is_restored
     }
 
     /// What a command that may be applied spends, or the first refusal in the order of `Refusal`.

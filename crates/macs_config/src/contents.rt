@@ -80,6 +80,23 @@ impl Contents {
         }
     }
 
+    /// Makes it what an endpoint is formatted with.
+    pub(crate) fn reset(&mut self)
+        ensures { config_in self.new ≡ default }
+    {
+        self.validate = Validate::Strict;
+        self.replay = Replay {
+            on: true,
+            window: 0,
+        };
+        self.mode = SciMode::Explicit;
+        self.encoding = None;
+        self.tx = [None; ASSOCIATIONS];
+        self.channels.clear();
+        self.spent_tx.clear();
+        self.spent_rx.clear();
+    }
+
     /// Nothing stands at an association number above 3.
     pub(crate) fn facts(&self)
         ensures tx { (an : ℕ) → 4 ≤ an → (config_in self.now).tx an ≡ None }

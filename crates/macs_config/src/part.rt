@@ -58,6 +58,13 @@ impl Fingerprints {
         self.items.try_push(fingerprint).is_ok()
     }
 
+    /// The same fingerprints.
+    pub fn copied(&self) -> Fingerprints
+        ensures { result ≡ self.now }
+    {
+        Fingerprints::from_slice(self.as_slice()).unwrap()
+    }
+
     /// The fingerprints.
     pub fn as_slice(&self) -> &[Fingerprint]
         ensures items { result.now ≡ self.now }
@@ -95,6 +102,38 @@ pub enum Part {
         role: Role,
         fingerprints: Fingerprints,
     },
+}
+
+impl Part {
+    /// The same part.
+    pub(crate) fn copied(&self) -> Part
+        ensures { result ≡ self.now }
+    {
+        match self {
+            Part::Settings {
+                validate,
+                replay,
+                sci_mode,
+                encoding,
+            } => Part::Settings {
+                validate: *validate,
+                replay: *replay,
+                sci_mode: *sci_mode,
+                encoding: *encoding,
+            },
+            Part::TxSa { an, sa } => Part::TxSa { an: *an, sa: *sa },
+            Part::Channel { sci } => Part::Channel { sci: *sci },
+            Part::RxSa { sci, an, sa } => Part::RxSa {
+                sci: *sci,
+                an: *an,
+                sa: *sa,
+            },
+            Part::Spent { role, fingerprints } => Part::Spent {
+                role: *role,
+                fingerprints: fingerprints.copied(),
+            },
+        }
+    }
 }
 
 impl Default for Part {

@@ -1,12 +1,12 @@
-//! A configuration made of the parts of a snapshot.
+//! A configuration made of the parts of a snapshot, in its place.
 
-ghost use Rattle.std.specs.Prelude.{◌≡◌, ◌+◌, ◌&&◌, ◌<◌, [], ◌∷◌, Bool, true, false, not, if◌then◌else◌, length, nat_le, nat_lt, is_none, is_some, Some, None};
-ghost use Rattle.std.specs.Option.{option_map, option_map_or};
+ghost use Rattle.std.specs.Prelude.{◌≡◌, ◌+◌, ◌&&◌, ◌<◌, [], ◌∷◌, Bool, true, false, not, if◌then◌else◌, drop, length, nat_le, nat_lt, is_none, is_some, IfSome, Some, None};
+ghost use Rattle.std.specs.Option.{option_map_or};
 ghost use Rattle.std.specs.List.{list_all};
 ghost use Rattle.std.specs.Str.{bytes_eq};
-ghost use Rattle.macs_config.specs.Config.{are_distinct, default, has_channel, is_spent, max_spent, put_among, spent_of, this_edition, tx_fingerprint};
+ghost use Rattle.macs_config.specs.Config.{are_distinct, has_channel, is_spent, max_spent, put_among, spent_of, this_edition, tx_fingerprint};
 ghost use Rattle.macs_config.specs.Identity.{is_port_one};
-ghost use Rattle.macs_config.specs.Snapshot.{are_new, are_ordered, is_rx_spent, is_tx_spent, is_whole, may_follow, every_an, place_of, config_of_parts, config_with_part, config_with_parts};
+ghost use Rattle.macs_config.specs.Snapshot.{are_new, is_rx_spent, is_tx_spent, is_whole, may_follow, every_an, place_of, config_of_listed, config_with_listed, config_with_part};
 ghost use Rattle.macs_config.specs.Value.{config_in};
 ghost use Rattle.macs_config.specs.Tables.{put, put_at};
 ghost use Rattle.macs_config.specs.declared.part.Part.TheVariants.{Spent};
@@ -18,62 +18,71 @@ use crate::contents::{Contents, MAX_CHANNELS};
 use crate::fingerprint::{Fingerprint, is_spent, rx_fingerprint, tx_fingerprint};
 use crate::identity::Identity;
 use crate::part::Part;
+use crate::part_source::PartSource;
 use crate::spent_keys::{MAX_SPENT, SpentKeys};
 use macs_frame::{An, Sci};
 
 /// The place of the first parts behind the settings, in the order of a snapshot.
 const BEHIND_SETTINGS: u8 = 2;
 
-/// What the parts of a snapshot make up, `None` where the snapshot is refused.
-pub(crate) fn restored(identity: &Identity, parts: &[Part]) -> Option<Contents>
-    ensures { option_map config_in result ≡ config_of_parts this_edition identity.now parts.now }
+/// Makes it what the parts of a snapshot make up, and answers whether they make up something; where the
+/// snapshot is refused, nothing is said of what is left.
+pub(crate) fn restore<P: PartSource>(
+    identity: &Identity,
+    contents: &mut Contents,
+    parts: &P,
+) -> bool
+    ensures { config_of_listed this_edition identity.now (P.listed parts.now)
+        ≡ (if result then Some (config_in contents.new) else None) }
 {
-    let (first, rest) = parts.split_first()?;
-    let contents = replayed(identity, settled(first)?, rest)?;
-    if is_whole(identity, &contents) {
-        Some(contents)
-    } else {
-        None
+    contents.reset();
+    if !settle(contents, parts.part(0)) {
+        return false;
     }
+    add_all(identity, contents, parts) && is_whole(identity, contents)
 }
 
-/// The settings of a first part, on what an endpoint is formatted with; `None` for another part.
-fn settled(first: &Part) -> Option<Contents>
-    ensures { option_map config_in result
-        ≡ (if nat_le (place_of first.now) 1 then Some (config_with_part default first.now) else None) }
+/// Takes the settings of a first part, and answers whether it has settings.
+fn settle(contents: &mut Contents, first: Option<Part>) -> bool
+    ensures test { result ≡ option_map_or (λ part. nat_le (place_of part) 1) first false }
+    ensures settled { result ≡ true → IfSome first (λ part. config_in contents.new ≡ config_with_part (config_in contents.old) part) }
 {
-    match first {
+    let Some(
         Part::Settings {
             validate,
             replay,
             sci_mode,
             encoding,
-        } => Some(Contents {
-            validate: *validate,
-            replay: *replay,
-            mode: *sci_mode,
-            encoding: *encoding,
-            ..Contents::new()
-        }),
-        _ => None,
-    }
+        },
+    ) = first
+    else {
+        return false;
+    };
+    contents.validate = validate;
+    contents.replay = replay;
+    contents.mode = sci_mode;
+    contents.encoding = encoding;
+    true
 }
 
-/// The parts behind the settings, added in turn; `None` where one is out of order, or may not follow
-/// those in front of it.
-fn replayed(identity: &Identity, mut contents: Contents, parts: &[Part]) -> Option<Contents>
-    ensures { option_map config_in result
-        ≡ (if are_ordered 2 parts.now then config_with_parts this_edition identity.now (config_in contents) parts.now else None) }
+/// Adds the parts behind the settings in turn, and answers whether there is one at each place, none is out
+/// of order, and each may follow those in front of it.
+fn add_all<P: PartSource>(identity: &Identity, contents: &mut Contents, parts: &P) -> bool
+    ensures { config_with_listed this_edition identity.now 2 (config_in contents.old) (drop 1 (P.listed parts.now))
+        ≡ (if result then Some (config_in contents.new) else None) }
 {
     let mut place = BEHIND_SETTINGS;
-    for part in parts {
-        let next = place_of(part);
-        if next < place || !add(identity, &mut contents, part) {
-            return None;
+    for at in 1..parts.count() {
+        let Some(part) = parts.part(at) else {
+            return false;
+        };
+        let next = place_of(&part);
+        if next < place || !add(identity, contents, &part) {
+            return false;
         }
         place = next;
     }
-    Some(contents)
+    true
 }
 
 /// A part's place in the order of a snapshot, 1 to 6.

@@ -46,6 +46,14 @@ impl SpentKeys {
         }
     }
 
+    /// Takes all keys away.
+    pub(crate) fn clear(&mut self)
+        ensures { self.new ≡ [] }
+    {
+        self.fingerprints.clear();
+        self.filter = [false; FLAGS];
+    }
+
     /// How many keys are spent, at most 512.
     pub(crate) fn len(&self) -> usize
         ensures count { result ≡ length self.now }

@@ -23,7 +23,7 @@ use Rattle.macs_store.specs.Standing.{Standing, standing_or_refusal, ceilings_af
 use Rattle.macs_store.specs.Table.{standing_of}
 use Rattle.macs_store.proofs.Keeping.{accepted-in_range}
 use Rattle.macs_store.specs.declared.fault.CommitFault.{CommitFault}
-use Rattle.macs_store.specs.declared.fault.CommitFault.TheVariants.{AreaFull, Disk, Refused, Stopped}
+use Rattle.macs_store.specs.declared.fault.CommitFault.TheVariants.{Disk, GenerationsSpent, Refused, Stopped}
 use Rattle.macs_endpoint.specs.Calls.{Fails, IsCall}
 use Rattle.macs_endpoint.specs.Counting.{channel_counters_after_command}
 use Rattle.macs_endpoint.specs.Value.{AreChannels, AreWithin, EndpointValue, IsBacked, IsSoundEndpoint, disk_in, is_stopped, state_of}
@@ -98,11 +98,11 @@ module _ {D : Type 0} (disk_of : D → disk.Disk) (e : EndpointValue D) (kept : 
       let s = standing_in e.store in
       unchanged (Refused refusal)
       (λ logs. inr (both.0, (by_refused s command (apply s.edition s.identity s.config command) refusal both.1, refl))) refl tt refl
-  unchanged_by AreaFull other commits =
-      let all = commits.full.0 refl in
+  unchanged_by GenerationsSpent other commits =
+      let both = commits.spent.0 refl in
       let s = standing_in e.store in
-      unchanged AreaFull
-      (λ logs. inr (all.0, (by_accepted s command (apply s.edition s.identity s.config command) all.1, refl))) refl all.2 refl
+      unchanged GenerationsSpent
+      (λ logs. inr (both.1.0, (by_accepted s command (apply s.edition s.identity s.config command) both.0, refl))) refl both.1 refl
 
   not_disk : (fault : CommitFault) (s : store.StoreValue D) → (fault ≡ Disk → ⊥) → IsErrOf {T = Unit {0}} (Err fault) Disk ⊎ (s ≡ e.store) → s ≡ e.store
   not_disk fault s other either = elim either [

@@ -8,7 +8,7 @@ use Rattle.macs_disk.specs.Disk as disk
 use Rattle.macs_disk.specs.Runs.{Leaves}
 use Rattle.macs_disk.specs.States.{Image}
 use Rattle.macs_disk.proofs.Moments.{Leaves-now, Leaves-start, Leaves-weaker, Works-start}
-use Rattle.macs_journal.specs.Areas.{least_sectors, slots}
+use Rattle.macs_journal.specs.Areas.{least_sectors}
 use Rattle.macs_journal.specs.declared.fault.JournalFault.{JournalFault}
 use Rattle.macs_journal.specs.declared.fault.JournalFault.TheVariants as fault
 use Rattle.macs_txsc.specs.Transmit.{TxSide}
@@ -17,8 +17,8 @@ use Rattle.macs_txsc.specs.declared.channel.Tx.{Tx}
 use Rattle.macs_rxsc.specs.Receive.{Numbers, RxSide}
 use Rattle.macs_rxsc.specs.Value as rxsc
 use Rattle.macs_store.specs.Found.{StandsForEither}
-use Rattle.macs_store.specs.Keeps.{Keeps}
-use Rattle.macs_store.specs.Value.{standing_in, used_slots}
+use Rattle.macs_store.specs.Keeps.{IsSpent, Keeps}
+use Rattle.macs_store.specs.Value.{standing_in}
 use Rattle.macs_store.specs.Value as store
 use Rattle.macs_store.specs.Standing.{Ceilings, Standing}
 use Rattle.macs_store.specs.Table.{standing_of}
@@ -149,10 +149,10 @@ module _ {D : Type 0} (disk_of : D → disk.Disk) (e : EndpointValue D) (kept : 
           channel_counters = refl;
         }
 
-    full_reserves : (other : store.StoreValue D) → e.store ≡ other → used_slots e.store ≡ slots
-        → Reserves disk_of e (Err refill.AreaFull) (record { store = other; tx = e.tx; rx = e.rx; in_hand = e.in_hand })
-    full_reserves other same full =
-        subst (λ (x : store.StoreValue D). Reserves disk_of e (Err refill.AreaFull) (record { store = x; tx = e.tx; rx = e.rx; in_hand = e.in_hand })) same
+    spent_reserves : (other : store.StoreValue D) → e.store ≡ other → IsSpent e.store
+        → Reserves disk_of e (Err refill.GenerationsSpent) (record { store = other; tx = e.tx; rx = e.rx; in_hand = e.in_hand })
+    spent_reserves other same spent =
+        subst (λ (x : store.StoreValue D). Reserves disk_of e (Err refill.GenerationsSpent) (record { store = x; tx = e.tx; rx = e.rx; in_hand = e.in_hand })) same
         (record {
           step = λ logs. refl;
           works = Works-start (disk_in disk_of e);
@@ -160,7 +160,7 @@ module _ {D : Type 0} (disk_of : D → disk.Disk) (e : EndpointValue D) (kept : 
           any_moment = λ honest backed logs. Leaves-start (disk_in disk_of e) (FitsState (state_of e logs) (disk_in disk_of e))
               (λ image left. backed.fits logs image left);
           backed = λ honest backed. backed;
-          limited = full;
+          limited = spent;
           tx_counters = refl;
           rx_counters = refl;
           channel_counters = refl;
@@ -173,16 +173,16 @@ module _ {D : Type 0} (disk_of : D → disk.Disk) (e : EndpointValue D) (kept : 
     ]
 
     by_name : (at : JournalFault) → Keeps disk_of e.store raised_to (Err at) s
-        → (at ≡ fault.Stopped) ⊎ ((at ≡ fault.AreaFull) ⊎ (at ≡ fault.Disk))
+        → (at ≡ fault.Stopped) ⊎ ((at ≡ fault.GenerationsSpent) ⊎ (at ≡ fault.Disk))
         → Reserves disk_of e (Err (refill_fault_of at)) kept_in × (standing_in s ≡ standing_in e.store)
         × (store.is_stopped s ≡ false → e.in_hand ≡ None)
     by_name at raises (inl is) = absurd (let told = raises.stopped.0 (ap Err is) in cc)
     by_name at raises (inr (inl is)) =
-        let told : Keeps disk_of e.store raised_to (Err fault.AreaFull) s =
+        let told : Keeps disk_of e.store raised_to (Err fault.GenerationsSpent) s =
         subst (λ (x : JournalFault). Keeps disk_of e.store raised_to (Err x) s) is raises in
-        let same = stays fault.AreaFull (λ clash. cc) told.same in (
+        let same = stays fault.GenerationsSpent (λ clash. cc) told.same in (
           subst (λ (x : JournalFault). Reserves disk_of e (Err (refill_fault_of x)) kept_in) (sym is)
-              (full_reserves s (sym same) (told.full.0 refl).1),
+              (spent_reserves s (sym same) (told.spent.0 refl)),
           ap (λ (x : store.StoreValue D). standing_in x) same,
           λ going. kept.idle running,
         )
@@ -195,8 +195,8 @@ module _ {D : Type 0} (disk_of : D → disk.Disk) (e : EndpointValue D) (kept : 
         )
 
     named_fault : (at : JournalFault)
-        → IsErrOf {T = Unit {0}} (Err at) fault.Stopped ⊎ (IsErrOf {T = Unit {0}} (Err at) fault.AreaFull ⊎ IsErrOf {T = Unit {0}} (Err at) fault.Disk)
-        → (at ≡ fault.Stopped) ⊎ ((at ≡ fault.AreaFull) ⊎ (at ≡ fault.Disk))
+        → IsErrOf {T = Unit {0}} (Err at) fault.Stopped ⊎ (IsErrOf {T = Unit {0}} (Err at) fault.GenerationsSpent ⊎ IsErrOf {T = Unit {0}} (Err at) fault.Disk)
+        → (at ≡ fault.Stopped) ⊎ ((at ≡ fault.GenerationsSpent) ⊎ (at ≡ fault.Disk))
     named_fault at (inl is) = inl cc
     named_fault at (inr (inl is)) = inr (inl cc)
     named_fault at (inr (inr is)) = inr (inr cc)

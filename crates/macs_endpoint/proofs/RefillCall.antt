@@ -45,14 +45,14 @@ module _ {D : Type 0} (disk_of : D → disk.Disk) where
       → Fails mid new (Refilled result) → Fails old new (Refilled result)
   fails_on old mid new (Ok done) steady fails = fails ∙ steady
   fails_on old mid new (Err refill.Stopped) steady fails = fails ∙ steady
-  fails_on old mid new (Err refill.AreaFull) steady fails = fails ∙ steady
+  fails_on old mid new (Err refill.GenerationsSpent) steady fails = fails ∙ steady
   fails_on old mid new (Err refill.Disk) steady fails = FailsOnce-before old mid new steady fails
 
   limited_on : (old mid new : EndpointValue D) (result : Result (Unit {0}) RefillFault) → IsLimited mid Refills (Refilled result) new
       → IsLimited old Refills (Refilled result) new
   limited_on old mid new (Ok done) limited = tt
   limited_on old mid new (Err refill.Stopped) limited = tt
-  limited_on old mid new (Err refill.AreaFull) limited = limited
+  limited_on old mid new (Err refill.GenerationsSpent) limited = limited
   limited_on old mid new (Err refill.Disk) limited = tt
 
   pub reserves-on : (old mid new : EndpointValue D) (result : Result (Unit {0}) RefillFault) → Reserves disk_of old (Ok tt) mid → Reserves disk_of mid result new
@@ -94,7 +94,7 @@ module _ {D : Type 0} (disk_of : D → disk.Disk) where
   still_by : (old new : EndpointValue D) (result : Result (Unit {0}) RefillFault) → RefillStep (state_of old no_logs) result (state_of new no_logs)
       → IsStill old Refills (Refilled result) new
   still_by old new (Ok done) step = tt
-  still_by old new (Err refill.AreaFull) step = tt
+  still_by old new (Err refill.GenerationsSpent) step = tt
   still_by old new (Err refill.Disk) step = tt
   still_by old new (Err refill.Stopped) step = absurd step
 
@@ -167,7 +167,7 @@ module _ {D : Type 0} (disk_of : D → disk.Disk) where
         → IsRefilled (tx_side (state_of old no_logs)) (rx_side (state_of old no_logs)) (standing_in old.store) (standing_in new.store) (Some raise)
         → StandsRefilled (tx_side (state_of old no_logs)) (rx_side (state_of old no_logs)) (standing_in old.store) (Err fault) (standing_in new.store)
     stands_by refill.Stopped raise step is = absurd step
-    stands_by refill.AreaFull raise step is = (raise, is)
+    stands_by refill.GenerationsSpent raise step is = (raise, is)
     stands_by refill.Disk raise step is = (raise, is)
 
     pub cut-refill : is_stopped old ≡ false → (fault : RefillFault) (raise : Raise) → raise_in mid ≡ Some raise

@@ -203,8 +203,8 @@ module _ (count used an : ℕ) (s t : State) (f g : Standing) where
       covers_stay (frames_in_reply s.config.encoding an (Ran (Err fault))) (ap next_of step.2) stands covers
   covers_step (Commands command) (Ran (Err (commit.Refused refusal))) (inr step) stands keeps covers =
       covers_stay (frames_in_reply s.config.encoding an (Ran (Err (commit.Refused refusal)))) (ap next_of step.1.1) stands covers
-  covers_step (Commands command) (Ran (Err commit.AreaFull)) (inr step) stands keeps covers =
-      covers_stay (frames_in_reply s.config.encoding an (Ran (Err commit.AreaFull))) (ap next_of step.1.1) stands covers
+  covers_step (Commands command) (Ran (Err commit.GenerationsSpent)) (inr step) stands keeps covers =
+      covers_stay (frames_in_reply s.config.encoding an (Ran (Err commit.GenerationsSpent))) (ap next_of step.1.1) stands covers
   covers_step (Commands command) (Ran (Err commit.Disk)) (inr step) stands keeps covers =
       covers_stay (frames_in_reply s.config.encoding an (Ran (Err commit.Disk))) (ap next_of step.1.1) stands covers
   covers_step (Commands command) (Ran (Err commit.Stopped)) (inr step) stands keeps covers = absurd step.1
@@ -221,10 +221,10 @@ module _ (count used an : ℕ) (s t : State) (f g : Standing) where
       covers_next (frames_in_reply s.config.encoding an (Refilled (Ok done))) (ap next_of step.1) (covers_refilled (stands.raises, stands.raised) covers)
   covers_step Refills (Refilled (Err refill.Stopped)) (inl step) stands keeps covers =
       covers_stay (frames_in_reply s.config.encoding an (Refilled (Err refill.Stopped))) (ap next_of step.2) stands covers
-  covers_step Refills (Refilled (Err refill.AreaFull)) (inl step) stands keeps covers = absurd step.1
+  covers_step Refills (Refilled (Err refill.GenerationsSpent)) (inl step) stands keeps covers = absurd step.1
   covers_step Refills (Refilled (Err refill.Disk)) (inl step) stands keeps covers = absurd step.1
-  covers_step Refills (Refilled (Err refill.AreaFull)) (inr step) stands keeps covers =
-      covers_next (frames_in_reply s.config.encoding an (Refilled (Err refill.AreaFull))) (ap next_of step.1)
+  covers_step Refills (Refilled (Err refill.GenerationsSpent)) (inr step) stands keeps covers =
+      covers_next (frames_in_reply s.config.encoding an (Refilled (Err refill.GenerationsSpent))) (ap next_of step.1)
       (covers_refilled (stands.1.raises, stands.1.raised) covers)
   covers_step Refills (Refilled (Err refill.Disk)) (inr step) stands keeps covers =
       covers_next (frames_in_reply s.config.encoding an (Refilled (Err refill.Disk))) (ap next_of step.1)
@@ -334,7 +334,7 @@ module _ (sci : List ℕ) (an pn : ℕ) (s : State) (f g : Standing) where
   under_stands Refills (Ran result) stands keeps under = under_same stands under
   under_stands Refills (Refilled (Ok done)) stands keeps under = under_refilled (stands.raises, stands.raised) under
   under_stands Refills (Refilled (Err refill.Stopped)) stands keeps under = under_same stands under
-  under_stands Refills (Refilled (Err refill.AreaFull)) stands keeps under = under_refilled (stands.1.raises, stands.1.raised) under
+  under_stands Refills (Refilled (Err refill.GenerationsSpent)) stands keeps under = under_refilled (stands.1.raises, stands.1.raised) under
   under_stands Refills (Refilled (Err refill.Disk)) stands keeps under = under_refilled (stands.1.raises, stands.1.raised) under
   under_stands Refills (Protected result out) stands keeps under = under_same stands under
   under_stands Refills (Received result out) stands keeps under = under_same stands under

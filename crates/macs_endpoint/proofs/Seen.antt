@@ -114,7 +114,7 @@ module _ (sci : List ℕ) (an pn : ℕ) where
         subst (λ (x : State). HasSeen (x.numbers sci an) pn) (sym step.1.2) (seen-command command s.numbers spares seen)
     seen-step (Commands command) (Ran (Err fault)) (inl step) spares seen = seen-same (ap numbers_in step.2) seen
     seen-step (Commands command) (Ran (Err (commit.Refused refusal))) (inr step) spares seen = seen-same (ap numbers_in step.1.1) seen
-    seen-step (Commands command) (Ran (Err commit.AreaFull)) (inr step) spares seen = seen-same (ap numbers_in step.1.1) seen
+    seen-step (Commands command) (Ran (Err commit.GenerationsSpent)) (inr step) spares seen = seen-same (ap numbers_in step.1.1) seen
     seen-step (Commands command) (Ran (Err commit.Disk)) (inr step) spares seen = seen-same (ap numbers_in step.1.1) seen
     seen-step (Commands command) (Ran (Err commit.Stopped)) (inr step) spares seen = absurd step.1
     seen-step (Commands command) (Refilled result) (inl step) spares seen = absurd step.1
@@ -128,7 +128,7 @@ module _ (sci : List ℕ) (an pn : ℕ) where
     seen-step Refills (Refilled (Ok done)) (inl step) spares seen = absurd step.1
     seen-step Refills (Refilled (Ok done)) (inr step) spares seen = seen-same (ap numbers_in step.1) seen
     seen-step Refills (Refilled (Err fault)) (inl step) spares seen = seen-same (ap numbers_in step.2) seen
-    seen-step Refills (Refilled (Err refill.AreaFull)) (inr step) spares seen = seen-same (ap numbers_in step.1) seen
+    seen-step Refills (Refilled (Err refill.GenerationsSpent)) (inr step) spares seen = seen-same (ap numbers_in step.1) seen
     seen-step Refills (Refilled (Err refill.Disk)) (inr step) spares seen = seen-same (ap numbers_in step.1) seen
     seen-step Refills (Refilled (Err refill.Stopped)) (inr step) spares seen = absurd step.1
     seen-step Refills (Protected result out) (inl step) spares seen = absurd step.1

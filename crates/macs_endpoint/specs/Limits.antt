@@ -4,19 +4,19 @@ use Rattle.macs_txsc.specs.Transmit.{is_at_ceiling, next_outgoing}
 use Rattle.macs_txsc.specs.declared.fault.TxFault.TheVariants.{NoNumber}
 use Rattle.macs_rxsc.specs.Receive.{Arrival, Arrives, is_below}
 use Rattle.macs_rxsc.specs.declared.verdict.Verdict.TheVariants.{HeldBack}
-use Rattle.macs_journal.specs.Areas.{slots}
-use Rattle.macs_store.specs.Value.{standing_in, used_slots}
+use Rattle.macs_store.specs.Keeps.{IsSpent}
+use Rattle.macs_store.specs.Value.{standing_in}
 use Rattle.macs_store.specs.declared.fault.CommitFault.TheVariants as commit
 use Rattle.macs_endpoint.specs.Value.{EndpointValue, state_of}
 use Rattle.macs_endpoint.specs.State.{Call, Commands, Protects, Protected, Ran, Received, Receives, Refilled, Refills, Reply, no_logs, rx_side, tx_side}
 use Rattle.macs_endpoint.specs.declared.fault.ProtectFault.TheVariants.{Tx}
 use Rattle.macs_endpoint.specs.declared.fault.RefillFault.TheVariants as refill
 
--- AreaFull only where all slots of the current area are used, NoNumber only where the next number is the ceiling, HeldBack only
--- where a number is not below it
+-- GenerationsSpent only where all slots of the current area are used and its generation is the last, NoNumber only where the next number
+-- is the ceiling, HeldBack only where a number is not below it
 abbrev pub IsLimited : {D : Type 0} → EndpointValue D → Call → Reply → EndpointValue D → Type 0
-IsLimited old (Commands command) (Ran (Err commit.AreaFull)) new = used_slots old.store ≡ slots
-IsLimited old Refills (Refilled (Err refill.AreaFull)) new = used_slots new.store ≡ slots
+IsLimited old (Commands command) (Ran (Err commit.GenerationsSpent)) new = IsSpent old.store
+IsLimited old Refills (Refilled (Err refill.GenerationsSpent)) new = IsSpent new.store
 IsLimited old (Protects plain) (Protected (Err (Tx NoNumber)) out) new =
     is_at_ceiling (standing_in old.store).ceilings.tx (next_outgoing (tx_side (state_of old no_logs))) ≡ true
 IsLimited old (Receives frame) (Received (Ok HeldBack) out) new =

@@ -56,7 +56,7 @@ abbrev pub CommandStep : State → Command → Result (Unit {0}) CommitFault →
 CommandStep old command (Ok done) new = Makes old command new
 CommandStep old command (Err (commit.Refused refusal)) new =
     (apply old.edition old.identity old.config command ≡ Err refusal) × (new ≡ old)
-CommandStep old command (Err commit.AreaFull) new = Accepts old command × (new ≡ old)
+CommandStep old command (Err commit.GenerationsSpent) new = Accepts old command × (new ≡ old)
 CommandStep old command (Err commit.Disk) new = Accepts old command × (new ≡ state_after_fault (state_with_in_hand old command))
 CommandStep old command (Err commit.Stopped) new = ⊥
 
@@ -65,7 +65,7 @@ CommandStep old command (Err commit.Stopped) new = ⊥
 -- A refill leaves the state, which has no ceilings, as it was, unless a device call failed.
 abbrev pub RefillStep : State → Result (Unit {0}) RefillFault → State → Type 0
 RefillStep old (Ok done) new = new ≡ old
-RefillStep old (Err refill.AreaFull) new = new ≡ old
+RefillStep old (Err refill.GenerationsSpent) new = new ≡ old
 RefillStep old (Err refill.Disk) new = new ≡ state_after_fault old
 RefillStep old (Err refill.Stopped) new = ⊥
 

@@ -1,11 +1,10 @@
 //! An endpoint: its channels and its store.
 
-ghost use Rattle.std.specs.Prelude.{◌≡◌, ◌<◌, ◌≤◌, ◌+◌};
+ghost use Rattle.std.specs.Prelude.{◌≡◌, ◌≤◌, ◌+◌};
 ghost use Rattle.std.specs.Option.{option_map};
 ghost use Rattle.macs_config.specs.Value.{config_of};
-ghost use Rattle.macs_journal.specs.Areas.{slots};
 ghost use Rattle.macs_rxsc.specs.Receive.{Numbers};
-ghost use Rattle.macs_store.specs.Value.{used_slots};
+ghost use Rattle.macs_store.specs.Keeps.{most_calls};
 ghost use Rattle.macs_endpoint.specs.Calls.{IsCall};
 ghost use Rattle.macs_endpoint.specs.Opening.{IsOpening};
 ghost use Rattle.macs_endpoint.specs.Value.{EndpointValue, IsSoundEndpoint, device_in, disk_in, state_of};
@@ -19,6 +18,7 @@ use macs_config::{Command, Config, Identity};
 use macs_disk::SectorDisk;
 use macs_frame::laws::octets_in_range;
 use macs_frame::{An, FrameBuf, Pn, Sci};
+use macs_journal::{Records, no_records};
 use macs_rxsc::{RxNumbers, Verdict};
 use macs_store::{OpenRefused, Store};
 use std::marker::Model;
@@ -45,10 +45,23 @@ impl<D: SectorDisk> Endpoint<D> {
     /// Opens a disk: makes sure of what reads give by one sync, and then only reads. The packet numbers
     /// of each association begin at its ceiling, and nothing is counted. Refused as `TooSmall`, then as
     /// `Disk` at the first call that fails, `NotFormatted` and `BadJournal`; the disk is given back.
+    #[inline(never)]
     pub fn open(disk: D) -> Result<Endpoint<D>, OpenRefused<D>>
         ensures { IsOpening D.disk disk result }
     {
-        let store = Store::open(disk)?;
+        let mut records = no_records();
+        Endpoint::open_with(disk, &mut records)
+    }
+
+    /// Opens a disk as `open` does, with an array that is lent for its records.
+    #[inline(never)]
+    fn open_with(disk: D, records: &mut Records) -> Result<Endpoint<D>, OpenRefused<D>>
+        ensures { IsOpening D.disk disk result }
+    {
+        let store = match Store::open_with(disk, records) {
+            Ok(store) => store,
+            Err(refused) => return Err(refused),
+        };
         let channels = Channels::opened(&store);
         identity_in_range(&store.identity());
         channels.tx.facts();
@@ -61,12 +74,11 @@ impl<D: SectorDisk> Endpoint<D> {
     }
 
     /// Keeps a command and follows it. Refused as `Stopped`, then as `Refused` with the first refusal
-    /// that holds, then as `AreaFull`; these change nothing. `Disk` at the first device call that
+    /// that holds, then as `GenerationsSpent`; these change nothing. `Disk` at the first device call that
     /// fails: the endpoint is stopped, and the next opening finds it with the command or without.
     pub fn command(&mut self, command: Command) -> Result<(), CommandFault>
         ensures call { IsCall D.disk self.old (Commands command) (Ran result) self.new }
-        ensures four { used_slots self.old.store < slots
-            → (disk_in D.disk self.new).clock ≤ (disk_in D.disk self.old).clock + 4 }
+        ensures most { (disk_in D.disk self.new).clock ≤ (disk_in D.disk self.old).clock + most_calls self.old.store }
     {
         command_in_range(&command);
         let outcome = self.store.commit(&command);

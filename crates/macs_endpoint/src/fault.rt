@@ -12,8 +12,9 @@ pub use macs_store::CommitFault as CommandFault;
 pub enum RefillFault {
     /// A device call failed before: the disk is to be opened again.
     Stopped,
-    /// All 256 slots of the journal's current area are used.
-    AreaFull,
+    /// All 256 slots of the journal's current area are used, and its generation is 2^64 - 1: it cannot
+    /// begin anew. No further ceiling is raised.
+    GenerationsSpent,
     /// A device call failed.
     Disk,
 }
@@ -27,7 +28,7 @@ impl From<JournalFault> for RefillFault {
     fn from(fault: JournalFault) -> RefillFault {
         match fault {
             JournalFault::Stopped => RefillFault::Stopped,
-            JournalFault::AreaFull => RefillFault::AreaFull,
+            JournalFault::GenerationsSpent => RefillFault::GenerationsSpent,
             _ => RefillFault::Disk,
         }
     }

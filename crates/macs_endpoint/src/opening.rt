@@ -25,6 +25,7 @@ pub use macs_store::OpenRefused;
 
 impl Channels {
     /// The channels that a store has. The packet numbers of each association begin at its ceiling.
+    #[inline(never)]
     pub(crate) fn opened<D: SectorDisk>(store: &Store<D>) -> Channels
         ensures tx { txsc.tx_side_of result.tx
             ≡ tx_side_with (standing_in store.now).identity (standing_in store.now).config (standing_in store.now).ceilings.tx }

@@ -27,7 +27,7 @@ pub(crate) enum Raise {
 impl<D: SectorDisk> Endpoint<D> {
     /// Makes every reservation of packet numbers that is needed: that of the transmit association that
     /// frames go out under, then those of receive associations by ascending SCI and number. Refused as
-    /// `Stopped`, then as `AreaFull`, and as `Disk` at the first device call that fails. What was
+    /// `Stopped`, then as `GenerationsSpent`, and as `Disk` at the first device call that fails. What was
     /// reserved before a fault stays.
     pub fn refill(&mut self) -> Result<(), RefillFault>
         ensures call { IsCall D.disk self.old Refills (Refilled result) self.new }

@@ -2,6 +2,7 @@
 //! packet numbers on either side.
 
 mod commands;
+mod compactions;
 mod counting;
 mod formatting;
 mod frames;
@@ -10,6 +11,7 @@ mod sending;
 mod serving;
 mod steps;
 mod stops;
+mod torn;
 
 use frames::{PEER, PEER_KEY};
 use macs_config::{Command, Identity};

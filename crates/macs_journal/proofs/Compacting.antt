@@ -1,5 +1,5 @@
 -- A compaction of a journal in memory.
-use Rattle.std.proofs.Common.{◌≡◌, ◌⊎◌, ◌↔◌, ◌+◌, ◌-◌, ◌^◌, ◌∙◌, ℕ, true, false, inl, inr, sym, ap, refl, subst, arith, List, length, Result, Err, IsErrOf}
+use Rattle.std.proofs.Common.{◌≡◌, ◌⊎◌, ◌↔◌, ◌+◌, ◌∙◌, ℕ, true, false, inl, inr, sym, ap, refl, subst, arith, List, length, Result, Err, IsErrOf}
 use Rattle.macs_disk.specs.Disk.{now}
 use Rattle.macs_disk.specs.Disk as disk
 use Rattle.macs_disk.specs.Runs.{Leaves}
@@ -8,9 +8,9 @@ use Rattle.macs_record.specs.Heads.{Head}
 use Rattle.macs_record.specs.declared.record.Record.{Record}
 use Rattle.macs_journal.specs.Appending.{HasEitherJournal, IsReady}
 use Rattle.macs_journal.specs.Areas.{gates, other_area}
-use Rattle.macs_journal.specs.Compacting.{CompactWrites, Compacts, FindsUntil, HasOpenGates, compacted, next_head}
+use Rattle.macs_journal.specs.Compacting.{CompactWrites, Compacts, FindsUntil, HasOpenGates, compacted, last_generation, next_head}
 use Rattle.macs_journal.specs.Found.{Content, HasJournal}
-use Rattle.macs_journal.specs.Value.{HoldsContent, IsHolding, JournalValue, disk_in, is_stopped}
+use Rattle.macs_journal.specs.Value.{HoldsContent, IsHolding, JournalValue, disk_in, generation, is_stopped}
 use Rattle.macs_journal.specs.Work.{FailsWith, IsSpared}
 use Rattle.macs_journal.specs.declared.fault.JournalFault.{JournalFault}
 use Rattle.macs_journal.specs.declared.fault.JournalFault.TheVariants.{Disk, GenerationsSpent, Stopped}
@@ -37,7 +37,7 @@ refused fault = Err fault
 
 module _ {D : Type 0} (disk_of : D → disk.Disk) (j : JournalValue D) (records : List Record) where
   pub refused-compacts : (fault : JournalFault) → IsErrOf (refused fault) Stopped ↔ (is_stopped j ≡ true)
-      → IsErrOf (refused fault) GenerationsSpent ↔ ((is_stopped j ≡ false) × (j.place.head.generation ≡ 2 ^ 64 - 1))
+      → IsErrOf (refused fault) GenerationsSpent ↔ ((is_stopped j ≡ false) × (generation j ≡ last_generation))
       → IsErrOf (refused fault) Stopped ⊎ (IsErrOf (refused fault) GenerationsSpent ⊎ IsErrOf (refused fault) Disk)
       → ¬ IsErrOf (refused fault) Disk → FailsWith (disk_in disk_of j) (disk_in disk_of j) fault → Compacts disk_of j records (refused fault) j
   refused-compacts fault stopped spent names not_disk fails = record {

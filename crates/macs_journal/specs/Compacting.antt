@@ -9,11 +9,15 @@ use Rattle.macs_record.specs.declared.record.Record.{Record}
 use Rattle.macs_journal.specs.Appending.{HasEitherJournal}
 use Rattle.macs_journal.specs.Areas.{gate, gates, head_body, other_area, slot_body}
 use Rattle.macs_journal.specs.Found.{Content, HasJournal, IsGateOpen}
-use Rattle.macs_journal.specs.Value.{HoldsContent, IsIdle, JournalValue, disk_in, is_stopped}
+use Rattle.macs_journal.specs.Value.{HoldsContent, IsIdle, JournalValue, disk_in, generation, is_stopped}
 use Rattle.macs_journal.specs.Work.{IsSpared, IsWorkOf}
 use Rattle.macs_journal.specs.declared.fault.JournalFault.{JournalFault}
 use Rattle.macs_journal.specs.declared.fault.JournalFault.TheVariants.{Disk, GenerationsSpent, Stopped}
 use Rattle.macs_journal.specs.declared.place.Place.{Place}
+
+-- the greatest generation, which 8 octets hold: behind it there is no next one
+abbrev pub last_generation : ℕ
+last_generation = 2 ^ 64 - 1
 
 -- the head of the next generation, with a snapshot of so many records
 abbrev pub next_head : Head → ℕ → Head
@@ -52,7 +56,7 @@ FindsUntil old new limit c =
 pub record Compacts {D : Type 0} (disk_of : D → disk.Disk) (old : JournalValue D) (records : List Record) (result : Result (Unit {0}) JournalFault) (new : JournalValue D) : Type 0 where
   -- which refusal, and what is left of the journal in memory
   pub stopped : IsErrOf result Stopped ↔ (is_stopped old ≡ true)
-  pub spent : IsErrOf result GenerationsSpent ↔ ((is_stopped old ≡ false) × (old.place.head.generation ≡ 2 ^ 64 - 1))
+  pub spent : IsErrOf result GenerationsSpent ↔ ((is_stopped old ≡ false) × (generation old ≡ last_generation))
   pub names : OnErr result (IsErrOf result Stopped ⊎ (IsErrOf result GenerationsSpent ⊎ IsErrOf result Disk))
   pub same : OnErr result (IsErrOf result Disk ⊎ (new ≡ old))
   pub halted : IsErrOf result Disk → (is_stopped new ≡ true) × IsIdle new

@@ -34,6 +34,10 @@ is_stopped j = j.stopped
 abbrev pub used_slots : {D : Type 0} → JournalValue D → ℕ
 used_slots j = j.place.free
 
+-- the generation of its current area
+abbrev pub generation : {D : Type 0} → JournalValue D → ℕ
+generation j = j.place.head.generation
+
 -- no work is in hand
 abbrev pub IsIdle : {D : Type 0} → JournalValue D → Type 0
 IsIdle j = j.hand ≡ Empty

@@ -1,11 +1,11 @@
 //! A journal that begins anew in its other area.
 
-ghost use Rattle.std.specs.Prelude.{◌≡◌, ◌≤◌, ◌+◌, ◌-◌, ◌^◌, ◌↔◌, ℕ, None, IfSome, length, OnOk};
+ghost use Rattle.std.specs.Prelude.{◌≡◌, ◌≤◌, ◌+◌, ◌↔◌, ℕ, None, IfSome, length, OnOk};
 ghost use Rattle.macs_disk.specs.Disk.{IsHonest, IsWork, now};
 ghost use Rattle.macs_disk.specs.Runs.{Leaves};
 ghost use Rattle.macs_journal.specs.Appending.{HasEitherJournal, IsReady};
 ghost use Rattle.macs_journal.specs.Areas.{gates, least_sectors, other_area, slots};
-ghost use Rattle.macs_journal.specs.Compacting.{CompactWrites, Compacts, FindsUntil, HasOpenGates, compacted, next_head};
+ghost use Rattle.macs_journal.specs.Compacting.{CompactWrites, Compacts, FindsUntil, HasOpenGates, compacted, last_generation, next_head};
 ghost use Rattle.macs_journal.specs.Found.{Content};
 ghost use Rattle.macs_journal.specs.Rewriting.{IsNoOpenGate, IsSettled, IsShut};
 ghost use Rattle.macs_journal.specs.Work.{IsSpared};
@@ -62,7 +62,7 @@ impl<D: SectorDisk> Journal<D> {
 fn next_head(head: &Head, count: u32) -> Option<Head>
     requires { (1 ≤ count) × (count ≤ slots) }
     ensures value { IfSome result (λ next. next ≡ next_head head.now count) }
-    ensures spent { result ≡ None ↔ (head.now.generation ≡ 2 ^ 64 - 1) }
+    ensures spent { result ≡ None ↔ (head.now.generation ≡ last_generation) }
 {
     let generation = head.generation().checked_add(1)?;
     Head::new(generation, count, head.identity())

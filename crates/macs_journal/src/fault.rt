@@ -1,7 +1,7 @@
 //! Why a journal refuses.
 
-/// Why a call of a journal was refused, in the order in which it is looked for; `GenerationsSpent` and
-/// `AreaFull` are looked for before any device call.
+/// Why a call of a journal was refused, in the order in which it is looked for; `GenerationsSpent` is
+/// looked for before any device call.
 #[derive(Clone, Copy, Debug, PartialEq, Eq)]
 pub enum JournalFault {
     /// A device call failed before: the journal is to be recovered.
@@ -18,7 +18,4 @@ pub enum JournalFault {
     BadJournal,
     /// The generation is 2^64 - 1: the journal cannot begin anew. Nothing changes.
     GenerationsSpent,
-    /// All 256 slots of the current area are used. An append has room as its condition: whoever
-    /// appends asks first, and answers this.
-    AreaFull,
 }

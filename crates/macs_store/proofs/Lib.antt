@@ -3,6 +3,8 @@ pub mod Tables
 pub mod Adjusting
 pub mod Keeping
 mod Promises
+pub mod Compacting
+mod Renewed
 pub mod OneStanding
 pub mod Filling
 pub mod Ascending

@@ -6,7 +6,7 @@ use Rattle.macs_journal.specs.Areas.{least_sectors}
 use Rattle.macs_journal.specs.Found.{Content, IsBadJournal}
 use Rattle.macs_journal.specs.Found as journal
 use Rattle.macs_journal.specs.declared.fault.JournalFault.{JournalFault}
-use Rattle.macs_journal.specs.declared.fault.JournalFault.TheVariants.{Stopped, TooSmall, Disk, AlreadyFormatted, NotFormatted, BadJournal, AreaFull, GenerationsSpent}
+use Rattle.macs_journal.specs.declared.fault.JournalFault.TheVariants.{Stopped, TooSmall, Disk, AlreadyFormatted, NotFormatted, BadJournal, GenerationsSpent}
 use Rattle.macs_journal.proofs.Findings.{one_finding}
 use Rattle.macs_store.specs.Found.{HasRefusedReplay, StandingIs}
 use Rattle.macs_store.specs.Replay.{meaning_of}
@@ -44,7 +44,6 @@ found-said edition sectors image (Err Stopped) is = absurd is
 found-said edition sectors image (Err Disk) is = absurd is
 found-said edition sectors image (Err AlreadyFormatted) is = absurd is
 found-said edition sectors image (Err GenerationsSpent) is = absurd is
-found-said edition sectors image (Err AreaFull) is = absurd is
 
 pub one_standing : (edition : Edition) (sectors : ℕ) (image : Image) (a b : Result Standing JournalFault)
     → StandingIs edition sectors image a → StandingIs edition sectors image b → a ≡ b

@@ -1,5 +1,5 @@
 -- What the calls of a store promise, from what its journal promises of one record.
-use Rattle.std.proofs.Common.{◌≡◌, ◌≢◌, ◌↔◌, ◌⊎◌, inl, inr, refl, sym, ◌∙◌, ap, subst, arith, true, false, Some, Result, Ok, Err, is_ok, IsOk}
+use Rattle.std.proofs.Common.{◌≡◌, ◌≢◌, ◌↔◌, inl, inr, refl, sym, ◌∙◌, ap, subst, arith, true, false, Some, Result, Ok, Err, is_ok, IsOk}
 use Rattle.std.specs.Prelude.{IsErrOf}
 use Rattle.macs_disk.specs.Disk.{Disk, IsHonest}
 use Rattle.macs_disk.specs.Runs.{Leaves}
@@ -8,24 +8,19 @@ use Rattle.macs_config.specs.declared.command.Command.{Command}
 use Rattle.macs_config.specs.declared.refusal.Refusal.{Refusal}
 use Rattle.macs_record.specs.Commands.{record_of}
 use Rattle.macs_record.specs.declared.record.Record.{Record}
-use Rattle.macs_journal.specs.Areas.{slots}
-use Rattle.macs_journal.specs.Work.{IsWorkOf}
 use Rattle.macs_journal.specs.declared.fault.JournalFault.{JournalFault}
 use Rattle.macs_journal.specs.declared.fault.JournalFault.TheVariants as journal_fault
 use Rattle.macs_store.specs.Found.{CommitLeaves, StandsForEither}
-use Rattle.macs_store.specs.Keeps.{Commits, IsCommitOf, Keeps, KeepsRecord}
+use Rattle.macs_store.specs.Keeps.{Commits, IsCommitOf, IsSpent, Keeps, KeepsRecord}
 use Rattle.macs_store.specs.Replay.{standing_after_record}
 use Rattle.macs_store.specs.Standing.{Standing, accept}
 use Rattle.macs_store.specs.Table.{StandingValue, standing_of}
-use Rattle.macs_store.specs.Value.{IsStored, StoreValue, disk_in, is_stopped, standing_in, used_slots}
+use Rattle.macs_store.specs.Value.{IsStored, StoreValue, disk_in, is_stopped, standing_in}
 use Rattle.macs_store.specs.declared.fault.CommitFault.{CommitFault}
 use Rattle.macs_store.specs.declared.fault.CommitFault.TheVariants as commit_fault
 use Rattle.macs_store.proofs.Keeping.{accepted-follows, commit-leaves, stored-image}
 
--- no record is kept, no command is
-abbrev unkept : JournalFault → Result (Unit {0}) JournalFault
-unkept at = Err at
-
+-- no command is kept
 abbrev undone : CommitFault → Result (Unit {0}) CommitFault
 undone fault = Err fault
 
@@ -35,53 +30,38 @@ module _ {D : Type 0} (disk_of : D → Disk) (s : StoreValue D) where
   left_alone after stored =
       Leaves-start (disk_in disk_of s) (StandsForEither (standing_in s) after) (λ image left. inl (stored-image disk_of s stored image left))
 
-  -- a record that is refused before a device call
-  alone-records : (r : Record) (at : JournalFault) → IsErrOf (unkept at) journal_fault.Stopped ↔ (is_stopped s ≡ true)
-      → IsErrOf (unkept at) journal_fault.AreaFull ↔ ((is_stopped s ≡ false) × (used_slots s ≡ slots))
-      → IsErrOf (unkept at) journal_fault.Stopped ⊎ (IsErrOf (unkept at) journal_fault.AreaFull ⊎ IsErrOf (unkept at) journal_fault.Disk)
-      → (at ≢ journal_fault.Disk) → IsWorkOf (disk_in disk_of s) (disk_in disk_of s) (unkept at) → KeepsRecord disk_of s r (Err at) s
-  alone-records r at is_stop is_full names other work = record {
-    stopped = is_stop;
-    full = is_full;
-    names = names;
+  -- a store that is stopped keeps no record
+  pub stopped-records : (r : Record) → is_stopped s ≡ true → KeepsRecord disk_of s r (Err journal_fault.Stopped) s
+  stopped-records r is = record {
+    stopped = (λ same. is, λ same. refl);
+    spent = (λ same. absurd (let no : journal_fault.Stopped ≡ journal_fault.GenerationsSpent = cc in cc), λ all. absurd (let no : true ≡ false = sym is ∙ all.0 in cc));
+    names = inl refl;
     same = inr refl;
     standing = refl;
-    halted = λ same. absurd (other (let is : at ≡ journal_fault.Disk = cc in is));
+    halted = λ same. absurd (let no : journal_fault.Stopped ≡ journal_fault.Disk = cc in cc);
     running = tt;
-    slot = tt;
-    four = λ room. omega arith;
-    work = work;
+    slots = tt;
+    generation = tt;
+    most = omega arith;
+    work = record { works = Works-start (disk_in disk_of s); fails = refl };
     any_moment = λ honest stored after follows. left_alone after stored;
     stored = tt;
     kept = tt;
   }
-
-  -- a store that is stopped keeps no record
-  pub stopped-records : (r : Record) → is_stopped s ≡ true → KeepsRecord disk_of s r (Err journal_fault.Stopped) s
-  stopped-records r is =
-      alone-records r journal_fault.Stopped (λ same. is, λ same. refl)
-      (λ same. absurd (let no : journal_fault.Stopped ≡ journal_fault.AreaFull = cc in cc), λ both. absurd (let no : true ≡ false = sym is ∙ both.0 in cc))
-      (inl refl) (λ same. cc) (record { works = Works-start (disk_in disk_of s); fails = refl })
-
-  -- nor does one whose area is full
-  pub full-records : (r : Record) → is_stopped s ≡ false → used_slots s ≡ slots → KeepsRecord disk_of s r (Err journal_fault.AreaFull) s
-  full-records r running is =
-      alone-records r journal_fault.AreaFull
-      (λ same. absurd (let no : journal_fault.AreaFull ≡ journal_fault.Stopped = cc in cc), λ stopped. absurd (let no : true ≡ false = sym stopped ∙ running in cc))
-      (λ same. (running, is), λ both. refl) (inr (inl refl)) (λ same. cc) (record { works = Works-start (disk_in disk_of s); fails = refl })
 
   -- the record of a reservation was not kept
   pub refused-keeps : (r : Record) (after : Standing) (at : JournalFault) (new : StoreValue D) → standing_after_record (standing_in s) r ≡ Some after
       → KeepsRecord disk_of s r (Err at) new → Keeps disk_of s after (Err at) new
   refused-keeps r after at new follows records = record {
     stopped = records.stopped;
-    full = records.full;
+    spent = records.spent;
     names = records.names;
     same = records.same;
     halted = λ same. (records.halted same, records.standing);
     running = tt;
-    slot = tt;
-    four = records.four;
+    slots = tt;
+    generation = tt;
+    most = records.most;
     done = tt;
     work = records.work;
     any_moment = λ honest stored. records.any_moment honest stored after follows;
@@ -94,13 +74,14 @@ module _ {D : Type 0} (disk_of : D → Disk) (s : StoreValue D) where
       → after ≡ standing_of held → KeepsRecord disk_of s r (Ok tt) new → Keeps disk_of s after (Ok tt) (record new { held = held })
   kept-keeps r after new held follows same records = record {
     stopped = records.stopped;
-    full = records.full;
+    spent = records.spent;
     names = tt;
     same = tt;
     halted = λ is. absurd cc;
     running = records.running;
-    slot = records.slot;
-    four = records.four;
+    slots = records.slots;
+    generation = records.generation;
+    most = records.most;
     done = sym same;
     work = records.work;
     any_moment = λ honest stored. records.any_moment honest stored after follows;
@@ -125,17 +106,18 @@ module _ {D : Type 0} (disk_of : D → Disk) (s : StoreValue D) where
   alone-commits : (command : Command) (fault : CommitFault) → IsErrOf (undone fault) commit_fault.Stopped ↔ (is_stopped s ≡ true)
       → ((refusal : Refusal) → (undone fault ≡ Err (commit_fault.Refused refusal))
       ↔ ((is_stopped s ≡ false) × (accept (standing_in s) command ≡ Err refusal)))
-      → IsErrOf (undone fault) commit_fault.AreaFull ↔ ((is_stopped s ≡ false) × IsOk (accept (standing_in s) command) × (used_slots s ≡ slots))
+      → IsErrOf (undone fault) commit_fault.GenerationsSpent ↔ (IsOk (accept (standing_in s) command) × IsSpent s)
       → (fault ≢ commit_fault.Disk) → IsCommitOf (disk_in disk_of s) (disk_in disk_of s) (undone fault) → Commits disk_of s command (Err fault) s
-  alone-commits command fault is_stop is_refused is_full other work = record {
+  alone-commits command fault is_stop is_refused is_spent other work = record {
     stopped = is_stop;
     refused = is_refused;
-    full = is_full;
+    spent = is_spent;
     same = inr refl;
     halted = λ same. absurd (other (let is : fault ≡ commit_fault.Disk = cc in is));
     running = tt;
-    slot = tt;
-    four = λ room. omega arith;
+    slots = tt;
+    generation = tt;
+    most = omega arith;
     done = tt;
     work = work;
     any_moment = λ honest stored. nothing_left command stored;
@@ -148,7 +130,7 @@ module _ {D : Type 0} (disk_of : D → Disk) (s : StoreValue D) where
   stopped-commits command is =
       alone-commits command commit_fault.Stopped (λ same. is, λ same. refl)
       (λ refusal. (λ same. absurd (let no : commit_fault.Stopped ≡ commit_fault.Refused refusal = cc in cc), λ both. absurd (let no : true ≡ false = sym is ∙ both.0 in cc)))
-      (λ same. absurd (let no : commit_fault.Stopped ≡ commit_fault.AreaFull = cc in cc), λ all. absurd (let no : true ≡ false = sym is ∙ all.0 in cc))
+      (λ same. absurd (let no : commit_fault.Stopped ≡ commit_fault.GenerationsSpent = cc in cc), λ all. absurd (let no : true ≡ false = sym is ∙ all.1.0 in cc))
       (λ same. cc) (record { works = Works-start (disk_in disk_of s); fails = refl })
 
   -- a command that is refused
@@ -158,7 +140,7 @@ module _ {D : Type 0} (disk_of : D → Disk) (s : StoreValue D) where
       alone-commits command (commit_fault.Refused refusal)
       (λ same. absurd (let no : commit_fault.Refused refusal ≡ commit_fault.Stopped = cc in cc), λ stopped. absurd (let no : true ≡ false = sym stopped ∙ running in cc))
       (λ other. (λ same. (running, let alike : refusal ≡ other = cc in is ∙ ap Err alike), λ both. let alike : ◌≡◌ {A = Result Standing Refusal} (Err refusal) (Err other) = sym is ∙ both.1 in cc))
-      (λ same. absurd (let no : commit_fault.Refused refusal ≡ commit_fault.AreaFull = cc in cc), λ all. absurd (let no : false ≡ true = sym (ap is_ok is) ∙ all.1 in cc))
+      (λ same. absurd (let no : commit_fault.Refused refusal ≡ commit_fault.GenerationsSpent = cc in cc), λ all. absurd (let no : false ≡ true = sym (ap is_ok is) ∙ all.0 in cc))
       (λ same. cc) (record { works = Works-start (disk_in disk_of s); fails = refl })
 
   module _ (command : Command) (r : Record) (new : StoreValue D) (has : record_of command ≡ Some r) (fits : IsOk (accept (standing_in s) command))
@@ -171,23 +153,24 @@ module _ {D : Type 0} (disk_of : D → Disk) (s : StoreValue D) where
       λ both. absurd (let no : false ≡ true = sym (ap is_ok both.1) ∙ fits in cc),
     )
 
-    -- the area is full
-    pub full-commits : KeepsRecord disk_of s r (Err journal_fault.AreaFull) new → Commits disk_of s command (Err commit_fault.AreaFull) new
-    full-commits records = record {
-      stopped = (λ same. absurd (let no : commit_fault.AreaFull ≡ commit_fault.Stopped = cc in cc), λ stopped. absurd (let no : true ≡ false = sym stopped ∙ running in cc));
-      refused = unrefused commit_fault.AreaFull (λ refusal same. absurd cc);
-      full = (λ same. (running, fits, (records.full.0 refl).1), λ all. refl);
+    -- the journal cannot begin anew
+    pub spent-commits : KeepsRecord disk_of s r (Err journal_fault.GenerationsSpent) new → Commits disk_of s command (Err commit_fault.GenerationsSpent) new
+    spent-commits records = record {
+      stopped = (λ same. absurd (let no : commit_fault.GenerationsSpent ≡ commit_fault.Stopped = cc in cc), λ stopped. absurd (let no : true ≡ false = sym stopped ∙ running in cc));
+      refused = unrefused commit_fault.GenerationsSpent (λ refusal same. absurd cc);
+      spent = (λ same. (fits, records.spent.0 refl), λ all. refl);
       same = elim records.same [
-        | inl is ↦ absurd (let no : journal_fault.AreaFull ≡ journal_fault.Disk = cc in cc)
+        | inl is ↦ absurd (let no : journal_fault.GenerationsSpent ≡ journal_fault.Disk = cc in cc)
         | inr same ↦ inr same
       ];
-      halted = λ same. absurd (let no : commit_fault.AreaFull ≡ commit_fault.Disk = cc in cc);
+      halted = λ same. absurd (let no : commit_fault.GenerationsSpent ≡ commit_fault.Disk = cc in cc);
       running = tt;
-      slot = tt;
-      four = records.four;
+      slots = tt;
+      generation = tt;
+      most = records.most;
       done = tt;
       work = record { works = records.work.works; fails = records.work.fails };
-      any_moment = commit_moments command r (Err journal_fault.AreaFull) new has fits records;
+      any_moment = commit_moments command r (Err journal_fault.GenerationsSpent) new has fits records;
       stored = tt;
       kept = tt;
     }
@@ -197,15 +180,16 @@ module _ {D : Type 0} (disk_of : D → Disk) (s : StoreValue D) where
     cut_commits records = record {
       stopped = (λ same. absurd (let no : commit_fault.Disk ≡ commit_fault.Stopped = cc in cc), λ stopped. absurd (let no : true ≡ false = sym stopped ∙ running in cc));
       refused = unrefused commit_fault.Disk (λ refusal same. absurd cc);
-      full = (
-        λ same. absurd (let no : commit_fault.Disk ≡ commit_fault.AreaFull = cc in cc),
-        λ all. absurd (let is = records.full.1 (running, all.2) in let no : journal_fault.Disk ≡ journal_fault.AreaFull = cc in cc),
+      spent = (
+        λ same. absurd (let no : commit_fault.Disk ≡ commit_fault.GenerationsSpent = cc in cc),
+        λ all. absurd (let is = records.spent.1 all.1 in let no : journal_fault.Disk ≡ journal_fault.GenerationsSpent = cc in cc),
       );
       same = inl refl;
       halted = λ same. (records.halted refl, records.standing);
       running = tt;
-      slot = tt;
-      four = records.four;
+      slots = tt;
+      generation = tt;
+      most = records.most;
       done = tt;
       work = record { works = records.work.works; fails = records.work.fails };
       any_moment = commit_moments command r (Err journal_fault.Disk) new has fits records;
@@ -214,11 +198,11 @@ module _ {D : Type 0} (disk_of : D → Disk) (s : StoreValue D) where
     }
 
     -- no other fault is left
-    pub failed-commits : (at : JournalFault) → (at ≢ journal_fault.AreaFull) → KeepsRecord disk_of s r (Err at) new → Commits disk_of s command (Err commit_fault.Disk) new
+    pub failed-commits : (at : JournalFault) → (at ≢ journal_fault.GenerationsSpent) → KeepsRecord disk_of s r (Err at) new → Commits disk_of s command (Err commit_fault.Disk) new
     failed-commits at other records = elim records.names [
       | inl stopped ↦ absurd (let is = records.stopped.0 stopped in let no : true ≡ false = sym is ∙ running in cc)
       | inr rest ↦ elim rest [
-        | inl full ↦ absurd (other (let is : at ≡ journal_fault.AreaFull = cc in is))
+        | inl spent ↦ absurd (other (let is : at ≡ journal_fault.GenerationsSpent = cc in is))
         | inr failed ↦ cut_commits (subst (λ (x : Result (Unit {0}) JournalFault). KeepsRecord disk_of s r x new) failed records)
       ]
     ]
@@ -231,12 +215,13 @@ module _ {D : Type 0} (disk_of : D → Disk) (s : StoreValue D) where
         record {
           stopped = (λ same. absurd cc, λ stopped. absurd (let no : true ≡ false = sym stopped ∙ running in cc));
           refused = λ refusal. (λ same. absurd cc, λ both. absurd (let no : false ≡ true = sym (ap is_ok both.1) ∙ fits in cc));
-          full = (λ same. absurd cc, λ all. absurd (let is = records.full.1 (running, all.2) in cc));
+          spent = (λ same. absurd cc, λ all. absurd (let is = records.spent.1 all.1 in cc));
           same = tt;
           halted = λ same. absurd cc;
           running = records.running;
-          slot = records.slot;
-          four = records.four;
+          slots = records.slots;
+          generation = records.generation;
+          most = records.most;
           done = done;
           work = record { works = records.work.works; fails = records.work.fails };
           any_moment = commit_moments command r (Ok tt) new has fits records;

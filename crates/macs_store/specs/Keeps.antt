@@ -1,5 +1,5 @@
 -- What the calls of a store promise that keep something.
-use Rattle.std.specs.Prelude.{◌≡◌, ◌<◌, ◌≤◌, ◌+◌, ◌↔◌, ◌⊎◌, true, false, Some, Result, Ok, Err, IsOk, OnOk, OnErr, IsErrOf}
+use Rattle.std.specs.Prelude.{◌≡◌, ◌<◌, ◌≤◌, ◌+◌, ◌==◌, ◌↔◌, ◌⊎◌, ℕ, true, false, if◌then◌else◌, length, Some, Result, Ok, Err, IsOk, OnOk, OnErr, IsErrOf}
 use Rattle.macs_config.specs.Config.{this_edition}
 use Rattle.macs_config.specs.declared.command.Command.{Command}
 use Rattle.macs_config.specs.declared.refusal.Refusal.{Refusal}
@@ -8,32 +8,58 @@ use Rattle.macs_disk.specs.Disk as disk
 use Rattle.macs_disk.specs.Runs.{Leaves}
 use Rattle.macs_disk.specs.States.{Image}
 use Rattle.macs_journal.specs.Areas.{slots}
+use Rattle.macs_journal.specs.Compacting.{last_generation}
 use Rattle.macs_journal.specs.Work.{IsWorkOf}
 use Rattle.macs_journal.specs.declared.fault.JournalFault.{JournalFault}
 use Rattle.macs_journal.specs.declared.fault.JournalFault.TheVariants as journal
 use Rattle.macs_record.specs.declared.record.Record.{Record}
 use Rattle.macs_store.specs.Found.{CommitLeaves, StandsFor, StandsForEither}
 use Rattle.macs_store.specs.Replay.{standing_after_record}
+use Rattle.macs_store.specs.Snapshot.{snapshot}
 use Rattle.macs_store.specs.Standing.{Standing, accept}
 use Rattle.macs_store.specs.Table.{StandingValue, standing_of}
-use Rattle.macs_store.specs.Value.{IsStored, StoreValue, disk_in, is_stopped, standing_in, used_slots}
+use Rattle.macs_store.specs.Value.{IsStored, StoreValue, disk_in, generation, is_stopped, standing_in, used_slots}
 use Rattle.macs_store.specs.declared.fault.CommitFault.{CommitFault}
 use Rattle.macs_store.specs.declared.fault.CommitFault.TheVariants as commit
 
+-- ---- one change more
+
+-- no change is kept any more: it runs, all slots are used, and the journal cannot begin anew
+abbrev pub IsSpent : {D : Type 0} → StoreValue D → Type 0
+IsSpent s = (is_stopped s ≡ false) × (used_slots s ≡ slots) × (generation s ≡ last_generation)
+
+-- how many records what stands has as a snapshot
+abbrev pub snapshot_length : {D : Type 0} → StoreValue D → ℕ
+snapshot_length s = length (snapshot (standing_in s))
+
+-- how many slots are used after one more change: where all were used the journal began anew with a snapshot
+abbrev pub slots_after : {D : Type 0} → StoreValue D → ℕ
+slots_after s = if used_slots s == slots then snapshot_length s + 1 else used_slots s + 1
+
+-- and in which generation they stand
+abbrev pub generation_after : {D : Type 0} → StoreValue D → ℕ
+generation_after s = if used_slots s == slots then generation s + 1 else generation s
+
+-- how many device calls a change takes at most: 4 for its record, and where all slots are used 519 for a compaction and one for each
+-- record of the snapshot
+abbrev pub most_calls : {D : Type 0} → StoreValue D → ℕ
+most_calls s = if used_slots s == slots then 523 + snapshot_length s else 4
+
 -- ---- a reservation
 
--- A call keeps one change, which makes `after` of what stands. Refused as Stopped, then as AreaFull; these change nothing. Disk where
--- a device call failed: memory is as it was, and a power loss leaves what stood before or what it becomes. Where the area is not full it
--- takes four device calls at most and uses one slot.
+-- A call keeps one change, which makes `after` of what stands. Refused as Stopped, then as GenerationsSpent; these are judged before the
+-- work starts, and change nothing. Disk where a device call failed: memory is as it was, and a power loss leaves what stood before or
+-- what it becomes. Where all slots are used the journal begins anew first, with a snapshot of what stands.
 pub record Keeps {D : Type 0} (disk_of : D → disk.Disk) (old : StoreValue D) (after : Standing) (result : Result (Unit {0}) JournalFault) (new : StoreValue D) : Type 0 where
   pub stopped : IsErrOf result journal.Stopped ↔ (is_stopped old ≡ true)
-  pub full : IsErrOf result journal.AreaFull ↔ ((is_stopped old ≡ false) × (used_slots old ≡ slots))
-  pub names : OnErr result (IsErrOf result journal.Stopped ⊎ (IsErrOf result journal.AreaFull ⊎ IsErrOf result journal.Disk))
+  pub spent : IsErrOf result journal.GenerationsSpent ↔ IsSpent old
+  pub names : OnErr result (IsErrOf result journal.Stopped ⊎ (IsErrOf result journal.GenerationsSpent ⊎ IsErrOf result journal.Disk))
   pub same : OnErr result (IsErrOf result journal.Disk ⊎ (new ≡ old))
   pub halted : IsErrOf result journal.Disk → (is_stopped new ≡ true) × (new.held ≡ old.held)
   pub running : OnOk result (is_stopped new ≡ false)
-  pub slot : OnOk result (used_slots old < slots → used_slots new ≡ used_slots old + 1)
-  pub four : used_slots old < slots → (disk_in disk_of new).clock ≤ (disk_in disk_of old).clock + 4
+  pub slots : OnOk result (used_slots new ≡ slots_after old)
+  pub generation : OnOk result (generation new ≡ generation_after old)
+  pub most : (disk_in disk_of new).clock ≤ (disk_in disk_of old).clock + most_calls old
   pub done : OnOk result (standing_in new ≡ after)
   pub work : IsWorkOf (disk_in disk_of old) (disk_in disk_of new) result
   pub any_moment : IsHonest (disk_in disk_of new) → IsStored disk_of old
@@ -54,19 +80,21 @@ pub record IsCommitOf (old new : disk.Disk) (result : Result (Unit {0}) CommitFa
   pub works : Works old new
   pub fails : CommitFails old new result
 
--- A call keeps a command and applies it. Refused as Stopped, then as Refused with the first refusal that holds, then as AreaFull; these
--- change nothing. Disk where a device call failed: memory is as it was, and a power loss leaves what stood before or what the command makes
--- of it. Where the area is not full it takes four device calls at most and uses one slot.
+-- A call keeps a command and applies it. Refused as Stopped, then as Refused with the first refusal that holds, then as GenerationsSpent;
+-- these are judged before the work starts, and change nothing. Disk where a device call failed: memory is as it was, and a power loss
+-- leaves what stood before or what the command makes of it. Where all slots are used the journal begins anew first, with a snapshot of what
+-- stands.
 pub record Commits {D : Type 0} (disk_of : D → disk.Disk) (old : StoreValue D) (command : Command) (result : Result (Unit {0}) CommitFault) (new : StoreValue D) : Type 0 where
   pub stopped : IsErrOf result commit.Stopped ↔ (is_stopped old ≡ true)
   pub refused : (refusal : Refusal) → (result ≡ Err (commit.Refused refusal))
       ↔ ((is_stopped old ≡ false) × (accept (standing_in old) command ≡ Err refusal))
-  pub full : IsErrOf result commit.AreaFull ↔ ((is_stopped old ≡ false) × IsOk (accept (standing_in old) command) × (used_slots old ≡ slots))
+  pub spent : IsErrOf result commit.GenerationsSpent ↔ (IsOk (accept (standing_in old) command) × IsSpent old)
   pub same : OnErr result (IsErrOf result commit.Disk ⊎ (new ≡ old))
   pub halted : IsErrOf result commit.Disk → (is_stopped new ≡ true) × (new.held ≡ old.held)
   pub running : OnOk result (is_stopped new ≡ false)
-  pub slot : OnOk result (used_slots old < slots → used_slots new ≡ used_slots old + 1)
-  pub four : used_slots old < slots → (disk_in disk_of new).clock ≤ (disk_in disk_of old).clock + 4
+  pub slots : OnOk result (used_slots new ≡ slots_after old)
+  pub generation : OnOk result (generation new ≡ generation_after old)
+  pub most : (disk_in disk_of new).clock ≤ (disk_in disk_of old).clock + most_calls old
   pub done : OnOk result (accept (standing_in old) command ≡ Ok (standing_in new))
   pub work : IsCommitOf (disk_in disk_of old) (disk_in disk_of new) result
   pub any_moment : IsHonest (disk_in disk_of new) → IsStored disk_of old
@@ -77,17 +105,18 @@ pub record Commits {D : Type 0} (disk_of : D → disk.Disk) (old : StoreValue D)
 
 -- ---- a record
 
--- A record is kept; what stands in memory does not change yet.
+-- A record is kept as a change is, and refused as one; what stands in memory does not change yet.
 pub record KeepsRecord {D : Type 0} (disk_of : D → disk.Disk) (old : StoreValue D) (r : Record) (result : Result (Unit {0}) JournalFault) (new : StoreValue D) : Type 0 where
   pub stopped : IsErrOf result journal.Stopped ↔ (is_stopped old ≡ true)
-  pub full : IsErrOf result journal.AreaFull ↔ ((is_stopped old ≡ false) × (used_slots old ≡ slots))
-  pub names : OnErr result (IsErrOf result journal.Stopped ⊎ (IsErrOf result journal.AreaFull ⊎ IsErrOf result journal.Disk))
+  pub spent : IsErrOf result journal.GenerationsSpent ↔ IsSpent old
+  pub names : OnErr result (IsErrOf result journal.Stopped ⊎ (IsErrOf result journal.GenerationsSpent ⊎ IsErrOf result journal.Disk))
   pub same : OnErr result (IsErrOf result journal.Disk ⊎ (new ≡ old))
   pub standing : new.held ≡ old.held
   pub halted : IsErrOf result journal.Disk → is_stopped new ≡ true
   pub running : OnOk result (is_stopped new ≡ false)
-  pub slot : OnOk result (used_slots old < slots → used_slots new ≡ used_slots old + 1)
-  pub four : used_slots old < slots → (disk_in disk_of new).clock ≤ (disk_in disk_of old).clock + 4
+  pub slots : OnOk result (used_slots new ≡ slots_after old)
+  pub generation : OnOk result (generation new ≡ generation_after old)
+  pub most : (disk_in disk_of new).clock ≤ (disk_in disk_of old).clock + most_calls old
   pub work : IsWorkOf (disk_in disk_of old) (disk_in disk_of new) result
   pub any_moment : IsHonest (disk_in disk_of new) → IsStored disk_of old → (after : Standing) → standing_after_record (standing_in old) r ≡ Some after
       → Leaves (disk_in disk_of old) (disk_in disk_of new) (StandsForEither (standing_in old) after)
@@ -96,3 +125,23 @@ pub record KeepsRecord {D : Type 0} (disk_of : D → disk.Disk) (old : StoreValu
   pub kept : OnOk result (IsHonest (disk_in disk_of new) → IsStored disk_of old
       → (after : Standing) → standing_after_record (standing_in old) r ≡ Some after
       → (image : Image) → MayLeave (disk_in disk_of new) image → StandsFor this_edition image after)
+
+-- ---- a compaction
+
+-- The journal of a store that runs begins anew with a snapshot of what stands. GenerationsSpent where its generation is the last, and
+-- nothing changes then; Disk where a device call failed. At each moment a power loss leaves what stands.
+pub record Renews {D : Type 0} (disk_of : D → disk.Disk) (old : StoreValue D) (result : Result (Unit {0}) JournalFault) (new : StoreValue D) : Type 0 where
+  pub spent : IsErrOf result journal.GenerationsSpent ↔ (generation old ≡ last_generation)
+  pub names : OnErr result (IsErrOf result journal.GenerationsSpent ⊎ IsErrOf result journal.Disk)
+  pub same : OnErr result (IsErrOf result journal.Disk ⊎ (new ≡ old))
+  pub standing : new.held ≡ old.held
+  pub halted : IsErrOf result journal.Disk → is_stopped new ≡ true
+  pub running : OnOk result (is_stopped new ≡ false)
+  pub room : OnOk result (used_slots new < slots)
+  pub slots : OnOk result (used_slots new ≡ snapshot_length old)
+  pub generation : OnOk result (generation new ≡ generation old + 1)
+  pub most : (disk_in disk_of new).clock ≤ (disk_in disk_of old).clock + (519 + snapshot_length old)
+  pub work : IsWorkOf (disk_in disk_of old) (disk_in disk_of new) result
+  pub any_moment : IsHonest (disk_in disk_of new) → IsStored disk_of old
+      → Leaves (disk_in disk_of old) (disk_in disk_of new) (λ image. StandsFor this_edition image (standing_in old))
+  pub stored : OnOk result (IsHonest (disk_in disk_of new) → IsStored disk_of old → IsStored disk_of new)

@@ -34,6 +34,10 @@ is_stopped s = journal.is_stopped s.journal
 abbrev pub used_slots : {D : Type 0} → StoreValue D → ℕ
 used_slots s = journal.used_slots s.journal
 
+-- the generation of that area
+abbrev pub generation : {D : Type 0} → StoreValue D → ℕ
+generation s = journal.generation s.journal
+
 -- the disk holds what stands in memory, and nothing is in hand
 pub record IsStored {D : Type 0} (disk_of : D → disk.Disk) (s : StoreValue D) : Type 0 where
   pub content : Content

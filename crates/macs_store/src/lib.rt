@@ -3,6 +3,7 @@
 #![tactic(auto)]
 
 mod ahead;
+mod compaction;
 mod fault;
 pub mod laws;
 mod opening;

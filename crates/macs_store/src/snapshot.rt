@@ -1,13 +1,15 @@
 //! What stands, written as the records of a snapshot.
 
-ghost use Rattle.std.specs.Prelude.{◌≡◌, ◌≤◌, ◌<◌, ◌+◌, ◌*◌, ◌++◌, [], ◌∷◌, IfNone, IfSome, length};
-ghost use Rattle.macs_config.specs.Config.{spent_of};
+ghost use Rattle.std.specs.Prelude.{◌≡◌, ◌≤◌, ◌<◌, ◌+◌, ◌*◌, ◌++◌, [], ◌∷◌, IfNone, IfSome, Some, length};
+ghost use Rattle.macs_config.specs.Config.{spent_of, this_edition};
 ghost use Rattle.macs_config.specs.Value.{config_of};
 ghost use Rattle.macs_journal.specs.Areas.{slots};
+ghost use Rattle.macs_store.specs.Replay.{snapshot_of};
 ghost use Rattle.macs_store.specs.Snapshot.{channel_records, fingerprints_at, most_spent_records, rx_records, rx_records_at, rx_records_of};
 ghost use Rattle.macs_store.specs.Snapshot.{settings_record, snapshot, spent_records, spent_records_at, tx_records, tx_records_at};
 ghost use Rattle.macs_store.specs.Table.{standing_of, table_ceilings};
 
+use crate::laws::snapshot_stands_for_itself;
 use crate::standing::Standing;
 use crate::table::CeilingTable;
 use macs_config::{Config, Fingerprints, MAX_FINGERPRINTS, Role};
@@ -19,6 +21,16 @@ use macs_record::Record;
 const MAX_SPENT_RECORDS: usize = 35;
 
 impl Standing {
+    /// What holds of every snapshot: it stands for what it was taken of, in 1 to 115 records.
+    pub(crate) fn facts(&self)
+        ensures stands { snapshot_of this_edition self.now.config.identity (snapshot (standing_of self.now)) ≡ Some (standing_of self.now) }
+        ensures some { 1 ≤ length (snapshot (standing_of self.now)) }
+        ensures few { length (snapshot (standing_of self.now)) ≤ 115 }
+    {
+        snapshot_stands_for_itself();
+        self.config.facts();
+    }
+
     /// Writes what stands as the records of a snapshot, in the place of those that are lent.
     pub(crate) fn snapshot(&self, records: &mut Records)
         ensures { records.new.items ≡ snapshot (standing_of self.now) }

@@ -1,29 +1,23 @@
 //! What a journal's records stand for.
 
-ghost use Rattle.std.specs.Prelude.{◌≡◌, ◌≤◌, ◌↔◌, List, true, false, Some, None, IsSome, Ok, Err, IsOk, IfOk, OnOk, OnErr, length};
-ghost use Rattle.std.specs.Option.{option_map};
+ghost use Rattle.std.specs.Prelude.{◌≡◌, ◌≤◌, ◌↔◌, List, true, false, if◌then◌else◌, Some, None, IsSome, Ok, Err, IsOk, IfOk, OnOk, OnErr, length};
 ghost use Rattle.macs_config.specs.Apply.{apply, fingerprint_of};
 ghost use Rattle.macs_config.specs.Config as spec;
 ghost use Rattle.macs_config.specs.Config.{this_edition};
 ghost use Rattle.macs_config.specs.Snapshot.{config_of_parts};
 ghost use Rattle.macs_config.specs.Value.{config_of};
 ghost use Rattle.macs_config.specs.declared.part.Part.{Part};
-ghost use Rattle.macs_journal.specs.Areas.{slots};
-ghost use Rattle.macs_store.specs.Replay.{standing_after_record, snapshot_parts, replay_of, is_raise, snapshot_of, ceilings_with_records};
-ghost use Rattle.macs_store.specs.Standing.{IsStanding, accept, ceilings_after, no_ceilings, standing_with_rx_ceiling, standing_with_tx_ceiling};
+ghost use Rattle.macs_store.specs.Replay.{standing_after_record, standing_after_records, snapshot_parts, replay_of, is_raise, snapshot_of, ceilings_with_records};
+ghost use Rattle.macs_store.specs.Standing.{IsStanding, accept, ceilings_after, new_standing, no_ceilings, standing_with_rx_ceiling, standing_with_tx_ceiling};
 ghost use Rattle.macs_store.specs.Table.{StandingValue, table_ceilings, table_scis, standing_of};
 
 use crate::ahead::ahead;
-use crate::reading::{command_of, part_of};
+use crate::reading::{Snapshot, command_of};
 use crate::table::CeilingTable;
-use arrayvec::ArrayVec;
-use macs_config::{Checked, Command, Config, Identity, Part, Refusal};
+use macs_config::{Checked, Command, Config, Identity, Refusal};
 use macs_frame::{An, Sci};
 use macs_record::{Ceiling, Record};
 use std::marker::Model;
-
-/// The most records that a journal holds.
-const MAX_RECORDS: usize = 256;
 
 /// What an endpoint goes on from: its configuration, and the ceilings of its packet numbers.
 #[derive(Drop)]
@@ -41,48 +35,54 @@ impl Model for Standing {
         × (table_scis s.ceilings ≡ (config_of s.config).channels) };
 }
 
-/// The parts of a snapshot, `None` where a record is of another kind.
-fn parts_of(records: &[Record]) -> Option<ArrayVec<Part, MAX_RECORDS>>
-    requires few { length records.now ≤ slots }
-    ensures { option_map (λ parts. parts.items) result ≡ snapshot_parts records.now }
-{
-    let mut parts = ArrayVec::new();
-    for value in records {
-        parts.push(part_of(value)?);
-    }
-    Some(parts)
-}
-
 impl Standing {
-    /// What the records of a snapshot stand for, then those behind it: `None` where they are refused.
-    pub(crate) fn replayed(
-        identity: &Identity,
-        count: usize,
-        records: &[Record],
-    ) -> Option<Standing>
-        requires within { count ≤ length records.now }
-        requires few { length records.now ≤ slots }
-        ensures { option_map standing_of result ≡ replay_of this_edition identity.now count records.now }
+    /// What a disk is formatted with.
+    #[inline(never)]
+    pub(crate) fn new(identity: &Identity) -> Standing
+        ensures { standing_of result ≡ new_standing this_edition identity.now }
+    {
+        Standing {
+            config: Config::new(identity),
+            ceilings: CeilingTable::new(),
+        }
+    }
+
+    /// Makes it, in its place, what the records of a snapshot stand for under its identity, then those behind
+    /// it, and answers whether they stand for something; where they are refused, nothing is said of what is left.
+    #[inline(never)]
+    pub(crate) fn replay(&mut self, count: usize, records: &[Record]) -> bool
+        requires { count ≤ length records.now }
+        ensures { replay_of this_edition (standing_of self.old).identity count records.now
+            ≡ (if result then Some (standing_of self.new) else None) }
     {
         let (snapshot, later) = records.split_at(count);
-        let mut standing = Standing::from_snapshot(identity, snapshot)?;
-        for value in later {
-            if !standing.follow(value) {
-                return None;
-            }
-        }
-        Some(standing)
+        self.restore(snapshot) && self.follow_all(later)
     }
 
-    /// What a snapshot stands for, `None` where it is refused.
-    fn from_snapshot(identity: &Identity, records: &[Record]) -> Option<Standing>
-        requires few { length records.now ≤ slots }
-        ensures { option_map standing_of result ≡ snapshot_of this_edition identity.now records.now }
+    /// Makes it what a snapshot stands for under its identity, and answers whether it stands for something.
+    fn restore(&mut self, records: &[Record]) -> bool
+        ensures { snapshot_of this_edition (standing_of self.old).identity records.now
+            ≡ (if result then Some (standing_of self.new) else None) }
     {
-        let parts = parts_of(records)?;
-        let config = Config::restore(identity, parts.as_slice())?;
-        let ceilings = ceilings_in(&config, records);
-        Some(Standing { config, ceilings })
+        if !self.config.restore_from(&Snapshot { records }) {
+            self.ceilings = CeilingTable::new();
+            return false;
+        }
+        self.ceilings = ceilings_in(&self.config, records);
+        true
+    }
+
+    /// Goes on with the records behind a snapshot, and answers whether each of them fits.
+    fn follow_all(&mut self, records: &[Record]) -> bool
+        ensures { standing_after_records (standing_of self.old) records.now
+            ≡ (if result then Some (standing_of self.new) else None) }
+    {
+        for value in records {
+            if !self.follow(value) {
+                return false;
+            }
+        }
+        true
     }
 
     /// Goes on with the record of a command or of a raised ceiling, and answers whether it fits.

@@ -2,8 +2,9 @@
 
 ghost use Rattle.std.specs.Prelude.{◌≡◌, ◌<◌, ◌^◌, IsSome, IfSome};
 ghost use Rattle.macs_config.specs.Value.{config_of};
+ghost use Rattle.macs_journal.specs.Areas.{slots};
 ghost use Rattle.macs_store.specs.Keeps.{Commits, Keeps, KeepsRecord};
-ghost use Rattle.macs_store.specs.Value.{StoreValue, device_in, is_stopped, standing_in};
+ghost use Rattle.macs_store.specs.Value.{StoreValue, device_in, is_stopped, standing_in, used_slots};
 ghost use Rattle.macs_config.specs.Numbers.{block_beyond};
 ghost use Rattle.macs_store.specs.Standing.{IsStanding, standing_with_rx_raised, standing_with_tx_raised};
 
@@ -18,8 +19,9 @@ use macs_record::{Ceiling, Record};
 use std::marker::Model;
 
 /// The configuration of an endpoint and the ceilings of its packet numbers, as they stand on its disk.
-/// A change is in memory only after its record is durable. After a device fault the store answers
-/// `Stopped` until the disk is opened again.
+/// A change is in memory only after its record is durable. Where all 256 slots of the journal's current
+/// area are used it begins anew in the other area, with a snapshot of what stands, before it takes the
+/// next record. After a device fault the store answers `Stopped` until the disk is opened again.
 #[derive(Drop)]
 pub struct Store<D: SectorDisk> {
     pub(crate) journal: Journal<D>,
@@ -34,8 +36,8 @@ impl<D: SectorDisk> Model for Store<D> {
 
 impl<D: SectorDisk> Store<D> {
     /// Keeps a command and applies it. Refused as `Stopped`, then as `Refused` with the first refusal that
-    /// holds, then as `AreaFull`; these change nothing. `Disk` at the first device call that fails: the
-    /// configuration stands as it was, and after a power loss it is found with the command or without.
+    /// holds, then as `GenerationsSpent`; these change nothing. `Disk` at the first device call that fails:
+    /// the configuration stands as it was, and after a power loss it is found with the command or without.
     pub fn commit(&mut self, command: &Command) -> Result<(), CommitFault>
         ensures { Commits D.disk self.old command.now result self.new }
     {
@@ -49,7 +51,7 @@ impl<D: SectorDisk> Store<D> {
         let value = Record::command(command).unwrap();
         if let Err(fault) = self.keep(&value) {
             return match fault {
-                JournalFault::AreaFull => Err(CommitFault::AreaFull),
+                JournalFault::GenerationsSpent => Err(CommitFault::GenerationsSpent),
                 _ => Err(CommitFault::Disk),
             };
         }
@@ -58,9 +60,9 @@ impl<D: SectorDisk> Store<D> {
     }
 
     /// Raises the ceiling of a transmit association by a block, to 2^32 at most. The association stands,
-    /// and its ceiling is below 2^32. Refused as `Stopped`, then as `AreaFull`; these change nothing.
-    /// `Disk` at the first device call that fails: the ceiling stands as it was, and after a power loss it
-    /// is found raised or not.
+    /// and its ceiling is below 2^32. Refused as `Stopped`, then as `GenerationsSpent`; these change
+    /// nothing. `Disk` at the first device call that fails: the ceiling stands as it was, and after a power
+    /// loss it is found raised or not.
     pub fn reserve_tx(&mut self, an: An) -> Result<(), JournalFault>
         requires raised { IfSome ((standing_in self.old).ceilings.tx an) (λ old. old < 2 ^ 32) }
         requires stands { IsSome ((standing_in self.old).ceilings.tx an) }
@@ -87,7 +89,8 @@ impl<D: SectorDisk> Store<D> {
         Ok(())
     }
 
-    /// Keeps a record; what stands in memory does not change yet.
+    /// Keeps a record; what stands in memory does not change yet. Where all 256 slots are used the
+    /// journal begins anew first, with a snapshot of what stands.
     fn keep(&mut self, value: &Record) -> Result<(), JournalFault>
         ensures { KeepsRecord D.disk self.old value.now result self.new }
     {
@@ -95,8 +98,16 @@ impl<D: SectorDisk> Store<D> {
             return Err(JournalFault::Stopped);
         }
         if self.journal.is_full() {
-            return Err(JournalFault::AreaFull);
+            self.compact()?;
         }
+        self.append(value)
+    }
+
+    /// Appends a record to the journal, which has a free slot.
+    fn append(&mut self, value: &Record) -> Result<(), JournalFault>
+        requires room { used_slots self.old < slots }
+        ensures { KeepsRecord D.disk self.old value.now result self.new }
+    {
         self.journal.append(value)
     }
 

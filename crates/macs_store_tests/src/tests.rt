@@ -1,6 +1,9 @@
 //! Stores on disks in memory: what is kept and found again, and what is refused.
 
 mod commits;
+mod compactions;
+mod full;
+mod limits;
 mod replays;
 mod reserves;
 mod steps;

@@ -3,16 +3,16 @@
 use super::frames::PEER;
 use super::steps::Step::{
     Commands, HasChannel, HasChannels, HasEncoding, HasIdentity, HasInHand, HasNext, HasNumbers,
-    HasReplay, HasSciMode, HasValidate, HasWindow, IsStopped, Refills,
+    HasReplay, HasSciMode, HasValidate, HasWindow, IsStopped,
 };
-use super::steps::{keeps, play, refills, refuses, sends, story};
+use super::steps::{keeps, play, refuses, story};
 use super::{
     ADD, END, OTHER, OWN, SECTORS, crashed, formatted, fuse, made, number_of, opened, rx_install,
-    sender, tx_install, unfused, window,
+    tx_install, unfused, window,
 };
 use macs_config::{Command, Refusal, Replay, SciMode, Validate};
 use macs_disk::{MemDisk, SectorDisk};
-use macs_endpoint::{CommandFault, Endpoint, RefillFault};
+use macs_endpoint::{CommandFault, Endpoint};
 use macs_record::{SECTOR, open_gate};
 use std::alloc::Global;
 use std::process::Abort;
@@ -132,32 +132,4 @@ fn commands_are_found_again(rt: HostRuntime) {
         HasNumbers(3, None),
     ];
     story(&rt, made(&rt, rt.alloc(), OWN), &steps, &found);
-}
-
-/// The snapshot takes one of 256 slots.
-#[test]
-fn a_full_area_takes_nothing(rt: HostRuntime) {
-    let other = number_of(&rt, 1);
-    let mut endpoint = sender(&rt, rt.alloc(), 1);
-    for number in 1..=253 {
-        play(&rt, &mut endpoint, &[keeps(window(number))]);
-    }
-    let steps = [
-        sends(1),
-        refills(),
-        sends(2),
-        Refills(Err(RefillFault::AreaFull)),
-        Commands(window(9), Err(CommandFault::AreaFull)),
-        refuses(Command::TxUse { an: other }, Refusal::SlotEmpty),
-        IsStopped(false),
-        HasInHand(None),
-        HasWindow(253),
-        HasNext(0, Some(3)),
-    ];
-    story(
-        &rt,
-        endpoint,
-        &steps,
-        &[HasWindow(253), HasNext(0, Some(5))],
-    );
 }

@@ -1,6 +1,7 @@
 //! Disks that are formatted or opened.
 
 use super::frames::PEER;
+use super::torn::read;
 use super::{OPENING, OWN, SECTORS, blank, formatted, made};
 use macs_config::Identity;
 use macs_disk::{Fuse, MemDisk, MemFault, SectorDisk};
@@ -44,15 +45,8 @@ const OPEN: &[u8] = b"MSECOPEN";
 /// protection with a window of 0, the SCI spelled out, and no association to send under.
 const SETTINGS: &[u8] = b"MREC\x01\x00\x01\x00\x00\x00\x00\x00\xff";
 
-fn read(rt: &impl Abort, disk: &mut MemDisk, at: u64) -> [u8; SECTOR] {
-    let mut sector = [0xaa; SECTOR];
-    assert!(rt; at < disk.sectors());
-    assert!(rt; disk.read(at, &mut sector).is_ok());
-    sector
-}
-
 /// A sector has these octets, and zeros behind them.
-fn expect_sector(rt: &impl Abort, disk: &mut MemDisk, at: u64, octets: &[u8]) {
+pub(super) fn expect_sector(rt: &impl Abort, disk: &mut MemDisk, at: u64, octets: &[u8]) {
     let sector = read(rt, disk, at);
     assert!(rt; octets.len() <= SECTOR);
     let (front, back) = sector.split_at(octets.len());

@@ -2,7 +2,7 @@
 
 use super::steps::Step::{
     Commits, HasChannels, HasEncoding, HasIdentity, HasPeer, HasReplay, HasRx, HasRxSa, HasSciMode,
-    HasTx, HasTxSa, HasValidate, HasWindow, IsSpent, IsStopped, ReservesRx, ReservesTx,
+    HasTx, HasTxSa, HasValidate, HasWindow, IsSpent,
 };
 use super::steps::{commits, play, refuses, story};
 use super::{
@@ -126,32 +126,6 @@ fn a_refused_command_makes_no_call(rt: HostRuntime) {
     ];
     let disk = fuse(formatted(&rt, rt.alloc()), OPENING);
     play(&rt, &mut opened(&rt, disk), &steps);
-}
-
-#[test]
-fn a_full_area_takes_no_further_record(rt: HostRuntime) {
-    let (first, other) = (an(&rt, 0), an(&rt, 1));
-    let associations = [
-        commits(tx_install(first, 1, 1)),
-        commits(ADD),
-        commits(rx_install(first, 1, 1)),
-    ];
-    let full = [
-        Commits(window(9), Err(CommitFault::AreaFull)),
-        refuses(Command::TxUse { an: other }, Refusal::SlotEmpty),
-        HasTx(first, Some(5)),
-        ReservesTx(first, Err(JournalFault::AreaFull)),
-        HasTx(first, Some(5)),
-        ReservesRx(first, 3, Err(JournalFault::AreaFull)),
-        HasRx(first, Some(1)),
-        IsStopped(false),
-    ];
-    let mut store = made(&rt, rt.alloc());
-    play(&rt, &mut store, &associations);
-    for number in 1..=252 {
-        play(&rt, &mut store, &[commits(window(number))]);
-    }
-    story(&rt, store, &full, &[HasWindow(252)]);
 }
 
 #[test]

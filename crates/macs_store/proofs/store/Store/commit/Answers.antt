@@ -3,7 +3,7 @@ use Rattle.macs_record.specs.Commands.{record_of}
 use Rattle.macs_store.specs.Value.{StoreValue, is_stopped, standing_in}
 use Rattle.macs_store.specs.Standing.{accept}
 use Rattle.macs_store.specs.Table.{StandingValue, standing_of}
-use Rattle.macs_store.proofs.Promises.{failed-commits, full-commits, kept-commits, refused-commits, stopped-commits}
+use Rattle.macs_store.proofs.Promises.{failed-commits, kept-commits, refused-commits, spent-commits, stopped-commits}
 use Rattle.macs_store.proofs.store.Store.commit.Given.{Over}
 use Rattle.macs_store.proofs.store.Store.commit.Goals.{After-keep, After-self-2, In-Err}
 use Rattle.macs_store.proofs.store.Store.commit.Goals as goal
@@ -37,17 +37,17 @@ module _ (g : Over) (c : After-keep g) where
   has : record_of c.args.command.now ≡ Some c.unwrap-value.result
   has = sym c.command.ensures ∙ c.unwrap-value.ensures
 
-pub returns-in-AreaFull : goal.returns-in-AreaFull
-returns-in-AreaFull g c =
-    let at = (goal.at.returns-in-AreaFull g c).After-keep in
-    full-commits g.D.SectorDisk.disk c.args.self.now c.args.command.now c.unwrap-value.result c.keep.new.self (has g at) (fits g at) (going g at)
-    (rw c.in-AreaFull.is at c.in-Err-keep.ensures)
+pub returns-in-GenerationsSpent : goal.returns-in-GenerationsSpent
+returns-in-GenerationsSpent g c =
+    let at = (goal.at.returns-in-GenerationsSpent g c).After-keep in
+    spent-commits g.D.SectorDisk.disk c.args.self.now c.args.command.now c.unwrap-value.result c.keep.new.self (has g at) (fits g at) (going g at)
+    (rw c.in-GenerationsSpent.is at c.in-Err-keep.ensures)
 
 pub returns-in_default-fault : goal.returns-in_default-fault
 returns-in_default-fault g c =
     let at = (goal.at.returns-in_default-fault g c).After-keep in
     failed-commits g.D.SectorDisk.disk c.args.self.now c.args.command.now c.unwrap-value.result c.keep.new.self (has g at) (fits g at) (going g at)
-    c.in-Err-keep.fault c.in_default-fault.not-AreaFull c.in-Err-keep.ensures
+    c.in-Err-keep.fault c.in_default-fault.not-GenerationsSpent c.in-Err-keep.ensures
 
 -- ---- and so it is applied
 

@@ -1,0 +1,64 @@
+-- What it says of a command that it is accepted.
+use Rattle.std.proofs.Common.{◌≡◌, ℕ, Bool, true, false, cond, bytes_eq, List, [], ◌∷◌, ◌++◌, Some, None, Ok, refl, sym, ◌∙◌}
+use Rattle.std.proofs.lemmas.Bool.{false≢true, or_left}
+use Rattle.macs_frame.specs.First.{first}
+use Rattle.macs_config.specs.Apply.{apply, config_after, has_wrong_start, is_slot_taken, refusal_of, refusals}
+use Rattle.macs_config.specs.Config.{Config, Edition, is_spent, rx_fingerprint, tx_fingerprint}
+use Rattle.macs_config.specs.Identity.{Identity}
+use Rattle.macs_config.specs.declared.command.Command.{Command}
+use Rattle.macs_config.specs.declared.command.Command.TheVariants.{RxInstall, TxInstall}
+use Rattle.macs_config.proofs.Channels.{bytes_eq-itself}
+use Rattle.macs_config.proofs.Kept.{applied_by}
+use Rattle.macs_config.proofs.Spent.{among-behind}
+
+-- none of these tests holds
+abbrev pub NoTest : {R : Type 0} → List (R × Bool) → Type 0
+NoTest [] = Unit {0}
+NoTest (row ∷ rows) = (row.1 ≡ false) × NoTest rows
+
+no_test_by : {R : Type 0} (refusal : R) (test : Bool) (rows : List (R × Bool)) → (first rows ≡ None → NoTest rows)
+    → cond test (Some refusal) (first rows) ≡ None → (test ≡ false) × NoTest rows
+no_test_by refusal true rows later is = absurd (cc)
+no_test_by refusal false rows later is = (refl, later is)
+
+pub no-test : {R : Type 0} (rows : List (R × Bool)) → first rows ≡ None → NoTest rows
+no-test [] is = tt
+no-test (row ∷ rows) is = no_test_by row.0 row.1 rows (no-test rows) is
+
+-- it is not refused, and makes this of the configuration
+pub accepted : (edition : Edition) (identity : Identity) (c : Config) (command : Command) (new : Config) → apply edition identity c command ≡ Ok new
+    → (refusal_of edition identity c command ≡ None) × (new ≡ config_after c command)
+accepted edition identity c command new is =
+    let made = applied_by (refusal_of edition identity c command) (config_after c command) new is in
+    (made.0, sym made.1)
+
+module _ (edition : Edition) (identity : Identity) (c : Config) (command : Command) (is : refusal_of edition identity c command ≡ None) where
+  tests : NoTest (refusals edition identity c command)
+  tests = no-test (refusals edition identity c command) is
+
+  -- an association does not begin with packet number 0
+  pub right-start : has_wrong_start command ≡ false
+  right-start = tests.0
+
+  -- the place of an install is free
+  pub free-slot : is_slot_taken c command ≡ false
+  free-slot = tests.1.1.1.1.1.1.1.0
+
+-- the key of an install was not spent on its side
+pub tx-unspent : (edition : Edition) (identity : Identity) (c : Config) (an : ℕ) (key : List ℕ) (start : ℕ) (confidential : Bool) (offset : ℕ)
+    → refusal_of edition identity c (TxInstall an key start confidential offset) ≡ None → ¬ (is_spent c.spent_tx (tx_fingerprint key) ≡ true)
+tx-unspent edition identity c an key start confidential offset is here =
+    let none : NoTest (refusals edition identity c (TxInstall an key start confidential offset)) =
+    no-test (refusals edition identity c (TxInstall an key start confidential offset)) is in
+    false≢true (sym none.1.1.1.1.1.1.1.1.1.1.0 ∙ here)
+
+pub rx-unspent : (edition : Edition) (identity : Identity) (c : Config) (sci : List ℕ) (an : ℕ) (key : List ℕ) (start offset : ℕ)
+    → refusal_of edition identity c (RxInstall sci an key start offset) ≡ None → ¬ (is_spent c.spent_rx (rx_fingerprint sci key) ≡ true)
+rx-unspent edition identity c sci an key start offset is here =
+    let none : NoTest (refusals edition identity c (RxInstall sci an key start offset)) =
+    no-test (refusals edition identity c (RxInstall sci an key start offset)) is in
+    false≢true (sym none.1.1.1.1.1.1.1.1.1.1.0 ∙ here)
+
+-- and is spent then
+pub spent-pushed : (spent : List (List ℕ)) (print : List ℕ) → is_spent (spent ++ print ∷ []) print ≡ true
+spent-pushed spent print = among-behind spent (print ∷ []) print (or_left (bytes_eq print print) false (bytes_eq-itself print))

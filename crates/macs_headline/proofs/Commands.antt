@@ -1,0 +1,161 @@
+-- The headline on commands: what an opening finds of them.
+use Rattle.std.proofs.Common.{◌≡◌, inl, inr, ℕ, refl, sym, ◌∙◌, ap, subst, List, [], ◌∷◌, ◌++◌, Result, Ok, Err, append-nil}
+use Rattle.std.specs.Prelude.{Option}
+use Rattle.std.specs.Option.{option_to_list}
+use Rattle.macs_config.specs.Apply.{apply}
+use Rattle.macs_config.specs.Config.{Config, Edition}
+use Rattle.macs_config.specs.Identity.{Identity}
+use Rattle.macs_config.specs.declared.command.Command.{Command}
+use Rattle.macs_rxsc.specs.declared.verdict.Verdict.{Verdict}
+use Rattle.macs_store.specs.Standing.{Standing}
+use Rattle.macs_store.specs.declared.fault.CommitFault.{CommitFault}
+use Rattle.macs_store.specs.declared.fault.CommitFault.TheVariants as commit
+use Rattle.macs_endpoint.specs.declared.fault.ProtectFault.{ProtectFault}
+use Rattle.macs_endpoint.specs.declared.fault.ProtectFault.TheVariants as protect
+use Rattle.macs_endpoint.specs.declared.fault.RefillFault.{RefillFault}
+use Rattle.macs_endpoint.specs.declared.fault.RefillFault.TheVariants as refill
+use Rattle.macs_endpoint.specs.declared.fault.Stopped.{Stopped}
+use Rattle.macs_endpoint.specs.Restart.{Restart, opened_state}
+use Rattle.macs_endpoint.specs.State.{Call, Commands, Protects, Protected, Ran, Received, Receives, Refilled, Refills, Reply, State}
+use Rattle.macs_endpoint.specs.Step.{CommandStep, Exchange, IsStopped, ProtectStep, ReceiveStep, RefillStep, RunningStep, Step, Steps}
+use Rattle.macs_headline.specs.Commands.{CommandsKept, CommandsMake, FindsPrefix, acknowledged_by, acknowledged_commands}
+use Rattle.macs_headline.specs.History.{logs_of, state_at_end}
+use Rattle.macs_headline.proofs.Effects.{Core}
+use Rattle.macs_headline.proofs.Sound.{end-core, end-edition}
+use Rattle.macs_headline.proofs.Histories.{fits-restart}
+
+-- ---- the commands of a life
+
+-- commands, and then more
+made_on : (edition : Edition) (identity : Identity) (a b c : Config) (xs ys : List Command) → CommandsMake edition identity a xs b
+    → CommandsMake edition identity b ys c → CommandsMake edition identity a (xs ++ ys) c
+made_on edition identity a b c [] ys one two = subst (λ (a : Config). CommandsMake edition identity a ys c) one two
+made_on edition identity a b c (x ∷ xs) ys one two = (one.0, one.1, made_on edition identity one.0 b c xs ys one.2 two)
+
+-- these commands lead from a state to a state
+record IsMadeBy (old new : State) (commands : List Command) : Type 0 where
+  edition : new.edition ≡ old.edition
+  identity : new.identity ≡ old.identity
+  made : CommandsMake old.edition old.identity old.config commands new.config
+
+unchanged : (old new : State) → new ≡ old → IsMadeBy old new []
+unchanged old new is = record { edition = ap (λ (s : State). s.edition) is; identity = ap (λ (s : State). s.identity) is; made = ap (λ (s : State). s.config) is }
+
+-- those that a call with this answer acknowledges
+abbrev IsMadeByCall : State → State → Call → Reply → Type 0
+IsMadeByCall old new call reply = IsMadeBy old new (acknowledged_by call reply)
+
+by_command : (old : State) (c : Command) (result : Result (Unit {0}) CommitFault) (new : State) → CommandStep old c result new
+    → IsMadeByCall old new (Commands c) (Ran result)
+by_command old c (Ok done) new h = record {
+  edition = ap (λ (s : State). s.edition) h.2;
+  identity = ap (λ (s : State). s.identity) h.2;
+  made = (h.0, h.1, ap (λ (s : State). s.config) h.2);
+}
+by_command old c (Err commit.Stopped) new h = absurd h
+by_command old c (Err fault) new h = record {
+  edition = ap (λ (s : State). s.edition) h.1;
+  identity = ap (λ (s : State). s.identity) h.1;
+  made = ap (λ (s : State). s.config) h.1;
+}
+
+by_refill : (old : State) (result : Result (Unit {0}) RefillFault) (new : State) → RefillStep old result new → IsMadeByCall old new Refills (Refilled result)
+by_refill old (Ok done) new is = unchanged old new is
+by_refill old (Err refill.Stopped) new is = absurd is
+by_refill old (Err fault) new is = record {
+  edition = ap (λ (s : State). s.edition) is;
+  identity = ap (λ (s : State). s.identity) is;
+  made = ap (λ (s : State). s.config) is;
+}
+
+by_protect : (old : State) (plain : List ℕ) (result : Result ℕ ProtectFault) (out : List ℕ) (new : State) → ProtectStep old plain result out new
+    → IsMadeByCall old new (Protects plain) (Protected result out)
+by_protect old plain (Ok pn) out new (none, (o, is_o, is_pn, is_out, is)) = record {
+  edition = ap (λ (s : State). s.edition) is;
+  identity = ap (λ (s : State). s.identity) is;
+  made = ap (λ (s : State). s.config) is;
+}
+by_protect old plain (Err (protect.Tx fault)) out new (why, empty, is) = unchanged old new is
+by_protect old plain (Err protect.Stopped) out new h = absurd h
+
+by_receive : (old : State) (frame : List ℕ) (result : Result Verdict Stopped) (out : List ℕ) (new : State) → ReceiveStep old frame result out new
+    → IsMadeByCall old new (Receives frame) (Received result out)
+by_receive old frame (Ok verdict) out new (inl (step, is_first, is_verdict, is_out, is)) = unchanged old new is
+by_receive old frame (Ok verdict) out new (inr (a, there, inl (is_verdict, above, is_out, is))) = record {
+  edition = ap (λ (s : State). s.edition) is;
+  identity = ap (λ (s : State). s.identity) is;
+  made = ap (λ (s : State). s.config) is;
+}
+by_receive old frame (Ok verdict) out new (inr (a, there, inr (is_verdict, is_out, is))) = record {
+  edition = ap (λ (s : State). s.edition) is;
+  identity = ap (λ (s : State). s.identity) is;
+  made = ap (λ (s : State). s.config) is;
+}
+by_receive old frame (Err stopped) out new h = absurd h
+
+by_call : (old : State) (call : Call) (reply : Reply) (new : State) → RunningStep old call reply new → IsMadeByCall old new call reply
+by_call old (Commands c) (Ran result) new h = by_command old c result new h
+by_call old Refills (Refilled result) new h = by_refill old result new h
+by_call old (Protects plain) (Protected result out) new h = by_protect old plain result out new h
+by_call old (Receives frame) (Received result out) new h = by_receive old frame result out new h
+by_call old call reply new h = absurd h
+
+by_stopped : (old : State) (call : Call) (reply : Reply) (new : State) → IsStopped call reply → new ≡ old → IsMadeByCall old new call reply
+by_stopped old (Commands c) (Ran (Ok done)) new h is = absurd h
+by_stopped old call reply new h is = unchanged old new is
+
+by_step : (old : State) (call : Call) (reply : Reply) (new : State) → Step old call reply new → IsMadeByCall old new call reply
+by_step old call reply new (inl (stopped, answer, is)) = by_stopped old call reply new answer is
+by_step old call reply new (inr (running, h)) = by_call old call reply new h
+
+by_steps : (old : State) (exchanges : List Exchange) (new : State) → Steps old exchanges new → IsMadeBy old new (acknowledged_commands exchanges)
+by_steps old [] new steps = unchanged old new steps
+by_steps old (e ∷ es) new steps =
+    let mid = steps.0 in
+    let one = by_step old e.call e.reply mid steps.1 in
+    let two = by_steps mid es new steps.2 in
+    let more = acknowledged_commands es in
+    let same_edition = subst (λ (edition : Edition). CommandsMake edition mid.identity mid.config more new.config) one.edition two.made in
+    let same_both = subst (λ (identity : Identity). CommandsMake old.edition identity mid.config more new.config) one.identity same_edition in
+    record {
+      edition = two.edition ∙ one.edition;
+      identity = two.identity ∙ one.identity;
+      made = made_on old.edition old.identity old.config mid.config new.config (acknowledged_by e.call e.reply) more one.made same_both;
+    }
+
+-- ---- what is found
+
+finds : (before after : Standing) (exchanges : List Exchange) (end : State) → end.edition ≡ before.edition → end.identity ≡ before.identity
+    → CommandsMake before.edition before.identity before.config (acknowledged_commands exchanges) end.config
+    → Restart end (opened_state after end.logs) → FindsPrefix before exchanges end.in_hand after
+finds before after exchanges end edition identity made (inl up) = record {
+  identity = up.identity ∙ identity;
+  kept = acknowledged_commands exchanges;
+  acknowledged = ([], append-nil (acknowledged_commands exchanges));
+  accepted = (option_to_list end.in_hand, refl);
+  made = subst (CommandsMake before.edition before.identity before.config (acknowledged_commands exchanges)) (sym up.config) made;
+}
+finds before after exchanges end edition identity made (inr (c, mid, hand, makes, up)) =
+    let done = acknowledged_commands exchanges in
+    let applied : apply before.edition before.identity end.config c ≡ Ok makes.0 =
+    subst (λ (e : Edition). apply e before.identity end.config c ≡ Ok makes.0) edition
+    (subst (λ (i : Identity). apply end.edition i end.config c ≡ Ok makes.0) identity makes.1) in
+    record {
+      identity = up.identity ∙ ap (λ (s : State). s.identity) makes.2 ∙ identity;
+      kept = done ++ c ∷ [];
+      acknowledged = (c ∷ [], refl);
+      accepted = ([], append-nil (done ++ c ∷ []) ∙ sym (ap (λ (h : Option Command). done ++ option_to_list h) hand));
+      made = made_on before.edition before.identity before.config end.config after.config done (c ∷ []) made
+          (makes.0, applied, up.config ∙ ap (λ (s : State). s.config) makes.2);
+    }
+
+pub commands-kept : (sectors : ℕ) → CommandsKept sectors
+commands-kept sectors last m cut later image after fits is_after =
+    let found = m.life.found in
+    let done = by_steps (opened_state found (logs_of m.past)) m.exchanges last m.life.steps in
+    let end = state_at_end last cut in
+    let config : end.config ≡ last.config = ap (λ (c : Core). c.config) (end-core last cut) in
+    let identity : end.identity ≡ last.identity = ap (λ (c : Core). c.identity) (end-core last cut) in
+    finds found after m.exchanges end (end-edition last cut ∙ done.edition) (identity ∙ done.identity)
+    (subst (CommandsMake found.edition found.identity found.config (acknowledged_commands m.exchanges)) (sym config) done.made)
+    (fits-restart later sectors image end after fits is_after)

@@ -1,0 +1,125 @@
+-- The images of the example fit the states that its lives end in.
+use Rattle.std.proofs.Common.{◌≡◌, ◌==◌, inl, inr, ℕ, Bool, true, false, cond, List, refl, sym, ◌∙◌, ap, subst, arith}
+use Rattle.std.specs.Prelude.{Option, Some, None}
+use Rattle.std.specs.Option.{option_map}
+use Rattle.macs_config.specs.Config.{this_edition}
+use Rattle.macs_rxsc.specs.Receive.{Numbers, first_numbers, numbers_after_delivery, numbers_under_window}
+use Rattle.macs_store.specs.Standing.{no_ceilings}
+use Rattle.macs_endpoint.specs.Restart.{Fits, RxRises, TxRises}
+use Rattle.macs_headline.specs.Example.{example_identity, example_sectors, later_edition, peer_sci, widen}
+use Rattle.macs_headline.specs.ExampleDisk.{cut_image, last_image, new_image, served_image}
+use Rattle.macs_headline.specs.ExampleStanding.{full_standing, last_standing, served_config}
+use Rattle.macs_headline.specs.History.{formatted_state}
+use Rattle.macs_headline.proofs.ExampleImages.{cut-is, larger, last-is, later-config, new-is, served-is, served_standing}
+use Rattle.macs_headline.proofs.ExampleStates.{after_hold, before_frame, first_end, first_followed, last_state, s0, s6, s7, second_end, t0, third_end, u0}
+use Rattle.macs_headline.proofs.Formats.{new-fits}
+use Rattle.macs_headline.proofs.Places.{cases_place, put_rx, put_rx-that}
+
+pub fits-new : Fits this_edition example_sectors new_image (formatted_state this_edition example_identity)
+fits-new = new-fits example_sectors new_image example_identity new-is
+
+-- ---- associations that are not the example's
+
+-- no numbers stay none
+rx_none : (old new : Option Numbers) → old ≡ None → new ≡ None → RxRises 4 old new
+rx_none old new is js = subst (λ (o : Option Numbers). RxRises 4 o new) (sym is) js
+
+away : {X : Type 0} (f : List ℕ → ℕ → Option X) (x : Option X) (sci : List ℕ) (an : ℕ) → (sci ≡ peer_sci → an ≡ 0 → ⊥) → put_rx f peer_sci 0 x sci an ≡ f sci an
+away f x sci an apart = put_rx-that f peer_sci 0 sci an x apart
+
+-- what holds of the peer's association, and of those that have no numbers, holds of all
+rx_all : (old new : List ℕ → ℕ → Option Numbers) → RxRises 4 (old peer_sci 0) (new peer_sci 0)
+    → ((sci : List ℕ) (an : ℕ) → (sci ≡ peer_sci → an ≡ 0 → ⊥) → (old sci an ≡ None) × (new sci an ≡ None))
+    → (sci : List ℕ) (an : ℕ) → RxRises 4 (old sci an) (new sci an)
+rx_all old new here none sci an = elim (cases_place sci an peer_sci 0) [
+  | inl same ↦
+      subst (λ (sci : List ℕ). RxRises 4 (old sci an) (new sci an)) (sym same.0)
+      (subst (λ (an : ℕ). RxRises 4 (old peer_sci an) (new peer_sci an)) (sym same.1) here)
+  | inr apart ↦ let both = none sci an apart in rx_none (old sci an) (new sci an) both.0 both.1
+]
+
+-- ---- after the first life
+
+tx_first : (own : Bool) → TxRises 4 (cond own (Some 3) (cond own (Some 2) (cond own (Some 1) None))) (cond own (Some 9) (cond own (Some 5) None))
+tx_first true = (9, refl, omega arith, omega arith, omega arith)
+tx_first false = refl
+
+-- the command in hand was followed
+pub fits-served : Fits this_edition example_sectors served_image first_end
+fits-served = record {
+  found = served_standing;
+  is_found = served-is;
+  restart = inr (
+    widen,
+    first_followed,
+    refl,
+    (served_config, refl, refl),
+    record {
+      edition = record { channels = omega arith; long_keys = λ is. is };
+      identity = refl;
+      config = refl;
+      next = λ an. tx_first (an == 0);
+      numbers = rx_all first_followed.numbers t0.numbers (9, refl, omega arith, omega arith) (λ sci an apart. (
+        ap (option_map (numbers_under_window 3))
+            (away s7.numbers (Some (numbers_after_delivery 0 after_hold 5)) sci an apart ∙ away s6.numbers (Some after_hold) sci an apart
+            ∙ away s0.numbers (Some before_frame) sci an apart),
+        ap (option_map first_numbers) (away (put_rx no_ceilings.rx peer_sci 0 (Some 1)) (Some 9) sci an apart ∙ away no_ceilings.rx (Some 1) sci an apart),
+      ));
+      logs = refl;
+      running = refl;
+      idle = refl;
+    },
+  );
+}
+
+-- ---- after the second life
+
+tx_second : (own : Bool) → TxRises 4 (cond own (Some 10) (cond own (Some 9) (cond own (Some 5) None))) (cond own (Some 13) None)
+tx_second true = (13, refl, omega arith, omega arith, omega arith)
+tx_second false = refl
+
+-- the command in hand was not
+pub fits-cut : Fits this_edition example_sectors (cut_image 2) second_end
+fits-cut = record {
+  found = full_standing;
+  is_found = cut-is;
+  restart = inl (record {
+    edition = record { channels = omega arith; long_keys = λ is. is };
+    identity = refl;
+    config = refl;
+    next = λ an. tx_second (an == 0);
+    numbers = rx_all second_end.numbers u0.numbers (9, refl, omega arith, omega arith) (λ sci an apart. (
+      ap (option_map first_numbers) (away (put_rx no_ceilings.rx peer_sci 0 (Some 1)) (Some 9) sci an apart ∙ away no_ceilings.rx (Some 1) sci an apart),
+      ap (option_map first_numbers) (away no_ceilings.rx (Some 9) sci an apart),
+    ));
+    logs = refl;
+    running = refl;
+    idle = refl;
+  });
+}
+
+-- ---- after the third life
+
+tx_third : (own : Bool) → TxRises 4 (cond own (Some 14) (cond own (Some 13) None)) (cond own (Some 17) None)
+tx_third true = (17, refl, omega arith, omega arith, omega arith)
+tx_third false = refl
+
+-- nor was it here, where the device failed
+pub fits-last : Fits later_edition example_sectors last_image third_end
+fits-last = record {
+  found = last_standing later_edition;
+  is_found = last-is later_edition later-config;
+  restart = inl (record {
+    edition = larger;
+    identity = refl;
+    config = refl;
+    next = λ an. tx_third (an == 0);
+    numbers = rx_all third_end.numbers last_state.numbers refl (λ sci an apart. (
+      away u0.numbers None sci an apart ∙ ap (option_map first_numbers) (away no_ceilings.rx (Some 9) sci an apart),
+      refl,
+    ));
+    logs = refl;
+    running = refl;
+    idle = refl;
+  });
+}

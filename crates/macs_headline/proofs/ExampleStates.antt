@@ -1,0 +1,103 @@
+-- The states of the example's lives.
+use Rattle.std.specs.Prelude.{ℕ}
+use Rattle.macs_config.specs.Apply.{config_after}
+use Rattle.macs_config.specs.Config.{Config, default, this_edition}
+use Rattle.macs_txsc.specs.Transmit.{Outgoing}
+use Rattle.macs_rxsc.specs.Receive.{Numbers, first_numbers, numbers_after_hold}
+use Rattle.macs_store.specs.Standing.{new_standing}
+use Rattle.macs_endpoint.specs.Restart.{opened_state}
+use Rattle.macs_endpoint.specs.State.{State, no_logs, state_after_fault, state_with_in_hand}
+use Rattle.macs_endpoint.specs.Step.{state_after_command, state_after_delivery, state_after_frame, state_after_hold}
+use Rattle.macs_headline.specs.Example.{add_peer, check_only, example_identity, install_own, install_peer, later_edition, own_sa, remove_peer, use_own, widen}
+use Rattle.macs_headline.specs.ExampleStanding.{full_standing, last_standing, served_config}
+use Rattle.macs_headline.proofs.ExampleFrames.{arrival}
+use Rattle.macs_headline.proofs.ExampleImages.{served_standing}
+
+-- what goes out under the transmit association
+abbrev pub outgoing : ℕ → Outgoing
+outgoing pn = record { an = 0; sa = own_sa; pn = pn }
+
+-- ---- the first life
+
+abbrev pub c1 : Config
+c1 = config_after default install_own
+
+abbrev pub c2 : Config
+c2 = config_after c1 use_own
+
+abbrev pub c3 : Config
+c3 = config_after c2 add_peer
+
+abbrev pub c4 : Config
+c4 = config_after c3 install_peer
+
+abbrev pub s0 : State
+s0 = opened_state (new_standing this_edition example_identity) no_logs
+
+abbrev pub s1 : State
+s1 = state_after_command s0 install_own c1
+
+abbrev pub s2 : State
+s2 = state_after_command s1 use_own c2
+
+abbrev pub s3 : State
+s3 = state_after_frame s2 (outgoing 1)
+
+abbrev pub s4 : State
+s4 = state_after_frame s3 (outgoing 2)
+
+abbrev pub s5 : State
+s5 = state_after_command s4 add_peer c3
+
+abbrev pub s6 : State
+s6 = state_after_command s5 install_peer c4
+
+-- the numbers of the receive association, before the frame comes and once it is held back
+abbrev pub before_frame : Numbers
+before_frame = first_numbers 1
+
+abbrev pub after_hold : Numbers
+after_hold = numbers_after_hold before_frame 5
+
+abbrev pub s7 : State
+s7 = state_after_hold s6 (arrival before_frame)
+
+abbrev pub s8 : State
+s8 = state_after_delivery s7 (arrival after_hold)
+
+abbrev pub first_end : State
+first_end = state_with_in_hand s8 widen
+
+-- what it is once the command in hand was followed
+abbrev pub first_followed : State
+first_followed = state_after_command first_end widen served_config
+
+-- ---- the second life
+
+abbrev pub t0 : State
+t0 = opened_state served_standing s8.logs
+
+abbrev pub t1 : State
+t1 = state_after_frame t0 (outgoing 9)
+
+abbrev pub second_end : State
+second_end = state_with_in_hand t1 remove_peer
+
+-- ---- the third life
+
+abbrev pub u0 : State
+u0 = opened_state full_standing t1.logs
+
+abbrev pub u1 : State
+u1 = state_after_command u0 remove_peer (config_after served_config remove_peer)
+
+abbrev pub u2 : State
+u2 = state_after_frame u1 (outgoing 13)
+
+abbrev pub third_end : State
+third_end = state_after_fault (state_with_in_hand u2 check_only)
+
+-- ---- the last opening
+
+abbrev pub last_state : State
+last_state = opened_state (last_standing later_edition) u2.logs

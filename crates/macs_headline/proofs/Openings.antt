@@ -1,0 +1,38 @@
+-- The headline on openings that are refused.
+use Rattle.std.proofs.Common.{◌≡◌, ◌⊎◌, inl, inr, ℕ, List, Result, Err}
+use Rattle.macs_config.specs.Config.{Edition}
+use Rattle.macs_config.specs.Identity.{Identity}
+use Rattle.macs_disk.specs.States.{Image}
+use Rattle.macs_journal.specs.declared.fault.JournalFault.{JournalFault}
+use Rattle.macs_journal.specs.declared.fault.JournalFault.TheVariants.{Disk, NotFormatted}
+use Rattle.macs_store.specs.Found.{StandingIs}
+use Rattle.macs_store.specs.Standing.{Standing, new_standing}
+use Rattle.macs_store.proofs.OneStanding.{one_standing}
+use Rattle.macs_endpoint.specs.State.{State}
+use Rattle.macs_endpoint.specs.Restart.{Fits}
+use Rattle.macs_headline.specs.History.{Blank, FitsPast}
+use Rattle.macs_headline.specs.Openings.{RefusedForDisk, RefusedForDiskOrBlank}
+use Rattle.macs_headline.proofs.Histories.{found-or-refused}
+
+same_fault : (a b : JournalFault) → ◌≡◌ {A = Result Standing JournalFault} (Err a) (Err b) → a ≡ b
+same_fault a b is = cc
+
+module _ (sectors : ℕ) where
+  for_disk : (edition : Edition) (image : Image) (s : State) (fault : JournalFault) → Fits edition sectors image s
+      → (fault ≡ Disk) ⊎ StandingIs edition sectors image (Err fault) → fault ≡ Disk
+  for_disk edition image s fault fits (inl is) = is
+  for_disk edition image s fault fits (inr is) = absurd (found-or-refused edition sectors image fault fits.found is fits.is_found)
+
+  pub refused-for-disk : RefusedForDisk sectors
+  refused-for-disk s edition image fault new leads = for_disk edition image s fault leads.0 leads.1
+
+  for_blank : (identities : List Identity) (edition : Edition) (image : Image) (fault : JournalFault) → FitsPast edition sectors (Blank identities) image
+      → (fault ≡ Disk) ⊎ StandingIs edition sectors image (Err fault) → (fault ≡ Disk) ⊎ (fault ≡ NotFormatted)
+  for_blank identities edition image fault fits (inl is) = inl is
+  for_blank identities edition image fault (inl none) (inr is) =
+      inr (same_fault fault NotFormatted (one_standing edition sectors image (Err fault) (Err NotFormatted) is none))
+  for_blank identities edition image fault (inr (identity, among, new)) (inr is) =
+      absurd (found-or-refused edition sectors image fault (new_standing edition identity) is new)
+
+  pub refused-for-disk-or-blank : RefusedForDiskOrBlank sectors
+  refused-for-disk-or-blank identities edition image fault new leads = for_blank identities edition image fault leads.0 leads.1

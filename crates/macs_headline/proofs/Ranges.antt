@@ -1,0 +1,278 @@
+-- Next packet numbers stay within 1 and 2^32, and a command in hand in its ranges.
+use Rattle.std.proofs.Common.{◌≡◌, ◌<◌, ◌≤◌, ◌+◌, ◌^◌, ◌==◌, inl, inr, ℕ, refl, sym, ◌∙◌, ap, subst, arith, List, [], ◌∷◌, Bool, true, false, cond, Result, Ok, Err}
+use Rattle.std.specs.Prelude.{Option, Some, None, IfSome, not, ◌&&◌, is_ok}
+use Rattle.std.specs.List.{AllByRecursion}
+use Rattle.std.proofs.lemmas.Bool.{cases_eq, eq-eqb}
+use Rattle.macs_config.specs.Apply.{IsCommand, apply, refusal_of}
+use Rattle.macs_config.specs.Config.{Config, Edition}
+use Rattle.macs_config.specs.Identity.{Identity}
+use Rattle.macs_config.specs.Tables.{put}
+use Rattle.macs_config.specs.declared.command.Command.{Command}
+use Rattle.macs_config.specs.declared.command.Command.TheVariants.{TxInstall, TxRemove}
+use Rattle.macs_disk.specs.States.{Image}
+use Rattle.macs_txsc.specs.Transmit.{is_used_up, next_outgoing, tx_faults}
+use Rattle.macs_rxsc.specs.declared.verdict.Verdict.{Verdict}
+use Rattle.macs_store.specs.Found.{StandingIs}
+use Rattle.macs_store.specs.Standing.{Standing}
+use Rattle.macs_store.specs.declared.fault.CommitFault.{CommitFault}
+use Rattle.macs_store.specs.declared.fault.CommitFault.TheVariants as commit
+use Rattle.macs_endpoint.specs.Calls.{IsInRange}
+use Rattle.macs_endpoint.specs.declared.fault.ProtectFault.{ProtectFault}
+use Rattle.macs_endpoint.specs.declared.fault.ProtectFault.TheVariants as protect
+use Rattle.macs_endpoint.specs.declared.fault.RefillFault.{RefillFault}
+use Rattle.macs_endpoint.specs.declared.fault.RefillFault.TheVariants as refill
+use Rattle.macs_endpoint.specs.declared.fault.Stopped.{Stopped}
+use Rattle.macs_endpoint.specs.Restart.{Restart, Resumes, TxRises, opened_state}
+use Rattle.macs_endpoint.specs.State.{Call, Commands, Protects, Protected, Ran, Received, Receives, Refilled, Refills, Reply, State, no_logs, state_with_in_hand, tx_side}
+use Rattle.macs_endpoint.specs.Step.{CommandStep, Exchange, Makes, ProtectStep, ReceiveStep, RefillStep, RunningStep, Step, Steps, next_after}
+use Rattle.macs_headline.specs.Frames.{FramesAreStandard, IsStandardFrame}
+use Rattle.macs_headline.specs.History.{Blank, FitsPast, FormatLeads, Formats, Formatted, IsLifeSoFar, LeadOn, Leads, Life, Past, Refuses, Serves, formatted_state, logs_of, state_at_end}
+use Rattle.macs_headline.proofs.Ledger.{some_one}
+use Rattle.macs_headline.proofs.Places.{put-that, put-this}
+use Rattle.macs_headline.proofs.Accepted.{NoTest, accepted, no-test, right-start}
+use Rattle.macs_headline.proofs.Effects.{outgoing_is}
+use Rattle.macs_headline.proofs.Editions.{found-edition}
+use Rattle.macs_headline.proofs.Histories.{fits-restart, found-new}
+
+-- a next packet number
+abbrev IsNext : ℕ → Type 0
+IsNext m = (1 ≤ m) × (m ≤ 2 ^ 32)
+
+-- a state of a program of this edition, with numbers and a command in their ranges
+pub record IsRanged (edition : Edition) (s : State) : Type 0 where
+  pub same : s.edition ≡ edition
+  pub nexts : (an m : ℕ) → s.next an ≡ Some m → IsNext m
+  pub hand : (c : Command) → s.in_hand ≡ Some c → IsCommand edition c
+
+none_some : {X : Type 0} (o : Option X) (x : X) → o ≡ None → o ≡ Some x → ⊥
+none_some o x is js = absurd (cc)
+
+-- ---- commands
+
+-- a command in its ranges that is accepted keeps the numbers in theirs
+nexts_after : (edition : Edition) (identity : Identity) (config : Config) (c : Command) (next : ℕ → Option ℕ) (range : Edition) → IsCommand range c
+    → refusal_of edition identity config c ≡ None → ((an m : ℕ) → next an ≡ Some m → IsNext m) → (an m : ℕ) → next_after c next an ≡ Some m → IsNext m
+nexts_after edition identity config (TxInstall at key start confidential offset) next range ranged ok old an m is = elim (cases_eq an at) [
+  | inl here ↦
+      let test : (start == 0) ≡ false = right-start edition identity config (TxInstall at key start confidential offset) ok in
+      let one : start ≡ m = some_one (put next at (Some start) an) start m (put-this next at an (Some start) here) is in
+      let small : start < 2 ^ 32 = ranged.2 in
+      elim (cases_eq start 0) [
+        | inl none ↦ let test_true : (start == 0) ≡ true = eq-eqb start 0 none in absurd (cc)
+        | inr some ↦ (omega (arith, one, some), omega (arith, one, small))
+      ]
+  | inr apart ↦ old an m (sym (put-that next at an (Some start) apart) ∙ is)
+]
+nexts_after edition identity config (TxRemove at) next range ranged ok old an m is = elim (cases_eq an at) [
+  | inl here ↦ let gone = put-this next at an None here in absurd (cc)
+  | inr apart ↦ old an m (sym (put-that next at an None apart) ∙ is)
+]
+nexts_after edition identity config c next range ranged ok old an m is = old an m is
+
+module _ (edition : Edition) where
+  same_range : (old new : State) → new ≡ old → IsRanged edition old → IsRanged edition new
+  same_range old new is ranged = subst (IsRanged edition) (sym is) ranged
+
+  makes_range : (old : State) (c : Command) (new : State) → IsCommand edition c → Makes old c new → IsRanged edition old → IsRanged edition new
+  makes_range old c new command m ranged =
+      let a = accepted old.edition old.identity old.config c m.0 m.1 in
+      subst (IsRanged edition) (sym m.2) (record {
+        same = ranged.same;
+        nexts = nexts_after old.edition old.identity old.config c old.next edition command a.0 ranged.nexts;
+        hand = λ d is. absurd (none_some None d refl is);
+      })
+
+  stopped_range : (old new : State) → new ≡ record old { stopped = true } → IsRanged edition old → IsRanged edition new
+  stopped_range old new is ranged = subst (IsRanged edition) (sym is) (record { same = ranged.same; nexts = ranged.nexts; hand = ranged.hand })
+
+  hand_range : (s : State) (c : Command) → IsCommand edition c → IsRanged edition s → IsRanged edition (state_with_in_hand s c)
+  hand_range s c command ranged = record {
+    same = ranged.same;
+    nexts = ranged.nexts;
+    hand = λ d is. subst (IsCommand edition) (let one : c ≡ d = cc in one) command;
+  }
+
+  by_command : (old : State) (c : Command) (result : Result (Unit {0}) CommitFault) (new : State) → IsCommand edition c → CommandStep old c result new
+      → IsRanged edition old → IsRanged edition new
+  by_command old c (Ok done) new command h ranged = makes_range old c new command h ranged
+  by_command old c (Err commit.Stopped) new command h ranged = absurd h
+  by_command old c (Err commit.Disk) new command h ranged = stopped_range (state_with_in_hand old c) new h.1 (hand_range old c command ranged)
+  by_command old c (Err fault) new command h ranged = same_range old new h.1 ranged
+
+  by_refill : (old : State) (result : Result (Unit {0}) RefillFault) (new : State) → RefillStep old result new → IsRanged edition old → IsRanged edition new
+  by_refill old (Err refill.Stopped) new h ranged = absurd h
+  by_refill old (Err refill.Disk) new h ranged = stopped_range old new h ranged
+  by_refill old result new h ranged = same_range old new h ranged
+
+  -- a frame that goes out
+  goes_out : (old : State) (plain : List ℕ) (pn : ℕ) (out : List ℕ) (new : State) → ProtectStep old plain (Ok pn) out new → IsRanged edition old
+      → IsStandardFrame old plain pn out new × IsRanged edition new
+  goes_out old plain pn out new (none, (o, is_o, is_pn, is_out, is)) ranged =
+      let there = outgoing_is (tx_side old) old.config.encoding o is_o in
+      let within : IsNext o.pn = ranged.nexts o.an o.pn there.next_is in
+      let tests : NoTest (tx_faults (tx_side old) plain) = no-test (tx_faults (tx_side old) plain) none in
+      let test : is_used_up (next_outgoing (tx_side old)) ≡ false = tests.1.1.1.1.0 in
+      let left : (o.pn == 2 ^ 32) ≡ false = ap is_used_up (sym is_o) ∙ test in
+      let below : o.pn < 2 ^ 32 = elim (cases_eq o.pn (2 ^ 32)) [
+        | inl last ↦ let test_true : (o.pn == 2 ^ 32) ≡ true = eq-eqb o.pn (2 ^ 32) last in absurd (cc)
+        | inr apart ↦ let most = within.1 in omega (arith, most, apart)
+      ] in (
+        subst (λ (pn : ℕ). IsStandardFrame old plain pn out new) (sym is_pn) (record {
+          an = o.an;
+          sa = o.sa;
+          encoding = there.encoding_is;
+          association = there.sa_is;
+          number = there.next_is;
+          least = within.0;
+          most = below;
+          frame = is_out;
+          logged = ap (λ (s : State). s.logs.used) is;
+        }),
+        subst (IsRanged edition) (sym is) (record {
+          same = ranged.same;
+          nexts = λ an m is_m. elim (cases_eq an o.an) [
+            | inl here ↦
+                let one : o.pn + 1 ≡ m = some_one (put old.next o.an (Some (o.pn + 1)) an) (o.pn + 1) m (put-this old.next o.an an (Some (o.pn + 1)) here) is_m in
+                (omega (arith, one), omega (arith, one, below))
+            | inr apart ↦ ranged.nexts an m (sym (put-that old.next o.an an (Some (o.pn + 1)) apart) ∙ is_m)
+          ];
+          hand = ranged.hand;
+        }),
+      )
+
+  by_protect : (old : State) (plain : List ℕ) (result : Result ℕ ProtectFault) (out : List ℕ) (new : State) → ProtectStep old plain result out new
+      → IsRanged edition old → IsRanged edition new
+  by_protect old plain (Ok pn) out new h ranged = (goes_out old plain pn out new h ranged).1
+  by_protect old plain (Err (protect.Tx fault)) out new (why, empty, is) ranged = same_range old new is ranged
+  by_protect old plain (Err protect.Stopped) out new h ranged = absurd h
+
+  by_receive : (old : State) (frame : List ℕ) (result : Result Verdict Stopped) (out : List ℕ) (new : State) → ReceiveStep old frame result out new
+      → IsRanged edition old → IsRanged edition new
+  by_receive old frame (Ok verdict) out new (inl (step, is_first, is_verdict, is_out, is)) ranged = same_range old new is ranged
+  by_receive old frame (Ok verdict) out new (inr (a, there, inl (is_verdict, above, is_out, is))) ranged =
+      subst (IsRanged edition) (sym is) (record { same = ranged.same; nexts = ranged.nexts; hand = ranged.hand })
+  by_receive old frame (Ok verdict) out new (inr (a, there, inr (is_verdict, is_out, is))) ranged =
+      subst (IsRanged edition) (sym is) (record { same = ranged.same; nexts = ranged.nexts; hand = ranged.hand })
+  by_receive old frame (Err stopped) out new h ranged = absurd h
+
+  by_call : (old : State) (call : Call) (reply : Reply) (new : State) → IsInRange edition call → RunningStep old call reply new
+      → IsRanged edition old → IsRanged edition new
+  by_call old (Commands c) (Ran result) new given h ranged = by_command old c result new given h ranged
+  by_call old Refills (Refilled result) new given h ranged = by_refill old result new h ranged
+  by_call old (Protects plain) (Protected result out) new given h ranged = by_protect old plain result out new h ranged
+  by_call old (Receives frame) (Received result out) new given h ranged = by_receive old frame result out new h ranged
+  by_call old call reply new given h ranged = absurd h
+
+  by_step : (old : State) (call : Call) (reply : Reply) (new : State) → IsInRange edition call → Step old call reply new
+      → IsRanged edition old → IsRanged edition new
+  by_step old call reply new given (inl (stopped, answer, is)) ranged = same_range old new is ranged
+  by_step old call reply new given (inr (running, h)) ranged = by_call old call reply new given h ranged
+
+  by_steps : (old : State) (exchanges : List Exchange) (new : State) → AllByRecursion (λ (e : Exchange). IsInRange edition e.call) exchanges
+      → Steps old exchanges new → IsRanged edition old → IsRanged edition new
+  by_steps old [] new given steps ranged = same_range old new steps ranged
+  by_steps old (e ∷ es) new given steps ranged =
+      by_steps steps.0 es new given.1 steps.2 (by_step old e.call e.reply steps.0 given.0 steps.1 ranged)
+
+  -- ---- the end of a life
+
+  either_range : (b : Bool) (x y : State) → IsRanged edition x → IsRanged edition y → IsRanged edition (cond b x y)
+  either_range true x y is other = is
+  either_range false x y is other = other
+
+  end_range : (s : State) (cut : Option Call) → IfSome cut (λ call. IsInRange edition call) → IsRanged edition s → IsRanged edition (state_at_end s cut)
+  end_range s None given ranged = ranged
+  end_range s (Some (Commands c)) given ranged =
+      either_range (not s.stopped && is_ok (apply s.edition s.identity s.config c)) (state_with_in_hand s c) s (hand_range s c given ranged) ranged
+  end_range s (Some Refills) given ranged = ranged
+  end_range s (Some (Protects plain)) given ranged = ranged
+  end_range s (Some (Receives frame)) given ranged = ranged
+
+-- ---- a restart
+
+rises_range : (block : ℕ) (old new : Option ℕ) (m : ℕ) → TxRises block old new → ((n : ℕ) → old ≡ Some n → IsNext n) → new ≡ Some m → IsNext m
+rises_range block None new m up before is = absurd (cc)
+rises_range block (Some n) new m up before is =
+    let one : up.0 ≡ m = some_one new up.0 m up.1 is in
+    let was : IsNext n = before n refl in
+    let least : 1 ≤ n = was.0 in
+    let low : n ≤ up.0 = up.2 in
+    let high : up.0 ≤ 2 ^ 32 = up.4 in
+    (omega (arith, one, least, low), omega (arith, one, high))
+
+resumes_range : (edition : Edition) (old new : State) → Resumes old new → IsRanged edition old → IsRanged new.edition new
+resumes_range edition old new up ranged = record {
+  same = refl;
+  nexts = λ an m is. rises_range old.identity.tx_block (old.next an) (new.next an) m (up.next an) (λ n is. ranged.nexts an n is) is;
+  hand = λ c is. absurd (none_some new.in_hand c up.idle is);
+}
+
+restart_range : (edition : Edition) (old new : State) → Restart old new → IsRanged edition old → IsRanged new.edition new
+restart_range edition old new (inl up) ranged = resumes_range edition old new up ranged
+restart_range edition old new (inr (c, mid, hand, makes, up)) ranged =
+    resumes_range edition mid new up (makes_range edition old c mid (ranged.hand c hand) makes ranged)
+
+formatted_range : (edition : Edition) (identity : Identity) → IsRanged edition (formatted_state edition identity)
+formatted_range edition identity = record {
+  same = refl;
+  nexts = λ an m is. absurd (none_some None m refl is);
+  hand = λ c is. absurd (none_some None c refl is);
+}
+
+-- ---- histories
+
+abbrev IsRangedPast : Past → Type 0
+IsRangedPast (Blank identities) = Unit {0}
+IsRangedPast (Formatted s) = IsRanged s.edition s
+
+own_edition : (edition : Edition) (s : State) → IsRanged edition s → IsRanged s.edition s
+own_edition edition s ranged = subst (λ (e : Edition). IsRanged e s) (sym ranged.same) ranged
+
+module _ (sectors : ℕ) where
+  opening_range : (past : Past) (edition : Edition) (image : Image) (found : Standing) → FitsPast edition sectors past image
+      → StandingIs edition sectors image (Ok found) → IsRangedPast past → IsRanged edition (opened_state found (logs_of past))
+  opening_range (Blank identities) edition image found fits is ranged =
+      let new = found-new edition sectors image identities found fits is in
+      subst (λ (o : Standing). IsRanged edition (opened_state o no_logs)) new.2 (formatted_range edition new.0)
+  opening_range (Formatted s) edition image found fits is ranged =
+      subst (λ (e : Edition). IsRanged e (opened_state found s.logs)) (found-edition edition sectors image found is)
+      (restart_range s.edition s (opened_state found s.logs) (fits-restart edition sectors image s found fits is) ranged)
+
+  life_range : (past : Past) (edition : Edition) (image : Image) (exchanges : List Exchange) (s : State)
+      → IsLifeSoFar sectors past edition image exchanges s → IsRangedPast past → IsRanged edition s
+  life_range past edition image exchanges s life ranged =
+      by_steps edition (opened_state life.found (logs_of past)) exchanges s life.in_range life.steps
+      (opening_range past edition image life.found life.fits life.is_found ranged)
+
+  format_range : (old : Past) (edition : Edition) (identity : Identity) (new : Past) → FormatLeads old edition identity true new → IsRangedPast old → IsRangedPast new
+  format_range (Blank identities) edition identity new is ranged = subst IsRangedPast (sym is) (formatted_range edition identity)
+  format_range (Formatted s) edition identity new h ranged = absurd h
+
+  no_format_range : (old : Past) (edition : Edition) (identity : Identity) (new : Past) → FormatLeads old edition identity false new → IsRangedPast old → IsRangedPast new
+  no_format_range (Blank identities) edition identity new is ranged = subst IsRangedPast (sym is) tt
+  no_format_range (Formatted s) edition identity new is ranged = subst IsRangedPast (sym is) ranged
+
+  leads_range : (old : Past) (life : Life) (new : Past) → Leads sectors old life new → IsRangedPast old → IsRangedPast new
+  leads_range old (Formats edition identity true) new h ranged = format_range old edition identity new h ranged
+  leads_range old (Formats edition identity false) new h ranged = no_format_range old edition identity new h ranged
+  leads_range old (Refuses edition image fault) new h ranged = subst IsRangedPast (sym h.2) ranged
+  leads_range old (Serves edition image exchanges cut) new (last, life, given, is) ranged =
+      let end : IsRangedPast (Formatted (state_at_end last cut)) =
+      own_edition edition (state_at_end last cut) (end_range edition last cut given (life_range old edition image exchanges last life ranged)) in
+      subst IsRangedPast (sym is) end
+
+  lives_range : (old : Past) (lives : List Life) (new : Past) → LeadOn sectors old lives new → IsRangedPast old → IsRangedPast new
+  lives_range old [] new is ranged = subst IsRangedPast (sym is) ranged
+  lives_range old (life ∷ lives) new h ranged = lives_range h.0 lives new h.2 (leads_range old life h.0 h.1 ranged)
+
+  -- ---- the law
+
+  by_frame : (edition : Edition) (s : State) (plain : List ℕ) (pn : ℕ) (out : List ℕ) (new : State) → Step s (Protects plain) (Protected (Ok pn) out) new
+      → IsRanged edition s → IsStandardFrame s plain pn out new
+  by_frame edition s plain pn out new (inl (stopped, answer, is)) ranged = absurd answer
+  by_frame edition s plain pn out new (inr (running, h)) ranged = (goes_out edition s plain pn out new h ranged).0
+
+  pub frames-are-standard : FramesAreStandard sectors
+  frames-are-standard s m plain pn out new step =
+      by_frame m.edition s plain pn out new step
+      (life_range m.past m.edition m.image m.exchanges s m.life (lives_range (Blank []) m.lives m.past m.history tt))

@@ -1,0 +1,57 @@
+-- The headline on commands.
+use Rattle.std.specs.Prelude.{◌≡◌, ◌++◌, ℕ, List, [], ◌∷◌, flat_map, option_to_list, Option, Ok}
+use Rattle.macs_config.specs.Apply.{apply}
+use Rattle.macs_config.specs.Config.{Config, Edition}
+use Rattle.macs_config.specs.Identity.{Identity}
+use Rattle.macs_config.specs.declared.command.Command.{Command}
+use Rattle.macs_disk.specs.States.{Image}
+use Rattle.macs_store.specs.Found.{StandingIs}
+use Rattle.macs_store.specs.Standing.{Standing}
+use Rattle.macs_endpoint.specs.Restart.{Fits}
+use Rattle.macs_endpoint.specs.State.{Call, Commands, Ran, Reply, State}
+use Rattle.macs_endpoint.specs.Step.{Exchange}
+use Rattle.macs_headline.specs.History.{state_at_end}
+use Rattle.macs_headline.specs.Moments.{Moment}
+
+-- ---- the commands of a life
+
+-- the command that this answer acknowledges, if it is one to a command
+abbrev pub acknowledged_by : Call → Reply → List Command
+acknowledged_by (Commands command) (Ran (Ok done)) = command ∷ []
+acknowledged_by call reply = []
+
+-- those that were acknowledged, in their order
+abbrev pub acknowledged_commands : List Exchange → List Command
+acknowledged_commands exchanges = flat_map (λ (e : Exchange). acknowledged_by e.call e.reply) exchanges
+
+-- those whose work on the disk began: the acknowledged ones, and then the one that is in hand at the end of the life, if one is
+abbrev pub accepted_commands : List Exchange → (in_hand : Option Command) → List Command
+accepted_commands exchanges in_hand = acknowledged_commands exchanges ++ option_to_list in_hand
+
+-- each of these is accepted at its turn, and they make new of old
+abbrev pub CommandsMake : Edition → Identity → (old : Config) → List Command → (new : Config) → Type 0
+CommandsMake edition identity old [] new = new ≡ old
+CommandsMake edition identity old (command ∷ commands) new =
+    (mid : Config) × (apply edition identity old command ≡ Ok mid) × CommandsMake edition identity mid commands new
+
+-- ---- what an opening finds of them
+
+-- xs is the beginning of ys, or all of it
+abbrev pub IsPrefix : {X : Type 0} → (xs ys : List X) → Type 0
+IsPrefix {X} xs ys = (rest : List X) × (xs ++ rest ≡ ys)
+
+-- What is found after a life that itself found `before` and ended with this command in hand, or none: the configuration after some of its
+-- commands, a prefix of those that were accepted that holds every acknowledged one.
+pub record FindsPrefix (before : Standing) (exchanges : List Exchange) (in_hand : Option Command) (after : Standing) : Type 0 where
+  pub identity : after.identity ≡ before.identity
+  pub kept : List Command
+  pub acknowledged : IsPrefix (acknowledged_commands exchanges) kept
+  pub accepted : IsPrefix kept (accepted_commands exchanges in_hand)
+  pub made : CommandsMake before.edition before.identity before.config kept after.config
+
+-- At whatever moment a life ends, in the midst of a call or not, and whatever edition opens the disk next: in every image that it may come
+-- upon it finds such a prefix.
+abbrev pub CommandsKept : ℕ → Type 0
+CommandsKept sectors = (last : State) (m : Moment sectors last) (cut : Option Call) (later : Edition) (image : Image) (after : Standing)
+    → Fits later sectors image (state_at_end last cut) → StandingIs later sectors image (Ok after)
+    → FindsPrefix m.life.found m.exchanges (state_at_end last cut).in_hand after

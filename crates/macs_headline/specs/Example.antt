@@ -1,0 +1,106 @@
+-- What the example of a history is about: an endpoint, its peer, and what is asked of it.
+use Rattle.std.specs.Prelude.{ℕ, true, false, List, [], ◌∷◌, replicate}
+use Rattle.macs_frame.specs.Protection.{protected_frame}
+use Rattle.macs_frame.specs.declared.fields.Offset.TheVariants.{Zero}
+use Rattle.macs_frame.specs.declared.tag.ScName.TheVariants.{Explicit}
+use Rattle.macs_frame.specs.declared.tag.SecTag.{SecTag}
+use Rattle.macs_config.specs.Config.{Edition}
+use Rattle.macs_config.specs.Identity.{Identity}
+use Rattle.macs_config.specs.declared.association.Protection.TheVariants.{Confidentiality}
+use Rattle.macs_config.specs.declared.association.RxSa.{RxSa}
+use Rattle.macs_config.specs.declared.association.TxSa.{TxSa}
+use Rattle.macs_config.specs.declared.command.Command.{Command}
+use Rattle.macs_config.specs.declared.command.Command.TheVariants.{RxAdd, RxInstall, RxRemove, SetReplay, SetValidate, TxInstall, TxUse}
+use Rattle.macs_config.specs.declared.command.Validate.TheVariants.{Check, Strict}
+
+-- how many sectors the disk has
+abbrev pub example_sectors : ℕ
+example_sectors = 1028
+
+-- an edition that takes more
+abbrev pub later_edition : Edition
+later_edition = record { channels = 32; long_keys = true }
+
+-- 02-00-00-00-00-01, port 00-01
+abbrev pub own_sci : List ℕ
+own_sci = 2 ∷ 0 ∷ 0 ∷ 0 ∷ 0 ∷ 1 ∷ 0 ∷ 1 ∷ []
+
+-- 02-00-00-00-00-07, port 00-01
+abbrev pub peer_sci : List ℕ
+peer_sci = 2 ∷ 0 ∷ 0 ∷ 0 ∷ 0 ∷ 7 ∷ 0 ∷ 1 ∷ []
+
+-- numbers are reserved four at a time
+abbrev pub example_identity : Identity
+example_identity = record { sci = own_sci; tx_block = 4; rx_block = 4 }
+
+-- the key that frames go out under
+abbrev pub own_key : List ℕ
+own_key = replicate 16 1
+
+-- the key that the peer's frames are under
+abbrev pub peer_key : List ℕ
+peer_key = replicate 16 2
+
+-- ---- frames
+
+-- the shortest plain frame
+abbrev pub example_plain : List ℕ
+example_plain = replicate 14 0
+
+-- the transmit association, with confidentiality
+abbrev pub own_sa : TxSa
+own_sa = record { key = own_key; protection = Confidentiality Zero }
+
+-- the receive association
+abbrev pub peer_sa : RxSa
+peer_sa = record { key = peer_key; offset = Zero }
+
+-- the SecTAG of the endpoint's frames
+abbrev pub own_tag : ℕ → SecTag
+own_tag pn = record { an = 0; pn = pn; name = Explicit own_sci; encrypted = true; changed = true }
+
+-- the SecTAG of the peer's, which sends with integrity alone
+abbrev pub peer_tag : ℕ → SecTag
+peer_tag pn = record { an = 0; pn = pn; name = Explicit peer_sci; encrypted = false; changed = false }
+
+-- the frame that the endpoint writes with this packet number
+abbrev pub own_frame : ℕ → List ℕ
+own_frame pn = protected_frame own_key own_sci (own_tag pn) 0 example_plain
+
+-- the frame that the peer sends with this packet number
+abbrev pub peer_frame : ℕ → List ℕ
+peer_frame pn = protected_frame peer_key peer_sci (peer_tag pn) 0 example_plain
+
+-- ---- commands
+
+-- the transmit association, from packet number 1 on
+abbrev pub install_own : Command
+install_own = TxInstall 0 own_key 1 true 0
+
+-- frames go out under it
+abbrev pub use_own : Command
+use_own = TxUse 0
+
+-- the peer's channel
+abbrev pub add_peer : Command
+add_peer = RxAdd peer_sci
+
+-- its association, from packet number 1 on
+abbrev pub install_peer : Command
+install_peer = RxInstall peer_sci 0 peer_key 1 0
+
+-- which goes again
+abbrev pub remove_peer : Command
+remove_peer = RxRemove peer_sci 0
+
+-- a wider replay window
+abbrev pub widen : Command
+widen = SetReplay true 3
+
+-- validation as it is
+abbrev pub stay_strict : Command
+stay_strict = SetValidate Strict
+
+-- another one
+abbrev pub check_only : Command
+check_only = SetValidate Check

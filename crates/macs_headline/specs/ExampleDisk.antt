@@ -1,0 +1,89 @@
+-- What the disk holds in the example of a history: its records, and its images.
+use Rattle.std.specs.Prelude.{ℕ, true, List, [], ◌∷◌, replicate, take, length}
+use Rattle.macs_config.specs.declared.command.Validate.TheVariants.{Strict}
+use Rattle.macs_disk.specs.States.{Image}
+use Rattle.macs_record.specs.declared.record.Record.{Record}
+use Rattle.macs_record.specs.declared.record.Record.TheVariants as kept
+use Rattle.macs_journal.specs.Compacting.{compacted}
+use Rattle.macs_journal.specs.Formatting.{first_content}
+use Rattle.macs_journal.specs.Found.{Content}
+use Rattle.macs_store.specs.Snapshot.{snapshot}
+use Rattle.macs_headline.specs.Example.{example_identity, own_sa, peer_sa, peer_sci}
+use Rattle.macs_headline.specs.ExampleStanding.{full_standing}
+use Rattle.macs_headline.specs.Images.{compacted_image, content_with_records, formatted_image, image_while_compacted, image_with_records}
+
+-- ---- formatted
+
+-- one record
+abbrev pub new_content : Content
+new_content = first_content example_identity
+
+-- a new disk, formatted
+abbrev pub new_image : Image
+new_image = formatted_image example_identity
+
+-- ---- after the first life
+
+-- Its commands and ceilings. The last of them was cut short while its gate was pending, and the gate was left open.
+abbrev pub first_records : List Record
+first_records =
+    kept.TxInstall 0 own_sa 1
+    ∷ kept.TxUse 0
+    ∷ kept.TxCeiling 0 9
+    ∷ kept.RxAdd peer_sci
+    ∷ kept.RxInstall peer_sci 0 peer_sa 1
+    ∷ kept.RxCeiling peer_sci 0 9
+    ∷ kept.SetReplay (record { on = true; window = 3 })
+    ∷ []
+
+-- eight records
+abbrev pub served_content : Content
+served_content = content_with_records new_content first_records
+
+-- and the image with them
+abbrev pub served_image : Image
+served_image = image_with_records new_image new_content first_records
+
+-- ---- after the second life
+
+-- a raised ceiling, and the same command so often that all 256 slots are used
+abbrev pub second_records : List Record
+second_records = kept.TxCeiling 0 13 ∷ replicate 247 (kept.SetValidate Strict)
+
+-- 256 records
+abbrev pub full_content : Content
+full_content = content_with_records served_content second_records
+
+-- the image with a full area
+abbrev pub full_image : Image
+full_image = image_with_records served_image served_content second_records
+
+-- the snapshot with which the journal begins anew
+abbrev pub full_snapshot : List Record
+full_snapshot = snapshot full_standing
+
+-- The life ended while the journal began anew: so many bodies of the snapshot were written, and no head gate.
+abbrev pub cut_image : (count : ℕ) → Image
+cut_image count = image_while_compacted full_image full_content (length full_snapshot) (take count full_snapshot)
+
+-- ---- after the third life
+
+-- the journal that began anew, in generation 2
+abbrev pub anew_content : Content
+anew_content = compacted full_content full_snapshot
+
+-- its image, over what the cut had left
+abbrev pub anew_image : Image
+anew_image = compacted_image (cut_image 2) full_content full_snapshot
+
+-- a command, and a raised ceiling
+abbrev pub third_records : List Record
+third_records = kept.RxRemove peer_sci 0 ∷ kept.TxCeiling 0 17 ∷ []
+
+-- the journal with them
+abbrev pub last_content : Content
+last_content = content_with_records anew_content third_records
+
+-- and the last image
+abbrev pub last_image : Image
+last_image = image_with_records anew_image anew_content third_records

@@ -1,0 +1,28 @@
+-- What stands in the example of a history.
+use Rattle.std.specs.Prelude.{[], ◌∷◌, fold, Some}
+use Rattle.macs_config.specs.Apply.{config_after}
+use Rattle.macs_config.specs.Config.{Config, Edition, default, this_edition}
+use Rattle.macs_store.specs.Standing.{Standing, ceilings_with_rx, ceilings_with_tx, no_ceilings}
+use Rattle.macs_headline.specs.Example.{add_peer, example_identity, install_own, install_peer, peer_sci, remove_peer, use_own, widen}
+
+-- the configuration after the first life, the command that was cut short included
+abbrev pub served_config : Config
+served_config = fold config_after default (install_own ∷ use_own ∷ add_peer ∷ install_peer ∷ widen ∷ [])
+
+-- what stands when the second life ends, in a program of this edition
+abbrev pub full_standing : Standing
+full_standing = record {
+  edition = this_edition;
+  identity = example_identity;
+  config = served_config;
+  ceilings = ceilings_with_rx (ceilings_with_tx no_ceilings 0 (Some 13)) peer_sci 0 (Some 9);
+}
+
+-- what stands at last, to an edition
+abbrev pub last_standing : Edition → Standing
+last_standing edition = record {
+  edition = edition;
+  identity = example_identity;
+  config = config_after served_config remove_peer;
+  ceilings = ceilings_with_tx no_ceilings 0 (Some 17);
+}

@@ -1,0 +1,91 @@
+-- Lives of an endpoint, one after another on one disk, and what they lead to.
+use Rattle.std.specs.Prelude.{◌≡◌, ◌⊎◌, ℕ, Bool, true, false, List, [], ◌∷◌, Contains, Option, Some, None, IfSome, Ok, Err}
+use Rattle.std.specs.List.{AllByRecursion}
+use Rattle.macs_config.specs.Config.{Edition}
+use Rattle.macs_config.specs.Identity.{Identity}
+use Rattle.macs_disk.specs.States.{Image}
+use Rattle.macs_journal.specs.declared.fault.JournalFault.{JournalFault}
+use Rattle.macs_journal.specs.declared.fault.JournalFault.TheVariants.{Disk, NotFormatted}
+use Rattle.macs_store.specs.Found.{StandingIs}
+use Rattle.macs_store.specs.Standing.{Standing, new_standing}
+use Rattle.macs_endpoint.specs.Calls.{IsInRange}
+use Rattle.macs_endpoint.specs.Restart.{Fits, opened_state, state_during}
+use Rattle.macs_endpoint.specs.State.{Call, Logs, State, no_logs}
+use Rattle.macs_endpoint.specs.Step.{Exchange, Steps}
+
+-- ---- lives, and what is past
+
+-- One thing that a program of an edition did with a disk: a call of `format`, and whether it answered Ok; an opening of an image that was
+-- refused; or an opening of an image, the calls that were answered after it, and the call that was cut short, if one was
+pub data Life : Type 0 where
+  Formats : (edition : Edition) (identity : Identity) (is_ok : Bool) → Life
+  Refuses : (edition : Edition) (image : Image) (fault : JournalFault) → Life
+  Serves : (edition : Edition) (image : Image) (exchanges : List Exchange) (cut : Option Call) → Life
+
+-- What lives have led to: the disk is not formatted for sure, and these identities were handed in; or it is, and the last life ended in this
+-- state
+pub data Past : Type 0 where
+  Blank : (identities : List Identity) → Past
+  Formatted : State → Past
+
+-- what was used and delivered in all lives
+abbrev pub logs_of : Past → Logs
+logs_of (Blank identities) = no_logs
+logs_of (Formatted s) = s.logs
+
+-- an endpoint whose disk was formatted just now
+abbrev pub formatted_state : Edition → Identity → State
+formatted_state edition identity = opened_state (new_standing edition identity) no_logs
+
+-- the state that a life ends in, in the midst of a call or not
+abbrev pub state_at_end : State → Option Call → State
+state_at_end s None = s
+state_at_end s (Some call) = state_during s call
+
+-- A program of an edition may come upon this image, on a disk of so many sectors. While the disk is not formatted for sure there is no journal,
+-- or a new one of one of the identities; later the image fits the state.
+abbrev pub FitsPast : Edition → ℕ → Past → Image → Type 0
+FitsPast edition sectors (Blank identities) image =
+    StandingIs edition sectors image (Err NotFormatted)
+    ⊎ ((identity : Identity) × Contains identities identity × StandingIs edition sectors image (Ok (new_standing edition identity)))
+FitsPast edition sectors (Formatted s) image = Fits edition sectors image s
+
+-- ---- one life
+
+-- A life so far. A program of an edition opens this image, which it may come upon after that past. It begins with what the image stands for, and
+-- with the logs of all lives; each of its calls is given what is in the ranges of its types; the last one left the endpoint in this state.
+pub record IsLifeSoFar (sectors : ℕ) (past : Past) (edition : Edition) (image : Image) (exchanges : List Exchange) (s : State) : Type 0 where
+  pub fits : FitsPast edition sectors past image
+  pub found : Standing
+  pub is_found : StandingIs edition sectors image (Ok found)
+  pub in_range : AllByRecursion (λ (e : Exchange). IsInRange edition e.call) exchanges
+  pub steps : Steps (opened_state found (logs_of past)) exchanges s
+
+-- A `format` that answers Ok makes a new endpoint, and none answers Ok once the disk is formatted. One that does not, or is cut short, may leave
+-- a new journal of its identity where there was none, and changes nothing later.
+abbrev pub FormatLeads : Past → Edition → Identity → (is_ok : Bool) → Past → Type 0
+FormatLeads (Blank identities) edition identity true new = new ≡ Formatted (formatted_state edition identity)
+FormatLeads (Blank identities) edition identity false new = new ≡ Blank (identity ∷ identities)
+FormatLeads (Formatted s) edition identity true new = ⊥
+FormatLeads (Formatted s) edition identity false new = new ≡ Formatted s
+
+-- One life leads from old to new. An opening is refused for what stands on the disk, or for a device call that failed, and changes nothing; one
+-- that is not makes the disk formatted for sure.
+abbrev pub Leads : ℕ → Past → Life → Past → Type 0
+Leads sectors old (Formats edition identity is_ok) new = FormatLeads old edition identity is_ok new
+Leads sectors old (Refuses edition image fault) new =
+    FitsPast edition sectors old image × ((fault ≡ Disk) ⊎ StandingIs edition sectors image (Err fault)) × (new ≡ old)
+Leads sectors old (Serves edition image exchanges cut) new =
+    (last : State) × IsLifeSoFar sectors old edition image exchanges last
+    × IfSome cut (λ call. IsInRange edition call) × (new ≡ Formatted (state_at_end last cut))
+
+-- ---- a history
+
+-- these lives, one after another, lead from old to new
+abbrev pub LeadOn : ℕ → Past → List Life → Past → Type 0
+LeadOn sectors old [] new = new ≡ old
+LeadOn sectors old (life ∷ lives) new = (mid : Past) × Leads sectors old life mid × LeadOn sectors mid lives new
+
+-- A history: these lives lead to this, on a disk of so many sectors with which nothing was done before.
+abbrev pub IsHistory : ℕ → List Life → Past → Type 0
+IsHistory sectors lives past = LeadOn sectors (Blank []) lives past

@@ -1,0 +1,14 @@
+pub mod History
+pub mod Moments
+pub mod Numbers
+pub mod Commands
+pub mod Frames
+pub mod Openings
+pub mod Deeds
+pub mod Binding
+pub mod Days
+pub mod Images
+pub mod Example
+pub mod ExampleStanding
+pub mod ExampleDisk
+pub mod ExampleLives

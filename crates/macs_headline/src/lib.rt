@@ -1,0 +1,9 @@
+//! The headline, over every history of an endpoint: whatever commands and frames come and wherever power
+//! fails.
+#![tactic(auto)]
+
+mod day;
+mod example;
+pub mod laws;
+
+pub use day::a_day;
