@@ -222,4 +222,3 @@ module _ (peer : All (λ octet. octet < 2 ^ 8) (peer_frame 5)) where
     cut = cut-stands;
     anew = (refl, refl, new-generation);
   }
--- touched

@@ -9,22 +9,26 @@ use macs_disk::SectorDisk;
 use macs_endpoint::{Endpoint, OpenRefused, format};
 use macs_frame::FrameBuf;
 
-/// Formats a new disk, opens it, asks for a command, gives a plain frame, and gives the disk back: that
-/// is its history, whatever the calls answered. A disk that is not opened is given back with its fault.
+/// Formats a new disk, opens it, asks for two commands, as that an association is installed and that frames
+/// go out under it, gives a plain frame, and gives the disk back: that is its history, whatever the calls
+/// answered. A disk that is not opened is given back with its fault.
 pub fn a_day<D: SectorDisk>(
     mut disk: D,
     identity: &Identity,
-    command: Command,
+    install: Command,
+    select: Command,
     plain: &[u8],
     out: &mut FrameBuf,
 ) -> Result<D, OpenRefused<D>>
     requires new { IsNewDisk (D.disk disk) }
-    ensures { IfOk result (λ it. IsDay identity.now command plain.now out.new.items (D.disk it)) }
+    ensures { IfOk result (λ it. IsDay identity.now install select plain.now out.new.items (D.disk it)) }
 {
     let _formatted = format(&mut disk, identity);
     let mut endpoint = Endpoint::open(disk)?;
     endpoint.facts();
-    let _answer = endpoint.command(command);
+    let _installed = endpoint.command(install);
+    endpoint.facts();
+    let _selected = endpoint.command(select);
     endpoint.facts();
     let _sent = endpoint.protect(plain, out);
     Ok(endpoint.into_disk())

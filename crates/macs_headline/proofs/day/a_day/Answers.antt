@@ -1,7 +1,7 @@
 use Rattle.std.proofs.Common.{List, [], ◌∷◌, refl}
 use Rattle.std.specs.Prelude.{None, is_ok}
 use Rattle.macs_disk.specs.Disk.{now}
-use Rattle.macs_endpoint.specs.Lives.{Turn}
+use Rattle.macs_endpoint.specs.Lives.{Lives, Turn}
 use Rattle.macs_endpoint.specs.State.{Commands, Protects, Protected, Ran}
 use Rattle.macs_headline.specs.Deeds.{Formatting, Link, Living}
 use Rattle.macs_headline.proofs.Chains.{deeds-are-histories}
@@ -10,24 +10,22 @@ use Rattle.macs_headline.proofs.day.a_day.Goals as goal
 pub returns : goal.returns
 returns g c =
     let first = c.in_ok-endpoint.endpoint in
-    let mid = c.command-answer.new.self in
     let last = c.protect-sent.new.self in
     let turns : List (Turn g.row.D.Denot) =
-    record { call = Commands c.args.command; reply = Ran c.command-answer.result; after = mid }
+    record { call = Commands c.args.install; reply = Ran c.command-installed.result; after = c.command-installed.new.self }
+    ∷ record { call = Commands c.args.select; reply = Ran c.command-selected.result; after = c.command-selected.new.self }
     ∷ record { call = Protects c.args.plain.now; reply = Protected c.protect-sent.result c.protect-sent.new.out.items; after = last } ∷ [] in
     let links : List (Link g.row.D.Denot) =
     record { deed = Formatting c.args.identity.now c.format-formatted.result; after = c.format-formatted.new.disk }
     ∷ record { deed = Living first turns last None; after = c.into_disk.result } ∷ [] in
+    let lived : Lives g.D.SectorDisk.disk first turns last =
+    (c.facts.ensures, c.command-installed.ensures.call, (c.facts-2.ensures, c.command-selected.ensures.call, (c.facts-3.ensures, c.protect-sent.ensures.call, refl))) in
     record {
       formatted = is_ok c.format-formatted.result;
       image = (now (g.D.SectorDisk.disk c.format-formatted.new.disk)).seen;
-      answer = c.command-answer.result;
+      installed = c.command-installed.result;
+      selected = c.command-selected.result;
       sent = c.protect-sent.result;
-      history = deeds-are-histories g.D.SectorDisk.disk g.met.D.SectorDisk.sound c.args.disk c.into_disk.result links c.requires.new (
-        c.format-formatted.ensures,
-        (
-          ((c.in_ok-endpoint.ensures, (c.facts.ensures, c.command-answer.ensures.call, (c.facts-2.ensures, c.protect-sent.ensures.call, refl))), c.into_disk.ensures),
-          refl,
-        ),
-      );
+      history = deeds-are-histories g.D.SectorDisk.disk g.met.D.SectorDisk.sound c.args.disk c.into_disk.result links c.requires.new
+          (c.format-formatted.ensures, (((c.in_ok-endpoint.ensures, lived), c.into_disk.ensures), refl));
     }
