@@ -53,3 +53,9 @@ kept-sound first seen durable pending calls clock kept =
       seen = kept.whole_seen;
       durable = kept.whole_durable;
     })
+
+-- ---- a disk in a file
+
+-- what claims no honesty owes nothing that is said of honest disks
+pub no-claim : {P : Type 0} → false ≡ true → P
+no-claim honest = absurd cc

@@ -5,4 +5,5 @@ pub mod Fused
 pub mod Recorded
 pub mod Memory
 pub mod MemDisks
+pub mod FileDisks
 pub mod Evidence

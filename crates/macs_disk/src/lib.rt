@@ -2,11 +2,17 @@
 #![tactic(auto)]
 
 mod disk;
+mod disk_file;
+mod file;
+mod file_opening;
 mod fuse;
 pub mod laws;
 mod memory;
 mod record;
 
 pub use disk::{DeviceFault, SectorDisk};
+pub use disk_file::DiskFile;
+pub use file::FileDisk;
+pub use file_opening::FileFault;
 pub use fuse::Fuse;
 pub use memory::{MemDisk, MemFault};

@@ -1,4 +1,4 @@
-//! Tests of the disks in memory, through the public calls.
+//! Tests of the disks, in memory and in files, through the public calls.
 #![tactic(auto)]
 
 #[cfg(test)]

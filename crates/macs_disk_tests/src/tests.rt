@@ -1,9 +1,12 @@
 //! Stories of calls, choices and power losses, with what is to be found worked out by hand.
 
+mod failing_files;
+mod files;
 mod forgetful;
 mod fuses;
 mod memory;
 mod promises;
+mod shut_files;
 mod stories;
 mod tearing;
 

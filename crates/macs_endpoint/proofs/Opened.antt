@@ -1,20 +1,15 @@
 -- The channels of a disk that was opened: tables filled number by number, and channel by channel.
-use Rattle.std.proofs.Common.{◌≡◌, ◌∙◌, ◌≤◌, ◌<◌, ◌+◌, ◌==◌, ℕ, zero, suc, Bool, true, false, cond, ◌||◌, List, [], ◌∷◌, length, take, get_or, Option, Some, None, is_some, IsSome, IfSome, bytes_eq, refl, ap, sym, subst, arith, add-one, nat_cmp, is_lt, is_eq, Ordering, Less, Equal, Greater}
-use Rattle.std.specs.Cmp.Lexicographic.{slice_cmp}
+use Rattle.std.proofs.Common.{◌≡◌, ◌∙◌, ◌≤◌, ◌<◌, ◌+◌, ℕ, zero, suc, Bool, true, false, cond, List, [], ◌∷◌, length, take, get_or, Option, Some, None, is_some, IsSome, IfSome, bytes_eq, refl, ap, sym, subst, arith}
 use Rattle.std.specs.Option.{option_map}
-use Rattle.std.specs.Prelude.{nat_lt}
-use Rattle.std.proofs.lemmas.Bool.{and_parts, eqb-false, eqb-true, le-ltb, ltb-false, ltb-true, or_from, or_left}
-use Rattle.std.proofs.lemmas.List.{length-take-le, take_all}
-use Rattle.std.proofs.lemmas.List.Folds.{list_any_more}
-use Rattle.std.proofs.lemmas.Map.Text.{is_eq-slice_cmp}
+use Rattle.std.proofs.lemmas.Bool.{or_left}
+use Rattle.std.proofs.lemmas.List.{take_all}
 use Rattle.std.proofs.Math.Path.{fun_ext}
-use Rattle.macs_config.specs.Config.{Config, IsConfig, comes_before, this_edition, is_among, is_ascending, put_among}
+use Rattle.macs_config.specs.Config.{Config, IsConfig, this_edition, is_among, is_ascending, put_among}
 use Rattle.macs_config.specs.Identity.{Identity}
 use Rattle.macs_config.specs.Tables.{put, put_at}
 use Rattle.macs_config.specs.declared.association.RxSa.{RxSa}
 use Rattle.macs_config.specs.declared.command.SciMode.{SciMode}
-use Rattle.macs_config.proofs.Channels.{among-put_among, before-trans, bytes_eq-itself, bytes_eq-sym, same_octets}
-use Rattle.macs_config.proofs.Tables.{put-same, put_at-here, put_at-same, put_at-twice}
+use Rattle.macs_config.proofs.Channels.{among-put_among, bytes_eq-itself}
 use Rattle.macs_txsc.specs.Transmit as transmit
 use Rattle.macs_txsc.specs.Transmit.{TxSide}
 use Rattle.macs_txsc.specs.Value as txsc
@@ -25,155 +20,13 @@ use Rattle.macs_rxsc.specs.Receive.{AreOrdered, Numbers, RxSide, IsNumbered, has
 use Rattle.macs_rxsc.specs.Value as rxsc
 use Rattle.macs_rxsc.specs.declared.counters.ChannelCounters.{ChannelCounters}
 use Rattle.macs_store.specs.Standing.{IsStanding, Standing}
+use Rattle.macs_store.proofs.Ascending.{IsNext, next-fits, next-free, put-next}
+use Rattle.macs_store.proofs.Filling.{among, among-all, among-more, below, below-all, below-more, below-next, below-none, below-passed, filled-all, filled-more, filled-next, filled-none, filled-passed}
 use Rattle.macs_endpoint.specs.Counting.{new_channel_counters}
 use Rattle.macs_endpoint.specs.State.{rx_side_with, tx_side_with}
 use Rattle.macs_endpoint.proofs.Following.{with_rx, with_tx}
 
--- ---- number by number
-
--- what stands at the numbers below this one
-abbrev pub below : {X : Type 0} → ℕ → (ℕ → Option X) → ℕ → Option X
-below n f k = cond (nat_lt k n) (f k) None
-
-module _ {X : Type 0} (f : ℕ → Option X) where
-  more_by : (n k : ℕ) (x : Option X) (same was becomes : Bool) → f n ≡ x → (k == n) ≡ same → nat_lt k n ≡ was → nat_lt k (n + 1) ≡ becomes
-      → cond same x (cond was (f k) None) ≡ cond becomes (f k) None
-  more_by n k x true was true is equal before after = sym is ∙ ap f (sym (eqb-true k n equal))
-  more_by n k x true was false is equal before after =
-      let one = eqb-true k n equal in
-      let two = ltb-false k (n + 1) after in
-      absurd (omega arith)
-  more_by n k x false true true is equal before after = refl
-  more_by n k x false true false is equal before after =
-      let one = ltb-true k n before in
-      let two = ltb-false k (n + 1) after in
-      absurd (omega arith)
-  more_by n k x false false true is equal before after =
-      let one = ltb-false k n before in
-      let two = ltb-true k (n + 1) after in
-      absurd (eqb-false k n equal (omega arith))
-  more_by n k x false false false is equal before after = refl
-
-  pub below-more : (n : ℕ) (x : Option X) → f n ≡ x → put (below n f) n x ≡ below (n + 1) f
-  below-more n x is = fun_ext (λ k. more_by n k x (k == n) (nat_lt k n) (nat_lt k (n + 1)) is refl refl refl)
-
-  pub below-next : (n : ℕ) → below n f n ≡ None
-  below-next n = ap (λ (b : Bool). cond b (f n) None) (le-ltb n n (omega arith))
-
-  -- where nothing stands nothing is put
-  pub below-passed : (n : ℕ) → f n ≡ None → below n f ≡ below (n + 1) f
-  below-passed n none = sym (put-same (below n f) n None (below-next n)) ∙ below-more n None none
-
-  pub below-none : below 0 f ≡ (λ k. None)
-  below-none = fun_ext (λ k. ap (λ (b : Bool). cond b (f k) None) (le-ltb k 0 (omega arith)))
-
-  all_by : (n k : ℕ) (inside : Bool) → nat_lt k n ≡ inside → (n ≤ k → f k ≡ None) → cond inside (f k) None ≡ f k
-  all_by n k true is none = refl
-  all_by n k false is none = sym (none (ltb-false k n is))
-
-  pub below-all : (n : ℕ) → ((k : ℕ) → n ≤ k → f k ≡ None) → below n f ≡ f
-  below-all n none = fun_ext (λ k. all_by n k (nat_lt k n) refl (none k))
-
-  module _ (old : List ℕ → ℕ → Option X) (sci : List ℕ) where
-    -- the same in a table by SCI
-    pub filled-none : ((an : ℕ) → old sci an ≡ None) → put_at old sci (below 0 f) ≡ old
-    filled-none none = put_at-same old sci (below 0 f) (fun_ext none ∙ sym below-none)
-
-    pub filled-next : (n : ℕ) → put_at old sci (below n f) sci n ≡ None
-    filled-next n = ap (λ (g : ℕ → Option X). g n) (put_at-here old sci (below n f)) ∙ below-next n
-
-    pub filled-more : (n : ℕ) (x : Option X) → f n ≡ x
-        → put_at (put_at old sci (below n f)) sci (put (put_at old sci (below n f) sci) n x) ≡ put_at old sci (below (n + 1) f)
-    filled-more n x is =
-        ap (λ (g : ℕ → Option X). put_at (put_at old sci (below n f)) sci (put g n x)) (put_at-here old sci (below n f))
-        ∙ put_at-twice old sci (below n f) (put (below n f) n x) ∙ ap (put_at old sci) (below-more n x is)
-
-    pub filled-passed : (n : ℕ) → f n ≡ None → put_at old sci (below n f) ≡ put_at old sci (below (n + 1) f)
-    filled-passed n none = ap (put_at old sci) (below-passed n none)
-
-    pub filled-all : (n : ℕ) → ((k : ℕ) → n ≤ k → f k ≡ None) → put_at old sci (below n f) ≡ put_at old sci f
-    filled-all n none = ap (put_at old sci) (below-all n none)
-
--- ---- channel by channel
-
--- what stands at these SCIs
-abbrev pub among : {Y : Type 0} → List (List ℕ) → (List ℕ → Y) → Y → List ℕ → Y
-among scis f none s = cond (is_among scis s) (f s) none
-
-module _ {Y : Type 0} (f : List ℕ → Y) (none : Y) where
-  one_more : (sci s : List ℕ) (same was : Bool) → bytes_eq s sci ≡ same → cond same (f sci) (cond was (f s) none) ≡ cond (was || same) (f s) none
-  one_more sci s true true is = ap f (sym (same_octets s sci is))
-  one_more sci s true false is = ap f (sym (same_octets s sci is))
-  one_more sci s false true is = refl
-  one_more sci s false false is = refl
-
-  pub among-more : (scis : List (List ℕ)) (i : ℕ) (sci : List ℕ) → i < length scis → sci ≡ get_or scis i sci
-      → put_at (among (take i scis) f none) sci (f sci) ≡ among (take (i + 1) scis) f none
-  among-more scis i sci within is =
-      fun_ext (λ s. one_more sci s (bytes_eq s sci) (is_among (take i scis) s) refl
-      ∙ ap (λ (b : Bool). cond b (f s) none)
-      (ap (λ (b : Bool). is_among (take i scis) s || b) (bytes_eq-sym s sci ∙ ap (λ (x : List ℕ). bytes_eq x s) is)
-      ∙ sym (list_any_more (λ other. bytes_eq other s) scis i sci within)))
-
-  stays : (s : List ℕ) (inside : Bool) → (inside ≡ false → f s ≡ none) → cond inside (f s) none ≡ f s
-  stays s true absent = refl
-  stays s false absent = sym (absent refl)
-
-  pub among-all : (scis : List (List ℕ)) → ((s : List ℕ) → is_among scis s ≡ false → f s ≡ none) → among scis f none ≡ f
-  among-all scis absent = fun_ext (λ s. stays s (is_among scis s) (absent s))
-
--- ---- SCIs that ascend
-
-rest_ascends : (x : List ℕ) (xs : List (List ℕ)) → is_ascending (x ∷ xs) ≡ true → is_ascending xs ≡ true
-rest_ascends x [] ascend = refl
-rest_ascends x (y ∷ ys) ascend = (and_parts (comes_before x y) (is_ascending (y ∷ ys)) ascend).1
-
-leads_all : (x : List ℕ) (xs : List (List ℕ)) (i : ℕ) (d : List ℕ) → is_ascending (x ∷ xs) ≡ true → i < length xs → comes_before x (get_or xs i d) ≡ true
-leads_all x [] i d ascend within = absurd (omega arith)
-leads_all x (y ∷ ys) zero d ascend within = (and_parts (comes_before x y) (is_ascending (y ∷ ys)) ascend).0
-leads_all x (y ∷ ys) (suc i) d ascend within =
-    let parts = and_parts (comes_before x y) (is_ascending (y ∷ ys)) ascend in
-    before-trans x y (get_or ys i d) parts.0 (leads_all y ys i d parts.1 (omega arith))
-
-less_differs : (order : Ordering) → is_lt order ≡ true → is_eq order ≡ false
-less_differs Less is = refl
-less_differs Equal is = cc
-less_differs Greater is = refl
-
-before_differs : (a b : List ℕ) → comes_before a b ≡ true → bytes_eq a b ≡ false
-before_differs a b before = sym (is_eq-slice_cmp a b) ∙ less_differs (slice_cmp nat_cmp a b) before
-
-not_back_by : (a b : List ℕ) (back : Bool) → comes_before b a ≡ back → comes_before a b ≡ true → back ≡ false
-not_back_by a b true is before =
-    let differ = before_differs a a (before-trans a b a before is) in
-    let same = bytes_eq-itself a in
-    cc
-not_back_by a b false is before = refl
-
--- the next one is put behind those before it
-put_next : (scis : List (List ℕ)) (i : ℕ) (d : List ℕ) → is_ascending scis ≡ true → i < length scis
-    → put_among (get_or scis i d) (take i scis) ≡ take (suc i) scis
-put_next [] i d ascend within = absurd (omega arith)
-put_next (x ∷ xs) zero d ascend within = refl
-put_next (x ∷ xs) (suc i) d ascend within =
-    let next = get_or xs i d in
-    let behind : comes_before next x ≡ false = not_back_by x next (comes_before next x) refl (leads_all x xs i d ascend (omega arith)) in
-    ap (λ (b : Bool). cond b (next ∷ x ∷ take i xs) (x ∷ put_among next (take i xs))) behind
-    ∙ ap (λ (others : List (List ℕ)). x ∷ others) (put_next xs i d (rest_ascends x xs ascend) (omega arith))
-
--- and is none of those
-next_free : (scis : List (List ℕ)) (i : ℕ) (d : List ℕ) → is_ascending scis ≡ true → i < length scis → is_among (take i scis) (get_or scis i d) ≡ false
-next_free [] i d ascend within = absurd (omega arith)
-next_free (x ∷ xs) zero d ascend within = refl
-next_free (x ∷ xs) (suc i) d ascend within =
-    or_from (bytes_eq x (get_or xs i d)) (is_among (take i xs) (get_or xs i d))
-    (before_differs x (get_or xs i d) (leads_all x xs i d ascend (omega arith))) (next_free xs i d (rest_ascends x xs ascend) (omega arith))
-
--- one of those that ascend, at its place
-pub record IsNext (scis : List (List ℕ)) (i : ℕ) (sci : List ℕ) : Type 0 where
-  pub ascend : is_ascending scis ≡ true
-  pub within : i < length scis
-  pub there : sci ≡ get_or scis i sci
+-- ---- the channels in their order
 
 -- the one that a loop over the channels of a configuration is at
 pub is-next : (identity : Identity) (read stands : Config) (items : List (List ℕ)) (i : ℕ) (sci : List ℕ) → IsConfig this_edition identity read
@@ -185,20 +38,6 @@ is-next identity read stands items i sci is same_items same within there =
       within = subst (λ (xs : List (List ℕ)). i < length xs) channels within;
       there = subst (λ (xs : List (List ℕ)). sci ≡ get_or xs i sci) channels there;
     }
-
-module _ (scis : List (List ℕ)) (i : ℕ) (sci : List ℕ) (is : IsNext scis i sci) where
-  pub put-next : put_among sci (take i scis) ≡ take (i + 1) scis
-  put-next =
-      ap (λ (x : List ℕ). put_among x (take i scis)) is.there ∙ put_next scis i sci is.ascend is.within ∙ ap (λ (n : ℕ). take n scis) (sym (add-one i))
-
-  pub next-free : is_among (take i scis) sci ≡ false
-  next-free = ap (is_among (take i scis)) is.there ∙ next_free scis i sci is.ascend is.within
-
-  pub next-fits : (most : ℕ) → length scis ≤ most → length (take i scis) < most
-  next-fits most few =
-      let within = is.within in
-      let size = length-take-le i scis (omega arith) in
-      omega arith
 
 -- ---- what has stood is read
 

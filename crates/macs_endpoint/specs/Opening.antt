@@ -1,5 +1,6 @@
 -- What the opening of a disk promises: the endpoint that begins there, or why it is refused.
-use Rattle.std.specs.Prelude.{◌≡◌, Result, Ok, Err}
+use Rattle.std.specs.Prelude.{◌≡◌, None, Result, Ok, Err}
+use Rattle.std.specs.Option.{option_map}
 use Rattle.macs_config.specs.Config.{this_edition}
 use Rattle.macs_disk.specs.Disk.{Disk, IsHonest, MayLeave, now}
 use Rattle.macs_disk.specs.States.{Image}
@@ -10,14 +11,27 @@ use Rattle.macs_journal.specs.declared.recovery.RecoverRefused.{RecoverRefused}
 use Rattle.macs_txsc.specs.Transmit as transmit
 use Rattle.macs_txsc.specs.Value as txsc
 use Rattle.macs_rxsc.specs.Counting as counting
+use Rattle.macs_rxsc.specs.Receive.{first_numbers}
 use Rattle.macs_rxsc.specs.Value as rxsc
 use Rattle.macs_store.specs.Found.{StandingIs}
 use Rattle.macs_store.specs.Opening.{IsUnfit}
-use Rattle.macs_store.specs.Value.{standing_in}
+use Rattle.macs_store.specs.Value.{StoreValue, standing_in}
 use Rattle.macs_endpoint.specs.Counting.{new_channel_counters}
 use Rattle.macs_endpoint.specs.Restart.{Fits, opened_state}
 use Rattle.macs_endpoint.specs.State.{Logs, State}
-use Rattle.macs_endpoint.specs.Value.{EndpointValue, IsBacked, disk_in, state_of}
+use Rattle.macs_endpoint.specs.Value.{EndpointValue, IsBacked, IsSoundEndpoint, disk_in, state_of}
+
+-- A sound endpoint begins with what stands in a store: its packet numbers begin at their ceilings, nothing is in hand, and nothing is
+-- counted.
+pub record Begins {D : Type 0} (store : StoreValue D) (e : EndpointValue D) : Type 0 where
+  pub from : e.store ≡ store
+  pub sound : IsSoundEndpoint e
+  pub idle : e.in_hand ≡ None
+  pub next : (txsc.tx_side_of e.tx).next ≡ (standing_in store).ceilings.tx
+  pub numbers : (rxsc.rx_side_of e.rx).numbers ≡ (λ sci an. option_map first_numbers ((standing_in store).ceilings.rx sci an))
+  pub tx_counters : txsc.counters_of e.tx ≡ transmit.no_counts
+  pub rx_counters : rxsc.counters_of e.rx ≡ counting.no_counts
+  pub channel_counters : rxsc.channel_counters_of e.rx ≡ new_channel_counters (standing_in store).config.channels
 
 -- A disk is opened to this endpoint. It is in the state of one that begins with what stands in its store, after whatever logs, and
 -- nothing is counted. On an honest disk the disk stood for that, and holds it.

@@ -6,7 +6,7 @@ ghost use Rattle.macs_config.specs.Value.{config_of};
 ghost use Rattle.macs_rxsc.specs.Receive.{Numbers};
 ghost use Rattle.macs_store.specs.Keeps.{most_calls};
 ghost use Rattle.macs_endpoint.specs.Calls.{IsCall};
-ghost use Rattle.macs_endpoint.specs.Opening.{IsOpening};
+ghost use Rattle.macs_endpoint.specs.Opening.{Begins, IsOpening};
 ghost use Rattle.macs_endpoint.specs.Value.{EndpointValue, IsSoundEndpoint, device_in, disk_in, state_of};
 ghost use Rattle.macs_endpoint.specs.State.{Commands, Protects, Protected, Ran, Received, Receives, no_logs};
 
@@ -18,7 +18,6 @@ use macs_config::{Command, Config, Identity};
 use macs_disk::SectorDisk;
 use macs_frame::laws::octets_in_range;
 use macs_frame::{An, FrameBuf, Pn, Sci};
-use macs_journal::{Records, no_records};
 use macs_rxsc::{RxNumbers, Verdict};
 use macs_store::{OpenRefused, Store};
 use std::marker::Model;
@@ -49,28 +48,26 @@ impl<D: SectorDisk> Endpoint<D> {
     pub fn open(disk: D) -> Result<Endpoint<D>, OpenRefused<D>>
         ensures { IsOpening D.disk disk result }
     {
-        let mut records = no_records();
-        Endpoint::open_with(disk, &mut records)
+        match Store::open(disk) {
+            Ok(store) => Ok(Endpoint::over(store)),
+            Err(refused) => Err(refused),
+        }
     }
 
-    /// Opens a disk as `open` does, with an array that is lent for its records.
+    /// The endpoint that begins with what stands in a store that was opened.
     #[inline(never)]
-    fn open_with(disk: D, records: &mut Records) -> Result<Endpoint<D>, OpenRefused<D>>
-        ensures { IsOpening D.disk disk result }
+    fn over(store: Store<D>) -> Endpoint<D>
+        ensures { Begins store result }
     {
-        let store = match Store::open_with(disk, records) {
-            Ok(store) => store,
-            Err(refused) => return Err(refused),
-        };
         let channels = Channels::opened(&store);
         identity_in_range(&store.identity());
         channels.tx.facts();
         store.config().facts();
-        Ok(Endpoint {
+        Endpoint {
             store,
             channels,
             in_hand: None,
-        })
+        }
     }
 
     /// Keeps a command and follows it. Refused as `Stopped`, then as `Refused` with the first refusal

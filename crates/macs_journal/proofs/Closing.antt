@@ -14,13 +14,13 @@ use Rattle.macs_record.specs.Settings.{default_settings}
 use Rattle.macs_record.specs.declared.record.Record.{Record}
 use Rattle.macs_journal.specs.Appending.{IsReady}
 use Rattle.macs_journal.specs.Areas.{gate, gates, head_body, slot_body}
-use Rattle.macs_journal.specs.Formatting.{FormatWrites, HasNewGates, IsBlank, IsNewOrNone, first_content, first_head}
+use Rattle.macs_journal.specs.Formatting.{FormatWrites, IsBlank, IsNewOrNone, first_content, first_head}
 use Rattle.macs_journal.specs.Found.{HasJournal, IsGateOpen, IsNotFormatted}
-use Rattle.macs_journal.specs.Rewriting.{AreBodies, AreClosed, IsNoBody, IsNoOpenGate, IsSettled, IsOldOrOpening}
+use Rattle.macs_journal.specs.Rewriting.{AreBodies, AreClosed, HasNewGates, IsNoBody, IsNoOpenGate, IsSettled, IsOldOrOpening}
 use Rattle.macs_journal.specs.Work.{IsSpared}
 use Rattle.macs_journal.proofs.Appends.{open_or_closed}
 use Rattle.macs_journal.proofs.Blank.{blank-leaves}
-use Rattle.macs_journal.proofs.OpenGates.{shut}
+use Rattle.macs_journal.proofs.OpenGates.{new-gates, shut}
 use Rattle.macs_journal.proofs.Spared.{Spared-on, Spared-seen}
 
 one_item : (r other : Record) (j : ℕ) → slice_get (r ∷ []) j ≡ Some other → (j ≡ 0) × (r ≡ other)
@@ -119,14 +119,11 @@ module _ (old mid : Disk) (to_mid : Works old mid) (bodies : (i : ℕ) → i ≢
           Spared-on old full last i (Works-on old mid full to_mid to_full) to_last (spared-closing i apart)
           (opening i (λ here. apart (inl (inr (inr here)))))
 
-      pub new-gates : AreClosed (now mid).seen (now full).seen 0 1 gates → (now last).seen (gate 0 0) ≡ open_gate
-          → HasNewGates (now old).seen (now last).seen
-      new-gates closed head = record {
-        head = head;
-        slot = λ slot lt opens.
-            Spared-seen full last (gate 0 (slot + 1)) to_last (opening (gate 0 (slot + 1)) (omega arith))
-            ∙ closed (slot + 1) (omega arith) (omega (arith, lt)) (subst IsOpen (sym (gate-same (slot + 1))) opens);
-      }
+      pub gates-last : AreClosed (now mid).seen (now full).seen 0 1 gates → (now last).seen (gate 0 0) ≡ open_gate
+          → HasNewGates (now old).seen (now last).seen 0
+      gates-last closed head =
+          new-gates (now old).seen (now mid).seen (now full).seen (now last).seen 0 1 (omega arith) (λ k. gate-same (k + 1)) closed
+          (λ k. Spared-seen full last (gate 0 (k + 1)) to_last (opening (gate 0 (k + 1)) (omega arith))) head
 
 -- what is written of an image is written of one that is the same
 pub writes-same : (old mid : Image) (i : ℕ) → mid ≡ old → (¬ FormatWrites old i) → ¬ FormatWrites mid i

@@ -10,6 +10,7 @@ use Rattle.macs_journal.specs.Appending.{HasEitherJournal, IsReady}
 use Rattle.macs_journal.specs.Areas.{gates, other_area}
 use Rattle.macs_journal.specs.Compacting.{CompactWrites, Compacts, FindsUntil, HasOpenGates, compacted, last_generation, next_head}
 use Rattle.macs_journal.specs.Found.{Content, HasJournal}
+use Rattle.macs_journal.specs.Rewriting.{HasNewGates}
 use Rattle.macs_journal.specs.Value.{HoldsContent, IsHolding, JournalValue, disk_in, generation, is_stopped}
 use Rattle.macs_journal.specs.Work.{FailsWith, IsSpared}
 use Rattle.macs_journal.specs.declared.fault.JournalFault.{JournalFault}
@@ -56,6 +57,7 @@ module _ {D : Type 0} (disk_of : D → disk.Disk) (j : JournalValue D) (records 
     any_moment = λ honest before holds. still-leaves disk_of j before holds (compacted before records);
     done = tt;
     kept = tt;
+    gates = tt;
     others = λ honest i apart. Spared-start (disk_in disk_of j) i;
   }
 
@@ -64,6 +66,9 @@ module _ (old new : disk.Disk) (place : Place) (hand : Hand) (area : ℕ) (head 
   pub compact-calls : ((opened : ℕ) → HasOpenGates (now old).seen area gates opened → new.clock ≡ old.clock + (262 + opened + length records))
       → (opened : ℕ) → HasOpenGates (now old).seen (other_area place.area) gates opened → new.clock ≡ old.clock + (262 + opened + length records)
   compact-calls promised opened has = promised opened (subst (λ (a : ℕ). HasOpenGates (now old).seen a gates opened) (sym area_is) has)
+
+  pub compact-gates : HasNewGates (now old).seen (now new).seen area → HasNewGates (now old).seen (now new).seen (other_area place.area)
+  compact-gates promised = subst (λ (a : ℕ). HasNewGates (now old).seen (now new).seen a) area_is promised
 
   pub compact-others : ((i : ℕ) → (¬ CompactWrites (now old).seen area (length records) i) → IsSpared old new i)
       → (i : ℕ) → (¬ CompactWrites (now old).seen (other_area place.area) (length records) i) → IsSpared old new i

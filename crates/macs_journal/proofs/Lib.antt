@@ -5,6 +5,7 @@ pub mod Current
 pub mod Findings
 pub mod Ready
 pub mod Spared
+pub mod Untouched
 pub mod Appends
 pub mod Holding
 pub mod OpenGates

@@ -3,11 +3,11 @@ use Rattle.std.proofs.Common.{◌≡◌, ◌≢◌, ◌<◌, ◌≤◌, ◌⊎�
 use Rattle.std.proofs.lemmas.Bool.{cases_eq}
 use Rattle.macs_disk.specs.States.{Image}
 use Rattle.macs_disk.specs.Disk.{Disk, Works, now}
-use Rattle.macs_record.specs.Gates.{IsOpen, closed_gate}
+use Rattle.macs_record.specs.Gates.{IsOpen, closed_gate, open_gate}
 use Rattle.macs_journal.specs.Areas.{gate, gates}
 use Rattle.macs_journal.specs.Compacting.{HasOpenGates}
 use Rattle.macs_journal.specs.Found.{IsGateOpen}
-use Rattle.macs_journal.specs.Rewriting.{AreClosed, IsNoOpenGate}
+use Rattle.macs_journal.specs.Rewriting.{AreClosed, HasNewGates, IsNoOpenGate}
 use Rattle.macs_journal.specs.Work.{IsSpared}
 use Rattle.macs_journal.proofs.Appends.{open_or_closed}
 use Rattle.macs_journal.proofs.Spared.{Spared-on, Spared-seen}
@@ -109,3 +109,12 @@ shut old new area from works spared closed k le lt opens = elim (open_or_closed 
       not (subst (λ (n : ℕ). IsGateOpen (now old).seen area n) (let one : n ≡ k = omega (arith, here) in one) was))) in
       not (subst IsOpen same opens)
 ]
+
+-- and then that of the head was opened; what was written before and behind the closing is no gate of a slot
+pub new-gates : (old mid full new : Image) (area from : ℕ) → from ≤ 1 → ((k : ℕ) → mid (gate area (k + 1)) ≡ old (gate area (k + 1)))
+    → AreClosed mid full area from gates → ((k : ℕ) → new (gate area (k + 1)) ≡ full (gate area (k + 1))) → new (gate area 0) ≡ open_gate
+    → HasNewGates old new area
+new-gates old mid full new area from first before closed behind head = record {
+  head = head;
+  slot = λ slot lt opens. behind slot ∙ closed (slot + 1) (omega (arith, first)) (omega (arith, lt)) (subst IsOpen (sym (before slot)) opens);
+}

@@ -1,21 +1,22 @@
 -- What a power loss leaves while a journal begins anew, by the sectors that are left alone.
-use Rattle.std.proofs.Common.{◌≡◌, ◌≢◌, ◌<◌, ◌≤◌, ◌+◌, inl, inr, ⊎_elim, ℕ, sym, ◌∙◌, ap, subst, arith, List, length}
+use Rattle.std.proofs.Common.{◌≡◌, ◌≢◌, ◌<◌, ◌≤◌, ◌+◌, inl, inr, ⊎_elim, ℕ, refl, sym, ◌∙◌, ap, subst, arith, List, length}
 use Rattle.macs_disk.specs.States.{DiskState, Image}
 use Rattle.macs_disk.specs.Disk.{Disk, Works, now}
 use Rattle.macs_disk.specs.Runs.{Leaves}
 use Rattle.macs_disk.proofs.Moments.{Leaves-join, Leaves-now, Works-on}
 use Rattle.macs_record.specs.Decoding.{IsSectorOf}
-use Rattle.macs_record.specs.Gates.{IsOpen}
+use Rattle.macs_record.specs.Gates.{IsOpen, open_gate}
 use Rattle.macs_record.specs.Heads.{Head, IsHeadOf}
 use Rattle.macs_record.specs.declared.record.Record.{Record}
 use Rattle.macs_journal.specs.Appending.{HasEitherJournal, IsReady}
 use Rattle.macs_journal.specs.Areas.{gate, gates, head_body, other_area, slot_body, slots}
 use Rattle.macs_journal.specs.Compacting.{CompactWrites, compacted, next_head}
 use Rattle.macs_journal.specs.Found.{Content, HasJournal, IsGateOpen, IsPast}
-use Rattle.macs_journal.specs.Rewriting.{AreBodies, IsNoBody, IsNoOpenGate, IsOldOrOpening, IsSettled, IsShut}
+use Rattle.macs_journal.specs.Rewriting.{AreBodies, AreClosed, HasNewGates, IsNoBody, IsNoOpenGate, IsOldOrOpening, IsSettled, IsShut}
 use Rattle.macs_journal.specs.Work.{IsSpared}
 use Rattle.macs_journal.proofs.Appends.{open_or_closed}
 use Rattle.macs_journal.proofs.Current.{alone}
+use Rattle.macs_journal.proofs.OpenGates.{new-gates}
 use Rattle.macs_journal.proofs.Spared.{Spared-on, Spared-seen, left-same}
 
 -- ---- one image
@@ -179,3 +180,15 @@ module _ (old mid : Disk) (area count : ℕ) (to_mid : Works old mid)
         → (i : ℕ) → (¬ CompactWrites (now old).seen area count i) → IsSpared old new i
     spared-opening new to_new opening i apart =
         Spared-on old full new i (Works-on old mid full to_mid to_full) to_new (spared-filling i apart) (opening i (λ here. apart (inl (inr here))))
+
+-- ---- what stands in the gates
+
+-- they were closed, and then the bodies were written and the head was opened
+pub gates-opened : (old mid full new : Disk) (area count : ℕ) → AreClosed (now old).seen (now mid).seen area 0 gates
+    → Works mid full → ((i : ℕ) → i ≢ head_body area → IsNoBody area count i → IsSpared mid full i)
+    → Works full new → ((i : ℕ) → i ≢ gate area 0 → IsSpared full new i) → (now new).seen (gate area 0) ≡ open_gate
+    → HasNewGates (now old).seen (now new).seen area
+gates-opened old mid full new area count closed to_full filling to_new opening head =
+    new-gates (now old).seen (now old).seen (now mid).seen (now new).seen area 0 (omega arith) (λ k. refl) closed
+    (λ k. Spared-seen full new (gate area (k + 1)) to_new (opening (gate area (k + 1)) (omega arith))
+    ∙ Spared-seen mid full (gate area (k + 1)) to_full (filling (gate area (k + 1)) (omega arith) (λ j lt. omega arith))) head

@@ -9,6 +9,7 @@ use Rattle.macs_record.specs.declared.record.Record.{Record}
 use Rattle.macs_journal.specs.Appending.{HasEitherJournal}
 use Rattle.macs_journal.specs.Areas.{gate, gates, head_body, other_area, slot_body}
 use Rattle.macs_journal.specs.Found.{Content, HasJournal, IsGateOpen}
+use Rattle.macs_journal.specs.Rewriting.{HasNewGates}
 use Rattle.macs_journal.specs.Value.{HoldsContent, IsIdle, JournalValue, disk_in, generation, is_stopped}
 use Rattle.macs_journal.specs.Work.{IsSpared, IsWorkOf}
 use Rattle.macs_journal.specs.declared.fault.JournalFault.{JournalFault}
@@ -80,6 +81,9 @@ pub record Compacts {D : Type 0} (disk_of : D → disk.Disk) (old : JournalValue
   pub done : OnOk result (IsHonest (disk_in disk_of new) → (before : Content) → HoldsContent disk_of old before → HoldsContent disk_of new (compacted before records))
   pub kept : OnOk result (IsHonest (disk_in disk_of new) → (before : Content) → HoldsContent disk_of old before
       → (image : Image) → MayLeave (disk_in disk_of new) image → HasJournal image (compacted before records))
+  -- its gates read as they were written
+  pub gates : OnOk result (IsHonest (disk_in disk_of new)
+      → HasNewGates (now (disk_in disk_of old)).seen (now (disk_in disk_of new)).seen (other_area old.place.area))
   -- which sectors are left alone
   pub others : IsHonest (disk_in disk_of new) → (i : ℕ)
       → ¬ CompactWrites (now (disk_in disk_of old)).seen (other_area old.place.area) (length records) i

@@ -1,5 +1,5 @@
 -- What the opening of a disk promises: the device calls that it makes, why it is refused, and what is recovered.
-use Rattle.std.specs.Prelude.{ℕ, ◌≡◌, ◌≢◌, ◌<◌, ◌≤◌, ◌↔◌, List, length, false, Result, Ok, Err}
+use Rattle.std.specs.Prelude.{ℕ, ◌≡◌, ◌≢◌, ◌<◌, ◌≤◌, ◌↔◌, List, length, take, false, Result, Ok, Err}
 use Rattle.macs_config.specs.Identity.{Identity}
 use Rattle.macs_disk.specs.Disk.{Disk, IsHonest, Works, now}
 use Rattle.macs_disk.specs.Runs.{LeavesNothingNew}
@@ -16,18 +16,24 @@ use Rattle.macs_journal.specs.declared.recovery.Found.{Found}
 use Rattle.macs_journal.specs.declared.recovery.RecoverRefused.{RecoverRefused}
 use Rattle.macs_journal.specs.declared.recovery.Recovered.{Recovered}
 
--- The device calls of an opening that is not refused: the disk is large enough, and no call failed. On an honest disk what reads give is
--- durable then, and no power loss on the way left anything that it could not leave before.
+-- what stands behind the first call stands to the end
+abbrev pub StandsFromFirst : Disk → Disk → Type 0
+StandsFromFirst old new = (k : ℕ) → old.clock < k → k ≤ new.clock → new.past k ≡ now new
+
+-- The device calls of an opening that is not refused: the disk is large enough, and no call failed. On an honest disk the first call is a
+-- sync, and those behind it only read: what reads give is durable from then on, and no power loss on the way left anything that it could
+-- not leave before.
 pub record IsOpened (old new : Disk) : Type 0 where
   pub large : least_sectors ≤ old.sectors
   pub works : Works old new
   pub fails : new.failures ≡ old.failures
   pub settled : IsHonest new → now new ≡ state_after_sync (now old)
+  pub from_first : IsHonest new → StandsFromFirst old new
   pub any_moment : IsHonest new → LeavesNothingNew old new
 
 -- An opening that is refused, and gives the disk back. TooSmall is told exactly of a disk that is too small, and then no call is made;
 -- Disk exactly where a device call failed, which was the last one. On an honest disk every other fault is what `Found` says, nothing is
--- written, and no power loss on the way left anything that it could not leave before.
+-- written, the calls behind the first change nothing, and no power loss on the way left anything that it could not leave before.
 pub record IsRefused {D : Type 0} (disk_of : D → Disk) (Found : JournalFault → Type 0) (disk left : D) (fault : JournalFault) : Type 0 where
   pub name : IsRecoverName fault
   pub small : (fault ≡ variant.TooSmall) ↔ ((disk_of disk).sectors < least_sectors)
@@ -36,6 +42,7 @@ pub record IsRefused {D : Type 0} (disk_of : D → Disk) (Found : JournalFault �
   pub fails : FailsWith (disk_of disk) (disk_of left) fault
   pub found : fault ≢ variant.Disk → IsHonest (disk_of left) → Found fault
   pub unwritten : IsHonest (disk_of left) → IsLeftBy fault (now (disk_of disk)) (now (disk_of left))
+  pub from_first : IsHonest (disk_of left) → StandsFromFirst (disk_of disk) (disk_of left)
   pub any_moment : IsHonest (disk_of left) → LeavesNothingNew (disk_of disk) (disk_of left)
 
 -- A journal is recovered, and these are its records. It runs and has nothing in hand, its head has this identity and count, and its records
@@ -56,10 +63,11 @@ pub record Recovers {D : Type 0} (disk_of : D → Disk) (disk : D) (journal : Jo
 abbrev pub IsNoJournal : {D : Type 0} → (D → Disk) → D → JournalFault → Type 0
 IsNoJournal disk_of disk fault = JournalIs (disk_of disk).sectors (now (disk_of disk)).seen (Err fault)
 
--- The journal of a disk is recovered with these records, or refused for what stands on the disk, or for a device call that failed.
+-- The journal of a disk is recovered with the first records of a room, or refused for what stands on the disk, or for a device call that
+-- failed.
 abbrev pub IsRecoveryInto : {D : Type 0} → (D → Disk) → D → Result (Found D) (RecoverRefused D) → List Record → Type 0
-IsRecoveryInto disk_of disk (Ok found) records = Recovers disk_of disk found.journal found.identity found.count records
-IsRecoveryInto disk_of disk (Err refused) records = IsRefused disk_of (IsNoJournal disk_of disk) disk refused.disk refused.fault
+IsRecoveryInto disk_of disk (Ok found) room = Recovers disk_of disk found.journal found.identity found.count (take found.used room)
+IsRecoveryInto disk_of disk (Err refused) room = IsRefused disk_of (IsNoJournal disk_of disk) disk refused.disk refused.fault
 
 -- the same, with the records in the answer
 abbrev pub IsRecovery : {D : Type 0} → (D → Disk) → D → Result (Recovered D) (RecoverRefused D) → Type 0

@@ -1,10 +1,10 @@
 -- An area written anew: its gates closed, its bodies written, and its head opened.
-use Rattle.std.specs.Prelude.{◌≡◌, ◌≢◌, ◌<◌, ◌≤◌, ◌⊎◌, ℕ, false, List, slice_get, Some}
+use Rattle.std.specs.Prelude.{◌≡◌, ◌≢◌, ◌<◌, ◌≤◌, ◌⊎◌, ◌+◌, ℕ, false, List, slice_get, Some}
 use Rattle.macs_disk.specs.States.{DiskState, Image, IsImage}
 use Rattle.macs_record.specs.Decoding.{IsSectorOf}
-use Rattle.macs_record.specs.Gates.{closed_gate}
+use Rattle.macs_record.specs.Gates.{closed_gate, open_gate}
 use Rattle.macs_record.specs.declared.record.Record.{Record}
-use Rattle.macs_journal.specs.Areas.{gate, gates, slot_body}
+use Rattle.macs_journal.specs.Areas.{gate, gates, slot_body, slots}
 use Rattle.macs_journal.specs.Found.{IsGateOpen}
 
 -- ---- gates closed
@@ -41,3 +41,11 @@ pub record IsSettled (s : DiskState) : Type 0 where
 -- what may be left while a head gate is opened: what could be left before, or what reads gave but for the gate
 abbrev pub IsOldOrOpening : DiskState → ℕ → Image → Type 0
 IsOldOrOpening old area image = IsImage old image ⊎ ((i : ℕ) → i ≢ gate area 0 → image i ≡ old.seen i)
+
+-- ---- the whole
+
+-- what an area that begins anew has in its gates: that of its head is open, and those of slots that read open are closed, each as it
+-- is written
+pub record HasNewGates (old new : Image) (area : ℕ) : Type 0 where
+  pub head : new (gate area 0) ≡ open_gate
+  pub slot : (slot : ℕ) → slot < slots → IsGateOpen old area (slot + 1) → new (gate area (slot + 1)) ≡ closed_gate

@@ -7,7 +7,7 @@ ghost use Rattle.macs_journal.specs.Appending.{HasEitherJournal, IsReady};
 ghost use Rattle.macs_journal.specs.Areas.{gates, least_sectors, other_area, slots};
 ghost use Rattle.macs_journal.specs.Compacting.{CompactWrites, Compacts, FindsUntil, HasOpenGates, compacted, last_generation, next_head};
 ghost use Rattle.macs_journal.specs.Found.{Content};
-ghost use Rattle.macs_journal.specs.Rewriting.{IsNoOpenGate, IsSettled, IsShut};
+ghost use Rattle.macs_journal.specs.Rewriting.{AreClosed, HasNewGates, IsNoOpenGate, IsSettled, IsShut};
 ghost use Rattle.macs_journal.specs.Work.{IsSpared};
 
 use crate::area::Area;
@@ -90,6 +90,7 @@ fn rewrite<D: SectorDisk>(
     ensures done { OnOk result (IsHonest (D.disk disk.new) → (before : Content) → IsReady (now (D.disk disk.old)) before
         → other_area before.area ≡ area → next_head before.head (length records.now) ≡ head.now
         → IsReady (now (D.disk disk.new)) (compacted before records.now)) }
+    ensures gates { OnOk result (IsHonest (D.disk disk.new) → HasNewGates (now (D.disk disk.old)).seen (now (D.disk disk.new)).seen area) }
     ensures others { IsHonest (D.disk disk.new) → (i : ℕ)
         → ¬ CompactWrites (now (D.disk disk.old)).seen area (length records.now) i
         → IsSpared (D.disk disk.old) (D.disk disk.new) i }
@@ -108,6 +109,8 @@ fn clear<D: SectorDisk>(disk: &mut D, area: Area) -> Result<(), DeviceFault>
     ensures calls { OnOk result (IsHonest (D.disk disk.new) → (opened : ℕ) → HasOpenGates (now (D.disk disk.old)).seen area gates opened
         → (D.disk disk.new).clock ≡ (D.disk disk.old).clock + (258 + opened)) }
     ensures settled { OnOk result (IsHonest (D.disk disk.new) → IsSettled (now (D.disk disk.new))) }
+    ensures closed { OnOk result (IsHonest (D.disk disk.new)
+        → AreClosed (now (D.disk disk.old)).seen (now (D.disk disk.new)).seen area 0 gates) }
     ensures shut { OnOk result (IsHonest (D.disk disk.new) → IsShut (now (D.disk disk.new)).seen area) }
     ensures others { IsHonest (D.disk disk.new) → (i : ℕ) → IsNoOpenGate (now (D.disk disk.old)).seen area 0 gates i
         → IsSpared (D.disk disk.old) (D.disk disk.new) i }

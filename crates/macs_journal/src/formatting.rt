@@ -8,7 +8,8 @@ ghost use Rattle.macs_disk.specs.States.{state_after_sync};
 ghost use Rattle.macs_journal.specs.Appending.{IsReady};
 ghost use Rattle.macs_journal.specs.Areas.{least_sectors};
 ghost use Rattle.macs_journal.specs.Found.{IsGateOpen, IsNotFormatted};
-ghost use Rattle.macs_journal.specs.Formatting.{FormatWrites, HasNewGates, HasOpenHead, IsBlank, IsJournalFormat, IsNewOrNone, first_content, first_head};
+ghost use Rattle.macs_journal.specs.Formatting.{FormatWrites, HasOpenHead, IsBlank, IsJournalFormat, IsNewOrNone, first_content, first_head};
+ghost use Rattle.macs_journal.specs.Rewriting.{HasNewGates};
 ghost use Rattle.macs_journal.specs.Work.{IsSpared};
 
 use crate::area::{Area, LEAST_SECTORS};
@@ -68,7 +69,7 @@ fn fill<D: SectorDisk>(disk: &mut D, identity: &Identity) -> Result<(), DeviceFa
         → Leaves (D.disk disk.old) (D.disk disk.new) (IsNewOrNone identity.now) }
     ensures done { OnOk result (IsHonest (D.disk disk.new) → IsBlank (now (D.disk disk.old))
         → IsReady (now (D.disk disk.new)) (first_content identity.now)) }
-    ensures gates { OnOk result (IsHonest (D.disk disk.new) → HasNewGates (now (D.disk disk.old)).seen (now (D.disk disk.new)).seen) }
+    ensures gates { OnOk result (IsHonest (D.disk disk.new) → HasNewGates (now (D.disk disk.old)).seen (now (D.disk disk.new)).seen 0) }
     ensures others { IsHonest (D.disk disk.new) → (i : ℕ) → ¬ FormatWrites (now (D.disk disk.old)).seen i
         → IsSpared (D.disk disk.old) (D.disk disk.new) i }
 {

@@ -22,4 +22,4 @@ pub use fault::JournalFault;
 pub use formatting::format;
 pub use journal::Journal;
 pub use recovery::{Found, RecoverRefused, Recovered, recover, recover_into};
-pub use slots::{Records, no_records};
+pub use slots::{Records, Room, new_room};

@@ -1,7 +1,9 @@
 use Rattle.std.proofs.Common.{refl, sym, ◌∙◌, subst, arith}
 use Rattle.macs_disk.specs.States.{DiskState}
 use Rattle.macs_disk.specs.Disk.{IsHonest, now}
+use Rattle.macs_journal.specs.Areas.{gates}
 use Rattle.macs_journal.specs.Found.{IsGateOpen}
+use Rattle.macs_journal.specs.Rewriting.{AreClosed}
 use Rattle.macs_journal.proofs.OpenGates.{shut}
 use Rattle.macs_journal.proofs.HeadOpened.{synced-settled}
 use Rattle.macs_journal.proofs.Spared.{Spared-on, Spared-sync}
@@ -36,3 +38,9 @@ returns-clause-shut g c honest k lt =
     let honest1 : IsHonest (g.D.SectorDisk.disk c.close_gates.new.disk) = sym c.sync.ensures.call.work.works.honest ∙ honest in
     subst (λ (s : DiskState). ¬ IsGateOpen s.seen c.args.area k) (sym (c.in_ok-sync.ensures.effect honest).ok)
     (shut _ _ c.args.area 0 c.close_gates.ensures.work.works (c.close_gates.ensures.others honest1) (c.in_ok-close_gates.ensures.closed honest1) k (omega arith) lt)
+
+pub returns-clause-closed : goal.returns-clause-closed
+returns-clause-closed g c honest =
+    let honest1 : IsHonest (g.D.SectorDisk.disk c.close_gates.new.disk) = sym c.sync.ensures.call.work.works.honest ∙ honest in
+    subst (λ (s : DiskState). AreClosed (now (g.D.SectorDisk.disk c.args.disk.now)).seen s.seen c.args.area 0 gates) (sym (c.in_ok-sync.ensures.effect honest).ok)
+    (c.in_ok-close_gates.ensures.closed honest1)

@@ -9,7 +9,7 @@ use Rattle.macs_journal.specs.Compacting.{CompactWrites, FindsUntil, HasOpenGate
 use Rattle.macs_journal.specs.Found.{Content, HasJournal}
 use Rattle.macs_journal.specs.Work.{IsSpared}
 use Rattle.macs_journal.proofs.HeadOpened.{left-until, open_gate-opens}
-use Rattle.macs_journal.proofs.Rewriting.{leaves-clearing, leaves-filling, leaves-opening, ready-compacted, spared-clearing, spared-filling, spared-opening}
+use Rattle.macs_journal.proofs.Rewriting.{gates-opened, leaves-clearing, leaves-filling, leaves-opening, ready-compacted, spared-clearing, spared-filling, spared-opening}
 use Rattle.macs_journal.proofs.compaction.rewrite.Given.{Over}
 use Rattle.macs_journal.proofs.compaction.rewrite.Goals.{After-clear, After-write_bodies, After-open_head}
 use Rattle.macs_journal.proofs.compaction.rewrite.Goals as goal
@@ -136,3 +136,11 @@ returns-in_err-open_head-clause-others g c = spares g (goal.at.returns-in_err-op
 
 pub returns-clause-others : goal.returns-clause-others
 returns-clause-others g c = spares g (goal.at.returns-clause-others g c).After-open_head
+
+pub returns-clause-gates : goal.returns-clause-gates
+returns-clause-gates g c honest =
+    let o = (goal.at.returns-clause-gates g c).After-open_head in
+    let d = g.D.SectorDisk.disk in
+    gates-opened (d c.args.disk.now) (d c.clear.new.disk) (d c.write_bodies.new.disk) (d c.open_head.new.disk) c.args.area (length c.args.records.now) (c.in_ok-clear.ensures.closed (honest1 g o honest))
+    c.write_bodies.ensures.work.works (c.write_bodies.ensures.others (honest2 g o honest))
+    c.open_head.ensures.work.works (c.open_head.ensures.others honest) (c.in_ok-open_head.ensures.gate honest)

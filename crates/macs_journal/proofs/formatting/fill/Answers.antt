@@ -12,7 +12,7 @@ use Rattle.macs_journal.specs.Found.{IsNotFormatted}
 use Rattle.macs_journal.specs.Rewriting.{AreBodies, AreClosed, IsNoBody, IsNoOpenGate, IsOldOrOpening}
 use Rattle.macs_journal.specs.Work.{IsSpared}
 use Rattle.macs_journal.proofs.HeadOpened.{open_gate-opens}
-use Rattle.macs_journal.proofs.Closing.{leaves-bodies, leaves-closing, leaves-first, new-gates, ready-first, spared-bodies, spared-closing, spared-last}
+use Rattle.macs_journal.proofs.Closing.{leaves-bodies, leaves-closing, gates-last, leaves-first, ready-first, spared-bodies, spared-closing, spared-last}
 use Rattle.macs_journal.proofs.formatting.fill.Given.{Over}
 use Rattle.macs_journal.proofs.formatting.fill.Goals as goal
 use Rattle.macs_journal.proofs.formatting.fill.Goals.{After-close_gates, After-open_head, After-write_bodies}
@@ -129,6 +129,6 @@ pub returns-clause-gates : goal.returns-clause-gates
 returns-clause-gates g c honest =
     let path = goal.at.returns-clause-gates g c in
     let o = path.After-open_head in
-    new-gates _ _ c.write_bodies.ensures.work.works (bodies-others g path.After-write_bodies (honest1 g o honest))
+    gates-last _ _ c.write_bodies.ensures.work.works (bodies-others g path.After-write_bodies (honest1 g o honest))
     _ c.close_gates.ensures.work.works (closing-others g path.After-close_gates (honest2 g o honest)) _ c.open_head.ensures.work.works (opening-others g o honest)
     (closed-gates g o honest) (subst (λ (a : ℕ). (now (g.D.SectorDisk.disk c.open_head.new.disk)).seen (gate a 0) ≡ open_gate) c.first-area.ensures (c.in_ok-open_head.ensures.gate honest))

@@ -3,7 +3,7 @@ use Rattle.macs_disk.specs.Disk.{now}
 use Rattle.macs_journal.specs.Compacting.{compacted}
 use Rattle.macs_journal.specs.declared.fault.JournalFault.TheVariants.{GenerationsSpent, Stopped}
 use Rattle.macs_journal.specs.declared.hand.Hand.TheVariants.{Empty}
-use Rattle.macs_journal.proofs.Compacting.{compact-calls, compact-holding, compact-leaves, compact-others, compact-until, refused-compacts}
+use Rattle.macs_journal.proofs.Compacting.{compact-calls, compact-gates, compact-holding, compact-leaves, compact-others, compact-until, refused-compacts}
 use Rattle.macs_journal.proofs.Holding.{kept-image}
 use Rattle.macs_journal.proofs.journal.Journal.compact.Goals as goal
 
@@ -41,6 +41,7 @@ returns-in-Ok g c =
       done = rw (← c.self.view_is) (λ honest before holds. compact-holding old new j.place j.hand area next records c.other-other.ensures before holds c.in-Some.ensures.value (c.in-Ok.ensures.done honest));
       kept = rw (← c.self.view_is) (λ honest before holds.
           kept-image (now new) (record { area = area; head = next; free = length records }) Empty (compacted before records) (compact-holding old new j.place j.hand area next records c.other-other.ensures before holds c.in-Some.ensures.value (c.in-Ok.ensures.done honest)));
+      gates = rw (← c.self.view_is) (λ honest. compact-gates old new j.place j.hand area next records c.other-other.ensures (c.in-Ok.ensures.gates honest));
       others = rw (← c.self.view_is) (λ honest. compact-others old new j.place j.hand area next records c.other-other.ensures (c.rewrite.ensures.others honest));
     }
 
@@ -69,5 +70,6 @@ returns-in-Err g c =
       any_moment = rw (← c.self.view_is) (λ honest before holds. compact-leaves old new j.place j.hand area next records c.other-other.ensures before holds c.in-Some.ensures.value (c.rewrite.ensures.images honest));
       done = tt;
       kept = tt;
+      gates = tt;
       others = rw (← c.self.view_is) (λ honest. compact-others old new j.place j.hand area next records c.other-other.ensures (c.rewrite.ensures.others honest));
     }

@@ -1,0 +1,10 @@
+-- A table has as many members as its map has entries.
+use Rattle.std.proofs.Common.{◌≡◌, List, [], ◌∷◌, length, refl, ap, suc, String}
+use Rattle.std.specs.declared.alloc.Global.{Global}
+use Rattle.toml.specs.declared.value.Value.{Value}
+use Rattle.toml.specs.View.{members_view}
+use Rattle.macs_edge.specs.CommandFiles.{count}
+
+pub counted : (es : List (String Global × Value)) → length es ≡ count (members_view es)
+counted [] = refl
+counted (e ∷ es) = ap (λ n. suc n) (counted es)

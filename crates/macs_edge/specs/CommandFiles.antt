@@ -1,0 +1,60 @@
+-- The commands of a whole command file, or its first fault.
+use Rattle.std.specs.Prelude.{◌+◌, ◌==◌, ℕ, suc, nat_lt, codes, if◌then◌else◌, Bool, true, false, List, [], ◌∷◌, Some, None, Result, Ok, Err}
+use Rattle.toml.specs.Data.{Data, Items, Members, array, get_member, item, member, no_items, no_members, table}
+use Rattle.macs_config.specs.declared.command.Command.{Command}
+use Rattle.macs_edge.specs.Lines.{command_of, keys_of, word_in}
+use Rattle.macs_edge.specs.declared.config_fault.ConfigFault.{ConfigFault}
+use Rattle.macs_edge.specs.declared.config_fault.ConfigFault.TheVariants as fault
+use Rattle.macs_edge.specs.declared.config_fault.KeyName.{KeyName}
+
+-- how many keys a table has
+abbrev pub count : Members → ℕ
+count no_members = 0
+count (member key value members) = suc (count members)
+
+-- ---- one table
+
+-- what table `at` says: a key that is wrong comes before one too many
+abbrev pub told : (at : ℕ) (has_more : Bool) → Result Command KeyName → Result Command ConfigFault
+told at has_more (Err name) = Err (fault.Key at name)
+told at true (Ok command) = Err (fault.Extra at)
+told at false (Ok command) = Ok command
+
+-- the command of table `at`, counted from 1
+abbrev pub table_command : ℕ → Members → Result Command ConfigFault
+table_command at members = elim (word_in members) [
+  | None ↦ Err (fault.Word at)
+  | Some word ↦ told at (nat_lt (keys_of word) (count members)) (command_of word members)
+]
+
+-- ---- all tables
+
+-- each of these values is a table
+abbrev pub are_tables : Items → Bool
+are_tables no_items = true
+are_tables (item (table _) items) = are_tables items
+are_tables (item other items) = false
+
+-- a command, and those behind it
+abbrev pub before : Result Command ConfigFault → Result (List Command) ConfigFault → Result (List Command) ConfigFault
+before (Err fault) rest = Err fault
+before (Ok command) (Err fault) = Err fault
+before (Ok command) (Ok commands) = Ok (command ∷ commands)
+
+-- the commands of these tables, the first of which is number `at`
+abbrev pub table_commands : ℕ → Items → Result (List Command) ConfigFault
+table_commands at no_items = Ok []
+table_commands at (item (table members) items) = before (table_command at members) (table_commands (at + 1) items)
+table_commands at (item other items) = Err fault.Shape
+
+-- the commands of an array of tables
+abbrev pub array_commands : Data → Result (List Command) ConfigFault
+array_commands (array items) = if are_tables items then table_commands 1 items else Err fault.Shape
+array_commands other = Err fault.Shape
+
+-- the commands of a whole file: its only key is `command`, and without that there are none
+abbrev pub file_commands : Members → Result (List Command) ConfigFault
+file_commands members = elim (get_member (codes "command") members) [
+  | None ↦ if count members == 0 then Ok [] else Err fault.Shape
+  | Some value ↦ if count members == 1 then array_commands value else Err fault.Shape
+]

@@ -1,0 +1,92 @@
+-- What stands at a key of a table: a number, a flag, a text, a mode, an association number, an SCI or a key.
+use Rattle.std.specs.Prelude.{◌-◌, ◌^◌, ℕ, nat_le, pos, codes, if◌then◌else◌, Bool, List, Option, Some, None, option_and_then, Ok, Err}
+use Rattle.std.specs.Str.{bytes_eq}
+use Rattle.hex.specs.Hex.{decode_sized}
+use Rattle.toml.specs.Data.{Data, Members, as_bool, as_str, get_member, integer}
+use Rattle.macs_config.specs.declared.command.SciMode.{SciMode}
+use Rattle.macs_config.specs.declared.command.SciMode.TheVariants.{Explicit, EndStation, Implicit}
+use Rattle.macs_config.specs.declared.command.Validate.{Validate}
+use Rattle.macs_config.specs.declared.command.Validate.TheVariants.{Strict, Check}
+
+-- ---- kinds of values
+
+-- a number from 0 to `most`
+abbrev pub number_to : ℕ → Data → Option ℕ
+number_to most (integer (pos n)) = if nat_le n most then Some n else None
+number_to most other = None
+
+-- so many octets, from a text of twice as many hex digits
+abbrev pub octets_of : ℕ → List ℕ → Option (List ℕ)
+octets_of count text = elim (decode_sized text count) [ Ok octets ↦ Some octets | Err cause ↦ None ]
+
+-- what is done with frames that do not verify, by its word
+abbrev pub validate_of : List ℕ → Option Validate
+validate_of text = if bytes_eq text (codes "strict") then Some Strict else if bytes_eq text (codes "check") then Some Check else None
+
+-- how frames name the channel, by its word
+abbrev pub sci_mode_of : List ℕ → Option SciMode
+sci_mode_of text =
+    if bytes_eq text (codes "explicit") then Some Explicit
+    else if bytes_eq text (codes "end-station") then Some EndStation
+    else if bytes_eq text (codes "implicit") then Some Implicit
+    else None
+
+-- ---- values at a key
+
+-- the number at a key, where it is at most `most`
+abbrev pub number_at : List ℕ → ℕ → Members → Option ℕ
+number_at key most members = option_and_then (number_to most) (get_member key members)
+
+-- the flag at a key
+abbrev pub flag_at : List ℕ → Members → Option Bool
+flag_at key members = option_and_then as_bool (get_member key members)
+
+-- the text at a key
+abbrev pub text_at : List ℕ → Members → Option (List ℕ)
+text_at key members = option_and_then as_str (get_member key members)
+
+-- the octets at a key, so many of them
+abbrev pub octets_at : List ℕ → ℕ → Members → Option (List ℕ)
+octets_at key count members = option_and_then (octets_of count) (text_at key members)
+
+-- ---- the keys of the commands
+
+-- an association number, 0 to 3
+abbrev pub an_in : Members → Option ℕ
+an_in members = number_at (codes "an") 3 members
+
+-- an SCI: 16 hex digits
+abbrev pub sci_in : Members → Option (List ℕ)
+sci_in members = octets_at (codes "sci") 8 members
+
+-- a SAK: 32 hex digits
+abbrev pub key_in : Members → Option (List ℕ)
+key_in members = octets_at (codes "key") 16 members
+
+-- a first packet number, 0 to 2^32 - 1: that 0 is none is said when the command is applied
+abbrev pub start_in : Members → Option ℕ
+start_in members = number_at (codes "start") (2 ^ 32 - 1) members
+
+-- a confidentiality offset, 0 to 255 octets: which of them are offsets is said when the command is applied
+abbrev pub offset_in : Members → Option ℕ
+offset_in members = number_at (codes "offset") 255 members
+
+-- the size of a replay window, 0 to 2^32 - 1
+abbrev pub window_in : Members → Option ℕ
+window_in members = number_at (codes "window") (2 ^ 32 - 1) members
+
+-- whether replay protection is on
+abbrev pub on_in : Members → Option Bool
+on_in members = flag_at (codes "on") members
+
+-- whether User Data are encrypted
+abbrev pub confidential_in : Members → Option Bool
+confidential_in members = flag_at (codes "confidential") members
+
+-- a mode of validation
+abbrev pub validate_in : Members → Option Validate
+validate_in members = option_and_then validate_of (text_at (codes "mode") members)
+
+-- a mode of naming the channel
+abbrev pub sci_mode_in : Members → Option SciMode
+sci_mode_in members = option_and_then sci_mode_of (text_at (codes "mode") members)

@@ -1,0 +1,102 @@
+-- The words of the commands, and the keys of each one's table in their order.
+use Rattle.std.specs.Prelude.{ℕ, codes, if◌then◌else◌, List, Option, Some, None, option_and_then, Result, Ok, Err}
+use Rattle.std.specs.Str.{bytes_eq}
+use Rattle.toml.specs.Data.{Members}
+use Rattle.macs_config.specs.declared.command.Command.{Command}
+use Rattle.macs_config.specs.declared.command.Command.TheVariants.{SetValidate, SetReplay, SetSciMode, TxInstall, TxUse, TxRemove, RxAdd, RxDrop, RxInstall, RxRemove}
+use Rattle.macs_edge.specs.Fields.{an_in, confidential_in, key_in, offset_in, on_in, sci_in, sci_mode_in, start_in, text_at, validate_in, window_in}
+use Rattle.macs_edge.specs.declared.config_fault.KeyName.{KeyName}
+use Rattle.macs_edge.specs.declared.config_fault.KeyName.TheVariants.{Mode, On, Window, An, Key, Start, Confidential, Offset, Sci}
+use Rattle.macs_edge.specs.declared.word.Word.{Word}
+use Rattle.macs_edge.specs.declared.word.Word.TheVariants as word
+
+-- ---- words
+
+-- the word that a text is
+abbrev pub word_of : List ℕ → Option Word
+word_of text =
+    if bytes_eq text (codes "set-validate") then Some word.SetValidate
+    else if bytes_eq text (codes "set-replay") then Some word.SetReplay
+    else if bytes_eq text (codes "set-sci-mode") then Some word.SetSciMode
+    else if bytes_eq text (codes "tx-install") then Some word.TxInstall
+    else if bytes_eq text (codes "tx-use") then Some word.TxUse
+    else if bytes_eq text (codes "tx-remove") then Some word.TxRemove
+    else if bytes_eq text (codes "rx-add") then Some word.RxAdd
+    else if bytes_eq text (codes "rx-drop") then Some word.RxDrop
+    else if bytes_eq text (codes "rx-install") then Some word.RxInstall
+    else if bytes_eq text (codes "rx-remove") then Some word.RxRemove
+    else None
+
+-- the word of a table
+abbrev pub word_in : Members → Option Word
+word_in members = option_and_then word_of (text_at (codes "do") members)
+
+-- how many keys the table of a command has, `do` among them
+abbrev pub keys_of : Word → ℕ
+keys_of word.SetValidate = 2
+keys_of word.SetReplay = 3
+keys_of word.SetSciMode = 2
+keys_of word.TxInstall = 6
+keys_of word.TxUse = 2
+keys_of word.TxRemove = 2
+keys_of word.RxAdd = 2
+keys_of word.RxDrop = 2
+keys_of word.RxInstall = 6
+keys_of word.RxRemove = 3
+
+-- ---- lines
+
+-- the value, or else the name of the key where it should stand
+abbrev pub required : {X : Type 0} → KeyName → Option X → Result X KeyName
+required name (Some x) = Ok x
+required name None = Err name
+
+infixl 10 ◌>>=◌
+-- the first of two readings, and behind it the second
+abbrev pub ◌>>=◌ : {X Y : Type 0} → Result X KeyName → (X → Result Y KeyName) → Result Y KeyName
+Ok x >>= f = f x
+Err name >>= f = Err name
+
+-- the command that a table says with its word, or the first key in the order of the line that is absent, of another kind or out of
+-- range
+abbrev pub command_of : Word → Members → Result Command KeyName
+command_of word.SetValidate members = do
+  mode ← required Mode (validate_in members)
+  Ok (SetValidate mode)
+command_of word.SetReplay members = do
+  on ← required On (on_in members)
+  window ← required Window (window_in members)
+  Ok (SetReplay on window)
+command_of word.SetSciMode members = do
+  mode ← required Mode (sci_mode_in members)
+  Ok (SetSciMode mode)
+command_of word.TxInstall members = do
+  an ← required An (an_in members)
+  key ← required Key (key_in members)
+  start ← required Start (start_in members)
+  confidential ← required Confidential (confidential_in members)
+  offset ← required Offset (offset_in members)
+  Ok (TxInstall an key start confidential offset)
+command_of word.TxUse members = do
+  an ← required An (an_in members)
+  Ok (TxUse an)
+command_of word.TxRemove members = do
+  an ← required An (an_in members)
+  Ok (TxRemove an)
+command_of word.RxAdd members = do
+  sci ← required Sci (sci_in members)
+  Ok (RxAdd sci)
+command_of word.RxDrop members = do
+  sci ← required Sci (sci_in members)
+  Ok (RxDrop sci)
+command_of word.RxInstall members = do
+  sci ← required Sci (sci_in members)
+  an ← required An (an_in members)
+  key ← required Key (key_in members)
+  start ← required Start (start_in members)
+  offset ← required Offset (offset_in members)
+  Ok (RxInstall sci an key start offset)
+command_of word.RxRemove members = do
+  sci ← required Sci (sci_in members)
+  an ← required An (an_in members)
+  Ok (RxRemove sci an)

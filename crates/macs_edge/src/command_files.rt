@@ -1,0 +1,105 @@
+//! Command files, in TOML.
+
+ghost use Rattle.std.specs.Prelude.{◌≡◌, ◌≢◌, ◌<◌, ◌^◌, length, IfOk, IfErr, Ok, Err};
+ghost use Rattle.toml.specs.View.{items_view, table_view};
+ghost use Rattle.macs_edge.specs.CommandFiles.{are_tables, count, file_commands, table_command, table_commands};
+ghost use Rattle.macs_edge.specs.declared.config_fault.ConfigFault.TheVariants.{Memory};
+
+use crate::config_fault::ConfigFault;
+use crate::fields::{value, word};
+use crate::lines::command_of;
+use macs_config::Command;
+use std::alloc::Allocator;
+use toml::{Table, Value};
+
+/// The commands of a command file, in order. Its only key is `command`, an array of tables; without it
+/// there are no commands. Each table has the key `do` and exactly the keys of its line:
+///
+/// | `do` | keys |
+/// |---|---|
+/// | `set-validate` | `mode`: "strict" or "check" |
+/// | `set-replay` | `on`: boolean; `window`: 0 to 2^32 - 1 |
+/// | `set-sci-mode` | `mode`: "explicit", "end-station" or "implicit" |
+/// | `tx-install` | `an`, `key`, `start`, `confidential`: boolean, `offset` |
+/// | `tx-use`, `tx-remove` | `an` |
+/// | `rx-add`, `rx-drop` | `sci` |
+/// | `rx-install` | `sci`, `an`, `key`, `start`, `offset` |
+/// | `rx-remove` | `sci`, `an` |
+///
+/// `an` is 0 to 3, `start` 0 to 2^32 - 1, `offset` 0 to 255 octets, `key` a text of 32 hex digits, `sci`
+/// one of 16, of either case. A start of 0 and an offset that is none are read here, and refused when the
+/// command is applied. Refused with the file's first fault, and as `Memory` where the list of commands
+/// cannot grow.
+pub fn commands_of<A: Allocator>(alloc: A, file: &Table) -> Result<Vec<Command, A>, ConfigFault>
+    ensures commands { IfOk result (λ commands. file_commands (table_view file.now) ≡ Ok commands.items) }
+    ensures fault { IfErr result (λ fault. fault ≢ Memory → file_commands (table_view file.now) ≡ Err fault) }
+{
+    let Some(value) = value(file, "command") else {
+        if keys(file) == 0 {
+            return Ok(Vec::new(alloc));
+        }
+        return Err(ConfigFault::Shape);
+    };
+    if keys(file) != 1 {
+        return Err(ConfigFault::Shape);
+    }
+    let Some(tables) = value.as_array() else {
+        return Err(ConfigFault::Shape);
+    };
+    if !are_tables(tables) {
+        return Err(ConfigFault::Shape);
+    }
+    table_commands(alloc, tables)
+}
+
+/// How many keys a table has.
+fn keys(table: &Table) -> usize
+    ensures { result ≡ count (table_view table.now) }
+{
+    table.len()
+}
+
+/// Whether each value is a table.
+fn are_tables(values: &[Value]) -> bool
+    ensures { result ≡ are_tables (items_view values.now) }
+{
+    for i in 0..values.len() {
+        if !values[i].is_table() {
+            return false;
+        }
+    }
+    true
+}
+
+/// The commands of these tables, which are counted from 1.
+fn table_commands<A: Allocator>(alloc: A, tables: &[Value]) -> Result<Vec<Command, A>, ConfigFault>
+    requires { length tables.now < 2 ^ 63 }
+    ensures commands { IfOk result (λ commands. table_commands 1 (items_view tables.now) ≡ Ok commands.items) }
+    ensures fault { IfErr result (λ fault. fault ≢ Memory → table_commands 1 (items_view tables.now) ≡ Err fault) }
+{
+    let mut commands = Vec::new(alloc);
+    for i in 0..tables.len() {
+        let Some(table) = tables[i].as_table() else {
+            return Err(ConfigFault::Shape);
+        };
+        let command = table_command(i + 1, table)?;
+        if commands.push(command).is_err() {
+            return Err(ConfigFault::Memory);
+        }
+    }
+    Ok(commands)
+}
+
+/// The command of table `at`, counted from 1.
+fn table_command(at: usize, table: &Table) -> Result<Command, ConfigFault>
+    ensures { result ≡ table_command at (table_view table.now) }
+{
+    let Some(word) = word(table) else {
+        return Err(ConfigFault::Word { at });
+    };
+    match command_of(word, table) {
+        Ok(_) if keys(table) > word.keys() => Err(ConfigFault::Extra { at }),
+        Ok(command) => Ok(command),
+        Err(name) => Err(ConfigFault::Key { at, name }),
+    }
+}

@@ -1,0 +1,90 @@
+use Rattle.std.proofs.Common.{◌≡◌, ℕ, List, Option, Some, None, refl, sym, ◌∙◌, ap, subst, arith, rules}
+use Rattle.std.specs.Option.{option_map}
+use Rattle.macs_config.specs.Config.{Config}
+use Rattle.macs_config.specs.Identity.{IsIdentity}
+use Rattle.macs_txsc.specs.Transmit.{InOrder}
+use Rattle.macs_txsc.specs.Value as txsc
+use Rattle.macs_txsc.specs.declared.channel.Tx.{Tx}
+use Rattle.macs_rxsc.specs.Receive.{Numbers, first_numbers}
+use Rattle.macs_rxsc.specs.Value.{association_in, channel_at}
+use Rattle.macs_rxsc.specs.Value as rxsc
+use Rattle.macs_rxsc.proofs.Needs.{unnumbered}
+use Rattle.macs_store.specs.Value.{standing_in}
+use Rattle.macs_store.specs.Standing.{Standing}
+use Rattle.macs_endpoint.specs.Value.{IsRxWithin, IsSoundEndpoint, IsTxWithin}
+use Rattle.macs_endpoint.specs.State.{rx_side_with, tx_side_with}
+use Rattle.macs_endpoint.proofs.endpoint.Endpoint.over.Given.{Over}
+use Rattle.macs_endpoint.proofs.endpoint.Endpoint.over.Goals.{After-facts-2}
+use Rattle.macs_endpoint.proofs.endpoint.Endpoint.over.Goals as goal
+
+-- ---- numbers begin at their ceilings
+
+tx_begins : (block : ℕ) (next ceiling : Option ℕ) → next ≡ ceiling → InOrder next ceiling → IsTxWithin block next ceiling
+tx_begins block None None same ordered = tt
+tx_begins block None (Some c) same ordered = absurd ordered
+tx_begins block (Some n) None same ordered = absurd ordered
+tx_begins block (Some n) (Some c) same ordered = let is : n ≡ c = cc in (ordered.0, ordered.1, omega (arith, is), ordered.2)
+
+rx_started : (block : ℕ) (ceiling : Option ℕ) → IsRxWithin block (option_map first_numbers ceiling) ceiling
+rx_started block None = tt
+rx_started block (Some c) = (omega arith, omega arith)
+
+rx_begins : (block : ℕ) (numbers : Option Numbers) (ceiling : Option ℕ) → numbers ≡ option_map first_numbers ceiling → IsRxWithin block numbers ceiling
+rx_begins block numbers ceiling same =
+    subst (λ (n : Option Numbers). IsRxWithin block n ceiling) (sym same) (rx_started block ceiling)
+
+module _ (g : Over) (c : After-facts-2 g) where
+  abbrev s : Standing
+  s = standing_in c.args.store
+
+  abbrev tx : Tx
+  tx = c.opened-channels.result.tx
+
+  abbrev rx : rxsc.RxValue
+  rx = c.opened-channels.result.rx
+
+  next : (txsc.tx_side_of tx).next ≡ s.ceilings.tx
+  next = ap (λ side. side.next) c.opened-channels.ensures.tx
+
+  numbers : (rxsc.rx_side_of rx).numbers ≡ (λ sci an. option_map first_numbers (s.ceilings.rx sci an))
+  numbers = ap (λ side. side.numbers) c.opened-channels.ensures.rx
+
+  kept : IsSoundEndpoint {D = g.row.D.Denot} (record { store = c.args.store; tx = tx; rx = rx; in_hand = None })
+  kept =
+      let opened = c.opened-channels.ensures in
+      record {
+        identity = subst IsIdentity c.identity.ensures c.identity_in_range.ensures;
+        channels = record {
+          tx_is = opened.tx ∙ ap (λ (n : ℕ → Option ℕ). tx_side_with s.identity s.config n) (sym next);
+          rx_is = opened.rx ∙ ap (λ (n : List ℕ → ℕ → Option Numbers). rx_side_with s.config n) (sym numbers);
+          tx_ceilings = opened.tx_ceilings;
+          rx_ceilings = opened.rx_ceilings;
+        };
+        within = record {
+          tx_within = λ an. tx_begins s.identity.tx_block ((txsc.tx_side_of tx).next an) (txsc.ceilings_of tx an)
+              (λ i. (next ∙ sym opened.tx_ceilings) i an) (c.facts.ensures an).0;
+          rx_within = λ sci an. rx_begins s.identity.rx_block ((rxsc.rx_side_of rx).numbers sci an) (rxsc.ceilings_of rx sci an)
+              ((λ i. numbers i sci an) ∙ (λ i. option_map first_numbers (sym opened.rx_ceilings i sci an)));
+          few = λ sci an over. unnumbered (association_in (channel_at rx.channels sci) an)
+              ((λ i. (opened.rx i).rx sci an)
+              ∙ subst (λ (k : Config). k.rx sci an ≡ None) c.config.ensures.config (c.facts-2.ensures.rx_numbers sci an over));
+        };
+        idle = λ running. refl;
+      }
+
+pub invariant_of-result : goal.invariant_of-result
+invariant_of-result g c = kept g (goal.at.invariant_of-result g c).After-facts-2
+
+pub returns : goal.returns
+returns g c =
+    let at = (goal.at.returns g c).After-facts-2 in
+    record {
+      from = refl;
+      sound = kept g at;
+      idle = refl;
+      next = next g at;
+      numbers = numbers g at;
+      tx_counters = search rules;
+      rx_counters = search rules;
+      channel_counters = search rules;
+    }
