@@ -1,0 +1,6 @@
+pub mod Fronts
+pub mod Taken
+pub mod Sent
+pub mod WrittenNumbers
+pub mod WrittenRecord
+pub mod WrittenHeader

@@ -1,0 +1,29 @@
+-- What the calls promise that write a capture.
+use Rattle.std.specs.Prelude.{◌≡◌, ◌<◌, ℕ, Bool, true, List, ◌++◌, length, Option, Result, IfErr, OnErr, OnOk}
+use Rattle.std.specs.Io.KnownBytes.{Appends, Keeps}
+use Rattle.macs_pcap.specs.States.{SinkState}
+use Rattle.macs_pcap.specs.declared.fault.PcapFault.{PcapFault}
+use Rattle.macs_pcap.specs.declared.fault.PcapFault.TheVariants.{Write}
+
+-- the front of a text is appended, but not all of it
+abbrev pub AppendsFront : Option (List ℕ) → Option (List ℕ) → List ℕ → Type 0
+AppendsFront before after text =
+    (front : List ℕ) × (rest : List ℕ) × (text ≡ front ++ rest) × (0 < length rest) × Appends before after front
+
+-- a write or a flush failed in this call exactly where that is answered; what had failed before stays so
+pub record TellsFailedWrite {T : Type 0} (before after : Bool) (answer : Result T PcapFault) : Type 0 where
+  pub done : OnOk answer (after ≡ before)
+  pub failed : OnErr answer (after ≡ true)
+  pub names : IfErr answer (λ fault. fault ≡ Write)
+
+-- a text is written: whole, or its front where a write fails
+pub record WritesText {T : Type 0} (before after : SinkState) (text : List ℕ) (answer : Result T PcapFault) : Type 0 where
+  pub whole : OnOk answer (Appends before.held after.held text)
+  pub front : OnErr answer (AppendsFront before.held after.held text)
+  pub write : TellsFailedWrite before.failed after.failed answer
+
+-- all that was written is handed on, or that fails
+pub record Flushes {T : Type 0} (before after : SinkState) (answer : Result T PcapFault) : Type 0 where
+  pub held : Keeps before.held after.held
+  pub flushed : OnOk answer (after.flushed ≡ true)
+  pub write : TellsFailedWrite before.failed after.failed answer
