@@ -3,8 +3,8 @@
 /// Why a capture is not read, or not written, any further. Of several that hold the first one is
 /// answered: those of the header in the order `CutFile`, `BadMagic`, `BadVersion`, `NotEthernet`; those
 /// of a capture record in the order `CutFile` (in its record header), `TooManyRecords`,
-/// `RecordTooLong`, `CutRecord`, `Memory`, `CutFile` (in its frame). `Read` comes before all that would have been found
-/// behind the read that failed.
+/// `RecordTooLong`, `CutRecord`, `Memory`, `CutFile` (in its frame). `Read` comes before all that would
+/// have been found behind the read that failed.
 #[derive(Clone, Copy, Debug, PartialEq, Eq)]
 pub enum PcapFault {
     /// A read failed, for whatever reason: one that was interrupted failed too.

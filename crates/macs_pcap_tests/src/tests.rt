@@ -53,7 +53,9 @@ fn with_octets(
     changed: [u8; 4],
 ) -> [u8; WHOLE] {
     assert!(rt; place < WHOLE - 4);
-    octets[place..place + 4].copy_from_slice(&changed);
+    for i in 0..4 {
+        octets[place + i] = changed[i];
+    }
     octets
 }
 
@@ -164,6 +166,10 @@ fn take<R: Source, A: Allocator>(
     frame: &mut Vec<u8, A>,
 ) -> Result<Option<Stamp>, PcapFault> {
     reader.next(frame)
+}
+
+fn gives(answer: Result<Option<Stamp>, PcapFault>, expected: Option<Stamp>) -> bool {
+    answer == Ok(expected)
 }
 
 /// Reads a capture up to its end or its first fault, which is then asked for once more.

@@ -2,9 +2,10 @@
 
 use super::Outcome::Records;
 use super::{
-    BIG, FRAME, HEADER, SIGFIGS, STAMP, ZONE, begin_writing, flush, outcome_of, put, with_octets,
+    BIG, FRAME, HEADER, Outcome, SIGFIGS, STAMP, ZONE, begin_writing, flush, outcome_of, put,
+    with_octets,
 };
-use macs_pcap::{Header, PcapFault, PcapWriter, ReaderSource, WriterSink};
+use macs_pcap::{Header, PcapFault, PcapWriter, ReaderSource, Sink, WriterSink};
 use std::alloc::Global;
 use std::io::{self, BufReader, BufWriter, Read, Write};
 use std::process::Abort;
@@ -61,6 +62,15 @@ fn many(rt: &(impl Abort + AllocGlobal), records: u64) -> Result<Vec<u8>, Fail> 
     Ok(octets)
 }
 
+/// Reads a capture through a buffer.
+fn outcome_through(
+    rt: &(impl Abort + AllocGlobal),
+    below: &mut CountedReader<'_>,
+) -> Result<Outcome, Fail> {
+    let reader = BufReader::with_capacity(rt.alloc(), BUFFER, below)?;
+    Ok(outcome_of(rt, rt.alloc(), ReaderSource::new(reader)))
+}
+
 /// 7,000 records have 133,024 octets: three reads, and one at the end.
 #[test]
 fn a_read_is_not_made_for_each_record(rt: HostRuntime) -> Result<(), Fail> {
@@ -69,9 +79,7 @@ fn a_read_is_not_made_for_each_record(rt: HostRuntime) -> Result<(), Fail> {
         octets: &octets,
         calls: 0,
     };
-    let reader = BufReader::with_capacity(rt.alloc(), BUFFER, &mut below)?;
-    let outcome = outcome_of(&rt, rt.alloc(), ReaderSource::new(reader));
-    assert!(rt; outcome == Records(7_000, None));
+    assert!(rt; outcome_through(&rt, &mut below)? == Records(7_000, None));
     assert!(rt; below.calls <= 5);
     Ok(())
 }
@@ -105,11 +113,10 @@ fn counted(alloc: Global, fails_at: u64) -> CountedWriter {
     }
 }
 
-/// A frame of 262,144 octets is read, and written, past a buffer that has no room for it.
-#[test]
-fn the_longest_frame_is_taken(rt: HostRuntime) -> Result<(), Fail> {
-    let kept = with_octets(&rt, BIG, 32, [0, 4, 0, 0]);
-    let front = with_octets(&rt, kept, 36, [0, 4, 0, 0]);
+/// A frame of 262,144 octets, and the capture that has it.
+fn longest(rt: &(impl Abort + AllocGlobal)) -> Result<(Vec<u8>, Vec<u8>), Fail> {
+    let kept = with_octets(rt, BIG, 32, [0, 4, 0, 0]);
+    let front = with_octets(rt, kept, 36, [0, 4, 0, 0]);
     let mut frame = Vec::new(rt.alloc());
     frame.extend_from_slice(&FRAME)?;
     frame.resize(262_144, 7)?;
@@ -117,30 +124,54 @@ fn the_longest_frame_is_taken(rt: HostRuntime) -> Result<(), Fail> {
     let (headers, _) = front.split_at(HEADER + 16);
     octets.extend_from_slice(headers)?;
     octets.extend_from_slice(&frame)?;
-    let source = BufReader::with_capacity(rt.alloc(), BUFFER, octets.as_slice())?;
-    assert!(rt; outcome_of(&rt, rt.alloc(), ReaderSource::new(source)) == Records(1, None));
-    let mut below = counted(rt.alloc(), 0);
-    let mut writer = writer_over(&rt, &mut below)?;
-    assert!(rt; put(&rt, &mut writer, STAMP, &frame).is_ok());
-    assert!(rt; flush(&mut writer).is_ok());
-    drop(writer);
-    assert!(rt; below.octets.as_slice() == octets.as_slice());
+    Ok((frame, octets))
+}
+
+/// The longest frame is read past a buffer that has no room for it.
+#[test]
+fn the_longest_frame_is_read(rt: HostRuntime) -> Result<(), Fail> {
+    let (_, octets) = longest(&rt)?;
+    let mut below = CountedReader {
+        octets: &octets,
+        calls: 0,
+    };
+    assert!(rt; outcome_through(&rt, &mut below)? == Records(1, None));
     Ok(())
 }
 
-fn put_many(rt: &impl Abort, writer: &mut Buffered<'_>, records: u64) {
+fn put_many<W: Sink>(rt: &impl Abort, writer: &mut PcapWriter<W>, frame: &[u8], records: u64) {
     for _ in 0..records {
-        assert!(rt; put(rt, writer, STAMP, &FRAME).is_ok());
+        assert!(rt; put(rt, writer, STAMP, frame).is_ok());
     }
+}
+
+/// Writes so many records of a frame through a buffer.
+fn write_through(
+    rt: &(impl Abort + AllocGlobal),
+    below: &mut CountedWriter,
+    frame: &[u8],
+    records: u64,
+) -> Result<(), Fail> {
+    let mut writer = writer_over(rt, below)?;
+    put_many(rt, &mut writer, frame, records);
+    assert!(rt; flush(&mut writer).is_ok());
+    Ok(())
+}
+
+/// The longest frame is written past a buffer that has no room for it.
+#[test]
+fn the_longest_frame_is_written(rt: HostRuntime) -> Result<(), Fail> {
+    let (frame, octets) = longest(&rt)?;
+    let mut below = counted(rt.alloc(), 0);
+    write_through(&rt, &mut below, &frame, 1)?;
+    assert!(rt; below.octets.as_slice() == octets.as_slice());
+    Ok(())
 }
 
 #[test]
 fn a_write_is_not_made_for_each_record(rt: HostRuntime) -> Result<(), Fail> {
     let mut below = counted(rt.alloc(), 0);
-    let mut writer = writer_over(&rt, &mut below)?;
-    put_many(&rt, &mut writer, 7_000);
-    assert!(rt; flush(&mut writer).is_ok());
-    drop(writer);
+    write_through(&rt, &mut below, &FRAME, 7_000)?;
     assert!(rt; below.calls <= 4);
     assert!(rt; below.octets.as_slice() == many(&rt, 7_000)?.as_slice());
     Ok(())

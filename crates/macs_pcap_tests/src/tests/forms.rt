@@ -1,7 +1,7 @@
 //! Both orders of octets and both fractions.
 
 use super::{
-    BIG, FRAME, Failure, HEADER, LITTLE, NarrowWriter, SIGFIGS, STAMP, WHOLE, ZONE, begin,
+    BIG, FRAME, Failure, HEADER, LITTLE, NarrowWriter, SIGFIGS, STAMP, WHOLE, ZONE, begin, gives,
     source_of, take, with_octets, write_whole,
 };
 use macs_pcap::{Header, PcapReader, Source, WriterSink};
@@ -56,7 +56,7 @@ fn capture_of(rt: &impl Abort, form: Form) -> [u8; WHOLE] {
 fn has_one_record<R: Source>(rt: &impl Abort, alloc: Global, reader: &mut PcapReader<R>) {
     let mut frame = Vec::new(alloc);
     for expected in [Some(STAMP), None] {
-        assert!(rt; take(reader, &mut frame) == Ok(expected));
+        assert!(rt; gives(take(reader, &mut frame), expected));
         assert!(rt; frame.is_empty() == expected.is_none());
         assert!(rt; frame.is_empty() || frame.as_slice() == FRAME.as_slice());
     }

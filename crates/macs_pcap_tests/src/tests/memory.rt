@@ -1,9 +1,9 @@
 //! Memory that is refused.
 
-use super::{BIG, FRAME, STAMP, begin, source_of, take, with_octets};
+use super::{BIG, FRAME, STAMP, begin, gives, source_of, take, with_octets};
 use linked_list_allocator::LocalHeap;
-use macs_pcap::PcapFault;
-use std::alloc::Global;
+use macs_pcap::{PcapFault, PcapReader, Source};
+use std::alloc::{Allocator, Global};
 use std::process::Abort;
 use std::test::Fail;
 
@@ -17,23 +17,33 @@ fn capture(rt: &impl Abort, alloc: Global) -> Result<Vec<u8>, Fail> {
     Ok(octets)
 }
 
-/// Reads the record of a capture into a heap of so many octets. Whether it was refused there; then it is so for
-/// good.
-fn is_refused(rt: &impl Abort, alloc: Global, capture: &[u8], octets: usize) -> Result<bool, Fail> {
+/// Reads the record of the capture. Whether it was refused; then it is so for good.
+fn is_refused<R: Source, A: Allocator>(
+    rt: &impl Abort,
+    reader: &mut PcapReader<R>,
+    frame: &mut Vec<u8, A>,
+) -> bool {
+    let answer = take(reader, frame);
+    if gives(answer, Some(STAMP)) {
+        assert!(rt; frame.len() == 600 && frame.as_slice().starts_with(&FRAME));
+        return false;
+    }
+    assert!(rt; answer == Err(PcapFault::Memory) && frame.is_empty());
+    assert!(rt; take(reader, frame) == answer && frame.is_empty());
+    true
+}
+
+/// Reads the record of a capture into a heap of so many octets. Whether it was refused there.
+fn is_refused_in(
+    rt: &impl Abort,
+    alloc: Global,
+    capture: &[u8],
+    octets: usize,
+) -> Result<bool, Fail> {
     let heap = LocalHeap::new(alloc, octets)?;
     let mut frame = Vec::new(&heap);
     let mut reader = begin(source_of(capture, 0)).ok().expect(rt, "header");
-    let answer = take(&mut reader, &mut frame);
-    let is_refused = answer.is_err();
-    if is_refused {
-        assert!(rt; answer == Err(PcapFault::Memory));
-        assert!(rt; frame.is_empty());
-        assert!(rt; take(&mut reader, &mut frame) == answer);
-    } else {
-        assert!(rt; answer == Ok(Some(STAMP)));
-        assert!(rt; frame.len() == 600 && frame.as_slice().starts_with(&FRAME));
-    }
-    Ok(is_refused)
+    Ok(is_refused(rt, &mut reader, &mut frame))
 }
 
 /// A frame that finds no memory is refused, and in ample memory none is.
@@ -42,7 +52,7 @@ fn memory_is_refused(rt: HostRuntime) -> Result<(), Fail> {
     let octets = capture(&rt, rt.alloc())?;
     let mut refused = 0_u32;
     for blocks in 1..40 {
-        if is_refused(&rt, rt.alloc(), &octets, 64 * blocks)? {
+        if is_refused_in(&rt, rt.alloc(), &octets, 64 * blocks)? {
             refused = refused.wrapping_add(1);
         }
     }
