@@ -2,10 +2,12 @@
 //! a call and fail where they are told to.
 
 mod buffers;
+mod elsewhere;
 mod failures;
 mod faults;
 mod forms;
 mod memory;
+mod vectors;
 
 use macs_pcap::{
     Header, PcapFault, PcapReader, PcapWriter, ReaderSource, Sink, Source, Stamp, WriterSink,
