@@ -1,3 +1,5 @@
 pub mod Fields
 pub mod Lines
 pub mod CommandFiles
+pub mod Settling
+pub mod Passing

@@ -1,0 +1,5 @@
+use Rattle.macs_edge.proofs.Once.{passes-once}
+use Rattle.macs_edge.proofs.laws.passes_once.Goals as goal
+
+pub returns : goal.returns
+returns c = passes-once

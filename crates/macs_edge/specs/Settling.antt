@@ -1,0 +1,71 @@
+-- A frame that is handed in until it is settled.
+use Rattle.std.specs.Prelude.{◌≡◌, ◌⊎◌, ℕ, List, [], ◌∷◌, Option, Some, None, Ok, Err, ⊤}
+use Rattle.macs_disk.specs.Disk.{Disk}
+use Rattle.macs_txsc.specs.declared.fault.TxFault.TheVariants.{NoNumber}
+use Rattle.macs_rxsc.specs.declared.verdict.Verdict.TheVariants.{Delivered, Discarded, HeldBack}
+use Rattle.macs_endpoint.specs.Calls.{IsCall}
+use Rattle.macs_endpoint.specs.Lives.{Lives, Turn}
+use Rattle.macs_endpoint.specs.State.{Call, Logs, Protects, Protected, Received, Receives, Refilled, Refills, Reply}
+use Rattle.macs_endpoint.specs.Step.{IsStopped, Step}
+use Rattle.macs_endpoint.specs.Value.{EndpointValue, state_of}
+use Rattle.macs_endpoint.specs.declared.fault.ProtectFault.TheVariants as protect
+use Rattle.macs_endpoint.specs.declared.fault.RefillFault.{RefillFault}
+use Rattle.macs_endpoint.specs.declared.fault.RefillFault.TheVariants as refill
+use Rattle.macs_edge.specs.declared.settling.Outcome.{Outcome}
+use Rattle.macs_edge.specs.declared.settling.Outcome.TheVariants as outcome
+use Rattle.macs_edge.specs.declared.settling.Side.{Side}
+use Rattle.macs_edge.specs.declared.settling.Side.TheVariants.{Controlled, Common}
+
+-- the call that hands a frame in
+abbrev pub call_on : Side → List ℕ → Call
+call_on Controlled frame = Protects frame
+call_on Common frame = Receives frame
+
+-- What passes by an answer, nothing where the frame is left out. An answer that there is no number, that the frame is held back, or that
+-- the endpoint is stopped settles nothing
+abbrev pub Settles : Reply → Option (List ℕ) → Type 0
+Settles (Protected (Ok pn) out) passed = passed ≡ Some out
+Settles (Protected (Err (protect.Tx NoNumber)) out) passed = ⊥
+Settles (Protected (Err (protect.Tx fault)) out) passed = passed ≡ None
+Settles (Received (Ok (Delivered kind)) out) passed = passed ≡ Some out
+Settles (Received (Ok (Discarded reason)) out) passed = passed ≡ None
+Settles reply passed = ⊥
+
+-- the frame waits for a refill
+abbrev pub Waits : Reply → Type 0
+Waits (Protected (Err (protect.Tx NoNumber)) out) = ⊤
+Waits (Received (Ok HeldBack) out) = ⊤
+Waits reply = ⊥
+
+-- what an answer means for the frame that was handed in
+abbrev pub Means : Call → Reply → List ℕ → Outcome → Type 0
+Means call reply out outcome.Passed = Settles reply (Some out)
+Means call reply out outcome.Dropped = Settles reply None
+Means call reply out outcome.Waiting = Waits reply
+Means call reply out outcome.Stopped = IsStopped call reply
+
+-- A frame is handed in by these calls and answered with this at last: once; or, where it waits, once more behind a refill that is
+-- answered Ok
+abbrev pub HandsIn : {D : Type 0} → Call → List (Turn D) → Reply → Type 0
+HandsIn call (only ∷ []) reply = (only.call ≡ call) × (only.reply ≡ reply)
+HandsIn call (early ∷ between ∷ late ∷ []) reply =
+    (early.call ≡ call) × Waits early.reply
+    × (between.call ≡ Refills) × (between.reply ≡ Refilled (Ok tt))
+    × (late.call ≡ call) × (late.reply ≡ reply)
+HandsIn call turns reply = ⊥
+
+-- The frame is handed in and settled, and all that was done with it is one step of the machine, as though it had never waited
+pub record IsSettled {D : Type 0} (disk_of : D → Disk) (old : EndpointValue D) (call : Call) (passed : Option (List ℕ)) (new : EndpointValue D) : Type 0 where
+  pub turns : List (Turn D)
+  pub lives : Lives disk_of old turns new
+  pub reply : Reply
+  pub handed : HandsIn call turns reply
+  pub settles : Settles reply passed
+  pub step : (logs : Logs) → (after : Logs) × Step (state_of old logs) call reply (state_of new after)
+
+-- The frame finds the endpoint stopped, or it waits and the refill is answered with this fault
+abbrev pub Halts : {D : Type 0} → (D → Disk) → EndpointValue D → Call → RefillFault → EndpointValue D → Type 0
+Halts {D} disk_of old call fault new =
+    ((fault ≡ refill.Stopped) × ((reply : Reply) × IsCall disk_of old call reply new × IsStopped call reply))
+    ⊎ ((reply : Reply) × (waiting : EndpointValue D) × IsCall disk_of old call reply waiting × Waits reply
+    × IsCall disk_of waiting Refills (Refilled (Err fault)) new)

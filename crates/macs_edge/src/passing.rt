@@ -1,0 +1,186 @@
+//! Captures through an endpoint.
+
+ghost use Rattle.std.specs.Prelude.{◌≡◌, ◌+◌, ◌<◌, ◌^◌, ◌-◌};
+ghost use Rattle.macs_edge.specs.Passing.{RunsOver, RunsRecords, TakesNext, WritesCapture, one_more, run_of};
+
+use crate::settling::{Side, settle};
+use macs_disk::SectorDisk;
+use macs_endpoint::{Endpoint, RefillFault};
+use macs_frame::FrameBuf;
+use macs_pcap::{PcapFault, Sink, Source, read_header, read_record, write_header, write_record};
+use std::alloc::Allocator;
+
+/// How many records of a capture were taken. Together they are at most 2^32 - 1.
+#[derive(Clone, Copy, Debug, PartialEq, Eq)]
+pub struct Summary {
+    /// Those of which a frame passed and was written.
+    pub passed: u64,
+    /// Those that were left out.
+    pub dropped: u64,
+}
+
+/// Why a run ends before the end of its capture.
+#[derive(Clone, Copy, Debug, PartialEq, Eq)]
+pub enum RunFault {
+    /// A fault of the capture that is read or of the one that is written, or want of memory for a frame.
+    Pcap(PcapFault),
+    /// No packet numbers can be reserved for the next frame, or the endpoint is stopped.
+    Device(RefillFault),
+}
+
+impl From<PcapFault> for RunFault {
+    ghost use Rattle.std.specs.Prelude.{◌≡◌};
+    ghost use Rattle.macs_edge.specs.declared.passing.RunFault.TheVariants.{Pcap};
+
+    ghost from_gives = { λ fault e. e ≡ Pcap fault };
+
+    fn from(fault: PcapFault) -> RunFault {
+        RunFault::Pcap(fault)
+    }
+}
+
+impl From<RefillFault> for RunFault {
+    ghost use Rattle.std.specs.Prelude.{◌≡◌};
+    ghost use Rattle.macs_edge.specs.declared.passing.RunFault.TheVariants.{Device};
+
+    ghost from_gives = { λ fault e. e ≡ Device fault };
+
+    fn from(fault: RefillFault) -> RunFault {
+        RunFault::Device(fault)
+    }
+}
+
+/// Takes the next record, behind so many others, and says whether a frame passed; at the end there is
+/// none. The frame of the record stands in `frame` then.
+fn take_next<D: SectorDisk, R: Source, W: Sink, A: Allocator>(
+    endpoint: &mut Endpoint<D>,
+    side: Side,
+    source: &mut R,
+    sink: &mut W,
+    big: bool,
+    count: u32,
+    frame: &mut Vec<u8, A>,
+) -> Result<Option<bool>, RunFault>
+    ensures { TakesNext D.disk side big count
+        (run_of endpoint.old (R.state source.old) (W.state sink.old)) result
+        (run_of endpoint.new (R.state source.new) (W.state sink.new)) }
+{
+    let Some(stamp) = read_record(source, big, count, frame)? else {
+        return Ok(None);
+    };
+    let mut out = FrameBuf::new();
+    let passes = settle(endpoint, side, frame, &mut out)?;
+    if passes {
+        write_record(sink, big, stamp, out.as_slice())?;
+    }
+    Ok(Some(passes))
+}
+
+/// One record more.
+fn counted(summary: Summary, passes: bool) -> Summary
+    requires { summary.passed + summary.dropped < 2 ^ 64 - 1 }
+    ensures { result ≡ one_more passes summary }
+{
+    if passes {
+        Summary {
+            passed: summary.passed + 1,
+            dropped: summary.dropped,
+        }
+    } else {
+        Summary {
+            passed: summary.passed,
+            dropped: summary.dropped + 1,
+        }
+    }
+}
+
+/// Takes the records up to the end, or up to a fault.
+fn run_records<D: SectorDisk, R: Source, W: Sink, A: Allocator>(
+    endpoint: &mut Endpoint<D>,
+    side: Side,
+    source: &mut R,
+    sink: &mut W,
+    big: bool,
+    frame: &mut Vec<u8, A>,
+) -> Result<Summary, RunFault>
+    ensures { RunsRecords D.disk side big
+        (run_of endpoint.old (R.state source.old) (W.state sink.old)) result
+        (run_of endpoint.new (R.state source.new) (W.state sink.new)) }
+{
+    let mut count: u32 = 0;
+    let mut summary = Summary {
+        passed: 0,
+        dropped: 0,
+    };
+    while let Some(passes) = take_next(endpoint, side, source, sink, big, count, frame)? {
+        summary = counted(summary, passes);
+        count += 1;
+    }
+    Ok(summary)
+}
+
+/// Takes a whole capture.
+fn run<D: SectorDisk, R: Source, W: Sink, A: Allocator>(
+    alloc: A,
+    endpoint: &mut Endpoint<D>,
+    side: Side,
+    source: &mut R,
+    sink: &mut W,
+) -> Result<Summary, RunFault>
+    ensures { RunsOver D.disk side
+        (run_of endpoint.old (R.state source.old) (W.state sink.old)) result
+        (run_of endpoint.new (R.state source.new) (W.state sink.new)) }
+{
+    let header = read_header(source)?;
+    write_header(sink, &header)?;
+    let mut frame = Vec::new(alloc);
+    run_records(endpoint, side, source, sink, header.big, &mut frame)
+}
+
+/// Protects the frame of each record of a capture, one after another, and writes the capture of the frames
+/// that go out, each with its record's stamp. Its header is written once the header of the input was
+/// read. Where there is no packet number, numbers are reserved by `refill` and the frame is handed in
+/// again; a frame with a fault of its own (one below 14 octets, say) is left out and counted. The device is
+/// called for refills alone.
+///
+/// Ends before the end of the input as `Pcap` with the first fault of the input or with `Write`, where a
+/// write failed; or as `Device` where a refill is answered so, with `Stopped` where the endpoint is. What
+/// was written is then a front of the capture that would have been. Nothing is flushed: a caller whose sink
+/// keeps octets back flushes it, after a fault too. Memory is taken for one frame, 262,144 octets at most.
+pub fn run_protect<D: SectorDisk, R: Source, W: Sink, A: Allocator>(
+    alloc: A,
+    endpoint: &mut Endpoint<D>,
+    source: &mut R,
+    sink: &mut W,
+) -> Result<Summary, RunFault>
+    ensures runs { RunsOver D.disk Side.Controlled
+        (run_of endpoint.old (R.state source.old) (W.state sink.old)) result
+        (run_of endpoint.new (R.state source.new) (W.state sink.new)) }
+    ensures writes { WritesCapture Side.Controlled
+        (run_of endpoint.old (R.state source.old) (W.state sink.old)) result
+        (run_of endpoint.new (R.state source.new) (W.state sink.new)) }
+{
+    run(alloc, endpoint, Side::Controlled, source, sink)
+}
+
+/// Receives the frame of each record of a capture, one after another, and writes the capture of the frames
+/// that are delivered, each with its record's stamp. Its header is written once the header of the input was
+/// read. Where a frame is held back, numbers are reserved by `refill` and the frame is handed in again; a
+/// frame that is discarded is left out and counted. The device is called for refills alone.
+///
+/// Ends before the end of the input as `run_protect` does, and flushes and takes memory as it does.
+pub fn run_validate<D: SectorDisk, R: Source, W: Sink, A: Allocator>(
+    alloc: A,
+    endpoint: &mut Endpoint<D>,
+    source: &mut R,
+    sink: &mut W,
+) -> Result<Summary, RunFault>
+    ensures runs { RunsOver D.disk Side.Common
+        (run_of endpoint.old (R.state source.old) (W.state sink.old)) result
+        (run_of endpoint.new (R.state source.new) (W.state sink.new)) }
+    ensures writes { WritesCapture Side.Common
+        (run_of endpoint.old (R.state source.old) (W.state sink.old)) result
+        (run_of endpoint.new (R.state source.new) (W.state sink.new)) }
+{
+    run(alloc, endpoint, Side::Common, source, sink)
+}
