@@ -1,0 +1,107 @@
+#!/usr/bin/env python3
+"""Measures `macsecd protect` beside sealing alone: time, peak memory, and the calls of the system.
+
+    python3 bench/protect.py [FOLDER] [FRAMES]
+
+FOLDER, where the captures and the disk file are made, should be on a real disk; it is the system's folder for temporary files unless
+one is named. FRAMES is 100,000. Frames have 1,500 octets, blocks 65,536 packet numbers. Both programs are built for one processor
+and run in turn, three times; times are of the processor (user and system). strace, where there is one, counts the calls of one more run.
+"""
+
+import os
+import re
+import shutil
+import struct
+import subprocess
+import sys
+import tempfile
+from collections import Counter
+
+TOP = os.path.abspath(os.path.join(os.path.dirname(__file__), ".."))
+MACSECD = os.path.join(TOP, "macsecd")
+PROGRAM = os.path.join(TOP, "crates/macsecd/out/macsecd")
+SEAL = os.path.join(TOP, "crates/seal_frames/out/seal_frames")
+COMMANDS = """
+[[command]]
+do = "tx-install"
+an = 0
+key = "000102030405060708090a0b0c0d0e0f"
+start = 1
+confidential = true
+offset = 0
+
+[[command]]
+do = "tx-use"
+an = 0
+"""
+
+
+def build():
+    subprocess.run([MACSECD, "--version"], check=True, stdout=subprocess.DEVNULL)
+    cpu = open(os.path.join(TOP, "crates/macsecd/out/built")).read().strip()
+    folder = os.path.join(TOP, "crates/seal_frames")
+    subprocess.run(["rt", "run", "--cpu", cpu], cwd=folder, check=True, stdout=subprocess.DEVNULL, stderr=subprocess.DEVNULL)
+    return cpu
+
+
+def write_capture(path, frames):
+    header = struct.pack("<IHHIIII", 0xA1B2C3D4, 2, 4, 0, 0, 262144, 1)
+    with open(path, "wb") as file:
+        file.write(header)
+        for i in range(frames):
+            file.write(struct.pack("<IIII", i, 0, 1500, 1500) + bytes(12) + b"\x08\x00" + bytes([i % 256]) * 1486)
+
+
+def measured(command):
+    """Processor seconds and peak memory in MiB of one run."""
+    process = subprocess.Popen(command, stdout=subprocess.DEVNULL)
+    _, status, usage = os.wait4(process.pid, 0)
+    assert status == 0, command
+    return usage.ru_utime + usage.ru_stime, usage.ru_maxrss / 1024
+
+
+def traced(folder, command):
+    """How often each call came, and the sizes of reads and writes of at least 4 KiB."""
+    trace = os.path.join(folder, "trace")
+    calls = "read,write,fsync,fdatasync,lseek,brk,mmap"
+    subprocess.run(["strace", "-f", "-o", trace, "-e", "trace=" + calls, *command], check=True, stdout=subprocess.DEVNULL)
+    counts, sizes = Counter(), {"read": Counter(), "write": Counter()}
+    for line in open(trace):
+        found = re.match(r"\d+ +(\w+)\((\d+)?.*= (\d+|0x[0-9a-f]+)", line)
+        if found:
+            counts[found[1]] += 1
+            if found[1] in sizes and int(found[3], 0) >= 4096:
+                sizes[found[1]][int(found[3], 0)] += 1
+    return counts, sizes
+
+
+def main():
+    frames = int(sys.argv[2]) if len(sys.argv) > 2 else 100_000
+    cpu = build()
+    folder = tempfile.mkdtemp(dir=sys.argv[1] if len(sys.argv) > 1 else None)
+    at = lambda name: os.path.join(folder, name)
+    try:
+        open(at("commands"), "w").write(COMMANDS)
+        subprocess.run([PROGRAM, "format", at("disk"), "0200000000010001", "65536", "65536"], check=True)
+        subprocess.run([PROGRAM, "apply", at("disk"), at("commands")], check=True)
+        write_capture(at("few"), 1000)
+        write_capture(at("many"), frames)
+        protect = lambda name: [PROGRAM, "protect", at("disk"), at(name), at("out")]
+        print(f"for {cpu}; {frames} frames")
+        for _ in range(3):
+            sealing, _ = measured([SEAL, str(frames)])
+            whole, _ = measured(protect("many"))
+            print(f"sealing {sealing:.2f} s, protect {whole:.2f} s, ratio {whole / sealing:.3f}")
+        _, few = measured(protect("few"))
+        _, many = measured(protect("many"))
+        print(f"peak memory: {few:.1f} MiB with 1,000 frames, {many:.1f} MiB with {frames}")
+        if shutil.which("strace"):
+            counts, sizes = traced(folder, protect("many"))
+            print("calls:", ", ".join(f"{name} {count}" for name, count in sorted(counts.items())))
+            for name, each in sizes.items():
+                print(f"{name}s of 4 KiB and more:", ", ".join(f"{count} of {size}" for size, count in sorted(each.items())))
+    finally:
+        shutil.rmtree(folder)
+
+
+main()
