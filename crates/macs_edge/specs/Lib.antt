@@ -3,3 +3,5 @@ pub mod Lines
 pub mod CommandFiles
 pub mod Settling
 pub mod Passing
+pub mod Wires
+pub mod MemWires

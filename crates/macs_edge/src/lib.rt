@@ -1,4 +1,4 @@
-//! The edge of a MACsec endpoint: command files, and captures through an endpoint.
+//! The edge of a MACsec endpoint: command files, captures through an endpoint, and wires.
 #![tactic(auto)]
 
 mod command_files;
@@ -6,11 +6,18 @@ mod config_fault;
 mod fields;
 pub mod laws;
 mod lines;
+mod mem_wire;
 mod modes;
 mod passing;
 mod settling;
+mod udp_wire;
+mod wire;
 mod word;
 
 pub use command_files::commands_of;
 pub use config_fault::{ConfigFault, KeyName};
+pub use mem_wire::MemWire;
 pub use passing::{RunFault, Summary, run_protect, run_validate};
+pub use settling::Side;
+pub use udp_wire::{BindFault, UdpWire};
+pub use wire::{Got, Wire, WireFault};

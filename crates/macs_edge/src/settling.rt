@@ -13,7 +13,7 @@ use macs_txsc::TxFault;
 
 /// The side of an endpoint on which frames are handed in.
 #[derive(Clone, Copy)]
-pub(crate) enum Side {
+pub enum Side {
     /// Plain frames, which are protected.
     Controlled,
     /// Frames from the network, which are received.

@@ -1,5 +1,5 @@
 -- First faults.
-use Rattle.std.proofs.Common.{◌≡◌, ◌↔◌, Result, Err, List, [], ◌∷◌, inl, inr, refl}
+use Rattle.std.proofs.Common.{◌≡◌, ◌↔◌, Result, Err, List, [], ◌∷◌, inl, inr, refl, subst, sym}
 use Rattle.macs_frame.specs.First.{IsFirst, NoneHolds}
 
 -- where nothing is the first that holds, none holds
@@ -17,3 +17,9 @@ handed_on Holds order before after error was is exactly fault = (
   λ same. let e : before ≡ Err fault = cc in (exactly fault).0 e,
   λ first. let e = (exactly fault).1 first in cc,
 )
+
+-- the first that holds does hold
+pub first-holds : {R : Type 0} (Holds : R → Type 0) (order : List R) (fault : R) → IsFirst Holds order fault → Holds fault
+first-holds Holds [] fault first = absurd first
+first-holds Holds (r ∷ rs) fault (inl (held, same)) = subst Holds (sym same) held
+first-holds Holds (r ∷ rs) fault (inr (out, later)) = first-holds Holds rs fault later

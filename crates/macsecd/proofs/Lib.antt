@@ -1,8 +1,15 @@
+pub mod Applied
+pub mod Captured
+pub mod Codes
+pub mod Commanded
 pub mod Controls
+pub mod Failed
 pub mod FirstFault
+pub mod Given
 pub mod HexDigits
 pub mod Opened
 pub mod Printing
+pub mod Shown
 pub mod Spelling
 pub mod Subcommands
 pub mod Taken

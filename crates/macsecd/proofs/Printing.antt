@@ -1,11 +1,13 @@
 -- What a run reads and prints, where the octets are known.
-use Rattle.std.proofs.Common.{◌≡◌, ℕ, ◌++◌, List, [], ◌∷◌, length, take, Option, Some, None, IfSome, option_map, length-take, ap, subst, ◌∙◌, arith}
+use Rattle.std.proofs.Common.{◌≡◌, ℕ, ◌++◌, List, [], ◌∷◌, length, take, Option, Some, None, IfSome, option_map, length-take, ap, subst, ◌∙◌, ◌⊎◌, inl, inr, arith}
 use Rattle.std.proofs.lemmas.List.{take_all}
 use Rattle.std.specs.Io.KnownBytes.{Appends}
 use Rattle.macsecd.specs.Answer.{Answers, answer_status, answer_text}
 use Rattle.macsecd.specs.Run.{Prints}
 use Rattle.macsecd.specs.declared.answer.Answer.{Answer}
+use Rattle.macsecd.specs.declared.answer.Answer.TheVariants as answers
 use Rattle.macsecd.specs.declared.status.Status.{Status}
+use Rattle.macsecd.specs.declared.status.Status.TheVariants.{Done, Refused}
 
 -- what was appended to nothing is what was read
 pub appended-read : (remaining : Option (List ℕ)) (limit : ℕ) (text : List ℕ)
@@ -33,3 +35,8 @@ pub prints : (remaining before after : Option (List ℕ)) (input line : List ℕ
 prints None before after input line answer status read answers text printed end = tt
 prints (Some octets) before after input line answer status read answers text printed end =
     (answer, read-whole input octets answer read answers, prints-text before after line _ text printed, end)
+
+-- an answer ends the run as done or refused
+pub answered : (answer : Answer) (status : Status) → status ≡ answer_status answer → (status ≡ Done) ⊎ (status ≡ Refused)
+answered (answers.Valid an pn plain) status is = inl is
+answered (answers.Refused fault) status is = inr is

@@ -4,4 +4,10 @@ pub mod Help
 pub mod Lines
 pub mod Request
 pub mod Answer
+pub mod Values
+pub mod Failing
+pub mod Showing
+pub mod Applying
+pub mod Summing
+pub mod Capturing
 pub mod Run

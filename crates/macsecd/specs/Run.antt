@@ -1,58 +1,68 @@
--- How a run ends.
-use Rattle.std.specs.Prelude.{◌≡◌, ◌⊎◌, ◌++◌, true, ℕ, List, [], ◌∷◌, Option, IfSome, codes, string_bytes}
+-- How a run of the program ends.
+use Rattle.std.specs.Prelude.{◌≡◌, ◌⊎◌, ◌++◌, true, ℕ, List, [], ◌∷◌, Option, IfSome, codes}
 use Rattle.std.specs.Io.KnownBytes.{Appends}
 use Rattle.clap.specs.Words.{Text, subcommand_of, takes}
+use Rattle.macs_config.specs.Identity.{Identity}
+use Rattle.macs_config.specs.declared.refusal.Refusal.{Refusal}
+use Rattle.macs_edge.specs.declared.passing.Summary.{Summary}
+use Rattle.macs_endpoint.specs.State.{State}
 use Rattle.macsecd.specs.Answer.{Answers, answer_status, answer_text}
+use Rattle.macsecd.specs.Applying.{outcome_lines, outcomes_status}
 use Rattle.macsecd.specs.Help.{topic_text}
+use Rattle.macsecd.specs.Showing.{line, show_text}
+use Rattle.macsecd.specs.Summing.{summary_line}
+use Rattle.macsecd.specs.Values.{SpellsIdentity, ValueFaultHolds}
 use Rattle.macsecd.specs.Words.{AsksFor, Names, macsecd}
-use Rattle.macsecd.specs.declared.action.Action.TheVariants.{Open}
-use Rattle.macsecd.specs.declared.action.UsageFault.{UsageFault}
-use Rattle.macsecd.specs.declared.action.UsageFault.TheVariants as usage
+use Rattle.macsecd.specs.declared.action.Action.{Action}
+use Rattle.macsecd.specs.declared.action.Action.TheVariants.{Open, Format, Apply, Show, Protect, Validate}
 use Rattle.macsecd.specs.declared.answer.Answer.{Answer}
+use Rattle.macsecd.specs.declared.capturing.Direction.TheVariants as direction
 use Rattle.macsecd.specs.declared.help.Topic.{Topic}
-use Rattle.macsecd.specs.declared.failure.Failure.{Failure}
-use Rattle.macsecd.specs.declared.failure.Failure.TheVariants as failure
-use Rattle.macsecd.specs.declared.request.InputFault.TheVariants as fault
 use Rattle.macsecd.specs.declared.status.Status.{Status}
 use Rattle.macsecd.specs.declared.status.Status.TheVariants as ends
+use Rattle.macsecd.specs.declared.values.ValueFault.{ValueFault}
 
--- the answer that belongs to the input is printed as one line, and the run ends with its status
+-- `open`: the answer that belongs to the input is printed as one line, and the run ends with its status
 abbrev pub Prints : List ℕ → Option (List ℕ) → Option (List ℕ) → Status → Type 0
 Prints input before after status =
-    (answer : Answer) × Answers input answer × Appends before after (answer_text answer ++ 10 ∷ []) × (status ≡ answer_status answer)
+    (answer : Answer) × Answers input answer × Appends before after (line (answer_text answer)) × (status ≡ answer_status answer)
 
--- a run that does not fail is asked for help and prints it, or its words are taken and name `open`, and it opens its input
+-- What a run prints that does what it is asked for. What an endpoint finds in a file is not known here: the lines are those of some
+-- outcomes, of some state, of some summary
+abbrev pub Does : Action → Option (List ℕ) → Option (List ℕ) → Option (List ℕ) → Status → Type 0
+Does Open input before after status = IfSome input (λ octets. Prints octets before after status)
+Does (Format disk sci tx_block rx_block) input before after status =
+    (identity : Identity) × SpellsIdentity sci.now tx_block rx_block identity
+    × Appends before after (line (codes "formatted")) × (status ≡ ends.Done)
+Does (Apply disk file) input before after status =
+    (outcomes : List (Option Refusal)) × Appends before after (outcome_lines 1 outcomes) × (status ≡ outcomes_status outcomes)
+Does (Show disk) input before after status = (s : State) × Appends before after (show_text s) × (status ≡ ends.Done)
+Does (Protect disk from to) input before after status =
+    (summary : Summary) × Appends before after (summary_line direction.Protect summary) × (status ≡ ends.Done)
+Does (Validate disk from to) input before after status =
+    (summary : Summary) × Appends before after (summary_line direction.Validate summary) × (status ≡ ends.Done)
+
+-- a run that does not fail is asked for help and prints it, or its words are taken and name an action, and it does that
 abbrev pub Replies : List Text → Option (List ℕ) → Option (List ℕ) → Option (List ℕ) → Status → Type 0
 Replies words input before after status =
     ((topic : Topic) × AsksFor words topic × Appends before after (topic_text topic) × (status ≡ ends.Done))
-    ⊎ ((takes macsecd words ≡ true) × Names (subcommand_of macsecd words) Open × IfSome input (λ octets. Prints octets before after status))
+    ⊎ ((takes macsecd words ≡ true)
+    × (action : Action) × Names (subcommand_of macsecd words) action × Does action input before after status)
 
--- the failure that a fault of the words is
-abbrev pub failure_of : UsageFault → Failure
-failure_of (usage.Usage cause) = failure.Usage cause
-failure_of usage.Memory = failure.Memory
+-- a value of the action is none that it takes
+abbrev pub WrongValues : Action → Type 0
+WrongValues (Format disk sci tx_block rx_block) = (fault : ValueFault) × ValueFaultHolds sci.now tx_block rx_block fault
+WrongValues action = ⊥
+
+-- the words name an action with such a value
+abbrev pub HasWrongValues : List Text → Type 0
+HasWrongValues words =
+    (action : Action) × Names (subcommand_of macsecd words) action × WrongValues action
 
 -- what the process ends with
 abbrev pub code_of : Status → ℕ
 code_of ends.Done = 0
 code_of ends.Usage = 2
 code_of ends.Refused = 3
+code_of ends.Disk = 4
 code_of ends.Fault = 5
-
--- what the program says of a failure, in one line
-abbrev pub failure_text : Failure → List ℕ
-failure_text (failure.Usage cause) = string_bytes cause
-failure_text failure.Memory = codes "memory"
-failure_text (failure.Input fault.Input) = codes "input"
-failure_text (failure.Input fault.Key) = codes "key"
-failure_text (failure.Input fault.Sci) = codes "sci"
-failure_text (failure.Input fault.Offset) = codes "offset"
-failure_text (failure.Input fault.Frame) = codes "frame"
-failure_text failure.Output = codes "output"
-
--- how the run ends after a failure: wrong usage, or a fault of input, output or memory
-abbrev pub failure_status : Failure → Status
-failure_status (failure.Usage cause) = ends.Usage
-failure_status failure.Memory = ends.Fault
-failure_status (failure.Input fault) = ends.Fault
-failure_status failure.Output = ends.Fault

@@ -1,8 +1,11 @@
 -- The words that the program knows, the action that they name, and those that ask for help.
-use Rattle.std.specs.Prelude.{◌≡◌, ◌≢◌, ◌⊎◌, ⊤, map, true, false, List, [], ◌∷◌, Option, Some, None, codes, string_bytes}
+use Rattle.std.specs.Prelude.{◌≡◌, ◌≢◌, ◌⊎◌, ◌<◌, ◌-◌, ◌^◌, ℕ, ⊤, map, true, false, List, [], ◌∷◌, Option, Some, None, codes, string_bytes}
+use Rattle.std.specs.Str.Parse.{IsNumeral, digits_value, without_leading_plus}
 use Rattle.std.specs.Borrow.{Bor}
-use Rattle.clap.specs.Simple.{on_top}
-use Rattle.clap.specs.Words.{App, Row, Text, app_of, kind_of, new_app, with_subcommand}
+use Rattle.clap.specs.Simple.{new_shape}
+use Rattle.clap.specs.Words.{App, Row, Rule, Shape, Text, app_of, first_of, kind_of, new_rule}
+use Rattle.clap.specs.declared.builder.action.ArgAction.TheVariants.{Set}
+use Rattle.clap.specs.declared.builder.value_parser.ValueParser.TheVariants as vp
 use Rattle.clap.specs.declared.builder.command.Command.{Command}
 use Rattle.clap.specs.declared.builder.command.Command.TheViews.{out-Command as fields_of}
 use Rattle.clap.specs.declared.error.Error.{Error}
@@ -11,38 +14,92 @@ use Rattle.macsecd.specs.Controls.{IsPrintable}
 use Rattle.macsecd.specs.declared.action.UsageFault.{UsageFault}
 use Rattle.macsecd.specs.declared.action.UsageFault.TheVariants.{Usage, Memory}
 use Rattle.macsecd.specs.declared.action.Action.{Action}
-use Rattle.macsecd.specs.declared.action.Action.TheVariants.{Open}
+use Rattle.macsecd.specs.declared.action.Action.TheVariants.{Open, Format, Apply, Show, Protect, Validate}
 use Rattle.macsecd.specs.declared.help.Topic.{Topic}
-use Rattle.macsecd.specs.declared.help.Topic.TheVariants.{Help, Version}
+use Rattle.macsecd.specs.declared.help.Topic.TheVariants.{Help, HelpOn, Version}
+use Rattle.macsecd.specs.declared.help.Subcommand.{Subcommand}
+use Rattle.macsecd.specs.declared.help.Subcommand.TheVariants as subcommand
 
 -- what borrowed words say
 abbrev pub texts : List (Bor Text) → List Text
 texts = map (λ word. word.now)
 
--- ---- actions
+-- ---- the words that are known
 
--- `open` has no words of its own
-abbrev pub open_app : App
-open_app = new_app (codes "open")
+-- a value that has to be given
+abbrev pub value_rule : Text → Rule
+value_rule name = record (new_rule name) { action = Some Set; required = true }
+
+-- a number that has to be given: 0 to 2^32 - 1, in decimal digits
+abbrev pub number_rule : Text → Rule
+number_rule name = record (value_rule name) { parser = Some (vp.Unsigned 0 (2 ^ 32 - 1)) }
+
+-- a subcommand with the values that it takes, in their order
+abbrev pub subcommand_with : Text → List Rule → Shape
+subcommand_with name rules = record (new_shape name) { rules = rules }
+
+-- the subcommands, each with its values; `open` has none
+abbrev pub subcommands : List Shape
+subcommands =
+    subcommand_with (codes "open") []
+    ∷ subcommand_with (codes "format") (value_rule (codes "DISK") ∷ value_rule (codes "SCI") ∷ number_rule (codes "TX") ∷ number_rule (codes "RX") ∷ [])
+    ∷ subcommand_with (codes "apply") (value_rule (codes "DISK") ∷ value_rule (codes "FILE") ∷ [])
+    ∷ subcommand_with (codes "show") (value_rule (codes "DISK") ∷ [])
+    ∷ subcommand_with (codes "protect") (value_rule (codes "DISK") ∷ value_rule (codes "INPUT") ∷ value_rule (codes "OUTPUT") ∷ [])
+    ∷ subcommand_with (codes "validate") (value_rule (codes "DISK") ∷ value_rule (codes "INPUT") ∷ value_rule (codes "OUTPUT") ∷ [])
+    ∷ []
 
 -- the words begin after the program's name, and no flag and no subcommand of the library's asks for help or the version
 abbrev pub macsecd : App
-macsecd = with_subcommand (on_top (λ s. record s {
-  no_binary_name = true;
-  disable_help_flag = true;
-  disable_help_subcommand = true;
-  disable_version_flag = true;
-}) (new_app (codes "macsecd"))) open_app.top
+macsecd = record {
+  top = record (new_shape (codes "macsecd")) {
+    no_binary_name = true;
+    disable_help_flag = true;
+    disable_help_subcommand = true;
+    disable_version_flag = true;
+    is_leaf = false;
+  };
+  subs = subcommands;
+}
 
--- the command is this one, and has no global argument
-pub record IsClapCommand (command : Command) (app : App) : Type 0 where
-  pub app_is : app_of command ≡ app
-  pub local : (fields_of command).has_globals ≡ false
+-- ---- actions
+
+-- the value of this name is this text
+abbrev pub HasText : List Row → Text → Text → Type 0
+HasText values name text = first_of name values ≡ Some text
+
+-- the value of this name is this number in decimal digits, which a plus may lead
+abbrev pub HasNumber : List Row → Text → ℕ → Type 0
+HasNumber values name number =
+    (text : Text) × (first_of name values ≡ Some text)
+    × IsNumeral 10 (without_leading_plus text) × (number ≡ digits_value 10 (without_leading_plus text))
 
 -- the subcommand with its values names the action; no subcommand is `open`
 abbrev pub Names : Option (Text × List Row) → Action → Type 0
 Names None action = action ≡ Open
 Names (Some found) Open = found.0 ≡ codes "open"
+Names (Some found) (Format disk sci tx_block rx_block) =
+    (found.0 ≡ codes "format") × HasText found.1 (codes "DISK") disk.now × HasText found.1 (codes "SCI") sci.now
+    × HasNumber found.1 (codes "TX") tx_block × HasNumber found.1 (codes "RX") rx_block
+Names (Some found) (Apply disk file) =
+    (found.0 ≡ codes "apply") × HasText found.1 (codes "DISK") disk.now × HasText found.1 (codes "FILE") file.now
+Names (Some found) (Show disk) = (found.0 ≡ codes "show") × HasText found.1 (codes "DISK") disk.now
+Names (Some found) (Protect disk input output) =
+    (found.0 ≡ codes "protect") × HasText found.1 (codes "DISK") disk.now
+    × HasText found.1 (codes "INPUT") input.now × HasText found.1 (codes "OUTPUT") output.now
+Names (Some found) (Validate disk input output) =
+    (found.0 ≡ codes "validate") × HasText found.1 (codes "DISK") disk.now
+    × HasText found.1 (codes "INPUT") input.now × HasText found.1 (codes "OUTPUT") output.now
+
+-- the blocks of the action, if it has any, are numbers of 32 bits
+abbrev pub HasBlocks : Action → Type 0
+HasBlocks (Format disk sci tx_block rx_block) = (tx_block < 2 ^ 32) × (rx_block < 2 ^ 32)
+HasBlocks action = ⊤
+
+-- the command is this one, and has no global argument
+pub record IsClapCommand (command : Command) (app : App) : Type 0 where
+  pub app_is : app_of command ≡ app
+  pub local : (fields_of command).has_globals ≡ false
 
 -- want of memory is one, and every other refusal is wrong usage
 abbrev pub IsFaultOf : Error → UsageFault → Type 0
@@ -64,24 +121,18 @@ IsHelpFlag word = (word ≡ codes "--help") ⊎ (word ≡ codes "-h")
 abbrev pub IsVersionFlag : Text → Type 0
 IsVersionFlag word = word ≡ codes "--version"
 
--- the name of a subcommand, of which `open` is the only one
-abbrev pub IsSubcommand : Text → Type 0
-IsSubcommand word = word ≡ codes "open"
+-- the name of a subcommand
+abbrev pub name_of : Subcommand → Text
+name_of subcommand.Open = codes "open"
+name_of subcommand.Format = codes "format"
+name_of subcommand.Apply = codes "apply"
+name_of subcommand.Show = codes "show"
+name_of subcommand.Protect = codes "protect"
+name_of subcommand.Validate = codes "validate"
 
--- the words are a help flag, alone or after a subcommand
-abbrev pub AsksForHelp : List Text → Type 0
-AsksForHelp [] = ⊥
-AsksForHelp (word ∷ []) = IsHelpFlag word
-AsksForHelp (name ∷ word ∷ []) = IsSubcommand name × IsHelpFlag word
-AsksForHelp (name ∷ word ∷ other ∷ others) = ⊥
-
--- the words are the version flag alone
-abbrev pub AsksForVersion : List Text → Type 0
-AsksForVersion [] = ⊥
-AsksForVersion (word ∷ []) = IsVersionFlag word
-AsksForVersion (word ∷ other ∷ others) = ⊥
-
--- the words ask for the topic
+-- The words ask for the topic: a help flag alone, the name of a subcommand and a help flag behind it, or the version flag alone
 abbrev pub AsksFor : List Text → Topic → Type 0
-AsksFor words Help = AsksForHelp words
-AsksFor words Version = AsksForVersion words
+AsksFor (word ∷ []) Help = IsHelpFlag word
+AsksFor (name ∷ word ∷ []) (HelpOn which) = (name ≡ name_of which) × IsHelpFlag word
+AsksFor (word ∷ []) Version = IsVersionFlag word
+AsksFor words topic = ⊥

@@ -1,20 +1,49 @@
 //! What the program's words ask for.
 
-ghost use Rattle.std.specs.Prelude.{◌≡◌, ◌↔◌, IfOk, IfErr, OnOk, true, [], string_bytes};
-ghost use Rattle.clap.specs.Words.{app_of, fault_of, subcommand_of, subcommand_rows_of, takes};
+ghost use Rattle.std.specs.Prelude.{◌≡◌, ◌<◌, ◌^◌, ℕ, IfOk, IfErr, IfSome, IsSome, OnOk, Some, true, false, [], codes, option_map, string_bytes};
+ghost use Rattle.clap.specs.Words.{app_of, fault_of, first_of, found_of, new_app, rows_of, rule_of, subcommand_of, subcommand_rows_of, takes, with_rule};
 ghost use Rattle.macsecd.specs.Controls.{IsPrintable};
-ghost use Rattle.macsecd.specs.Words.{HasPrintableCause, IsClapCommand, IsFaultOf, Names, macsecd, open_app, texts};
+ghost use Rattle.macsecd.specs.Words.{HasBlocks, HasNumber, HasPrintableCause, IsClapCommand, IsFaultOf, Names, macsecd, number_rule, texts, value_rule};
 
 use crate::plain_text::printable;
+use clap::builder::ValueParser;
 use clap::error::ErrorKind;
-use clap::{ArgMatches, Command};
+use clap::{Arg, ArgAction, ArgMatches, Command};
 use std::alloc::{AllocError, Global};
 
-/// What the program is to do.
+/// What the program is to do, with the values that the words give.
 #[derive(Clone, Copy)]
-pub enum Action {
+pub enum Action<'a> {
     /// Opens one protected frame: `open`, or no word.
     Open,
+    /// Makes a disk file for an endpoint: `format DISK SCI TX RX`. The blocks are 0 to 2^32 - 1 here.
+    Format {
+        disk: &'a str,
+        sci: &'a str,
+        tx_block: u32,
+        rx_block: u32,
+    },
+    /// Applies the commands of a file: `apply DISK FILE`.
+    Apply {
+        disk: &'a str,
+        file: &'a str,
+    },
+    /// Prints the configuration and the packet numbers: `show DISK`.
+    Show {
+        disk: &'a str,
+    },
+    /// Protects the frames of a capture: `protect DISK INPUT OUTPUT`.
+    Protect {
+        disk: &'a str,
+        input: &'a str,
+        output: &'a str,
+    },
+    /// Validates the frames of a capture: `validate DISK INPUT OUTPUT`.
+    Validate {
+        disk: &'a str,
+        input: &'a str,
+        output: &'a str,
+    },
 }
 
 /// Why the words name no action.
@@ -36,11 +65,71 @@ impl From<AllocError> for UsageFault {
     }
 }
 
+/// A value that has to be given.
+fn value<'a>(alloc: Global, name: &'a str) -> Arg<'a>
+    ensures rule { rule_of result ≡ value_rule name.entry.now }
+    ensures local { result.global ≡ false }
+{
+    Arg::new(alloc, name).required(true).action(ArgAction::Set)
+}
+
+/// A number of 32 bits that has to be given.
+fn number<'a>(alloc: Global, name: &'a str) -> Arg<'a>
+    ensures rule { rule_of result ≡ number_rule name.entry.now }
+    ensures local { result.global ≡ false }
+{
+    // `value_parser!(u32)` would take `-0` too, and read it as 0.
+    value(alloc, name).value_parser(ValueParser::unsigned(0, 4_294_967_295))
+}
+
 /// The words of `open`: none of its own.
 fn open_words<'a>(alloc: Global) -> Command<'a>
-    ensures { IsClapCommand result open_app }
+    ensures { IsClapCommand result (new_app (codes "open")) }
 {
     Command::new(alloc, "open")
+}
+
+/// The words of `format`.
+fn format_words<'a>(alloc: Global) -> Result<Command<'a>, AllocError>
+    ensures { IfOk result (λ command. IsClapCommand command (with_rule (with_rule (with_rule (with_rule
+        (new_app (codes "format")) (value_rule (codes "DISK"))) (value_rule (codes "SCI")))
+        (number_rule (codes "TX"))) (number_rule (codes "RX")))) }
+{
+    Command::new(alloc, "format")
+        .arg(value(alloc, "DISK"))?
+        .arg(value(alloc, "SCI"))?
+        .arg(number(alloc, "TX"))?
+        .arg(number(alloc, "RX"))
+}
+
+/// The words of `apply`.
+fn apply_words<'a>(alloc: Global) -> Result<Command<'a>, AllocError>
+    ensures { IfOk result (λ command. IsClapCommand command (with_rule (with_rule
+        (new_app (codes "apply")) (value_rule (codes "DISK"))) (value_rule (codes "FILE")))) }
+{
+    Command::new(alloc, "apply")
+        .arg(value(alloc, "DISK"))?
+        .arg(value(alloc, "FILE"))
+}
+
+/// The words of `show`.
+fn show_words<'a>(alloc: Global) -> Result<Command<'a>, AllocError>
+    ensures { IfOk result (λ command. IsClapCommand command (with_rule
+        (new_app (codes "show")) (value_rule (codes "DISK")))) }
+{
+    Command::new(alloc, "show").arg(value(alloc, "DISK"))
+}
+
+/// The words of a subcommand over a disk and two captures.
+fn capture_words<'a>(alloc: Global, name: &'a str) -> Result<Command<'a>, AllocError>
+    ensures { IfOk result (λ command. IsClapCommand command (with_rule (with_rule (with_rule
+        (new_app name.entry.now) (value_rule (codes "DISK"))) (value_rule (codes "INPUT")))
+        (value_rule (codes "OUTPUT")))) }
+{
+    Command::new(alloc, name)
+        .arg(value(alloc, "DISK"))?
+        .arg(value(alloc, "INPUT"))?
+        .arg(value(alloc, "OUTPUT"))
 }
 
 /// The words that the program knows.
@@ -52,7 +141,12 @@ fn known_words<'a>(alloc: Global) -> Result<Command<'a>, AllocError>
         .disable_help_flag(true)
         .disable_help_subcommand(true)
         .disable_version_flag(true)
-        .subcommand(open_words(alloc))
+        .subcommand(open_words(alloc))?
+        .subcommand(format_words(alloc)?)?
+        .subcommand(apply_words(alloc)?)?
+        .subcommand(show_words(alloc)?)?
+        .subcommand(capture_words(alloc, "protect")?)?
+        .subcommand(capture_words(alloc, "validate")?)
 }
 
 /// What an error says first, in one line. It repeats the words, so control characters are replaced.
@@ -75,19 +169,115 @@ fn usage_fault_of(alloc: Global, error: &clap::Error) -> Result<UsageFault, Allo
     }
 }
 
-/// The action of the subcommand that was used with its values, `open` where there was none.
-fn action_in(matches: &ArgMatches) -> Option<Action>
-    ensures { (action : Action)
-        → (result ≡ Some action) ↔ Names (subcommand_rows_of matches.now) action }
+/// The text of a value.
+fn text_in<'a>(values: &ArgMatches<'a>, name: &str) -> Option<&'a str>
+    ensures { option_map (λ text. text.now) result ≡ first_of name.now (rows_of (found_of values.now)) }
 {
-    if matches.subcommand_name().is_none() || matches.subcommand_matches("open").is_some() {
+    values.get_str(name)
+}
+
+/// The number that a value is in decimal digits.
+fn number_in(values: &ArgMatches, name: &str) -> Option<u32>
+    ensures read { IfSome result (HasNumber (rows_of (found_of values.now)) name.now) }
+    ensures found { (number : ℕ) → HasNumber (rows_of (found_of values.now)) name.now number
+        → number < 2 ^ 32 → IsSome result }
+{
+    text_in(values, name)?.parse().ok()
+}
+
+/// `format` with its values.
+fn format_in<'a>(values: &ArgMatches<'a>) -> Option<Action<'a>>
+    ensures read { IfSome result (λ action. Names (Some (codes "format", rows_of (found_of values.now))) action) }
+    ensures found { (action : Action) → Names (Some (codes "format", rows_of (found_of values.now))) action
+        → HasBlocks action → IsSome result }
+{
+    let disk = text_in(values, "DISK")?;
+    let sci = text_in(values, "SCI")?;
+    let tx_block = number_in(values, "TX")?;
+    let rx_block = number_in(values, "RX")?;
+    Some(Action::Format {
+        disk,
+        sci,
+        tx_block,
+        rx_block,
+    })
+}
+
+/// `apply` with its values.
+fn apply_in<'a>(values: &ArgMatches<'a>) -> Option<Action<'a>>
+    ensures read { IfSome result (λ action. Names (Some (codes "apply", rows_of (found_of values.now))) action) }
+    ensures found { (action : Action) → Names (Some (codes "apply", rows_of (found_of values.now))) action
+        → IsSome result }
+{
+    let disk = text_in(values, "DISK")?;
+    let file = text_in(values, "FILE")?;
+    Some(Action::Apply { disk, file })
+}
+
+/// `show` with its value.
+fn show_in<'a>(values: &ArgMatches<'a>) -> Option<Action<'a>>
+    ensures read { IfSome result (λ action. Names (Some (codes "show", rows_of (found_of values.now))) action) }
+    ensures found { (action : Action) → Names (Some (codes "show", rows_of (found_of values.now))) action
+        → IsSome result }
+{
+    let disk = text_in(values, "DISK")?;
+    Some(Action::Show { disk })
+}
+
+/// `protect` with its values.
+fn protect_in<'a>(values: &ArgMatches<'a>) -> Option<Action<'a>>
+    ensures read { IfSome result (λ action. Names (Some (codes "protect", rows_of (found_of values.now))) action) }
+    ensures found { (action : Action) → Names (Some (codes "protect", rows_of (found_of values.now))) action
+        → IsSome result }
+{
+    let disk = text_in(values, "DISK")?;
+    let input = text_in(values, "INPUT")?;
+    let output = text_in(values, "OUTPUT")?;
+    Some(Action::Protect {
+        disk,
+        input,
+        output,
+    })
+}
+
+/// `validate` with its values.
+fn validate_in<'a>(values: &ArgMatches<'a>) -> Option<Action<'a>>
+    ensures read { IfSome result (λ action. Names (Some (codes "validate", rows_of (found_of values.now))) action) }
+    ensures found { (action : Action) → Names (Some (codes "validate", rows_of (found_of values.now))) action
+        → IsSome result }
+{
+    let disk = text_in(values, "DISK")?;
+    let input = text_in(values, "INPUT")?;
+    let output = text_in(values, "OUTPUT")?;
+    Some(Action::Validate {
+        disk,
+        input,
+        output,
+    })
+}
+
+/// The action of the subcommand that was used with its values, `open` where there was none.
+fn action_in<'a>(matches: &ArgMatches<'a>) -> Option<Action<'a>>
+    ensures read { IfSome result (Names (subcommand_rows_of matches.now)) }
+    ensures found { (action : Action) → Names (subcommand_rows_of matches.now) action
+        → HasBlocks action → IsSome result }
+{
+    let Some((name, values)) = matches.subcommand() else {
         return Some(Action::Open);
+    };
+    match name {
+        "open" => Some(Action::Open),
+        "format" => format_in(values),
+        "apply" => apply_in(values),
+        "show" => show_in(values),
+        "protect" => protect_in(values),
+        "validate" => validate_in(values),
+        _ => None,
     }
-    None
 }
 
 /// The action that the words name, without the program's own name among them.
-pub fn action_of(alloc: Global, words: &[&str]) -> Result<Action, UsageFault>
+pub fn action_of<'a>(alloc: Global, words: &'a [&'a str]) -> Result<Action<'a>, UsageFault>
     // What is answered is what clap reads.
     ensures read { IfOk result (Names (subcommand_of macsecd (texts words.now))) }
     // What clap takes is refused for memory alone.

@@ -3,13 +3,38 @@
 use crate::action::UsageFault;
 use crate::request::InputFault;
 use crate::status::Status;
+use crate::values::ValueFault;
+use macs_disk::FileFault;
+use macs_edge::{ConfigFault, RunFault};
+use macs_endpoint::RefillFault;
+use macs_journal::JournalFault;
+use macs_pcap::PcapFault;
 use std::alloc::AllocError;
+
+/// What is wrong with a disk file.
+#[derive(Clone, Copy, Debug, PartialEq, Eq)]
+pub enum DiskFault {
+    /// It cannot be opened, made, lengthened or synced, or another program has claimed it.
+    File,
+    /// It is not a whole number of sectors of 512 octets.
+    Length,
+    /// Something on it failed, or stands on it that is no journal.
+    Journal(JournalFault),
+}
 
 /// What ends a run before its answer.
 #[derive(Drop)]
 pub enum Failure {
     /// The words name no action, for this cause.
     Usage(String),
+    /// A value among the words is none that the program takes.
+    Value(ValueFault),
+    /// The disk file does not serve.
+    Disk(DiskFault),
+    /// A capture cannot be opened, read or written.
+    Capture,
+    /// A command file cannot be read, or spells no commands.
+    Commands,
     /// Memory is wanting.
     Memory,
     /// The input cannot be read, or spells no request.
@@ -18,9 +43,31 @@ pub enum Failure {
     Output,
 }
 
+impl DiskFault {
+    ghost use Rattle.std.specs.Prelude.{◌≡◌};
+    ghost use Rattle.macsecd.specs.Failing.{disk_fault_text};
+
+    /// What the program says of it.
+    pub fn text(self) -> &'static str
+        ensures { result.now ≡ disk_fault_text self }
+    {
+        match self {
+            DiskFault::File => "disk file",
+            DiskFault::Length => "disk length",
+            DiskFault::Journal(JournalFault::Stopped) => "stopped",
+            DiskFault::Journal(JournalFault::TooSmall) => "too small",
+            DiskFault::Journal(JournalFault::Disk) => "disk",
+            DiskFault::Journal(JournalFault::AlreadyFormatted) => "already formatted",
+            DiskFault::Journal(JournalFault::NotFormatted) => "not formatted",
+            DiskFault::Journal(JournalFault::BadJournal) => "bad journal",
+            DiskFault::Journal(JournalFault::GenerationsSpent) => "generations spent",
+        }
+    }
+}
+
 impl Failure {
     ghost use Rattle.std.specs.Prelude.{◌≡◌};
-    ghost use Rattle.macsecd.specs.Run.{failure_status, failure_text};
+    ghost use Rattle.macsecd.specs.Failing.{failure_status, failure_text};
 
     /// What the program says of it, in one line.
     pub fn text(&self) -> &str
@@ -28,12 +75,12 @@ impl Failure {
     {
         match self {
             Failure::Usage(cause) => cause.as_str(),
+            Failure::Value(fault) => fault.text(),
+            Failure::Disk(fault) => fault.text(),
+            Failure::Capture => "capture",
+            Failure::Commands => "commands",
             Failure::Memory => "memory",
-            Failure::Input(InputFault::Input) => "input",
-            Failure::Input(InputFault::Key) => "key",
-            Failure::Input(InputFault::Sci) => "sci",
-            Failure::Input(InputFault::Offset) => "offset",
-            Failure::Input(InputFault::Frame) => "frame",
+            Failure::Input(fault) => fault.text(),
             Failure::Output => "output",
         }
     }
@@ -43,8 +90,13 @@ impl Failure {
         ensures { result ≡ failure_status self.now }
     {
         match self {
-            Failure::Usage(_) => Status::Usage,
-            Failure::Memory | Failure::Input(_) | Failure::Output => Status::Fault,
+            Failure::Usage(_) | Failure::Value(_) => Status::Usage,
+            Failure::Disk(_) => Status::Disk,
+            Failure::Capture
+            | Failure::Commands
+            | Failure::Memory
+            | Failure::Input(_)
+            | Failure::Output => Status::Fault,
         }
     }
 }
@@ -62,15 +114,26 @@ impl From<AllocError> for Failure {
 
 impl From<UsageFault> for Failure {
     ghost use Rattle.std.specs.Prelude.{◌≡◌};
-    ghost use Rattle.macsecd.specs.Run.{failure_of};
+    ghost use Rattle.macsecd.specs.Failing.{failure_of_words};
 
-    ghost from_gives = { λ fault failure. failure ≡ failure_of fault };
+    ghost from_gives = { λ fault failure. failure ≡ failure_of_words fault };
 
     fn from(fault: UsageFault) -> Failure {
         match fault {
             UsageFault::Usage(cause) => Failure::Usage(cause),
             UsageFault::Memory => Failure::Memory,
         }
+    }
+}
+
+impl From<ValueFault> for Failure {
+    ghost use Rattle.std.specs.Prelude.{◌≡◌};
+    ghost use Rattle.macsecd.specs.declared.failure.Failure.TheVariants.{Value};
+
+    ghost from_gives = { λ fault failure. failure ≡ Value fault };
+
+    fn from(fault: ValueFault) -> Failure {
+        Failure::Value(fault)
     }
 }
 
@@ -82,5 +145,64 @@ impl From<InputFault> for Failure {
 
     fn from(fault: InputFault) -> Failure {
         Failure::Input(fault)
+    }
+}
+
+impl From<FileFault> for Failure {
+    ghost use Rattle.std.specs.Prelude.{◌≡◌};
+    ghost use Rattle.macsecd.specs.Failing.{failure_of_file};
+
+    ghost from_gives = { λ fault failure. failure ≡ failure_of_file fault };
+
+    fn from(fault: FileFault) -> Failure {
+        match fault {
+            FileFault::Open => Failure::Disk(DiskFault::File),
+            FileFault::Length => Failure::Disk(DiskFault::Length),
+            FileFault::Memory => Failure::Memory,
+        }
+    }
+}
+
+impl From<JournalFault> for Failure {
+    ghost use Rattle.std.specs.Prelude.{◌≡◌};
+    ghost use Rattle.macsecd.specs.Failing.{failure_of_journal};
+
+    ghost from_gives = { λ fault failure. failure ≡ failure_of_journal fault };
+
+    fn from(fault: JournalFault) -> Failure {
+        Failure::Disk(DiskFault::Journal(fault))
+    }
+}
+
+impl From<ConfigFault> for Failure {
+    ghost use Rattle.std.specs.Prelude.{◌≡◌};
+    ghost use Rattle.macsecd.specs.Failing.{failure_of_commands};
+
+    ghost from_gives = { λ fault failure. failure ≡ failure_of_commands fault };
+
+    fn from(fault: ConfigFault) -> Failure {
+        match fault {
+            ConfigFault::Memory => Failure::Memory,
+            _ => Failure::Commands,
+        }
+    }
+}
+
+impl From<RunFault> for Failure {
+    ghost use Rattle.std.specs.Prelude.{◌≡◌};
+    ghost use Rattle.macsecd.specs.Failing.{failure_of_run};
+
+    ghost from_gives = { λ fault failure. failure ≡ failure_of_run fault };
+
+    fn from(fault: RunFault) -> Failure {
+        match fault {
+            RunFault::Pcap(PcapFault::Memory) => Failure::Memory,
+            RunFault::Pcap(_) => Failure::Capture,
+            RunFault::Device(RefillFault::Stopped) => JournalFault::Stopped.into(),
+            RunFault::Device(RefillFault::GenerationsSpent) => {
+                JournalFault::GenerationsSpent.into()
+            }
+            RunFault::Device(RefillFault::Disk) => JournalFault::Disk.into(),
+        }
     }
 }

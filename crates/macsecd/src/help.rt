@@ -1,15 +1,65 @@
-//! The words that ask for help, and the texts that answer them.
+//! The words that ask for help.
 
-ghost use Rattle.std.specs.Prelude.{◌≡◌, ◌↔◌, IsTrue};
-ghost use Rattle.macsecd.specs.Words.{AsksFor, AsksForHelp, AsksForVersion, IsHelpFlag, IsSubcommand, IsVersionFlag, texts};
+ghost use Rattle.std.specs.Prelude.{◌≡◌, ◌↔◌, IsTrue, Some};
+ghost use Rattle.macsecd.specs.Words.{AsksFor, IsHelpFlag, IsVersionFlag, name_of, texts};
+
+use crate::help_texts::{APPLY, FORMAT, HELP, OPEN, PROTECT, SHOW, VALIDATE, VERSION};
+
+/// A subcommand.
+#[derive(Clone, Copy)]
+pub enum Subcommand {
+    Open,
+    Format,
+    Apply,
+    Show,
+    Protect,
+    Validate,
+}
 
 /// What is asked for in place of an action.
 #[derive(Clone, Copy)]
 pub enum Topic {
-    /// What the program does, and how: `--help` or `-h`, alone or after a subcommand.
+    /// What the program does: `--help` or `-h` alone.
     Help,
+    /// What a subcommand does, and what its values are: `--help` or `-h` behind its name.
+    HelpOn(Subcommand),
     /// Which program it is: `--version` alone.
     Version,
+}
+
+impl Subcommand {
+    ghost use Rattle.std.specs.Prelude.{◌≡◌, ◌↔◌};
+    ghost use Rattle.macsecd.specs.Help.{subcommand_text};
+    ghost use Rattle.macsecd.specs.Words.{name_of};
+
+    /// The subcommand of this name.
+    fn named(name: &str) -> Option<Subcommand>
+        ensures { (which : Subcommand) → (result ≡ Some which) ↔ (name.now ≡ name_of which) }
+    {
+        match name {
+            "open" => Some(Subcommand::Open),
+            "format" => Some(Subcommand::Format),
+            "apply" => Some(Subcommand::Apply),
+            "show" => Some(Subcommand::Show),
+            "protect" => Some(Subcommand::Protect),
+            "validate" => Some(Subcommand::Validate),
+            _ => None,
+        }
+    }
+
+    /// What is printed on it, of whole lines.
+    fn text(self) -> &'static str
+        ensures { result.now ≡ subcommand_text self }
+    {
+        match self {
+            Subcommand::Open => OPEN,
+            Subcommand::Format => FORMAT,
+            Subcommand::Apply => APPLY,
+            Subcommand::Show => SHOW,
+            Subcommand::Protect => PROTECT,
+            Subcommand::Validate => VALIDATE,
+        }
+    }
 }
 
 impl Topic {
@@ -22,29 +72,11 @@ impl Topic {
     {
         match self {
             Topic::Help => HELP,
+            Topic::HelpOn(which) => which.text(),
             Topic::Version => VERSION,
         }
     }
 }
-
-const HELP: &str = "usage: macsecd [open]
-
-open, also without a word, opens one protected frame. It reads four lines:
-  the key                       32 hex digits
-  the SCI                       16 hex digits
-  the confidentiality offset    0, 30 or 50
-  the protected frame           hex, from the destination address to the ICV
-and prints one line:
-  valid an=AN pn=PN plain=HEX   the frame is genuine, HEX is its plain frame
-  runt, oversize, no tag, bad tag, for kay, other sci or not valid
-                                the frame is refused
-
---help and -h, alone or after open, print this; --version prints the version.
-Any other fault is one line on standard error.
-status: 0 done, 2 usage, 3 frame refused, 5 input, output or memory
-";
-
-const VERSION: &str = "macsecd 0.1.0\n";
 
 fn is_help_flag(word: &str) -> bool
     ensures { IsTrue result ↔ IsHelpFlag word.now }
@@ -58,40 +90,17 @@ fn is_version_flag(word: &str) -> bool
     word == "--version"
 }
 
-fn is_subcommand(word: &str) -> bool
-    ensures { IsTrue result ↔ IsSubcommand word.now }
-{
-    word == "open"
-}
-
-fn asks_for_help(words: &[&str]) -> bool
-    ensures { IsTrue result ↔ AsksForHelp (texts words.now) }
-{
-    match words {
-        [word] => is_help_flag(word),
-        [name, word] => is_subcommand(name) && is_help_flag(word),
-        _ => false,
-    }
-}
-
-fn asks_for_version(words: &[&str]) -> bool
-    ensures { IsTrue result ↔ AsksForVersion (texts words.now) }
-{
-    match words {
-        [word] => is_version_flag(word),
-        _ => false,
-    }
-}
-
 /// What the words ask for in place of an action, if they do.
 pub fn topic_of(words: &[&str]) -> Option<Topic>
     ensures { (topic : Topic) → (result ≡ Some topic) ↔ AsksFor (texts words.now) topic }
 {
-    if asks_for_help(words) {
-        return Some(Topic::Help);
+    match words {
+        [word] if is_help_flag(word) => Some(Topic::Help),
+        [word] if is_version_flag(word) => Some(Topic::Version),
+        [name, word] if is_help_flag(word) => {
+            let which = Subcommand::named(name)?;
+            Some(Topic::HelpOn(which))
+        }
+        _ => None,
     }
-    if asks_for_version(words) {
-        return Some(Topic::Version);
-    }
-    None
 }

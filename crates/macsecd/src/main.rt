@@ -3,16 +3,24 @@
 
 mod action;
 mod answer;
+mod applying;
+mod capturing;
 mod failure;
+mod files;
 mod help;
+mod help_texts;
 mod hex_text;
 mod lines;
+mod on_disk;
+mod output;
 mod plain_text;
 mod request;
 mod run;
+mod showing;
 mod status;
 #[cfg(test)]
 mod tests;
+mod values;
 
 use crate::failure::Failure;
 use crate::run::{report, run};
@@ -37,6 +45,7 @@ fn run_process(rt: &HostRuntime) -> Result<u8, Failure> {
     let words = words_of(rt)?;
     let words: Vec<&str> = words.iter().map(|word| word.as_str()).collect(rt.alloc())?;
     let status = run(
+        rt,
         rt.alloc(),
         words.as_slice(),
         &mut rt.stdin(),

@@ -47,6 +47,24 @@ pub enum InputFault {
     Frame,
 }
 
+impl InputFault {
+    ghost use Rattle.std.specs.Prelude.{◌≡◌};
+    ghost use Rattle.macsecd.specs.Failing.{input_fault_text};
+
+    /// What the program says of it.
+    pub fn text(self) -> &'static str
+        ensures { result.now ≡ input_fault_text self }
+    {
+        match self {
+            InputFault::Input => "input",
+            InputFault::Key => "key",
+            InputFault::Sci => "sci",
+            InputFault::Offset => "offset",
+            InputFault::Frame => "frame",
+        }
+    }
+}
+
 /// The key that a line spells.
 fn key_of(line: &[u8]) -> Option<[u8; 16]>
     ensures { MatchOption result ((key : List ℕ) → ¬ SpellsKey line.now key) (SpellsKey line.now) }
@@ -55,7 +73,7 @@ fn key_of(line: &[u8]) -> Option<[u8; 16]>
 }
 
 /// The SCI that a line spells.
-fn sci_of(line: &[u8]) -> Option<Sci>
+pub fn sci_of(line: &[u8]) -> Option<Sci>
     ensures { MatchOption result ((sci : List ℕ) → ¬ SpellsSci line.now sci) (SpellsSci line.now) }
 {
     let octets = <[u8; 8] as FromHex>::from_hex(line).ok()?;

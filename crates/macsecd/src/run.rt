@@ -2,21 +2,29 @@
 
 ghost use Rattle.std.specs.Prelude.{◌≡◌, ◌≢◌, ◌⊎◌, ◌++◌, ◌∷◌, ℕ, List, [], true, take, IfErr, IfOk, IfSome, OnOk, string_bytes};
 ghost use Rattle.std.specs.Io.KnownBytes.{Appends};
-ghost use Rattle.clap.specs.Words.{takes};
+ghost use Rattle.clap.specs.Words.{subcommand_of, takes};
 ghost use Rattle.macsecd.specs.Answer.{answer_text};
-ghost use Rattle.macsecd.specs.Run.{Prints, Replies, code_of, failure_status};
-ghost use Rattle.macsecd.specs.Words.{macsecd, texts};
+ghost use Rattle.macsecd.specs.Failing.{failure_status};
+ghost use Rattle.macsecd.specs.Run.{Does, HasWrongValues, Prints, Replies, WrongValues, code_of};
+ghost use Rattle.macsecd.specs.Words.{Names, macsecd, texts};
+ghost use Rattle.macsecd.specs.declared.action.Action.{Action};
+ghost use Rattle.macsecd.specs.declared.status.Status.{Status};
 
 use crate::action::{Action, action_of};
 use crate::answer::{Answer, answer_of};
+use crate::capturing::Direction;
 use crate::failure::Failure;
 use crate::help::topic_of;
+use crate::on_disk::{apply, format, pass, show};
+use crate::output::print;
 use crate::request::InputFault;
 use crate::status::Status;
 use arrayvec::ArrayVec;
+use macs_disk::DiskFile;
 use std::alloc::{AllocError, Allocator, Global};
 use std::io;
 use std::io::{Read, Write};
+use std::rt::Files;
 
 /// One octet more than the longest input that is taken.
 const MAX_READ: usize = 20_001;
@@ -44,17 +52,6 @@ pub fn line_of<A: Allocator>(alloc: A, answer: &Answer) -> Result<String<A>, All
     format!(in alloc; "{answer}\n")
 }
 
-/// Writes a text to standard output, whole.
-fn print<W: Write>(out: &mut W, text: &str) -> Result<(), Failure>
-    ensures printed { OnOk result (Appends (W.contents out.old) (W.contents out.new) text.now) }
-    ensures failed { IfErr result (λ failure. failure ≡ Failure.Output) }
-{
-    if out.write_all(text.as_bytes()).is_err() || out.flush().is_err() {
-        return Err(Failure::Output);
-    }
-    Ok(())
-}
-
 /// `open`: reads an input, and prints the answer to it.
 fn open_input<R: Read, W: Write>(
     alloc: Global,
@@ -63,7 +60,7 @@ fn open_input<R: Read, W: Write>(
 ) -> Result<Status, Failure>
     ensures printed { IfOk result (λ status. IfSome (R.remaining input.old)
         (λ octets. Prints octets (W.contents out.old) (W.contents out.new) status)) }
-    ensures status { IfOk result (λ status. status ≢ Status.Usage) }
+    ensures status { IfOk result (λ status. (status ≡ Status.Done) ⊎ (status ≡ Status.Refused)) }
     ensures failed { IfErr result (λ failure. failure_status failure ≡ Status.Fault) }
 {
     let text = read_input(input)?;
@@ -72,27 +69,73 @@ fn open_input<R: Read, W: Write>(
     Ok(answer.status())
 }
 
+/// Does what an action asks for.
+fn perform<T: Files, R: Read, W: Write>(
+    rt: &T,
+    alloc: Global,
+    action: Action,
+    input: &mut R,
+    out: &mut W,
+) -> Result<Status, Failure>
+where
+    T::File: DiskFile,
+    ensures does { IfOk result (Does action.entry (R.remaining input.old) (W.contents out.old) (W.contents out.new)) }
+    ensures status { IfOk result (λ status. (status ≡ Status.Done) ⊎ (status ≡ Status.Refused)) }
+    ensures usage { IfErr result (λ failure. failure_status failure ≡ Status.Usage
+        → WrongValues action.entry × (out.new ≡ out.old)) }
+    ensures disk { IfErr result (λ failure. failure_status failure ≡ Status.Disk → action.entry ≢ Action.Open) }
+    ensures unread { action.entry ≢ Action.Open → input.new ≡ input.old }
+{
+    match action {
+        Action::Open => open_input(alloc, input, out),
+        Action::Format {
+            disk,
+            sci,
+            tx_block,
+            rx_block,
+        } => format(rt, disk, sci, tx_block, rx_block, out),
+        Action::Apply { disk, file } => apply(rt, alloc, disk, file, out),
+        Action::Show { disk } => show(rt, alloc, disk, out),
+        Action::Protect {
+            disk,
+            input: from,
+            output: to,
+        } => pass(rt, alloc, Direction::Protect, disk, from, to, out),
+        Action::Validate {
+            disk,
+            input: from,
+            output: to,
+        } => pass(rt, alloc, Direction::Validate, disk, from, to, out),
+    }
+}
+
 /// Does what the words ask for.
-fn act<R: Read, W: Write>(
+fn act<T: Files, R: Read, W: Write>(
+    rt: &T,
     alloc: Global,
     words: &[&str],
     input: &mut R,
     out: &mut W,
 ) -> Result<Status, Failure>
+where
+    T::File: DiskFile,
     ensures replied { IfOk result (Replies (texts words.now) (R.remaining input.old)
         (W.contents out.old) (W.contents out.new)) }
-    ensures status { IfOk result (λ status. status ≢ Status.Usage) }
+    ensures status { IfOk result (λ status. (status ≡ Status.Done) ⊎ (status ≡ Status.Refused)) }
     ensures usage { IfErr result (λ failure. failure_status failure ≡ Status.Usage
-        → (takes macsecd (texts words.now) ≢ true) × (out.new ≡ out.old)) }
-    ensures unread { takes macsecd (texts words.now) ≢ true → input.new ≡ input.old }
+        → ((takes macsecd (texts words.now) ≢ true) ⊎ HasWrongValues (texts words.now)) × (out.new ≡ out.old)) }
+    ensures disk { IfErr result (λ failure. failure_status failure ≡ Status.Disk
+        → (takes macsecd (texts words.now) ≡ true)
+        × (action : Action) × Names (subcommand_of macsecd (texts words.now)) action × (action ≢ Action.Open)) }
+    ensures unread { ((takes macsecd (texts words.now) ≡ true)
+        × Names (subcommand_of macsecd (texts words.now)) Action.Open → ⊥) → input.new ≡ input.old }
 {
     if let Some(topic) = topic_of(words) {
         print(out, topic.text())?;
         return Ok(Status::Done);
     }
-    match action_of(alloc, words)? {
-        Action::Open => open_input(alloc, input, out),
-    }
+    let action = action_of(alloc, words)?;
+    perform(rt, alloc, action, input, out)
 }
 
 /// Writes what ends a run to standard error as one line, and answers the status of the process.
@@ -104,29 +147,39 @@ pub fn report<E: Write>(failure: &Failure, err: &mut E) -> u8
 }
 
 /// Runs the program: the words without the program's own name, standard input, standard output and
-/// standard error. It answers the status of the process.
-pub fn run<R: Read, W: Write, E: Write>(
+/// standard error. It answers the status of the process. Faults are found in this order: the words;
+/// the SCI and the blocks; the disk file and its opening; the other files from left to right.
+pub fn run<T: Files, R: Read, W: Write, E: Write>(
+    rt: &T,
     alloc: Global,
     words: &[&str],
     input: &mut R,
     out: &mut W,
     err: &mut E,
 ) -> u8
-    // The status is one of 0, 2, 3 and 5.
+where
+    T::File: DiskFile,
+    // The status is one of 0, 2, 3, 4 and 5.
     ensures status { (status : Status) × (result ≡ code_of status) }
-    // At 0 and 3 the words ask for help or are taken, and the help or the answer to the input is
-    // written to standard output.
+    // At 0 and 3 the words ask for help or are taken, and the help or what the action prints is written to
+    // standard output.
     ensures replied { (result ≡ 0) ⊎ (result ≡ 3) → (status : Status) × (result ≡ code_of status)
         × Replies (texts words.now) (R.remaining input.old)
         (W.contents out.old) (W.contents out.new) status }
     // And nothing on standard error.
     ensures quiet { (result ≡ 0) ⊎ (result ≡ 3) → err.new ≡ err.old }
-    // At 2 the words are none that are taken, and nothing is printed.
-    ensures usage { result ≡ 2 → (takes macsecd (texts words.now) ≢ true) × (out.new ≡ out.old) }
-    // Words that are not taken, as those that ask for help, leave the input unread.
-    ensures unread { takes macsecd (texts words.now) ≢ true → input.new ≡ input.old }
+    // At 2 the words are none that are taken, or a value among them is none, and nothing is printed.
+    ensures usage { result ≡ 2 → ((takes macsecd (texts words.now) ≢ true) ⊎ HasWrongValues (texts words.now))
+        × (out.new ≡ out.old) }
+    // At 4 the words are taken and name another action than `open`.
+    ensures disk { result ≡ 4 → (takes macsecd (texts words.now) ≡ true)
+        × (action : Action) × Names (subcommand_of macsecd (texts words.now)) action × (action ≢ Action.Open) }
+    // Where the words are none that are taken, as those that ask for help, or name another action than
+    // `open`, the input is left unread.
+    ensures unread { ((takes macsecd (texts words.now) ≡ true)
+        × Names (subcommand_of macsecd (texts words.now)) Action.Open → ⊥) → input.new ≡ input.old }
 {
-    match act(alloc, words, input, out) {
+    match act(rt, alloc, words, input, out) {
         Ok(status) => status.code(),
         Err(failure) => report(&failure, err),
     }

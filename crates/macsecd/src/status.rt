@@ -5,10 +5,12 @@
 pub enum Status {
     /// It is done: 0.
     Done,
-    /// The words are none that the program knows: 2.
+    /// The words are none that the program knows, or a value among them is none that it takes: 2.
     Usage,
-    /// The frame is refused: 3.
+    /// The frame or a command is refused: 3.
     Refused,
+    /// The disk file failed, or what stands on it does not serve: 4.
+    Disk,
     /// The input, the output or memory failed: 5.
     Fault,
 }
@@ -25,6 +27,7 @@ impl Status {
             Status::Done => 0,
             Status::Usage => 2,
             Status::Refused => 3,
+            Status::Disk => 4,
             Status::Fault => 5,
         }
     }

@@ -2,17 +2,25 @@
 //! confidentiality from IEEE Std 802.1AE-2018, Annex C; those with an offset were made from them by
 //! Python's `cryptography` (AESGCM with the octets in front of the offset in the additional data).
 
+mod applying;
+mod captures;
+mod disks;
 mod help;
 mod help_text;
 mod input;
+mod link;
+mod link_files;
 mod opening;
+mod stories;
 mod streams;
 mod words;
 
 use crate::run::run;
 use std::alloc::{AllocError, Global};
+use std::fs::File;
 use std::io::{Read, Write};
 use std::process::Abort;
+use std::rt::Files;
 use std::test::Fail;
 
 /// The key and the SCI of most of the frames.
@@ -41,6 +49,8 @@ enum Outcome {
     Refused(&'static str),
     /// Status 2, and the line on standard error.
     Usage(&'static str),
+    /// Status 4, and the line on standard error.
+    Disk(&'static str),
     /// Status 5, and the line on standard error.
     Fault(&'static str),
 }
@@ -52,6 +62,7 @@ impl Outcome {
             Outcome::Done(out) => (0, out, ""),
             Outcome::Refused(out) => (3, out, ""),
             Outcome::Usage(err) => (2, "", err),
+            Outcome::Disk(err) => (4, "", err),
             Outcome::Fault(err) => (5, "", err),
         }
     }
@@ -62,18 +73,19 @@ const OPENED: Outcome = Outcome::Done(INTEGRITY_LINE);
 
 /// Runs the program. What is proved of a run stays behind: the tests look at what it does.
 fn status_of<R: Read, W: Write, E: Write>(
+    rt: &(impl Abort + Files<File = File>),
     alloc: Global,
     words: &[&str],
     input: &mut R,
     out: &mut W,
     err: &mut E,
 ) -> u8 {
-    run(alloc, words, input, out, err)
+    run(rt, alloc, words, input, out, err)
 }
 
 /// Runs the words on what a reader gives, and asserts the whole outcome.
 fn expect_of<R: Read>(
-    rt: &impl Abort,
+    rt: &(impl Abort + Files<File = File>),
     alloc: Global,
     words: &[&str],
     input: &mut R,
@@ -81,7 +93,7 @@ fn expect_of<R: Read>(
 ) {
     let mut out = Vec::new(alloc);
     let mut err = Vec::new(alloc);
-    let status = status_of(alloc, words, input, &mut out, &mut err);
+    let status = status_of(rt, alloc, words, input, &mut out, &mut err);
     let (wanted, printed, complained) = outcome.parts();
     assert_eq!(rt; out.as_slice(), printed.as_bytes());
     assert_eq!(rt; err.as_slice(), complained.as_bytes());
@@ -89,7 +101,13 @@ fn expect_of<R: Read>(
 }
 
 /// Runs the words on an input, and asserts the whole outcome.
-fn expect(rt: &impl Abort, alloc: Global, words: &[&str], input: &str, outcome: Outcome) {
+fn expect(
+    rt: &(impl Abort + Files<File = File>),
+    alloc: Global,
+    words: &[&str],
+    input: &str,
+    outcome: Outcome,
+) {
     expect_of(rt, alloc, words, &mut input.as_bytes(), outcome);
 }
 
@@ -104,7 +122,7 @@ fn joined(alloc: Global, texts: &[&str]) -> Result<String, AllocError> {
 
 /// Opens an input of these texts, one behind the other, and asserts the whole outcome.
 fn expect_texts(
-    rt: &impl Abort,
+    rt: &(impl Abort + Files<File = File>),
     alloc: Global,
     texts: &[&str],
     outcome: Outcome,
@@ -116,7 +134,7 @@ fn expect_texts(
 
 /// Opens an input of a key, an SCI, an offset and a frame, each line with its end.
 fn expect_lines(
-    rt: &impl Abort,
+    rt: &(impl Abort + Files<File = File>),
     alloc: Global,
     [key, sci, offset, frame]: [&str; 4],
     outcome: Outcome,

@@ -1,7 +1,13 @@
 //! What asks for help, and that what the help names is there.
 
-use super::help_text::HELP_TEXT;
+use super::help_text::{
+    APPLY_TEXT, FORMAT_TEXT, HELP_TEXT, OPEN_TEXT, PROTECT_TEXT, SHOW_TEXT, VALIDATE_TEXT,
+};
 use super::{INPUT, OPENED, Outcome, expect};
+use std::alloc::Global;
+use std::fs::File;
+use std::process::Abort;
+use std::rt::Files;
 
 /// What `--version` prints.
 const VERSION_TEXT: &str = "macsecd 0.1.0\n";
@@ -9,12 +15,13 @@ const VERSION_TEXT: &str = "macsecd 0.1.0\n";
 /// Four lines, of which the last is empty: a frame of no octets.
 const RUNT_INPUT: &str = "ad7a2bd03eac835a6f620fdcb506b345\n12153524c0895e81\n0\n\n";
 
-const HELP_WORDS: &[&[&str]] = &[&["--help"], &["-h"], &["open", "--help"], &["open", "-h"]];
+/// The flags that ask for help.
+const FLAGS: &[&str] = &["--help", "-h"];
 
 #[test]
 fn prints_help(rt: HostRuntime) {
-    for words in HELP_WORDS {
-        expect(&rt, rt.alloc(), words, "", Outcome::Done(HELP_TEXT));
+    for flag in FLAGS {
+        expect(&rt, rt.alloc(), &[*flag], "", Outcome::Done(HELP_TEXT));
     }
 }
 
@@ -24,23 +31,81 @@ fn prints_its_version(rt: HostRuntime) {
     expect(&rt, rt.alloc(), &["--version"], "", version);
 }
 
+/// Asks for help on a subcommand with both flags, and asserts that it begins with this usage.
+fn expect_help(
+    rt: &(impl Abort + Files<File = File>),
+    alloc: Global,
+    name: &str,
+    usage: &str,
+    text: &'static str,
+) {
+    assert!(rt; text.starts_with(usage), "{name}");
+    for flag in FLAGS {
+        expect(rt, alloc, &[name, *flag], "", Outcome::Done(text));
+    }
+}
+
+#[test]
+fn prints_help_on_frames_and_commands(rt: HostRuntime) {
+    let alloc = rt.alloc();
+    expect_help(&rt, alloc, "open", "usage: macsecd [open]\n", OPEN_TEXT);
+    expect_help(
+        &rt,
+        alloc,
+        "apply",
+        "usage: macsecd apply DISK FILE\n",
+        APPLY_TEXT,
+    );
+}
+
+#[test]
+fn prints_help_on_disks(rt: HostRuntime) {
+    let alloc = rt.alloc();
+    expect_help(
+        &rt,
+        alloc,
+        "format",
+        "usage: macsecd format DISK SCI TX RX\n",
+        FORMAT_TEXT,
+    );
+    expect_help(&rt, alloc, "show", "usage: macsecd show DISK\n", SHOW_TEXT);
+}
+
+#[test]
+fn prints_help_on_captures(rt: HostRuntime) {
+    let alloc = rt.alloc();
+    let protect = "usage: macsecd protect DISK INPUT OUTPUT\n";
+    expect_help(&rt, alloc, "protect", protect, PROTECT_TEXT);
+    let validate = "usage: macsecd validate DISK INPUT OUTPUT\n";
+    expect_help(&rt, alloc, "validate", validate, VALIDATE_TEXT);
+}
+
+/// The subcommands with their values, as the help lists them.
+const FORMS: &[&str] = &[
+    "\n  open   ",
+    "\n  format DISK SCI TX RX   ",
+    "\n  apply DISK FILE   ",
+    "\n  show DISK   ",
+    "\n  protect DISK INPUT OUTPUT   ",
+    "\n  validate DISK INPUT OUTPUT   ",
+];
+
+#[test]
+fn lists_each_subcommand(rt: HostRuntime) {
+    for form in FORMS {
+        assert!(rt; HELP_TEXT.contains(*form), "{form}");
+    }
+}
+
 /// What the help names, and a run of these words on this input that shows it.
-///
-/// Each status is that of further runs: 0 in `answers_each_frame`; 2 in `refuses_other_words`; 3,
-/// with each refusal that the help names, in `answers_each_frame` and `refuses_a_frame_above_the_limit`;
-/// 5 in `refuses_each_wrong_line`, `a_failed_read_is_input` and `a_writer_that_stops_is_output`.
 const NAMED: &[(&str, &[&str], &str, Outcome)] = &[
-    ("usage: macsecd [open]", &["open"], INPUT, OPENED),
-    ("open, also without a word", &[], INPUT, OPENED),
-    ("--help and -h", &["--help"], "", Outcome::Done(HELP_TEXT)),
+    ("also without a word", &[], INPUT, OPENED),
     (
-        "alone or after open",
-        &["open", "-h"],
+        "--version prints the version",
+        &["--version"],
         "",
-        Outcome::Done(HELP_TEXT),
+        Outcome::Done(VERSION_TEXT),
     ),
-    ("--version", &["--version"], "", Outcome::Done(VERSION_TEXT)),
-    ("0 done", &["open"], INPUT, OPENED),
     (
         "2 usage",
         &["close"],
@@ -48,7 +113,7 @@ const NAMED: &[(&str, &[&str], &str, Outcome)] = &[
         Outcome::Usage("macsecd: unrecognized subcommand 'close'\n"),
     ),
     (
-        "3 frame refused",
+        "3 refused",
         &["open"],
         RUNT_INPUT,
         Outcome::Refused("runt\n"),
@@ -56,11 +121,26 @@ const NAMED: &[(&str, &[&str], &str, Outcome)] = &[
     ("5 input", &["open"], "", Outcome::Fault("macsecd: input\n")),
 ];
 
-/// Each word and each status that the help names is there.
+/// What the help says of words is so.
 #[test]
 fn names_what_there_is(rt: HostRuntime) {
     for (name, words, input, outcome) in NAMED {
         assert!(rt; HELP_TEXT.contains(*name), "{name}");
         expect(&rt, rt.alloc(), words, input, *outcome);
+    }
+}
+
+/// What the help of `open` names.
+const NAMED_OF_OPEN: &[(&str, &str, Outcome)] = &[
+    ("0 valid", INPUT, OPENED),
+    ("3 frame refused", RUNT_INPUT, Outcome::Refused("runt\n")),
+    ("5 input", "", Outcome::Fault("macsecd: input\n")),
+];
+
+#[test]
+fn names_what_open_does(rt: HostRuntime) {
+    for (name, input, outcome) in NAMED_OF_OPEN {
+        assert!(rt; OPEN_TEXT.contains(*name), "{name}");
+        expect(&rt, rt.alloc(), &["open"], input, *outcome);
     }
 }

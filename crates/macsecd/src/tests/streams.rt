@@ -1,13 +1,15 @@
 //! Readers and writers that fail, and memory that is refused.
 
-use super::help_text::HELP_TEXT;
+use super::help_text::{HELP_TEXT, OPEN_TEXT};
 use super::{INPUT, INTEGRITY_LINE, KEY, OPENED, Outcome, expect_of, status_of};
 use crate::answer::{Answer, answer_of};
 use crate::run::line_of;
 use linked_list_allocator::LocalHeap;
 use std::alloc::Global;
+use std::fs::File;
 use std::io::{self, Read, Write};
 use std::process::Abort;
+use std::rt::Files;
 use std::test::Fail;
 
 /// A reader that gives some octets and then fails.
@@ -114,7 +116,7 @@ const READINGS: &[(&[&str], Outcome, bool)] = &[
         false,
     ),
     (&["--help"], Outcome::Done(HELP_TEXT), false),
-    (&["open", "-h"], Outcome::Done(HELP_TEXT), false),
+    (&["open", "-h"], Outcome::Done(OPEN_TEXT), false),
     (&["--version"], Outcome::Done("macsecd 0.1.0\n"), false),
     (&["open"], READ_FAULT, true),
 ];
@@ -149,7 +151,7 @@ fn a_slow_reader_is_read_whole(rt: HostRuntime) {
 
 /// A word on the input over a writer ends with this status and this line on standard error.
 fn expect_written<W: Write>(
-    rt: &impl Abort,
+    rt: &(impl Abort + Files<File = File>),
     alloc: Global,
     word: &str,
     out: &mut W,
@@ -157,13 +159,19 @@ fn expect_written<W: Write>(
     message: &str,
 ) {
     let mut err = Vec::new(alloc);
-    let answer = status_of(alloc, &[word], &mut INPUT.as_bytes(), out, &mut err);
+    let answer = status_of(rt, alloc, &[word], &mut INPUT.as_bytes(), out, &mut err);
     assert_eq!(rt; answer, status, "on {word}");
     assert_eq!(rt; err.as_slice(), message.as_bytes(), "on {word}");
 }
 
 /// The line goes out as far as there is room for it.
-fn expect_narrow(rt: &impl Abort, alloc: Global, room: usize, status: u8, message: &str) {
+fn expect_narrow(
+    rt: &(impl Abort + Files<File = File>),
+    alloc: Global,
+    room: usize,
+    status: u8,
+    message: &str,
+) {
     let mut out = Narrow {
         taken: Vec::new(alloc),
         room,
@@ -198,7 +206,14 @@ fn the_status_tells_without_standard_error(rt: HostRuntime) {
     for (words, status) in [(["frobnicate"].as_slice(), 2), ([].as_slice(), 5)] {
         let mut out = Vec::new(rt.alloc());
         let mut err = Failing { is_written: false };
-        let answer = status_of(rt.alloc(), words, &mut b"".as_slice(), &mut out, &mut err);
+        let answer = status_of(
+            &rt,
+            rt.alloc(),
+            words,
+            &mut b"".as_slice(),
+            &mut out,
+            &mut err,
+        );
         assert_eq!(rt; answer, status);
         assert!(rt; out.is_empty());
     }

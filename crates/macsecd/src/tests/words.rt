@@ -1,6 +1,8 @@
 //! Words: the action, and what is refused.
 
 use super::{INTEGRITY, KEY, OPENED, Outcome, SCI, expect, expect_lines, joined};
+use crate::action::{Action, action_of};
+use std::alloc::Global;
 use std::test::Fail;
 
 /// `open` is also what no word asks for.
@@ -78,6 +80,353 @@ const OTHER_WORDS: &[(&[&str], Outcome)] = &[
 fn refuses_other_words(rt: HostRuntime) {
     for (words, outcome) in OTHER_WORDS {
         expect(&rt, rt.alloc(), words, "", *outcome);
+    }
+}
+
+/// Words with a value too few, and the line that says so.
+const TOO_FEW: Outcome = Outcome::Usage(
+    "macsecd: the following required arguments were not provided:\n",
+);
+
+const WORDS_TOO_FEW: &[&[&str]] = &[
+    &["format"],
+    &["format", "left.disk"],
+    &["format", "left.disk", "0200000000010001"],
+    &["format", "left.disk", "0200000000010001", "1024"],
+    &["apply"],
+    &["apply", "left.disk"],
+    &["show"],
+    &["protect"],
+    &["protect", "left.disk"],
+    &["protect", "left.disk", "plain.pcap"],
+    &["validate"],
+    &["validate", "left.disk"],
+    &["validate", "left.disk", "protected.pcap"],
+];
+
+/// Each value is required.
+#[test]
+fn refuses_a_value_too_few(rt: HostRuntime) {
+    for words in WORDS_TOO_FEW {
+        expect(&rt, rt.alloc(), words, "", TOO_FEW);
+    }
+}
+
+/// Words with one value too many.
+const WORDS_TOO_MANY: &[&[&str]] = &[
+    &["open", "more"],
+    &[
+        "format",
+        "left.disk",
+        "0200000000010001",
+        "1024",
+        "16",
+        "more",
+    ],
+    &["apply", "left.disk", "left.toml", "more"],
+    &["show", "left.disk", "more"],
+    &[
+        "protect",
+        "left.disk",
+        "plain.pcap",
+        "protected.pcap",
+        "more",
+    ],
+    &[
+        "validate",
+        "left.disk",
+        "protected.pcap",
+        "plain.pcap",
+        "more",
+    ],
+];
+
+#[test]
+fn refuses_a_value_too_many(rt: HostRuntime) {
+    let outcome = Outcome::Usage("macsecd: unexpected argument 'more' found\n");
+    for words in WORDS_TOO_MANY {
+        expect(&rt, rt.alloc(), words, "", outcome);
+    }
+}
+
+/// Words with an option, and the line that says that there is none.
+const WORDS_WITH_OPTIONS: &[(&[&str], Outcome)] = &[
+    (
+        &[
+            "format",
+            "left.disk",
+            "0200000000010001",
+            "1024",
+            "16",
+            "--frob",
+        ],
+        Outcome::Usage("macsecd: unexpected argument '--frob' found\n"),
+    ),
+    (
+        &["apply", "--frob=1", "left.disk", "left.toml"],
+        Outcome::Usage("macsecd: unexpected argument '--frob' found\n"),
+    ),
+    (
+        &["show", "left.disk", "-f"],
+        Outcome::Usage("macsecd: unexpected argument '-f' found\n"),
+    ),
+    (
+        &[
+            "protect",
+            "left.disk",
+            "-fg",
+            "plain.pcap",
+            "protected.pcap",
+        ],
+        Outcome::Usage("macsecd: unexpected argument '-f' found\n"),
+    ),
+    (
+        &[
+            "validate",
+            "left.disk",
+            "--",
+            "plain.pcap",
+            "protected.pcap",
+            "--frob",
+        ],
+        Outcome::Usage("macsecd: unexpected argument '--frob' found\n"),
+    ),
+    (
+        &["format", "left.disk", "--help"],
+        Outcome::Usage("macsecd: unexpected argument '--help' found\n"),
+    ),
+    (
+        &["apply", "left.disk", "left.toml", "--help"],
+        Outcome::Usage("macsecd: unexpected argument '--help' found\n"),
+    ),
+    (
+        &["show", "left.disk", "-h"],
+        Outcome::Usage("macsecd: unexpected argument '-h' found\n"),
+    ),
+    (
+        &["protect", "--help", "left.disk"],
+        Outcome::Usage("macsecd: unexpected argument '--help' found\n"),
+    ),
+    (
+        &["validate", "--version"],
+        Outcome::Usage("macsecd: unexpected argument '--version' found\n"),
+    ),
+    (
+        &["show", "-V"],
+        Outcome::Usage("macsecd: unexpected argument '-V' found\n"),
+    ),
+];
+
+/// No subcommand has an option, and help is asked for right behind its name alone.
+#[test]
+fn refuses_options(rt: HostRuntime) {
+    for (words, outcome) in WORDS_WITH_OPTIONS {
+        expect(&rt, rt.alloc(), words, "", *outcome);
+    }
+}
+
+/// A number of packet numbers that is none, and the line that says why.
+const NO_NUMBERS: &[(&str, Outcome)] = &[
+    (
+        "-1",
+        Outcome::Usage("macsecd: unexpected argument '-1' found\n"),
+    ),
+    (
+        "-0",
+        Outcome::Usage("macsecd: unexpected argument '-0' found\n"),
+    ),
+    (
+        "x",
+        Outcome::Usage("macsecd: invalid value 'x' for '<TX>': invalid digit found in string\n"),
+    ),
+    (
+        "4294967296",
+        Outcome::Usage(
+            "macsecd: invalid value '4294967296' for '<TX>': 4294967296 is not in 0..=4294967295\n",
+        ),
+    ),
+    (
+        "18446744073709551616",
+        Outcome::Usage(
+            "macsecd: invalid value '18446744073709551616' for '<TX>': number too large to fit in target type\n",
+        ),
+    ),
+    (
+        "0x10",
+        Outcome::Usage("macsecd: invalid value '0x10' for '<TX>': invalid digit found in string\n"),
+    ),
+    (
+        " 1",
+        Outcome::Usage("macsecd: invalid value ' 1' for '<TX>': invalid digit found in string\n"),
+    ),
+    (
+        "",
+        Outcome::Usage(
+            "macsecd: invalid value '' for '<TX>': cannot parse integer from empty string\n",
+        ),
+    ),
+];
+
+/// The numbers of `format` are in decimal digits.
+#[test]
+fn refuses_what_is_no_number(rt: HostRuntime) {
+    for (number, outcome) in NO_NUMBERS {
+        let words = ["format", "left.disk", "0200000000010001", *number, "16"];
+        expect(&rt, rt.alloc(), &words, "", *outcome);
+    }
+}
+
+/// A second number that is none.
+#[test]
+fn refuses_what_is_no_second_number(rt: HostRuntime) {
+    let words = ["format", "left.disk", "0200000000010001", "1024", "many"];
+    let line = "macsecd: invalid value 'many' for '<RX>': invalid digit found in string\n";
+    expect(&rt, rt.alloc(), &words, "", Outcome::Usage(line));
+}
+
+/// Behind `--` a hyphen is taken, but for a number.
+#[test]
+fn refuses_a_number_below_zero(rt: HostRuntime) {
+    let words = ["format", "left.disk", "0200000000010001", "--", "-0", "16"];
+    let line = "macsecd: invalid value '-0' for '<TX>': invalid digit found in string\n";
+    expect(&rt, rt.alloc(), &words, "", Outcome::Usage(line));
+}
+
+/// A file whose name begins with a hyphen.
+const HYPHENS: &[(&[&str], Outcome)] = &[
+    (
+        &["format", "-left.disk", "0200000000010001", "1024", "16"],
+        Outcome::Usage("macsecd: unexpected argument '-l' found\n"),
+    ),
+    (
+        &["apply", "-left.disk", "left.toml"],
+        Outcome::Usage("macsecd: unexpected argument '-l' found\n"),
+    ),
+    (
+        &["show", "-left.disk"],
+        Outcome::Usage("macsecd: unexpected argument '-l' found\n"),
+    ),
+    (
+        &["show", "--left.disk"],
+        Outcome::Usage("macsecd: unexpected argument '--left.disk' found\n"),
+    ),
+    (
+        &["protect", "-left.disk", "plain.pcap", "protected.pcap"],
+        Outcome::Usage("macsecd: unexpected argument '-l' found\n"),
+    ),
+    (
+        &["validate", "-left.disk", "protected.pcap", "plain.pcap"],
+        Outcome::Usage("macsecd: unexpected argument '-l' found\n"),
+    ),
+];
+
+#[test]
+fn refuses_a_file_that_begins_with_a_hyphen(rt: HostRuntime) {
+    for (words, outcome) in HYPHENS {
+        expect(&rt, rt.alloc(), words, "", *outcome);
+    }
+}
+
+/// An action in parts: its name, up to three texts and up to two numbers.
+type Parts<'a> = (&'a str, [&'a str; 3], [u32; 2]);
+
+/// Words that are taken, and the action that they name.
+const TAKEN: &[(&[&str], Parts<'static>)] = &[
+    (&[], ("open", ["", "", ""], [0, 0])),
+    (&["open"], ("open", ["", "", ""], [0, 0])),
+    (
+        &["format", "left.disk", "0200000000010001", "1024", "16"],
+        ("format", ["left.disk", "0200000000010001", ""], [1024, 16]),
+    ),
+    (
+        &["format", "d", "s", "4294967295", "0"],
+        ("format", ["d", "s", ""], [4_294_967_295, 0]),
+    ),
+    (
+        &["format", "", "", "+7", "0016"],
+        ("format", ["", "", ""], [7, 16]),
+    ),
+    (
+        &["apply", "left.disk", "left.toml"],
+        ("apply", ["left.disk", "left.toml", ""], [0, 0]),
+    ),
+    (
+        &["show", "left.disk"],
+        ("show", ["left.disk", "", ""], [0, 0]),
+    ),
+    (&["show", "open"], ("show", ["open", "", ""], [0, 0])),
+    (&["show", "-"], ("show", ["-", "", ""], [0, 0])),
+    (
+        &["show", "--", "-left.disk"],
+        ("show", ["-left.disk", "", ""], [0, 0]),
+    ),
+    (
+        &["show", "--", "--help"],
+        ("show", ["--help", "", ""], [0, 0]),
+    ),
+    (
+        &["protect", "left.disk", "plain.pcap", "protected.pcap"],
+        (
+            "protect",
+            ["left.disk", "plain.pcap", "protected.pcap"],
+            [0, 0],
+        ),
+    ),
+    (
+        &["protect", "validate", "protect", "show"],
+        ("protect", ["validate", "protect", "show"], [0, 0]),
+    ),
+    (
+        &["validate", "right.disk", "protected.pcap", "plain.pcap"],
+        (
+            "validate",
+            ["right.disk", "protected.pcap", "plain.pcap"],
+            [0, 0],
+        ),
+    ),
+];
+
+/// An action in its parts.
+fn parts<'a>(action: Action<'a>) -> Parts<'a> {
+    match action {
+        Action::Open => ("open", ["", "", ""], [0, 0]),
+        Action::Format {
+            disk,
+            sci,
+            tx_block,
+            rx_block,
+        } => ("format", [disk, sci, ""], [tx_block, rx_block]),
+        Action::Apply { disk, file } => ("apply", [disk, file, ""], [0, 0]),
+        Action::Show { disk } => ("show", [disk, "", ""], [0, 0]),
+        Action::Protect {
+            disk,
+            input,
+            output,
+        } => ("protect", [disk, input, output], [0, 0]),
+        Action::Validate {
+            disk,
+            input,
+            output,
+        } => ("validate", [disk, input, output], [0, 0]),
+    }
+}
+
+/// The action that the words name. What is proved of it stays behind.
+fn named<'a>(alloc: Global, words: &'a [&'a str]) -> Option<Action<'a>> {
+    action_of(alloc, words).ok()
+}
+
+/// Each word goes to its own place.
+#[test]
+fn takes_each_subcommand(rt: HostRuntime) {
+    for (words, (name, texts, numbers)) in TAKEN {
+        let Some(action) = named(rt.alloc(), words) else {
+            panic!(rt; "{name}");
+        };
+        let (found, found_texts, found_numbers) = parts(action);
+        assert_eq!(rt; found, *name);
+        assert_eq!(rt; found_texts, *texts);
+        assert_eq!(rt; found_numbers, *numbers);
     }
 }
 

@@ -1,8 +1,10 @@
-use Rattle.std.proofs.Common.{inl, inr, refl}
-use Rattle.std.proofs.lemmas.Result.{IfOk-weaker}
+use Rattle.std.proofs.Common.{◌≡◌, inl, inr, refl, subst}
+use Rattle.std.proofs.lemmas.Result.{IfErr-weaker, IfOk-weaker}
+use Rattle.clap.specs.Words.{subcommand_of}
 use Rattle.macsecd.proofs.Printing.{prints-text}
-use Rattle.macsecd.proofs.Subcommands.{names-open}
-use Rattle.macsecd.proofs.Taken.{taken}
+use Rattle.macsecd.proofs.Subcommands.{taken_without_fault}
+use Rattle.macsecd.specs.Words.{Names, macsecd, texts}
+use Rattle.macsecd.specs.declared.action.Action.{Action}
 use Rattle.macsecd.proofs.run.act.Goals as goal
 
 pub returns-in-Some-clause-replied : goal.returns-in-Some-clause-replied
@@ -12,9 +14,19 @@ returns-in-Some-clause-replied g c =
 
 pub returns-clause-replied : goal.returns-clause-replied
 returns-clause-replied g c =
-    let known = taken _ c.in_ok-action_of.ensures.refused in
-    let named = names-open _ c.in_ok-action_of.field-0 c.in_ok-action_of.ensures.read in
-    IfOk-weaker c.open_input.result _ _ (λ status printed. inr (known, named, printed)) c.open_input.ensures.printed
+    let known = taken_without_fault (texts c.args.words.now) c.in_ok-action.ensures.refused in
+    IfOk-weaker c.perform.result _ _ (λ status done. inr (known, c.in_ok-action.action, c.in_ok-action.ensures.read, done)) c.perform.ensures.does
+
+pub returns-clause-disk : goal.returns-clause-disk
+returns-clause-disk g c =
+    let known = taken_without_fault (texts c.args.words.now) c.in_ok-action.ensures.refused in
+    IfErr-weaker c.perform.result _ _ (λ failure other disk. (known, c.in_ok-action.action, c.in_ok-action.ensures.read, other disk)) c.perform.ensures.disk
+
+pub returns-clause-usage : goal.returns-clause-usage
+returns-clause-usage g c =
+    IfErr-weaker c.perform.result _ _ (λ failure wrong usage. (inr (c.in_ok-action.action, c.in_ok-action.ensures.read, (wrong usage).0), (wrong usage).1)) c.perform.ensures.usage
 
 pub returns-clause-unread : goal.returns-clause-unread
-returns-clause-unread g c = λ refused. absurd (refused (taken _ c.in_ok-action_of.ensures.refused))
+returns-clause-unread g c = λ refused.
+    let known = taken_without_fault (texts c.args.words.now) c.in_ok-action.ensures.refused in
+    c.perform.ensures.unread (λ is. refused (known, subst (λ (a : Action). Names (subcommand_of macsecd (texts c.args.words.now)) a) is c.in_ok-action.ensures.read))

@@ -1,0 +1,25 @@
+-- A wire in memory.
+use Rattle.std.specs.Prelude.{ℕ, List, Some, Vec, map}
+use Rattle.macs_edge.specs.Wires.{WireState}
+use Rattle.macs_edge.specs.declared.mem_wire.MemWire.{MemWire}
+
+-- the octets of each frame
+abbrev pub frames_of : {A : Type 0} → List (Vec ℕ A) → List (List ℕ)
+frames_of frames = map (λ frame. frame.items) frames
+
+-- the frames that its receives will give, the next one first
+abbrev pub waiting_in : {A : Type 0} → MemWire A → List (List ℕ)
+waiting_in wire = frames_of wire.waiting.items
+
+-- the frames that were sent, the first one first
+abbrev pub sent_in : {A : Type 0} → MemWire A → List (List ℕ)
+sent_in wire = frames_of wire.sent.items
+
+-- what it tells: no receive of it fails
+abbrev pub mem_wire_state : {A : Type 0} → MemWire A → WireState
+mem_wire_state wire = record {
+  waiting = Some (waiting_in wire);
+  sent = Some (sent_in wire);
+  failed_receives = 0;
+  failed_sends = wire.failed_sends;
+}

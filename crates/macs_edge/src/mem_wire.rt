@@ -1,0 +1,102 @@
+//! A wire in memory, for tests and for what is made of wires.
+
+ghost use Rattle.std.specs.Prelude.{◌≡◌, ◌++◌, [], ◌∷◌, IfErr, IsOk, OnErr, OnOk};
+ghost use Rattle.macs_edge.specs.MemWires.{frames_of, mem_wire_state, sent_in, waiting_in};
+ghost use Rattle.macs_edge.specs.Wires.{Receives, Sends};
+
+use crate::wire::{Got, Wire, WireFault};
+use macs_frame::{FrameBuf, MAX_FRAME};
+use std::alloc::Allocator;
+use std::collections::VecDeque;
+
+/// A wire in memory: it gives the frames that were pushed, in their order, and keeps those that are sent. It
+/// fails only where memory is refused, and no receive of it fails.
+#[derive(Drop)]
+pub struct MemWire<A: Allocator + Copy> {
+    alloc: A,
+    waiting: VecDeque<Vec<u8, A>, A>,
+    sent: Vec<Vec<u8, A>, A>,
+    failed_sends: u64,
+}
+
+impl<A: Allocator + Copy> Wire for MemWire<A> {
+    ghost state = { λ wire. mem_wire_state wire };
+
+    fn receive(&mut self, into: &mut FrameBuf) -> Result<Got, WireFault>
+        ensures receives { Receives (mem_wire_state self.old) result into.new.items (mem_wire_state self.new) }
+        ensures never { IsOk result }
+    {
+        into.clear();
+        let Some(frame) = self.waiting.pop_front() else {
+            return Ok(Got::Nothing);
+        };
+        if frame.len() > MAX_FRAME || into.try_extend_from_slice(&frame).is_err() {
+            return Ok(Got::TooLong);
+        }
+        Ok(Got::Frame)
+    }
+
+    fn send(&mut self, frame: &[u8]) -> Result<(), WireFault>
+        ensures sends { Sends (mem_wire_state self.old) frame.now result (mem_wire_state self.new) }
+        ensures memory { IfErr result (λ fault. fault ≡ WireFault.Memory) }
+    {
+        if self.keep(frame) {
+            return Ok(());
+        }
+        self.failed_sends = self.failed_sends.saturating_add(1);
+        Err(WireFault::Memory)
+    }
+}
+
+impl<A: Allocator + Copy> MemWire<A> {
+    ghost use Rattle.std.specs.Prelude.{◌≡◌, ◌++◌, [], ◌∷◌, if◌then◌else◌, Some, IfErr, OnErr, OnOk};
+    ghost use Rattle.macs_edge.specs.MemWires.{frames_of, mem_wire_state, sent_in, waiting_in};
+
+    /// A wire on which no frame waits, and on which none was sent.
+    pub fn new(alloc: A) -> MemWire<A>
+        ensures { mem_wire_state result
+            ≡ record { waiting = Some []; sent = Some []; failed_receives = 0; failed_sends = 0 } }
+    {
+        MemWire {
+            alloc,
+            waiting: VecDeque::new(alloc),
+            sent: Vec::new(alloc),
+            failed_sends: 0,
+        }
+    }
+
+    /// A frame that the next receives give, behind those that wait. It fails as `Memory` alone, and changes
+    /// nothing then.
+    pub fn push(&mut self, frame: &[u8]) -> Result<(), WireFault>
+        ensures pushed { OnOk result (mem_wire_state self.new
+            ≡ record (mem_wire_state self.old) { waiting = Some (waiting_in self.old ++ frame.now ∷ []) }) }
+        ensures same { OnErr result (mem_wire_state self.new ≡ mem_wire_state self.old) }
+        ensures memory { IfErr result (λ fault. fault ≡ WireFault.Memory) }
+    {
+        let Ok(copy) = Vec::from_slice(self.alloc, frame) else {
+            return Err(WireFault::Memory);
+        };
+        if self.waiting.push_back(copy).is_err() {
+            return Err(WireFault::Memory);
+        }
+        Ok(())
+    }
+
+    /// The frames that were sent, the first one first.
+    pub fn sent(&self) -> &[Vec<u8, A>]
+        ensures { frames_of result.now ≡ sent_in self.now }
+    {
+        &self.sent
+    }
+
+    /// Keeps a copy of a frame behind those that were sent, where there is memory for it.
+    fn keep(&mut self, frame: &[u8]) -> bool
+        ensures kept { mem_wire_state self.new ≡ record (mem_wire_state self.old)
+            { sent = Some (if result then sent_in self.old ++ frame.now ∷ [] else sent_in self.old) } }
+    {
+        let Ok(copy) = Vec::from_slice(self.alloc, frame) else {
+            return false;
+        };
+        self.sent.push(copy).is_ok()
+    }
+}

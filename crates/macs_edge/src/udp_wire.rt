@@ -1,0 +1,121 @@
+//! A wire over datagrams of UDP.
+
+ghost use Rattle.std.specs.Prelude.{None};
+
+use crate::wire::{Got, Wire, WireFault};
+use macs_frame::{FrameBuf, MAX_FRAME};
+use std::alloc::{AllocError, Global};
+use std::io::ErrorKind;
+use std::net::{Net, SocketAddr, UdpSocket};
+
+/// The longest frame, in octets, and one more: so a longer datagram is seen, however long it is.
+const ROOM: usize = MAX_FRAME + 1;
+
+/// Why there is no wire.
+#[derive(Clone, Copy, Debug, PartialEq, Eq)]
+pub enum BindFault {
+    /// There is no memory for a frame.
+    Memory,
+    /// The own address cannot be bound.
+    Bind,
+}
+
+/// A wire over UDP (RFC 768), on IPv4 or IPv6: one datagram is one Ethernet frame without FCS. The socket
+/// does not wait and is bound to the own address alone: a datagram from another address than the peer's
+/// is dropped and answered as `Nothing`. What a network delivers, and when, is not known: it tells its
+/// failures and no frames.
+#[derive(Drop)]
+pub struct UdpWire {
+    socket: UdpSocket,
+    peer: SocketAddr,
+    room: Vec<u8>,
+    failed_receives: u64,
+    failed_sends: u64,
+}
+
+/// Room for the next datagram.
+fn room(alloc: Global) -> Result<Vec<u8>, AllocError> {
+    vec![in alloc; 0; ROOM]
+}
+
+impl UdpWire {
+    ghost use Rattle.std.specs.Prelude.{◌≡◌, None, IfErr, IfOk};
+    ghost use Rattle.macs_edge.specs.Wires.{FillsBuffer};
+
+    /// A wire from the own address to the peer's. Memory is taken here and at no other call.
+    pub fn bind<R: Net>(
+        net: &R,
+        alloc: Global,
+        own: SocketAddr,
+        peer: SocketAddr,
+    ) -> Result<UdpWire, BindFault>
+        ensures { IfOk result (λ wire. ⟦<UdpWire as Wire>⟧.state wire
+            ≡ record { waiting = None; sent = None; failed_receives = 0; failed_sends = 0 }) }
+    {
+        let Ok(room) = room(alloc) else {
+            return Err(BindFault::Memory);
+        };
+        let Ok(socket) = UdpSocket::bind(net, own) else {
+            return Err(BindFault::Bind);
+        };
+        if socket.set_nonblocking(true).is_err() {
+            return Err(BindFault::Bind);
+        }
+        Ok(UdpWire {
+            socket,
+            peer,
+            room,
+            failed_receives: 0,
+            failed_sends: 0,
+        })
+    }
+
+    /// The next datagram of the peer, where there is one.
+    fn take(&mut self, into: &mut FrameBuf) -> Result<Got, WireFault>
+        ensures same { ⟦<UdpWire as Wire>⟧.state self.new ≡ ⟦<UdpWire as Wire>⟧.state self.old }
+        ensures fills { FillsBuffer result into.new.items }
+        ensures fault { IfErr result (λ fault. fault ≡ WireFault.Receive) }
+    {
+        into.clear();
+        match self.socket.recv_from(&mut self.room) {
+            Ok((count, from)) => {
+                if from != self.peer {
+                    return Ok(Got::Nothing);
+                }
+                if into.try_extend_from_slice(&self.room[..count]).is_err() {
+                    return Ok(Got::TooLong);
+                }
+                Ok(Got::Frame)
+            }
+            Err(e) if e.kind() == ErrorKind::WouldBlock => Ok(Got::Nothing),
+            Err(_) => Err(WireFault::Receive),
+        }
+    }
+}
+
+impl Wire for UdpWire {
+    ghost state = { λ wire. record {
+      waiting = None;
+      sent = None;
+      failed_receives = wire.failed_receives;
+      failed_sends = wire.failed_sends;
+    } };
+
+    fn receive(&mut self, into: &mut FrameBuf) -> Result<Got, WireFault> {
+        let answer = self.take(into);
+        if answer.is_err() {
+            self.failed_receives = self.failed_receives.saturating_add(1);
+        }
+        answer
+    }
+
+    fn send(&mut self, frame: &[u8]) -> Result<(), WireFault> {
+        match self.socket.send_to(frame, self.peer) {
+            Ok(count) if count == frame.len() => Ok(()),
+            _ => {
+                self.failed_sends = self.failed_sends.saturating_add(1);
+                Err(WireFault::Send)
+            }
+        }
+    }
+}

@@ -1,0 +1,275 @@
+//! Captures that run through an endpoint, whose disk stands in memory and whose blocks are 4 packet
+//! numbers on either side. Readers and writers move one octet a call, and fail where they are told to.
+
+mod faults;
+mod frames;
+mod memory;
+mod stops;
+
+use macs_config::{Command, Identity};
+use macs_disk::{MemDisk, SectorDisk};
+use macs_edge::{RunFault, Summary, run_protect, run_validate};
+use macs_endpoint::{Endpoint, format};
+use macs_frame::{An, FrameBuf, Sci};
+use macs_pcap::{ReaderSource, Sink, Source, WriterSink};
+use std::alloc::{Allocator, Global};
+use std::io::{self, ErrorKind, Read, Write};
+use std::process::Abort;
+use std::test::Fail;
+
+/// A header of stamps in nanoseconds, as it is read.
+const HEADER: [u8; 24] = [
+    0xa1, 0xb2, 0x3c, 0x4d, 0, 2, 0, 4, 0, 0, 0, 0, 0, 0, 0, 0, 0, 0, 0xff, 0xff, 0, 0, 0, 1,
+];
+
+/// The same as it is written.
+const WRITTEN: [u8; 24] = [
+    0xa1, 0xb2, 0x3c, 0x4d, 0, 2, 0, 4, 0, 0, 0, 0, 0, 0, 0, 0, 0, 4, 0, 0, 0, 0, 0, 1,
+];
+
+/// The SCI of most endpoints here.
+const OWN: Sci = Sci([2, 0, 0, 0, 0, 1, 0, 1]);
+
+/// The SCI of the sender of the published frame, and the key of its association 2.
+const PEER: Sci = Sci([0x12, 0x15, 0x35, 0x24, 0xc0, 0x89, 0x5e, 0x81]);
+
+const PEER_KEY: u128 = 0xad7a_2bd0_3eac_835a_6f62_0fdc_b506_b345;
+
+/// The published frame (IEEE Std 802.1AE-2018, Annex C) with integrity protection, number b2c28465.
+const SEALED: [u8; 86] = *b"\xd6\x09\xb1\xf0\x56\x63\x7a\x0d\x46\xdf\x99\x8d\
+\x88\xe5\x22\x2a\xb2\xc2\x84\x65\x12\x15\x35\x24\xc0\x89\x5e\x81\
+\x08\x00\x0f\x10\x11\x12\x13\x14\x15\x16\x17\x18\x19\x1a\x1b\x1c\x1d\x1e\x1f\x20\x21\x22\x23\x24\x25\x26\x27\x28\x29\x2a\x2b\x2c\x2d\x2e\x2f\x30\x31\x32\x33\x34\x00\x01\
+\xf0\x94\x78\xa9\xb0\x90\x07\xd0\x6f\x46\xe9\xb6\xa1\xda\x25\xdd";
+
+/// A reader that gives one octet a call. One of its calls fails; at 0 none does.
+#[derive(Drop)]
+struct NarrowReader<'a> {
+    octets: &'a [u8],
+    calls: u64,
+    fails_at: u64,
+}
+
+impl Read for NarrowReader<'_> {
+    fn read(&mut self, into: &mut [u8]) -> io::Result<usize> {
+        self.calls = self.calls.wrapping_add(1);
+        if self.calls == self.fails_at {
+            return Err(io::Error::from(ErrorKind::Interrupted));
+        }
+        let (Some((first, rest)), [place, ..]) = (self.octets.split_first(), into) else {
+            return Ok(0);
+        };
+        *place = *first;
+        self.octets = rest;
+        Ok(1)
+    }
+}
+
+/// A writer that takes one octet a call. One of its calls fails; at 0 none does.
+#[derive(Drop)]
+struct NarrowWriter {
+    octets: Vec<u8>,
+    calls: u64,
+    fails_at: u64,
+}
+
+impl Write for NarrowWriter {
+    fn write(&mut self, from: &[u8]) -> io::Result<usize> {
+        self.calls = self.calls.wrapping_add(1);
+        if self.calls == self.fails_at {
+            return Err(io::Error::from(ErrorKind::BrokenPipe));
+        }
+        let Some(first) = from.first() else {
+            return Ok(0);
+        };
+        self.octets.push(*first)?;
+        Ok(1)
+    }
+
+    fn flush(&mut self) -> io::Result<()> {
+        Err(io::Error::from(ErrorKind::BrokenPipe))
+    }
+}
+
+/// Which way a capture runs.
+#[derive(Clone, Copy)]
+enum Way {
+    Protect,
+    Validate,
+}
+
+fn run<D: SectorDisk, R: Source, W: Sink, A: Allocator>(
+    alloc: A,
+    endpoint: &mut Endpoint<D>,
+    way: Way,
+    source: &mut R,
+    sink: &mut W,
+) -> Result<Summary, RunFault> {
+    match way {
+        Way::Protect => run_protect(alloc, endpoint, source, sink),
+        Way::Validate => run_validate(alloc, endpoint, source, sink),
+    }
+}
+
+/// Runs these octets with memory for frames from an allocator, and answers what was written, too. The call
+/// of the reader with this number fails, and that of the writer with the other.
+fn run_in<D: SectorDisk, A: Allocator>(
+    memory: A,
+    alloc: Global,
+    endpoint: &mut Endpoint<D>,
+    way: Way,
+    octets: &[u8],
+    read_fails_at: u64,
+    write_fails_at: u64,
+) -> (Result<Summary, RunFault>, Vec<u8>) {
+    let mut source = ReaderSource::new(NarrowReader {
+        octets,
+        calls: 0,
+        fails_at: read_fails_at,
+    });
+    let mut writer = NarrowWriter {
+        octets: Vec::new(alloc),
+        calls: 0,
+        fails_at: write_fails_at,
+    };
+    let mut sink = WriterSink::new(&mut writer);
+    let answer = run(memory, endpoint, way, &mut source, &mut sink);
+    drop(sink);
+    let NarrowWriter { octets, .. } = writer;
+    (answer, octets)
+}
+
+/// Runs these octets where no call fails.
+fn run_whole<D: SectorDisk>(
+    alloc: Global,
+    endpoint: &mut Endpoint<D>,
+    way: Way,
+    octets: &[u8],
+) -> (Result<Summary, RunFault>, Vec<u8>) {
+    run_in(alloc, alloc, endpoint, way, octets, 0, 0)
+}
+
+/// Appends a record header with the stamp of the record at this place.
+fn push_record(octets: &mut Vec<u8>, place: u32, kept: u32, original: u32) -> Result<(), Fail> {
+    octets.extend_from_slice(&place.to_be_bytes())?;
+    octets.extend_from_slice(&(!place).to_be_bytes())?;
+    octets.extend_from_slice(&kept.to_be_bytes())?;
+    octets.extend_from_slice(&original.to_be_bytes())?;
+    Ok(())
+}
+
+/// Appends the record at this place, with its frame.
+fn push_frame(octets: &mut Vec<u8>, place: u32, frame: &[u8]) -> Result<(), Fail> {
+    let size = u32::try_from(frame.len()).unwrap_or(u32::MAX);
+    push_record(octets, place, size, size)?;
+    octets.extend_from_slice(frame)?;
+    Ok(())
+}
+
+/// A plain frame of so many octets, each of them the number of its place.
+fn plain(alloc: Global, place: u32, size: usize) -> Result<Vec<u8>, Fail> {
+    let mut frame = Vec::new(alloc);
+    frame.resize(size, (place % 256) as u8)?;
+    Ok(frame)
+}
+
+/// A capture of plain frames of these sizes, up to the first that is 0.
+fn plain_capture(alloc: Global, sizes: [usize; 10]) -> Result<Vec<u8>, Fail> {
+    let mut octets = Vec::from_slice(alloc, &HEADER)?;
+    let mut place = 0_u32;
+    for size in sizes {
+        if size == 0 {
+            break;
+        }
+        push_frame(&mut octets, place, plain(alloc, place, size)?.as_slice())?;
+        place = place.wrapping_add(1);
+    }
+    Ok(octets)
+}
+
+/// A capture of the published frame so many times.
+fn published_capture(alloc: Global, times: u32) -> Result<Vec<u8>, Fail> {
+    let mut octets = Vec::from_slice(alloc, &HEADER)?;
+    for place in 0..times {
+        push_frame(&mut octets, place, &SEALED)?;
+    }
+    Ok(octets)
+}
+
+fn number_of(rt: &impl Abort, association: u8) -> An {
+    An::new(association).expect(rt, "association number")
+}
+
+/// A disk in memory with the journal of a new endpoint, whose blocks have so many packet numbers.
+fn formatted(rt: &impl Abort, alloc: Global, sci: Sci, block: u32) -> MemDisk {
+    let identity = Identity::new(sci, block, block).expect(rt, "identity");
+    let mut disk = match MemDisk::new(alloc, 1_028) {
+        Ok(disk) => disk,
+        Err(_) => panic!(rt; "no disk"),
+    };
+    assert!(rt; format(&mut disk, &identity).is_ok());
+    disk
+}
+
+fn opened<D: SectorDisk + Drop>(rt: &impl Abort, disk: D) -> Endpoint<D> {
+    match Endpoint::open(disk) {
+        Ok(endpoint) => endpoint,
+        Err(_) => panic!(rt; "not opened"),
+    }
+}
+
+fn command<D: SectorDisk>(rt: &impl Abort, endpoint: &mut Endpoint<D>, command: Command) {
+    assert!(rt; endpoint.command(command).is_ok());
+}
+
+fn protect<D: SectorDisk>(endpoint: &mut Endpoint<D>, plain: &[u8], out: &mut FrameBuf) -> bool {
+    endpoint.protect(plain, out).is_ok()
+}
+
+fn next_number<D: SectorDisk>(rt: &impl Abort, endpoint: &Endpoint<D>) -> Option<u64> {
+    endpoint.next_number(number_of(rt, 0))
+}
+
+/// The endpoint of a disk, sending under association 0 from packet number 1 on.
+fn sending<D: SectorDisk + Drop>(rt: &impl Abort, disk: D) -> Endpoint<D> {
+    let an = number_of(rt, 0);
+    let mut endpoint = opened(rt, disk);
+    let install = Command::TxInstall {
+        an,
+        key: [7; 16],
+        start: 1,
+        confidential: true,
+        offset: 0,
+    };
+    command(rt, &mut endpoint, install);
+    command(rt, &mut endpoint, Command::TxUse { an });
+    endpoint
+}
+
+/// A new endpoint that sends so.
+fn sender(rt: &impl Abort, alloc: Global) -> Endpoint<MemDisk> {
+    sending(rt, formatted(rt, alloc, OWN, 4))
+}
+
+/// The endpoint of a disk, receiving under the peer's association 2 from packet number 1 on.
+fn receiving<D: SectorDisk + Drop>(rt: &impl Abort, disk: D) -> Endpoint<D> {
+    let mut endpoint = opened(rt, disk);
+    let install = Command::RxInstall {
+        sci: PEER,
+        an: number_of(rt, 2),
+        key: PEER_KEY.to_be_bytes(),
+        start: 1,
+        offset: 0,
+    };
+    command(rt, &mut endpoint, Command::RxAdd { sci: PEER });
+    command(rt, &mut endpoint, install);
+    endpoint
+}
+
+/// A new endpoint that receives so.
+fn receiver(rt: &impl Abort, alloc: Global) -> Endpoint<MemDisk> {
+    receiving(rt, formatted(rt, alloc, OWN, 4))
+}
+
+fn summary(passed: u64, dropped: u64) -> Result<Summary, RunFault> {
+    Ok(Summary { passed, dropped })
+}

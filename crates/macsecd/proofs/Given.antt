@@ -1,0 +1,303 @@
+-- Where clap takes words for values that have to be given, each of them is there and passes its parser.
+use Rattle.std.proofs.Common.{◌≡◌, ◌∙◌, ◌++◌, ℕ, zero, suc, Bool, true, false, not, ◌&&◌, ◌||◌, List, [], ◌∷◌, length, Option, Some, None, is_some, if◌then◌else◌, refl, ap, sym, subst}
+use Rattle.std.specs.Prelude.{find, fold, nat_le, slice_get, unwrap_or}
+use Rattle.std.specs.List.{AllByRecursion, list_all, list_any}
+use Rattle.std.specs.Option.{option_map_or}
+use Rattle.std.specs.Str.{bytes_eq, chars}
+use Rattle.std.proofs.lemmas.List.Folds.{list_all-append}
+use Rattle.std.proofs.lemmas.Slice.Eq.{bytes_eq-Decides}
+use Rattle.clap.specs.Facts.{explicit_source, unwrap_or_range}
+use Rattle.clap.specs.Lexer.{long_of, short_of}
+use Rattle.clap.specs.Takes.{action_passes, is_given, is_valid, level_passes, positional_passes, settle_passes, step_passes, turn_passes, use_passes, value_passes, walk_passes}
+use Rattle.clap.specs.Simple.{Shape}
+use Rattle.clap.specs.Walk.{Held, Names, Outcome, Row, Rule, Step, Text, Waiting, Walk, action_of, after_flag, after_step, arg_by_id, arg_by_index, at_row, bundle, bundle_met, bundle_step, default_rows, done, finished, first_of, has_long, has_row, has_short, idle, is_pending, long_or_other, more_values, next, nothing_held, option, option_word, plain, plain_word, positional, reading_by, refused, rows_after, settled, settled_rows, short_or_plain, subcommand, subcommand_met, subcommand_or_other, takes_several, to_positional, trailing, used, used_by_id, value, waits, walk, walk_from, walked, with_default, with_values, without, word_met}
+use Rattle.clap.specs.declared.builder.action.ArgAction.TheVariants.{Set}
+use Rattle.clap.specs.declared.parser.matches.ValueSource.TheVariants.{CommandLine}
+use Rattle.clap.specs.declared.builder.value_parser.Reading.{Reading}
+use Rattle.clap.proofs.WalkLemmas.{both}
+
+-- ---- arguments of one value, each with a place of its own
+
+pub record IsValueRule (a : Rule) : Type 0 where
+  pub action : a.action ≡ Some Set
+  pub least : (unwrap_or_range a.range).start_inclusive ≡ 1
+  pub defaults : a.defaults ≡ []
+  pub placed : is_some a.index ≡ true
+
+abbrev pub AreValueRules : List Rule → Type 0
+AreValueRules rules = AllByRecursion IsValueRule rules
+
+first-of : {X : Type 0} (y x : X) → Some y ≡ Some x → y ≡ x
+first-of y x same = ap (λ (o : Option _). unwrap_or o y) same
+
+found-is : {X : Type 0} (p : X → Bool) (xs : List X) (x : X) → find p xs ≡ Some x → p x ≡ true
+found-is p [] x found = cc
+found-is p (y ∷ rest) x found = go (p y) refl found (λ later. found-is p rest x later)
+  where
+    go : (is : Bool) → p y ≡ is → (if is then Some y else find p rest) ≡ Some x → (find p rest ≡ Some x → p x ≡ true) → p x ≡ true
+    go true is here below = rw (← first-of y x here) is
+    go false is later below = below later
+
+found-passes : {X : Type 0} (p q : X → Bool) (xs : List X) (x : X) → list_all q xs ≡ true → find p xs ≡ Some x → q x ≡ true
+found-passes p q [] x all found = cc
+found-passes p q (y ∷ rest) x all found = go (p y) found (λ later. found-passes p q rest x (both _ _ all).1 later)
+  where
+    go : (is : Bool) → (if is then Some y else find p rest) ≡ Some x → (find p rest ≡ Some x → q x ≡ true) → q x ≡ true
+    go true here below = rw (← first-of y x here) (both _ _ all).0
+    go false later below = below later
+
+value-rule : (p : Rule → Bool) (c : List Rule) (a : Rule) → AreValueRules c → find p c ≡ Some a → IsValueRule a
+value-rule p [] a all found = cc
+value-rule p (b ∷ rest) a all found = go (p b) found (λ later. value-rule p rest a all.1 later)
+  where
+    go : (is : Bool) → (if is then Some b else find p rest) ≡ Some a → (find p rest ≡ Some a → IsValueRule a) → IsValueRule a
+    go true here below = subst IsValueRule (first-of b a here) all.0
+    go false later below = below later
+
+-- no flag is known
+no-flag : (p : Rule → Bool) (c : List Rule) → AreValueRules c → find (λ a. not (is_some a.index) && p a) c ≡ None
+no-flag p [] all = refl
+no-flag p (a ∷ rest) all = rw all.0.placed (no-flag p rest all.1)
+
+-- the argument that has an id is found by its own
+own-id : (c : List Rule) (id : Text) (a : Rule) → arg_by_id c id ≡ Some a → arg_by_id c a.id ≡ Some a
+own-id c id a found =
+    let same : a.id ≡ id = (bytes_eq-Decides a.id id).0 (found-is (λ b. bytes_eq b.id id) c a found) in
+    subst (λ (t : Text). arg_by_id c t ≡ Some a) (sym same) found
+
+-- ---- rows
+
+-- the first value passes
+abbrev first_passes : Rule → List Text → Bool
+first_passes a values = option_map_or (value_passes a) (slice_get values 0) false
+
+-- the first value of the row passes the parser of its argument
+abbrev is_good : List Rule → Row → Bool
+is_good c row = option_map_or (λ a. first_passes a row.values) (arg_by_id c row.id) true
+
+abbrev are_good : List Rule → List Row → Bool
+are_good c rows = list_all (is_good c) rows
+
+-- rows with one changed or added
+good-at_row : (c : List Rule) (id : Text) (change : Row → List Row) (missing rows : List Row)
+    → ((r : Row) → is_good c r ≡ true → are_good c (change r) ≡ true) → are_good c missing ≡ true → are_good c rows ≡ true
+    → are_good c (at_row id change missing rows) ≡ true
+good-at_row c id change missing [] changed added good = added
+good-at_row c id change missing (r ∷ rest) changed added good =
+    go (bytes_eq r.id id) (both _ _ good).0 (both _ _ good).1 (good-at_row c id change missing rest changed added (both _ _ good).1)
+  where
+    go : (is : Bool) → is_good c r ≡ true → are_good c rest ≡ true → are_good c (at_row id change missing rest) ≡ true
+        → are_good c (if is then change r ++ rest else r ∷ at_row id change missing rest) ≡ true
+    go true first others below =
+        let made : are_good c (change r) ≡ true = changed r first in
+        list_all-append (is_good c) (change r) rest ∙ rw (made, others) refl
+    go false first others below = rw (first, below) refl
+
+good-without : (c : List Rule) (id : Text) (rows : List Row) → are_good c rows ≡ true → are_good c (without id rows) ≡ true
+good-without c id rows good = good-at_row c id (λ r. []) [] rows (λ r is. refl) refl good
+
+-- more values behind the first
+first-stays : (found : Option Rule) (values more : List Text) → option_map_or (λ a. first_passes a values) found true ≡ true
+    → option_map_or (λ a. first_passes a (values ++ more)) found true ≡ true
+first-stays None values more is = refl
+first-stays (Some a) [] more is = cc
+first-stays (Some a) (v ∷ vs) more is = is
+
+good-with_values : (c : List Rule) (a : Rule) (how : Reading) (values : List Text) (rows : List Row) → arg_by_id c a.id ≡ Some a
+    → first_passes a values ≡ true → are_good c rows ≡ true → are_good c (with_values a.id how CommandLine values rows) ≡ true
+good-with_values c a how values rows own passes good =
+    good-at_row c a.id (more_values CommandLine values) _ rows
+    (λ r is. rw (first-stays (arg_by_id c r.id) r.values values is) refl)
+    (rw (own, passes) refl) good
+
+-- a use of an argument, with a value that passes
+good-used : (c : List Rule) (again : Bool) (a : Rule) (values : List Text) (rows : List Row) → IsValueRule a → arg_by_id c a.id ≡ Some a
+    → use_passes again a values rows ≡ true → are_good c rows ≡ true → are_good c (used a values rows) ≡ true
+good-used c again a [] rows rule own passes good =
+    let wanted : nat_le (unwrap_or_range a.range).start_inclusive 0 ≡ true = (both _ _ passes).0 in
+    let none : nat_le 1 0 ≡ true = rw rule.least at wanted in
+    cc
+good-used c again a (v ∷ vs) rows rule own passes good =
+    let rest : action_passes (action_of a) again a (v ∷ vs) rows ≡ true = (both _ _ (both _ _ passes).1).1 in
+    let is_set : action_of a ≡ Set = rw rule.action refl in
+    let set : action_passes Set again a (v ∷ vs) rows ≡ true = rw is_set at rest in
+    let first : value_passes a v ≡ true = (both _ _ (both _ _ set).1).0 in
+    rw is_set (good-with_values c a (reading_by a) (v ∷ vs) (without a.id rows) own first (good-without c a.id rows good))
+
+-- ---- the walk
+
+good-settled : (c : List Rule) (again : Bool) (h : Held) → AreValueRules c → settle_passes c again h ≡ true → are_good c h.rows ≡ true
+    → are_good c (settled c h).rows ≡ true
+good-settled c again h rules passes good = go h.pending passes
+  where
+    at : (p : Text × List Text) (found : Option Rule) → arg_by_id c p.0 ≡ found
+        → option_map_or (λ a. use_passes again a p.1 h.rows) found true ≡ true → are_good c (used_by_id found p.1 h.rows) ≡ true
+    at p None is passes = good
+    at p (Some a) is passes =
+        good-used c again a p.1 h.rows (value-rule (λ b. bytes_eq b.id p.0) c a rules is) (own-id c p.0 a is) passes good
+
+    go : (pending : Option (Text × List Text))
+        → option_map_or (λ p. option_map_or (λ a. use_passes again a p.1 h.rows) (arg_by_id c p.0) true) pending true ≡ true
+        → are_good c (settled_rows c pending h.rows) ≡ true
+    go None passes = good
+    go (Some p) passes = at p (arg_by_id c p.0) refl passes
+
+-- no word changes rows before it goes to a positional
+rows-plain : (c : List Rule) (waiting : Waiting) (word : Text) (h : Held) → (plain_word c waiting word h).0.rows ≡ h.rows
+rows-plain c idle word h = refl
+rows-plain c positional word h = refl
+rows-plain c (option id) word h = go (arg_by_id c id)
+  where
+    go : (found : Option Rule) → (option_word found id word h).0.rows ≡ h.rows
+    go None = refl
+    go (Some a) = refl
+
+rows-after : (c : List Rule) (waiting : Waiting) (word : Text) (h : Held) (outcome : Outcome) → (after_flag c waiting word h outcome).0.rows ≡ h.rows
+rows-after c waiting word h done = refl
+rows-after c waiting word h (waits id) = refl
+rows-after c waiting word h plain = rows-plain c waiting word h
+rows-after c waiting word h refused = rows-plain c waiting word h
+
+rows-flag : (c : List Rule) (k : ℕ) (first : Option ℕ) (flags : Text) (skip : ℕ) (so_far : Outcome) (h : Held) → AreValueRules c
+    → ((rest : Text) (less : ℕ) (outcome : Outcome) (held : Held) → (bundle_met c k rest less outcome held).0.rows ≡ held.rows)
+    → (bundle_step c first flags skip so_far h (bundle_met c k)).0.rows ≡ h.rows
+rows-flag c k None flags skip so_far h rules below = refl
+rows-flag c k (Some x) flags zero so_far h rules below = rw (no-flag (λ a. has_short a x) c rules) refl
+rows-flag c k (Some x) flags (suc less) so_far h rules below = below _ less so_far h
+
+rows-flags : (c : List Rule) (k : ℕ) (flags : Text) (skip : ℕ) (so_far : Outcome) (h : Held) → AreValueRules c
+    → (bundle_met c k flags skip so_far h).0.rows ≡ h.rows
+unfolding bundle_met
+rows-flags c zero flags skip so_far h rules = refl
+rows-flags c (suc k) flags skip so_far h rules =
+    rows-flag c k (slice_get (chars flags) 0) flags skip so_far h rules (λ rest less outcome held. rows-flags c k rest less outcome held rules)
+
+rows-short : (c : List Rule) (waiting : Waiting) (word : Text) (flags : Option Text) (h : Held) → AreValueRules c
+    → (short_or_plain c waiting word flags h).0.rows ≡ h.rows
+rows-short c waiting word None h rules = rows-plain c waiting word h
+rows-short c waiting word (Some flags) h rules =
+    rows-after c waiting word (bundle c flags h).0 (bundle c flags h).1 ∙ rows-flags c (length flags) flags h.skip plain (record h { skip = 0 }) rules
+
+rows-long : (c : List Rule) (waiting : Waiting) (word : Text) (long : Option (Text × Option Text)) (h : Held) → AreValueRules c
+    → (long_or_other c waiting word long h).0.rows ≡ h.rows
+rows-long c waiting word None h rules = rows-short c waiting word (short_of word) h rules
+rows-long c waiting word (Some p) h rules = rw (no-flag (λ a. has_long a p.0) c rules) (rows-plain c waiting word h)
+
+rows-met : (c : List Rule) (names : Names) (is_trailing : Bool) (waiting : Waiting) (position : ℕ) (word : Text) (h : Held) → AreValueRules c
+    → (word_met c names is_trailing waiting position word h).0.rows ≡ h.rows
+rows-met c names true waiting position word h rules = refl
+rows-met c names false waiting position word h rules = go (subcommand_met names waiting word)
+  where
+    dashes : (is : Bool) → (if is then (h, trailing position) else long_or_other c waiting word (long_of word) h).0.rows ≡ h.rows
+    dashes true = refl
+    dashes false = rows-long c waiting word (long_of word) h rules
+
+    go : (met : Option Text) → (subcommand_or_other c met waiting position word h).0.rows ≡ h.rows
+    go (Some name) = refl
+    go None = dashes (bytes_eq word (45 ∷ 45 ∷ []))
+
+good-positional : (s : Shape) (found : Option Rule) (word : Text) (w : Walk) (h : Held) → AreValueRules s.rules
+    → option_map_or (λ a. positional_passes s.rules s.args_override_self a h) found false ≡ true → are_good s.rules h.rows ≡ true
+    → are_good s.rules (to_positional s.rules found word w h).held.rows ≡ true
+good-positional s None word w h rules passes good = good
+good-positional s (Some a) word w h rules passes good = go (is_pending a h.pending && takes_several a) passes
+  where
+    go : (goes_on : Bool) → (goes_on || settle_passes s.rules s.args_override_self h) ≡ true
+        → are_good s.rules (if goes_on then h else settled s.rules h).rows ≡ true
+    go true passes = good
+    go false passes = good-settled s.rules s.args_override_self h rules passes good
+
+good-step : (s : Shape) (word : Text) (w : Walk) (h : Held) (step : Step) → AreValueRules s.rules → step_passes s w.position h step ≡ true
+    → are_good s.rules h.rows ≡ true → are_good s.rules (after_step s.rules word w h step).held.rows ≡ true
+good-step s word w h (next waiting) rules passes good = good
+good-step s word w h (trailing position) rules passes good = good
+good-step s word w h (subcommand name) rules passes good = good
+good-step s word w h value rules passes good = good-positional s (arg_by_index s.rules w.position) word w h rules passes good
+
+good-turn : (s : Shape) (names : Names) (w : Walk) (word : Text) → AreValueRules s.rules → turn_passes s names w word ≡ true
+    → are_good s.rules w.held.rows ≡ true → are_good s.rules (walked s.rules names w word).held.rows ≡ true
+unfolding walked
+good-turn s names w word rules passes good = go w.stopped passes
+  where
+    met : Held × Step
+    met = word_met s.rules names w.is_trailing w.waiting w.position word w.held
+
+    go : (stopped : Option (Text × List Text)) → turn_passes s names (record w { stopped = stopped }) word ≡ true
+        → are_good s.rules (walked s.rules names (record w { stopped = stopped }) word).held.rows ≡ true
+    go (Some p) passes = good
+    go None passes =
+        good-step s word (record w { stopped = None }) met.0 met.1 rules (both _ _ passes).1
+        (rw (rows-met s.rules names w.is_trailing w.waiting w.position word w.held rules) good)
+
+good-walk : (s : Shape) (names : Names) (w : Walk) (words : List Text) → AreValueRules s.rules → walk_passes s names w words ≡ true
+    → are_good s.rules w.held.rows ≡ true → are_good s.rules (fold (walked s.rules names) w words).held.rows ≡ true
+unfolding walk_passes
+good-walk s names w [] rules passes good = good
+good-walk s names w (word ∷ rest) rules passes good =
+    let parts = both _ _ passes in
+    good-walk s names (walked s.rules names w word) rest rules parts.1 (good-turn s names w word rules parts.0 good)
+
+-- ---- a level
+
+-- where nothing has a default, none is added
+no-default : (c : List Rule) (rows : List Row) → AreValueRules c → fold with_default rows c ≡ rows
+no-default [] rows rules = refl
+no-default (a ∷ rest) rows rules = ap (λ (before : List Row). fold with_default before rest) one ∙ no-default rest rows rules.1
+  where
+    go : (has : Bool) → (if has then rows else default_rows a.id (reading_by a) [] rows) ≡ rows
+    go true = refl
+    go false = refl
+
+    one : with_default rows a ≡ rows
+    one = rw rules.0.defaults (go (has_row a.id rows))
+
+-- a row that is given has a first value that passes
+given-first : (c : List Rule) (a : Rule) (rows : List Row) → arg_by_id c a.id ≡ Some a → is_given a.id rows ≡ true → are_good c rows ≡ true
+    → (text : Text) × (first_of a.id rows ≡ Some text) × (value_passes a text ≡ true)
+given-first c a rows own given good = go (find (λ r. bytes_eq r.id a.id) rows) refl given
+  where
+    text : (row : Row) (values : List Text) → row.values ≡ values → find (λ r. bytes_eq r.id a.id) rows ≡ Some row → first_passes a values ≡ true
+        → (text : Text) × (first_of a.id rows ≡ Some text) × (value_passes a text ≡ true)
+    text row [] are found passes = cc
+    text row (v ∷ vs) are found passes = (v, rw (found, are) refl, passes)
+
+    go : (found : Option Row) → find (λ r. bytes_eq r.id a.id) rows ≡ found → option_map_or (λ r. explicit_source r.source) found false ≡ true
+        → (text : Text) × (first_of a.id rows ≡ Some text) × (value_passes a text ≡ true)
+    go None is given = cc
+    go (Some row) is given =
+        let same : row.id ≡ a.id = (bytes_eq-Decides row.id a.id).0 (found-is (λ r. bytes_eq r.id a.id) rows row is) in
+        let good_row : is_good c row ≡ true = found-passes (λ r. bytes_eq r.id a.id) (is_good c) rows row good is in
+        let passes : first_passes a row.values ≡ true = rw (same, own) at good_row in
+        text row row.values refl is passes
+
+last-of-four : (a b d negates all : Bool) → negates ≡ false → (a && (b && (d && ((negates && false) || all)))) ≡ true → all ≡ true
+last-of-four true true true false all is valid = valid
+last-of-four true true true true all is valid = cc
+last-of-four true true false negates all is valid = cc
+last-of-four true false d negates all is valid = cc
+last-of-four false b d negates all is valid = cc
+
+-- what is required is given
+all-given : (s : Shape) (rows : List Row) → s.subcommand_negates_reqs ≡ false → is_valid s rows false ≡ true
+    → list_all (λ b. not b.required || is_given b.id rows) s.rules ≡ true
+all-given s rows negates valid =
+    last-of-four (not s.arg_required_else_help || (false || list_any (λ r. explicit_source r.source) rows)) (not s.subcommand_required || false)
+    (list_all (λ a. a.is_free) s.rules) s.subcommand_negates_reqs (list_all (λ b. not b.required || is_given b.id rows) s.rules) negates valid
+
+-- an argument that a level of a parse requires has a value, which passes
+pub given : (s : Shape) (words : List Text) (a : Rule) → AreValueRules s.rules → s.subcommand_negates_reqs ≡ false
+    → level_passes s [] nothing_held words false ≡ true → arg_by_id s.rules a.id ≡ Some a → a.required ≡ true
+    → (text : Text) × (first_of a.id (rows_after s.rules [] words) ≡ Some text) × (value_passes a text ≡ true)
+given s words a rules negates passes own required =
+    let end = (walk s.rules [] nothing_held words).held in
+    let parts = both _ _ passes in
+    let ending = both _ _ parts.1 in
+    let rows_are : finished s.rules end ≡ (settled s.rules end).rows = no-default s.rules (settled s.rules end).rows rules in
+    let good : are_good s.rules (finished s.rules end) ≡ true =
+    rw rows_are (good-settled s.rules s.args_override_self end rules ending.0 (good-walk s [] (walk_from nothing_held) words rules parts.0 refl)) in
+    let valid : is_valid s (finished s.rules end) false ≡ true = (both _ _ ending.1).1 in
+    let all = all-given s (finished s.rules end) negates valid in
+    let one : (not a.required || is_given a.id (finished s.rules end)) ≡ true =
+    found-passes (λ b. bytes_eq b.id a.id) (λ b. not b.required || is_given b.id (finished s.rules end)) s.rules a all own in
+    let here : is_given a.id (finished s.rules end) ≡ true = rw required at one in
+    given-first s.rules a (finished s.rules end) own here good

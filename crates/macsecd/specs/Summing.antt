@@ -1,0 +1,12 @@
+-- The line that a run over a capture ends with.
+use Rattle.std.specs.Prelude.{◌++◌, ℕ, List, codes}
+use Rattle.std.specs.Fmt.{decimal}
+use Rattle.macs_edge.specs.declared.passing.Summary.{Summary}
+use Rattle.macsecd.specs.Showing.{line}
+use Rattle.macsecd.specs.declared.capturing.Direction.{Direction}
+use Rattle.macsecd.specs.declared.capturing.Direction.TheVariants as direction
+
+-- how many frames passed, and how many were left out
+abbrev pub summary_line : Direction → Summary → List ℕ
+summary_line direction.Protect s = line (codes "protected " ++ (decimal s.passed ++ (codes " dropped " ++ decimal s.dropped)))
+summary_line direction.Validate s = line (codes "delivered " ++ (decimal s.passed ++ (codes " discarded " ++ decimal s.dropped)))

@@ -1,0 +1,107 @@
+//! The texts that are printed where help is asked for.
+
+pub const HELP: &str = "usage: macsecd [SUBCOMMAND VALUES..]
+
+  open                         opens one protected frame; also without a word
+  format DISK SCI TX RX        makes a disk file for an endpoint
+  apply DISK FILE              applies the commands of a TOML file
+  show DISK                    prints the configuration and the packet numbers
+  protect DISK INPUT OUTPUT    protects the frames of a capture
+  validate DISK INPUT OUTPUT   validates the frames of a capture
+
+macsecd SUBCOMMAND --help says more of each; --version prints the version.
+A fault is one line on standard error.
+status: 0 done, 2 usage, 3 refused, 4 disk, 5 input, output or memory
+";
+
+pub const OPEN: &str = "usage: macsecd [open]
+
+Opens one protected frame. Standard input has four lines:
+  the key                       32 hex digits
+  the SCI                       16 hex digits
+  the confidentiality offset    0, 30 or 50
+  the protected frame           hex, from the destination address to the ICV
+It prints one line:
+  valid an=AN pn=PN plain=HEX   the frame is genuine, HEX is its plain frame
+  runt, oversize, no tag, bad tag, for kay, other sci or not valid
+                                the frame is refused
+
+example: macsecd open < examples/annex-c.txt
+status: 0 valid, 2 usage, 3 frame refused, 5 input, output or memory
+";
+
+pub const FORMAT: &str = "usage: macsecd format DISK SCI TX RX
+
+Makes a disk file for an endpoint, with the default configuration, and prints
+'formatted'.
+  DISK   the file: it is made, or lengthened with zeros to 526,336 octets, a
+         multiple of 512; a longer one keeps its length
+  SCI    the endpoint's own SCI: 16 hex digits, MAC address and port number
+  TX     packet numbers that are reserved at a time to transmit: 1 to 65536
+  RX     and to receive: 1 to 65536
+A file that has an endpoint is refused: 'already formatted'.
+
+example: macsecd format left.disk 0200000000010001 1024 16
+status: 0 done, 2 usage, 4 disk, 5 output or memory
+";
+
+pub const APPLY: &str = "usage: macsecd apply DISK FILE
+
+Applies the commands of a TOML file, one after another, and prints a line for
+each once it is kept: '1 ok', '2 refused KeySpent' and so on.
+  DISK   a disk file that was formatted
+  FILE   at most 1,048,576 octets: tables [[command]], each with 'do' and
+           set-validate   mode = \"strict\" or \"check\"
+           set-replay     on = true or false, window = 0 to 4294967295
+           set-sci-mode   mode = \"explicit\", \"end-station\" or \"implicit\"
+           tx-install     an, key, start, confidential = true or false, offset
+           tx-use         an
+           tx-remove      an
+           rx-add         sci
+           rx-drop        sci
+           rx-install     sci, an, key, start, offset
+           rx-remove      sci, an
+         an = 0 to 3, key = \"32 hex digits\", sci = \"16 hex digits\",
+         start = 1 to 4294967295, offset = 0, 30 or 50
+A refused command changes nothing, and the next one is applied.
+
+example: macsecd apply left.disk examples/left.toml
+status: 0 done, 2 usage, 3 a command refused, 4 disk, 5 input, output or memory
+";
+
+pub const SHOW: &str = "usage: macsecd show DISK
+
+Prints the configuration, and the next packet number of each association.
+  DISK   a disk file that was formatted
+
+example: macsecd show left.disk
+status: 0 done, 2 usage, 4 disk, 5 output or memory
+";
+
+pub const PROTECT: &str = "usage: macsecd protect DISK INPUT OUTPUT
+
+Protects the frames of a capture under the association in use, writes the
+capture of the frames that go out, and prints 'protected 3 dropped 0'.
+  DISK     a disk file that was formatted
+  INPUT    a classic capture (pcap) of Ethernet frames, whole and without FCS
+  OUTPUT   the capture that is made; a file of that name is written over
+DISK, INPUT and OUTPUT are three files.
+
+example: macsecd protect left.disk examples/plain.pcap protected.pcap
+status: 0 done, 2 usage, 4 disk, 5 capture, output or memory
+";
+
+pub const VALIDATE: &str = "usage: macsecd validate DISK INPUT OUTPUT
+
+Validates the frames of a capture, writes the capture of the frames that are
+delivered, and prints 'delivered 3 discarded 1'.
+  DISK     a disk file that was formatted
+  INPUT    a classic capture (pcap) of Ethernet frames, whole and without FCS
+  OUTPUT   the capture that is made; a file of that name is written over
+DISK, INPUT and OUTPUT are three files.
+
+example: macsecd validate right.disk protected.pcap plain.pcap
+status: 0 done, 2 usage, 4 disk, 5 capture, output or memory
+";
+
+pub const VERSION: &str = "macsecd 0.1.0\n";

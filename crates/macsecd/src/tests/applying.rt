@@ -1,0 +1,221 @@
+//! A disk that is formatted, commands, and what is shown then.
+
+use super::Outcome;
+use super::stories::Step::{Filled, Folder, Run, Text};
+use super::stories::{Step, play};
+use std::test::Fail;
+
+const FORMATTED: Outcome = Outcome::Done("formatted\n");
+
+/// Six commands, of which three are refused.
+const SIX_COMMANDS: &str = "[[command]]
+do = 'tx-install'
+an = 0
+key = 'ad7a2bd03eac835a6f620fdcb506b345'
+start = 1
+confidential = true
+offset = 0
+
+[[command]]
+do = 'tx-install'
+an = 1
+key = 'ad7a2bd03eac835a6f620fdcb506b345'
+start = 1
+confidential = true
+offset = 0
+
+[[command]]
+do = 'tx-install'
+an = 1
+key = '000102030405060708090a0b0c0d0e0f'
+start = 1
+confidential = true
+offset = 20
+
+[[command]]
+do = 'tx-remove'
+an = 3
+
+[[command]]
+do = 'tx-use'
+an = 0
+
+[[command]]
+do = 'tx-remove'
+an = 0
+";
+
+const SIX_LINES: &str =
+    "1 ok\n2 refused KeySpent\n3 refused OffsetChoice\n4 refused SlotEmpty\n5 ok\n6 refused InUse\n";
+
+/// Numbers 1 to 4 were reserved, so a later run begins at 5.
+const SHOWN: &str = "sci 12153524c0895e81
+blocks tx 4 rx 4
+validate strict
+replay on window 0
+sci-mode explicit
+encoding 0
+tx 0 confidential offset 0 next 5
+spent tx 1 rx 0
+";
+
+const FORMAT: &[&str] = &["format", "story-apply/disk", "12153524C0895E81", "4", "4"];
+
+const APPLIED: &[Step] = &[
+    Run(FORMAT, FORMATTED),
+    Run(FORMAT, Outcome::Disk("macsecd: already formatted\n")),
+    Text("story-apply/six.toml", SIX_COMMANDS),
+    Run(
+        &["apply", "story-apply/disk", "story-apply/six.toml"],
+        Outcome::Refused(SIX_LINES),
+    ),
+    Run(&["show", "story-apply/disk"], Outcome::Done(SHOWN)),
+];
+
+#[test]
+fn commands_are_kept_or_refused(rt: HostRuntime) -> Result<(), Fail> {
+    play(&rt, rt.alloc(), "story-apply", APPLIED)
+}
+
+/// Both sides, with each setting changed.
+const BOTH_SIDES: &str = "[[command]]
+do = 'set-validate'
+mode = 'check'
+
+[[command]]
+do = 'set-replay'
+on = false
+window = 7
+
+[[command]]
+do = 'set-sci-mode'
+mode = 'implicit'
+
+[[command]]
+do = 'tx-install'
+an = 2
+key = 'ad7a2bd03eac835a6f620fdcb506b345'
+start = 9
+confidential = false
+offset = 0
+
+[[command]]
+do = 'tx-install'
+an = 1
+key = '000102030405060708090a0b0c0d0e0f'
+start = 1
+confidential = true
+offset = 50
+
+[[command]]
+do = 'rx-add'
+sci = 'ffffffffffff0001'
+
+[[command]]
+do = 'rx-add'
+sci = '0000000000000001'
+
+[[command]]
+do = 'rx-install'
+sci = 'ffffffffffff0001'
+an = 3
+key = '101112131415161718191a1b1c1d1e1f'
+start = 5
+offset = 30
+
+[[command]]
+do = 'rx-install'
+sci = 'ffffffffffff0001'
+an = 0
+key = '202122232425262728292a2b2c2d2e2f'
+start = 1
+offset = 0
+";
+
+const BOTH_LINES: &str = "1 ok\n2 ok\n3 ok\n4 ok\n5 ok\n6 ok\n7 ok\n8 ok\n9 ok\n";
+
+/// 16 transmit numbers were reserved with each association, and none yet for reception.
+const BOTH_SHOWN: &str = "sci 12153524c0895e81
+blocks tx 16 rx 8
+validate check
+replay off window 7
+sci-mode implicit
+encoding none
+tx 1 confidential offset 50 next 17
+tx 2 integrity next 25
+channel 0000000000000001
+channel ffffffffffff0001
+rx ffffffffffff0001 0 offset 0 next 1 lowest 1
+rx ffffffffffff0001 3 offset 30 next 5 lowest 5
+spent tx 2 rx 2
+";
+
+const BOTH: &[Step] = &[
+    Run(
+        &["format", "story-both/disk", "12153524c0895e81", "16", "8"],
+        FORMATTED,
+    ),
+    Text("story-both/both.toml", BOTH_SIDES),
+    Run(
+        &["apply", "story-both/disk", "story-both/both.toml"],
+        Outcome::Done(BOTH_LINES),
+    ),
+    Run(&["show", "story-both/disk"], Outcome::Done(BOTH_SHOWN)),
+];
+
+#[test]
+fn both_sides_are_shown(rt: HostRuntime) -> Result<(), Fail> {
+    play(&rt, rt.alloc(), "story-both", BOTH)
+}
+
+const COMMANDS_FAULT: Outcome = Outcome::Fault("macsecd: commands\n");
+
+/// Applies the file that was made last.
+const APPLY: &[&str] = &["apply", "story-files/disk", "story-files/file"];
+
+/// Command files with a fault, and two that say no command: one is empty, one is a comment of the greatest
+/// length.
+const FILES: &[Step] = &[
+    Run(
+        &[
+            "format",
+            "story-files/disk",
+            "12153524c0895e81",
+            "1",
+            "65536",
+        ],
+        FORMATTED,
+    ),
+    Run(APPLY, COMMANDS_FAULT),
+    Folder("story-files/folder"),
+    Run(
+        &["apply", "story-files/disk", "story-files/folder"],
+        COMMANDS_FAULT,
+    ),
+    Text("story-files/file", ""),
+    Run(APPLY, Outcome::Done("")),
+    Filled("story-files/file", b'#', 1_048_576),
+    Run(APPLY, Outcome::Done("")),
+    Filled("story-files/file", b'#', 1_048_577),
+    Run(APPLY, COMMANDS_FAULT),
+    Filled("story-files/file", 0xff, 3),
+    Run(APPLY, COMMANDS_FAULT),
+    Text("story-files/file", "command"),
+    Run(APPLY, COMMANDS_FAULT),
+    Text("story-files/file", "other = 1\n"),
+    Run(APPLY, COMMANDS_FAULT),
+    Text("story-files/file", "[[command]]\ndo = 'tx-send'\n"),
+    Run(APPLY, COMMANDS_FAULT),
+    Text("story-files/file", "[[command]]\ndo = 'tx-use'\n"),
+    Run(APPLY, COMMANDS_FAULT),
+    Text(
+        "story-files/file",
+        "[[command]]\ndo = 'tx-use'\nan = 0\nkey = 'x'\n",
+    ),
+    Run(APPLY, COMMANDS_FAULT),
+];
+
+#[test]
+fn a_wrong_command_file_is_commands(rt: HostRuntime) -> Result<(), Fail> {
+    play(&rt, rt.alloc(), "story-files", FILES)
+}
