@@ -23,8 +23,9 @@ const SECTORS: u64 = 1_028;
 /// One octet more than the longest command file.
 const MAX_READ: usize = MAX_FILE + 1;
 
-/// How many octets of a capture are read or written at once.
-const CAPTURE_ROOM: usize = 65_536;
+/// How many octets of a capture are kept back: so each read and write of the system but the last is one of
+/// 65,536 octets at least, whatever frames there are.
+const CAPTURE_ROOM: usize = 131_072;
 
 /// A capture that is read.
 pub type CaptureSource<F> = ReaderSource<BufReader<F>>;

@@ -25,8 +25,30 @@ mod values;
 use crate::failure::Failure;
 use crate::run::{report, run};
 use std::env;
+use std::fs::File;
 use std::io::ErrorKind;
+use std::os::fd::AsRawFd;
 use std::process::ExitCode;
+
+/// The greatest descriptor of standard input, output and error.
+const LAST_STANDARD: i32 = 2;
+
+/// Takes those descriptors of standard input, output and error that are closed, by a folder that can be
+/// neither read nor written. Else the disk file would get one of them, and what is printed would
+/// be written over its sectors.
+fn take_closed_descriptors(rt: &HostRuntime) -> Result<[Option<File>; 3], Failure> {
+    let mut taken = [None, None, None];
+    for i in 0..taken.len() {
+        let Ok(folder) = File::open(rt, "/") else {
+            return Err(Failure::Output);
+        };
+        if folder.as_raw_fd() > LAST_STANDARD {
+            break;
+        }
+        taken[i] = Some(folder);
+    }
+    Ok(taken)
+}
 
 /// The words after the program's name.
 fn words_of(rt: &HostRuntime) -> Result<Vec<String>, Failure> {
@@ -42,6 +64,7 @@ fn words_of(rt: &HostRuntime) -> Result<Vec<String>, Failure> {
 
 /// Runs the program on the words of the process, and answers its status.
 fn run_process(rt: &HostRuntime) -> Result<u8, Failure> {
+    let _taken = take_closed_descriptors(rt)?;
     let words = words_of(rt)?;
     let words: Vec<&str> = words.iter().map(|word| word.as_str()).collect(rt.alloc())?;
     let status = run(
