@@ -51,7 +51,7 @@ impl From<RefillFault> for RunFault {
 }
 
 /// Takes the next record, behind so many others, and says whether a frame passed; at the end there is
-/// none. The frame of the record stands in `frame` then.
+/// none. The frame of the record stands in `frame` then, and the one that passes in `out`.
 fn take_next<D: SectorDisk, R: Source, W: Sink, A: Allocator>(
     endpoint: &mut Endpoint<D>,
     side: Side,
@@ -60,6 +60,7 @@ fn take_next<D: SectorDisk, R: Source, W: Sink, A: Allocator>(
     big: bool,
     count: u32,
     frame: &mut Vec<u8, A>,
+    out: &mut FrameBuf,
 ) -> Result<Option<bool>, RunFault>
     ensures { TakesNext D.disk side big count
         (run_of endpoint.old (R.state source.old) (W.state sink.old)) result
@@ -68,8 +69,7 @@ fn take_next<D: SectorDisk, R: Source, W: Sink, A: Allocator>(
     let Some(stamp) = read_record(source, big, count, frame)? else {
         return Ok(None);
     };
-    let mut out = FrameBuf::new();
-    let passes = settle(endpoint, side, frame, &mut out)?;
+    let passes = settle(endpoint, side, frame, out)?;
     if passes {
         write_record(sink, big, stamp, out.as_slice())?;
     }
@@ -107,12 +107,13 @@ fn run_records<D: SectorDisk, R: Source, W: Sink, A: Allocator>(
         (run_of endpoint.old (R.state source.old) (W.state sink.old)) result
         (run_of endpoint.new (R.state source.new) (W.state sink.new)) }
 {
+    let mut out = FrameBuf::new();
     let mut count: u32 = 0;
     let mut summary = Summary {
         passed: 0,
         dropped: 0,
     };
-    while let Some(passes) = take_next(endpoint, side, source, sink, big, count, frame)? {
+    while let Some(passes) = take_next(endpoint, side, source, sink, big, count, frame, &mut out)? {
         summary = counted(summary, passes);
         count += 1;
     }
