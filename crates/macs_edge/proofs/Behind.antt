@@ -18,6 +18,7 @@ use Rattle.macs_edge.specs.Passing.{Counts, HandsAllIn, HasPassed, Passes, Run, 
 use Rattle.macs_edge.specs.declared.passing.RunFault.{RunFault}
 use Rattle.macs_edge.specs.declared.passing.Summary.{Summary}
 use Rattle.macs_edge.specs.declared.settling.Side.{Side}
+use Rattle.macs_edge.proofs.Living.{lives-append}
 
 -- ---- lists of records, one longer
 
@@ -45,12 +46,6 @@ passes-more side old between new (one ∷ more) taken passed reply frame passes 
       ap (λ (l : List CaptureRecord). l ++ passed_record taken.stamp frame) is ∙ append_assoc (passed_record one.stamp out) rest (passed_record taken.stamp frame),
       passes-more side next between new more taken rest reply frame later step settles,
     )
-
-lives-append : {D : Type 0} (disk_of : D → Disk) (old between new : EndpointValue D) (turns more : List (Turn D)) → Lives disk_of old turns between
-    → Lives disk_of between more new → Lives disk_of old (turns ++ more) new
-lives-append disk_of old between new [] more first second = subst (λ (e : _). Lives disk_of e more new) first second
-lives-append disk_of old between new (turn ∷ turns) more first second =
-    (first.0, first.1, lives-append disk_of turn.after between new turns more first.2 second)
 
 hands-more : {D : Type 0} (side : Side) (records : List CaptureRecord) (taken : CaptureRecord) (turns more : List (Turn D)) (reply : Reply)
     → HandsAllIn side records turns → HandsIn (call_on side taken.frame) more reply → HandsAllIn side (records ++ taken ∷ []) (turns ++ more)

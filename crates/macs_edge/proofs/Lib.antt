@@ -1,7 +1,10 @@
 pub mod Again
+pub mod Living
 pub mod Behind
 pub mod Once
 pub mod AllRecords
 pub mod Whole
 pub mod Counted
 pub mod Reading
+pub mod Flowing
+pub mod Relayed

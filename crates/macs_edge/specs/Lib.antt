@@ -5,3 +5,5 @@ pub mod Settling
 pub mod Passing
 pub mod Wires
 pub mod MemWires
+pub mod Relaying
+pub mod Flows

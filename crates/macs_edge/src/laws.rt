@@ -1,10 +1,16 @@
 //! Laws of the definitions, for the layers above.
 
-ghost use Rattle.std.specs.Prelude.{◌≡◌, ℕ, List};
+ghost use Rattle.std.specs.Prelude.{◌≡◌, ℕ, List, Result};
 ghost use Rattle.macs_pcap.specs.Records.{CaptureRecord};
 ghost use Rattle.macs_endpoint.specs.State.{State};
+ghost use Rattle.macs_endpoint.specs.declared.fault.RefillFault.{RefillFault};
+ghost use Rattle.macs_edge.specs.Flows.{IsFlow};
 ghost use Rattle.macs_edge.specs.Passing.{BecomesCapture, Passes};
+ghost use Rattle.macs_edge.specs.Relaying.{Relay, Relays, empty_lane, summary_of};
+ghost use Rattle.macs_edge.specs.declared.relaying.RelaySummary.{RelaySummary};
 ghost use Rattle.macs_edge.specs.declared.settling.Side.{Side};
+
+use macs_disk::SectorDisk;
 
 /// Records pass in one way only: what passes, and the state after, is settled by the records and the state
 /// before.
@@ -17,4 +23,13 @@ pub fn passes_once()
 pub fn becomes_once()
     ensures { (side : Side) (old : State) (input p q : List ℕ)
         → BecomesCapture side old input p → BecomesCapture side old input q → p ≡ q }
+{}
+
+/// What a relay sends on each wire is all that the endpoint gave for it, in order, but for as many frames as
+/// the wire's failed sends rose. Every frame that was taken was sent, lost with a failed send, or dropped; and
+/// the summary counts them so.
+pub fn relayed<D: SectorDisk>()
+    ensures { (turns : ℕ) (old new : Relay D) (result : Result RelaySummary RefillFault)
+        → old.to_common ≡ empty_lane → old.to_controlled ≡ empty_lane → Relays D.disk turns old result new
+        → IsFlow D.disk old new (summary_of new.to_common new.to_controlled) }
 {}

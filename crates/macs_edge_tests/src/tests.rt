@@ -1,10 +1,11 @@
-//! Command files, good and bad, as they are written by hand; captures that run through an endpoint; and wires.
+//! Command files, good and bad, as they are written by hand; captures that run through an endpoint; wires, and relays between them.
 
 mod captures;
 mod datagrams;
 mod faults;
 mod memory;
 mod reading;
+mod relaying;
 mod wires;
 
 /// A file with a command of each word, in the order of the table of words.

@@ -34,7 +34,10 @@ pub(super) fn send<W: Wire>(wire: &mut W, frame: &[u8]) -> Result<(), WireFault>
     wire.send(frame)
 }
 
-fn push<A: Allocator + Copy>(wire: &mut MemWire<A>, frame: &[u8]) -> Result<(), WireFault> {
+pub(super) fn push<A: Allocator + Copy>(
+    wire: &mut MemWire<A>,
+    frame: &[u8],
+) -> Result<(), WireFault> {
     wire.push(frame)
 }
 

@@ -1,0 +1,207 @@
+//! Frames between two wires through an endpoint, both ways.
+
+ghost use Rattle.std.specs.Prelude.{◌≡◌, Some, None};
+ghost use Rattle.macs_edge.specs.Relaying.{Carries, Fills, Forwards, HandsOver, IsRelayed, empty_lane, lane_value, one_left, relay_of, summary_of, way_of};
+
+use crate::settling::{Outcome, Side, hand_in};
+use crate::wire::{Got, Wire};
+use macs_disk::SectorDisk;
+use macs_endpoint::{Endpoint, RefillFault};
+use macs_frame::FrameBuf;
+
+/// What became of the frames that a relay took. Each number is at most 2^64 - 1.
+#[derive(Clone, Copy, Debug, PartialEq, Eq)]
+pub struct RelaySummary {
+    /// Frames that were protected and sent on the common wire.
+    pub sent: u64,
+    /// Frames that were delivered and sent on the controlled wire.
+    pub delivered: u64,
+    /// Frames that were taken and did not pass: those that the endpoint refused or discarded, those of more
+    /// than 9,216 octets, and those that still waited for packet numbers at the end.
+    pub dropped: u64,
+    /// Failed calls of the wires. A frame that is not sent is lost; its packet number stays used.
+    pub faults: u64,
+}
+
+/// What became of the frames of one way.
+#[derive(Clone, Copy)]
+pub(crate) struct Tally {
+    pub passed: u64,
+    pub dropped: u64,
+    pub faults: u64,
+}
+
+/// One way through an endpoint: the slot for the frame that is handed in next, and what became of those
+/// before it.
+#[derive(Drop)]
+pub(crate) struct Lane {
+    pub frame: FrameBuf,
+    /// Whether `frame` is to be handed in.
+    pub is_full: bool,
+    pub tally: Tally,
+}
+
+impl Lane {
+    ghost use Rattle.std.specs.Prelude.{◌≡◌};
+    ghost use Rattle.macs_edge.specs.Relaying.{empty_lane, lane_value};
+
+    /// A way on which no frame was taken.
+    fn new() -> Lane
+        ensures { lane_value result ≡ empty_lane }
+    {
+        Lane {
+            frame: FrameBuf::new(),
+            is_full: false,
+            tally: Tally {
+                passed: 0,
+                dropped: 0,
+                faults: 0,
+            },
+        }
+    }
+}
+
+/// Takes a frame from a wire into an empty slot.
+fn fill<F: Wire>(from: &mut F, lane: &mut Lane)
+    ensures { Fills (F.state from.old) (lane_value lane.old) (F.state from.new) (lane_value lane.new) }
+{
+    if lane.is_full {
+        return;
+    }
+    let tally = &mut lane.tally;
+    match from.receive(&mut lane.frame) {
+        Ok(Got::Frame) => lane.is_full = true,
+        Ok(Got::Nothing) => {}
+        Ok(Got::TooLong) => tally.dropped = tally.dropped.saturating_add(1),
+        Err(_) => tally.faults = tally.faults.saturating_add(1),
+    }
+}
+
+/// Sends a frame that passes, once.
+fn forward<T: Wire>(to: &mut T, frame: &[u8], tally: &mut Tally)
+    ensures { Forwards (T.state to.old) frame.now tally.old (T.state to.new) tally.new }
+{
+    match to.send(frame) {
+        Ok(()) => tally.passed = tally.passed.saturating_add(1),
+        Err(_) => tally.faults = tally.faults.saturating_add(1),
+    }
+}
+
+/// Hands in the frame of a full slot. It stays there where it waits for packet numbers, and where the
+/// endpoint is stopped.
+fn hand_over<D: SectorDisk, T: Wire>(
+    endpoint: &mut Endpoint<D>,
+    side: Side,
+    to: &mut T,
+    lane: &mut Lane,
+    out: &mut FrameBuf,
+)
+    ensures { (from : _) → HandsOver D.disk side
+        (way_of endpoint.old from (T.state to.old) (lane_value lane.old))
+        (way_of endpoint.new from (T.state to.new) (lane_value lane.new)) }
+{
+    if !lane.is_full {
+        return;
+    }
+    endpoint.facts();
+    match hand_in(endpoint, side, lane.frame.as_slice(), out) {
+        Outcome::Passed => {
+            lane.is_full = false;
+            forward(to, out.as_slice(), &mut lane.tally);
+        }
+        Outcome::Dropped => {
+            lane.is_full = false;
+            lane.tally.dropped = lane.tally.dropped.saturating_add(1);
+        }
+        Outcome::Waiting | Outcome::Stopped => {}
+    }
+}
+
+/// One way in one turn.
+fn carry<D: SectorDisk, F: Wire, T: Wire>(
+    endpoint: &mut Endpoint<D>,
+    side: Side,
+    from: &mut F,
+    to: &mut T,
+    lane: &mut Lane,
+    out: &mut FrameBuf,
+)
+    ensures { Carries D.disk side
+        (way_of endpoint.old (F.state from.old) (T.state to.old) (lane_value lane.old))
+        (way_of endpoint.new (F.state from.new) (T.state to.new) (lane_value lane.new)) }
+{
+    fill(from, lane);
+    hand_over(endpoint, side, to, lane, out);
+}
+
+/// How many frames are left in a slot.
+fn left(lane: &Lane) -> u64
+    ensures { result ≡ one_left (lane_value lane.now).slot }
+{
+    u64::from(lane.is_full)
+}
+
+/// What became of the frames of both ways. A frame that is left in a slot is dropped.
+fn summed(to_common: &Lane, to_controlled: &Lane) -> RelaySummary
+    ensures { result ≡ summary_of (lane_value to_common.now) (lane_value to_controlled.now) }
+{
+    RelaySummary {
+        sent: to_common.tally.passed,
+        delivered: to_controlled.tally.passed,
+        dropped: to_common
+            .tally
+            .dropped
+            .saturating_add(to_controlled.tally.dropped)
+            .saturating_add(left(to_common))
+            .saturating_add(left(to_controlled)),
+        faults: to_common
+            .tally
+            .faults
+            .saturating_add(to_controlled.tally.faults),
+    }
+}
+
+/// Relays frames between two wires, in so many turns. In each turn a plain frame is taken from the
+/// controlled wire, protected, and sent on the common wire; then a frame is taken from the common wire, and
+/// sent on the controlled wire if it is delivered; then packet numbers are reserved by `refill`, where
+/// they are needed. A frame that waits for packet numbers stays in its slot for the next turn, and no
+/// other is taken on its side. No frame is sent twice, not even after a failed send.
+///
+/// Ends before the last turn with the fault of a `refill`. The frames of that turn were handed in then,
+/// and those that passed were sent. No call waits: where no frame comes a turn is soon over. Memory is
+/// taken for three frames and for nothing else.
+pub fn relay<D: SectorDisk, P: Wire, C: Wire>(
+    endpoint: &mut Endpoint<D>,
+    controlled: &mut P,
+    common: &mut C,
+    turns: u64,
+) -> Result<RelaySummary, RefillFault>
+    ensures { IsRelayed D.disk turns
+        (relay_of endpoint.old (P.state controlled.old) (C.state common.old) empty_lane empty_lane) result
+        endpoint.new (P.state controlled.new) (C.state common.new) }
+{
+    let mut to_common = Lane::new();
+    let mut to_controlled = Lane::new();
+    let mut out = FrameBuf::new();
+    for _ in 0..turns {
+        carry(
+            endpoint,
+            Side::Controlled,
+            controlled,
+            common,
+            &mut to_common,
+            &mut out,
+        );
+        carry(
+            endpoint,
+            Side::Common,
+            common,
+            controlled,
+            &mut to_controlled,
+            &mut out,
+        );
+        endpoint.facts();
+        endpoint.refill()?;
+    }
+    Ok(summed(&to_common, &to_controlled))
+}
