@@ -28,8 +28,8 @@ use toml::{Table, Value};
 ///
 /// `an` is 0 to 3, `start` 0 to 2^32 - 1, `offset` 0 to 255 octets, `key` a text of 32 hex digits, `sci`
 /// one of 16, of either case. A start of 0 and an offset that is none are read here, and refused when the
-/// command is applied. Refused with the file's first fault, and as `Memory` where the list of commands
-/// cannot grow.
+/// command is applied. Refused with the file's first fault, or as `Memory`; that this comes only from a
+/// growth that was refused is tested.
 pub fn commands_of<A: Allocator>(alloc: A, file: &Table) -> Result<Vec<Command, A>, ConfigFault>
     ensures commands { IfOk result (λ commands. file_commands (table_view file.now) ≡ Ok commands.items) }
     ensures fault { IfErr result (λ fault. fault ≢ Memory → file_commands (table_view file.now) ≡ Err fault) }

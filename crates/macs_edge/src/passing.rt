@@ -146,8 +146,9 @@ fn run<D: SectorDisk, R: Source, W: Sink, A: Allocator>(
 ///
 /// Ends before the end of the input as `Pcap` with the first fault of the input or with `Write`, where a
 /// write failed; or as `Device` where a refill is answered so, with `Stopped` where the endpoint is. What
-/// was written is then a front of the capture that would have been. Nothing is flushed: a caller whose sink
-/// keeps octets back flushes it, after a fault too. Memory is taken for one frame, 262,144 octets at most.
+/// was written is then a front of the capture that would have been. Whether anything is flushed is not
+/// said: a caller whose sink keeps octets back flushes it, after a fault too. A buffer for one frame grows
+/// with the longest so far, 262,144 octets at most.
 pub fn run_protect<D: SectorDisk, R: Source, W: Sink, A: Allocator>(
     alloc: A,
     endpoint: &mut Endpoint<D>,

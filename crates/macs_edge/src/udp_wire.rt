@@ -1,6 +1,7 @@
 //! A wire over datagrams of UDP.
 
-ghost use Rattle.std.specs.Prelude.{None};
+ghost use Rattle.std.specs.Prelude.{◌≡◌, ◌≢◌, ◌<◌, ◌≤◌, [], length, None, Ok};
+ghost use Rattle.macs_edge.specs.Wires.{FillsBuffer, longest_frame};
 
 use crate::wire::{Got, Wire, WireFault};
 use macs_frame::{FrameBuf, MAX_FRAME};
@@ -16,7 +17,7 @@ const ROOM: usize = MAX_FRAME + 1;
 pub enum BindFault {
     /// There is no memory for a frame.
     Memory,
-    /// The own address cannot be bound.
+    /// The own address cannot be bound, or the socket cannot be kept from waiting.
     Bind,
 }
 
@@ -38,11 +39,31 @@ fn room(alloc: Global) -> Result<Vec<u8>, AllocError> {
     vec![in alloc; 0; ROOM]
 }
 
+/// What a datagram from an address is to a wire of this peer: a stranger's is nothing.
+fn given(datagram: &[u8], from: SocketAddr, peer: SocketAddr, into: &mut FrameBuf) -> Got
+    ensures stranger { from ≢ peer → (result ≡ Got.Nothing) × (into.new.items ≡ []) }
+    ensures frame { from ≡ peer → length datagram.now ≤ longest_frame
+        → (result ≡ Got.Frame) × (into.new.items ≡ datagram.now) }
+    ensures long { from ≡ peer → longest_frame < length datagram.now
+        → (result ≡ Got.TooLong) × (into.new.items ≡ []) }
+    ensures fills { FillsBuffer (Ok result) into.new.items }
+{
+    into.clear();
+    if from != peer {
+        return Got::Nothing;
+    }
+    match into.try_extend_from_slice(datagram) {
+        Ok(()) => Got::Frame,
+        Err(_) => Got::TooLong,
+    }
+}
+
 impl UdpWire {
     ghost use Rattle.std.specs.Prelude.{◌≡◌, None, IfErr, IfOk};
     ghost use Rattle.macs_edge.specs.Wires.{FillsBuffer};
 
-    /// A wire from the own address to the peer's. Memory is taken here and at no other call.
+    /// A wire from the own address to the peer's. Refused first as `Memory`, where 9,217 octets are; then as
+    /// `Bind`. Memory is taken here and at no other call.
     pub fn bind<R: Net>(
         net: &R,
         alloc: Global,
@@ -78,15 +99,7 @@ impl UdpWire {
     {
         into.clear();
         match self.socket.recv_from(&mut self.room) {
-            Ok((count, from)) => {
-                if from != self.peer {
-                    return Ok(Got::Nothing);
-                }
-                if into.try_extend_from_slice(&self.room[..count]).is_err() {
-                    return Ok(Got::TooLong);
-                }
-                Ok(Got::Frame)
-            }
+            Ok((count, from)) => Ok(given(&self.room[..count], from, self.peer, into)),
             Err(e) if e.kind() == ErrorKind::WouldBlock => Ok(Got::Nothing),
             Err(_) => Err(WireFault::Receive),
         }

@@ -15,8 +15,8 @@ pub enum Got {
     TooLong,
 }
 
-/// Why a wire does not give or take a frame. What it had to give it still has; the frame that it was given
-/// is not sent.
+/// Why a wire does not give or take a frame. Of a wire that tells its frames: what it had to give it still
+/// has, and the frame that it was given is not sent.
 #[derive(Clone, Copy, Debug, PartialEq, Eq)]
 pub enum WireFault {
     /// A receive failed.

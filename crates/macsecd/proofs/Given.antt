@@ -8,24 +8,30 @@ use Rattle.std.proofs.lemmas.List.Folds.{list_all-append}
 use Rattle.std.proofs.lemmas.Slice.Eq.{bytes_eq-Decides}
 use Rattle.clap.specs.Facts.{explicit_source, unwrap_or_range}
 use Rattle.clap.specs.Lexer.{long_of, short_of}
-use Rattle.clap.specs.Takes.{action_passes, is_given, is_valid, level_passes, positional_passes, settle_passes, step_passes, turn_passes, use_passes, value_passes, walk_passes}
+use Rattle.clap.specs.Takes.{action_passes, flag_word_passes, is_given, is_valid, level_passes, long_passes, option_passes, other_passes, positional_passes, react_passes, settle_passes, step_passes, turn_passes, use_passes, value_passes, walk_passes, word_passes}
 use Rattle.clap.specs.Simple.{Shape}
-use Rattle.clap.specs.Walk.{Held, Names, Outcome, Row, Rule, Step, Text, Waiting, Walk, action_of, after_flag, after_step, arg_by_id, arg_by_index, at_row, bundle, bundle_met, bundle_step, default_rows, done, finished, first_of, has_long, has_row, has_short, idle, is_pending, long_or_other, more_values, next, nothing_held, option, option_word, plain, plain_word, positional, reading_by, refused, rows_after, settled, settled_rows, short_or_plain, subcommand, subcommand_met, subcommand_or_other, takes_several, to_positional, trailing, used, used_by_id, value, waits, walk, walk_from, walked, with_default, with_values, without, word_met}
+use Rattle.clap.specs.Walk.{Held, Names, Outcome, Row, Rule, Step, Text, Waiting, Walk, action_of, after_flag, after_step, arg_by_id, arg_by_index, arg_by_long, arg_by_short, at_row, bundle, bundle_met, bundle_step, default_rows, done, finished, first_of, flag_met, has_long, has_row, has_short, idle, is_pending, long_met, long_or_other, more_values, next, nothing_held, option, option_met, option_word, plain, plain_word, positional, reacted, reading_by, refused, rows_after, settled, settled_rows, short_or_plain, subcommand, subcommand_met, subcommand_or_other, takes_several, takes_values, to_positional, trailing, used, used_by_id, value, waits, walk, walk_from, walked, with_default, with_values, without, word_met}
 use Rattle.clap.specs.declared.builder.action.ArgAction.TheVariants.{Set}
 use Rattle.clap.specs.declared.parser.matches.ValueSource.TheVariants.{CommandLine}
 use Rattle.clap.specs.declared.builder.value_parser.Reading.{Reading}
 use Rattle.clap.proofs.WalkLemmas.{both}
 
--- ---- arguments of one value, each with a place of its own
+-- ---- arguments of one value, each at a place or behind a long name
 
 pub record IsValueRule (a : Rule) : Type 0 where
   pub action : a.action ≡ Some Set
   pub least : (unwrap_or_range a.range).start_inclusive ≡ 1
   pub defaults : a.defaults ≡ []
-  pub placed : is_some a.index ≡ true
+  pub no_short : (x : ℕ) → has_short a x ≡ false
 
-abbrev pub AreValueRules : List Rule → Type 0
-AreValueRules rules = AllByRecursion IsValueRule rules
+-- the argument is the first of its id
+abbrev pub IsOwn : List Rule → Rule → Type 0
+IsOwn rules a = arg_by_id rules a.id ≡ Some a
+
+-- each is such an argument, and no two have the same id
+pub record AreValueRules (rules : List Rule) : Type 0 where
+  pub each : AllByRecursion IsValueRule rules
+  pub own : AllByRecursion (IsOwn rules) rules
 
 first-of : {X : Type 0} (y x : X) → Some y ≡ Some x → y ≡ x
 first-of y x same = ap (λ (o : Option _). unwrap_or o y) same
@@ -46,18 +52,22 @@ found-passes p q (y ∷ rest) x all found = go (p y) found (λ later. found-pass
     go true here below = rw (← first-of y x here) (both _ _ all).0
     go false later below = below later
 
-value-rule : (p : Rule → Bool) (c : List Rule) (a : Rule) → AreValueRules c → find p c ≡ Some a → IsValueRule a
-value-rule p [] a all found = cc
-value-rule p (b ∷ rest) a all found = go (p b) found (λ later. value-rule p rest a all.1 later)
+found-has : (P : Rule → Type 0) (p : Rule → Bool) (c : List Rule) (a : Rule) → AllByRecursion P c → find p c ≡ Some a → P a
+found-has P p [] a all found = cc
+found-has P p (b ∷ rest) a all found = go (p b) found (λ later. found-has P p rest a all.1 later)
   where
-    go : (is : Bool) → (if is then Some b else find p rest) ≡ Some a → (find p rest ≡ Some a → IsValueRule a) → IsValueRule a
-    go true here below = subst IsValueRule (first-of b a here) all.0
+    go : (is : Bool) → (if is then Some b else find p rest) ≡ Some a → (find p rest ≡ Some a → P a) → P a
+    go true here below = subst P (first-of b a here) all.0
     go false later below = below later
 
--- no flag is known
-no-flag : (p : Rule → Bool) (c : List Rule) → AreValueRules c → find (λ a. not (is_some a.index) && p a) c ≡ None
-no-flag p [] all = refl
-no-flag p (a ∷ rest) all = rw all.0.placed (no-flag p rest all.1)
+-- no short flag is known
+no-short : (c : List Rule) (x : ℕ) → AllByRecursion IsValueRule c → arg_by_short c x ≡ None
+no-short [] x all = refl
+no-short (a ∷ rest) x all = rw (all.0.no_short x) (go (is_some a.index) (no-short rest x all.1))
+  where
+    go : (placed : Bool) → arg_by_short rest x ≡ None → (if not placed && false then Some a else arg_by_short rest x) ≡ None
+    go true below = below
+    go false below = below
 
 -- the argument that has an id is found by its own
 own-id : (c : List Rule) (id : Text) (a : Rule) → arg_by_id c id ≡ Some a → arg_by_id c a.id ≡ Some a
@@ -134,7 +144,7 @@ good-settled c again h rules passes good = go h.pending passes
         → option_map_or (λ a. use_passes again a p.1 h.rows) found true ≡ true → are_good c (used_by_id found p.1 h.rows) ≡ true
     at p None is passes = good
     at p (Some a) is passes =
-        good-used c again a p.1 h.rows (value-rule (λ b. bytes_eq b.id p.0) c a rules is) (own-id c p.0 a is) passes good
+        good-used c again a p.1 h.rows (found-has IsValueRule (λ b. bytes_eq b.id p.0) c a rules.each is) (own-id c p.0 a is) passes good
 
     go : (pending : Option (Text × List Text))
         → option_map_or (λ p. option_map_or (λ a. use_passes again a p.1 h.rows) (arg_by_id c p.0) true) pending true ≡ true
@@ -142,7 +152,37 @@ good-settled c again h rules passes good = go h.pending passes
     go None passes = good
     go (Some p) passes = at p (arg_by_id c p.0) refl passes
 
--- no word changes rows before it goes to a positional
+good-reacted : (c : List Rule) (again : Bool) (a : Rule) (values : List Text) (h : Held) → AreValueRules c → IsValueRule a → IsOwn c a
+    → react_passes c again a values h ≡ true → are_good c h.rows ≡ true → are_good c (reacted c a values h).rows ≡ true
+good-reacted c again a values h rules rule own passes good =
+    good-used c again a values (settled c h).rows rule own (both _ _ passes).1 (good-settled c again h rules (both _ _ passes).0 good)
+
+-- a long name, with the value that is attached to it
+good-known : (c : List Rule) (again : Bool) (a : Rule) (attached : Option Text) (h : Held) → AreValueRules c → IsValueRule a → IsOwn c a
+    → long_passes c again (Some a) attached h ≡ true → are_good c h.rows ≡ true → are_good c (long_met c (Some a) attached h).0.rows ≡ true
+good-known c again a attached h rules rule own passes good = go (takes_values a) attached passes
+  where
+    go : (takes : Bool) (attached : Option Text)
+        → (if takes then option_passes c again a attached h else (not (is_some attached) && react_passes c again a [] h)) ≡ true
+        → are_good c (if takes then option_met c a attached h else flag_met c a attached h).0.rows ≡ true
+    go true (Some v) passes = good-reacted c again a (v ∷ []) h rules rule own passes good
+    go true None passes = good-settled c again h rules passes good
+    go false (Some v) passes = good
+    go false None passes = good-reacted c again a [] h rules rule own passes good
+
+good-long : (c : List Rule) (again : Bool) (name : Text) (attached : Option Text) (h : Held) → AreValueRules c
+    → long_passes c again (arg_by_long c name) attached h ≡ true → are_good c h.rows ≡ true
+    → are_good c (long_met c (arg_by_long c name) attached h).0.rows ≡ true
+good-long c again name attached h rules passes good = go (arg_by_long c name) refl passes
+  where
+    go : (found : Option Rule) → arg_by_long c name ≡ found → long_passes c again found attached h ≡ true
+        → are_good c (long_met c found attached h).0.rows ≡ true
+    go None is passes = good
+    go (Some a) is passes =
+        let at = λ (b : Rule). not (is_some b.index) && has_long b name in
+        good-known c again a attached h rules (found-has IsValueRule at c a rules.each is) (found-has (IsOwn c) at c a rules.own is) passes good
+
+-- no other word changes rows before it goes to a positional
 rows-plain : (c : List Rule) (waiting : Waiting) (word : Text) (h : Held) → (plain_word c waiting word h).0.rows ≡ h.rows
 rows-plain c idle word h = refl
 rows-plain c positional word h = refl
@@ -158,43 +198,48 @@ rows-after c waiting word h (waits id) = refl
 rows-after c waiting word h plain = rows-plain c waiting word h
 rows-after c waiting word h refused = rows-plain c waiting word h
 
-rows-flag : (c : List Rule) (k : ℕ) (first : Option ℕ) (flags : Text) (skip : ℕ) (so_far : Outcome) (h : Held) → AreValueRules c
+rows-flag : (c : List Rule) (k : ℕ) (first : Option ℕ) (flags : Text) (skip : ℕ) (so_far : Outcome) (h : Held) → AllByRecursion IsValueRule c
     → ((rest : Text) (less : ℕ) (outcome : Outcome) (held : Held) → (bundle_met c k rest less outcome held).0.rows ≡ held.rows)
     → (bundle_step c first flags skip so_far h (bundle_met c k)).0.rows ≡ h.rows
 rows-flag c k None flags skip so_far h rules below = refl
-rows-flag c k (Some x) flags zero so_far h rules below = rw (no-flag (λ a. has_short a x) c rules) refl
+rows-flag c k (Some x) flags zero so_far h rules below = rw (no-short c x rules) refl
 rows-flag c k (Some x) flags (suc less) so_far h rules below = below _ less so_far h
 
-rows-flags : (c : List Rule) (k : ℕ) (flags : Text) (skip : ℕ) (so_far : Outcome) (h : Held) → AreValueRules c
+rows-flags : (c : List Rule) (k : ℕ) (flags : Text) (skip : ℕ) (so_far : Outcome) (h : Held) → AllByRecursion IsValueRule c
     → (bundle_met c k flags skip so_far h).0.rows ≡ h.rows
 unfolding bundle_met
 rows-flags c zero flags skip so_far h rules = refl
 rows-flags c (suc k) flags skip so_far h rules =
     rows-flag c k (slice_get (chars flags) 0) flags skip so_far h rules (λ rest less outcome held. rows-flags c k rest less outcome held rules)
 
-rows-short : (c : List Rule) (waiting : Waiting) (word : Text) (flags : Option Text) (h : Held) → AreValueRules c
+rows-short : (c : List Rule) (waiting : Waiting) (word : Text) (flags : Option Text) (h : Held) → AllByRecursion IsValueRule c
     → (short_or_plain c waiting word flags h).0.rows ≡ h.rows
 rows-short c waiting word None h rules = rows-plain c waiting word h
 rows-short c waiting word (Some flags) h rules =
     rows-after c waiting word (bundle c flags h).0 (bundle c flags h).1 ∙ rows-flags c (length flags) flags h.skip plain (record h { skip = 0 }) rules
 
-rows-long : (c : List Rule) (waiting : Waiting) (word : Text) (long : Option (Text × Option Text)) (h : Held) → AreValueRules c
-    → (long_or_other c waiting word long h).0.rows ≡ h.rows
-rows-long c waiting word None h rules = rows-short c waiting word (short_of word) h rules
-rows-long c waiting word (Some p) h rules = rw (no-flag (λ a. has_long a p.0) c rules) (rows-plain c waiting word h)
+good-word : (c : List Rule) (again : Bool) (waiting : Waiting) (word : Text) (long : Option (Text × Option Text)) (h : Held) → AreValueRules c
+    → flag_word_passes c again long word h ≡ true → are_good c h.rows ≡ true → are_good c (long_or_other c waiting word long h).0.rows ≡ true
+good-word c again waiting word None h rules passes good = rw (rows-short c waiting word (short_of word) h rules.each) good
+good-word c again waiting word (Some p) h rules passes good =
+    let met = long_met c (arg_by_long c p.0) p.1 h in
+    rw (rows-after c waiting word met.0 met.1) (good-long c again p.0 p.1 h rules passes good)
 
-rows-met : (c : List Rule) (names : Names) (is_trailing : Bool) (waiting : Waiting) (position : ℕ) (word : Text) (h : Held) → AreValueRules c
-    → (word_met c names is_trailing waiting position word h).0.rows ≡ h.rows
-rows-met c names true waiting position word h rules = refl
-rows-met c names false waiting position word h rules = go (subcommand_met names waiting word)
+good-met : (s : Shape) (names : Names) (is_trailing : Bool) (waiting : Waiting) (position : ℕ) (word : Text) (h : Held) → AreValueRules s.rules
+    → word_passes s names is_trailing waiting word h ≡ true → are_good s.rules h.rows ≡ true
+    → are_good s.rules (word_met s.rules names is_trailing waiting position word h).0.rows ≡ true
+good-met s names true waiting position word h rules passes good = good
+good-met s names false waiting position word h rules passes good = go (subcommand_met names waiting word) passes
   where
-    dashes : (is : Bool) → (if is then (h, trailing position) else long_or_other c waiting word (long_of word) h).0.rows ≡ h.rows
-    dashes true = refl
-    dashes false = rows-long c waiting word (long_of word) h rules
+    dashes : (is : Bool) → (is || flag_word_passes s.rules s.args_override_self (long_of word) word h) ≡ true
+        → are_good s.rules (if is then (h, trailing position) else long_or_other s.rules waiting word (long_of word) h).0.rows ≡ true
+    dashes true passes = good
+    dashes false passes = good-word s.rules s.args_override_self waiting word (long_of word) h rules passes good
 
-    go : (met : Option Text) → (subcommand_or_other c met waiting position word h).0.rows ≡ h.rows
-    go (Some name) = refl
-    go None = dashes (bytes_eq word (45 ∷ 45 ∷ []))
+    go : (met : Option Text) → other_passes s met word h ≡ true
+        → are_good s.rules (subcommand_or_other s.rules met waiting position word h).0.rows ≡ true
+    go (Some name) passes = good
+    go None passes = dashes (bytes_eq word (45 ∷ 45 ∷ [])) passes
 
 good-positional : (s : Shape) (found : Option Rule) (word : Text) (w : Walk) (h : Held) → AreValueRules s.rules
     → option_map_or (λ a. positional_passes s.rules s.args_override_self a h) found false ≡ true → are_good s.rules h.rows ≡ true
@@ -227,7 +272,7 @@ good-turn s names w word rules passes good = go w.stopped passes
     go (Some p) passes = good
     go None passes =
         good-step s word (record w { stopped = None }) met.0 met.1 rules (both _ _ passes).1
-        (rw (rows-met s.rules names w.is_trailing w.waiting w.position word w.held rules) good)
+        (good-met s names w.is_trailing w.waiting w.position word w.held rules (both _ _ passes).0 good)
 
 good-walk : (s : Shape) (names : Names) (w : Walk) (words : List Text) → AreValueRules s.rules → walk_passes s names w words ≡ true
     → are_good s.rules w.held.rows ≡ true → are_good s.rules (fold (walked s.rules names) w words).held.rows ≡ true
@@ -240,7 +285,7 @@ good-walk s names w (word ∷ rest) rules passes good =
 -- ---- a level
 
 -- where nothing has a default, none is added
-no-default : (c : List Rule) (rows : List Row) → AreValueRules c → fold with_default rows c ≡ rows
+no-default : (c : List Rule) (rows : List Row) → AllByRecursion IsValueRule c → fold with_default rows c ≡ rows
 no-default [] rows rules = refl
 no-default (a ∷ rest) rows rules = ap (λ (before : List Row). fold with_default before rest) one ∙ no-default rest rows rules.1
   where
@@ -292,7 +337,7 @@ given s words a rules negates passes own required =
     let end = (walk s.rules [] nothing_held words).held in
     let parts = both _ _ passes in
     let ending = both _ _ parts.1 in
-    let rows_are : finished s.rules end ≡ (settled s.rules end).rows = no-default s.rules (settled s.rules end).rows rules in
+    let rows_are : finished s.rules end ≡ (settled s.rules end).rows = no-default s.rules (settled s.rules end).rows rules.each in
     let good : are_good s.rules (finished s.rules end) ≡ true =
     rw rows_are (good-settled s.rules s.args_override_self end rules ending.0 (good-walk s [] (walk_from nothing_held) words rules parts.0 refl)) in
     let valid : is_valid s (finished s.rules end) false ≡ true = (both _ _ ending.1).1 in

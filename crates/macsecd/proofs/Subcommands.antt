@@ -10,17 +10,21 @@ use Rattle.clap.specs.Simple.{Shape, app_of_fields, argument_words, built, enter
 use Rattle.clap.specs.Takes.{entered_passes, level_passes, takes, value_passes}
 use Rattle.clap.specs.Values.{IsUnsignedIn}
 use Rattle.clap.specs.Walk.{answers_to, nothing_held, stop_after}
-use Rattle.clap.specs.Words.{App, Row, Rule, Text, app_of, fault_of, is_simple, is_simple_and_free, new_app, rule_of, subcommand_of, with_rule, with_subcommand}
+use Rattle.clap.specs.Words.{App, Row, Rule, Text, app_of, fault_of, is_simple, is_simple_and_free, kind_of, new_app, rule_of, subcommand_of, with_rule, with_subcommand}
 use Rattle.clap.specs.declared.builder.arg.Arg.{Arg}
 use Rattle.clap.specs.declared.builder.command.Command.{Command}
 use Rattle.clap.specs.declared.builder.command.Command.TheOpen.{Command-F}
 use Rattle.clap.specs.declared.builder.command.Command.TheViews.{out-Command as fields_of}
 use Rattle.clap.specs.declared.builder.value_parser.ValueParser.TheVariants as vp
+use Rattle.clap.specs.declared.error.Error.{Error}
+use Rattle.clap.specs.declared.error.kind.ErrorKind.TheVariants.{OutOfMemory}
 use Rattle.clap.proofs.OnLiterals.{clap_on_literals}
 use Rattle.clap.proofs.ValueTestLemmas.{accepts-Accepts}
 use Rattle.macsecd.specs.declared.action.Action.{Action}
-use Rattle.macsecd.specs.declared.action.Action.TheVariants.{Open, Format, Apply, Show, Protect, Validate}
-use Rattle.macsecd.specs.Words.{HasBlocks, HasNumber, IsClapCommand, Names, macsecd, number_rule, value_rule}
+use Rattle.macsecd.specs.declared.action.Action.TheVariants.{Open, Format, Apply, Show, Protect, Validate, Relay}
+use Rattle.macsecd.specs.declared.action.UsageFault.{UsageFault}
+use Rattle.macsecd.specs.declared.action.UsageFault.TheVariants.{Usage, Memory}
+use Rattle.macsecd.specs.Words.{FitsNumbers, HasNumber, IsClapCommand, IsFaultOf, Names, count_rule, macsecd, number_rule, value_rule}
 use Rattle.macsecd.proofs.Given.{AreValueRules, IsValueRule, given}
 use Rattle.macsecd.proofs.Taken.{is_bare_app, taken}
 
@@ -70,7 +74,7 @@ one_more old sub new a b known its added =
 -- ---- what `format` is given
 
 -- its numbers are there
-pub blocks : (rows : List Row) (action : Action) → Names (Some (codes "format", rows)) action → HasBlocks action
+pub blocks : (rows : List Row) (action : Action) → Names (Some (codes "format", rows)) action → FitsNumbers action
     → (tx_block : ℕ) × (rx_block : ℕ) × HasNumber rows (codes "TX") tx_block × (tx_block < 2 ^ 32)
     × HasNumber rows (codes "RX") rx_block × (rx_block < 2 ^ 32)
 blocks rows Open named fits = cc
@@ -79,6 +83,20 @@ blocks rows (Apply disk file) named fits = absurd (omega (arith, ap (λ (t : Tex
 blocks rows (Show disk) named fits = absurd (omega (arith, ap (λ (t : Text). slice_index t 0) named.0))
 blocks rows (Protect disk input output) named fits = absurd (omega (arith, ap (λ (t : Text). slice_index t 0) named.0))
 blocks rows (Validate disk input output) named fits = absurd (omega (arith, ap (λ (t : Text). slice_index t 0) named.0))
+blocks rows (Relay disk controlled common turns) named fits = absurd (omega (arith, ap (λ (t : Text). slice_index t 0) named.0))
+
+-- ---- what `relay` is given
+
+-- its turns are there
+pub turns_of : (rows : List Row) (action : Action) → Names (Some (codes "relay", rows)) action → FitsNumbers action
+    → (turns : ℕ) × HasNumber rows (codes "turns") turns × (turns < 2 ^ 64)
+turns_of rows Open named fits = cc
+turns_of rows (Format disk sci tx_block rx_block) named fits = absurd (omega (arith, ap (λ (t : Text). slice_index t 0) named.0))
+turns_of rows (Apply disk file) named fits = absurd (omega (arith, ap (λ (t : Text). slice_index t 0) named.0))
+turns_of rows (Show disk) named fits = absurd (omega (arith, ap (λ (t : Text). slice_index t 0) named.0))
+turns_of rows (Protect disk input output) named fits = absurd (omega (arith, ap (λ (t : Text). slice_index t 0) named.0))
+turns_of rows (Validate disk input output) named fits = absurd (omega (arith, ap (λ (t : Text). slice_index t 0) named.0))
+turns_of rows (Relay disk controlled common turns) named fits = (turns, named.6, fits)
 
 -- ---- what each subcommand is given
 
@@ -93,18 +111,24 @@ shape_at i = slice_index_or (built macsecd).subs i (built macsecd).top
 -- where the subcommand takes the words, they name an action
 abbrev IsNamed : Shape → Type 0
 IsNamed s = (words : List Text) → level_passes s [] nothing_held words false ≡ true
-    → (action : Action) × Names (Some (rows_at s words)) action × HasBlocks action
+    → (action : Action) × Names (Some (rows_at s words)) action × FitsNumbers action
 
 value-is : (place : ℕ) (name : Text) → IsValueRule (with_index place (filled (value_rule name)))
-value-is place name = record { action = refl; least = refl; defaults = refl; placed = refl }
+value-is place name = record { action = refl; least = refl; defaults = refl; no_short = λ x. refl }
 
 number-is : (place : ℕ) (name : Text) → IsValueRule (with_index place (filled (number_rule name)))
-number-is place name = record { action = refl; least = refl; defaults = refl; placed = refl }
+number-is place name = record { action = refl; least = refl; defaults = refl; no_short = λ x. refl }
+
+count-is : (name : Text) → IsValueRule (filled (count_rule name))
+count-is name = record { action = refl; least = refl; defaults = refl; no_short = λ x. refl }
 
 -- a value that passed as a number is one
 number-read : (place : ℕ) (name : Text) (text : Text) → value_passes (with_index place (filled (number_rule name))) text ≡ true
     → IsUnsignedIn 0 (2 ^ 32 - 1) text
 number-read place name text passes = accepts-Accepts false (vp.Unsigned 0 (2 ^ 32 - 1)) text passes
+
+count-read : (name : Text) (text : Text) → value_passes (filled (count_rule name)) text ≡ true → IsUnsignedIn 0 (2 ^ 64 - 1) text
+count-read name text passes = accepts-Accepts false (vp.Unsigned 0 (2 ^ 64 - 1)) text passes
 
 open-named : IsNamed (shape_at 0)
 open-named words passes = (Open, refl, tt)
@@ -112,7 +136,10 @@ open-named words passes = (Open, refl, tt)
 format-named : IsNamed (shape_at 1)
 unfolding clap_on_literals
 format-named words passes =
-    let rules : AreValueRules (shape_at 1).rules = (value-is 1 (codes "DISK"), (value-is 2 (codes "SCI"), (number-is 3 (codes "TX"), (number-is 4 (codes "RX"), tt)))) in
+    let rules : AreValueRules (shape_at 1).rules = record {
+      each = (value-is 1 (codes "DISK"), (value-is 2 (codes "SCI"), (number-is 3 (codes "TX"), (number-is 4 (codes "RX"), tt))));
+      own = (refl, (refl, (refl, (refl, tt))));
+    } in
     let disk = given (shape_at 1) words (with_index 1 (filled (value_rule (codes "DISK")))) rules refl passes refl refl in
     let sci = given (shape_at 1) words (with_index 2 (filled (value_rule (codes "SCI")))) rules refl passes refl refl in
     let tx = given (shape_at 1) words (with_index 3 (filled (number_rule (codes "TX")))) rules refl passes refl refl in
@@ -131,7 +158,10 @@ format-named words passes =
 apply-named : IsNamed (shape_at 2)
 unfolding clap_on_literals
 apply-named words passes =
-    let rules : AreValueRules (shape_at 2).rules = (value-is 1 (codes "DISK"), (value-is 2 (codes "FILE"), tt)) in
+    let rules : AreValueRules (shape_at 2).rules = record {
+      each = (value-is 1 (codes "DISK"), (value-is 2 (codes "FILE"), tt));
+      own = (refl, (refl, tt));
+    } in
     let disk = given (shape_at 2) words (with_index 1 (filled (value_rule (codes "DISK")))) rules refl passes refl refl in
     let file = given (shape_at 2) words (with_index 2 (filled (value_rule (codes "FILE")))) rules refl passes refl refl in
     (Apply (text_of disk.0) (text_of file.0), (refl, disk.1, file.1), tt)
@@ -139,14 +169,20 @@ apply-named words passes =
 show-named : IsNamed (shape_at 3)
 unfolding clap_on_literals
 show-named words passes =
-    let rules : AreValueRules (shape_at 3).rules = (value-is 1 (codes "DISK"), tt) in
+    let rules : AreValueRules (shape_at 3).rules = record {
+      each = (value-is 1 (codes "DISK"), tt);
+      own = (refl, tt);
+    } in
     let disk = given (shape_at 3) words (with_index 1 (filled (value_rule (codes "DISK")))) rules refl passes refl refl in
     (Show (text_of disk.0), (refl, disk.1), tt)
 
 protect-named : IsNamed (shape_at 4)
 unfolding clap_on_literals
 protect-named words passes =
-    let rules : AreValueRules (shape_at 4).rules = (value-is 1 (codes "DISK"), (value-is 2 (codes "INPUT"), (value-is 3 (codes "OUTPUT"), tt))) in
+    let rules : AreValueRules (shape_at 4).rules = record {
+      each = (value-is 1 (codes "DISK"), (value-is 2 (codes "INPUT"), (value-is 3 (codes "OUTPUT"), tt)));
+      own = (refl, (refl, (refl, tt)));
+    } in
     let disk = given (shape_at 4) words (with_index 1 (filled (value_rule (codes "DISK")))) rules refl passes refl refl in
     let input = given (shape_at 4) words (with_index 2 (filled (value_rule (codes "INPUT")))) rules refl passes refl refl in
     let output = given (shape_at 4) words (with_index 3 (filled (value_rule (codes "OUTPUT")))) rules refl passes refl refl in
@@ -155,31 +191,65 @@ protect-named words passes =
 validate-named : IsNamed (shape_at 5)
 unfolding clap_on_literals
 validate-named words passes =
-    let rules : AreValueRules (shape_at 5).rules = (value-is 1 (codes "DISK"), (value-is 2 (codes "INPUT"), (value-is 3 (codes "OUTPUT"), tt))) in
+    let rules : AreValueRules (shape_at 5).rules = record {
+      each = (value-is 1 (codes "DISK"), (value-is 2 (codes "INPUT"), (value-is 3 (codes "OUTPUT"), tt)));
+      own = (refl, (refl, (refl, tt)));
+    } in
     let disk = given (shape_at 5) words (with_index 1 (filled (value_rule (codes "DISK")))) rules refl passes refl refl in
     let input = given (shape_at 5) words (with_index 2 (filled (value_rule (codes "INPUT")))) rules refl passes refl refl in
     let output = given (shape_at 5) words (with_index 3 (filled (value_rule (codes "OUTPUT")))) rules refl passes refl refl in
     (Validate (text_of disk.0) (text_of input.0) (text_of output.0), (refl, disk.1, input.1, output.1), tt)
+
+relay-named : IsNamed (shape_at 6)
+unfolding clap_on_literals
+relay-named words passes =
+    let rules : AreValueRules (shape_at 6).rules = record {
+      each = (
+        value-is 1 (codes "DISK"),
+        (
+          value-is 2 (codes "OWN1"),
+          (
+            value-is 3 (codes "PEER1"),
+            (value-is 4 (codes "OWN2"), (value-is 5 (codes "PEER2"), (count-is (codes "turns"), tt))),
+          ),
+        ),
+      );
+      own = (refl, (refl, (refl, (refl, (refl, (refl, tt))))));
+    } in
+    let disk = given (shape_at 6) words (with_index 1 (filled (value_rule (codes "DISK")))) rules refl passes refl refl in
+    let own_1 = given (shape_at 6) words (with_index 2 (filled (value_rule (codes "OWN1")))) rules refl passes refl refl in
+    let peer_1 = given (shape_at 6) words (with_index 3 (filled (value_rule (codes "PEER1")))) rules refl passes refl refl in
+    let own_2 = given (shape_at 6) words (with_index 4 (filled (value_rule (codes "OWN2")))) rules refl passes refl refl in
+    let peer_2 = given (shape_at 6) words (with_index 5 (filled (value_rule (codes "PEER2")))) rules refl passes refl refl in
+    let turns = given (shape_at 6) words (filled (count_rule (codes "turns"))) rules refl passes refl refl in
+    let turns_in = count-read (codes "turns") turns.0 turns.2 in
+    let count = digits_value 10 (without_leading_plus turns.0) in
+    let fits : count < 2 ^ 64 = omega (arith, turns_in.3) in (
+      Relay (text_of disk.0) (record { own = text_of own_1.0; peer = text_of peer_1.0 })
+          (record { own = text_of own_2.0; peer = text_of peer_2.0 }) count,
+      (refl, disk.1, own_1.1, peer_1.1, own_2.1, peer_2.1, (turns.0, turns.1, turns_in.0, refl)),
+      fits,
+    )
 
 -- ---- the words of a whole command line
 
 -- the first of the subcommands that answers to a name
 named-first : (shapes : List Shape) (answers : Shape → Bool) (words : List Text) → AllByRecursion IsNamed shapes
     → option_map_or (λ s. level_passes s [] nothing_held words false) (find answers shapes) true ≡ true
-    → (action : Action) × Names (option_map (λ s. rows_at s words) (find answers shapes)) action × HasBlocks action
+    → (action : Action) × Names (option_map (λ s. rows_at s words) (find answers shapes)) action × FitsNumbers action
 named-first [] answers words all passes = (Open, refl, tt)
 named-first (s ∷ rest) answers words all passes = go (answers s) passes (λ later. named-first rest answers words all.1 later)
   where
     go : (is : Bool)
         → option_map_or (λ s. level_passes s [] nothing_held words false) (if is then Some s else find answers rest) true ≡ true
         → (option_map_or (λ s. level_passes s [] nothing_held words false) (find answers rest) true ≡ true
-        → (action : Action) × Names (option_map (λ s. rows_at s words) (find answers rest)) action × HasBlocks action)
-        → (action : Action) × Names (option_map (λ s. rows_at s words) (if is then Some s else find answers rest)) action × HasBlocks action
+        → (action : Action) × Names (option_map (λ s. rows_at s words) (find answers rest)) action × FitsNumbers action)
+        → (action : Action) × Names (option_map (λ s. rows_at s words) (if is then Some s else find answers rest)) action × FitsNumbers action
     go true passes below = all.0 words passes
     go false passes below = below passes
 
 named-entered : (a : App) (stop : Option (Text × List Text)) → AllByRecursion IsNamed a.subs → entered_passes a stop ≡ true
-    → (action : Action) × Names (entered a stop) action × HasBlocks action
+    → (action : Action) × Names (entered a stop) action × FitsNumbers action
 named-entered a None all passes = (Open, refl, tt)
 named-entered a (Some p) all passes = named-first a.subs (λ s. answers_to p.0 (label_of s)) p.1 all passes
 
@@ -189,10 +259,10 @@ first-of-three true false d is = cc
 first-of-three false b d is = cc
 
 all-named : AllByRecursion IsNamed (built macsecd).subs
-all-named = (open-named, (format-named, (apply-named, (show-named, (protect-named, (validate-named, tt))))))
+all-named = (open-named, (format-named, (apply-named, (show-named, (protect-named, (validate-named, (relay-named, tt)))))))
 
 -- each command line that the program takes names an action
-pub named : (words : List Text) → takes macsecd words ≡ true → (action : Action) × Names (subcommand_of macsecd words) action × HasBlocks action
+pub named : (words : List Text) → takes macsecd words ≡ true → (action : Action) × Names (subcommand_of macsecd words) action × FitsNumbers action
 named words taken =
     named-entered (built macsecd) (stop_after (built macsecd).top.rules (names_of (built macsecd)) (argument_words macsecd words)) all-named
     (first-of-three (is_simple macsecd) _ _ taken)
@@ -211,3 +281,8 @@ bare = refl
 -- words in which it finds no fault are taken
 pub taken_without_fault : (words : List Text) → fault_of macsecd words ≡ [] → takes macsecd words ≡ true
 taken_without_fault words faultless = taken macsecd words simple bare faultless
+
+-- a fault for want of memory
+pub wants_memory : (error : Error) (fault : UsageFault) → IsFaultOf error fault → kind_of error ≡ OutOfMemory → fault ≡ Memory
+wants_memory error (Usage cause) is memory = absurd (is memory)
+wants_memory error Memory is memory = refl

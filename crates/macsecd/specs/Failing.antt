@@ -4,16 +4,19 @@ use Rattle.macs_disk.specs.declared.file_opening.FileFault.{FileFault}
 use Rattle.macs_disk.specs.declared.file_opening.FileFault.TheVariants as file
 use Rattle.macs_edge.specs.declared.config_fault.ConfigFault.{ConfigFault}
 use Rattle.macs_edge.specs.declared.config_fault.ConfigFault.TheVariants as config
+use Rattle.macs_edge.specs.declared.udp_wire.BindFault.{BindFault}
+use Rattle.macs_edge.specs.declared.udp_wire.BindFault.TheVariants as bind
 use Rattle.macs_edge.specs.declared.passing.RunFault.{RunFault}
 use Rattle.macs_edge.specs.declared.passing.RunFault.TheVariants.{Device, Pcap}
 use Rattle.macs_endpoint.specs.declared.fault.RefillFault.{RefillFault}
 use Rattle.macs_endpoint.specs.declared.fault.RefillFault.TheVariants as refill
 use Rattle.macs_journal.specs.declared.fault.JournalFault.{JournalFault}
 use Rattle.macs_journal.specs.declared.fault.JournalFault.TheVariants as journal
-use Rattle.macs_pcap.specs.declared.fault.PcapFault.{PcapFault}
 use Rattle.macs_pcap.specs.declared.fault.PcapFault.TheVariants as pcap
 use Rattle.macsecd.specs.declared.action.UsageFault.{UsageFault}
 use Rattle.macsecd.specs.declared.action.UsageFault.TheVariants as usage
+use Rattle.macsecd.specs.declared.addresses.AddressFault.{AddressFault}
+use Rattle.macsecd.specs.declared.addresses.AddressFault.TheVariants as address
 use Rattle.macsecd.specs.declared.failure.DiskFault.{DiskFault}
 use Rattle.macsecd.specs.declared.failure.DiskFault.TheVariants as disk
 use Rattle.macsecd.specs.declared.failure.Failure.{Failure}
@@ -53,12 +56,22 @@ failure_of_run (Pcap pcap.Memory) = failure.Memory
 failure_of_run (Pcap fault) = failure.Capture
 failure_of_run (Device fault) = failure_of_refill fault
 
+abbrev pub failure_of_bind : BindFault → Failure
+failure_of_bind bind.Memory = failure.Memory
+failure_of_bind bind.Bind = failure.Wire
+
 -- ---- what the program says of it, in one line
 
 abbrev pub value_fault_text : ValueFault → List ℕ
 value_fault_text value.Sci = codes "SCI is not 16 hex digits"
 value_fault_text value.TxBlock = codes "TX is not 1 to 65536"
 value_fault_text value.RxBlock = codes "RX is not 1 to 65536"
+
+abbrev pub address_fault_text : AddressFault → List ℕ
+address_fault_text address.Own1 = codes "OWN1 is not an address and a port"
+address_fault_text address.Peer1 = codes "PEER1 is not an address and a port"
+address_fault_text address.Own2 = codes "OWN2 is not an address and a port"
+address_fault_text address.Peer2 = codes "PEER2 is not an address and a port"
 
 abbrev pub disk_fault_text : DiskFault → List ℕ
 disk_fault_text disk.File = codes "disk file"
@@ -81,9 +94,11 @@ input_fault_text input.Frame = codes "frame"
 abbrev pub failure_text : Failure → List ℕ
 failure_text (failure.Usage cause) = string_bytes cause
 failure_text (failure.Value fault) = value_fault_text fault
+failure_text (failure.Address fault) = address_fault_text fault
 failure_text (failure.Disk fault) = disk_fault_text fault
 failure_text failure.Capture = codes "capture"
 failure_text failure.Commands = codes "commands"
+failure_text failure.Wire = codes "wire"
 failure_text failure.Memory = codes "memory"
 failure_text (failure.Input fault) = input_fault_text fault
 failure_text failure.Output = codes "output"
@@ -94,9 +109,11 @@ failure_text failure.Output = codes "output"
 abbrev pub failure_status : Failure → Status
 failure_status (failure.Usage cause) = ends.Usage
 failure_status (failure.Value fault) = ends.Usage
+failure_status (failure.Address fault) = ends.Usage
 failure_status (failure.Disk fault) = ends.Disk
 failure_status failure.Capture = ends.Fault
 failure_status failure.Commands = ends.Fault
+failure_status failure.Wire = ends.Fault
 failure_status failure.Memory = ends.Fault
 failure_status (failure.Input fault) = ends.Fault
 failure_status failure.Output = ends.Fault

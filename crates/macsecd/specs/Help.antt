@@ -4,7 +4,7 @@ use Rattle.macsecd.specs.declared.help.Subcommand.{Subcommand}
 use Rattle.macsecd.specs.declared.help.Subcommand.TheVariants as subcommand
 use Rattle.macsecd.specs.declared.help.Topic.{Topic}
 use Rattle.macsecd.specs.declared.help.Topic.TheVariants.{Help, HelpOn, Version}
-use Rattle.macsecd.specs.declared.help_texts.TheConstants.{APPLY, FORMAT, HELP, OPEN, PROTECT, SHOW, VALIDATE, VERSION}
+use Rattle.macsecd.specs.declared.help_texts.TheConstants.{APPLY, FORMAT, HELP, OPEN, PROTECT, RELAY, SHOW, VALIDATE, VERSION}
 
 -- what is printed on a subcommand
 abbrev pub subcommand_text : Subcommand → List ℕ
@@ -14,6 +14,7 @@ subcommand_text subcommand.Apply = APPLY.now
 subcommand_text subcommand.Show = SHOW.now
 subcommand_text subcommand.Protect = PROTECT.now
 subcommand_text subcommand.Validate = VALIDATE.now
+subcommand_text subcommand.Relay = RELAY.now
 
 -- what is printed for a topic, in whole lines
 abbrev pub topic_text : Topic → List ℕ

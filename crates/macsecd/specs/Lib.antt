@@ -5,6 +5,7 @@ pub mod Lines
 pub mod Request
 pub mod Answer
 pub mod Values
+pub mod Addresses
 pub mod Failing
 pub mod Showing
 pub mod Applying

@@ -1,20 +1,23 @@
 -- How a run of the program ends.
-use Rattle.std.specs.Prelude.{◌≡◌, ◌⊎◌, ◌++◌, true, ℕ, List, [], ◌∷◌, Option, IfSome, codes}
+use Rattle.std.specs.Prelude.{◌≡◌, ◌⊎◌, true, ℕ, List, Option, IfSome, codes}
 use Rattle.std.specs.Io.KnownBytes.{Appends}
 use Rattle.clap.specs.Words.{Text, subcommand_of, takes}
 use Rattle.macs_config.specs.Identity.{Identity}
 use Rattle.macs_config.specs.declared.refusal.Refusal.{Refusal}
 use Rattle.macs_edge.specs.declared.passing.Summary.{Summary}
+use Rattle.macs_edge.specs.declared.relaying.RelaySummary.{RelaySummary}
 use Rattle.macs_endpoint.specs.State.{State}
+use Rattle.macsecd.specs.Addresses.{AddressFaultHolds}
 use Rattle.macsecd.specs.Answer.{Answers, answer_status, answer_text}
 use Rattle.macsecd.specs.Applying.{outcome_lines, outcomes_status}
 use Rattle.macsecd.specs.Help.{topic_text}
 use Rattle.macsecd.specs.Showing.{line, show_text}
-use Rattle.macsecd.specs.Summing.{summary_line}
+use Rattle.macsecd.specs.Summing.{relay_line, summary_line}
 use Rattle.macsecd.specs.Values.{SpellsIdentity, ValueFaultHolds}
 use Rattle.macsecd.specs.Words.{AsksFor, Names, macsecd}
 use Rattle.macsecd.specs.declared.action.Action.{Action}
-use Rattle.macsecd.specs.declared.action.Action.TheVariants.{Open, Format, Apply, Show, Protect, Validate}
+use Rattle.macsecd.specs.declared.action.Action.TheVariants.{Open, Format, Apply, Show, Protect, Validate, Relay}
+use Rattle.macsecd.specs.declared.addresses.AddressFault.{AddressFault}
 use Rattle.macsecd.specs.declared.answer.Answer.{Answer}
 use Rattle.macsecd.specs.declared.capturing.Direction.TheVariants as direction
 use Rattle.macsecd.specs.declared.help.Topic.{Topic}
@@ -41,6 +44,8 @@ Does (Protect disk from to) input before after status =
     (summary : Summary) × Appends before after (summary_line direction.Protect summary) × (status ≡ ends.Done)
 Does (Validate disk from to) input before after status =
     (summary : Summary) × Appends before after (summary_line direction.Validate summary) × (status ≡ ends.Done)
+Does (Relay disk controlled common turns) input before after status =
+    (summary : RelaySummary) × Appends before after (relay_line summary) × (status ≡ ends.Done)
 
 -- a run that does not fail is asked for help and prints it, or its words are taken and name an action, and it does that
 abbrev pub Replies : List Text → Option (List ℕ) → Option (List ℕ) → Option (List ℕ) → Status → Type 0
@@ -49,9 +54,15 @@ Replies words input before after status =
     ⊎ ((takes macsecd words ≡ true)
     × (action : Action) × Names (subcommand_of macsecd words) action × Does action input before after status)
 
+-- What was printed before a disk fault: of `apply` the lines of the commands before it, else nothing
+abbrev pub HasPrinted : Action → Option (List ℕ) → Option (List ℕ) → Type 0
+HasPrinted (Apply disk file) before after = (outcomes : List (Option Refusal)) × Appends before after (outcome_lines 1 outcomes)
+HasPrinted action before after = after ≡ before
+
 -- a value of the action is none that it takes
 abbrev pub WrongValues : Action → Type 0
 WrongValues (Format disk sci tx_block rx_block) = (fault : ValueFault) × ValueFaultHolds sci.now tx_block rx_block fault
+WrongValues (Relay disk controlled common turns) = (fault : AddressFault) × AddressFaultHolds controlled common fault
 WrongValues action = ⊥
 
 -- the words name an action with such a value

@@ -1,7 +1,8 @@
--- The line that a run over a capture ends with.
+-- The lines that a run over a capture and a relay end with.
 use Rattle.std.specs.Prelude.{◌++◌, ℕ, List, codes}
 use Rattle.std.specs.Fmt.{decimal}
 use Rattle.macs_edge.specs.declared.passing.Summary.{Summary}
+use Rattle.macs_edge.specs.declared.relaying.RelaySummary.{RelaySummary}
 use Rattle.macsecd.specs.Showing.{line}
 use Rattle.macsecd.specs.declared.capturing.Direction.{Direction}
 use Rattle.macsecd.specs.declared.capturing.Direction.TheVariants as direction
@@ -10,3 +11,8 @@ use Rattle.macsecd.specs.declared.capturing.Direction.TheVariants as direction
 abbrev pub summary_line : Direction → Summary → List ℕ
 summary_line direction.Protect s = line (codes "protected " ++ (decimal s.passed ++ (codes " dropped " ++ decimal s.dropped)))
 summary_line direction.Validate s = line (codes "delivered " ++ (decimal s.passed ++ (codes " discarded " ++ decimal s.dropped)))
+
+-- what became of the frames of a relay
+abbrev pub relay_line : RelaySummary → List ℕ
+relay_line s = line (codes "sent " ++ (decimal s.sent ++ (codes " delivered " ++ (decimal s.delivered
+    ++ (codes " dropped " ++ (decimal s.dropped ++ (codes " faults " ++ decimal s.faults)))))))

@@ -14,7 +14,7 @@ use Rattle.macsecd.specs.Controls.{IsPrintable}
 use Rattle.macsecd.specs.declared.action.UsageFault.{UsageFault}
 use Rattle.macsecd.specs.declared.action.UsageFault.TheVariants.{Usage, Memory}
 use Rattle.macsecd.specs.declared.action.Action.{Action}
-use Rattle.macsecd.specs.declared.action.Action.TheVariants.{Open, Format, Apply, Show, Protect, Validate}
+use Rattle.macsecd.specs.declared.action.Action.TheVariants.{Open, Format, Apply, Show, Protect, Validate, Relay}
 use Rattle.macsecd.specs.declared.help.Topic.{Topic}
 use Rattle.macsecd.specs.declared.help.Topic.TheVariants.{Help, HelpOn, Version}
 use Rattle.macsecd.specs.declared.help.Subcommand.{Subcommand}
@@ -34,6 +34,10 @@ value_rule name = record (new_rule name) { action = Some Set; required = true }
 abbrev pub number_rule : Text → Rule
 number_rule name = record (value_rule name) { parser = Some (vp.Unsigned 0 (2 ^ 32 - 1)) }
 
+-- an option of this name that has to be given: a number of 0 to 2^64 - 1, in decimal digits
+abbrev pub count_rule : Text → Rule
+count_rule name = record (value_rule name) { long = Some name; parser = Some (vp.Unsigned 0 (2 ^ 64 - 1)) }
+
 -- a subcommand with the values that it takes, in their order
 abbrev pub subcommand_with : Text → List Rule → Shape
 subcommand_with name rules = record (new_shape name) { rules = rules }
@@ -47,6 +51,8 @@ subcommands =
     ∷ subcommand_with (codes "show") (value_rule (codes "DISK") ∷ [])
     ∷ subcommand_with (codes "protect") (value_rule (codes "DISK") ∷ value_rule (codes "INPUT") ∷ value_rule (codes "OUTPUT") ∷ [])
     ∷ subcommand_with (codes "validate") (value_rule (codes "DISK") ∷ value_rule (codes "INPUT") ∷ value_rule (codes "OUTPUT") ∷ [])
+    ∷ subcommand_with (codes "relay") (value_rule (codes "DISK") ∷ value_rule (codes "OWN1") ∷ value_rule (codes "PEER1")
+    ∷ value_rule (codes "OWN2") ∷ value_rule (codes "PEER2") ∷ count_rule (codes "turns") ∷ [])
     ∷ []
 
 -- the words begin after the program's name, and no flag and no subcommand of the library's asks for help or the version
@@ -90,11 +96,17 @@ Names (Some found) (Protect disk input output) =
 Names (Some found) (Validate disk input output) =
     (found.0 ≡ codes "validate") × HasText found.1 (codes "DISK") disk.now
     × HasText found.1 (codes "INPUT") input.now × HasText found.1 (codes "OUTPUT") output.now
+Names (Some found) (Relay disk controlled common turns) =
+    (found.0 ≡ codes "relay") × HasText found.1 (codes "DISK") disk.now
+    × HasText found.1 (codes "OWN1") controlled.own.now × HasText found.1 (codes "PEER1") controlled.peer.now
+    × HasText found.1 (codes "OWN2") common.own.now × HasText found.1 (codes "PEER2") common.peer.now
+    × HasNumber found.1 (codes "turns") turns
 
--- the blocks of the action, if it has any, are numbers of 32 bits
-abbrev pub HasBlocks : Action → Type 0
-HasBlocks (Format disk sci tx_block rx_block) = (tx_block < 2 ^ 32) × (rx_block < 2 ^ 32)
-HasBlocks action = ⊤
+-- the numbers of the action, if it has any, have so many bits
+abbrev pub FitsNumbers : Action → Type 0
+FitsNumbers (Format disk sci tx_block rx_block) = (tx_block < 2 ^ 32) × (rx_block < 2 ^ 32)
+FitsNumbers (Relay disk controlled common turns) = turns < 2 ^ 64
+FitsNumbers action = ⊤
 
 -- the command is this one, and has no global argument
 pub record IsClapCommand (command : Command) (app : App) : Type 0 where
@@ -129,6 +141,7 @@ name_of subcommand.Apply = codes "apply"
 name_of subcommand.Show = codes "show"
 name_of subcommand.Protect = codes "protect"
 name_of subcommand.Validate = codes "validate"
+name_of subcommand.Relay = codes "relay"
 
 -- The words ask for the topic: a help flag alone, the name of a subcommand and a help flag behind it, or the version flag alone
 abbrev pub AsksFor : List Text → Topic → Type 0
@@ -136,3 +149,7 @@ AsksFor (word ∷ []) Help = IsHelpFlag word
 AsksFor (name ∷ word ∷ []) (HelpOn which) = (name ≡ name_of which) × IsHelpFlag word
 AsksFor (word ∷ []) Version = IsVersionFlag word
 AsksFor words topic = ⊥
+
+-- the words ask for no help
+abbrev pub AsksForNothing : List Text → Type 0
+AsksForNothing words = (topic : Topic) → ¬ AsksFor words topic

@@ -1,9 +1,9 @@
 //! What the program's words ask for.
 
 ghost use Rattle.std.specs.Prelude.{◌≡◌, ◌<◌, ◌^◌, ℕ, IfOk, IfErr, IfSome, IsSome, OnOk, Some, true, false, [], codes, option_map, string_bytes};
-ghost use Rattle.clap.specs.Words.{app_of, fault_of, first_of, found_of, new_app, rows_of, rule_of, subcommand_of, subcommand_rows_of, takes, with_rule};
+ghost use Rattle.clap.specs.Words.{Text, app_of, fault_of, first_of, found_of, new_app, rows_of, rule_of, subcommand_of, subcommand_rows_of, takes, with_rule};
 ghost use Rattle.macsecd.specs.Controls.{IsPrintable};
-ghost use Rattle.macsecd.specs.Words.{HasBlocks, HasNumber, HasPrintableCause, IsClapCommand, IsFaultOf, Names, macsecd, number_rule, texts, value_rule};
+ghost use Rattle.macsecd.specs.Words.{FitsNumbers, HasNumber, HasPrintableCause, HasText, IsClapCommand, IsFaultOf, Names, count_rule, macsecd, number_rule, texts, value_rule};
 
 use crate::plain_text::printable;
 use clap::builder::ValueParser;
@@ -44,6 +44,22 @@ pub enum Action<'a> {
         input: &'a str,
         output: &'a str,
     },
+    /// Relays frames between two wires: `relay DISK OWN1 PEER1 OWN2 PEER2 --turns n`.
+    Relay {
+        disk: &'a str,
+        controlled: WireEnds<'a>,
+        common: WireEnds<'a>,
+        turns: u64,
+    },
+}
+
+/// The addresses of a wire as they are spelled: `127.0.0.1:4000`, `[::1]:4000`.
+#[derive(Clone, Copy)]
+pub struct WireEnds<'a> {
+    /// Where it is bound.
+    pub own: &'a str,
+    /// Where its datagrams go to, and where those come from that it takes.
+    pub peer: &'a str,
 }
 
 /// Why the words name no action.
@@ -132,6 +148,32 @@ fn capture_words<'a>(alloc: Global, name: &'a str) -> Result<Command<'a>, AllocE
         .arg(value(alloc, "OUTPUT"))
 }
 
+/// A number of 64 bits that has to be given behind its name.
+fn count<'a>(alloc: Global, name: &'a str) -> Arg<'a>
+    ensures rule { rule_of result ≡ count_rule name.entry.now }
+    ensures local { result.global ≡ false }
+{
+    value(alloc, name)
+        .long(name)
+        .value_parser(ValueParser::unsigned(0, u64::MAX))
+}
+
+/// The words of `relay`.
+fn relay_words<'a>(alloc: Global) -> Result<Command<'a>, AllocError>
+    ensures { IfOk result (λ command. IsClapCommand command (with_rule (with_rule (with_rule (with_rule (with_rule
+        (with_rule (new_app (codes "relay")) (value_rule (codes "DISK"))) (value_rule (codes "OWN1")))
+        (value_rule (codes "PEER1"))) (value_rule (codes "OWN2"))) (value_rule (codes "PEER2")))
+        (count_rule (codes "turns")))) }
+{
+    Command::new(alloc, "relay")
+        .arg(value(alloc, "DISK"))?
+        .arg(value(alloc, "OWN1"))?
+        .arg(value(alloc, "PEER1"))?
+        .arg(value(alloc, "OWN2"))?
+        .arg(value(alloc, "PEER2"))?
+        .arg(count(alloc, "turns"))
+}
+
 /// The words that the program knows.
 fn known_words<'a>(alloc: Global) -> Result<Command<'a>, AllocError>
     ensures { IfOk result (λ command. app_of command ≡ macsecd) }
@@ -146,7 +188,8 @@ fn known_words<'a>(alloc: Global) -> Result<Command<'a>, AllocError>
         .subcommand(apply_words(alloc)?)?
         .subcommand(show_words(alloc)?)?
         .subcommand(capture_words(alloc, "protect")?)?
-        .subcommand(capture_words(alloc, "validate")?)
+        .subcommand(capture_words(alloc, "validate")?)?
+        .subcommand(relay_words(alloc)?)
 }
 
 /// What an error says first, in one line. It repeats the words, so control characters are replaced.
@@ -185,11 +228,20 @@ fn number_in(values: &ArgMatches, name: &str) -> Option<u32>
     text_in(values, name)?.parse().ok()
 }
 
+/// The number of 64 bits that a value is in decimal digits.
+fn count_in(values: &ArgMatches, name: &str) -> Option<u64>
+    ensures read { IfSome result (HasNumber (rows_of (found_of values.now)) name.now) }
+    ensures found { (number : ℕ) → HasNumber (rows_of (found_of values.now)) name.now number
+        → number < 2 ^ 64 → IsSome result }
+{
+    text_in(values, name)?.parse().ok()
+}
+
 /// `format` with its values.
 fn format_in<'a>(values: &ArgMatches<'a>) -> Option<Action<'a>>
     ensures read { IfSome result (λ action. Names (Some (codes "format", rows_of (found_of values.now))) action) }
     ensures found { (action : Action) → Names (Some (codes "format", rows_of (found_of values.now))) action
-        → HasBlocks action → IsSome result }
+        → FitsNumbers action → IsSome result }
 {
     let disk = text_in(values, "DISK")?;
     let sci = text_in(values, "SCI")?;
@@ -256,11 +308,41 @@ fn validate_in<'a>(values: &ArgMatches<'a>) -> Option<Action<'a>>
     })
 }
 
+/// The two addresses of a wire.
+fn ends_in<'a>(values: &ArgMatches<'a>, own: &str, peer: &str) -> Option<WireEnds<'a>>
+    ensures read { IfSome result (λ ends. HasText (rows_of (found_of values.now)) own.now ends.own.now
+        × HasText (rows_of (found_of values.now)) peer.now ends.peer.now) }
+    ensures found { (at there : Text) → HasText (rows_of (found_of values.now)) own.now at
+        → HasText (rows_of (found_of values.now)) peer.now there → IsSome result }
+{
+    let own = text_in(values, own)?;
+    let peer = text_in(values, peer)?;
+    Some(WireEnds { own, peer })
+}
+
+/// `relay` with its values.
+fn relay_in<'a>(values: &ArgMatches<'a>) -> Option<Action<'a>>
+    ensures read { IfSome result (λ action. Names (Some (codes "relay", rows_of (found_of values.now))) action) }
+    ensures found { (action : Action) → Names (Some (codes "relay", rows_of (found_of values.now))) action
+        → FitsNumbers action → IsSome result }
+{
+    let disk = text_in(values, "DISK")?;
+    let controlled = ends_in(values, "OWN1", "PEER1")?;
+    let common = ends_in(values, "OWN2", "PEER2")?;
+    let turns = count_in(values, "turns")?;
+    Some(Action::Relay {
+        disk,
+        controlled,
+        common,
+        turns,
+    })
+}
+
 /// The action of the subcommand that was used with its values, `open` where there was none.
 fn action_in<'a>(matches: &ArgMatches<'a>) -> Option<Action<'a>>
     ensures read { IfSome result (Names (subcommand_rows_of matches.now)) }
     ensures found { (action : Action) → Names (subcommand_rows_of matches.now) action
-        → HasBlocks action → IsSome result }
+        → FitsNumbers action → IsSome result }
 {
     let Some((name, values)) = matches.subcommand() else {
         return Some(Action::Open);
@@ -272,6 +354,7 @@ fn action_in<'a>(matches: &ArgMatches<'a>) -> Option<Action<'a>>
         "show" => show_in(values),
         "protect" => protect_in(values),
         "validate" => validate_in(values),
+        "relay" => relay_in(values),
         _ => None,
     }
 }

@@ -17,9 +17,8 @@ ghost use Rattle.macsecd.specs.Applying.{outcome_line, refusal_name};
 ghost use Rattle.macsecd.specs.Failing.{failure_of_journal};
 
 use crate::failure::Failure;
-use crate::output::print_octets;
+use crate::output::{Line, print_octets};
 use crate::status::Status;
-use arrayvec::ArrayVec;
 use itoa::Buffer;
 use macs_config::{Command, Refusal};
 use macs_disk::SectorDisk;
@@ -32,12 +31,6 @@ use toml::Table;
 
 /// The longest command file, in octets.
 pub const MAX_FILE: usize = 1_048_576;
-
-/// The longest line: the number of a command, and what became of it.
-const MAX_LINE: usize = 64;
-
-/// A line with its line feed. No memory is taken for it, so that none is wanting once a command is kept.
-type Line = ArrayVec<u8, MAX_LINE>;
 
 /// The table of a TOML text.
 fn table_of(alloc: Global, text: &str) -> Result<Table, Failure>

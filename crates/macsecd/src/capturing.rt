@@ -1,19 +1,23 @@
 //! `protect` and `validate`: a capture through an endpoint.
 
-ghost use Rattle.std.specs.Prelude.{◌≡◌, ◌⊎◌, IfErr, IfOk, string_bytes};
+ghost use Rattle.std.specs.Prelude.{◌≡◌, ◌≢◌, ◌⊎◌, IfErr, IfOk, Ok};
+ghost use Rattle.std.specs.Io.KnownBytes.{Appends};
 ghost use Rattle.macs_edge.specs.Passing.{RunsOver, run_of};
 ghost use Rattle.macs_edge.specs.declared.passing.RunFault.{RunFault};
+ghost use Rattle.macs_edge.specs.declared.passing.Summary.{Summary};
 ghost use Rattle.macsecd.specs.Capturing.{PassesCapture, side_of};
-ghost use Rattle.macsecd.specs.Failing.{failure_of_run};
+ghost use Rattle.macsecd.specs.Failing.{failure_of_run, failure_status};
 ghost use Rattle.macsecd.specs.Summing.{summary_line};
 
 use crate::failure::Failure;
-use crate::output::ended;
+use crate::output::{Line, append_count, print_octets};
+use crate::status::Status;
 use macs_disk::SectorDisk;
 use macs_edge::{RunFault, Summary, run_protect, run_validate};
 use macs_endpoint::Endpoint;
 use macs_pcap::{Sink, Source};
-use std::alloc::{AllocError, Global};
+use std::alloc::Global;
+use std::io::Write;
 
 /// Which way a capture goes.
 #[derive(Clone, Copy)]
@@ -25,19 +29,22 @@ pub enum Direction {
 }
 
 /// The line that a run ends with.
-pub fn summary_line(
-    alloc: Global,
-    direction: Direction,
-    summary: Summary,
-) -> Result<String, AllocError>
-    ensures { IfOk result (λ text. string_bytes text ≡ summary_line direction summary) }
+fn summary_line(direction: Direction, summary: Summary) -> Line
+    ensures { result.items ≡ summary_line direction summary }
 {
-    let Summary { passed, dropped } = summary;
-    let text = match direction {
-        Direction::Protect => format!(in alloc; "protected {passed} dropped {dropped}")?,
-        Direction::Validate => format!(in alloc; "delivered {passed} discarded {dropped}")?,
-    };
-    ended(text)
+    let mut line = Line::new();
+    match direction {
+        Direction::Protect => {
+            append_count(&mut line, "protected ", summary.passed);
+            append_count(&mut line, " dropped ", summary.dropped);
+        }
+        Direction::Validate => {
+            append_count(&mut line, "delivered ", summary.passed);
+            append_count(&mut line, " discarded ", summary.dropped);
+        }
+    }
+    line.push(b'\n');
+    line
 }
 
 /// Takes a whole capture through an endpoint. Nothing is flushed.
@@ -60,7 +67,7 @@ fn run_side<D: SectorDisk, R: Source, W: Sink>(
 
 /// Takes a whole capture through an endpoint, and hands on all that was written, where a fault ended
 /// the run too.
-pub fn run_capture<D: SectorDisk, R: Source, W: Sink>(
+fn run_capture<D: SectorDisk, R: Source, W: Sink>(
     alloc: Global,
     endpoint: &mut Endpoint<D>,
     direction: Direction,
@@ -80,4 +87,26 @@ pub fn run_capture<D: SectorDisk, R: Source, W: Sink>(
         Ok(()) => Ok(summary),
         Err(_) => Err(Failure::Capture),
     }
+}
+
+/// Takes a whole capture through an endpoint, hands on all that was written, and prints what became of its
+/// frames.
+pub fn pass_frames<D: SectorDisk, R: Source, S: Sink, W: Write>(
+    alloc: Global,
+    endpoint: &mut Endpoint<D>,
+    direction: Direction,
+    source: &mut R,
+    sink: &mut S,
+    out: &mut W,
+) -> Result<Status, Failure>
+    ensures printed { IfOk result (λ status. (summary : Summary) × PassesCapture D.disk (side_of direction)
+        (run_of endpoint.old (R.state source.old) (S.state sink.old)) (Ok summary)
+        (run_of endpoint.new (R.state source.new) (S.state sink.new))
+        × Appends (W.contents out.old) (W.contents out.new) (summary_line direction summary) × (status ≡ Status.Done)) }
+    ensures failed { IfErr result (λ failure. failure_status failure ≢ Status.Usage) }
+    ensures silent { IfErr result (λ failure. failure_status failure ≡ Status.Disk → out.new ≡ out.old) }
+{
+    let summary = run_capture(alloc, endpoint, direction, source, sink)?;
+    print_octets(out, summary_line(direction, summary).as_slice())?;
+    Ok(Status::Done)
 }

@@ -1,11 +1,12 @@
 //! What ends a run before its answer.
 
 use crate::action::UsageFault;
+use crate::addresses::AddressFault;
 use crate::request::InputFault;
 use crate::status::Status;
 use crate::values::ValueFault;
 use macs_disk::FileFault;
-use macs_edge::{ConfigFault, RunFault};
+use macs_edge::{BindFault, ConfigFault, RunFault};
 use macs_endpoint::RefillFault;
 use macs_journal::JournalFault;
 use macs_pcap::PcapFault;
@@ -29,12 +30,16 @@ pub enum Failure {
     Usage(String),
     /// A value among the words is none that the program takes.
     Value(ValueFault),
+    /// A word that is an address is none.
+    Address(AddressFault),
     /// The disk file does not serve.
     Disk(DiskFault),
     /// A capture cannot be opened, read or written.
     Capture,
     /// A command file cannot be read, or spells no commands.
     Commands,
+    /// A wire cannot be bound.
+    Wire,
     /// Memory is wanting.
     Memory,
     /// The input cannot be read, or spells no request.
@@ -76,9 +81,11 @@ impl Failure {
         match self {
             Failure::Usage(cause) => cause.as_str(),
             Failure::Value(fault) => fault.text(),
+            Failure::Address(fault) => fault.text(),
             Failure::Disk(fault) => fault.text(),
             Failure::Capture => "capture",
             Failure::Commands => "commands",
+            Failure::Wire => "wire",
             Failure::Memory => "memory",
             Failure::Input(fault) => fault.text(),
             Failure::Output => "output",
@@ -90,10 +97,11 @@ impl Failure {
         ensures { result ≡ failure_status self.now }
     {
         match self {
-            Failure::Usage(_) | Failure::Value(_) => Status::Usage,
+            Failure::Usage(_) | Failure::Value(_) | Failure::Address(_) => Status::Usage,
             Failure::Disk(_) => Status::Disk,
             Failure::Capture
             | Failure::Commands
+            | Failure::Wire
             | Failure::Memory
             | Failure::Input(_)
             | Failure::Output => Status::Fault,
@@ -134,6 +142,17 @@ impl From<ValueFault> for Failure {
 
     fn from(fault: ValueFault) -> Failure {
         Failure::Value(fault)
+    }
+}
+
+impl From<AddressFault> for Failure {
+    ghost use Rattle.std.specs.Prelude.{◌≡◌};
+    ghost use Rattle.macsecd.specs.declared.failure.Failure.TheVariants.{Address};
+
+    ghost from_gives = { λ fault failure. failure ≡ Address fault };
+
+    fn from(fault: AddressFault) -> Failure {
+        Failure::Address(fault)
     }
 }
 
@@ -188,6 +207,35 @@ impl From<ConfigFault> for Failure {
     }
 }
 
+impl From<BindFault> for Failure {
+    ghost use Rattle.std.specs.Prelude.{◌≡◌};
+    ghost use Rattle.macsecd.specs.Failing.{failure_of_bind};
+
+    ghost from_gives = { λ fault failure. failure ≡ failure_of_bind fault };
+
+    fn from(fault: BindFault) -> Failure {
+        match fault {
+            BindFault::Memory => Failure::Memory,
+            BindFault::Bind => Failure::Wire,
+        }
+    }
+}
+
+impl From<RefillFault> for Failure {
+    ghost use Rattle.std.specs.Prelude.{◌≡◌};
+    ghost use Rattle.macsecd.specs.Failing.{failure_of_refill};
+
+    ghost from_gives = { λ fault failure. failure ≡ failure_of_refill fault };
+
+    fn from(fault: RefillFault) -> Failure {
+        match fault {
+            RefillFault::Stopped => JournalFault::Stopped.into(),
+            RefillFault::GenerationsSpent => JournalFault::GenerationsSpent.into(),
+            RefillFault::Disk => JournalFault::Disk.into(),
+        }
+    }
+}
+
 impl From<RunFault> for Failure {
     ghost use Rattle.std.specs.Prelude.{◌≡◌};
     ghost use Rattle.macsecd.specs.Failing.{failure_of_run};
@@ -198,11 +246,7 @@ impl From<RunFault> for Failure {
         match fault {
             RunFault::Pcap(PcapFault::Memory) => Failure::Memory,
             RunFault::Pcap(_) => Failure::Capture,
-            RunFault::Device(RefillFault::Stopped) => JournalFault::Stopped.into(),
-            RunFault::Device(RefillFault::GenerationsSpent) => {
-                JournalFault::GenerationsSpent.into()
-            }
-            RunFault::Device(RefillFault::Disk) => JournalFault::Disk.into(),
+            RunFault::Device(fault) => fault.into(),
         }
     }
 }

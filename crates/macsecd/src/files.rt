@@ -1,6 +1,6 @@
 //! The files that the words name.
 
-ghost use Rattle.std.specs.Prelude.{◌≡◌, ◌≢◌, ◌⊎◌, IfErr, IfOk, IfSome};
+ghost use Rattle.std.specs.Prelude.{◌≡◌, ◌≢◌, ◌⊎◌, ℕ, List, IfErr, IfOk, IfSome};
 ghost use Rattle.std.specs.IoError.{error_kind};
 ghost use Rattle.std.specs.declared.io.ErrorKind.TheVariants.{OutOfMemory};
 ghost use Rattle.macsecd.specs.Applying.{SaysCommands};
@@ -74,6 +74,7 @@ where
 fn read_commands<R: Read>(alloc: Global, file: &mut R) -> Result<Vec<Command>, Failure>
     ensures said { IfOk result (λ commands. IfSome (R.remaining file.old)
         (λ octets. SaysCommands octets commands.items)) }
+    ensures spelled { IfOk result (λ commands. (octets : List ℕ) × SaysCommands octets commands.items) }
     ensures failed { IfErr result (λ failure. (failure ≡ Failure.Memory) ⊎ (failure ≡ Failure.Commands)) }
 {
     let mut octets = Vec::new(alloc);
@@ -89,7 +90,8 @@ pub fn commands_of_file<T: Files>(
     alloc: Global,
     path: &str,
 ) -> Result<Vec<Command>, Failure>
-    ensures { IfErr result (λ failure. (failure ≡ Failure.Memory) ⊎ (failure ≡ Failure.Commands)) }
+    ensures spelled { IfOk result (λ commands. (octets : List ℕ) × SaysCommands octets commands.items) }
+    ensures failed { IfErr result (λ failure. (failure ≡ Failure.Memory) ⊎ (failure ≡ Failure.Commands)) }
 {
     match fs::open(rt, path) {
         Ok(mut file) => read_commands(alloc, &mut file),

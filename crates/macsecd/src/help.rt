@@ -3,7 +3,7 @@
 ghost use Rattle.std.specs.Prelude.{◌≡◌, ◌↔◌, IsTrue, Some};
 ghost use Rattle.macsecd.specs.Words.{AsksFor, IsHelpFlag, IsVersionFlag, name_of, texts};
 
-use crate::help_texts::{APPLY, FORMAT, HELP, OPEN, PROTECT, SHOW, VALIDATE, VERSION};
+use crate::help_texts::{APPLY, FORMAT, HELP, OPEN, PROTECT, RELAY, SHOW, VALIDATE, VERSION};
 
 /// A subcommand.
 #[derive(Clone, Copy)]
@@ -14,6 +14,7 @@ pub enum Subcommand {
     Show,
     Protect,
     Validate,
+    Relay,
 }
 
 /// What is asked for in place of an action.
@@ -43,6 +44,7 @@ impl Subcommand {
             "show" => Some(Subcommand::Show),
             "protect" => Some(Subcommand::Protect),
             "validate" => Some(Subcommand::Validate),
+            "relay" => Some(Subcommand::Relay),
             _ => None,
         }
     }
@@ -58,6 +60,7 @@ impl Subcommand {
             Subcommand::Show => SHOW,
             Subcommand::Protect => PROTECT,
             Subcommand::Validate => VALIDATE,
+            Subcommand::Relay => RELAY,
         }
     }
 }

@@ -8,10 +8,12 @@ pub const HELP: &str = "usage: macsecd [SUBCOMMAND VALUES..]
   show DISK                    prints the configuration and the packet numbers
   protect DISK INPUT OUTPUT    protects the frames of a capture
   validate DISK INPUT OUTPUT   validates the frames of a capture
+  relay DISK OWN1 PEER1 OWN2 PEER2 --turns n
+                               relays frames between two wires of UDP
 
 macsecd SUBCOMMAND --help says more of each; --version prints the version.
 A fault is one line on standard error.
-status: 0 done, 2 usage, 3 refused, 4 disk, 5 input, output or memory
+status: 0 done, 2 usage, 3 refused, 4 disk, 5 input, wire, output or memory
 ";
 
 pub const OPEN: &str = "usage: macsecd [open]
@@ -102,6 +104,25 @@ DISK, INPUT and OUTPUT are three files.
 
 example: macsecd validate right.disk protected.pcap plain.pcap
 status: 0 done, 2 usage, 4 disk, 5 capture, output or memory
+";
+
+pub const RELAY: &str = "usage: macsecd relay DISK OWN1 PEER1 OWN2 PEER2 --turns n
+
+Relays frames between two wires of UDP: a datagram is one Ethernet frame without
+FCS. Frames of the first wire, the controlled side, are protected and go to the
+second; frames of the second one that are delivered go to the first. At the end
+it prints 'sent 6 delivered 0 dropped 0 faults 0'.
+  DISK           a disk file that was formatted
+  OWN1, OWN2     where each wire is bound: address and port, as 127.0.0.1:4000
+                 or [::1]:4000; port 0 is any
+  PEER1, PEER2   where its datagrams go to; those from elsewhere are dropped
+  --turns n      how often each wire is asked for a frame, at most:
+                 0 to 18446744073709551615
+No turn waits for a frame, so one processor is busy until the last.
+
+example: macsecd relay left.disk 127.0.0.1:4001 127.0.0.1:4000 \\
+           127.0.0.1:5001 127.0.0.1:5002 --turns 10000000
+status: 0 done, 2 usage, 4 disk, 5 wire, output or memory
 ";
 
 pub const VERSION: &str = "macsecd 0.1.0\n";

@@ -2,6 +2,7 @@
 #![tactic(auto)]
 
 mod action;
+mod addresses;
 mod answer;
 mod applying;
 mod capturing;
@@ -14,6 +15,7 @@ mod lines;
 mod on_disk;
 mod output;
 mod plain_text;
+mod relaying;
 mod request;
 mod run;
 mod showing;

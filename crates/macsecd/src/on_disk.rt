@@ -5,25 +5,32 @@ ghost use Rattle.std.specs.Io.KnownBytes.{Appends};
 ghost use Rattle.macs_config.specs.Identity.{Identity};
 ghost use Rattle.macs_config.specs.declared.refusal.Refusal.{Refusal};
 ghost use Rattle.macs_edge.specs.declared.passing.Summary.{Summary};
+ghost use Rattle.macs_edge.specs.declared.relaying.RelaySummary.{RelaySummary};
 ghost use Rattle.macs_endpoint.specs.State.{State};
+ghost use Rattle.macsecd.specs.Addresses.{AddressFaultHolds};
 ghost use Rattle.macsecd.specs.Applying.{outcome_lines, outcomes_status};
 ghost use Rattle.macsecd.specs.Failing.{failure_status};
 ghost use Rattle.macsecd.specs.Showing.{line, show_text};
-ghost use Rattle.macsecd.specs.Summing.{summary_line};
+ghost use Rattle.macsecd.specs.Summing.{relay_line, summary_line};
 ghost use Rattle.macsecd.specs.Values.{SpellsIdentity, ValueFaultHolds};
+ghost use Rattle.macsecd.specs.declared.addresses.AddressFault.{AddressFault};
 ghost use Rattle.macsecd.specs.declared.values.ValueFault.{ValueFault};
 
+use crate::action::WireEnds;
+use crate::addresses::addresses_of;
 use crate::applying::apply_commands;
-use crate::capturing::{Direction, run_capture, summary_line};
+use crate::capturing::{Direction, pass_frames};
 use crate::failure::Failure;
 use crate::files::{commands_of_file, format_disk, make_capture, open_capture, open_endpoint};
 use crate::output::print;
+use crate::relaying::{bind, relay_frames};
 use crate::showing::show_lines;
 use crate::status::Status;
 use crate::values::identity_of;
 use macs_disk::DiskFile;
 use std::alloc::Global;
 use std::io::Write;
+use std::net::Net;
 use std::rt::Files;
 
 /// `format`: makes a disk file for an endpoint.
@@ -41,6 +48,7 @@ where
         × Appends (W.contents out.old) (W.contents out.new) (line (codes "formatted")) × (status ≡ Status.Done)) }
     ensures usage { IfErr result (λ failure. failure_status failure ≡ Status.Usage
         → ((fault : ValueFault) × ValueFaultHolds sci.now tx_block rx_block fault) × (out.new ≡ out.old)) }
+    ensures silent { IfErr result (λ failure. failure_status failure ≡ Status.Disk → out.new ≡ out.old) }
 {
     let identity = identity_of(sci, tx_block, rx_block)?;
     format_disk(rt, disk, &identity)?;
@@ -62,6 +70,8 @@ where
         × Appends (W.contents out.old) (W.contents out.new) (outcome_lines 1 outcomes)
         × (status ≡ outcomes_status outcomes)) }
     ensures failed { IfErr result (λ failure. failure_status failure ≢ Status.Usage) }
+    ensures lines { IfErr result (λ failure. failure_status failure ≡ Status.Disk
+        → (outcomes : List (Option Refusal)) × Appends (W.contents out.old) (W.contents out.new) (outcome_lines 1 outcomes)) }
 {
     let mut endpoint = open_endpoint(rt, disk)?;
     let commands = commands_of_file(rt, alloc, file)?;
@@ -80,6 +90,7 @@ where
     ensures printed { IfOk result (λ status. (s : State)
         × Appends (W.contents out.old) (W.contents out.new) (show_text s) × (status ≡ Status.Done)) }
     ensures failed { IfErr result (λ failure. failure_status failure ≢ Status.Usage) }
+    ensures silent { IfErr result (λ failure. failure_status failure ≡ Status.Disk → out.new ≡ out.old) }
 {
     let endpoint = open_endpoint(rt, disk)?;
     let text = show_lines(alloc, &endpoint)?;
@@ -102,11 +113,35 @@ where
     ensures printed { IfOk result (λ status. (summary : Summary)
         × Appends (W.contents out.old) (W.contents out.new) (summary_line direction summary) × (status ≡ Status.Done)) }
     ensures failed { IfErr result (λ failure. failure_status failure ≢ Status.Usage) }
+    ensures silent { IfErr result (λ failure. failure_status failure ≡ Status.Disk → out.new ≡ out.old) }
 {
     let mut endpoint = open_endpoint(rt, disk)?;
     let mut source = open_capture(rt, alloc, from)?;
     let mut sink = make_capture(rt, alloc, to)?;
-    let summary = run_capture(alloc, &mut endpoint, direction, &mut source, &mut sink)?;
-    print(out, summary_line(alloc, direction, summary)?.as_str())?;
-    Ok(Status::Done)
+    pass_frames(alloc, &mut endpoint, direction, &mut source, &mut sink, out)
+}
+
+/// `relay`: relays frames between two wires, the first of which is the controlled side.
+pub fn relay<T: Files + Net, W: Write>(
+    rt: &T,
+    alloc: Global,
+    disk: &str,
+    controlled: WireEnds,
+    common: WireEnds,
+    turns: u64,
+    out: &mut W,
+) -> Result<Status, Failure>
+where
+    T::File: DiskFile,
+    ensures printed { IfOk result (λ status. (summary : RelaySummary)
+        × Appends (W.contents out.old) (W.contents out.new) (relay_line summary) × (status ≡ Status.Done)) }
+    ensures usage { IfErr result (λ failure. failure_status failure ≡ Status.Usage
+        → ((fault : AddressFault) × AddressFaultHolds controlled.entry common.entry fault) × (out.new ≡ out.old)) }
+    ensures silent { IfErr result (λ failure. failure_status failure ≡ Status.Disk → out.new ≡ out.old) }
+{
+    let addresses = addresses_of(controlled, common)?;
+    let mut endpoint = open_endpoint(rt, disk)?;
+    let mut controlled = bind(rt, alloc, addresses.controlled)?;
+    let mut common = bind(rt, alloc, addresses.common)?;
+    relay_frames(&mut endpoint, &mut controlled, &mut common, turns, out)
 }

@@ -5,8 +5,8 @@ ghost use Rattle.std.specs.Io.KnownBytes.{Appends};
 ghost use Rattle.clap.specs.Words.{subcommand_of, takes};
 ghost use Rattle.macsecd.specs.Answer.{answer_text};
 ghost use Rattle.macsecd.specs.Failing.{failure_status};
-ghost use Rattle.macsecd.specs.Run.{Does, HasWrongValues, Prints, Replies, WrongValues, code_of};
-ghost use Rattle.macsecd.specs.Words.{Names, macsecd, texts};
+ghost use Rattle.macsecd.specs.Run.{Does, HasPrinted, HasWrongValues, Prints, Replies, WrongValues, code_of};
+ghost use Rattle.macsecd.specs.Words.{AsksForNothing, Names, macsecd, texts};
 ghost use Rattle.macsecd.specs.declared.action.Action.{Action};
 ghost use Rattle.macsecd.specs.declared.status.Status.{Status};
 
@@ -15,7 +15,7 @@ use crate::answer::{Answer, answer_of};
 use crate::capturing::Direction;
 use crate::failure::Failure;
 use crate::help::topic_of;
-use crate::on_disk::{apply, format, pass, show};
+use crate::on_disk::{apply, format, pass, relay, show};
 use crate::output::print;
 use crate::request::InputFault;
 use crate::status::Status;
@@ -24,6 +24,7 @@ use macs_disk::DiskFile;
 use std::alloc::{AllocError, Allocator, Global};
 use std::io;
 use std::io::{Read, Write};
+use std::net::Net;
 use std::rt::Files;
 
 /// One octet more than the longest input that is taken.
@@ -70,7 +71,7 @@ fn open_input<R: Read, W: Write>(
 }
 
 /// Does what an action asks for.
-fn perform<T: Files, R: Read, W: Write>(
+fn perform<T: Files + Net, R: Read, W: Write>(
     rt: &T,
     alloc: Global,
     action: Action,
@@ -83,7 +84,8 @@ where
     ensures status { IfOk result (λ status. (status ≡ Status.Done) ⊎ (status ≡ Status.Refused)) }
     ensures usage { IfErr result (λ failure. failure_status failure ≡ Status.Usage
         → WrongValues action.entry × (out.new ≡ out.old)) }
-    ensures disk { IfErr result (λ failure. failure_status failure ≡ Status.Disk → action.entry ≢ Action.Open) }
+    ensures disk { IfErr result (λ failure. failure_status failure ≡ Status.Disk → (action.entry ≢ Action.Open)
+        × HasPrinted action.entry (W.contents out.old) (W.contents out.new)) }
     ensures unread { action.entry ≢ Action.Open → input.new ≡ input.old }
 {
     match action {
@@ -106,11 +108,17 @@ where
             input: from,
             output: to,
         } => pass(rt, alloc, Direction::Validate, disk, from, to, out),
+        Action::Relay {
+            disk,
+            controlled,
+            common,
+            turns,
+        } => relay(rt, alloc, disk, controlled, common, turns, out),
     }
 }
 
 /// Does what the words ask for.
-fn act<T: Files, R: Read, W: Write>(
+fn act<T: Files + Net, R: Read, W: Write>(
     rt: &T,
     alloc: Global,
     words: &[&str],
@@ -124,9 +132,12 @@ where
     ensures status { IfOk result (λ status. (status ≡ Status.Done) ⊎ (status ≡ Status.Refused)) }
     ensures usage { IfErr result (λ failure. failure_status failure ≡ Status.Usage
         → ((takes macsecd (texts words.now) ≢ true) ⊎ HasWrongValues (texts words.now)) × (out.new ≡ out.old)) }
+    ensures help { IfErr result (λ failure. failure_status failure ≡ Status.Usage
+        → AsksForNothing (texts words.now)) }
     ensures disk { IfErr result (λ failure. failure_status failure ≡ Status.Disk
         → (takes macsecd (texts words.now) ≡ true)
-        × (action : Action) × Names (subcommand_of macsecd (texts words.now)) action × (action ≢ Action.Open)) }
+        × (action : Action) × Names (subcommand_of macsecd (texts words.now)) action × (action ≢ Action.Open)
+        × HasPrinted action (W.contents out.old) (W.contents out.new)) }
     ensures unread { ((takes macsecd (texts words.now) ≡ true)
         × Names (subcommand_of macsecd (texts words.now)) Action.Open → ⊥) → input.new ≡ input.old }
 {
@@ -148,8 +159,9 @@ pub fn report<E: Write>(failure: &Failure, err: &mut E) -> u8
 
 /// Runs the program: the words without the program's own name, standard input, standard output and
 /// standard error. It answers the status of the process. Faults are found in this order: the words;
-/// the SCI and the blocks; the disk file and its opening; the other files from left to right.
-pub fn run<T: Files, R: Read, W: Write, E: Write>(
+/// the SCI, the blocks and the addresses; the disk file and its opening; the other files or the binds from
+/// left to right; that the order among files is this one is tested.
+pub fn run<T: Files + Net, R: Read, W: Write, E: Write>(
     rt: &T,
     alloc: Global,
     words: &[&str],
@@ -168,12 +180,16 @@ where
         (W.contents out.old) (W.contents out.new) status }
     // And nothing on standard error.
     ensures quiet { (result ≡ 0) ⊎ (result ≡ 3) → err.new ≡ err.old }
-    // At 2 the words are none that are taken, or a value among them is none, and nothing is printed.
+    // At 2 the words ask for no help.
+    ensures help { result ≡ 2 → AsksForNothing (texts words.now) }
+    // And they are none that are taken, or a value among them is none, and nothing is printed.
     ensures usage { result ≡ 2 → ((takes macsecd (texts words.now) ≢ true) ⊎ HasWrongValues (texts words.now))
         × (out.new ≡ out.old) }
-    // At 4 the words are taken and name another action than `open`.
+    // At 4 the words are taken and name another action than `open`, and nothing was printed but, of `apply`,
+    // the lines of the commands before the fault.
     ensures disk { result ≡ 4 → (takes macsecd (texts words.now) ≡ true)
-        × (action : Action) × Names (subcommand_of macsecd (texts words.now)) action × (action ≢ Action.Open) }
+        × (action : Action) × Names (subcommand_of macsecd (texts words.now)) action × (action ≢ Action.Open)
+        × HasPrinted action (W.contents out.old) (W.contents out.new) }
     // Where the words are none that are taken, as those that ask for help, or name another action than
     // `open`, the input is left unread.
     ensures unread { ((takes macsecd (texts words.now) ≡ true)

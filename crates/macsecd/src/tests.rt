@@ -11,6 +11,7 @@ mod input;
 mod link;
 mod link_files;
 mod opening;
+mod relaying;
 mod stories;
 mod streams;
 mod words;
@@ -19,6 +20,7 @@ use crate::run::run;
 use std::alloc::{AllocError, Global};
 use std::fs::File;
 use std::io::{Read, Write};
+use std::net::Net;
 use std::process::Abort;
 use std::rt::Files;
 use std::test::Fail;
@@ -73,7 +75,7 @@ const OPENED: Outcome = Outcome::Done(INTEGRITY_LINE);
 
 /// Runs the program. What is proved of a run stays behind: the tests look at what it does.
 fn status_of<R: Read, W: Write, E: Write>(
-    rt: &(impl Abort + Files<File = File>),
+    rt: &(impl Abort + Files<File = File> + Net),
     alloc: Global,
     words: &[&str],
     input: &mut R,
@@ -85,7 +87,7 @@ fn status_of<R: Read, W: Write, E: Write>(
 
 /// Runs the words on what a reader gives, and asserts the whole outcome.
 fn expect_of<R: Read>(
-    rt: &(impl Abort + Files<File = File>),
+    rt: &(impl Abort + Files<File = File> + Net),
     alloc: Global,
     words: &[&str],
     input: &mut R,
@@ -102,7 +104,7 @@ fn expect_of<R: Read>(
 
 /// Runs the words on an input, and asserts the whole outcome.
 fn expect(
-    rt: &(impl Abort + Files<File = File>),
+    rt: &(impl Abort + Files<File = File> + Net),
     alloc: Global,
     words: &[&str],
     input: &str,
@@ -122,7 +124,7 @@ fn joined(alloc: Global, texts: &[&str]) -> Result<String, AllocError> {
 
 /// Opens an input of these texts, one behind the other, and asserts the whole outcome.
 fn expect_texts(
-    rt: &(impl Abort + Files<File = File>),
+    rt: &(impl Abort + Files<File = File> + Net),
     alloc: Global,
     texts: &[&str],
     outcome: Outcome,
@@ -134,7 +136,7 @@ fn expect_texts(
 
 /// Opens an input of a key, an SCI, an offset and a frame, each line with its end.
 fn expect_lines(
-    rt: &(impl Abort + Files<File = File>),
+    rt: &(impl Abort + Files<File = File> + Net),
     alloc: Global,
     [key, sci, offset, frame]: [&str; 4],
     outcome: Outcome,

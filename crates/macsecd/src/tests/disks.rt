@@ -6,6 +6,7 @@ use super::{Outcome, status_of};
 use std::alloc::Global;
 use std::fs::File;
 use std::io::Write;
+use std::net::Net;
 use std::process::Abort;
 use std::rt::Files;
 use std::test::Fail;
@@ -151,7 +152,7 @@ impl Write for Closed {
 }
 
 /// Words over a writer that fails end with status 5 and the line that says so.
-fn expect_closed(rt: &(impl Abort + Files<File = File>), alloc: Global, words: &[&str]) {
+fn expect_closed(rt: &(impl Abort + Files<File = File> + Net), alloc: Global, words: &[&str]) {
     let mut err = Vec::new(alloc);
     let status = status_of(rt, alloc, words, &mut b"".as_slice(), &mut Closed, &mut err);
     assert_eq!(rt; status, 5);

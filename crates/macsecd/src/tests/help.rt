@@ -1,11 +1,13 @@
 //! What asks for help, and that what the help names is there.
 
 use super::help_text::{
-    APPLY_TEXT, FORMAT_TEXT, HELP_TEXT, OPEN_TEXT, PROTECT_TEXT, SHOW_TEXT, VALIDATE_TEXT,
+    APPLY_TEXT, FORMAT_TEXT, HELP_TEXT, OPEN_TEXT, PROTECT_TEXT, RELAY_TEXT, SHOW_TEXT,
+    VALIDATE_TEXT,
 };
 use super::{INPUT, OPENED, Outcome, expect};
 use std::alloc::Global;
 use std::fs::File;
+use std::net::Net;
 use std::process::Abort;
 use std::rt::Files;
 
@@ -33,7 +35,7 @@ fn prints_its_version(rt: HostRuntime) {
 
 /// Asks for help on a subcommand with both flags, and asserts that it begins with this usage.
 fn expect_help(
-    rt: &(impl Abort + Files<File = File>),
+    rt: &(impl Abort + Files<File = File> + Net),
     alloc: Global,
     name: &str,
     usage: &str,
@@ -143,4 +145,15 @@ fn names_what_open_does(rt: HostRuntime) {
         assert!(rt; OPEN_TEXT.contains(*name), "{name}");
         expect(&rt, rt.alloc(), &["open"], input, *outcome);
     }
+}
+
+#[test]
+fn prints_help_on_relays(rt: HostRuntime) {
+    expect_help(
+        &rt,
+        rt.alloc(),
+        "relay",
+        "usage: macsecd relay DISK OWN1 PEER1 OWN2 PEER2 --turns n\n",
+        RELAY_TEXT,
+    );
 }

@@ -5,6 +5,7 @@ use std::alloc::Global;
 use std::fs;
 use std::fs::{File, OpenOptions, Permissions};
 use std::io::{Read, Write};
+use std::net::Net;
 use std::os::unix::fs::PermissionsExt;
 use std::process::Abort;
 use std::rt::Files;
@@ -34,14 +35,18 @@ pub enum Step {
 }
 
 /// Makes a file of these octets.
-fn make(rt: &(impl Abort + Files<File = File>), path: &str, octets: &[u8]) -> Result<(), Fail> {
+fn make(
+    rt: &(impl Abort + Files<File = File> + Net),
+    path: &str,
+    octets: &[u8],
+) -> Result<(), Fail> {
     fs::write(rt, path, octets)?;
     Ok(())
 }
 
 /// Makes a file of one octet, so many times.
 fn fill(
-    rt: &(impl Abort + Files<File = File>),
+    rt: &(impl Abort + Files<File = File> + Net),
     alloc: Global,
     path: &str,
     octet: u8,
@@ -65,14 +70,18 @@ fn octets_of(rt: &impl Abort, alloc: Global, text: &str) -> Result<Vec<u8>, Fail
 }
 
 /// Writes 0xff over the first octet of a file.
-fn spoil(rt: &(impl Abort + Files<File = File>), path: &str) -> Result<(), Fail> {
+fn spoil(rt: &(impl Abort + Files<File = File> + Net), path: &str) -> Result<(), Fail> {
     let mut file = OpenOptions::new().write(true).open(rt, path)?;
     file.write_all(&[0xff])?;
     Ok(())
 }
 
 /// Takes one step.
-fn take(rt: &(impl Abort + Files<File = File>), alloc: Global, step: Step) -> Result<(), Fail> {
+fn take(
+    rt: &(impl Abort + Files<File = File> + Net),
+    alloc: Global,
+    step: Step,
+) -> Result<(), Fail> {
     match step {
         Step::Run(words, outcome) => expect(rt, alloc, words, "", outcome),
         Step::Text(path, text) => make(rt, path, text.as_bytes())?,
@@ -94,7 +103,7 @@ fn take(rt: &(impl Abort + Files<File = File>), alloc: Global, step: Step) -> Re
 /// Takes steps, one after another, over files in a folder that is not there at first, and that is removed
 /// at the end.
 pub fn play(
-    rt: &(impl Abort + Files<File = File> + AllocGlobal),
+    rt: &(impl Abort + Files<File = File> + Net + AllocGlobal),
     alloc: Global,
     folder: &str,
     story: &[Step],

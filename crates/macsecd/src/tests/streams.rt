@@ -8,6 +8,7 @@ use linked_list_allocator::LocalHeap;
 use std::alloc::Global;
 use std::fs::File;
 use std::io::{self, Read, Write};
+use std::net::Net;
 use std::process::Abort;
 use std::rt::Files;
 use std::test::Fail;
@@ -151,7 +152,7 @@ fn a_slow_reader_is_read_whole(rt: HostRuntime) {
 
 /// A word on the input over a writer ends with this status and this line on standard error.
 fn expect_written<W: Write>(
-    rt: &(impl Abort + Files<File = File>),
+    rt: &(impl Abort + Files<File = File> + Net),
     alloc: Global,
     word: &str,
     out: &mut W,
@@ -166,7 +167,7 @@ fn expect_written<W: Write>(
 
 /// The line goes out as far as there is room for it.
 fn expect_narrow(
-    rt: &(impl Abort + Files<File = File>),
+    rt: &(impl Abort + Files<File = File> + Net),
     alloc: Global,
     room: usize,
     status: u8,

@@ -327,87 +327,135 @@ fn refuses_a_file_that_begins_with_a_hyphen(rt: HostRuntime) {
     }
 }
 
-/// An action in parts: its name, up to three texts and up to two numbers.
-type Parts<'a> = (&'a str, [&'a str; 3], [u32; 2]);
+/// An action in parts: its name, up to five texts and up to two numbers.
+type Parts<'a> = (&'a str, [&'a str; 5], [u64; 2]);
 
 /// Words that are taken, and the action that they name.
 const TAKEN: &[(&[&str], Parts<'static>)] = &[
-    (&[], ("open", ["", "", ""], [0, 0])),
-    (&["open"], ("open", ["", "", ""], [0, 0])),
+    (&[], ("open", ["", "", "", "", ""], [0, 0])),
+    (&["open"], ("open", ["", "", "", "", ""], [0, 0])),
     (
         &["format", "left.disk", "0200000000010001", "1024", "16"],
-        ("format", ["left.disk", "0200000000010001", ""], [1024, 16]),
+        (
+            "format",
+            ["left.disk", "0200000000010001", "", "", ""],
+            [1024, 16],
+        ),
     ),
     (
         &["format", "d", "s", "4294967295", "0"],
-        ("format", ["d", "s", ""], [4_294_967_295, 0]),
+        ("format", ["d", "s", "", "", ""], [4_294_967_295, 0]),
     ),
     (
         &["format", "", "", "+7", "0016"],
-        ("format", ["", "", ""], [7, 16]),
+        ("format", ["", "", "", "", ""], [7, 16]),
     ),
     (
         &["apply", "left.disk", "left.toml"],
-        ("apply", ["left.disk", "left.toml", ""], [0, 0]),
+        ("apply", ["left.disk", "left.toml", "", "", ""], [0, 0]),
     ),
     (
         &["show", "left.disk"],
-        ("show", ["left.disk", "", ""], [0, 0]),
+        ("show", ["left.disk", "", "", "", ""], [0, 0]),
     ),
-    (&["show", "open"], ("show", ["open", "", ""], [0, 0])),
-    (&["show", "-"], ("show", ["-", "", ""], [0, 0])),
+    (
+        &["show", "open"],
+        ("show", ["open", "", "", "", ""], [0, 0]),
+    ),
+    (&["show", "-"], ("show", ["-", "", "", "", ""], [0, 0])),
     (
         &["show", "--", "-left.disk"],
-        ("show", ["-left.disk", "", ""], [0, 0]),
+        ("show", ["-left.disk", "", "", "", ""], [0, 0]),
     ),
     (
         &["show", "--", "--help"],
-        ("show", ["--help", "", ""], [0, 0]),
+        ("show", ["--help", "", "", "", ""], [0, 0]),
     ),
     (
         &["protect", "left.disk", "plain.pcap", "protected.pcap"],
         (
             "protect",
-            ["left.disk", "plain.pcap", "protected.pcap"],
+            ["left.disk", "plain.pcap", "protected.pcap", "", ""],
             [0, 0],
         ),
     ),
     (
         &["protect", "validate", "protect", "show"],
-        ("protect", ["validate", "protect", "show"], [0, 0]),
+        ("protect", ["validate", "protect", "show", "", ""], [0, 0]),
     ),
     (
         &["validate", "right.disk", "protected.pcap", "plain.pcap"],
         (
             "validate",
-            ["right.disk", "protected.pcap", "plain.pcap"],
+            ["right.disk", "protected.pcap", "plain.pcap", "", ""],
             [0, 0],
         ),
+    ),
+    (
+        &[
+            "relay",
+            "d",
+            "--turns",
+            "18446744073709551615",
+            "a",
+            "b",
+            "c",
+            "e",
+        ],
+        (
+            "relay",
+            ["d", "a", "b", "c", "e"],
+            [18_446_744_073_709_551_615, 0],
+        ),
+    ),
+    (
+        &["relay", "d", "a", "b", "c", "e", "--turns=+0"],
+        ("relay", ["d", "a", "b", "c", "e"], [0, 0]),
     ),
 ];
 
 /// An action in its parts.
 fn parts<'a>(action: Action<'a>) -> Parts<'a> {
     match action {
-        Action::Open => ("open", ["", "", ""], [0, 0]),
+        Action::Open => ("open", ["", "", "", "", ""], [0, 0]),
         Action::Format {
             disk,
             sci,
             tx_block,
             rx_block,
-        } => ("format", [disk, sci, ""], [tx_block, rx_block]),
-        Action::Apply { disk, file } => ("apply", [disk, file, ""], [0, 0]),
-        Action::Show { disk } => ("show", [disk, "", ""], [0, 0]),
+        } => (
+            "format",
+            [disk, sci, "", "", ""],
+            [u64::from(tx_block), u64::from(rx_block)],
+        ),
+        Action::Apply { disk, file } => ("apply", [disk, file, "", "", ""], [0, 0]),
+        Action::Show { disk } => ("show", [disk, "", "", "", ""], [0, 0]),
         Action::Protect {
             disk,
             input,
             output,
-        } => ("protect", [disk, input, output], [0, 0]),
+        } => ("protect", [disk, input, output, "", ""], [0, 0]),
         Action::Validate {
             disk,
             input,
             output,
-        } => ("validate", [disk, input, output], [0, 0]),
+        } => ("validate", [disk, input, output, "", ""], [0, 0]),
+        Action::Relay {
+            disk,
+            controlled,
+            common,
+            turns,
+        } => (
+            "relay",
+            [
+                disk,
+                controlled.own,
+                controlled.peer,
+                common.own,
+                common.peer,
+            ],
+            [turns, 0],
+        ),
     }
 }
 

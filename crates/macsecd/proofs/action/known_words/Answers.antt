@@ -14,4 +14,5 @@ returns c =
     let applies = one_more _ _ c.in_ok-subcommand-3.field-0 _ _ formats c.in_ok-apply_words.ensures c.in_ok-subcommand-3.ensures in
     let shows = one_more _ _ c.in_ok-subcommand-4.field-0 _ _ applies c.in_ok-show_words.ensures c.in_ok-subcommand-4.ensures in
     let protects = one_more _ _ c.in_ok-subcommand-5.field-0 _ _ shows c.in_ok-capture_words.ensures c.in_ok-subcommand-5.ensures in
-    IfOk-weaker c.subcommand-6.result _ _ (λ command added. one_more _ _ command _ _ protects c.in_ok-capture_words-2.ensures added) c.subcommand-6.ensures
+    let validates = one_more _ _ c.in_ok-subcommand-6.field-0 _ _ protects c.in_ok-capture_words-2.ensures c.in_ok-subcommand-6.ensures in
+    IfOk-weaker c.subcommand-7.result _ _ (λ command added. one_more _ _ command _ _ validates c.in_ok-relay_words.ensures added) c.subcommand-7.ensures

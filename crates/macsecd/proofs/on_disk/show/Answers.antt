@@ -1,4 +1,4 @@
-use Rattle.std.proofs.Common.{refl, string_bytes, ◌∙◌}
+use Rattle.std.proofs.Common.{refl, ◌∙◌}
 use Rattle.macs_endpoint.specs.State.{State, no_logs}
 use Rattle.macs_endpoint.specs.Value.{state_of}
 use Rattle.macsecd.proofs.Printing.{prints-text}

@@ -1,6 +1,7 @@
-use Rattle.std.proofs.Common.{◌≡◌, inl, inr, refl, subst}
-use Rattle.std.proofs.lemmas.Result.{IfErr-weaker, IfOk-weaker}
+use Rattle.std.proofs.Common.{inl, inr, refl, subst}
+use Rattle.std.proofs.lemmas.Result.{IfErr-weaker, IfOk-weaker, err_from_is_err_and}
 use Rattle.clap.specs.Words.{subcommand_of}
+use Rattle.macsecd.proofs.Failed.{not-taken}
 use Rattle.macsecd.proofs.Printing.{prints-text}
 use Rattle.macsecd.proofs.Subcommands.{taken_without_fault}
 use Rattle.macsecd.specs.Words.{Names, macsecd, texts}
@@ -20,7 +21,13 @@ returns-clause-replied g c =
 pub returns-clause-disk : goal.returns-clause-disk
 returns-clause-disk g c =
     let known = taken_without_fault (texts c.args.words.now) c.in_ok-action.ensures.refused in
-    IfErr-weaker c.perform.result _ _ (λ failure other disk. (known, c.in_ok-action.action, c.in_ok-action.ensures.read, other disk)) c.perform.ensures.disk
+    IfErr-weaker c.perform.result _ _ (λ failure other disk. (known, c.in_ok-action.action, c.in_ok-action.ensures.read, (other disk).0, (other disk).1)) c.perform.ensures.disk
+
+pub returns-in_err-action-clause-usage : goal.returns-in_err-action-clause-usage
+returns-in_err-action-clause-usage g c =
+    let p = err_from_is_err_and c.from_residual-in_err-action.result c.from_residual-in_err-action.ensures.1 in
+    let fault = c.in_err-action.field-0.0 in
+    rw (p.1, p.2) (λ usage. (inl (not-taken c.action_of.result fault _ c.in_err-action.was c.action_of.ensures.taken usage), refl {a = c.args.out.now}))
 
 pub returns-clause-usage : goal.returns-clause-usage
 returns-clause-usage g c =

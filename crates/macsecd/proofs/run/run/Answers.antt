@@ -8,3 +8,6 @@ returns-in-Err-clause-usage g c = λ code. c.in-Err.ensures.usage (code-usage (f
 
 pub returns-in-Err-clause-disk : goal.returns-in-Err-clause-disk
 returns-in-Err-clause-disk g c = λ code. c.in-Err.ensures.disk (code-disk (failure_status c.in-Err.failure) (sym c.report.ensures ∙ code))
+
+pub returns-in-Err-clause-help : goal.returns-in-Err-clause-help
+returns-in-Err-clause-help g c = λ code. c.in-Err.ensures.help (code-usage (failure_status c.in-Err.failure) (sym c.report.ensures ∙ code))

@@ -1,0 +1,80 @@
+// What a relay is measured with: one that only copies datagrams, and a load that counts them.
+//
+//     relay copy OWN1 PEER1 OWN2 PEER2         copies datagrams from wire 1 to wire 2, until it is killed
+//     relay load OWN1 PEER1 OWN2 OCTETS COUNT  sends frames to PEER1 and counts those that come to OWN2
+//
+// Addresses are ports on loopback. The load has at most 32 frames under way, so that no socket's buffer overflows; a frame that does not
+// come within a tenth of a second is lost. It prints the frames that came, the seconds, and the frames a second.
+#include <arpa/inet.h>
+#include <stdio.h>
+#include <stdlib.h>
+#include <string.h>
+#include <sys/socket.h>
+#include <sys/time.h>
+#include <time.h>
+
+enum { WINDOW = 32, ROOM = 65536 };
+
+static struct sockaddr_in at(const char *port) {
+    struct sockaddr_in it = {.sin_family = AF_INET, .sin_port = htons(atoi(port))};
+    it.sin_addr.s_addr = htonl(INADDR_LOOPBACK);
+    return it;
+}
+
+static int bound(const char *port) {
+    struct sockaddr_in own = at(port);
+    int it = socket(AF_INET, SOCK_DGRAM, 0);
+    if (it < 0 || bind(it, (struct sockaddr *)&own, sizeof own)) {
+        perror("bind");
+        exit(1);
+    }
+    return it;
+}
+
+static double now(void) {
+    struct timespec it;
+    clock_gettime(CLOCK_MONOTONIC, &it);
+    return it.tv_sec + it.tv_nsec / 1e9;
+}
+
+// Both wires are asked in turn and no call waits, as in the relay that it is compared with.
+static _Noreturn void copy(char **words) {
+    int controlled = bound(words[0]), common = bound(words[2]);
+    struct sockaddr_in inside = at(words[1]), outside = at(words[3]);
+    static char room[ROOM];
+    for (;;) {
+        ssize_t count = recv(controlled, room, ROOM, MSG_DONTWAIT);
+        if (count >= 0) sendto(common, room, count, 0, (struct sockaddr *)&outside, sizeof outside);
+        count = recv(common, room, ROOM, MSG_DONTWAIT);
+        if (count >= 0) sendto(controlled, room, count, 0, (struct sockaddr *)&inside, sizeof inside);
+    }
+}
+
+static int load(char **words) {
+    int from = bound(words[0]), to = bound(words[2]);
+    struct sockaddr_in peer = at(words[1]);
+    size_t octets = atoi(words[3]);
+    long count = atol(words[4]), sent = 0, came = 0, lost = 0;
+    static char frame[ROOM], room[ROOM];
+    struct timeval wait = {.tv_usec = 100000};
+    setsockopt(to, SOL_SOCKET, SO_RCVTIMEO, &wait, sizeof wait);
+    memset(frame, 0x5a, octets);
+    double begin = now();
+    while (came + lost < count) {
+        while (sent < count && sent - came - lost < WINDOW) {
+            sendto(from, frame, octets, 0, (struct sockaddr *)&peer, sizeof peer);
+            sent++;
+        }
+        if (recv(to, room, ROOM, 0) >= 0) came++;
+        else lost = sent - came;
+    }
+    double seconds = now() - begin;
+    printf("%ld %.3f %.0f\n", came, seconds, came / seconds);
+    return 0;
+}
+
+int main(int words, char **word) {
+    if (words == 6 && !strcmp(word[1], "copy")) copy(word + 2);
+    if (words == 7 && !strcmp(word[1], "load")) return load(word + 2);
+    return 2;
+}

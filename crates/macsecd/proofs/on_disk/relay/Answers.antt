@@ -1,0 +1,17 @@
+use Rattle.std.proofs.Common.{refl}
+use Rattle.std.proofs.lemmas.Result.{IfOk-weaker, err_from_is_err_and}
+use Rattle.macsecd.proofs.FirstFault.{first-holds}
+use Rattle.macsecd.specs.Addresses.{AddressFaultHolds, address_faults}
+use Rattle.macsecd.proofs.on_disk.relay.Goals as goal
+
+pub returns-in_err-addresses-clause-usage : goal.returns-in_err-addresses-clause-usage
+returns-in_err-addresses-clause-usage g c =
+    let p = err_from_is_err_and c.from_residual.result c.from_residual.ensures.1 in
+    let fault = c.in_err-addresses.field-0.0 in
+    let held = first-holds (AddressFaultHolds c.args.controlled c.args.common) address_faults fault
+    ((c.addresses_of.ensures.fault fault).0 c.in_err-addresses.was) in
+    rw p.1 (λ usage. ((fault, held), refl {a = c.args.out.now}))
+
+pub returns-clause-printed : goal.returns-clause-printed
+returns-clause-printed g c =
+    IfOk-weaker c.relay_frames.result _ _ (λ status done. let (summary, relays, printed, is) = done in (summary, printed, is)) c.relay_frames.ensures.printed

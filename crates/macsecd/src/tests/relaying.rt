@@ -1,0 +1,151 @@
+//! Relays: their words, what they find first, and what they print. No frame comes to these.
+
+use super::Outcome::{Disk, Done, Fault, Usage};
+use super::stories::Step::{IsMissing, Run};
+use super::stories::{Step, play};
+use std::test::Fail;
+
+const FORMAT: &[&str] = &["format", "story-relay/disk", "12153524c0895e81", "4", "4"];
+
+/// The line of a relay to which no frame came.
+const NOTHING: &str = "sent 0 delivered 0 dropped 0 faults 0\n";
+
+const OWN1: &str = "macsecd: OWN1 is not an address and a port\n";
+
+const PEER1: &str = "macsecd: PEER1 is not an address and a port\n";
+
+const OWN2: &str = "macsecd: OWN2 is not an address and a port\n";
+
+const PEER2: &str = "macsecd: PEER2 is not an address and a port\n";
+
+/// A word that is no address, an address of any port, and one of a port that nobody listens at.
+const BAD: &str = "localhost:4000";
+
+const ANY: &str = "127.0.0.1:0";
+
+const NOBODY: &str = "127.0.0.1:9";
+
+/// An address that only one wire can be bound to.
+const ONE: &str = "127.0.0.1:4000";
+
+const NO: &str = "story-relay/no";
+
+const DISK: &str = "story-relay/disk";
+
+const RELAYS: &[Step] = &[
+    Run(FORMAT, Done("formatted\n")),
+    Run(
+        &["relay", DISK, ANY, NOBODY, ANY, NOBODY, "--turns", "5"],
+        Done(NOTHING),
+    ),
+    Run(
+        &["relay", DISK, "--turns=0", ANY, NOBODY, ANY, NOBODY],
+        Done(NOTHING),
+    ),
+    Run(
+        &["relay", "--turns", "1", DISK, ANY, NOBODY, ANY, NOBODY],
+        Done(NOTHING),
+    ),
+    Run(
+        &["relay", DISK, ONE, NOBODY, ONE, NOBODY, "--turns", "5"],
+        Fault("macsecd: wire\n"),
+    ),
+    Run(
+        &[
+            "relay",
+            DISK,
+            "192.0.2.1:0",
+            NOBODY,
+            ANY,
+            NOBODY,
+            "--turns",
+            "5",
+        ],
+        Fault("macsecd: wire\n"),
+    ),
+    Run(
+        &["relay", NO, BAD, BAD, BAD, BAD, "--turns", "5"],
+        Usage(OWN1),
+    ),
+    Run(
+        &["relay", NO, ANY, BAD, BAD, BAD, "--turns", "5"],
+        Usage(PEER1),
+    ),
+    Run(
+        &["relay", NO, ANY, ANY, "127.0.0.1", BAD, "--turns", "5"],
+        Usage(OWN2),
+    ),
+    Run(
+        &[
+            "relay",
+            NO,
+            ANY,
+            ANY,
+            ANY,
+            "127.0.0.1:65536",
+            "--turns",
+            "5",
+        ],
+        Usage(PEER2),
+    ),
+    Run(
+        &["relay", NO, ONE, ANY, ONE, "[::1]:9", "--turns", "5"],
+        Disk("macsecd: disk file\n"),
+    ),
+    IsMissing(NO),
+];
+
+#[test]
+fn each_line_of_a_relay_is_told(rt: HostRuntime) -> Result<(), Fail> {
+    play(&rt, rt.alloc(), "story-relay", RELAYS)
+}
+
+const WORDS: &[Step] = &[
+    Run(
+        &["relay", NO, ANY, ANY, ANY, ANY],
+        Usage("macsecd: the following required arguments were not provided:\n"),
+    ),
+    Run(
+        &["relay", NO, ANY, ANY, ANY, "--turns", "5"],
+        Usage("macsecd: the following required arguments were not provided:\n"),
+    ),
+    Run(
+        &["relay", NO, ANY, ANY, ANY, ANY, ANY, "--turns", "5"],
+        Usage("macsecd: unexpected argument '127.0.0.1:0' found\n"),
+    ),
+    Run(
+        &["relay", NO, ANY, ANY, ANY, ANY, "--turns", "x"],
+        Usage("macsecd: invalid value 'x' for '--turns <turns>': invalid digit found in string\n"),
+    ),
+    Run(
+        &[
+            "relay",
+            NO,
+            ANY,
+            ANY,
+            ANY,
+            ANY,
+            "--turns",
+            "18446744073709551616",
+        ],
+        Usage(
+            "macsecd: invalid value '18446744073709551616' for '--turns <turns>': number too large to fit in target type\n",
+        ),
+    ),
+    Run(
+        &[
+            "relay", NO, ANY, ANY, ANY, ANY, "--turns", "1", "--turns", "2",
+        ],
+        Usage("macsecd: the argument '--turns <turns>' cannot be used multiple times\n"),
+    ),
+    Run(
+        &["relay", NO, ANY, ANY, ANY, ANY, "--turn", "1"],
+        Usage("macsecd: unexpected argument '--turn' found\n"),
+    ),
+    IsMissing(NO),
+];
+
+#[test]
+fn other_words_are_no_relay(rt: HostRuntime) -> Result<(), Fail> {
+    play(&rt, rt.alloc(), "story-relay-words", WORDS)
+}
