@@ -2,3 +2,6 @@ pub mod SBoxTable
 pub mod RoundConstants
 pub mod RoundSteps
 pub mod Words
+pub mod InversePower
+pub mod Octets
+pub mod WordTables

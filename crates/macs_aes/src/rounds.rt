@@ -1,98 +1,108 @@
-//! The cipher: its four steps and its ten rounds (FIPS 197, 5.1).
+//! The cipher: its state and its ten rounds (FIPS 197, 5.1).
 
-ghost use Rattle.std.specs.Prelude.{◌≡◌, ◌≤◌, [], ◌∷◌};
-ghost use Rattle.macs_aes.specs.Cipher.{add_round_key, encrypt, mix_columns, mixed_octet};
-ghost use Rattle.macs_aes.specs.Cipher.{round_key, shift_rows, sub_bytes, xor_tables};
+ghost use Rattle.std.specs.Prelude.{◌≡◌, ◌≤◌};
+ghost use Rattle.macs_aes.specs.Cipher.{add_round_key, encrypt, mix_columns};
+ghost use Rattle.macs_aes.specs.Cipher.{shift_rows, sub_bytes};
 
 use crate::Block;
-use crate::sbox::substitute;
-use crate::schedule::{Schedule, WORDS};
-use macs_gf::mul8;
+use crate::columns::{column, mixed_column};
+use crate::schedule::{ROUNDS, Schedule, WORDS};
+use std::marker::Model;
 
-/// SubBytes (FIPS 197, 5.1.1): the S-box on each octet.
-fn sub_bytes(state: Block) -> Block
-    ensures { result ≡ sub_bytes state }
-{
-    let mut next = state;
-    for octet in next.iter_mut() {
-        *octet = substitute(*octet);
+/// A state, as the words of its columns from the left (FIPS 197, 3.5). In clauses it is the list of its
+/// 16 octets.
+#[derive(Drop)]
+struct State {
+    a: u32,
+    b: u32,
+    c: u32,
+    d: u32,
+}
+
+impl Model for State {
+    ghost use Rattle.std.specs.Prelude.{List, ℕ};
+    ghost use Rattle.macs_aes.specs.Columns.{state_of_columns};
+
+    ghost Value = { List ℕ };
+
+    ghost view = { λ s. state_of_columns s.a s.b s.c s.d };
+}
+
+impl State {
+    /// The state of a block (FIPS 197, 3.4).
+    #[inline(always)]
+    fn from_block(block: &Block) -> Self
+        ensures { result ≡ block.now }
+    {
+        State {
+            a: u32::from_be_bytes([block[0], block[1], block[2], block[3]]),
+            b: u32::from_be_bytes([block[4], block[5], block[6], block[7]]),
+            c: u32::from_be_bytes([block[8], block[9], block[10], block[11]]),
+            d: u32::from_be_bytes([block[12], block[13], block[14], block[15]]),
+        }
     }
-    next
-}
 
-/// ShiftRows (FIPS 197, 5.1.2): row r moves left by r places.
-fn shift_rows(s: Block) -> Block
-    ensures { result ≡ shift_rows s }
-{
-    [
-        s[0], s[5], s[10], s[15], s[4], s[9], s[14], s[3], s[8], s[13], s[2], s[7], s[12], s[1],
-        s[6], s[11],
-    ]
-}
-
-/// One octet of a mixed column, from the column's octets: that of its own row, then those below.
-fn mixed(a: u8, b: u8, c: u8, d: u8) -> u8
-    ensures { result ≡ mixed_octet a b c d }
-{
-    mul8(2, a) ^ mul8(3, b) ^ c ^ d
-}
-
-/// A column of four octets, mixed.
-fn mix_column(a: u8, b: u8, c: u8, d: u8) -> [u8; 4]
-    ensures { result ≡ mixed_octet a b c d ∷ mixed_octet b c d a ∷ mixed_octet c d a b ∷ mixed_octet d a b c ∷ [] }
-{
-    [
-        mixed(a, b, c, d),
-        mixed(b, c, d, a),
-        mixed(c, d, a, b),
-        mixed(d, a, b, c),
-    ]
-}
-
-/// MixColumns (FIPS 197, 5.1.3).
-fn mix_columns(s: Block) -> Block
-    ensures { result ≡ mix_columns s }
-{
-    let [a0, a1, a2, a3] = mix_column(s[0], s[1], s[2], s[3]);
-    let [b0, b1, b2, b3] = mix_column(s[4], s[5], s[6], s[7]);
-    let [c0, c1, c2, c3] = mix_column(s[8], s[9], s[10], s[11]);
-    let [d0, d1, d2, d3] = mix_column(s[12], s[13], s[14], s[15]);
-    [
-        a0, a1, a2, a3, b0, b1, b2, b3, c0, c1, c2, c3, d0, d1, d2, d3,
-    ]
-}
-
-/// The round key of round 0 to 10: its four words are the columns.
-fn round_key(words: &[u32; WORDS], round: usize) -> Block
-    requires { round ≤ 10 }
-    ensures { result ≡ round_key words.now round }
-{
-    let [a0, a1, a2, a3] = words[4 * round].to_be_bytes();
-    let [b0, b1, b2, b3] = words[4 * round + 1].to_be_bytes();
-    let [c0, c1, c2, c3] = words[4 * round + 2].to_be_bytes();
-    let [d0, d1, d2, d3] = words[4 * round + 3].to_be_bytes();
-    [
-        a0, a1, a2, a3, b0, b1, b2, b3, c0, c1, c2, c3, d0, d1, d2, d3,
-    ]
-}
-
-/// The sum of two states, octet by octet.
-fn xor(state: Block, key: Block) -> Block
-    ensures { result ≡ xor_tables state key }
-{
-    let mut next = state;
-    for i in 0..16 {
-        next[i] ^= key[i];
+    /// The block of a state (FIPS 197, 3.4).
+    #[inline(always)]
+    fn to_block(self) -> Block
+        ensures { result ≡ self }
+    {
+        let [a0, a1, a2, a3] = self.a.to_be_bytes();
+        let [b0, b1, b2, b3] = self.b.to_be_bytes();
+        let [c0, c1, c2, c3] = self.c.to_be_bytes();
+        let [d0, d1, d2, d3] = self.d.to_be_bytes();
+        [
+            a0, a1, a2, a3, b0, b1, b2, b3, c0, c1, c2, c3, d0, d1, d2, d3,
+        ]
     }
-    next
 }
 
 /// AddRoundKey (FIPS 197, 5.1.4) of round 0 to 10.
-fn add_round_key(words: &[u32; WORDS], round: usize, state: Block) -> Block
+#[inline(always)]
+fn add_round_key(s: State, words: &[u32; WORDS], round: usize) -> State
     requires { round ≤ 10 }
-    ensures { result ≡ add_round_key words.now round state }
+    ensures { result ≡ add_round_key words.now round s }
 {
-    xor(state, round_key(words, round))
+    State {
+        a: s.a ^ words[4 * round],
+        b: s.b ^ words[4 * round + 1],
+        c: s.c ^ words[4 * round + 2],
+        d: s.d ^ words[4 * round + 3],
+    }
+}
+
+/// SubBytes, ShiftRows and MixColumns (FIPS 197, 5.1.1 to 5.1.3).
+#[inline(always)]
+fn inner_round(s: State) -> State
+    ensures { result ≡ mix_columns (shift_rows (sub_bytes s)) }
+{
+    let [a0, a1, a2, a3] = s.a.to_be_bytes();
+    let [b0, b1, b2, b3] = s.b.to_be_bytes();
+    let [c0, c1, c2, c3] = s.c.to_be_bytes();
+    let [d0, d1, d2, d3] = s.d.to_be_bytes();
+    State {
+        a: mixed_column(a0, b1, c2, d3),
+        b: mixed_column(b0, c1, d2, a3),
+        c: mixed_column(c0, d1, a2, b3),
+        d: mixed_column(d0, a1, b2, c3),
+    }
+}
+
+/// SubBytes and ShiftRows (FIPS 197, 5.1.1 and 5.1.2).
+#[inline(always)]
+fn last_round(s: State) -> State
+    ensures { result ≡ shift_rows (sub_bytes s) }
+{
+    let [a0, a1, a2, a3] = s.a.to_be_bytes();
+    let [b0, b1, b2, b3] = s.b.to_be_bytes();
+    let [c0, c1, c2, c3] = s.c.to_be_bytes();
+    let [d0, d1, d2, d3] = s.d.to_be_bytes();
+    State {
+        a: column(a0, b1, c2, d3),
+        b: column(b0, c1, d2, a3),
+        c: column(c0, d1, a2, b3),
+        d: column(d0, a1, b2, c3),
+    }
 }
 
 /// The block of 16 octets encrypted by AES-128 under the schedule's key (FIPS 197, 5.1).
@@ -100,9 +110,9 @@ pub fn encrypt_block(schedule: &Schedule, block: &Block) -> Block
     ensures { result ≡ encrypt schedule.now block.now }
 {
     let words = schedule.words();
-    let mut state = add_round_key(words, 0, *block);
-    for round in 1..10 {
-        state = add_round_key(words, round, mix_columns(shift_rows(sub_bytes(state))));
+    let mut state = add_round_key(State::from_block(block), words, 0);
+    for round in 1..ROUNDS {
+        state = add_round_key(inner_round(state), words, round);
     }
-    add_round_key(words, 10, shift_rows(sub_bytes(state)))
+    add_round_key(last_round(state), words, ROUNDS).to_block()
 }

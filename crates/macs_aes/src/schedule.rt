@@ -1,15 +1,19 @@
 //! The key expansion (FIPS 197, 5.2).
 
 ghost use Rattle.std.specs.Prelude.{◌≡◌, ◌<◌, ◌≤◌, List, ℕ, length};
+ghost use Rattle.macs_aes.specs.Cipher.{round_key};
 ghost use Rattle.macs_aes.specs.KeyExpansion.{from_previous, key_word, key_words};
-ghost use Rattle.macs_aes.specs.KeyExpansion.{round_constant, sub_word};
+ghost use Rattle.macs_aes.specs.KeyExpansion.{round_constant, rounds_of, sub_word};
 
 use crate::Block;
 use crate::sbox::substitute;
 use std::marker::Model;
 
+/// Nr, how many rounds the cipher has under a key of 16 octets (FIPS 197, 5, figure 4).
+pub(crate) const ROUNDS: usize = 10;
+
 /// How many words the key expansion has: four for each of eleven round keys.
-pub(crate) const WORDS: usize = 44;
+pub(crate) const WORDS: usize = 4 * (ROUNDS + 1);
 
 /// The leftmost octets of Rcon\[1\] to Rcon\[10\]: x^0 to x^9.
 const ROUND_CONSTANTS: [u8; 10] = [0x01, 0x02, 0x04, 0x08, 0x10, 0x20, 0x40, 0x80, 0x1b, 0x36];
@@ -99,5 +103,29 @@ impl Schedule {
         ensures key { length self.now ≡ 16 }
     {
         &self.words
+    }
+
+    /// The number of rounds, Nr (FIPS 197, 5, figure 4): 10 for a key of 16 octets.
+    pub fn rounds(&self) -> usize
+        ensures rounds { result ≡ rounds_of self.now }
+        ensures ten { result ≡ 10 }
+    {
+        let _key = &self.key;
+        ROUNDS
+    }
+
+    /// The key of round i, i from 0 to 10: words 4 i to 4 i + 3 of the key expansion, as the columns of
+    /// a state (5.1.4).
+    pub fn round_key(&self, i: usize) -> Block
+        requires { i < 11 }
+        ensures { result ≡ round_key (key_words self.now) i }
+    {
+        let [a0, a1, a2, a3] = self.words[4 * i].to_be_bytes();
+        let [b0, b1, b2, b3] = self.words[4 * i + 1].to_be_bytes();
+        let [c0, c1, c2, c3] = self.words[4 * i + 2].to_be_bytes();
+        let [d0, d1, d2, d3] = self.words[4 * i + 3].to_be_bytes();
+        [
+            a0, a1, a2, a3, b0, b1, b2, b3, c0, c1, c2, c3, d0, d1, d2, d3,
+        ]
     }
 }

@@ -1,0 +1,12 @@
+-- A state by its columns, each a word (FIPS 197 (2001), 3.5): the leftmost octet of a word is in the top row.
+use Rattle.std.specs.Prelude.{ℕ, List, [], ◌∷◌, ◌++◌}
+use Rattle.std.specs.Int.{w32, to_be_bytes}
+use Rattle.macs_aes.specs.Cipher.{mixed_octet}
+
+-- the state whose columns are the words a, b, c and d, from the left
+abbrev pub state_of_columns : ℕ → ℕ → ℕ → ℕ → List ℕ
+state_of_columns a b c d = to_be_bytes w32 a ++ to_be_bytes w32 b ++ to_be_bytes w32 c ++ to_be_bytes w32 d
+
+-- the column of the octets a, b, c and d, from the top, after MixColumns (5.1.3)
+abbrev pub mixed_column : ℕ → ℕ → ℕ → ℕ → List ℕ
+mixed_column a b c d = mixed_octet a b c d ∷ mixed_octet b c d a ∷ mixed_octet c d a b ∷ mixed_octet d a b c ∷ []
