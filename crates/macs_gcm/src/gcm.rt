@@ -5,17 +5,17 @@ ghost use Rattle.std.specs.Bool.{OnFalse, OnTrue};
 ghost use Rattle.macs_gcm.specs.Gcm.{Opens, ciphertext_of, hash_subkey, pre_counter_block, seal, authentication_tag};
 
 use crate::counter::{gctr, inc32};
-use crate::hash::ghash;
 use macs_aes::{Block, Schedule, encrypt_block};
+use macs_ghash::{Powers, ghash};
 use std::marker::Model;
 
-/// A key of AES-128, prepared for GCM: its round keys and its hash subkey. In clauses it is its key, a
-/// list of 16 octets.
+/// A key of AES-128, prepared for GCM: its round keys and the powers of its hash subkey. In clauses it
+/// is its key, a list of 16 octets.
 #[derive(Drop)]
 pub struct GcmKey {
     schedule: Schedule,
-    /// H, the block of 128 zero bits encrypted (7.1, step 1).
-    subkey: u128,
+    /// The powers of H, the block of 128 zero bits encrypted (7.1, step 1).
+    powers: Powers,
 }
 
 impl Model for GcmKey {
@@ -23,7 +23,7 @@ impl Model for GcmKey {
 
     ghost view = { λ k. k.schedule };
 
-    ghost invariant = { λ k. k.subkey ≡ hash_subkey k.schedule };
+    ghost invariant = { λ k. k.powers ≡ hash_subkey k.schedule };
 }
 
 impl GcmKey {
@@ -33,7 +33,10 @@ impl GcmKey {
     {
         let schedule = Schedule::new(key);
         let subkey = u128::from_be_bytes(encrypt_block(&schedule, &[0; 16]));
-        GcmKey { schedule, subkey }
+        GcmKey {
+            schedule,
+            powers: Powers::new(subkey),
+        }
     }
 }
 
@@ -62,7 +65,7 @@ fn tag_of(key: &GcmKey, iv: &[u8; 12], aad: &[u8], ciphertext: &[u8]) -> [u8; 16
     requires text { length ciphertext.now < 2 ^ 32 }
     ensures { result ≡ authentication_tag key.now iv.now aad.now ciphertext.now }
 {
-    let mut tag = ghash(key.subkey, aad, ciphertext).to_be_bytes();
+    let mut tag = ghash(&key.powers, aad, ciphertext);
     gctr(&key.schedule, &pre_counter_block(iv), &mut tag);
     tag
 }

@@ -1,0 +1,57 @@
+-- The S-box of an octet by the tower.
+use Rattle.std.proofs.Common.{◌≡◌, ℕ, ◌<◌, ◌%◌, List, map, get_or, length, refl, ap, sym, ◌∙◌, true, arith, bit_xor}
+use Rattle.std.specs.List.{range_with_len}
+use Rattle.std.proofs.lemmas.List.FromFn.{get_or-map-range_with_len}
+use Rattle.macs_gf.specs.Gf256.{octet_product}
+use Rattle.macs_gf.specs.Polynomial.{product_below, remainder}
+use Rattle.macs_aes.specs.SBox.{s_box}
+use Rattle.macs_aes.proofs.SBoxTable.{s_box_values, s_box_values-is}
+use Rattle.macs_planes.specs.Blocks.{bits_in, combined, octet_basis, octet_in}
+use Rattle.macs_planes.specs.Tower.{affine, high_of, low_of, squared, tower_root, tower_unit}
+use Rattle.macs_planes.proofs.Circuit.{agree, agreed, are_bits, bits_in_length}
+
+-- u + v
+both_of : ℕ → ℕ
+both_of x = bit_xor (high_of x) (low_of x)
+
+-- x^17
+norm_of : ℕ → ℕ
+norm_of x = bit_xor (octet_product (low_of x) (both_of x)) (octet_product tower_unit (octet_product (high_of x) (high_of x)))
+
+-- n^14
+fourteenth : ℕ → ℕ
+fourteenth n = octet_product (squared n) (squared (squared (octet_product n (squared n))))
+
+by_tower : ℕ → ℕ
+by_tower x = affine (bit_xor (octet_product (both_of x) (fourteenth (norm_of x))) (octet_product tower_root (octet_product (high_of x) (fourteenth (norm_of x)))))
+
+values_are : map by_tower (range_with_len 0 256) ≡ s_box_values
+unfolding by_tower fourteenth norm_of both_of low_of high_of affine octet_product product_below remainder s_box_values
+values_are = refl
+
+by_tower-is : (x : ℕ) → x < 256 → by_tower x ≡ s_box x
+by_tower-is x h =
+    sym (get_or-map-range_with_len by_tower 0 256 x x 0 h (omega arith))
+    ∙ ap (λ t. get_or t x 0) (values_are ∙ s_box_values-is) ∙ get_or-map-range_with_len s_box 0 256 x x 0 h (omega arith)
+
+-- the steps of the code, one after another
+pub tower_steps : (x u v w q p n n2 n3 n6 n12 n14 e f z : ℕ) → x < 256 → u ≡ high_of x → v ≡ low_of x → w ≡ bit_xor u v
+    → q ≡ octet_product tower_unit (octet_product u u) → p ≡ octet_product v w → n ≡ bit_xor p q
+    → n2 ≡ octet_product n n → n3 ≡ octet_product n n2 → n6 ≡ octet_product n3 n3 → n12 ≡ octet_product n6 n6
+    → n14 ≡ octet_product n2 n12 → e ≡ octet_product w n14 → f ≡ octet_product u n14
+    → z ≡ affine (bit_xor e (octet_product tower_root f)) → z ≡ s_box x
+unfolding by_tower fourteenth norm_of both_of
+tower_steps x u v w q p n n2 n3 n6 n12 n14 e f z h eu ev ew eq ep en e2 e3 e6 e12 e14 ee ef ez =
+    let whole = by_tower-is x h in
+    cc
+
+-- an octet of eight planes is one
+eight_small : agree 8 (λ v. combined octet_basis v) (λ v. combined octet_basis v % 256) ≡ true
+unfolding agree combined
+eight_small = refl
+
+pub octet_small : (planes : List (List ℕ)) (i j : ℕ) → length planes ≡ 8 → octet_in octet_basis planes i j < 256
+octet_small planes i j len =
+    let e : combined octet_basis (bits_in planes i j) ≡ combined octet_basis (bits_in planes i j) % 256 =
+    agreed 8 (λ v. combined octet_basis v) (λ v. combined octet_basis v % 256) eight_small (bits_in planes i j) (bits_in_length planes i j ∙ len) (are_bits planes i j) in
+    omega arith

@@ -1,0 +1,13 @@
+pub mod Circuit
+pub mod Gates
+pub mod Tables
+pub mod Inverse
+pub mod Moves
+pub mod RowMoves
+pub mod EachBlock
+pub mod CrossMoves
+pub mod Sixteen
+pub mod Bytes
+pub mod BitTests
+pub mod Loaded
+pub mod Rounds

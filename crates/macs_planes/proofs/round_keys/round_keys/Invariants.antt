@@ -1,0 +1,11 @@
+use Rattle.std.proofs.Common.{◌≡◌, ◌<◌, ℕ, [], get_or, length}
+use Rattle.macs_aes.specs.Cipher.{round_key}
+use Rattle.macs_aes.specs.KeyExpansion.{key_words}
+use Rattle.macs_planes.specs.RoundKeys.{octets_in_words}
+use Rattle.macs_planes.proofs.round_keys.round_keys.Given as goal
+
+abbrev pub invariant-loop-round : goal.invariant-loop-round
+invariant-loop-round l = record {
+  size : length l.keys ≡ 11;
+  done : (i : ℕ) → i < l.round → octets_in_words (get_or l.keys i []) ≡ round_key (key_words l.schedule) i;
+}

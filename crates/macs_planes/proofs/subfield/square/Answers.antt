@@ -1,0 +1,23 @@
+use Rattle.std.proofs.Common.{◌∙◌, ap₂, refl, [], ◌∷◌}
+use Rattle.macs_gf.specs.Gf256.{octet_product}
+use Rattle.macs_planes.specs.Blocks.{subfield_basis}
+use Rattle.macs_planes.proofs.Circuit.{circuit, circuit_is, circuit_planes, gate, octet_of, octet_was, pick, run}
+use Rattle.macs_planes.proofs.Gates.{square_gates, square_outputs}
+use Rattle.macs_planes.proofs.Tables.{square_agrees, square_of}
+use Rattle.macs_planes.proofs.subfield.square.Goals as goal
+
+pub invariant_of-result : goal.invariant_of-result
+unfolding circuit gate pick run square_gates square_outputs
+invariant_of-result g c =
+    let x = c.x.inside in
+    circuit_planes g.row.N square_gates square_outputs (x.p0 ∷ x.p1 ∷ x.p2 ∷ x.p3 ∷ []) c.x.invariant
+
+pub returns : goal.returns
+unfolding circuit gate pick run square_gates square_outputs square_of
+returns g c = λ i j h k.
+    let x = c.x.inside in
+    let planes = x.p0 ∷ x.p1 ∷ x.p2 ∷ x.p3 ∷ [] in
+    let was = octet_was g.row.N subfield_basis planes c.args.x.now i j c.x.view_is h k in
+    octet_of g.row.N subfield_basis (circuit g.row.N square_gates square_outputs planes) i j h k
+    ∙ circuit_is g.row.N subfield_basis square_gates square_outputs square_of 4 planes i j square_agrees refl c.x.invariant h
+    ∙ ap₂ octet_product was was

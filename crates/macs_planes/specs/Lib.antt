@@ -1,0 +1,7 @@
+pub mod Blocks
+pub mod Tower
+pub mod Rows
+pub mod BlockSteps
+pub mod Bits
+pub mod Columns
+pub mod RoundKeys

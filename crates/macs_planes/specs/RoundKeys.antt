@@ -1,0 +1,19 @@
+-- Round keys in words of bits: bit j of word k is bit k of octet j.
+use Rattle.std.specs.Prelude.{◌≡◌, ◌<◌, ℕ, List, [], map, get_or, slice_index}
+use Rattle.std.specs.Int.{bit_at}
+use Rattle.std.specs.List.{range_with_len}
+use Rattle.macs_aes.specs.Cipher.{round_key}
+use Rattle.macs_aes.specs.KeyExpansion.{key_words}
+use Rattle.macs_planes.specs.Blocks.{combined, octet_basis}
+
+-- octet j of the words
+abbrev pub octet_in_words : List ℕ → ℕ → ℕ
+octet_in_words words j = combined octet_basis (map (λ k. bit_at (slice_index words k) j) (range_with_len 0 8))
+
+-- the sixteen octets of the words
+unfoldable pub octets_in_words : List ℕ → List ℕ
+octets_in_words words = map (octet_in_words words) (range_with_len 0 16)
+
+-- the eleven round keys of a key of 16 octets
+abbrev pub AreRoundKeys : List ℕ → List (List ℕ) → Type 0
+AreRoundKeys key keys = (i : ℕ) → i < 11 → octets_in_words (get_or keys i []) ≡ round_key (key_words key) i
