@@ -4,4 +4,5 @@ pub mod RoundSteps
 pub mod Words
 pub mod InversePower
 pub mod Octets
+pub mod Woven
 pub mod WordTables

@@ -1,12 +1,13 @@
 //! The cipher: its state and its ten rounds (FIPS 197, 5.1).
 
-ghost use Rattle.std.specs.Prelude.{◌≡◌, ◌≤◌};
+ghost use Rattle.std.specs.Prelude.{◌≡◌, ◌<◌};
 ghost use Rattle.macs_aes.specs.Cipher.{add_round_key, encrypt, mix_columns};
 ghost use Rattle.macs_aes.specs.Cipher.{shift_rows, sub_bytes};
 
 use crate::Block;
 use crate::columns::{column, mixed_column};
-use crate::schedule::{ROUNDS, Schedule, WORDS};
+use crate::key_columns::KeyColumns;
+use crate::schedule::{ROUND_KEYS, ROUNDS, Schedule};
 use std::marker::Model;
 
 /// A state, as the words of its columns from the left (FIPS 197, 3.5). In clauses it is the list of its
@@ -59,15 +60,15 @@ impl State {
 
 /// AddRoundKey (FIPS 197, 5.1.4) of round 0 to 10.
 #[inline(always)]
-fn add_round_key(s: State, words: &[u32; WORDS], round: usize) -> State
-    requires { round ≤ 10 }
+fn add_round_key(s: State, words: &KeyColumns, round: usize) -> State
+    requires { round < ROUND_KEYS }
     ensures { result ≡ add_round_key words.now round s }
 {
     State {
-        a: s.a ^ words[4 * round],
-        b: s.b ^ words[4 * round + 1],
-        c: s.c ^ words[4 * round + 2],
-        d: s.d ^ words[4 * round + 3],
+        a: s.a ^ words.a[round],
+        b: s.b ^ words.b[round],
+        c: s.c ^ words.c[round],
+        d: s.d ^ words.d[round],
     }
 }
 

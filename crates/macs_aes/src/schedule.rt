@@ -6,14 +6,18 @@ ghost use Rattle.macs_aes.specs.KeyExpansion.{from_previous, key_word, key_words
 ghost use Rattle.macs_aes.specs.KeyExpansion.{round_constant, rounds_of, sub_word};
 
 use crate::Block;
+use crate::key_columns::{KeyColumns, by_columns};
 use crate::sbox::substitute;
 use std::marker::Model;
 
 /// Nr, how many rounds the cipher has under a key of 16 octets (FIPS 197, 5, figure 4).
 pub(crate) const ROUNDS: usize = 10;
 
-/// How many words the key expansion has: four for each of eleven round keys.
-pub(crate) const WORDS: usize = 4 * (ROUNDS + 1);
+/// How many round keys there are: one before the first round, and one for each.
+pub(crate) const ROUND_KEYS: usize = ROUNDS + 1;
+
+/// How many words the key expansion has: four for each round key.
+pub(crate) const WORDS: usize = 4 * ROUND_KEYS;
 
 /// The leftmost octets of Rcon\[1\] to Rcon\[10\]: x^0 to x^9.
 const ROUND_CONSTANTS: [u8; 10] = [0x01, 0x02, 0x04, 0x08, 0x10, 0x20, 0x40, 0x80, 0x1b, 0x36];
@@ -23,7 +27,7 @@ const ROUND_CONSTANTS: [u8; 10] = [0x01, 0x02, 0x04, 0x08, 0x10, 0x20, 0x40, 0x8
 pub struct Schedule {
     /// Kept for the contracts: the value of a schedule is its key.
     key: Block,
-    words: [u32; WORDS],
+    words: KeyColumns,
 }
 
 impl Model for Schedule {
@@ -31,7 +35,7 @@ impl Model for Schedule {
 
     ghost view = { λ s. s.key };
 
-    ghost invariant = { λ s. s.words ≡ key_words s.key };
+    ghost invariant = { λ s. (length s.key ≡ 16) × (s.words ≡ key_words s.key) };
 }
 
 /// SubWord: the S-box on each octet of a word.
@@ -93,12 +97,12 @@ impl Schedule {
     {
         Schedule {
             key: *key,
-            words: expand(key),
+            words: by_columns(&expand(key)),
         }
     }
 
     /// The words w\[0\] to w\[43\] of the key expansion of 16 octets.
-    pub(crate) fn words(&self) -> &[u32; WORDS]
+    pub(crate) fn words(&self) -> &KeyColumns
         ensures words { result.now ≡ key_words self.now }
         ensures key { length self.now ≡ 16 }
     {
@@ -120,12 +124,6 @@ impl Schedule {
         requires { i < 11 }
         ensures { result ≡ round_key (key_words self.now) i }
     {
-        let [a0, a1, a2, a3] = self.words[4 * i].to_be_bytes();
-        let [b0, b1, b2, b3] = self.words[4 * i + 1].to_be_bytes();
-        let [c0, c1, c2, c3] = self.words[4 * i + 2].to_be_bytes();
-        let [d0, d1, d2, d3] = self.words[4 * i + 3].to_be_bytes();
-        [
-            a0, a1, a2, a3, b0, b1, b2, b3, c0, c1, c2, c3, d0, d1, d2, d3,
-        ]
+        self.words.round_key(i)
     }
 }

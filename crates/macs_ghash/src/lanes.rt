@@ -3,11 +3,12 @@
 ghost use Rattle.std.specs.Prelude.{◌≡◌, ◌<◌, ◌*◌, ◌/◌, ◌%◌, ◌^◌, ℕ, get_or};
 ghost use Rattle.macs_ghash.specs.Lanes.{AreLanes, AreWords, IsMask, joined_at, total};
 
+use macs_lanes::REGISTER_BITS;
 use std::simd::prelude::*;
 
-/// How many lanes sums over eight lanes are folded to: 2 is best for registers of 128 bits, 4 for
-/// those of 256.
-pub(crate) const FOLD: usize = 2;
+/// How many lanes sums over eight lanes are folded to: as many lanes of 64 bits as a vector register
+/// has.
+pub(crate) const FOLD: usize = REGISTER_BITS / 64;
 
 /// Eight blocks, in halves.
 #[derive(Clone, Copy)]

@@ -2,7 +2,7 @@
 use Rattle.std.specs.Prelude.{◌≡◌, ◌<◌, ℕ, List, [], map, get_or, slice_index}
 use Rattle.std.specs.Int.{bit_at}
 use Rattle.std.specs.List.{range_with_len}
-use Rattle.macs_aes.specs.Cipher.{round_key}
+use Rattle.macs_aes.specs.Cipher.{round_key, xor_tables}
 use Rattle.macs_aes.specs.KeyExpansion.{key_words}
 use Rattle.macs_planes.specs.Blocks.{combined, octet_basis}
 
@@ -17,3 +17,7 @@ octets_in_words words = map (octet_in_words words) (range_with_len 0 16)
 -- the eleven round keys of a key of 16 octets
 abbrev pub AreRoundKeys : List ℕ → List (List ℕ) → Type 0
 AreRoundKeys key keys = (i : ℕ) → i < 11 → octets_in_words (get_or keys i []) ≡ round_key (key_words key) i
+
+-- AddRoundKey of each block
+abbrev pub keyed : List ℕ → List (List ℕ) → List (List ℕ)
+keyed key blocks = map (λ s. xor_tables s key) blocks

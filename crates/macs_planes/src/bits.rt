@@ -38,5 +38,6 @@ pub(crate) fn plane<const N: usize>(blocks: &[Block; N], mask: u8) -> [u16; N]
     for i in 0..N {
         lanes[i] = bit_word(octets_of(&blocks[i]), mask);
     }
-    lanes
+    // As a vector and back, so that the compiler hands on a register in place of N numbers.
+    Simd::from_array(lanes).to_array()
 }

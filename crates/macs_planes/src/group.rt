@@ -1,16 +1,33 @@
 //! The cipher (FIPS 197, 5.1) on groups of blocks.
 
-ghost use Rattle.std.specs.Prelude.{◌≡◌, ◌%◌, length, map};
-ghost use Rattle.macs_aes.specs.Cipher.{encrypt};
-ghost use Rattle.macs_planes.specs.RoundKeys.{AreRoundKeys};
+ghost use Rattle.std.specs.Prelude.{◌≡◌, ◌<◌, ◌≤◌, ◌%◌, length, map};
+ghost use Rattle.macs_aes.specs.Cipher.{encrypt, mix_columns, shift_rows, sub_bytes};
+ghost use Rattle.macs_planes.specs.RoundKeys.{AreRoundKeys, keyed, octets_in_words};
 
 use crate::planes::Planes;
 use crate::round_keys::{KeyBits, ROUND_KEYS, round_keys};
 use macs_aes::{Block, Schedule};
+use macs_lanes::REGISTER_BITS;
 
-/// How many blocks go side by side: eight planes of eight lanes fill the 128-bit registers of
-/// x86-64-v2; sixteen are faster where registers have 256 bits. Each proves.
-const LANES: usize = 8;
+/// How many blocks go side by side: as many lanes of 16 bits as a vector register has.
+const LANES: usize = REGISTER_BITS / 16;
+
+/// One round of so many (FIPS 197, 5.1) on each block, with its key: the last goes without MixColumns.
+/// All rounds are one place of the code, so that the compiler keeps the planes in registers.
+#[inline(always)]
+fn take_round<const N: usize>(planes: &mut Planes<N>, key: &KeyBits, round: usize, rounds: usize)
+    ensures inner { round < rounds → planes.new ≡ keyed (octets_in_words key.now) (map mix_columns (map shift_rows (map sub_bytes planes.old))) }
+    ensures last { rounds ≤ round → planes.new ≡ keyed (octets_in_words key.now) (map shift_rows (map sub_bytes planes.old)) }
+{
+    planes.sub_bytes();
+    planes.shift_rows();
+    if round < rounds {
+        planes.mix_columns();
+        planes.add_bits(key);
+    } else {
+        planes.add_bits(key);
+    }
+}
 
 /// Each block of a group encrypted under the schedule's key, whose round keys are given.
 fn encrypt_group<const N: usize>(
@@ -24,15 +41,9 @@ fn encrypt_group<const N: usize>(
     let rounds = schedule.rounds();
     let mut planes = Planes::load(blocks);
     planes.add_bits(&keys[0]);
-    for round in 1..rounds {
-        planes.sub_bytes();
-        planes.shift_rows();
-        planes.mix_columns();
-        planes.add_bits(&keys[round]);
+    for round in 1..rounds + 1 {
+        take_round(&mut planes, &keys[round], round, rounds);
     }
-    planes.sub_bytes();
-    planes.shift_rows();
-    planes.add_bits(&keys[rounds]);
     *blocks = planes.store();
 }
 

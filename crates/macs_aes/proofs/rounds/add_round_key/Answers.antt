@@ -5,5 +5,7 @@ use Rattle.macs_aes.proofs.rounds.add_round_key.Goals as goal
 
 pub returns : goal.returns
 returns c =
-    columns-add_round_key c.s.inside.a c.s.inside.b c.s.inside.c c.s.inside.d c.args.words.now c.args.round
+    let s = c.s.inside in
+    let k = c.words.inside in
+    columns-add_round_key s.a s.b s.c s.d k.a k.b k.c k.d c.args.words.now c.args.round c.words.view_is c.requires
     ∙ ap (add_round_key c.args.words.now c.args.round) c.s.view_is

@@ -1,7 +1,10 @@
-use Rattle.std.proofs.Common.{◌≡◌, ◌-◌, map}
-use Rattle.macs_aes.specs.Cipher.{state_after_rounds}
+use Rattle.std.proofs.Common.{◌≡◌, ◌+◌, ◌-◌, ◌≤◌, map}
+use Rattle.macs_aes.specs.Cipher.{encrypt, state_after_rounds}
 use Rattle.macs_aes.specs.KeyExpansion.{key_words}
 use Rattle.macs_planes.proofs.group.encrypt_group.Given as goal
 
 abbrev pub invariant-loop-round : goal.invariant-loop-round
-invariant-loop-round g l = l.planes ≡ map (λ b. state_after_rounds (key_words l.fn.schedule) b (l.round - 1)) l.fn.blocks
+invariant-loop-round g l = record {
+  under_way : l.round ≤ l.rounds → l.planes ≡ map (λ b. state_after_rounds (key_words l.fn.schedule) b (l.round - 1)) l.fn.blocks;
+  done : l.round ≡ l.rounds + 1 → l.planes ≡ map (encrypt l.fn.schedule) l.fn.blocks;
+}
