@@ -4,8 +4,8 @@
     python3 bench/protect.py [FOLDER] [FRAMES]
 
 FOLDER, where the captures and the disk file are made, should be on a real disk; it is the system's folder for temporary files unless
-one is named. FRAMES is 100,000. Frames have 1,500 octets, blocks 65,536 packet numbers. Both programs are built for one processor
-and run in turn, five times; times are of the processor (user and system), and the ratio is that of the two least times. strace, where
+one is named. FRAMES is 100,000. Frames have 1,500 octets, blocks 65,536 packet numbers. Both programs are built for one level of
+processors, x86-64-v3 unless MACSECD_CPU names another, and run in turn, five times; times are of the processor (user and system), and the ratio is that of the two least times. strace, where
 there is one, counts the calls of one more run.
 """
 
@@ -20,8 +20,8 @@ from collections import Counter
 
 TOP = os.path.abspath(os.path.join(os.path.dirname(__file__), ".."))
 MACSECD = os.path.join(TOP, "macsecd")
-PROGRAM = os.path.join(TOP, "crates/macsecd/out/macsecd")
-SEAL = os.path.join(TOP, "crates/seal_frames/out/seal_frames")
+CPU = os.environ.get("MACSECD_CPU", "x86-64-v3")
+PROGRAM = os.path.join(TOP, "crates/macsecd/out", CPU, "macsecd")
 ROUNDS = 5
 COMMANDS = """
 [[command]]
@@ -39,11 +39,12 @@ an = 0
 
 
 def build():
-    subprocess.run([MACSECD, "--version"], check=True, stdout=subprocess.DEVNULL)
-    cpu = open(os.path.join(TOP, "crates/macsecd/out/built")).read().strip()
-    folder = os.path.join(TOP, "crates/seal_frames")
-    subprocess.run(["rt", "run", "--cpu", cpu], cwd=folder, check=True, stdout=subprocess.DEVNULL, stderr=subprocess.DEVNULL)
-    return cpu
+    """Builds both programs. The words of the one that seals alone."""
+    subprocess.run([MACSECD, "--version"], check=True, env={**os.environ, "MACSECD_CPU": CPU}, stdout=subprocess.DEVNULL)
+    tree = subprocess.run([os.path.join(TOP, "tools/tree_for"), CPU], check=True, capture_output=True, text=True).stdout.strip()
+    crate = os.path.join(tree, "crates/frame_times")
+    subprocess.run(["rt", "run", "--cpu", CPU], cwd=crate, check=True, stdout=subprocess.DEVNULL, stderr=subprocess.DEVNULL)
+    return [os.path.join(crate, "out/frame_times"), "seal"]
 
 
 def write_capture(path, frames):
@@ -79,7 +80,7 @@ def traced(folder, command):
 
 def main():
     frames = int(sys.argv[2]) if len(sys.argv) > 2 else 100_000
-    cpu = build()
+    seal = build()
     folder = tempfile.mkdtemp(dir=sys.argv[1] if len(sys.argv) > 1 else None)
     at = lambda name: os.path.join(folder, name)
     try:
@@ -89,10 +90,10 @@ def main():
         write_capture(at("few"), 1000)
         write_capture(at("many"), frames)
         protect = lambda name: [PROGRAM, "protect", at("disk"), at(name), at("out")]
-        print(f"for {cpu}; {frames} frames")
+        print(f"for {CPU}; {frames} frames")
         rounds = []
         for _ in range(ROUNDS):
-            sealing, _ = measured([SEAL, str(frames)])
+            sealing, _ = measured([*seal, str(frames)])
             whole, _ = measured(protect("many"))
             rounds.append((sealing, whole))
             print(f"sealing {sealing:.2f} s, protect {whole:.2f} s")

@@ -4,7 +4,8 @@
     python3 bench/relay.py [FRAMES]
 
 FRAMES is 20,000 for each of the two sizes, 64 and 1,400 octets; blocks are 65,536. The two relays run in turn, five times; the figures
-are those of the most frames a second. What a frame takes longer in macsecd is the endpoint's part. It needs a C compiler, cc.
+are those of the most frames a second. What a frame takes longer in macsecd is the endpoint's part. macsecd is built for x86-64-v3 unless
+MACSECD_CPU names another level. It needs a C compiler, cc.
 """
 
 import os
@@ -14,7 +15,8 @@ import tempfile
 
 TOP = os.path.abspath(os.path.join(os.path.dirname(__file__), ".."))
 MACSECD = os.path.join(TOP, "macsecd")
-PROGRAM = os.path.join(TOP, "crates/macsecd/out/macsecd")
+CPU = os.environ.get("MACSECD_CPU", "x86-64-v3")
+PROGRAM = os.path.join(TOP, "crates/macsecd/out", CPU, "macsecd")
 ROUNDS = 5
 SIZES = (64, 1400)
 # The host's port and the relay's on the controlled side, then the relay's and the host's on the common side.
@@ -50,7 +52,7 @@ def measured(relay, tool, octets, frames):
 
 def main():
     frames = int(sys.argv[1]) if len(sys.argv) > 1 else 20_000
-    subprocess.run([MACSECD, "--version"], check=True, stdout=subprocess.DEVNULL)
+    subprocess.run([MACSECD, "--version"], check=True, env={**os.environ, "MACSECD_CPU": CPU}, stdout=subprocess.DEVNULL)
     with tempfile.TemporaryDirectory() as folder:
         tool, disk, commands = (os.path.join(folder, it) for it in ("relay", "disk", "commands"))
         subprocess.run(["cc", "-O2", "-o", tool, os.path.join(TOP, "bench/relay.c")], check=True)
