@@ -14,3 +14,8 @@ pub mod Blank
 pub mod Closing
 pub mod Rewriting
 pub mod Compacting
+pub mod Stages
+pub mod GateCalls
+pub mod BodyCalls
+pub mod HeadCalls
+pub mod UnderWay

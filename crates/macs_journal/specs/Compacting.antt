@@ -1,55 +1,25 @@
 -- A journal that begins anew in its other area: its snapshot is written there, under a head of the next generation.
-use Rattle.std.specs.Prelude.{◌≡◌, ◌<◌, ◌≤◌, ◌⊎◌, ◌↔◌, ◌+◌, ◌-◌, ◌^◌, ℕ, zero, suc, true, false, List, length, Result, IsErrOf, OnOk, OnErr}
-use Rattle.macs_disk.specs.States.{Image, IsImage}
+use Rattle.std.specs.Prelude.{◌≡◌, ◌≤◌, ◌⊎◌, ◌↔◌, ◌+◌, ℕ, true, false, List, length, Result, IsErrOf, OnOk, OnErr}
+use Rattle.macs_disk.specs.States.{Image}
 use Rattle.macs_disk.specs.Disk.{IsHonest, MayLeave, now}
 use Rattle.macs_disk.specs.Disk as disk
 use Rattle.macs_disk.specs.Runs.{Leaves}
-use Rattle.macs_record.specs.Heads.{Head}
 use Rattle.macs_record.specs.declared.record.Record.{Record}
 use Rattle.macs_journal.specs.Appending.{HasEitherJournal}
-use Rattle.macs_journal.specs.Areas.{gate, gates, head_body, other_area, slot_body}
-use Rattle.macs_journal.specs.Found.{Content, HasJournal, IsGateOpen}
+use Rattle.macs_journal.specs.Areas.{gates, other_area}
+use Rattle.macs_journal.specs.Found.{Content, HasJournal}
 use Rattle.macs_journal.specs.Rewriting.{HasNewGates}
 use Rattle.macs_journal.specs.Value.{HoldsContent, IsIdle, JournalValue, disk_in, generation, is_stopped}
 use Rattle.macs_journal.specs.Work.{IsSpared, IsWorkOf}
 use Rattle.macs_journal.specs.declared.fault.JournalFault.{JournalFault}
 use Rattle.macs_journal.specs.declared.fault.JournalFault.TheVariants.{Disk, GenerationsSpent, Stopped}
 use Rattle.macs_journal.specs.declared.place.Place.{Place}
-
--- the greatest generation, which 8 octets hold: behind it there is no next one
-abbrev pub last_generation : ℕ
-last_generation = 2 ^ 64 - 1
-
--- the head of the next generation, with a snapshot of so many records
-abbrev pub next_head : Head → ℕ → Head
-next_head head count = record { generation = head.generation + 1; count = count; identity = head.identity }
-
--- the content of a journal that begins anew with these records
-abbrev pub compacted : Content → List Record → Content
-compacted c records = record { area = other_area c.area; head = next_head c.head (length records); records = records }
+pub use Rattle.macs_journal.specs.Renewal.{CompactWrites, FindsUntil, compacted, last_generation, next_head}
+unfoldable pub use Rattle.macs_journal.specs.Renewal.{HasOpenGates}
 
 -- the place where it goes on, behind so many records
 abbrev pub compacted_place : Place → ℕ → Place
 compacted_place place count = record { area = other_area place.area; head = next_head place.head count; free = count }
-
--- so many of the first gates of an area read open, of those below `upto`
-unfoldable pub HasOpenGates : Image → (area upto count : ℕ) → Type 0
-HasOpenGates seen area zero count = count ≡ 0
-HasOpenGates seen area (suc k) count =
-    (IsGateOpen seen area k × ((before : ℕ) × (count ≡ before + 1) × HasOpenGates seen area k before))
-    ⊎ ((¬ IsGateOpen seen area k) × HasOpenGates seen area k count)
-
--- the sectors of an area that a compaction with so many records writes to: the bodies of the head and of the records, the head gate,
--- and the gates that read open
-abbrev pub CompactWrites : Image → (area count i : ℕ) → Type 0
-CompactWrites seen area count i =
-    ((i ≡ head_body area) ⊎ (i ≡ gate area 0))
-    ⊎ (((j : ℕ) × (j < count) × (i ≡ slot_body area j)) ⊎ ((k : ℕ) × (k < gates) × IsGateOpen seen area k × (i ≡ gate area k)))
-
--- at each moment of the calls between these that is before a limit a power loss leaves this content
-abbrev pub FindsUntil : (old new : disk.Disk) (limit : ℕ) → Content → Type 0
-FindsUntil old new limit c =
-    (k : ℕ) → old.clock ≤ k → k ≤ new.clock → k < limit → (image : Image) → IsImage (new.past k) image → HasJournal image c
 
 -- A journal begins anew with these records in its other area. Refused as Stopped where a device call failed before, then as
 -- GenerationsSpent where its generation is the last one, and changes nothing then; as Disk where a device call failed, which stops it.

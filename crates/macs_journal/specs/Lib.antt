@@ -4,6 +4,8 @@ pub mod Appending
 pub mod Value
 pub mod Work
 pub mod Rewriting
+pub mod Renewal
+pub mod Stages
 pub mod Formatting
 pub mod Recovery
 pub mod Opening

@@ -7,16 +7,15 @@ ghost use Rattle.macs_journal.specs.Appending.{HasEitherJournal, IsReady};
 ghost use Rattle.macs_journal.specs.Areas.{gates, least_sectors, other_area, slots};
 ghost use Rattle.macs_journal.specs.Compacting.{CompactWrites, Compacts, FindsUntil, HasOpenGates, compacted, last_generation, next_head};
 ghost use Rattle.macs_journal.specs.Found.{Content};
-ghost use Rattle.macs_journal.specs.Rewriting.{AreClosed, HasNewGates, IsNoOpenGate, IsSettled, IsShut};
+ghost use Rattle.macs_journal.specs.Rewriting.{HasNewGates};
 ghost use Rattle.macs_journal.specs.Work.{IsSpared};
 
 use crate::area::Area;
+use crate::compact_calls::perform;
+use crate::compact_stage::CompactStage;
 use crate::fault::JournalFault;
-use crate::filling::write_bodies;
-use crate::gates::close_gates;
 use crate::hand::Hand;
 use crate::journal::Journal;
-use crate::opening::open_head;
 use crate::place::Place;
 use macs_disk::{DeviceFault, SectorDisk};
 use macs_record::{Head, Record};
@@ -95,27 +94,9 @@ fn rewrite<D: SectorDisk>(
         → ¬ CompactWrites (now (D.disk disk.old)).seen area (length records.now) i
         → IsSpared (D.disk disk.old) (D.disk disk.new) i }
 {
-    clear(disk, area)?;
-    write_bodies(disk, area, head, records)?;
-    open_head(disk, area)?;
-    Ok(())
-}
-
-/// Closes the gates of an area that read open, and makes that durable.
-fn clear<D: SectorDisk>(disk: &mut D, area: Area) -> Result<(), DeviceFault>
-    requires size { least_sectors ≤ (D.disk disk.old).sectors }
-    ensures work { IsWork (D.disk disk.old) (D.disk disk.new) result }
-    ensures most { (D.disk disk.new).clock ≤ (D.disk disk.old).clock + 515 }
-    ensures calls { OnOk result (IsHonest (D.disk disk.new) → (opened : ℕ) → HasOpenGates (now (D.disk disk.old)).seen area gates opened
-        → (D.disk disk.new).clock ≡ (D.disk disk.old).clock + (258 + opened)) }
-    ensures settled { OnOk result (IsHonest (D.disk disk.new) → IsSettled (now (D.disk disk.new))) }
-    ensures closed { OnOk result (IsHonest (D.disk disk.new)
-        → AreClosed (now (D.disk disk.old)).seen (now (D.disk disk.new)).seen area 0 gates) }
-    ensures shut { OnOk result (IsHonest (D.disk disk.new) → IsShut (now (D.disk disk.new)).seen area) }
-    ensures others { IsHonest (D.disk disk.new) → (i : ℕ) → IsNoOpenGate (now (D.disk disk.old)).seen area 0 gates i
-        → IsSpared (D.disk disk.old) (D.disk disk.new) i }
-{
-    close_gates(disk, area, 0)?;
-    disk.sync()?; // The gates are closed before a body behind them changes.
+    let mut next = Some(CompactStage::ReadGate(0));
+    while let Some(stage) = next {
+        next = perform(disk, area, head, records, stage)?;
+    }
     Ok(())
 }

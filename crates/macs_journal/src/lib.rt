@@ -4,6 +4,8 @@
 
 mod appending;
 mod area;
+mod compact_calls;
+mod compact_stage;
 mod compaction;
 mod fault;
 mod filling;

@@ -1,146 +1,104 @@
-use Rattle.std.proofs.Common.{◌≡◌, ◌+◌, ℕ, inl, sym, ◌∙◌, subst, arith, length}
-use Rattle.macs_disk.specs.Disk.{IsHonest, now}
-use Rattle.macs_disk.specs.Runs.{Leaves}
-use Rattle.macs_disk.proofs.Moments.{Leaves-weaker}
-use Rattle.macs_record.specs.Gates.{IsOpen}
-use Rattle.macs_journal.specs.Appending.{HasEitherJournal, IsReady}
-use Rattle.macs_journal.specs.Areas.{gate, gates, other_area}
-use Rattle.macs_journal.specs.Compacting.{CompactWrites, FindsUntil, HasOpenGates, compacted, next_head}
-use Rattle.macs_journal.specs.Found.{Content, HasJournal}
-use Rattle.macs_journal.specs.Work.{IsSpared}
-use Rattle.macs_journal.proofs.HeadOpened.{left-until, open_gate-opens}
-use Rattle.macs_journal.proofs.Rewriting.{gates-opened, leaves-clearing, leaves-filling, leaves-opening, ready-compacted, spared-clearing, spared-filling, spared-opening}
+use Rattle.std.proofs.Common.{◌≡◌, ◌≤◌, ◌+◌, refl, sym, ◌∙◌, subst, arith, length, Option, None, rules}
+use Rattle.macs_disk.specs.Disk.{IsHonest}
+use Rattle.macs_disk.proofs.Moments.{Works-on, Works-start}
+use Rattle.macs_journal.specs.Stages.{AtNextStage, AtStage, IsRewritten, IsUnderWay, compact_left, compact_left_next}
+use Rattle.macs_journal.specs.declared.compact_stage.CompactStage.{CompactStage}
+use Rattle.macs_journal.proofs.GateCalls.{none-closed}
+use Rattle.macs_journal.proofs.UnderWay.{rewritten-way, way-calls, way-gates, way-leaves, way-ready, way-spares, way-until}
 use Rattle.macs_journal.proofs.compaction.rewrite.Given.{Over}
-use Rattle.macs_journal.proofs.compaction.rewrite.Goals.{After-clear, After-write_bodies, After-open_head}
+use Rattle.macs_journal.proofs.compaction.rewrite.Goals.{After-perform, In_default}
 use Rattle.macs_journal.proofs.compaction.rewrite.Goals as goal
 
--- ---- whatever closing the gates answered
+pub loop-next-init : goal.loop-next-init
+loop-next-init g c =
+    let disk = g.D.SectorDisk.disk c.args.disk.now in
+    record {
+      works = Works-start disk;
+      steady = refl;
+      fits = omega arith;
+      most = omega arith;
+      at = λ honest. none-closed disk c.args.area;
+    }
 
-module _ (g : Over) (c : After-clear g) (honest : IsHonest (g.D.SectorDisk.disk c.clear.new.disk)) where
-  cleared : (before : Content) → IsReady (now (g.D.SectorDisk.disk c.args.disk.now)) before → other_area before.area ≡ c.args.area
-      → Leaves (g.D.SectorDisk.disk c.args.disk.now) (g.D.SectorDisk.disk c.clear.new.disk) (λ image. HasJournal image before)
-  cleared before ready area_is = leaves-clearing _ _ before c.args.area area_is ready c.clear.ensures.work.works (c.clear.ensures.others honest)
+-- ---- one call
 
-pub returns-in_err-clear-clause-images : goal.returns-in_err-clear-clause-images
-returns-in_err-clear-clause-images g c honest before ready area_is head_is =
-    Leaves-weaker _ _ (λ image. HasJournal image before) (HasEitherJournal before (compacted before c.args.records.now)) (λ image finds. inl finds)
-    (cleared g (goal.at.returns-in_err-clear-clause-images g c).After-clear honest before ready area_is)
+module _ (g : Over) (c : After-perform g) (honest : IsHonest (g.D.SectorDisk.disk c.perform.new.disk)) where
+  honest-before : IsHonest (g.D.SectorDisk.disk c.loop-next.disk)
+  honest-before = sym c.perform.ensures.call.work.works.honest ∙ honest
 
-pub returns-in_err-clear-clause-until : goal.returns-in_err-clear-clause-until
-returns-in_err-clear-clause-until g c honest before ready area_is opened has k from until lt image left =
-    (cleared g (goal.at.returns-in_err-clear-clause-until g c).After-clear honest before ready area_is).each image (k, from, until, left)
+  at-stage : AtStage (g.D.SectorDisk.disk c.args.disk.now) (g.D.SectorDisk.disk c.loop-next.disk) c.args.area c.args.head.now c.args.records.now c.in-Some.stage
+  at-stage =
+      subst (λ (next : Option CompactStage). AtNextStage (g.D.SectorDisk.disk c.args.disk.now) (g.D.SectorDisk.disk c.loop-next.disk) c.args.area c.args.head.now c.args.records.now next)
+      c.in-Some.is (c.loop-next.invariant.at honest-before)
 
-pub returns-in_err-clear-clause-others : goal.returns-in_err-clear-clause-others
-returns-in_err-clear-clause-others g c honest =
-    spared-clearing _ _ c.args.area (length c.args.records.now) c.clear.ensures.work.works (c.clear.ensures.others honest)
+  under-way : IsUnderWay (g.D.SectorDisk.disk c.args.disk.now) (g.D.SectorDisk.disk c.perform.new.disk) c.args.area c.args.head.now c.args.records.now
+  under-way = c.perform.ensures.under_way honest (g.D.SectorDisk.disk c.args.disk.now) at-stage
 
--- ---- whatever writing the bodies answered
+pub loop-next-preserved : goal.loop-next-preserved
+loop-next-preserved g c =
+    let d = g.D.SectorDisk.disk in
+    let path = (goal.at.loop-next-preserved g c).After-perform in
+    let i = c.loop-next.invariant in
+    let call = c.in_ok-next.ensures in
+    let so_far : (d c.loop-next.disk).clock + compact_left (length c.args.records.now) c.in-Some.stage ≤ (d c.args.disk.now).clock + (519 + length c.args.records.now) =
+    subst (λ (next : Option CompactStage). (d c.loop-next.disk).clock + compact_left_next (length c.args.records.now) next ≤ (d c.args.disk.now).clock + (519 + length c.args.records.now))
+    c.in-Some.is i.most in
+    record {
+      works = Works-on _ _ _ i.works call.call.work.works;
+      steady = call.call.work.ok ∙ i.steady;
+      fits = call.room;
+      most = (let one = call.one in let left = call.left in omega (arith, so_far, one, left));
+      at = λ honest. call.next honest (d c.args.disk.now) (at-stage g path honest);
+    }
 
-module _ (g : Over) (c : After-write_bodies g) (honest : IsHonest (g.D.SectorDisk.disk c.write_bodies.new.disk)) where
-  honest-cleared : IsHonest (g.D.SectorDisk.disk c.clear.new.disk)
-  honest-cleared = sym c.write_bodies.ensures.work.works.honest ∙ honest
+pub returns-in_err-next-clause-until : goal.returns-in_err-next-clause-until
+returns-in_err-next-clause-until g c honest before ready area_is =
+    way-until _ _ c.args.area c.args.head.now c.args.records.now c.requires.few before ready area_is
+    (under-way g (goal.at.returns-in_err-next-clause-until g c).After-perform honest)
 
-  filled : (before : Content) → IsReady (now (g.D.SectorDisk.disk c.args.disk.now)) before → other_area before.area ≡ c.args.area
-      → Leaves (g.D.SectorDisk.disk c.args.disk.now) (g.D.SectorDisk.disk c.write_bodies.new.disk) (λ image. HasJournal image before)
-  filled before ready area_is =
-      leaves-filling _ _ before c.args.area area_is ready c.clear.ensures.work.works (c.clear.ensures.others honest-cleared)
-      (c.in_ok-clear.ensures.settled honest-cleared) (c.in_ok-clear.ensures.shut honest-cleared)
-      _ c.args.records.now c.requires.few c.write_bodies.ensures.work.works (c.write_bodies.ensures.others honest)
+pub returns-in_err-next-clause-images : goal.returns-in_err-next-clause-images
+returns-in_err-next-clause-images g c honest before ready area_is head_is =
+    way-leaves _ _ c.args.area c.args.head.now c.args.records.now c.requires.few before ready area_is head_is
+    (under-way g (goal.at.returns-in_err-next-clause-images g c).After-perform honest)
 
-pub returns-in_err-write_bodies-clause-images : goal.returns-in_err-write_bodies-clause-images
-returns-in_err-write_bodies-clause-images g c honest before ready area_is head_is =
-    Leaves-weaker _ _ (λ image. HasJournal image before) (HasEitherJournal before (compacted before c.args.records.now)) (λ image finds. inl finds)
-    (filled g (goal.at.returns-in_err-write_bodies-clause-images g c).After-write_bodies honest before ready area_is)
+pub returns-in_err-next-clause-others : goal.returns-in_err-next-clause-others
+returns-in_err-next-clause-others g c honest =
+    way-spares _ _ c.args.area c.args.head.now c.args.records.now c.requires.few (under-way g (goal.at.returns-in_err-next-clause-others g c).After-perform honest)
 
-pub returns-in_err-write_bodies-clause-until : goal.returns-in_err-write_bodies-clause-until
-returns-in_err-write_bodies-clause-until g c honest before ready area_is opened has k from until lt image left =
-    (filled g (goal.at.returns-in_err-write_bodies-clause-until g c).After-write_bodies honest before ready area_is).each image (k, from, until, left)
+-- ---- behind the last one
 
-pub returns-in_err-write_bodies-clause-others : goal.returns-in_err-write_bodies-clause-others
-returns-in_err-write_bodies-clause-others g c honest =
-    let honest1 : IsHonest (g.D.SectorDisk.disk c.clear.new.disk) = sym c.write_bodies.ensures.work.works.honest ∙ honest in
-    spared-filling _ _ c.args.area (length c.args.records.now) c.clear.ensures.work.works (c.clear.ensures.others honest1)
-    _ c.write_bodies.ensures.work.works (c.write_bodies.ensures.others honest)
+module _ (g : Over) (c : In_default g) (honest : IsHonest (g.D.SectorDisk.disk c.loop-next.disk)) where
+  done : IsRewritten (g.D.SectorDisk.disk c.args.disk.now) (g.D.SectorDisk.disk c.loop-next.disk) c.args.area c.args.head.now c.args.records.now
+  done =
+      let ends : c.loop-next.next ≡ None = search rules in
+      subst (λ (next : Option CompactStage). AtNextStage (g.D.SectorDisk.disk c.args.disk.now) (g.D.SectorDisk.disk c.loop-next.disk) c.args.area c.args.head.now c.args.records.now next)
+      ends (c.loop-next.invariant.at honest)
 
--- ---- whatever opening the head answered
-
-module _ (g : Over) (c : After-open_head g) (honest : IsHonest (g.D.SectorDisk.disk c.open_head.new.disk)) where
-  honest2 : IsHonest (g.D.SectorDisk.disk c.write_bodies.new.disk)
-  honest2 = sym c.open_head.ensures.work.works.honest ∙ honest
-
-  honest1 : IsHonest (g.D.SectorDisk.disk c.clear.new.disk)
-  honest1 = sym c.write_bodies.ensures.work.works.honest ∙ honest2
-
-  leaves : (before : Content) → IsReady (now (g.D.SectorDisk.disk c.args.disk.now)) before → other_area before.area ≡ c.args.area
-      → next_head before.head (length c.args.records.now) ≡ c.args.head.now
-      → Leaves (g.D.SectorDisk.disk c.args.disk.now) (g.D.SectorDisk.disk c.open_head.new.disk) (HasEitherJournal before (compacted before c.args.records.now))
-  leaves before ready area_is head_is =
-      leaves-opening _ _ before c.args.area area_is ready c.clear.ensures.work.works (c.clear.ensures.others honest1)
-      (c.in_ok-clear.ensures.settled honest1) (c.in_ok-clear.ensures.shut honest1)
-      _ c.args.records.now c.requires.few c.write_bodies.ensures.work.works (c.write_bodies.ensures.others honest2)
-      c.args.head.now head_is (c.in_ok-write_bodies.ensures.head honest2) (c.in_ok-write_bodies.ensures.bodies honest2)
-      _ (c.open_head.ensures.images honest)
-
-  -- until the gate is written
-  finds-until : (before : Content) → Leaves (g.D.SectorDisk.disk c.args.disk.now) (g.D.SectorDisk.disk c.write_bodies.new.disk) (λ image. HasJournal image before)
-      → (opened : ℕ) → HasOpenGates (now (g.D.SectorDisk.disk c.args.disk.now)).seen c.args.area gates opened
-      → FindsUntil (g.D.SectorDisk.disk c.args.disk.now) (g.D.SectorDisk.disk c.open_head.new.disk) ((g.D.SectorDisk.disk c.args.disk.now).clock + (261 + opened + length c.args.records.now)) before
-  finds-until before filled opened has =
-      let limit : ℕ = (g.D.SectorDisk.disk c.args.disk.now).clock + (261 + opened + length c.args.records.now) in
-      let closed = c.in_ok-clear.ensures.calls honest1 opened has in
-      let written = c.in_ok-write_bodies.ensures.calls in
-      left-until _ _ _ (λ image. HasJournal image before) limit filled c.open_head.ensures.work.works
-      (λ k from until lt. c.open_head.ensures.until honest k from until (omega (arith, lt, closed, written)))
-
-  spares : (i : ℕ) → (¬ CompactWrites (now (g.D.SectorDisk.disk c.args.disk.now)).seen c.args.area (length c.args.records.now) i)
-      → IsSpared (g.D.SectorDisk.disk c.args.disk.now) (g.D.SectorDisk.disk c.open_head.new.disk) i
-  spares =
-      spared-opening _ _ c.args.area (length c.args.records.now) c.clear.ensures.work.works (c.clear.ensures.others honest1)
-      _ c.write_bodies.ensures.work.works (c.write_bodies.ensures.others honest2) _ c.open_head.ensures.work.works (c.open_head.ensures.others honest)
-
-pub returns-in_err-open_head-clause-images : goal.returns-in_err-open_head-clause-images
-returns-in_err-open_head-clause-images g c honest = leaves g (goal.at.returns-in_err-open_head-clause-images g c).After-open_head honest
-
-pub returns-clause-images : goal.returns-clause-images
-returns-clause-images g c honest = leaves g (goal.at.returns-clause-images g c).After-open_head honest
-
-pub returns-in_err-open_head-clause-until : goal.returns-in_err-open_head-clause-until
-returns-in_err-open_head-clause-until g c honest before ready area_is =
-    let path = goal.at.returns-in_err-open_head-clause-until g c in
-    finds-until g path.After-open_head honest before (filled g path.After-write_bodies (honest2 g path.After-open_head honest) before ready area_is)
+  way : IsUnderWay (g.D.SectorDisk.disk c.args.disk.now) (g.D.SectorDisk.disk c.loop-next.disk) c.args.area c.args.head.now c.args.records.now
+  way = rewritten-way _ _ c.args.area c.args.head.now c.args.records.now c.requires.few done
 
 pub returns-clause-until : goal.returns-clause-until
 returns-clause-until g c honest before ready area_is =
-    let path = goal.at.returns-clause-until g c in
-    finds-until g path.After-open_head honest before (filled g path.After-write_bodies (honest2 g path.After-open_head honest) before ready area_is)
+    way-until _ _ c.args.area c.args.head.now c.args.records.now c.requires.few before ready area_is (way g c honest)
 
-pub returns-clause-calls : goal.returns-clause-calls
-returns-clause-calls g c honest opened has =
-    let closed = c.in_ok-clear.ensures.calls (honest1 g (goal.at.returns-clause-calls g c).After-open_head honest) opened has in
-    let written = c.in_ok-write_bodies.ensures.calls in
-    let last = c.in_ok-open_head.ensures.calls in
-    omega (arith, closed, written, last)
+pub returns-clause-images : goal.returns-clause-images
+returns-clause-images g c honest before ready area_is head_is =
+    way-leaves _ _ c.args.area c.args.head.now c.args.records.now c.requires.few before ready area_is head_is
+    (way g c honest)
 
 pub returns-clause-done : goal.returns-clause-done
 returns-clause-done g c honest before ready area_is head_is =
-    let o = (goal.at.returns-clause-done g c).After-open_head in
-    let opens : IsOpen ((now (g.D.SectorDisk.disk c.open_head.new.disk)).seen (gate c.args.area 0)) = subst IsOpen (sym (c.in_ok-open_head.ensures.gate honest)) open_gate-opens in
-    ready-compacted _ _ before c.args.area area_is ready c.clear.ensures.work.works (c.clear.ensures.others (honest1 g o honest))
-    (c.in_ok-clear.ensures.settled (honest1 g o honest)) (c.in_ok-clear.ensures.shut (honest1 g o honest))
-    _ c.args.records.now c.requires.few c.write_bodies.ensures.work.works (c.write_bodies.ensures.others (honest2 g o honest))
-    c.args.head.now head_is (c.in_ok-write_bodies.ensures.head (honest2 g o honest)) (c.in_ok-write_bodies.ensures.bodies (honest2 g o honest))
-    _ c.open_head.ensures.work.works (c.open_head.ensures.others honest) (c.in_ok-open_head.ensures.settled honest) opens
-
-pub returns-in_err-open_head-clause-others : goal.returns-in_err-open_head-clause-others
-returns-in_err-open_head-clause-others g c = spares g (goal.at.returns-in_err-open_head-clause-others g c).After-open_head
-
-pub returns-clause-others : goal.returns-clause-others
-returns-clause-others g c = spares g (goal.at.returns-clause-others g c).After-open_head
+    way-ready _ _ c.args.area c.args.head.now c.args.records.now c.requires.few before ready area_is head_is
+    (done g c honest)
 
 pub returns-clause-gates : goal.returns-clause-gates
 returns-clause-gates g c honest =
-    let o = (goal.at.returns-clause-gates g c).After-open_head in
-    let d = g.D.SectorDisk.disk in
-    gates-opened (d c.args.disk.now) (d c.clear.new.disk) (d c.write_bodies.new.disk) (d c.open_head.new.disk) c.args.area (length c.args.records.now) (c.in_ok-clear.ensures.closed (honest1 g o honest))
-    c.write_bodies.ensures.work.works (c.write_bodies.ensures.others (honest2 g o honest))
-    c.open_head.ensures.work.works (c.open_head.ensures.others honest) (c.in_ok-open_head.ensures.gate honest)
+    way-gates _ _ c.args.area c.args.head.now c.args.records.now c.requires.few (done g c honest)
+
+pub returns-clause-calls : goal.returns-clause-calls
+returns-clause-calls g c honest =
+    way-calls _ _ c.args.area c.args.head.now c.args.records.now c.requires.few (done g c honest)
+
+pub returns-clause-others : goal.returns-clause-others
+returns-clause-others g c honest =
+    way-spares _ _ c.args.area c.args.head.now c.args.records.now c.requires.few (way g c honest)

@@ -1,0 +1,92 @@
+-- The last device calls of a compaction: the bodies are made durable, and the head gate is opened and made durable.
+use Rattle.std.proofs.Common.{◌≡◌, ◌≢◌, ◌≤◌, ◌+◌, inl, ℕ, refl, ◌∙◌, ap, subst, arith, List, length, Result}
+use Rattle.macs_disk.specs.Disk.{Disk, IsDeviceCall, MayLeave, Syncs, Writes, now}
+use Rattle.macs_disk.specs.Runs.{LeavesNothingNew}
+use Rattle.macs_disk.specs.States.{DiskState, Image, IsImage, IsSound, state_after_sync, state_after_write}
+use Rattle.macs_disk.proofs.Calls.{sync-leaves}
+use Rattle.macs_disk.proofs.Images.{put-same}
+use Rattle.macs_disk.proofs.Moments.{Leaves-call, Leaves-weaker}
+use Rattle.macs_record.specs.Gates.{open_gate}
+use Rattle.macs_record.specs.Heads.{Head}
+use Rattle.macs_record.specs.declared.record.Record.{Record}
+use Rattle.macs_journal.specs.Areas.{gate}
+use Rattle.macs_journal.specs.Rewriting.{IsOldOrOpening}
+use Rattle.macs_journal.specs.Stages.{AreBodiesDurable, AreBodiesWritten, IsHeadOpened, IsOpening, IsRewritten}
+use Rattle.macs_journal.specs.Work.{IsSpared}
+use Rattle.macs_journal.proofs.Appends.{sync-image, wrote}
+use Rattle.macs_journal.proofs.HeadOpened.{opening-image, synced-settled}
+use Rattle.macs_journal.proofs.Spared.{Spared-on, Spared-sync, Spared-write}
+
+-- one call more, not before the second one
+opening-on : {T E : Type 0} (began d new : Disk) (area : ℕ) (head : Head) (records : List Record) (result : Result T E) (at : IsOpening began d area head records)
+    → at.full.clock + 1 ≤ d.clock → IsDeviceCall d new result → ((image : Image) → IsImage (now new) image → IsOldOrOpening (now at.full) area image)
+    → ((i : ℕ) → i ≢ gate area 0 → IsSpared d new i) → IsOpening began new area head records
+opening-on began d new area head records result at second call images spares = record {
+  full = at.full;
+  filled = at.filled;
+  leaves = Leaves-call at.full d new result (IsOldOrOpening (now at.full) area) at.leaves call images;
+  until = λ k from le lt image left.
+      let before : k ≤ d.clock = omega (arith, lt, second) in
+      at.until k from before lt image (subst (λ (s : DiskState). IsImage s image) (call.work.works.past k before) left);
+  others = λ i apart. Spared-on at.full d new i at.leaves.works call.work.works (at.others i apart) (spares i apart);
+}
+
+-- ---- the bodies are made durable
+
+module _ {T E : Type 0} (began d new : Disk) (area : ℕ) (head : Head) (records : List Record) (result : Result T E)
+    (at : AreBodiesWritten began d area head records (length records)) (sound : IsSound (now d)) (call : IsDeviceCall d new result) (syncs : Syncs (now d) (now new) result) where
+  nothing : LeavesNothingNew d new
+  nothing = sync-leaves d new result sound call syncs
+
+  pub opening-first : IsOpening began new area head records
+  opening-first = record {
+    full = d;
+    filled = at;
+    leaves = Leaves-weaker d new (MayLeave d) (IsOldOrOpening (now d) area) (λ image left. inl left) nothing;
+    until = λ k from le lt image left. nothing.each image (k, from, le, left);
+    others = λ i apart. Spared-sync d new result i sound call syncs;
+  }
+
+  pub bodies-durable : new.clock ≡ d.clock + 1 → now new ≡ state_after_sync (now d) → AreBodiesDurable began new area head records
+  unfolding opening-first
+  bodies-durable one is = record { opening = opening-first; calls = one; fit = sound.fit; synced = is }
+
+-- ---- the head gate is opened
+
+module _ {T E : Type 0} (began d new : Disk) (area : ℕ) (head : Head) (records : List Record) (result : Result T E)
+    (at : AreBodiesDurable began d area head records) (call : IsDeviceCall d new result) (writes : Writes (now d) (now new) (gate area 0) open_gate result) where
+  written-images : (image : Image) → IsImage (now new) image → IsOldOrOpening (now at.opening.full) area image
+  written-images = opening-image (now at.opening.full) (now d) (now new) area (gate area 0) at.fit refl at.synced (wrote (now d) (now new) (gate area 0) open_gate result writes)
+
+  pub opening-written : IsOpening began new area head records
+  opening-written =
+      opening-on began d new area head records result at.opening (let was = at.calls in omega (arith, was)) call written-images
+      (λ i apart. Spared-write d new (gate area 0) open_gate result i apart call writes)
+
+  pub head-opened : new.clock ≡ d.clock + 1 → now new ≡ state_after_write (now d) (gate area 0) open_gate → IsHeadOpened began new area head records
+  unfolding opening-on opening-written
+  head-opened one is = record {
+    opening = opening-written;
+    calls = (let was = at.calls in omega (arith, was, one));
+    opened = ap (λ (s : DiskState). s.seen (gate area 0)) is ∙ put-same (now d).seen (gate area 0) (gate area 0) open_gate refl;
+    images = written-images;
+  }
+
+-- ---- and made durable
+
+module _ {T E : Type 0} (began d new : Disk) (area : ℕ) (head : Head) (records : List Record) (result : Result T E)
+    (at : IsHeadOpened began d area head records) (sound : IsSound (now d)) (call : IsDeviceCall d new result) (syncs : Syncs (now d) (now new) result) where
+  pub opening-synced : IsOpening began new area head records
+  opening-synced =
+      opening-on began d new area head records result at.opening (let was = at.calls in omega (arith, was)) call
+      (λ image left. at.images image (sync-image (now d) (now new) result sound.fit syncs image left))
+      (λ i apart. Spared-sync d new result i sound call syncs)
+
+  pub rewritten : new.clock ≡ d.clock + 1 → now new ≡ state_after_sync (now d) → IsRewritten began new area head records
+  unfolding opening-on opening-synced
+  rewritten one is = record {
+    opening = opening-synced;
+    calls = (let was = at.calls in omega (arith, was, one));
+    opened = ap (λ (s : DiskState). s.seen (gate area 0)) is ∙ at.opened;
+    settled = synced-settled (now d) (now new) is;
+  }

@@ -1,0 +1,34 @@
+use Rattle.std.proofs.Common.{ℕ, sym, ◌∙◌, subst, rules}
+use Rattle.std.proofs.lemmas.Option.{get_or_from_slice_get}
+use Rattle.macs_disk.specs.Disk.{Writes, now}
+use Rattle.macs_record.specs.Gates.{closed_gate}
+use Rattle.macs_record.specs.Decoding.{IsSectorOf}
+use Rattle.macs_record.specs.declared.record.Record.{Record}
+use Rattle.macs_journal.proofs.compact_calls.call.Goals as goal
+
+pub returns-in-CloseGate-clause-does : goal.returns-in-CloseGate-clause-does
+returns-in-CloseGate-clause-does g c honest =
+    let d = g.D.SectorDisk.disk in
+    rw c.in-CloseGate.is (subst (λ (at : ℕ). Writes (now (d c.args.disk.now)) (now (d c.write.new.self)) at closed_gate c.write.result) c.gate-in-CloseGate.ensures.at
+    (c.write.ensures.effect honest))
+
+pub returns-in-HeadBody-clause-does : goal.returns-in-HeadBody-clause-does
+returns-in-HeadBody-clause-does g c honest =
+    let d = g.D.SectorDisk.disk in
+    rw c.in-HeadBody.is (
+      c.encode_head.result,
+      search rules,
+      subst (λ (at : ℕ). Writes (now (d c.args.disk.now)) (now (d c.write-in-HeadBody.new.self)) at c.encode_head.result c.write-in-HeadBody.result) c.head_body.ensures.at
+          (c.write-in-HeadBody.ensures.effect honest),
+    )
+
+pub returns-in-Body-clause-does : goal.returns-in-Body-clause-does
+returns-in-Body-clause-does g c honest =
+    let d = g.D.SectorDisk.disk in
+    let here : IsSectorOf c.index-records-slot.result c.encode.result = record { range = c.record_in_range.ensures; octets = sym c.encode.ensures } in
+    rw c.in-Body.is (
+      c.encode.result,
+      (λ r at. subst (λ (x : Record). IsSectorOf x c.encode.result) (c.index-records-slot.is ∙ get_or_from_slice_get c.args.records.now c.in-Body.slot r c.index-records-slot.result at) here),
+      subst (λ (at : ℕ). Writes (now (d c.args.disk.now)) (now (d c.write-in-Body.new.self)) at c.encode.result c.write-in-Body.result) c.slot_body.ensures.at
+          (c.write-in-Body.ensures.effect honest),
+    )
