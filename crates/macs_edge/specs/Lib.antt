@@ -5,5 +5,6 @@ pub mod Settling
 pub mod Passing
 pub mod Wires
 pub mod MemWires
+pub mod UdpWires
 pub mod Relaying
 pub mod Flows

@@ -60,6 +60,7 @@ fn given(datagram: &[u8], from: SocketAddr, peer: SocketAddr, into: &mut FrameBu
 
 impl UdpWire {
     ghost use Rattle.std.specs.Prelude.{◌≡◌, None, IfErr, IfOk};
+    ghost use Rattle.macs_edge.specs.UdpWires.{peer_of};
     ghost use Rattle.macs_edge.specs.Wires.{FillsBuffer};
 
     /// A wire from the own address to the peer's. Refused first as `Memory`, where 9,217 octets are; then as
@@ -70,8 +71,9 @@ impl UdpWire {
         own: SocketAddr,
         peer: SocketAddr,
     ) -> Result<UdpWire, BindFault>
-        ensures { IfOk result (λ wire. ⟦<UdpWire as Wire>⟧.state wire
+        ensures state { IfOk result (λ wire. ⟦<UdpWire as Wire>⟧.state wire
             ≡ record { waiting = None; sent = None; failed_receives = 0; failed_sends = 0 }) }
+        ensures peer { IfOk result (λ wire. peer_of wire ≡ peer) }
     {
         let Ok(room) = room(alloc) else {
             return Err(BindFault::Memory);
@@ -94,6 +96,7 @@ impl UdpWire {
     /// The next datagram of the peer, where there is one.
     fn take(&mut self, into: &mut FrameBuf) -> Result<Got, WireFault>
         ensures same { ⟦<UdpWire as Wire>⟧.state self.new ≡ ⟦<UdpWire as Wire>⟧.state self.old }
+        ensures peer { peer_of self.new ≡ peer_of self.old }
         ensures fills { FillsBuffer result into.new.items }
         ensures fault { IfErr result (λ fault. fault ≡ WireFault.Receive) }
     {

@@ -9,6 +9,7 @@ pub mod Given
 pub mod HexDigits
 pub mod Opened
 pub mod Printing
+pub mod Relayed
 pub mod Shown
 pub mod Spelling
 pub mod Subcommands

@@ -12,6 +12,10 @@ pub record SpellsEnds (ends : WireEnds) (wire : WireAddresses) : Type 0 where
   pub own_is : IsSocketText ends.own.now wire.own
   pub peer_is : IsSocketText ends.peer.now wire.peer
 
+-- the ends of both wires are spelled
+abbrev pub SpellsBoth : WireEnds → WireEnds → Type 0
+SpellsBoth controlled common = (first : WireAddresses) × (second : WireAddresses) × SpellsEnds controlled first × SpellsEnds common second
+
 -- the text spells no address
 abbrev pub SpellsNone : List ℕ → Type 0
 SpellsNone text = (address : SocketAddr) → ¬ IsSocketText text address

@@ -43,3 +43,9 @@ PassesCapture disk_of side old (Ok summary) new =
 PassesCapture disk_of side old (Err failure) new =
     (sink : SinkState) × (answer : Result Summary RunFault) × RunsOver disk_of side old answer (run_of new.endpoint new.source sink)
     × EndsWith answer failure sink new.sink
+
+-- How a run with its line fails: as the run does; or the run does not, and its line cannot be written
+abbrev pub EndsPass : {D : Type 0} → (D → Disk) → Side → Run D → Failure → Run D → Type 0
+EndsPass disk_of side old failure new =
+    PassesCapture disk_of side old (Err failure) new
+    ⊎ ((failure ≡ failures.Output) × (summary : Summary) × PassesCapture disk_of side old (Ok summary) new)

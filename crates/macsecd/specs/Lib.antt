@@ -11,4 +11,5 @@ pub mod Showing
 pub mod Applying
 pub mod Summing
 pub mod Capturing
+pub mod Relaying
 pub mod Run

@@ -7,10 +7,11 @@ use Rattle.macs_config.specs.declared.refusal.Refusal.{Refusal}
 use Rattle.macs_edge.specs.declared.passing.Summary.{Summary}
 use Rattle.macs_edge.specs.declared.relaying.RelaySummary.{RelaySummary}
 use Rattle.macs_endpoint.specs.State.{State}
-use Rattle.macsecd.specs.Addresses.{AddressFaultHolds}
+use Rattle.macsecd.specs.Addresses.{AddressFaultHolds, SpellsBoth}
 use Rattle.macsecd.specs.Answer.{Answers, answer_status, answer_text}
 use Rattle.macsecd.specs.Applying.{outcome_lines, outcomes_status}
 use Rattle.macsecd.specs.Help.{topic_text}
+use Rattle.macsecd.specs.Relaying.{ComesTo}
 use Rattle.macsecd.specs.Showing.{line, show_text}
 use Rattle.macsecd.specs.Summing.{relay_line, summary_line}
 use Rattle.macsecd.specs.Values.{SpellsIdentity, ValueFaultHolds}
@@ -30,29 +31,30 @@ abbrev pub Prints : List ℕ → Option (List ℕ) → Option (List ℕ) → Sta
 Prints input before after status =
     (answer : Answer) × Answers input answer × Appends before after (line (answer_text answer)) × (status ≡ answer_status answer)
 
--- What a run prints that does what it is asked for. What an endpoint finds in a file is not known here: the lines are those of some
--- outcomes, of some state, of some summary
-abbrev pub Does : Action → Option (List ℕ) → Option (List ℕ) → Option (List ℕ) → Status → Type 0
-Does Open input before after status = IfSome input (λ octets. Prints octets before after status)
-Does (Format disk sci tx_block rx_block) input before after status =
+-- What a run prints that does what it is asked for, where F is what files are. What an endpoint finds in a file is not known here: the
+-- lines are those of some outcomes, of some state, of some summary; that of a relay is what some endpoint comes to in so many turns
+abbrev pub Does : (F : Type 0) → Action → Option (List ℕ) → Option (List ℕ) → Option (List ℕ) → Status → Type 0
+Does F Open input before after status = IfSome input (λ octets. Prints octets before after status)
+Does F (Format disk sci tx_block rx_block) input before after status =
     (identity : Identity) × SpellsIdentity sci.now tx_block rx_block identity
     × Appends before after (line (codes "formatted")) × (status ≡ ends.Done)
-Does (Apply disk file) input before after status =
+Does F (Apply disk file) input before after status =
     (outcomes : List (Option Refusal)) × Appends before after (outcome_lines 1 outcomes) × (status ≡ outcomes_status outcomes)
-Does (Show disk) input before after status = (s : State) × Appends before after (show_text s) × (status ≡ ends.Done)
-Does (Protect disk from to) input before after status =
+Does F (Show disk) input before after status = (s : State) × Appends before after (show_text s) × (status ≡ ends.Done)
+Does F (Protect disk from to) input before after status =
     (summary : Summary) × Appends before after (summary_line direction.Protect summary) × (status ≡ ends.Done)
-Does (Validate disk from to) input before after status =
+Does F (Validate disk from to) input before after status =
     (summary : Summary) × Appends before after (summary_line direction.Validate summary) × (status ≡ ends.Done)
-Does (Relay disk controlled common turns) input before after status =
-    (summary : RelaySummary) × Appends before after (relay_line summary) × (status ≡ ends.Done)
+Does F (Relay disk controlled common turns) input before after status =
+    (summary : RelaySummary) × ComesTo F turns summary × SpellsBoth controlled common
+    × Appends before after (relay_line summary) × (status ≡ ends.Done)
 
 -- a run that does not fail is asked for help and prints it, or its words are taken and name an action, and it does that
-abbrev pub Replies : List Text → Option (List ℕ) → Option (List ℕ) → Option (List ℕ) → Status → Type 0
-Replies words input before after status =
+abbrev pub Replies : (F : Type 0) → List Text → Option (List ℕ) → Option (List ℕ) → Option (List ℕ) → Status → Type 0
+Replies F words input before after status =
     ((topic : Topic) × AsksFor words topic × Appends before after (topic_text topic) × (status ≡ ends.Done))
     ⊎ ((takes macsecd words ≡ true)
-    × (action : Action) × Names (subcommand_of macsecd words) action × Does action input before after status)
+    × (action : Action) × Names (subcommand_of macsecd words) action × Does F action input before after status)
 
 -- What was printed before a disk fault: of `apply` the lines of the commands before it, else nothing
 abbrev pub HasPrinted : Action → Option (List ℕ) → Option (List ℕ) → Type 0

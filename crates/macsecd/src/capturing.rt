@@ -5,7 +5,7 @@ ghost use Rattle.std.specs.Io.KnownBytes.{Appends};
 ghost use Rattle.macs_edge.specs.Passing.{RunsOver, run_of};
 ghost use Rattle.macs_edge.specs.declared.passing.RunFault.{RunFault};
 ghost use Rattle.macs_edge.specs.declared.passing.Summary.{Summary};
-ghost use Rattle.macsecd.specs.Capturing.{PassesCapture, side_of};
+ghost use Rattle.macsecd.specs.Capturing.{EndsPass, PassesCapture, side_of};
 ghost use Rattle.macsecd.specs.Failing.{failure_of_run, failure_status};
 ghost use Rattle.macsecd.specs.Summing.{summary_line};
 
@@ -104,7 +104,10 @@ pub fn pass_frames<D: SectorDisk, R: Source, S: Sink, W: Write>(
         (run_of endpoint.new (R.state source.new) (S.state sink.new))
         × Appends (W.contents out.old) (W.contents out.new) (summary_line direction summary) × (status ≡ Status.Done)) }
     ensures failed { IfErr result (λ failure. failure_status failure ≢ Status.Usage) }
-    ensures silent { IfErr result (λ failure. failure_status failure ≡ Status.Disk → out.new ≡ out.old) }
+    ensures ended { IfErr result (λ failure. EndsPass D.disk (side_of direction)
+        (run_of endpoint.old (R.state source.old) (S.state sink.old)) failure
+        (run_of endpoint.new (R.state source.new) (S.state sink.new))) }
+    ensures silent { IfErr result (λ failure. failure ≢ Failure.Output → out.new ≡ out.old) }
 {
     let summary = run_capture(alloc, endpoint, direction, source, sink)?;
     print_octets(out, summary_line(direction, summary).as_slice())?;

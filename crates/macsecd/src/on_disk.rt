@@ -1,15 +1,17 @@
 //! What each subcommand does that has a disk file.
 
-ghost use Rattle.std.specs.Prelude.{◌≡◌, ◌≢◌, ◌⊎◌, List, Option, codes, IfErr, IfOk};
+ghost use Rattle.std.specs.Prelude.{◌≡◌, ◌≢◌, ◌⊎◌, ◌↔◌, List, Option, codes, Err, IfErr, IfOk};
 ghost use Rattle.std.specs.Io.KnownBytes.{Appends};
 ghost use Rattle.macs_config.specs.Identity.{Identity};
 ghost use Rattle.macs_config.specs.declared.refusal.Refusal.{Refusal};
 ghost use Rattle.macs_edge.specs.declared.passing.Summary.{Summary};
 ghost use Rattle.macs_edge.specs.declared.relaying.RelaySummary.{RelaySummary};
 ghost use Rattle.macs_endpoint.specs.State.{State};
-ghost use Rattle.macsecd.specs.Addresses.{AddressFaultHolds};
+ghost use Rattle.macs_frame.specs.First.{IsFirst};
+ghost use Rattle.macsecd.specs.Addresses.{AddressFaultHolds, SpellsBoth, address_faults};
 ghost use Rattle.macsecd.specs.Applying.{outcome_lines, outcomes_status};
 ghost use Rattle.macsecd.specs.Failing.{failure_status};
+ghost use Rattle.macsecd.specs.Relaying.{ComesTo, IsOfRelay};
 ghost use Rattle.macsecd.specs.Showing.{line, show_text};
 ghost use Rattle.macsecd.specs.Summing.{relay_line, summary_line};
 ghost use Rattle.macsecd.specs.Values.{SpellsIdentity, ValueFaultHolds};
@@ -113,7 +115,7 @@ where
     ensures printed { IfOk result (λ status. (summary : Summary)
         × Appends (W.contents out.old) (W.contents out.new) (summary_line direction summary) × (status ≡ Status.Done)) }
     ensures failed { IfErr result (λ failure. failure_status failure ≢ Status.Usage) }
-    ensures silent { IfErr result (λ failure. failure_status failure ≡ Status.Disk → out.new ≡ out.old) }
+    ensures silent { IfErr result (λ failure. failure ≢ Failure.Output → out.new ≡ out.old) }
 {
     let mut endpoint = open_endpoint(rt, disk)?;
     let mut source = open_capture(rt, alloc, from)?;
@@ -133,11 +135,15 @@ pub fn relay<T: Files + Net, W: Write>(
 ) -> Result<Status, Failure>
 where
     T::File: DiskFile,
-    ensures printed { IfOk result (λ status. (summary : RelaySummary)
+    ensures printed { IfOk result (λ status. (summary : RelaySummary) × ComesTo T.File turns summary
+        × SpellsBoth controlled.entry common.entry
         × Appends (W.contents out.old) (W.contents out.new) (relay_line summary) × (status ≡ Status.Done)) }
+    ensures address { (fault : AddressFault) → (result ≡ Err (Failure.Address fault))
+        ↔ IsFirst (AddressFaultHolds controlled.entry common.entry) address_faults fault }
     ensures usage { IfErr result (λ failure. failure_status failure ≡ Status.Usage
         → ((fault : AddressFault) × AddressFaultHolds controlled.entry common.entry fault) × (out.new ≡ out.old)) }
-    ensures silent { IfErr result (λ failure. failure_status failure ≡ Status.Disk → out.new ≡ out.old) }
+    ensures names { IfErr result IsOfRelay }
+    ensures silent { IfErr result (λ failure. failure ≢ Failure.Output → out.new ≡ out.old) }
 {
     let addresses = addresses_of(controlled, common)?;
     let mut endpoint = open_endpoint(rt, disk)?;

@@ -3,8 +3,10 @@
 ghost use Rattle.std.specs.Prelude.{◌≡◌, ◌≢◌, ◌⊎◌, IfErr, IfOk, Ok};
 ghost use Rattle.std.specs.Io.KnownBytes.{Appends};
 ghost use Rattle.macs_edge.specs.Relaying.{IsRelayed, empty_lane, relay_of};
+ghost use Rattle.macs_edge.specs.UdpWires.{peer_of};
 ghost use Rattle.macs_edge.specs.declared.relaying.RelaySummary.{RelaySummary};
 ghost use Rattle.macsecd.specs.Failing.{failure_status};
+ghost use Rattle.macsecd.specs.Relaying.{EndsRelay, new_wire};
 ghost use Rattle.macsecd.specs.Summing.{relay_line};
 
 use crate::addresses::WireAddresses;
@@ -33,7 +35,9 @@ fn relay_line(summary: RelaySummary) -> Line
 
 /// A wire that is bound.
 pub fn bind<N: Net>(net: &N, alloc: Global, wire: WireAddresses) -> Result<UdpWire, Failure>
-    ensures { IfErr result (λ failure. (failure ≡ Failure.Memory) ⊎ (failure ≡ Failure.Wire)) }
+    ensures fresh { IfOk result (λ bound. ⟦<UdpWire as Wire>⟧.state bound ≡ new_wire) }
+    ensures peer { IfOk result (λ bound. peer_of bound ≡ wire.peer) }
+    ensures failed { IfErr result (λ failure. (failure ≡ Failure.Memory) ⊎ (failure ≡ Failure.Wire)) }
 {
     let bound = UdpWire::bind(net, alloc, wire.own, wire.peer)?;
     Ok(bound)
@@ -52,7 +56,10 @@ pub fn relay_frames<D: SectorDisk, P: Wire, C: Wire, W: Write>(
         endpoint.new (P.state controlled.new) (C.state common.new)
         × Appends (W.contents out.old) (W.contents out.new) (relay_line summary) × (status ≡ Status.Done)) }
     ensures failed { IfErr result (λ failure. failure_status failure ≢ Status.Usage) }
-    ensures silent { IfErr result (λ failure. failure_status failure ≡ Status.Disk → out.new ≡ out.old) }
+    ensures ended { IfErr result (λ failure. EndsRelay D.disk turns
+        (relay_of endpoint.old (P.state controlled.old) (C.state common.old) empty_lane empty_lane) failure
+        endpoint.new (P.state controlled.new) (C.state common.new)) }
+    ensures silent { IfErr result (λ failure. failure ≢ Failure.Output → out.new ≡ out.old) }
 {
     let summary = relay(endpoint, controlled, common, turns)?;
     print_octets(out, relay_line(summary).as_slice())?;

@@ -80,7 +80,7 @@ fn perform<T: Files + Net, R: Read, W: Write>(
 ) -> Result<Status, Failure>
 where
     T::File: DiskFile,
-    ensures does { IfOk result (Does action.entry (R.remaining input.old) (W.contents out.old) (W.contents out.new)) }
+    ensures does { IfOk result (Does T.File action.entry (R.remaining input.old) (W.contents out.old) (W.contents out.new)) }
     ensures status { IfOk result (λ status. (status ≡ Status.Done) ⊎ (status ≡ Status.Refused)) }
     ensures usage { IfErr result (λ failure. failure_status failure ≡ Status.Usage
         → WrongValues action.entry × (out.new ≡ out.old)) }
@@ -127,7 +127,7 @@ fn act<T: Files + Net, R: Read, W: Write>(
 ) -> Result<Status, Failure>
 where
     T::File: DiskFile,
-    ensures replied { IfOk result (Replies (texts words.now) (R.remaining input.old)
+    ensures replied { IfOk result (Replies T.File (texts words.now) (R.remaining input.old)
         (W.contents out.old) (W.contents out.new)) }
     ensures status { IfOk result (λ status. (status ≡ Status.Done) ⊎ (status ≡ Status.Refused)) }
     ensures usage { IfErr result (λ failure. failure_status failure ≡ Status.Usage
@@ -176,7 +176,7 @@ where
     // At 0 and 3 the words ask for help or are taken, and the help or what the action prints is written to
     // standard output.
     ensures replied { (result ≡ 0) ⊎ (result ≡ 3) → (status : Status) × (result ≡ code_of status)
-        × Replies (texts words.now) (R.remaining input.old)
+        × Replies T.File (texts words.now) (R.remaining input.old)
         (W.contents out.old) (W.contents out.new) status }
     // And nothing on standard error.
     ensures quiet { (result ≡ 0) ⊎ (result ≡ 3) → err.new ≡ err.old }
