@@ -1,4 +1,4 @@
--- The octets of a sum of words.
+-- The octets of words: of a sum of columns, and of a round key.
 use Rattle.std.proofs.Common.{◌≡◌, ℕ, ◌+◌, ◌*◌, ◌/◌, ◌%◌, ◌^◌, ◌<◌, ◌∙◌, List, [], ◌∷◌, ◌++◌, get_or, slice_index, bit_xor, ap, sym, arith}
 use Rattle.std.specs.Int.{w32, to_be_bytes}
 use Rattle.std.proofs.lemmas.Nat.{xor_mod, xor_shr}
@@ -28,6 +28,7 @@ state-cong a b c d e f g h p q r s = cc
 pub octets-xor : (v w : ℕ) → to_be_bytes w32 (bit_xor v w) ≡ column_sum (to_be_bytes w32 v) (to_be_bytes w32 w)
 octets-xor v w = column-cong _ _ _ _ _ _ _ _ (octet_xor v w 24) (octet_xor v w 16) (octet_xor v w 8) (xor_mod v w 8)
 
+-- the same where a word has another name
 sum_same : (v w u : ℕ) → u ≡ w → to_be_bytes w32 (bit_xor v w) ≡ column_sum (to_be_bytes w32 v) (to_be_bytes w32 u)
 sum_same v w u e = octets-xor v w ∙ ap (λ o. column_sum (to_be_bytes w32 v) (to_be_bytes w32 o)) (sym e)
 
@@ -45,6 +46,7 @@ columns-add_round_key a b c d ka kb kc kd words round e h =
 abbrev pub four_of : List ℕ → List ℕ
 four_of o = slice_index o 0 ∷ slice_index o 1 ∷ slice_index o 2 ∷ slice_index o 3 ∷ []
 
+-- the octets of a word that has another name
 four_same : (o : List ℕ) (v w : ℕ) → o ≡ to_be_bytes w32 v → w ≡ v → four_of o ≡ four_of (to_be_bytes w32 w)
 four_same o v w eo ev = ap four_of (eo ∙ ap (to_be_bytes w32) (sym ev))
 

@@ -3,10 +3,11 @@ use Rattle.std.proofs.Common.{◌≡◌, ℕ, zero, suc, ◌+◌, ◌*◌, ◌/�
 use Rattle.std.proofs.lemmas.List.FromFn.{fill_by_all, get_or-map-range_with_len}
 use Rattle.macs_aes.specs.Columns.{word_in, words_in}
 
--- a column has word r of every four, n times
+-- the first n words of a column are the words r, r + 4, r + 8 and so on
 abbrev pub IsColumn : List ℕ → ℕ → ℕ → List ℕ → Type 0
 IsColumn words r n column = (k : ℕ) → k < n → slice_index column k ≡ slice_index words (4 * k + r)
 
+-- a word in its column
 word_of : (words a b c d : List ℕ) (q r : ℕ) → q < 11 → r < 4 → IsColumn words 0 11 a → IsColumn words 1 11 b → IsColumn words 2 11 c → IsColumn words 3 11 d
     → slice_index words (4 * q + r) ≡ slice_index (get_or (a ∷ b ∷ c ∷ d ∷ []) r []) q
 word_of words a b c d q zero h k ia ib ic id = sym (ia q h)
@@ -15,7 +16,7 @@ word_of words a b c d q (suc (suc zero)) h k ia ib ic id = sym (ic q h)
 word_of words a b c d q (suc (suc (suc zero))) h k ia ib ic id = sym (id q h)
 word_of words a b c d q (suc (suc (suc (suc r)))) h k ia ib ic id = absurd (omega arith)
 
--- the words from their columns
+-- four columns of the words are the words
 pub woven : (words a b c d : List ℕ) → length words ≡ 44 → IsColumn words 0 11 a → IsColumn words 1 11 b → IsColumn words 2 11 c → IsColumn words 3 11 d
     → words_in a b c d ≡ words
 unfolding words_in
@@ -24,7 +25,7 @@ woven words a b c d len ia ib ic id =
     let whole : 4 * (k / 4) + k % 4 ≡ k = omega arith in
     ap (slice_index words) (sym whole) ∙ word_of words a b c d (k / 4) (k % 4) (omega arith) (omega arith) ia ib ic id))
 
--- a word from its column
+-- the same from columns that are known to be the words
 pub column_at : (a b c d words : List ℕ) (q r : ℕ) → words_in a b c d ≡ words → q < 11 → r < 4
     → slice_index words (4 * q + r) ≡ slice_index (get_or (a ∷ b ∷ c ∷ d ∷ []) r []) q
 unfolding words_in

@@ -11,8 +11,8 @@ use std::marker::Model;
 /// The words of all round keys by columns: word 4 i + c is word i of column c, counted from the left. In
 /// clauses it is the list of all words in their own order.
 ///
-/// Words that stand apart are added to a state one by one. Where those of one round stand side by side,
-/// the compiler adds them as one vector, and a block takes half as long again.
+/// So the words of one round stand apart, and are added to a state one by one. Side by side they would be
+/// added as one vector, and a block would take one and a half times as long.
 #[derive(Drop)]
 pub(crate) struct KeyColumns {
     pub(crate) a: [u32; ROUND_KEYS],
@@ -27,7 +27,7 @@ impl Model for KeyColumns {
     ghost view = { λ k. words_in k.a k.b k.c k.d };
 }
 
-/// The words by columns.
+/// The 44 words of the key expansion, put by columns.
 pub(crate) fn by_columns(words: &[u32; WORDS]) -> KeyColumns
     ensures { result ≡ words.now }
 {

@@ -27,6 +27,7 @@ impl Model for Sum {
 }
 
 impl Sum {
+    /// No sum yet.
     #[inline(always)]
     fn zero() -> Self
         ensures { result ≡ 0 }
@@ -49,6 +50,7 @@ impl Sum {
         }
     }
 
+    /// The lanes added up.
     #[inline(always)]
     fn number(&self) -> u128
         ensures { result ≡ self.now }

@@ -17,6 +17,7 @@ pub(crate) struct Blocks {
     pub(crate) low: u64x8,
 }
 
+/// The first 64 bits of a block.
 fn high_half(block: u128) -> u64
     ensures { result ≡ block / 2 ^ 64 }
 {

@@ -29,6 +29,7 @@ impl Model for LongSum {
 }
 
 impl LongSum {
+    /// No sum yet.
     #[inline(always)]
     fn zero() -> Self
         ensures { result ≡ 0 }

@@ -1,5 +1,6 @@
 //! How wide the processor's vector registers are, for the crates that work on several blocks side by
-//! side. They are proved and right at each width; at another than the processor's they are slower.
+//! side. They are proved at 128 and at 256 bits, and right at both on each processor; at another width than
+//! the processor's they are slower.
 #![tactic(auto)]
 
 /// The width of a vector register, in bits: 128 for x86-64-v2, which is what the toolchain builds for

@@ -1,4 +1,4 @@
--- The rounds on sixteen blocks.
+-- The rounds on several blocks: the first AddRoundKey, one more round, the last.
 use Rattle.std.proofs.Common.{◌≡◌, ℕ, suc, ◌+◌, ◌-◌, ◌≤◌, ◌∙◌, List, [], ◌∷◌, map, ap, sym, refl, arith}
 use Rattle.macs_aes.specs.Cipher.{state_after_rounds, cipher, encrypt, mix_columns, round_key, shift_rows, sub_bytes, xor_tables}
 use Rattle.macs_aes.specs.KeyExpansion.{key_words, rounds_of}

@@ -4,9 +4,11 @@ use Rattle.std.specs.Prelude.{ℕ, bit_xor}
 use Rattle.macs_gf.specs.Gf256.{octet_product}
 use Rattle.macs_aes.specs.SBox.{affine_bit, from_bits}
 
+-- x^2
 abbrev pub squared : ℕ → ℕ
 squared x = octet_product x x
 
+-- t, for which t^16 = t + 1
 abbrev pub tower_root : ℕ
 tower_root = 0xa2
 

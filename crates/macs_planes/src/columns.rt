@@ -1,4 +1,4 @@
-//! Octets of the blocks side by side, made of their bits.
+//! From planes to octets: the bits of an octet, which are one in each plane, are put side by side.
 #![tactic(auto, using(std::proofs::lemmas::Simd::shifts_fit_splat))]
 
 ghost use Rattle.std.specs.Prelude.{◌≡◌, ◌<◌, ◌*◌, ◌/◌, ◌%◌, ◌^◌, ℕ, [], ◌∷◌, get_or, length, slice_index};
@@ -8,7 +8,8 @@ ghost use Rattle.macs_planes.specs.Columns.{IsCrossed};
 use macs_aes::Block;
 use std::simd::prelude::*;
 
-/// Eight vectors: octets m and m + 8 of block i are in lane i of the vector m.
+/// Eight vectors. Crossed, octets m and m + 8 of block i are the lower and the upper half of lane i of
+/// vector m.
 #[derive(Drop)]
 pub(crate) struct Columns<const N: usize> {
     pub(crate) q0: [u16; N],
@@ -21,7 +22,8 @@ pub(crate) struct Columns<const N: usize> {
     pub(crate) q7: [u16; N],
 }
 
-/// The bits of the vectors and of the octets change places.
+/// Bit k of a half of a lane of vector m, and bit m of the same half and lane of vector k, change places:
+/// first in pairs of vectors, then in fours, then in all eight.
 #[inline(always)]
 pub(crate) fn cross<const N: usize>(x: &Columns<N>) -> Columns<N>
     requires { ArePlanes N (x.now.q0 ∷ x.now.q1 ∷ x.now.q2 ∷ x.now.q3 ∷ x.now.q4 ∷ x.now.q5 ∷ x.now.q6 ∷ x.now.q7 ∷ []) }
@@ -79,7 +81,7 @@ pub(crate) fn cross<const N: usize>(x: &Columns<N>) -> Columns<N>
     }
 }
 
-/// Block i of the vectors.
+/// Block i of crossed vectors.
 #[inline(always)]
 pub(crate) fn row<const N: usize>(x: &Columns<N>, i: usize) -> Block
     requires lanes { ArePlanes N (x.now.q0 ∷ x.now.q1 ∷ x.now.q2 ∷ x.now.q3 ∷ x.now.q4 ∷ x.now.q5 ∷ x.now.q6 ∷ x.now.q7 ∷ []) }

@@ -12,8 +12,9 @@ use macs_lanes::REGISTER_BITS;
 /// How many blocks go side by side: as many lanes of 16 bits as a vector register has.
 const LANES: usize = REGISTER_BITS / 16;
 
-/// One round of so many (FIPS 197, 5.1) on each block, with its key: the last goes without MixColumns.
-/// All rounds are one place of the code, so that the compiler keeps the planes in registers.
+/// A round of so many (FIPS 197, 5.1) on each block, with its key: the last goes without MixColumns. It is
+/// one function for both kinds of round, so that SubBytes stands once in the code and the compiler keeps
+/// the planes in registers.
 #[inline(always)]
 fn take_round<const N: usize>(planes: &mut Planes<N>, key: &KeyBits, round: usize, rounds: usize)
     ensures inner { round < rounds → planes.new ≡ keyed (octets_in_words key.now) (map mix_columns (map shift_rows (map sub_bytes planes.old))) }

@@ -38,7 +38,7 @@ impl<const N: usize> Model for Planes<N> {
     ghost invariant = { λ s. ArePlanes N (s.p0 ∷ s.p1 ∷ s.p2 ∷ s.p3 ∷ s.p4 ∷ s.p5 ∷ s.p6 ∷ s.p7 ∷ []) };
 }
 
-// That there are N blocks of sixteen octets.
+/// There are N blocks of sixteen octets. It does nothing: its contract is what the steps need to know.
 #[inline(always)]
 pub(crate) fn are_blocks<const N: usize>(x: &Planes<N>)
     ensures { AreBlocks N x.now }
