@@ -7,9 +7,9 @@ ghost use Rattle.macs_gf.specs.Ghash.{block_at, blocks_of, ghash, hash_input, pa
 use crate::masks::room;
 use crate::powers::Powers;
 
-/// From so many blocks on, masks are made and blocks are taken in eight at a time. They pay from about
-/// 15 on.
-const MASKED: usize = 8;
+/// From so many blocks on, masks are made and blocks are taken in eight at a time. With fewer the masks cost
+/// more than a turn saves.
+const MASKED: usize = 16;
 
 /// Block i of a string, which is short, as a number: filled up with zero octets (7.1, step 4).
 fn short_block(octets: &[u8], i: usize) -> u128

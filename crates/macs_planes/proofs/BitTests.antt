@@ -1,5 +1,5 @@
 -- Octets by tests of their bits.
-use Rattle.std.proofs.Common.{◌≡◌, ℕ, zero, suc, ◌-◌, ◌*◌, ◌%◌, ◌^◌, ◌<◌, ◌∙◌, List, [], ◌∷◌, map, get_or, length, replicate, slice_index, bit_and, bit_xor, ap, sym, refl, arith, Bool, false, cond}
+use Rattle.std.proofs.Common.{◌≡◌, ℕ, zero, suc, ◌-◌, ◌*◌, ◌%◌, ◌^◌, ◌<◌, ◌∙◌, List, [], ◌∷◌, map, get_or, length, replicate, bit_and, bit_xor, ap, sym, refl, arith, Bool, false, cond}
 use Rattle.std.specs.Prelude.{if◌then◌else◌, ◌==◌}
 use Rattle.std.specs.Int.{bit_at, w8}
 use Rattle.std.specs.List.{range_with_len}

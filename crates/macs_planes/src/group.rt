@@ -24,10 +24,8 @@ fn take_round<const N: usize>(planes: &mut Planes<N>, key: &KeyBits, round: usiz
     planes.shift_rows();
     if round < rounds {
         planes.mix_columns();
-        planes.add_bits(key);
-    } else {
-        planes.add_bits(key);
     }
+    planes.add_bits(key);
 }
 
 /// Each block of a group encrypted under the schedule's key, whose round keys are given.

@@ -1,4 +1,4 @@
-use Rattle.std.proofs.Common.{◌∙◌, ap, bit_xor, slice_index}
+use Rattle.std.proofs.Common.{◌∙◌, ap, bit_xor}
 use Rattle.macs_aes.specs.Cipher.{xor_tables}
 use Rattle.macs_planes.specs.Blocks.{octet}
 use Rattle.macs_planes.specs.RoundKeys.{octet_in_words, octets_in_words}

@@ -1,4 +1,4 @@
-use Rattle.std.proofs.Common.{◌≡◌, ◌∙◌, ℕ, ◌<◌, List, [], ◌∷◌, get_or, sym, arith}
+use Rattle.std.proofs.Common.{◌∙◌, ℕ, ◌<◌, List, [], ◌∷◌, get_or, sym, arith}
 use Rattle.std.proofs.lemmas.List.{length-set}
 use Rattle.macs_planes.specs.Blocks.{octet_basis, zeros}
 use Rattle.macs_planes.specs.Columns.{IsCrossed}
