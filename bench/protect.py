@@ -5,8 +5,8 @@
 
 FOLDER, where the captures and the disk file are made, should be on a real disk; it is the system's folder for temporary files unless
 one is named. FRAMES is 100,000. Frames have 1,500 octets, blocks 65,536 packet numbers. Both programs are built for one level of
-processors, x86-64-v3 unless MACSECD_CPU names another, and run in turn, five times; times are of the processor (user and system), and the ratio is that of the two least times. strace, where
-there is one, counts the calls of one more run.
+processors, x86-64-v3 unless MACSECD_CPU names another, and run in turn, ten times; times are of the processor (user and system), and the ratio is that of the two least times.
+Each run writes a new file: to give back the pages of an old one would be counted too. strace, where there is one, counts the calls of one more run.
 """
 
 import os
@@ -22,7 +22,7 @@ TOP = os.path.abspath(os.path.join(os.path.dirname(__file__), ".."))
 MACSECD = os.path.join(TOP, "macsecd")
 CPU = os.environ.get("MACSECD_CPU", "x86-64-v3")
 PROGRAM = os.path.join(TOP, "crates/macsecd/out", CPU, "macsecd")
-ROUNDS = 5
+ROUNDS = 10
 COMMANDS = """
 [[command]]
 do = "tx-install"
@@ -95,6 +95,7 @@ def main():
         for _ in range(ROUNDS):
             sealing, _ = measured([*seal, str(frames)])
             whole, _ = measured(protect("many"))
+            os.remove(at("out"))
             rounds.append((sealing, whole))
             print(f"sealing {sealing:.2f} s, protect {whole:.2f} s")
         sealing, whole = map(min, zip(*rounds))

@@ -69,13 +69,13 @@ fn read_record_header<R: Source>(
     Ok(Some(header))
 }
 
-/// Reads the octets of a frame into an empty buffer.
+/// Reads the octets of a frame, which are all that the buffer then holds. What it held before is not looked at: a buffer
+/// that is as long already is not filled twice.
 fn read_frame<R: Source, A: Allocator>(
     source: &mut R,
     kept: usize,
     into: &mut Vec<u8, A>,
 ) -> Result<(), PcapFault>
-    requires { into.old.items ≡ [] }
     ensures taken { OnOk result
         (Consumes (R.state source.old).left (R.state source.new).left into.new.items) }
     ensures kept { OnOk result (length into.new.items ≡ kept) }
@@ -96,15 +96,13 @@ fn read_frame<R: Source, A: Allocator>(
     Ok(())
 }
 
-/// Reads the next capture record into an empty buffer. Where there is a fault, some octets of the frame may
-/// stand in it.
+/// Reads the next capture record. Where there is none, or a fault, nothing is said of the buffer.
 fn read_into<R: Source, A: Allocator>(
     source: &mut R,
     big: bool,
     count: u32,
     into: &mut Vec<u8, A>,
 ) -> Result<Option<Stamp>, PcapFault>
-    requires { into.old.items ≡ [] }
     ensures taken { IfOk result (λ stamp. HoldsOfLeft (R.state source.old).left
         (R.state source.new).left (Takes big into.new.items stamp)) }
     ensures fault { IfSome (R.state source.old).left
@@ -115,8 +113,7 @@ fn read_into<R: Source, A: Allocator>(
     ensures few { IfOk result (λ stamp. IfSome stamp (λ _. count < max_records)) }
     ensures read { TellsFailedRead (R.state source.old).failed (R.state source.new).failed result }
     ensures names { IfErr result (λ fault. fault ≢ PcapFault.Write) }
-    ensures empty { result ≡ Ok None → into.new.items ≡ [] }
-    ensures fits { OnOk result (length into.new.items ≤ longest) }
+    ensures fits { IfOk result (λ stamp. IfSome stamp (λ _. length into.new.items ≤ longest)) }
 {
     let Some(header) = read_record_header(source, big, count)? else {
         return Ok(None);
@@ -137,10 +134,10 @@ pub fn read_record<R: Source, A: Allocator>(
     ensures { ReadsRecord big count (vec_capacity into.old) (R.state source.old) (R.state source.new)
         into.new.items result }
 {
-    into.clear();
     let answer = read_into(source, big, count, into);
-    if answer.is_err() {
-        into.clear();
+    match answer {
+        Ok(Some(_)) => {}
+        Ok(None) | Err(_) => into.clear(),
     }
     answer
 }
