@@ -63,11 +63,12 @@ during-held s command running accepts = λ i. if not (running i) && accepts i th
 
 -- another store under the same channels
 pub kept-held : {D : Type 0} (e : EndpointValue D) → IsSoundEndpoint e → (s : store.StoreValue D) (in_hand : Option Command) → standing_in s ≡ standing_in e.store
-    → (store.is_stopped s ≡ false → in_hand ≡ None) → IsSoundEndpoint {D = D} (record { store = s; tx = e.tx; rx = e.rx; in_hand = in_hand })
-kept-held e kept s in_hand same idle = record {
+    → store.IsIdle s → (store.is_stopped s ≡ false → in_hand ≡ None) → IsSoundEndpoint {D = D} (record { store = s; tx = e.tx; rx = e.rx; in_hand = in_hand })
+kept-held e kept s in_hand same rest idle = record {
   identity = subst (λ (x : Standing). IsIdentity x.identity) (sym same) kept.identity;
   channels = subst (λ (x : Standing). AreChannels e.tx e.rx x) (sym same) kept.channels;
   within = subst (λ (x : Standing). AreWithin e.tx e.rx x.identity) (sym same) kept.within;
+  rest = rest;
   idle = idle;
 }
 
@@ -125,7 +126,7 @@ module _ {D : Type 0} (disk_of : D → disk.Disk) (e : EndpointValue D) (kept : 
       → IsSoundEndpoint {D = D} (record { store = s; tx = e.tx; rx = e.rx; in_hand = e.in_hand })
   refused-kept fault s other commits =
       let same = same_store fault s other commits in
-      kept-held e kept s e.in_hand (ap (λ (x : store.StoreValue D). standing_in x) same)
+      kept-held e kept s e.in_hand (ap (λ (x : store.StoreValue D). standing_in x) same) commits.idle
       (λ running. kept.idle (subst (λ (x : store.StoreValue D). store.is_stopped x ≡ false) same running))
 
   -- ---- while the command is kept
@@ -159,7 +160,7 @@ module _ {D : Type 0} (disk_of : D → disk.Disk) (e : EndpointValue D) (kept : 
     cut_same = ap standing_of (commits.halted refl).1
 
     pub cut-kept : IsSoundEndpoint cut
-    cut-kept = kept-held e kept s (Some command) cut_same (λ running. absurd (let stopped = (commits.halted refl).0 in cc))
+    cut-kept = kept-held e kept s (Some command) cut_same commits.idle (λ running. absurd (let stopped = (commits.halted refl).0 in cc))
 
     cut_state : (logs : Logs) → state_of cut logs ≡ state_after_fault (state_with_in_hand (state_of e logs) command)
     cut_state logs = λ i. record {
@@ -241,6 +242,7 @@ module _ {D : Type 0} (disk_of : D → disk.Disk) (e : EndpointValue D) (kept : 
           identity = subst (λ (x : Standing). IsIdentity x.identity) (sym made) kept.identity;
           channels = channels;
           within = ahead-within tx rx (standing_in s) channels third;
+          rest = commits.idle;
           idle = λ running. done_idle;
         }
 

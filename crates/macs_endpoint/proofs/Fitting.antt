@@ -260,5 +260,5 @@ module _ {D : Type 0} (disk_of : D → Disk) (e : EndpointValue D) (kept : IsSou
     size = size;
     stored = λ running. stored;
     fits = λ logs image left.
-        kept-fits (disk_in disk_of e).sectors size logs image (stored-image disk_of e.store stored image left);
+        kept-fits (disk_in disk_of e).sectors size logs image (stored-image disk_of e.store kept.rest stored image left);
   }

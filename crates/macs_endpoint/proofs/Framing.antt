@@ -260,6 +260,7 @@ module _ {D : Type 0} (old : EndpointValue D) (tx : Tx) (plain : List ℕ) (resu
           rx_within = kept.within.rx_within;
           few = kept.within.few;
         };
+        rest = kept.rest;
         idle = kept.idle;
       }
 
@@ -508,6 +509,7 @@ module _ {D : Type 0} (disk_of : D → Disk) (old : EndpointValue D) (r : rxsc.R
           few = λ sci an over. unnumbered (association_in (channel_at r.channels sci) an)
               ((λ i. (side i).rx sci an) ∙ unowned (association_in (channel_at old.rx.channels sci) an) (kept.within.few sci an over));
         };
+        rest = kept.rest;
         idle = kept.idle;
       }
 

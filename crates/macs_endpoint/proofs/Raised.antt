@@ -80,6 +80,7 @@ module _ {D : Type 0} (disk_of : D → disk.Disk) (e : EndpointValue D) (kept : 
           identity = subst (λ (x : Standing). IsIdentity x.identity) (sym raises.done) kept.identity;
           channels = subst (λ (x : Standing). AreChannels tx rx x) (sym raises.done) channels;
           within = subst (λ (x : Standing). AreWithin tx rx x.identity) (sym raises.done) within;
+          rest = raises.idle;
           idle = λ going. kept.idle running;
         }
 
@@ -209,4 +210,4 @@ module _ {D : Type 0} (disk_of : D → disk.Disk) (e : EndpointValue D) (kept : 
     pub faulted-kept : (at : JournalFault) → Keeps disk_of e.store raised_to (Err at) s → IsSoundEndpoint kept_in
     faulted-kept at raises =
         let told = faulted at raises in
-        kept-held e kept s e.in_hand told.1 told.2
+        kept-held e kept s e.in_hand told.1 raises.idle told.2

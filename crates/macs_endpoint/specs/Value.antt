@@ -9,7 +9,7 @@ use Rattle.macs_txsc.specs.Value as txsc
 use Rattle.macs_txsc.specs.declared.channel.Tx.{Tx}
 use Rattle.macs_rxsc.specs.Receive.{Numbers}
 use Rattle.macs_rxsc.specs.Value as rxsc
-use Rattle.macs_store.specs.Value.{IsStored, StoreValue, standing_in}
+use Rattle.macs_store.specs.Value.{IsIdle, IsStored, StoreValue, standing_in}
 use Rattle.macs_store.specs.Value as store
 use Rattle.macs_store.specs.Standing.{Standing}
 use Rattle.macs_endpoint.specs.Restart.{Fits, rx_limit}
@@ -75,11 +75,12 @@ pub record AreWithin (tx : Tx) (rx : rxsc.RxValue) (identity : Identity) : Type 
       → IsRxWithin identity.rx_block ((rxsc.rx_side_of rx).numbers sci an) (rxsc.ceilings_of rx sci an)
   pub few : (sci : List ℕ) (an : ℕ) → 4 ≤ an → (rxsc.rx_side_of rx).numbers sci an ≡ None
 
--- and nothing is in hand unless a device call failed
+-- and between calls no work is in hand; a command is where a device call cut its work short
 pub record IsSoundEndpoint {D : Type 0} (e : EndpointValue D) : Type 0 where
   pub identity : IsIdentity (standing_in e.store).identity
   pub channels : AreChannels e.tx e.rx (standing_in e.store)
   pub within : AreWithin e.tx e.rx (standing_in e.store).identity
+  pub rest : IsIdle e.store
   pub idle : is_stopped e ≡ false → e.in_hand ≡ None
 
 -- ---- what its disk holds

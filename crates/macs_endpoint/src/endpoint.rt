@@ -5,6 +5,7 @@ ghost use Rattle.std.specs.Option.{option_map};
 ghost use Rattle.macs_config.specs.Value.{config_of};
 ghost use Rattle.macs_rxsc.specs.Receive.{Numbers};
 ghost use Rattle.macs_store.specs.Keeps.{most_calls};
+ghost use Rattle.macs_store.specs.Value.{IsIdle};
 ghost use Rattle.macs_endpoint.specs.Calls.{IsCall};
 ghost use Rattle.macs_endpoint.specs.Opening.{Begins, IsOpening};
 ghost use Rattle.macs_endpoint.specs.Value.{EndpointValue, IsSoundEndpoint, device_in, disk_in, state_of};
@@ -57,6 +58,7 @@ impl<D: SectorDisk> Endpoint<D> {
     /// The endpoint that begins with what stands in a store that was opened.
     #[inline(never)]
     fn over(store: Store<D>) -> Endpoint<D>
+        requires { IsIdle store }
         ensures { Begins store result }
     {
         let channels = Channels::opened(&store);

@@ -24,7 +24,7 @@ use Rattle.macs_journal.proofs.Spared.{Spared-start}
 -- no call was made
 module _ {D : Type 0} (disk_of : D → disk.Disk) (j : JournalValue D) (before : Content) (holds : HoldsContent disk_of j before) where
   still : Leaves (disk_in disk_of j) (disk_in disk_of j) (λ image. HasJournal image before)
-  still = Leaves-start (disk_in disk_of j) (λ image. HasJournal image before) (kept-image (now (disk_in disk_of j)) j.place j.hand before holds)
+  still = Leaves-start (disk_in disk_of j) (λ image. HasJournal image before) (kept-image (disk_in disk_of j) j.place j.hand before holds)
 
   still-until : (limit : ℕ) → FindsUntil (disk_in disk_of j) (disk_in disk_of j) limit before
   still-until limit k from until lt image left = still.each image (k, from, until, left)
@@ -74,7 +74,7 @@ module _ (old new : disk.Disk) (place : Place) (hand : Hand) (area : ℕ) (head 
       → (i : ℕ) → (¬ CompactWrites (now old).seen (other_area place.area) (length records) i) → IsSpared old new i
   compact-others promised i apart = promised i (subst (λ (a : ℕ). ¬ CompactWrites (now old).seen a (length records) i) (sym area_is) apart)
 
-  module _ (before : Content) (holding : IsHolding (now old) place hand before before) where
+  module _ (before : Content) (holding : IsHolding old place hand before before) where
     the-area : other_area before.area ≡ area
     the-area = ap other_area holding.at.area ∙ sym area_is
 
@@ -82,7 +82,7 @@ module _ (old new : disk.Disk) (place : Place) (hand : Hand) (area : ℕ) (head 
         → FindsUntil old new (old.clock + (261 + opened + length records)) c)
         → (opened : ℕ) → HasOpenGates (now old).seen (other_area place.area) gates opened → FindsUntil old new (old.clock + (261 + opened + length records)) before
     compact-until promised opened has =
-        promised before (idle-ready (now old) place hand before holding) the-area opened (subst (λ (a : ℕ). HasOpenGates (now old).seen a gates opened) (sym area_is) has)
+        promised before (idle-ready old place hand before holding) the-area opened (subst (λ (a : ℕ). HasOpenGates (now old).seen a gates opened) (sym area_is) has)
 
     module _ (head_is : head ≡ next_head place.head (length records)) where
       the-head : next_head before.head (length records) ≡ head
@@ -91,11 +91,11 @@ module _ (old new : disk.Disk) (place : Place) (hand : Hand) (area : ℕ) (head 
       pub compact-leaves : ((c : Content) → IsReady (now old) c → other_area c.area ≡ area → next_head c.head (length records) ≡ head
           → Leaves old new (HasEitherJournal c (compacted c records)))
           → Leaves old new (HasEitherJournal before (compacted before records))
-      compact-leaves promised = promised before (idle-ready (now old) place hand before holding) the-area the-head
+      compact-leaves promised = promised before (idle-ready old place hand before holding) the-area the-head
 
       pub compact-holding : ((c : Content) → IsReady (now old) c → other_area c.area ≡ area → next_head c.head (length records) ≡ head → IsReady (now new) (compacted c records))
-          → IsHolding (now new) (record { area = area; head = head; free = length records }) Empty (compacted before records) (compacted before records)
+          → IsHolding new (record { area = area; head = head; free = length records }) Empty (compacted before records) (compacted before records)
       compact-holding promised = record {
         at = record { area = the-area; head = the-head; free = refl };
-        holds = (promised before (idle-ready (now old) place hand before holding) the-area the-head, refl);
+        holds = (promised before (idle-ready old place hand before holding) the-area the-head, refl);
       }

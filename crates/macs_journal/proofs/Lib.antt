@@ -19,3 +19,6 @@ pub mod GateCalls
 pub mod BodyCalls
 pub mod HeadCalls
 pub mod UnderWay
+pub mod Anew
+pub mod Tasks
+pub mod Steps

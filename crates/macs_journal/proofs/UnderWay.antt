@@ -2,10 +2,10 @@
 use Rattle.std.proofs.Common.{◌≡◌, ◌≤◌, ◌↔◌, ◌+◌, inl, inr, ℕ, refl, sym, subst, arith, Bool, true, false, IsTrue, List, length, Result, Ok, Err}
 use Rattle.std.specs.Prelude.{OnOk}
 use Rattle.std.proofs.lemmas.Option.{slice_get_within}
-use Rattle.macs_disk.specs.Disk.{Disk, IsDeviceCall, now}
+use Rattle.macs_disk.specs.Disk.{Disk, IsDeviceCall, Works, now}
 use Rattle.macs_disk.specs.Runs.{Leaves}
 use Rattle.macs_disk.specs.States.{IsSound}
-use Rattle.macs_disk.proofs.Moments.{Leaves-weaker}
+use Rattle.macs_disk.proofs.Moments.{Leaves-weaker, Left-earlier, Works-start}
 use Rattle.macs_record.specs.Gates.{IsOpen, closed_gate}
 use Rattle.macs_record.specs.Heads.{Head}
 use Rattle.macs_record.specs.declared.record.Record.{Record}
@@ -23,7 +23,7 @@ use Rattle.macs_journal.proofs.GateCalls.{clearing, gate-closed, gates-synced, r
 use Rattle.macs_journal.proofs.HeadCalls.{bodies-durable, head-opened, opening-first, opening-synced, opening-written, rewritten}
 use Rattle.macs_journal.proofs.HeadOpened.{left-until, open_gate-opens}
 use Rattle.macs_journal.proofs.Rewriting.{gates-opened, leaves-clearing, leaves-filling, leaves-opening, ready-compacted, spared-clearing, spared-filling, spared-opening}
-use Rattle.macs_journal.proofs.Spared.{Spared-read, Spared-sync, Spared-write}
+use Rattle.macs_journal.proofs.Spared.{Spared-read, Spared-start, Spared-sync, Spared-write}
 use Rattle.macs_journal.proofs.Stages.{body_from-cases, gate_from-cases}
 
 -- ---- one call
@@ -84,6 +84,19 @@ module _ {T E : Type 0} (began d new : Disk) (area : ℕ) (head : Head) (records
   call-next HeadSync is_open (Ok x) test at call one does = rewritten began d new area head records (Ok x) at sound call does one does.ok
 
 -- ---- what a power loss leaves while it is under way
+
+-- before each call
+pub at-under_way : (began d : Disk) (area : ℕ) (head : Head) (records : List Record) (stage : CompactStage) → IsCompactStage (length records) stage
+    → AtStage began d area head records stage → IsUnderWay began d area head records
+at-under_way began d area head records (ReadGate k) fits at = inl (clearing began d area k 0 at d (omega (arith, fits)) (Works-start d) (λ i apart. Spared-start d i))
+at-under_way began d area head records (CloseGate k) fits at = inl (clearing began d area k 1 at.0 d (omega (arith, fits)) (Works-start d) (λ i apart. Spared-start d i))
+at-under_way began d area head records GatesSync fits at = inl (clearing began d area gates 0 at d (omega arith) (Works-start d) (λ i apart. Spared-start d i))
+at-under_way began d area head records HeadBody fits at = inr (inl (filling-first began d d area (length records) at (Works-start d) (λ i apart. Spared-start d i)))
+at-under_way began d area head records (Body slot) fits at = inr (inl (filling-more began d d area head records slot at fits (Works-start d) (λ i apart. Spared-start d i)))
+at-under_way began d area head records BodiesSync fits at =
+    inr (inl (record { mid = at.mid; cleared = at.cleared; works = at.works; others = at.others }))
+at-under_way began d area head records HeadGate fits at = inr (inr at.opening)
+at-under_way began d area head records HeadSync fits at = inr (inr at.opening)
 
 -- the bodies of all records
 all-bodies : (began full : Disk) (area : ℕ) (head : Head) (records : List Record) → AreBodiesWritten began full area head records (length records)
@@ -151,3 +164,13 @@ module _ (began d : Disk) (area : ℕ) (head : Head) (records : List Record) (fe
       let filled = at.opening.filled.calls in
       let last = at.calls in
       omega (arith, cleared, filled, last)
+
+-- ---- what a power loss leaves of one call
+
+pub call-leaves : (began old new : Disk) (area : ℕ) (head : Head) (records : List Record) (few : length records ≤ slots) (before : Content) → IsReady (now began) before
+    → other_area before.area ≡ area → next_head before.head (length records) ≡ head → (stage : CompactStage) → IsCompactStage (length records) stage
+    → AtStage began old area head records stage → Works old new → IsUnderWay began new area head records → Leaves old new (HasEitherJournal before (compacted before records))
+call-leaves began old new area head records few before ready area_is head_is stage fits at works way =
+    let was = way-leaves began old area head records few before ready area_is head_is (at-under_way began old area head records stage fits at) in
+    let is = way-leaves began new area head records few before ready area_is head_is way in
+    record { works = works; each = λ image left. is.each image (Left-earlier new began.clock old.clock image was.works.later left) }

@@ -1,5 +1,5 @@
 -- Calls of a disk, and an answer that tells of them in a type of its own.
-use Rattle.std.proofs.Common.{◌≡◌, ◌+◌, refl, Bool, true, false, Result, Ok, Err, IsErr, IfOk, OnOk}
+use Rattle.std.proofs.Common.{◌≡◌, ◌+◌, refl, Bool, true, false, Result, Ok, Err, IsErr, IfOk, OnOk, is_err}
 use Rattle.macs_disk.specs.Disk.{Disk, FailsOnce, IsDeviceCall, IsWork, Works}
 use Rattle.macs_disk.proofs.Moments.{FailsOnce-before, Works-on}
 
@@ -24,3 +24,26 @@ done-call old new (Ok x) call = by_worn old.worn refl where
   by_worn false fresh = call.one fresh
   by_worn true spent = absurd (let no = call.refused spent in cc)
 done-call old new (Err e) call = tt
+
+-- a call is the same call in the words of another answer that fails where its own does
+pub called : {T E U F : Type 0} (old new : Disk) (was : Result T E) (answer : Result U F) → is_err was ≡ is_err answer → IsDeviceCall old new was → IsDeviceCall old new answer
+called old new (Ok x) (Ok y) same call = record {
+  work = record { works = call.work.works; ok = call.work.ok; err = tt };
+  at_most_one = call.at_most_one;
+  one = call.one;
+  counted = call.counted;
+  refused = call.refused;
+  stands = call.stands;
+  alike = call.alike;
+}
+called old new (Err e) (Err f) same call = record {
+  work = record { works = call.work.works; ok = tt; err = call.work.err };
+  at_most_one = call.at_most_one;
+  one = call.one;
+  counted = call.counted;
+  refused = λ spent. refl;
+  stands = call.stands;
+  alike = call.alike;
+}
+called old new (Ok x) (Err f) same call = absurd cc
+called old new (Err e) (Ok y) same call = absurd cc

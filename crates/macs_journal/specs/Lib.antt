@@ -10,3 +10,4 @@ pub mod Formatting
 pub mod Recovery
 pub mod Opening
 pub mod Compacting
+pub mod Stepping

@@ -1,14 +1,16 @@
 -- A journal in memory: what is read of it, and the work that it has in hand.
-use Rattle.std.specs.Prelude.{◌≡◌, ◌<◌, ℕ, Bool, List, Some, length}
+use Rattle.std.specs.Prelude.{◌≡◌, ◌<◌, ◌≤◌, ℕ, Bool, List, Some, length}
 use Rattle.macs_disk.specs.Disk.{Disk, now}
-use Rattle.macs_disk.specs.States.{DiskState}
 use Rattle.macs_record.specs.Decoding.{IsSectorOf}
 use Rattle.macs_record.specs.declared.record.Record.{Record}
-use Rattle.macs_journal.specs.Areas.{slots}
+use Rattle.macs_journal.specs.Areas.{other_area, slots}
 use Rattle.macs_journal.specs.Found.{Content, content_with_record}
 use Rattle.macs_journal.specs.Appending.{AtAppend, IsReady, calls_left}
+use Rattle.macs_journal.specs.Renewal.{compacted, next_head}
+use Rattle.macs_journal.specs.Stages.{AtStage, IsCompactStage, compact_left}
+use Rattle.macs_journal.specs.declared.hand.Compacting.{Compacting}
 use Rattle.macs_journal.specs.declared.hand.Hand.{Hand}
-use Rattle.macs_journal.specs.declared.hand.Hand.TheVariants.{Append, Empty}
+use Rattle.macs_journal.specs.declared.hand.Hand.TheVariants.{Append, Compact, Empty}
 use Rattle.macs_journal.specs.declared.place.Place.{Place}
 
 -- what a journal keeps: its disk, where the next record goes, the work in hand, and whether a device call failed
@@ -52,27 +54,75 @@ pub record IsAt (place : Place) (c : Content) : Type 0 where
   pub head : c.head ≡ place.head
   pub free : length c.records ≡ place.free
 
--- nothing is in hand, or a record that is to be appended to a free slot
-abbrev pub HoldsHand : DiskState → Hand → Content → Content → Type 0
-HoldsHand s Empty before after = IsReady s before × (after ≡ before)
-HoldsHand s (Append work) before after =
-    (r : Record) × IsSectorOf r work.sector × (after ≡ content_with_record before r) × AtAppend s before work.sector work.stage × (length before.records < slots)
+-- The journal began anew at a disk with the content `before`, with some records, and its calls went on to here.
+pub record IsCompacting (d : Disk) (work : Compacting) (before after : Content) : Type 0 where
+  pub began : Disk
+  pub records : List Record
+  pub ready : IsReady (now began) before
+  pub becomes : after ≡ compacted before records
+  pub next : next_head before.head (length records) ≡ work.head
+  pub few : length records ≤ slots
+  pub fits : IsCompactStage (length records) work.stage
+  pub at : AtStage began d (other_area before.area) work.head records work.stage
+
+-- nothing is in hand, or a record that is to be appended to a free slot, or records with which the journal begins anew
+abbrev pub HoldsHand : Disk → Hand → Content → Content → Type 0
+HoldsHand d Empty before after = IsReady (now d) before × (after ≡ before)
+HoldsHand d (Append work) before after =
+    (r : Record) × IsSectorOf r work.sector × (after ≡ content_with_record before r) × AtAppend (now d) before work.sector work.stage × (length before.records < slots)
+HoldsHand d (Compact work) before after = IsCompacting d work before after
 
 -- The disk has the content `before`, and `after` once the work in hand is done.
-pub record IsHolding (s : DiskState) (place : Place) (hand : Hand) (before after : Content) : Type 0 where
+pub record IsHolding (d : Disk) (place : Place) (hand : Hand) (before after : Content) : Type 0 where
   pub at : IsAt place before
-  pub holds : HoldsHand s hand before after
+  pub holds : HoldsHand d hand before after
+
+-- where the journal begins anew: there are as many records as its new head counts
+abbrev pub AreLent : Hand → List Record → Type 0
+AreLent Empty snapshot = Unit {0}
+AreLent (Append work) snapshot = Unit {0}
+AreLent (Compact work) snapshot = length snapshot ≡ work.head.count
+
+-- and with these it makes the one content of the other
+abbrev pub IsMadeOf : Hand → List Record → Content → Content → Type 0
+IsMadeOf Empty snapshot before after = Unit {0}
+IsMadeOf (Append work) snapshot before after = Unit {0}
+IsMadeOf (Compact work) snapshot before after = after ≡ compacted before snapshot
+
+-- The disk has the content `before`, and `after` once the work in hand is done, with these records where it is to begin anew.
+pub record HoldsWith (d : Disk) (place : Place) (hand : Hand) (snapshot : List Record) (before after : Content) : Type 0 where
+  pub holds : IsHolding d place hand before after
+  pub made : IsMadeOf hand snapshot before after
 
 -- after a device call of that work: it goes on, or is done
-abbrev pub ComesTo : DiskState → Place → Hand → Content → Content → Type 0
-ComesTo s place Empty before after = IsHolding s place Empty after after
-ComesTo s place (Append work) before after = IsHolding s place (Append work) before after
+abbrev pub ComesTo : Disk → Place → Hand → Content → Content → Type 0
+ComesTo d place Empty before after = IsHolding d place Empty after after
+ComesTo d place (Append work) before after = IsHolding d place (Append work) before after
+ComesTo d place (Compact work) before after = IsHolding d place (Compact work) before after
 
--- how many device calls are left
+-- what the work in hand asks of the place, and of itself
+abbrev pub FitsHand : Place → Hand → Type 0
+FitsHand place Empty = Unit {0}
+FitsHand place (Append work) = place.free < slots
+FitsHand place (Compact work) = (1 ≤ work.head.count) × (work.head.count ≤ slots) × IsCompactStage work.head.count work.stage
+
+-- how many device calls are left, at most
 abbrev pub left_of : Hand → ℕ
 left_of Empty = 0
 left_of (Append work) = calls_left (Some work.stage)
+left_of (Compact work) = compact_left work.head.count work.stage
+
+-- how many device calls of an append are left
+abbrev pub append_left : Hand → ℕ
+append_left Empty = 0
+append_left (Append work) = calls_left (Some work.stage)
+append_left (Compact work) = 0
+
+-- nothing is in hand, or an append
+abbrev pub IsNoCompact : Hand → Type 0
+IsNoCompact (Compact work) = ⊥
+IsNoCompact hand = Unit {0}
 
 -- the disk has this content, and nothing is in hand
 abbrev pub HoldsContent : {D : Type 0} → (D → Disk) → JournalValue D → Content → Type 0
-HoldsContent disk_of j content = IsHolding (now (disk_in disk_of j)) j.place j.hand content content
+HoldsContent disk_of j content = IsHolding (disk_in disk_of j) j.place j.hand content content

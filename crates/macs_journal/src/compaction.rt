@@ -58,7 +58,7 @@ impl<D: SectorDisk> Journal<D> {
 }
 
 /// The head of the next generation, `None` behind the last.
-fn next_head(head: &Head, count: u32) -> Option<Head>
+pub(crate) fn next_head(head: &Head, count: u32) -> Option<Head>
     requires { (1 ≤ count) × (count ≤ slots) }
     ensures value { IfSome result (λ next. next ≡ next_head head.now count) }
     ensures spent { result ≡ None ↔ (head.now.generation ≡ last_generation) }

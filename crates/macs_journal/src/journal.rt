@@ -1,7 +1,7 @@
 //! A journal whose work is cut at the device calls.
 
 ghost use Rattle.std.specs.Prelude.{◌≡◌, ◌≢◌, ◌<◌, ◌≤◌, ◌+◌, ◌↔◌, ◌⊎◌, ℕ, true, false, IsTrue, OnOk, OnErr, IsErrOf, is_err};
-ghost use Rattle.macs_disk.specs.Disk.{IsHonest, MayLeave, now};
+ghost use Rattle.macs_disk.specs.Disk.{IsDeviceCall, IsHonest, MayLeave, now};
 ghost use Rattle.macs_disk.specs.Runs.{Leaves};
 ghost use Rattle.macs_disk.specs.States.{Image};
 ghost use Rattle.macs_record.specs.Gates.{open_gate};
@@ -9,7 +9,8 @@ ghost use Rattle.macs_record.specs.declared.record.Record.{Record};
 ghost use Rattle.macs_journal.specs.Areas.{gate, least_sectors, slot_body, slots};
 ghost use Rattle.macs_journal.specs.Found.{Content, HasJournal, content_with_record};
 ghost use Rattle.macs_journal.specs.Appending.{HasEitherJournal};
-ghost use Rattle.macs_journal.specs.Value.{ComesTo, HoldsContent, IsHolding, IsIdle, JournalValue, device_in, disk_in, is_stopped, left_of, used_slots};
+ghost use Rattle.macs_journal.specs.Stepping.{IsSameTask};
+ghost use Rattle.macs_journal.specs.Value.{ComesTo, FitsHand, HoldsContent, IsHolding, IsIdle, IsNoCompact, JournalValue, append_left, device_in, disk_in, is_stopped, used_slots};
 ghost use Rattle.macs_journal.specs.Work.{IsSpared, IsWorkOf};
 ghost use Rattle.macs_journal.specs.declared.fault.JournalFault.TheVariants.{Disk, Stopped};
 ghost use Rattle.macs_journal.specs.declared.hand.Hand.TheVariants.{Empty};
@@ -39,7 +40,7 @@ impl<D: SectorDisk> Model for Journal<D> {
     ghost view = { λ j. record { disk = j.disk; place = j.place; hand = j.hand; stopped = j.stopped } };
 
     ghost invariant = { λ j. (least_sectors ≤ (D.disk j.disk).sectors) × (j.place.free ≤ slots)
-        × (1 ≤ left_of j.hand → j.place.free < slots) };
+        × FitsHand j.place j.hand };
 }
 
 impl<D: SectorDisk> Journal<D> {
@@ -71,6 +72,17 @@ impl<D: SectorDisk> Journal<D> {
     {
         let Journal { stopped, .. } = self;
         *stopped
+    }
+
+    /// Whether no work is in hand.
+    pub fn is_idle(&self) -> bool
+        ensures { IsTrue result ↔ IsIdle self.now }
+    {
+        match &self.hand {
+            Hand::Empty => true,
+            Hand::Append(_) => false,
+            Hand::Compact(_) => false,
+        }
     }
 
     /// The disk, as it stands.
@@ -123,67 +135,72 @@ impl<D: SectorDisk> Journal<D> {
 
     /// Goes on until nothing is in hand.
     fn finish(&mut self) -> Result<(), JournalFault>
+        requires no_compact { IsNoCompact self.old.hand }
         requires running { is_stopped self.old ≡ false }
         ensures names { OnErr result (IsErrOf result Disk) }
         ensures work { IsWorkOf (disk_in D.disk self.old) (disk_in D.disk self.new) result }
-        ensures few { (disk_in D.disk self.new).clock ≤ (disk_in D.disk self.old).clock + left_of self.old.hand }
-        ensures calls { OnOk result ((disk_in D.disk self.new).clock ≡ (disk_in D.disk self.old).clock + left_of self.old.hand) }
+        ensures few { (disk_in D.disk self.new).clock ≤ (disk_in D.disk self.old).clock + append_left self.old.hand }
+        ensures calls { OnOk result ((disk_in D.disk self.new).clock ≡ (disk_in D.disk self.old).clock + append_left self.old.hand) }
         ensures after { is_stopped self.new ≡ is_err result }
         ensures idle { IsIdle self.new }
-        ensures moved { OnOk result (1 ≤ left_of self.old.hand → self.new.place ≡ record self.old.place { free = self.old.place.free + 1 }) }
+        ensures moved { OnOk result (1 ≤ append_left self.old.hand → self.new.place ≡ record self.old.place { free = self.old.place.free + 1 }) }
         ensures at_fault { OnErr result (self.new.place ≡ self.old.place) }
         ensures any_moment { IsHonest (disk_in D.disk self.new) → (before after : Content)
-            → IsHolding (now (disk_in D.disk self.old)) self.old.place self.old.hand before after
+            → IsHolding (disk_in D.disk self.old) self.old.place self.old.hand before after
             → Leaves (disk_in D.disk self.old) (disk_in D.disk self.new) (HasEitherJournal before after) }
         ensures done { OnOk result (IsHonest (disk_in D.disk self.new) → (before after : Content)
-            → IsHolding (now (disk_in D.disk self.old)) self.old.place self.old.hand before after
-            → IsHolding (now (disk_in D.disk self.new)) self.new.place self.new.hand after after) }
-        ensures gate { OnOk result (1 ≤ left_of self.old.hand → IsHonest (disk_in D.disk self.new) → (before after : Content)
-            → IsHolding (now (disk_in D.disk self.old)) self.old.place self.old.hand before after
+            → IsHolding (disk_in D.disk self.old) self.old.place self.old.hand before after
+            → IsHolding (disk_in D.disk self.new) self.new.place self.new.hand after after) }
+        ensures gate { OnOk result (1 ≤ append_left self.old.hand → IsHonest (disk_in D.disk self.new) → (before after : Content)
+            → IsHolding (disk_in D.disk self.old) self.old.place self.old.hand before after
             → (now (disk_in D.disk self.new)).seen (gate self.old.place.area (self.old.place.free + 1)) ≡ open_gate) }
         ensures others { IsHonest (disk_in D.disk self.new) → (i : ℕ) → i ≢ slot_body self.old.place.area self.old.place.free
             → i ≢ gate self.old.place.area (self.old.place.free + 1)
             → IsSpared (disk_in D.disk self.old) (disk_in D.disk self.new) i }
     {
         while self.is_busy() {
-            self.step()?;
+            self.step_append()?;
         }
         Ok(())
     }
 
     /// Whether work is in hand.
     fn is_busy(&self) -> bool
-        ensures busy { IsTrue result ↔ (1 ≤ left_of self.now.hand) }
+        requires no_compact { IsNoCompact self.now.hand }
+        ensures busy { IsTrue result ↔ (1 ≤ append_left self.now.hand) }
         ensures idle { result ≡ false → IsIdle self.now }
     {
         match &self.hand {
-            Hand::Empty => false,
             Hand::Append(_) => true,
+            _ => false,
         }
     }
 
-    /// One device call of the work in hand. After a device fault nothing is in hand.
-    fn step(&mut self) -> Result<(), JournalFault>
-        requires busy { 1 ≤ left_of self.old.hand }
+    /// One device call of the append in hand. After a device fault nothing is in hand.
+    pub(crate) fn step_append(&mut self) -> Result<(), JournalFault>
+        requires busy { 1 ≤ append_left self.old.hand }
         requires running { is_stopped self.old ≡ false }
         ensures names { OnErr result (IsErrOf result Disk) }
         ensures work { IsWorkOf (disk_in D.disk self.old) (disk_in D.disk self.new) result }
+        ensures no_compact { IsNoCompact self.new.hand }
         ensures after { is_stopped self.new ≡ is_err result }
+        ensures device { IsDeviceCall (disk_in D.disk self.old) (disk_in D.disk self.new) result }
         ensures one { (disk_in D.disk self.new).clock ≤ (disk_in D.disk self.old).clock + 1 }
         ensures call { OnOk result ((disk_in D.disk self.new).clock ≡ (disk_in D.disk self.old).clock + 1) }
         ensures idle { OnErr result (IsIdle self.new) }
         ensures any_moment { IsHonest (disk_in D.disk self.new) → (before after : Content)
-            → IsHolding (now (disk_in D.disk self.old)) self.old.place self.old.hand before after
+            → IsHolding (disk_in D.disk self.old) self.old.place self.old.hand before after
             → Leaves (disk_in D.disk self.old) (disk_in D.disk self.new) (HasEitherJournal before after) }
         ensures next { OnOk result (IsHonest (disk_in D.disk self.new) → (before after : Content)
-            → IsHolding (now (disk_in D.disk self.old)) self.old.place self.old.hand before after
-            → ComesTo (now (disk_in D.disk self.new)) self.new.place self.new.hand before after) }
+            → IsHolding (disk_in D.disk self.old) self.old.place self.old.hand before after
+            → ComesTo (disk_in D.disk self.new) self.new.place self.new.hand before after) }
         ensures gate { OnOk result (IsIdle self.new → IsHonest (disk_in D.disk self.new) → (before after : Content)
-            → IsHolding (now (disk_in D.disk self.old)) self.old.place self.old.hand before after
+            → IsHolding (disk_in D.disk self.old) self.old.place self.old.hand before after
             → (now (disk_in D.disk self.new)).seen (gate self.old.place.area (self.old.place.free + 1)) ≡ open_gate) }
-        ensures left { OnOk result (left_of self.new.hand + 1 ≡ left_of self.old.hand) }
-        ensures place { 1 ≤ left_of self.new.hand → self.new.place ≡ self.old.place }
+        ensures left { OnOk result (append_left self.new.hand + 1 ≡ append_left self.old.hand) }
+        ensures place { 1 ≤ append_left self.new.hand → self.new.place ≡ self.old.place }
         ensures moved { OnOk result (IsIdle self.new → self.new.place ≡ record self.old.place { free = self.old.place.free + 1 }) }
+        ensures task { (¬ IsIdle self.new) → IsSameTask self.old.hand self.new.hand }
         ensures at_fault { OnErr result (self.new.place ≡ self.old.place) }
         ensures others { IsHonest (disk_in D.disk self.new) → (i : ℕ) → i ≢ slot_body self.old.place.area self.old.place.free
             → i ≢ gate self.old.place.area (self.old.place.free + 1)

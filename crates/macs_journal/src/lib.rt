@@ -19,9 +19,12 @@ mod opening;
 mod place;
 mod recovery;
 mod slots;
+mod stepping;
+mod work;
 
 pub use fault::JournalFault;
 pub use formatting::format;
 pub use journal::Journal;
 pub use recovery::{Found, RecoverRefused, Recovered, recover, recover_into};
 pub use slots::{Records, Room, new_room};
+pub use work::{JournalStep, Work};

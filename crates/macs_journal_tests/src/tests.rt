@@ -5,6 +5,7 @@ mod areas;
 mod compactions;
 mod formats;
 mod sectors;
+mod steps;
 mod torn;
 
 use arrayvec::ArrayVec;

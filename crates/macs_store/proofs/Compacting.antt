@@ -1,33 +1,20 @@
--- A store whose journal begins anew with a snapshot of what stands.
-use Rattle.std.proofs.Common.{◌≡◌, ◌<◌, ◌∙◌, Bool, true, false, if◌then◌else◌, inl, inr, List, [], ◌∷◌, length, take, drop, Option, Some, None, Result, Ok, Err, refl, ap, sym, arith}
+-- What a journal stands for that begins anew with a snapshot of what it stood for.
+use Rattle.std.proofs.Common.{◌≡◌, ◌∙◌, Bool, true, false, if◌then◌else◌, List, [], ◌∷◌, length, take, drop, Option, Some, None, Result, Ok, Err, refl, ap, sym, arith}
 use Rattle.std.specs.Option.{option_and_then, option_map}
 use Rattle.std.proofs.lemmas.List.{drop_all, take_all}
 use Rattle.macs_config.specs.Apply.{apply}
-use Rattle.macs_config.specs.Config.{Config, Edition, this_edition}
+use Rattle.macs_config.specs.Config.{Config, Edition}
 use Rattle.macs_config.specs.Identity.{Identity}
 use Rattle.macs_config.specs.Snapshot.{config_of_parts}
 use Rattle.macs_config.specs.declared.command.Command.{Command}
 use Rattle.macs_config.specs.declared.refusal.Refusal.{Refusal}
-use Rattle.macs_disk.specs.Disk.{Disk}
-use Rattle.macs_disk.specs.Runs.{Leaves}
-use Rattle.macs_disk.specs.States.{Image}
-use Rattle.macs_disk.proofs.Moments.{Leaves-weaker}
-use Rattle.macs_journal.specs.Appending.{HasEitherJournal}
-use Rattle.macs_journal.specs.Areas.{slots}
-use Rattle.macs_journal.specs.Compacting.{Compacts, compacted}
+use Rattle.macs_journal.specs.Renewal.{compacted}
 use Rattle.macs_journal.specs.Found.{Content}
-use Rattle.macs_journal.specs.Value.{HoldsContent, JournalValue}
-use Rattle.macs_journal.specs.declared.fault.JournalFault.{JournalFault}
-use Rattle.macs_journal.specs.declared.place.Place.{Place}
 use Rattle.macs_record.specs.declared.record.Record.{Record}
 use Rattle.macs_record.specs.declared.record.Record.TheVariants.{RxCeiling, TxCeiling}
 use Rattle.macs_store.specs.Commands.{command_of}
-use Rattle.macs_store.specs.Found.{StandsFor}
-use Rattle.macs_store.specs.Keeps.{Renews}
 use Rattle.macs_store.specs.Replay.{accepted_standing, ceilings_with_records, is_raise, meaning_of, snapshot_of, snapshot_parts, standing_after_command, standing_after_record, standing_after_records}
-use Rattle.macs_store.specs.Snapshot.{snapshot}
 use Rattle.macs_store.specs.Standing.{Ceilings, Standing, no_ceilings, standing_or_refusal, standing_with_rx_ceiling, standing_with_tx_ceiling}
-use Rattle.macs_store.specs.Value.{IsStored, StoreValue, disk_in, is_stopped, standing_in}
 
 -- ---- what stands has the identity of the head
 
@@ -91,74 +78,3 @@ meaning-compacted edition c s records is stands =
     let same : c.head.identity ≡ s.identity = sym (meaning-identity edition c s is) in
     (λ i. option_and_then (λ s. standing_after_records s (none i)) (snapshot_of edition (same i) (whole i)))
     ∙ ap (λ (o : Option Standing). option_and_then (λ s. standing_after_records s []) o) stands
-
--- ---- a store
-
-module _ {D : Type 0} (disk_of : D → Disk) (s : StoreValue D) (stands : snapshot_of this_edition (standing_in s).identity (snapshot (standing_in s)) ≡ Some (standing_in s)) where
-  -- the records of its snapshot
-  abbrev records : List Record
-  records = snapshot (standing_in s)
-
-  either-stands : (c : Content) (image : Image) → meaning_of this_edition c ≡ Some (standing_in s) → HasEitherJournal c (compacted c records) image
-      → StandsFor this_edition image (standing_in s)
-  either-stands c image is left = elim left [
-    | inl found ↦ record { content = c; found = found; stands = is }
-    | inr found ↦ record { content = compacted c records; found = found; stands = meaning-compacted this_edition c (standing_in s) records is stands }
-  ]
-
-  renewed-leaves : (new : Disk) → IsStored disk_of s
-      → ((before : Content) → HoldsContent disk_of s.journal before → Leaves (disk_in disk_of s) new (HasEitherJournal before (compacted before records)))
-      → Leaves (disk_in disk_of s) new (λ image. StandsFor this_edition image (standing_in s))
-  renewed-leaves new stored promised =
-      let c = stored.content in
-      Leaves-weaker (disk_in disk_of s) new (HasEitherJournal c (compacted c records)) (λ image. StandsFor this_edition image (standing_in s))
-      (λ image left. either-stands c image stored.stands left) (promised c stored.holding)
-
-  renewed-stored : (new : JournalValue D) → IsStored disk_of s
-      → ((before : Content) → HoldsContent disk_of s.journal before → HoldsContent disk_of new (compacted before records))
-      → IsStored disk_of (record { journal = new; held = s.held })
-  renewed-stored new stored promised = record {
-    content = compacted stored.content records;
-    holding = promised stored.content stored.holding;
-    stands = meaning-compacted this_edition stored.content (standing_in s) records stored.stands stands;
-  }
-
-  -- its journal begins anew, or not
-  pub journal-renews : (result : Result (Unit {0}) JournalFault) (new : JournalValue D) → is_stopped s ≡ false → length records < slots
-      → Compacts disk_of s.journal records result new → Renews disk_of s result (record { journal = new; held = s.held })
-  journal-renews (Ok done) new running few compacts = record {
-    spent = (λ same. (compacts.spent.0 same).1, λ last. compacts.spent.1 (running, last));
-    names = tt;
-    same = tt;
-    standing = refl;
-    halted = λ same. (compacts.halted same).0;
-    running = compacts.running.0;
-    room = let free = ap (λ (p : Place). p.free) compacts.place in omega (arith, few, free);
-    slots = ap (λ (p : Place). p.free) compacts.place;
-    generation = ap (λ (p : Place). p.head.generation) compacts.place;
-    most = compacts.most;
-    work = compacts.work;
-    any_moment = λ honest stored. renewed-leaves (disk_of new.disk) stored (compacts.any_moment honest);
-    stored = λ honest stored. renewed-stored new stored (compacts.done honest);
-  }
-  journal-renews (Err fault) new running few compacts = record {
-    spent = (λ same. (compacts.spent.0 same).1, λ last. compacts.spent.1 (running, last));
-    names = elim compacts.names [
-      | inl stopped ↦ absurd (let is = compacts.stopped.0 stopped in let no : true ≡ false = sym is ∙ running in cc)
-      | inr other ↦ other
-    ];
-    same = elim compacts.same [
-      | inl failed ↦ inl failed
-      | inr same ↦ inr (ap (λ (j : JournalValue D). record s { journal = j }) same)
-    ];
-    standing = refl;
-    halted = λ same. (compacts.halted same).0;
-    running = tt;
-    room = tt;
-    slots = tt;
-    generation = tt;
-    most = compacts.most;
-    work = compacts.work;
-    any_moment = λ honest stored. renewed-leaves (disk_of new.disk) stored (compacts.any_moment honest);
-    stored = tt;
-  }

@@ -2,9 +2,12 @@ pub mod Replaying
 pub mod Tables
 pub mod Adjusting
 pub mod Keeping
-mod Promises
 pub mod Compacting
-mod Renewed
+mod InHand
+mod Turns
+mod StartedCommands
+pub mod EachStep
+pub mod ToTheEnd
 pub mod OneStanding
 pub mod Filling
 pub mod Ascending

@@ -1,5 +1,5 @@
 -- What the calls of a store promise that keep something.
-use Rattle.std.specs.Prelude.{◌≡◌, ◌<◌, ◌≤◌, ◌+◌, ◌==◌, ◌↔◌, ◌⊎◌, ℕ, true, false, if◌then◌else◌, length, Some, Result, Ok, Err, IsOk, OnOk, OnErr, IsErrOf}
+use Rattle.std.specs.Prelude.{◌≡◌, ◌≤◌, ◌+◌, ◌==◌, ◌↔◌, ◌⊎◌, ℕ, true, false, if◌then◌else◌, Result, Ok, Err, IsOk, OnOk, OnErr, IsErrOf}
 use Rattle.macs_config.specs.Config.{this_edition}
 use Rattle.macs_config.specs.declared.command.Command.{Command}
 use Rattle.macs_config.specs.declared.refusal.Refusal.{Refusal}
@@ -12,13 +12,9 @@ use Rattle.macs_journal.specs.Compacting.{last_generation}
 use Rattle.macs_journal.specs.Work.{IsWorkOf}
 use Rattle.macs_journal.specs.declared.fault.JournalFault.{JournalFault}
 use Rattle.macs_journal.specs.declared.fault.JournalFault.TheVariants as journal
-use Rattle.macs_record.specs.declared.record.Record.{Record}
 use Rattle.macs_store.specs.Found.{CommitLeaves, StandsFor, StandsForEither}
-use Rattle.macs_store.specs.Replay.{standing_after_record}
-use Rattle.macs_store.specs.Snapshot.{snapshot}
 use Rattle.macs_store.specs.Standing.{Standing, accept}
-use Rattle.macs_store.specs.Table.{StandingValue, standing_of}
-use Rattle.macs_store.specs.Value.{IsStored, StoreValue, disk_in, generation, is_stopped, standing_in, used_slots}
+use Rattle.macs_store.specs.Value.{IsIdle, IsStored, StoreValue, disk_in, generation, is_stopped, snapshot_length, standing_in, used_slots}
 use Rattle.macs_store.specs.declared.fault.CommitFault.{CommitFault}
 use Rattle.macs_store.specs.declared.fault.CommitFault.TheVariants as commit
 
@@ -27,10 +23,6 @@ use Rattle.macs_store.specs.declared.fault.CommitFault.TheVariants as commit
 -- no change is kept any more: it runs, all slots are used, and the journal cannot begin anew
 abbrev pub IsSpent : {D : Type 0} → StoreValue D → Type 0
 IsSpent s = (is_stopped s ≡ false) × (used_slots s ≡ slots) × (generation s ≡ last_generation)
-
--- how many records what stands has as a snapshot
-abbrev pub snapshot_length : {D : Type 0} → StoreValue D → ℕ
-snapshot_length s = length (snapshot (standing_in s))
 
 -- how many slots are used after one more change: where all were used the journal began anew with a snapshot
 abbrev pub slots_after : {D : Type 0} → StoreValue D → ℕ
@@ -57,6 +49,7 @@ pub record Keeps {D : Type 0} (disk_of : D → disk.Disk) (old : StoreValue D) (
   pub same : OnErr result (IsErrOf result journal.Disk ⊎ (new ≡ old))
   pub halted : IsErrOf result journal.Disk → (is_stopped new ≡ true) × (new.held ≡ old.held)
   pub running : OnOk result (is_stopped new ≡ false)
+  pub idle : IsIdle new
   pub slots : OnOk result (used_slots new ≡ slots_after old)
   pub generation : OnOk result (generation new ≡ generation_after old)
   pub most : (disk_in disk_of new).clock ≤ (disk_in disk_of old).clock + most_calls old
@@ -92,6 +85,7 @@ pub record Commits {D : Type 0} (disk_of : D → disk.Disk) (old : StoreValue D)
   pub same : OnErr result (IsErrOf result commit.Disk ⊎ (new ≡ old))
   pub halted : IsErrOf result commit.Disk → (is_stopped new ≡ true) × (new.held ≡ old.held)
   pub running : OnOk result (is_stopped new ≡ false)
+  pub idle : IsIdle new
   pub slots : OnOk result (used_slots new ≡ slots_after old)
   pub generation : OnOk result (generation new ≡ generation_after old)
   pub most : (disk_in disk_of new).clock ≤ (disk_in disk_of old).clock + most_calls old
@@ -102,46 +96,3 @@ pub record Commits {D : Type 0} (disk_of : D → disk.Disk) (old : StoreValue D)
   pub stored : OnOk result (IsHonest (disk_in disk_of new) → IsStored disk_of old → IsStored disk_of new)
   pub kept : OnOk result (IsHonest (disk_in disk_of new) → IsStored disk_of old
       → (image : Image) → MayLeave (disk_in disk_of new) image → StandsFor this_edition image (standing_in new))
-
--- ---- a record
-
--- A record is kept as a change is, and refused as one; what stands in memory does not change yet.
-pub record KeepsRecord {D : Type 0} (disk_of : D → disk.Disk) (old : StoreValue D) (r : Record) (result : Result (Unit {0}) JournalFault) (new : StoreValue D) : Type 0 where
-  pub stopped : IsErrOf result journal.Stopped ↔ (is_stopped old ≡ true)
-  pub spent : IsErrOf result journal.GenerationsSpent ↔ IsSpent old
-  pub names : OnErr result (IsErrOf result journal.Stopped ⊎ (IsErrOf result journal.GenerationsSpent ⊎ IsErrOf result journal.Disk))
-  pub same : OnErr result (IsErrOf result journal.Disk ⊎ (new ≡ old))
-  pub standing : new.held ≡ old.held
-  pub halted : IsErrOf result journal.Disk → is_stopped new ≡ true
-  pub running : OnOk result (is_stopped new ≡ false)
-  pub slots : OnOk result (used_slots new ≡ slots_after old)
-  pub generation : OnOk result (generation new ≡ generation_after old)
-  pub most : (disk_in disk_of new).clock ≤ (disk_in disk_of old).clock + most_calls old
-  pub work : IsWorkOf (disk_in disk_of old) (disk_in disk_of new) result
-  pub any_moment : IsHonest (disk_in disk_of new) → IsStored disk_of old → (after : Standing) → standing_after_record (standing_in old) r ≡ Some after
-      → Leaves (disk_in disk_of old) (disk_in disk_of new) (StandsForEither (standing_in old) after)
-  pub stored : OnOk result (IsHonest (disk_in disk_of new) → IsStored disk_of old
-      → (held : StandingValue) → standing_after_record (standing_in old) r ≡ Some (standing_of held) → IsStored disk_of (record new { held = held }))
-  pub kept : OnOk result (IsHonest (disk_in disk_of new) → IsStored disk_of old
-      → (after : Standing) → standing_after_record (standing_in old) r ≡ Some after
-      → (image : Image) → MayLeave (disk_in disk_of new) image → StandsFor this_edition image after)
-
--- ---- a compaction
-
--- The journal of a store that runs begins anew with a snapshot of what stands. GenerationsSpent where its generation is the last, and
--- nothing changes then; Disk where a device call failed. At each moment a power loss leaves what stands.
-pub record Renews {D : Type 0} (disk_of : D → disk.Disk) (old : StoreValue D) (result : Result (Unit {0}) JournalFault) (new : StoreValue D) : Type 0 where
-  pub spent : IsErrOf result journal.GenerationsSpent ↔ (generation old ≡ last_generation)
-  pub names : OnErr result (IsErrOf result journal.GenerationsSpent ⊎ IsErrOf result journal.Disk)
-  pub same : OnErr result (IsErrOf result journal.Disk ⊎ (new ≡ old))
-  pub standing : new.held ≡ old.held
-  pub halted : IsErrOf result journal.Disk → is_stopped new ≡ true
-  pub running : OnOk result (is_stopped new ≡ false)
-  pub room : OnOk result (used_slots new < slots)
-  pub slots : OnOk result (used_slots new ≡ snapshot_length old)
-  pub generation : OnOk result (generation new ≡ generation old + 1)
-  pub most : (disk_in disk_of new).clock ≤ (disk_in disk_of old).clock + (519 + snapshot_length old)
-  pub work : IsWorkOf (disk_in disk_of old) (disk_in disk_of new) result
-  pub any_moment : IsHonest (disk_in disk_of new) → IsStored disk_of old
-      → Leaves (disk_in disk_of old) (disk_in disk_of new) (λ image. StandsFor this_edition image (standing_in old))
-  pub stored : OnOk result (IsHonest (disk_in disk_of new) → IsStored disk_of old → IsStored disk_of new)

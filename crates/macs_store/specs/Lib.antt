@@ -6,4 +6,5 @@ pub mod Table
 pub mod Found
 pub mod Value
 pub mod Keeps
+pub mod Stepping
 pub mod Opening

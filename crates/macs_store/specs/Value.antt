@@ -1,18 +1,23 @@
--- A store in memory, and what stands on its disk.
-use Rattle.std.specs.Prelude.{◌≡◌, ℕ, Bool, Some}
+-- A store in memory, the work that it has in hand, and what stands on its disk.
+use Rattle.std.specs.Prelude.{◌≡◌, ◌+◌, ℕ, Bool, false, Option, Some, length, IsSome}
 use Rattle.macs_config.specs.Config.{this_edition}
 use Rattle.macs_disk.specs.Disk as disk
-use Rattle.macs_journal.specs.Found.{Content}
-use Rattle.macs_journal.specs.Value.{HoldsContent, JournalValue}
+use Rattle.macs_journal.specs.Found.{Content, content_with_record}
+use Rattle.macs_journal.specs.Stepping.{RenewsWith, IsAppendHand}
+use Rattle.macs_journal.specs.Value.{HoldsWith, JournalValue, left_of}
 use Rattle.macs_journal.specs.Value as journal
-use Rattle.macs_store.specs.Replay.{meaning_of}
+use Rattle.macs_store.specs.Replay.{meaning_of, standing_after_record}
+use Rattle.macs_store.specs.Snapshot.{snapshot}
 use Rattle.macs_store.specs.Standing.{Standing}
 use Rattle.macs_store.specs.Table.{StandingValue, standing_of}
+use Rattle.macs_store.specs.declared.hand.Hand.{Hand}
+use Rattle.macs_store.specs.declared.hand.Hand.TheVariants.{Appending, Empty, Renewing}
 
 -- what a store keeps
 pub record StoreValue (D : Type 0) : Type 0 where
   pub journal : JournalValue D
   pub held : StandingValue
+  pub hand : Hand
 
 -- what stands in memory
 abbrev pub standing_in : {D : Type 0} → StoreValue D → Standing
@@ -38,8 +43,82 @@ used_slots s = journal.used_slots s.journal
 abbrev pub generation : {D : Type 0} → StoreValue D → ℕ
 generation s = journal.generation s.journal
 
--- the disk holds what stands in memory, and nothing is in hand
+-- how many records what stands has as a snapshot
+abbrev pub snapshot_length : {D : Type 0} → StoreValue D → ℕ
+snapshot_length s = length (snapshot (standing_in s))
+
+-- ---- the work in hand
+
+-- no work is in hand
+abbrev pub IsIdle : {D : Type 0} → StoreValue D → Type 0
+IsIdle s = s.hand ≡ Empty
+
+-- what stands once the work in hand is done
+abbrev pub standing_with : Standing → Hand → Option Standing
+standing_with standing Empty = Some standing
+standing_with standing (Renewing r) = standing_after_record standing r
+standing_with standing (Appending r) = standing_after_record standing r
+
+-- the same of the work that a store has in hand
+abbrev pub standing_then : {D : Type 0} → StoreValue D → Option Standing
+standing_then s = standing_with (standing_in s) s.hand
+
+-- how many slots are used then
+abbrev pub slots_with : {D : Type 0} → StoreValue D → Hand → ℕ
+slots_with s Empty = used_slots s
+slots_with s (Renewing r) = snapshot_length s + 1
+slots_with s (Appending r) = used_slots s + 1
+
+-- the same of the work that a store has in hand
+abbrev pub slots_then : {D : Type 0} → StoreValue D → ℕ
+slots_then s = slots_with s s.hand
+
+-- and in which generation
+abbrev pub generation_with : {D : Type 0} → StoreValue D → Hand → ℕ
+generation_with s Empty = generation s
+generation_with s (Renewing r) = generation s + 1
+generation_with s (Appending r) = generation s
+
+-- the same of the work that a store has in hand
+abbrev pub generation_then : {D : Type 0} → StoreValue D → ℕ
+generation_then s = generation_with s s.hand
+
+-- how many device calls it takes yet, at most
+abbrev pub calls_with : {D : Type 0} → StoreValue D → Hand → ℕ
+calls_with s Empty = 0
+calls_with s (Renewing r) = left_of s.journal.hand + 4
+calls_with s (Appending r) = left_of s.journal.hand
+
+-- the same of the work that a store has in hand
+abbrev pub calls_left : {D : Type 0} → StoreValue D → ℕ
+calls_left s = calls_with s s.hand
+
+-- the record in hand follows from what stands, and the journal is at work for it
+abbrev pub FitsHand : {D : Type 0} → JournalValue D → Standing → Hand → Type 0
+FitsHand j standing Empty = journal.IsIdle j
+FitsHand j standing (Renewing r) =
+    (journal.is_stopped j ≡ false) × IsSome (standing_after_record standing r) × RenewsWith j.place j.hand (snapshot standing)
+FitsHand j standing (Appending r) = (journal.is_stopped j ≡ false) × IsSome (standing_after_record standing r) × IsAppendHand j.hand
+
+-- ---- on its disk
+
+-- what the journal's content stands for once its own work is done: an append adds its record, a compaction changes nothing
+abbrev pub standing_next : Standing → Hand → Option Standing
+standing_next standing Empty = Some standing
+standing_next standing (Renewing r) = Some standing
+standing_next standing (Appending r) = standing_after_record standing r
+
+-- and that content: the same, one behind a compaction, or one with the record
+abbrev pub LeadsTo : Hand → Content → Content → Type 0
+LeadsTo Empty before after = after ≡ before
+LeadsTo (Renewing r) before after = Unit {0}
+LeadsTo (Appending r) before after = after ≡ content_with_record before r
+
+-- the disk holds what stands in memory, with the work in hand
 pub record IsStored {D : Type 0} (disk_of : D → disk.Disk) (s : StoreValue D) : Type 0 where
   pub content : Content
-  pub holding : HoldsContent disk_of s.journal content
+  pub next : Content
+  pub holding : HoldsWith (disk_in disk_of s) s.journal.place s.journal.hand (snapshot (standing_in s)) content next
   pub stands : meaning_of this_edition content ≡ Some (standing_in s)
+  pub becomes : meaning_of this_edition next ≡ standing_next (standing_in s) s.hand
+  pub leads : LeadsTo s.hand content next

@@ -3,16 +3,18 @@
 #![tactic(auto)]
 
 mod ahead;
-mod compaction;
 mod fault;
+mod hand;
 pub mod laws;
 mod opening;
 mod reading;
 mod snapshot;
 mod standing;
+mod stepping;
 mod store;
 mod table;
 
 pub use fault::CommitFault;
+pub use macs_journal::JournalStep;
 pub use opening::OpenRefused;
 pub use store::Store;

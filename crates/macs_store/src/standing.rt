@@ -86,7 +86,7 @@ impl Standing {
     }
 
     /// Goes on with the record of a command or of a raised ceiling, and answers whether it fits.
-    fn follow(&mut self, value: &Record) -> bool
+    pub(crate) fn follow(&mut self, value: &Record) -> bool
         ensures fits { result ≡ true → standing_after_record (standing_of self.old) value.now ≡ Some (standing_of self.new) }
         ensures refused { result ≡ false → standing_after_record (standing_of self.old) value.now ≡ None }
     {

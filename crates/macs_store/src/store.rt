@@ -1,21 +1,21 @@
 //! What an endpoint keeps, in memory and on its disk.
 
-ghost use Rattle.std.specs.Prelude.{◌≡◌, ◌<◌, ◌^◌, IsSome, IfSome};
+ghost use Rattle.std.specs.Prelude.{◌≡◌, ◌<◌, ◌^◌, ◌↔◌, IsSome, IsTrue, IfSome};
 ghost use Rattle.macs_config.specs.Value.{config_of};
-ghost use Rattle.macs_journal.specs.Areas.{slots};
-ghost use Rattle.macs_store.specs.Keeps.{Commits, Keeps, KeepsRecord};
-ghost use Rattle.macs_store.specs.Value.{StoreValue, device_in, is_stopped, standing_in, used_slots};
+ghost use Rattle.macs_store.specs.Keeps.{Commits, Keeps};
+ghost use Rattle.macs_store.specs.Table.{standing_of};
+ghost use Rattle.macs_store.specs.Value.{FitsHand, IsIdle, StoreValue, device_in, is_stopped, standing_in};
 ghost use Rattle.macs_config.specs.Numbers.{block_beyond};
 ghost use Rattle.macs_store.specs.Standing.{IsStanding, standing_with_rx_raised, standing_with_tx_raised};
 
-use crate::ahead::ahead;
 use crate::fault::CommitFault;
+use crate::hand::Hand;
 use crate::standing::Standing;
 use macs_config::{Command, Config, Identity};
 use macs_disk::SectorDisk;
 use macs_frame::{An, Pn, Sci};
 use macs_journal::{Journal, JournalFault};
-use macs_record::{Ceiling, Record};
+use macs_record::Ceiling;
 use std::marker::Model;
 
 /// The configuration of an endpoint and the ceilings of its packet numbers, as they stand on its disk.
@@ -26,89 +26,57 @@ use std::marker::Model;
 pub struct Store<D: SectorDisk> {
     pub(crate) journal: Journal<D>,
     pub(crate) standing: Standing,
+    pub(crate) hand: Hand,
 }
 
 impl<D: SectorDisk> Model for Store<D> {
     ghost Value = { StoreValue D };
 
-    ghost view = { λ s. record { journal = s.journal; held = s.standing } };
+    ghost view = { λ s. record { journal = s.journal; held = s.standing; hand = s.hand } };
+
+    ghost invariant = { λ s. FitsHand s.journal (standing_of s.standing) s.hand };
 }
 
 impl<D: SectorDisk> Store<D> {
-    /// Keeps a command and applies it. Refused as `Stopped`, then as `Refused` with the first refusal that
-    /// holds, then as `GenerationsSpent`; these change nothing. `Disk` at the first device call that fails:
-    /// the configuration stands as it was, and after a power loss it is found with the command or without.
+    /// Keeps a command and applies it. No work is in hand. Refused as `Stopped`, then as `Refused` with the first
+    /// refusal that holds, then as `GenerationsSpent`; these change nothing. `Disk` at the first device call that
+    /// fails: the configuration stands as it was, and after a power loss it is found with the command or without.
     pub fn commit(&mut self, command: &Command) -> Result<(), CommitFault>
+        requires idle { IsIdle self.old }
         ensures { Commits D.disk self.old command.now result self.new }
     {
-        if self.is_stopped() {
-            return Err(CommitFault::Stopped);
+        self.start_commit(command)?;
+        match self.finish() {
+            Ok(()) => Ok(()),
+            Err(_) => Err(CommitFault::Disk),
         }
-        let checked = match self.standing.check(command) {
-            Ok(checked) => checked,
-            Err(refusal) => return Err(CommitFault::Refused(refusal)),
-        };
-        let value = Record::command(command).unwrap();
-        if let Err(fault) = self.keep(&value) {
-            return match fault {
-                JournalFault::GenerationsSpent => Err(CommitFault::GenerationsSpent),
-                _ => Err(CommitFault::Disk),
-            };
-        }
-        self.standing.accept_checked(command, checked);
-        Ok(())
     }
 
-    /// Raises the ceiling of a transmit association by a block, to 2^32 at most. The association stands,
-    /// and its ceiling is below 2^32. Refused as `Stopped`, then as `GenerationsSpent`; these change
+    /// Raises the ceiling of a transmit association by a block, to 2^32 at most. No work is in hand; the association
+    /// stands, and its ceiling is below 2^32. Refused as `Stopped`, then as `GenerationsSpent`; these change
     /// nothing. `Disk` at the first device call that fails: the ceiling stands as it was, and after a power
     /// loss it is found raised or not.
     pub fn reserve_tx(&mut self, an: An) -> Result<(), JournalFault>
+        requires idle { IsIdle self.old }
         requires raised { IfSome ((standing_in self.old).ceilings.tx an) (λ old. old < 2 ^ 32) }
         requires stands { IsSome ((standing_in self.old).ceilings.tx an) }
         ensures { Keeps D.disk self.old (standing_with_tx_raised (standing_in self.old) an) result self.new }
     {
-        let old = self.tx_ceiling(an).unwrap();
-        let ceiling = ahead(old.get(), self.identity().tx_block());
-        self.keep(&Record::TxCeiling { an, ceiling })?;
-        self.standing.raise_tx(an, ceiling);
-        Ok(())
+        self.start_tx(an)?;
+        self.finish()
     }
 
-    /// Raises the ceiling of a receive association to a block beyond a packet number, to 2^32 at most. The
-    /// association stands, and its ceiling is below the new one. Refused as `reserve_tx`.
+    /// Raises the ceiling of a receive association to a block beyond a packet number, to 2^32 at most. No work is in
+    /// hand; the association stands, and its ceiling is below the new one. Refused as `reserve_tx`.
     pub fn reserve_rx(&mut self, sci: Sci, an: An, pn: Pn) -> Result<(), JournalFault>
+        requires idle { IsIdle self.old }
         requires raised { IfSome ((standing_in self.old).ceilings.rx sci an)
             (λ old. old < block_beyond pn (standing_in self.old).identity.rx_block) }
         requires stands { IsSome ((standing_in self.old).ceilings.rx sci an) }
         ensures { Keeps D.disk self.old (standing_with_rx_raised (standing_in self.old) sci an pn) result self.new }
     {
-        let ceiling = ahead(u64::from(pn.get()), self.identity().rx_block());
-        self.keep(&Record::RxCeiling { sci, an, ceiling })?;
-        self.standing.raise_rx(sci, an, ceiling);
-        Ok(())
-    }
-
-    /// Keeps a record; what stands in memory does not change yet. Where all 256 slots are used the
-    /// journal begins anew first, with a snapshot of what stands.
-    fn keep(&mut self, value: &Record) -> Result<(), JournalFault>
-        ensures { KeepsRecord D.disk self.old value.now result self.new }
-    {
-        if self.journal.is_stopped() {
-            return Err(JournalFault::Stopped);
-        }
-        if self.journal.is_full() {
-            self.compact()?;
-        }
-        self.append(value)
-    }
-
-    /// Appends a record to the journal, which has a free slot.
-    fn append(&mut self, value: &Record) -> Result<(), JournalFault>
-        requires room { used_slots self.old < slots }
-        ensures { KeepsRecord D.disk self.old value.now result self.new }
-    {
-        self.journal.append(value)
+        self.start_rx(sci, an, pn)?;
+        self.finish()
     }
 
     /// Whether a device call failed: the disk is to be opened again.
@@ -116,6 +84,17 @@ impl<D: SectorDisk> Store<D> {
         ensures { result ≡ is_stopped self.now }
     {
         self.journal.is_stopped()
+    }
+
+    /// Whether no work is in hand.
+    pub fn is_idle(&self) -> bool
+        ensures { IsTrue result ↔ IsIdle self.now }
+    {
+        match &self.hand {
+            Hand::Empty => true,
+            Hand::Renewing(_) => false,
+            Hand::Appending(_) => false,
+        }
     }
 
     /// The configuration, which holds the identity too.

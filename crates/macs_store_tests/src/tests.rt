@@ -6,6 +6,7 @@ mod full;
 mod limits;
 mod replays;
 mod reserves;
+mod stepped;
 mod steps;
 mod stops;
 

@@ -45,7 +45,7 @@ fn full(rt: &impl Abort, alloc: Global) -> Store<MemDisk> {
 }
 
 /// The disk behind the fuse.
-fn unfused(store: Store<Fuse<MemDisk>>) -> MemDisk {
+pub(super) fn unfused(store: Store<Fuse<MemDisk>>) -> MemDisk {
     store.into_disk().into_inner()
 }
 

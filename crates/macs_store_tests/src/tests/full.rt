@@ -70,6 +70,21 @@ pub(super) fn filled(rt: &impl Abort, alloc: Global, generation: u64, used: u32)
     disk
 }
 
+/// The first sector of the second area.
+const SECOND: u64 = 514;
+
+/// A disk whose first area is full, in generation 2, and whose second area, in generation 1, has all its gates open.
+pub(super) fn twice_filled(rt: &impl Abort, alloc: Global) -> MemDisk {
+    let mut disk = filled(rt, alloc, 2, 256);
+    let head = Head::new(1, 1, identity(rt)).expect(rt, "head");
+    write(rt, &mut disk, SECOND, &encode_head(&head));
+    for gate in 0..257 {
+        write(rt, &mut disk, SECOND + 2 * gate + 1, &open_gate());
+    }
+    assert!(rt; disk.sync().is_ok());
+    disk
+}
+
 /// The store of a disk with a full first area behind a fuse that passes the calls of its opening and so many.
 pub(super) fn fused(rt: &impl Abort, disk: MemDisk, calls: u64) -> Store<Fuse<MemDisk>> {
     opened(rt, fuse(disk, FULL_OPENING.saturating_add(calls)))

@@ -5,7 +5,7 @@ use macs_config::{Command, Config, Identity, Refusal, Replay, RxSa, SciMode, TxS
 use macs_disk::{MemDisk, SectorDisk};
 use macs_frame::{An, Pn, Sci};
 use macs_journal::JournalFault;
-use macs_store::{CommitFault, Store};
+use macs_store::{CommitFault, JournalStep, Store};
 use std::process::Abort;
 
 /// What a store is asked for and what it answers, or what it has.
@@ -17,6 +17,20 @@ pub(super) enum Step {
     ReservesTx(An, Result<(), JournalFault>),
     /// The ceiling of an association of the peer is to rise beyond a packet number.
     ReservesRx(An, u32, Result<(), JournalFault>),
+    /// A command is taken in hand.
+    Starts(Command, Result<(), CommitFault>),
+    /// A reservation of a transmit association is taken in hand.
+    StartsTx(An, Result<(), JournalFault>),
+    /// A reservation of an association of the peer beyond a packet number is taken in hand.
+    StartsRx(An, u32, Result<(), JournalFault>),
+    /// So many steps go on.
+    Goes(u64),
+    /// A step is made.
+    Steps(Result<JournalStep, JournalFault>),
+    /// The steps up to the end are made.
+    Finishes(Result<(), JournalFault>),
+    /// No work is in hand, or some is.
+    IsIdle(bool),
     /// A transmit association has this ceiling.
     HasTx(An, Option<u64>),
     /// An association of the peer has this ceiling.
@@ -75,7 +89,7 @@ pub(super) fn story(rt: &impl Abort, store: Store<MemDisk>, steps: &[Step], foun
 /// Takes a step, and tells whether all is as expected.
 fn take<D: SectorDisk>(rt: &impl Abort, store: &mut Store<D>, step: &Step) -> bool {
     match *step {
-        Step::Commits(command, answer) => commit(store, &command) == answer,
+        Step::Commits(command, answer) => commit(rt, store, &command) == answer,
         Step::ReservesTx(an, answer) => reserve_tx(rt, store, an) == answer,
         Step::ReservesRx(an, number, answer) => reserve_rx(rt, store, an, number) == answer,
         Step::HasTx(an, ceiling) => tx_ceiling(store, an) == ceiling,
@@ -83,7 +97,21 @@ fn take<D: SectorDisk>(rt: &impl Abort, store: &mut Store<D>, step: &Step) -> bo
         Step::HasOtherRx(an, ceiling) => rx_ceiling(store, OTHER, an) == ceiling,
         Step::IsStopped(stopped) => store.is_stopped() == stopped,
         Step::HasIdentity(identity) => store.identity() == identity,
-        _ => has(store.config(), step),
+        _ => advance(rt, store, step) || has(store.config(), step),
+    }
+}
+
+/// Takes a step of work in hand, and tells whether all is as expected; other steps are none.
+fn advance<D: SectorDisk>(rt: &impl Abort, store: &mut Store<D>, step: &Step) -> bool {
+    match *step {
+        Step::Starts(command, answer) => start(rt, store, &command) == answer,
+        Step::StartsTx(an, answer) => start_tx(rt, store, an) == answer,
+        Step::StartsRx(an, number, answer) => start_rx(rt, store, an, number) == answer,
+        Step::Goes(count) => goes(store, count),
+        Step::Steps(answer) => one_step(store) == answer,
+        Step::Finishes(answer) => finish(store) == answer,
+        Step::IsIdle(idle) => store.is_idle() == idle,
+        _ => false,
     }
 }
 
@@ -115,8 +143,40 @@ fn has_associations(config: &Config, step: &Step) -> bool {
     }
 }
 
-fn commit<D: SectorDisk>(store: &mut Store<D>, command: &Command) -> Result<(), CommitFault> {
+fn commit<D: SectorDisk>(
+    rt: &impl Abort,
+    store: &mut Store<D>,
+    command: &Command,
+) -> Result<(), CommitFault> {
+    assert!(rt; store.is_idle());
     store.commit(command)
+}
+
+fn start<D: SectorDisk>(
+    rt: &impl Abort,
+    store: &mut Store<D>,
+    command: &Command,
+) -> Result<(), CommitFault> {
+    assert!(rt; store.is_idle());
+    store.start_commit(command)
+}
+
+fn one_step<D: SectorDisk>(store: &mut Store<D>) -> Result<JournalStep, JournalFault> {
+    store.step()
+}
+
+fn finish<D: SectorDisk>(store: &mut Store<D>) -> Result<(), JournalFault> {
+    store.finish()
+}
+
+/// Whether so many steps go on.
+fn goes<D: SectorDisk>(store: &mut Store<D>, count: u64) -> bool {
+    for _ in 0..count {
+        if one_step(store) != Ok(JournalStep::Going) {
+            return false;
+        }
+    }
+    true
 }
 
 fn tx_ceiling<D: SectorDisk>(store: &Store<D>, an: An) -> Option<u64> {
@@ -135,7 +195,20 @@ fn reserve_tx<D: SectorDisk>(
 ) -> Result<(), JournalFault> {
     let old = store.tx_ceiling(an).expect(rt, "association");
     assert!(rt; old.get() < 4_294_967_296);
+    assert!(rt; store.is_idle());
     store.reserve_tx(an)
+}
+
+/// Takes in hand what `reserve_tx` does.
+fn start_tx<D: SectorDisk>(
+    rt: &impl Abort,
+    store: &mut Store<D>,
+    an: An,
+) -> Result<(), JournalFault> {
+    let old = store.tx_ceiling(an).expect(rt, "association");
+    assert!(rt; old.get() < 4_294_967_296);
+    assert!(rt; store.is_idle());
+    store.start_tx(an)
 }
 
 /// Raises the ceiling of a receive association that stands to a block of 6 beyond a number.
@@ -150,5 +223,22 @@ fn reserve_rx<D: SectorDisk>(
     assert!(rt; store.identity().rx_block() == 6);
     assert!(rt; old.get() < 4_294_967_296);
     assert!(rt; old.get() < u64::from(pn.get()) + 6);
+    assert!(rt; store.is_idle());
     store.reserve_rx(PEER, an, pn)
+}
+
+/// Takes in hand what `reserve_rx` does.
+fn start_rx<D: SectorDisk>(
+    rt: &impl Abort,
+    store: &mut Store<D>,
+    an: An,
+    number: u32,
+) -> Result<(), JournalFault> {
+    let pn = Pn::new(number).expect(rt, "packet number");
+    let old = store.rx_ceiling(PEER, an).expect(rt, "association");
+    assert!(rt; store.identity().rx_block() == 6);
+    assert!(rt; old.get() < 4_294_967_296);
+    assert!(rt; old.get() < u64::from(pn.get()) + 6);
+    assert!(rt; store.is_idle());
+    store.start_rx(PEER, an, pn)
 }

@@ -69,6 +69,7 @@ module _ (g : Over) (c : After-facts-2 g) where
               ((λ i. (opened.rx i).rx sci an)
               ∙ subst (λ (k : Config). k.rx sci an ≡ None) c.config.ensures.config (c.facts-2.ensures.rx_numbers sci an over));
         };
+        rest = c.requires;
         idle = λ running. refl;
       }
 

@@ -1,5 +1,4 @@
 use Rattle.std.proofs.Common.{length, refl, rules}
-use Rattle.macs_disk.specs.Disk.{now}
 use Rattle.macs_journal.specs.Compacting.{compacted}
 use Rattle.macs_journal.specs.declared.fault.JournalFault.TheVariants.{GenerationsSpent, Stopped}
 use Rattle.macs_journal.specs.declared.hand.Hand.TheVariants.{Empty}
@@ -40,7 +39,7 @@ returns-in-Ok g c =
       any_moment = rw (← c.self.view_is) (λ honest before holds. compact-leaves old new j.place j.hand area next records c.other-other.ensures before holds c.in-Some.ensures.value (c.rewrite.ensures.images honest));
       done = rw (← c.self.view_is) (λ honest before holds. compact-holding old new j.place j.hand area next records c.other-other.ensures before holds c.in-Some.ensures.value (c.in-Ok.ensures.done honest));
       kept = rw (← c.self.view_is) (λ honest before holds.
-          kept-image (now new) (record { area = area; head = next; free = length records }) Empty (compacted before records) (compact-holding old new j.place j.hand area next records c.other-other.ensures before holds c.in-Some.ensures.value (c.in-Ok.ensures.done honest)));
+          kept-image new (record { area = area; head = next; free = length records }) Empty (compacted before records) (compact-holding old new j.place j.hand area next records c.other-other.ensures before holds c.in-Some.ensures.value (c.in-Ok.ensures.done honest)));
       gates = rw (← c.self.view_is) (λ honest. compact-gates old new j.place j.hand area next records c.other-other.ensures (c.in-Ok.ensures.gates honest));
       others = rw (← c.self.view_is) (λ honest. compact-others old new j.place j.hand area next records c.other-other.ensures (c.rewrite.ensures.others honest));
     }

@@ -1,0 +1,60 @@
+-- A task in hand: it stays the same while it goes on, and with which records it is in hand.
+use Rattle.std.proofs.Common.{◌≡◌, ◌∙◌, refl, sym, subst, List, length}
+use Rattle.macs_disk.specs.Disk.{Disk}
+use Rattle.macs_record.specs.declared.record.Record.{Record}
+use Rattle.macs_journal.specs.Found.{Content}
+use Rattle.macs_journal.specs.Renewal.{compacted}
+use Rattle.macs_journal.specs.Stepping.{IsAppendHand, IsSameTask, RenewsWith}
+use Rattle.macs_journal.specs.Value.{AreLent, HoldsWith, IsHolding, IsMadeOf}
+use Rattle.macs_journal.specs.declared.appending.AppendStage.{AppendStage}
+use Rattle.macs_journal.specs.declared.hand.Appending.{Appending}
+use Rattle.macs_journal.specs.declared.hand.Hand.{Hand}
+use Rattle.macs_journal.specs.declared.hand.Hand.TheVariants.{Append, Compact, Empty}
+use Rattle.macs_journal.specs.declared.place.Place.{Place}
+
+-- the sector is still the same
+pub append-task : (old new : Hand) (work : Appending) (later : AppendStage) → old ≡ Append work → new ≡ Append (record work { stage = later }) → IsSameTask old new
+append-task old new work later old_is new_is =
+    subst (λ (h : Hand). IsSameTask h new) (sym old_is) (subst (λ (h : Hand). IsSameTask (Append work) h) (sym new_is) refl)
+
+-- an append goes on as one
+pub still-appends : (old new : Hand) → IsSameTask old new → IsAppendHand old → IsAppendHand new
+still-appends (Append work) (Append later) same is = tt
+still-appends (Append work) Empty same is = absurd same
+still-appends (Append work) (Compact later) same is = absurd same
+still-appends (Compact work) new same is = absurd is
+still-appends Empty new same is = absurd is
+
+-- and a compaction with its records
+pub still-renews : (place : Place) (old new : Hand) (records : List Record) → IsSameTask old new → RenewsWith place old records → RenewsWith place new records
+still-renews place (Compact work) (Compact later) records same is = is ∙ sym same
+still-renews place (Compact work) Empty records same is = absurd same
+still-renews place (Compact work) (Append later) records same is = absurd same
+still-renews place (Append work) new records same is = absurd is
+still-renews place Empty new records same is = absurd is
+
+-- no records are to be lent to an append
+pub append-lent : (hand : Hand) (records : List Record) → IsAppendHand hand → AreLent hand records
+append-lent Empty records is = tt
+append-lent (Append work) records is = tt
+append-lent (Compact work) records is = absurd is
+
+-- with any records an append makes the one content of the other
+append-made : (hand : Hand) (records : List Record) (before after : Content) → IsAppendHand hand → IsMadeOf hand records before after
+append-made Empty records before after is = tt
+append-made (Append work) records before after is = tt
+append-made (Compact work) records before after is = absurd is
+
+pub append-with : (d : Disk) (place : Place) (hand : Hand) (records : List Record) (before after : Content) → IsAppendHand hand
+    → IsHolding d place hand before after → HoldsWith d place hand records before after
+append-with d place hand records before after is holding = record { holds = holding; made = append-made hand records before after is }
+
+-- a compaction is in hand with the records that it began with
+renewal-made : (hand : Hand) (records : List Record) (before : Content) → IsMadeOf hand records before (compacted before records)
+renewal-made Empty records before = tt
+renewal-made (Append work) records before = tt
+renewal-made (Compact work) records before = refl
+
+pub renewal-with : (d : Disk) (place : Place) (hand : Hand) (records : List Record) (before : Content)
+    → IsHolding d place hand before (compacted before records) → HoldsWith d place hand records before (compacted before records)
+renewal-with d place hand records before holding = record { holds = holding; made = renewal-made hand records before }

@@ -1,0 +1,172 @@
+-- A journal's work, one device call at a time.
+use Rattle.std.specs.Prelude.{◌≡◌, ◌<◌, ◌≤◌, ◌↔◌, ◌⊎◌, ◌+◌, ℕ, true, false, List, length, Result, Ok, IsErrOf, OnOk, OnErr, is_err}
+use Rattle.macs_disk.specs.States.{Image}
+use Rattle.macs_disk.specs.Disk.{IsDeviceCall, IsHonest, MayLeave}
+use Rattle.macs_disk.specs.Disk as disk
+use Rattle.macs_disk.specs.Runs.{Leaves}
+use Rattle.macs_record.specs.Decoding.{IsSectorOf}
+use Rattle.macs_record.specs.declared.record.Record.{Record}
+use Rattle.macs_journal.specs.Appending.{HasEitherJournal}
+use Rattle.macs_journal.specs.Areas.{other_area, slots}
+use Rattle.macs_journal.specs.Found.{Content, HasJournal, content_with_record}
+use Rattle.macs_journal.specs.Renewal.{compacted, last_generation, next_head}
+use Rattle.macs_journal.specs.Value.{AreLent, ComesTo, HoldsContent, HoldsWith, IsHolding, IsIdle, IsMadeOf, IsNoCompact, JournalValue, device_in, disk_in, generation, is_stopped, left_of}
+use Rattle.macs_journal.specs.Work.{IsWorkOf}
+use Rattle.macs_journal.specs.declared.fault.JournalFault.{JournalFault}
+use Rattle.macs_journal.specs.declared.fault.JournalFault.TheVariants.{Disk, GenerationsSpent, Stopped}
+use Rattle.macs_journal.specs.declared.hand.Hand.{Hand}
+use Rattle.macs_journal.specs.declared.hand.Hand.TheVariants as hand
+use Rattle.macs_journal.specs.declared.place.Place.{Place}
+use Rattle.macs_journal.specs.declared.work.JournalStep.{JournalStep}
+use Rattle.macs_journal.specs.declared.work.JournalStep.TheVariants.{Finished, Going, Idle}
+use Rattle.macs_journal.specs.declared.work.Work.{Work}
+use Rattle.macs_journal.specs.declared.work.Work.TheVariants.{Append, Compact}
+
+-- ---- what is to be done
+
+-- to append a record, or to begin anew with these
+pub data Task : Type 0 where
+  Appends : Record → Task
+  Renews : List Record → Task
+
+-- what a work asks for
+abbrev pub task_of : Work → Task
+task_of (Append r) = Appends r
+task_of (Compact records) = Renews records.items
+
+-- the content that it makes of a content
+abbrev pub after_task : Task → Content → Content
+after_task (Appends r) before = content_with_record before r
+after_task (Renews records) before = compacted before records
+
+-- the area is not full, or there is a record to begin anew with
+abbrev pub FitsWork : Place → Work → Type 0
+FitsWork place (Append r) = place.free < slots
+FitsWork place (Compact records) = 1 ≤ length records.items
+
+-- the journal cannot begin anew
+abbrev pub IsSpent : {D : Type 0} → JournalValue D → Task → Type 0
+IsSpent j (Appends r) = ⊥
+IsSpent j (Renews records) = generation j ≡ last_generation
+
+-- what it takes in hand: the sector of the record, with its first device call; or the head of the next generation, with that of a compaction
+abbrev pub IsTaskInHand : {D : Type 0} → JournalValue D → Task → Hand → Type 0
+IsTaskInHand j task hand.Empty = ⊥
+IsTaskInHand j (Appends r) (hand.Append work) = IsSectorOf r work.sector
+IsTaskInHand j (Appends r) (hand.Compact work) = ⊥
+IsTaskInHand j (Renews records) (hand.Append work) = ⊥
+IsTaskInHand j (Renews records) (hand.Compact work) = next_head j.place.head (length records) ≡ work.head
+
+-- how many device calls it takes, at most
+abbrev pub calls_of : Task → ℕ
+calls_of (Appends r) = 4
+calls_of (Renews records) = 519 + length records
+
+-- A task is taken in hand, and no device call is made. Stopped exactly where a device call failed before; GenerationsSpent exactly where
+-- the journal is to begin anew and its generation is the last; nothing changes then.
+pub record Starts {D : Type 0} (disk_of : D → disk.Disk) (old : JournalValue D) (task : Task) (result : Result (Unit {0}) JournalFault) (new : JournalValue D) : Type 0 where
+  pub stopped : IsErrOf result Stopped ↔ (is_stopped old ≡ true)
+  pub spent : IsErrOf result GenerationsSpent ↔ ((is_stopped old ≡ false) × IsSpent old task)
+  pub names : OnErr result (IsErrOf result Stopped ⊎ IsErrOf result GenerationsSpent)
+  pub same : OnErr result (new ≡ old)
+  pub device : device_in new ≡ device_in old
+  pub place : new.place ≡ old.place
+  pub running : OnOk result (is_stopped new ≡ false)
+  pub hand : OnOk result (IsTaskInHand old task new.hand)
+  pub left : OnOk result (left_of new.hand ≡ calls_of task)
+  pub holds : OnOk result ((before : Content) → HoldsContent disk_of old before
+      → IsHolding (disk_in disk_of new) new.place new.hand before (after_task task before))
+
+-- ---- one call
+
+-- the same record or the same new head, at another device call
+abbrev pub IsSameTask : Hand → Hand → Type 0
+IsSameTask (hand.Append work) (hand.Append later) = later.sector ≡ work.sector
+IsSameTask (hand.Compact work) (hand.Compact later) = later.head ≡ work.head
+IsSameTask old new = ⊥
+
+-- where the journal goes on once its work is done
+abbrev pub place_then : Place → Hand → Place
+place_then place hand.Empty = place
+place_then place (hand.Append work) = record place { free = place.free + 1 }
+place_then place (hand.Compact work) = record { area = other_area place.area; head = work.head; free = work.head.count }
+
+-- an append is in hand
+abbrev pub IsAppendHand : Hand → Type 0
+IsAppendHand (hand.Append work) = Unit {0}
+IsAppendHand other = ⊥
+
+-- it is in hand that the journal at this place begins anew, with as many records as these
+abbrev pub RenewsWith : Place → Hand → List Record → Type 0
+RenewsWith place (hand.Compact work) records = next_head place.head (length records) ≡ work.head
+RenewsWith place other records = ⊥
+
+-- a compaction is in hand
+abbrev pub IsCompactHand : Hand → Type 0
+IsCompactHand (hand.Compact work) = Unit {0}
+IsCompactHand other = ⊥
+
+-- where nothing is left in hand the work is finished
+abbrev pub step_of : Hand → JournalStep
+step_of hand.Empty = Finished
+step_of (hand.Append work) = Going
+step_of (hand.Compact work) = Going
+
+-- One device call of the work in hand, with the records that are lent to it.
+pub record Advances {D : Type 0} (disk_of : D → disk.Disk) (old : JournalValue D) (snapshot : List Record) (result : Result (Unit {0}) JournalFault) (new : JournalValue D) : Type 0 where
+  pub names : OnErr result (IsErrOf result Disk)
+  pub work : IsWorkOf (disk_in disk_of old) (disk_in disk_of new) result
+  pub after : is_stopped new ≡ is_err result
+  pub device : IsDeviceCall (disk_in disk_of old) (disk_in disk_of new) result
+  pub one : (disk_in disk_of new).clock ≤ (disk_in disk_of old).clock + 1
+  pub call : OnOk result ((disk_in disk_of new).clock ≡ (disk_in disk_of old).clock + 1)
+  pub idle : OnErr result (IsIdle new)
+  pub left : OnOk result (left_of new.hand + 1 ≤ left_of old.hand)
+  pub exact : OnOk result (IsNoCompact old.hand → left_of new.hand + 1 ≡ left_of old.hand)
+  pub place : (¬ IsIdle new) → new.place ≡ old.place
+  pub task : (¬ IsIdle new) → IsSameTask old.hand new.hand
+  pub moved : OnOk result (IsIdle new → new.place ≡ place_then old.place old.hand)
+  pub at_fault : OnErr result (new.place ≡ old.place)
+  pub lent : (later : List Record) → AreLent old.hand later → AreLent new.hand later
+  pub made : (before after : Content) → IsMadeOf old.hand snapshot before after → IsMadeOf new.hand snapshot before after
+  pub any_moment : IsHonest (disk_in disk_of new) → (before after : Content) → HoldsWith (disk_in disk_of old) old.place old.hand snapshot before after
+      → Leaves (disk_in disk_of old) (disk_in disk_of new) (HasEitherJournal before after)
+  pub next : OnOk result (IsHonest (disk_in disk_of new) → (before after : Content) → HoldsWith (disk_in disk_of old) old.place old.hand snapshot before after
+      → ComesTo (disk_in disk_of new) new.place new.hand before after)
+
+-- A step of a journal: one device call of the work in hand. Stopped exactly where a device call failed before, and Idle exactly where
+-- nothing is in hand: then no call is made and nothing changes. Disk exactly where the call failed, which stops the journal and leaves
+-- nothing in hand. Else the work goes on, the same before and after, or is finished: then the content is the one after it. What is said of
+-- contents is said where the work in hand makes the one of the other with the records that are lent.
+pub record Steps {D : Type 0} (disk_of : D → disk.Disk) (old : JournalValue D) (snapshot : List Record) (result : Result JournalStep JournalFault) (new : JournalValue D) : Type 0 where
+  -- what is answered, and what is left of the journal in memory
+  pub stopped : IsErrOf result Stopped ↔ (is_stopped old ≡ true)
+  pub idle : (result ≡ Ok Idle) ↔ ((is_stopped old ≡ false) × IsIdle old)
+  pub names : OnErr result (IsErrOf result Stopped ⊎ IsErrOf result Disk)
+  pub same : (IsErrOf result Stopped ⊎ (result ≡ Ok Idle)) → new ≡ old
+  pub halted : IsErrOf result Disk → (is_stopped new ≡ true) × IsIdle new
+  pub running : OnOk result (is_stopped new ≡ false)
+  pub going : result ≡ Ok Going → ¬ IsIdle new
+  pub finished : result ≡ Ok Finished → IsIdle new
+  pub place : (¬ (result ≡ Ok Finished)) → new.place ≡ old.place
+  pub task : result ≡ Ok Going → IsSameTask old.hand new.hand
+  pub moved : result ≡ Ok Finished → new.place ≡ place_then old.place old.hand
+  -- as many records are to be lent as before
+  pub lent : (later : List Record) → AreLent old.hand later → AreLent new.hand later
+  -- its device calls: one that answers what the step answers, where work is in hand and none failed before
+  pub work : IsWorkOf (disk_in disk_of old) (disk_in disk_of new) result
+  pub device : is_stopped old ≡ false → (¬ IsIdle old) → IsDeviceCall (disk_in disk_of old) (disk_in disk_of new) result
+  pub one : (disk_in disk_of new).clock ≤ (disk_in disk_of old).clock + 1
+  pub call : OnOk result ((¬ IsIdle old) → (disk_in disk_of new).clock ≡ (disk_in disk_of old).clock + 1)
+  -- how many are left: one less for an append
+  pub left : OnOk result ((¬ IsIdle old) → left_of new.hand + 1 ≤ left_of old.hand)
+  pub exact : OnOk result ((¬ IsIdle old) → IsNoCompact old.hand → left_of new.hand + 1 ≡ left_of old.hand)
+  -- the content before the work or after it at any moment, and the one after it once it is finished
+  pub any_moment : IsHonest (disk_in disk_of new) → (before after : Content) → HoldsWith (disk_in disk_of old) old.place old.hand snapshot before after
+      → Leaves (disk_in disk_of old) (disk_in disk_of new) (HasEitherJournal before after)
+  pub goes_on : result ≡ Ok Going → IsHonest (disk_in disk_of new) → (before after : Content) → HoldsWith (disk_in disk_of old) old.place old.hand snapshot before after
+      → HoldsWith (disk_in disk_of new) new.place new.hand snapshot before after
+  pub done : result ≡ Ok Finished → IsHonest (disk_in disk_of new) → (before after : Content) → HoldsWith (disk_in disk_of old) old.place old.hand snapshot before after
+      → IsHolding (disk_in disk_of new) new.place new.hand after after
+  pub kept : result ≡ Ok Finished → IsHonest (disk_in disk_of new) → (before after : Content) → HoldsWith (disk_in disk_of old) old.place old.hand snapshot before after
+      → (image : Image) → MayLeave (disk_in disk_of new) image → HasJournal image after

@@ -1,0 +1,180 @@
+//! A journal's work, one device call at a time.
+
+ghost use Rattle.std.specs.Prelude.{◌≡◌, ◌<◌, ◌≤◌, ◌↔◌, false, length, IsTrue};
+ghost use Rattle.macs_journal.specs.Areas.{other_area, slots};
+ghost use Rattle.macs_journal.specs.Stepping.{Advances, Appends, FitsWork, IsCompactHand, Renews};
+ghost use Rattle.macs_journal.specs.Stepping.{Starts, Steps, step_of, task_of};
+ghost use Rattle.macs_journal.specs.Value.{AreLent, IsIdle, is_stopped, used_slots};
+ghost use Rattle.macs_journal.specs.declared.hand.Compacting.{Compacting};
+ghost use Rattle.macs_journal.specs.declared.hand.Hand.TheVariants.{Compact};
+
+use crate::appending::AppendStage;
+use crate::compact_calls::perform;
+use crate::compact_stage::CompactStage;
+use crate::compaction::next_head;
+use crate::fault::JournalFault;
+use crate::hand::{Appending, Compacting, Hand};
+use crate::journal::Journal;
+use crate::place::Place;
+use crate::work::{JournalStep, Work};
+use macs_disk::SectorDisk;
+use macs_record::laws::record_in_range;
+use macs_record::{Record, encode};
+
+impl<D: SectorDisk> Journal<D> {
+    /// Takes work in hand, and makes no call of the disk. No work is in hand; for an append the area is not full, and
+    /// a journal begins anew with 1 to 256 records, which stay with the caller: their number alone is read. Refused as
+    /// `Stopped`, and as `GenerationsSpent` where the journal is to begin anew and its generation is the last; nothing
+    /// changes then.
+    pub fn start(&mut self, work: &Work) -> Result<(), JournalFault>
+        requires idle { IsIdle self.old }
+        requires fits { FitsWork self.old.place work.now }
+        ensures { Starts D.disk self.old (task_of work.now) result self.new }
+    {
+        match work {
+            Work::Append(value) => self.start_append(value),
+            Work::Compact(records) => self.start_compact(records.as_slice()),
+        }
+    }
+
+    /// Takes a record in hand that is to be appended, as `start` does.
+    pub fn start_append(&mut self, value: &Record) -> Result<(), JournalFault>
+        requires idle { IsIdle self.old }
+        requires room { used_slots self.old < slots }
+        ensures { Starts D.disk self.old (Appends value.now) result self.new }
+    {
+        if self.stopped {
+            return Err(JournalFault::Stopped);
+        }
+        record_in_range(value);
+        self.hand = Hand::Append(Appending {
+            sector: encode(value),
+            stage: AppendStage::Body,
+        });
+        Ok(())
+    }
+
+    /// Takes in hand that the journal begins anew with these records, 1 to 256, as `start` does.
+    pub fn start_compact(&mut self, records: &[Record]) -> Result<(), JournalFault>
+        requires idle { IsIdle self.old }
+        requires some { (1 ≤ length records.now) × (length records.now ≤ slots) }
+        ensures { Starts D.disk self.old (Renews records.now) result self.new }
+    {
+        if self.stopped {
+            return Err(JournalFault::Stopped);
+        }
+        let Place { head, .. } = self.place;
+        let Some(next) = next_head(&head, records.len() as u32) else {
+            return Err(JournalFault::GenerationsSpent);
+        };
+        self.hand = Hand::Compact(Compacting {
+            head: next,
+            stage: CompactStage::ReadGate(0),
+        });
+        Ok(())
+    }
+
+    /// Whether these records may be lent to the next step: where the journal begins anew they are as many as it was
+    /// started with.
+    pub fn may_lend(&self, snapshot: &[Record]) -> bool
+        ensures { IsTrue result ↔ AreLent self.now.hand snapshot.now }
+    {
+        match &self.hand {
+            Hand::Empty => true,
+            Hand::Append(_) => true,
+            Hand::Compact(work) => snapshot.len() as u64 == u64::from(work.head.count()),
+        }
+    }
+
+    /// Makes the next call of the disk of the work in hand, and none where no work is in hand. Where the journal begins
+    /// anew, `snapshot` has as many records as it was started with, 1 to 256; what is promised of the content is promised
+    /// where they are the same records at each step. For other work it is not read. Refused as `Stopped`, and as `Disk`
+    /// where the call fails: then a power loss leaves the journal as before the work or as after it, and no work is in
+    /// hand.
+    pub fn step(&mut self, snapshot: &[Record]) -> Result<JournalStep, JournalFault>
+        requires lent { AreLent self.old.hand snapshot.now }
+        ensures { Steps D.disk self.old snapshot.now result self.new }
+    {
+        if self.stopped {
+            return Err(JournalFault::Stopped);
+        }
+        if let JournalStep::Finished = self.progress() {
+            return Ok(JournalStep::Idle);
+        }
+        self.advance(snapshot)?;
+        let progress = self.progress();
+        Ok(progress)
+    }
+
+    /// Whether the work in hand goes on: where none is in hand it is finished.
+    fn progress(&self) -> JournalStep
+        ensures { result ≡ step_of self.now.hand }
+    {
+        match &self.hand {
+            Hand::Empty => JournalStep::Finished,
+            Hand::Append(_) => JournalStep::Going,
+            Hand::Compact(_) => JournalStep::Going,
+        }
+    }
+
+    /// One device call of the work in hand. After a device fault nothing is in hand.
+    fn advance(&mut self, snapshot: &[Record]) -> Result<(), JournalFault>
+        requires busy { ¬ IsIdle self.old }
+        requires running { is_stopped self.old ≡ false }
+        requires lent { AreLent self.old.hand snapshot.now }
+        ensures { Advances D.disk self.old snapshot.now result self.new }
+    {
+        match &self.hand {
+            Hand::Empty => Ok(()),
+            Hand::Append(_) => self.step_append(),
+            Hand::Compact(_) => self.step_compact(snapshot),
+        }
+    }
+
+    /// One device call of the compaction in hand, of these records. After a device fault nothing is in hand.
+    fn step_compact(&mut self, snapshot: &[Record]) -> Result<(), JournalFault>
+        requires busy { IsCompactHand self.old.hand }
+        requires running { is_stopped self.old ≡ false }
+        requires lent { AreLent self.old.hand snapshot.now }
+        ensures { Advances D.disk self.old snapshot.now result self.new }
+    {
+        let Place { area, .. } = self.place;
+        let other = area.other();
+        let done = self.new_place();
+        let Hand::Compact(work) = &self.hand else {
+            return Ok(());
+        };
+        match perform(&mut self.disk, other, &work.head, snapshot, work.stage) {
+            Ok(Some(stage)) => {
+                self.hand.compact_on(stage);
+                Ok(())
+            }
+            Ok(None) => {
+                self.hand = Hand::Empty;
+                self.place = done;
+                Ok(())
+            }
+            Err(_) => {
+                self.hand = Hand::Empty; // The next recovery finds the records of before or these.
+                self.stopped = true;
+                Err(JournalFault::Disk)
+            }
+        }
+    }
+
+    /// Where the journal goes on once it began anew.
+    fn new_place(&self) -> Place
+        ensures { (work : Compacting) → self.now.hand ≡ Compact work
+            → result ≡ record { area = other_area self.now.place.area; head = work.head; free = work.head.count } }
+    {
+        let Place { area, .. } = self.place;
+        match &self.hand {
+            Hand::Compact(work) => Place {
+                area: area.other(),
+                head: work.head,
+                free: u64::from(work.head.count()),
+            },
+            _ => self.place,
+        }
+    }
+}

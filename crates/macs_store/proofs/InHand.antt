@@ -1,0 +1,187 @@
+-- A record is taken in hand, and what that takes.
+use Rattle.std.proofs.Common.{◌≡◌, ◌<◌, ◌+◌, ◌==◌, ◌∙◌, Bool, true, false, if◌then◌else◌, List, Some, Result, Ok, Err, refl, ap, sym, arith, eq-eqb}
+use Rattle.std.proofs.lemmas.Bool.{ne_eqb}
+use Rattle.macs_config.specs.Config.{this_edition}
+use Rattle.macs_disk.specs.Disk.{Disk}
+use Rattle.macs_journal.specs.Areas.{slots}
+use Rattle.macs_journal.specs.Found.{content_with_record}
+use Rattle.macs_journal.specs.Renewal.{compacted}
+use Rattle.macs_journal.specs.Stepping as journal
+use Rattle.macs_journal.specs.Stepping.{Appends, IsAppendHand, IsTaskInHand, Renews, RenewsWith}
+use Rattle.macs_journal.specs.Value.{JournalValue}
+use Rattle.macs_journal.specs.declared.fault.JournalFault.{JournalFault}
+use Rattle.macs_journal.specs.declared.hand.Hand as journal_hand
+use Rattle.macs_journal.specs.declared.hand.Hand.TheVariants as journal_work
+use Rattle.macs_journal.specs.declared.place.Place.{Place}
+use Rattle.macs_journal.proofs.Tasks.{append-with, renewal-with}
+use Rattle.macs_record.specs.declared.record.Record.{Record}
+use Rattle.macs_store.specs.Keeps.{IsSpent, generation_after, most_calls, slots_after}
+use Rattle.macs_store.specs.Replay.{snapshot_of, standing_after_record}
+use Rattle.macs_store.specs.Snapshot.{snapshot}
+use Rattle.macs_store.specs.Standing.{Standing}
+use Rattle.macs_store.specs.Stepping.{HasInHand, StartsRecord}
+use Rattle.macs_store.specs.Value.{IsIdle, IsStored, StoreValue, generation, snapshot_length, standing_in, used_slots}
+use Rattle.macs_store.specs.declared.hand.Hand.TheVariants.{Appending, Renewing}
+use Rattle.macs_store.proofs.Compacting.{meaning-compacted}
+use Rattle.macs_store.proofs.Keeping.{held-within, idle-holds, standing-with}
+
+-- ---- what one change more takes
+
+-- where all slots are used
+module _ {D : Type 0} (s : StoreValue D) (full : used_slots s ≡ slots) where
+  is_full : (used_slots s == slots) ≡ true
+  is_full = eq-eqb (used_slots s) slots full
+
+  full-slots : slots_after s ≡ snapshot_length s + 1
+  full-slots = ap (λ (b : Bool). if b then snapshot_length s + 1 else used_slots s + 1) is_full
+
+  full-generation : generation_after s ≡ generation s + 1
+  full-generation = ap (λ (b : Bool). if b then generation s + 1 else generation s) is_full
+
+  full-calls : most_calls s ≡ 523 + snapshot_length s
+  full-calls = ap (λ (b : Bool). if b then 523 + snapshot_length s else 4) is_full
+
+-- where a slot is free
+module _ {D : Type 0} (s : StoreValue D) (room : used_slots s < slots) where
+  has_room : (used_slots s == slots) ≡ false
+  has_room = ne_eqb (used_slots s) slots (λ full. omega (arith, room, full))
+
+  free-slots : slots_after s ≡ used_slots s + 1
+  free-slots = ap (λ (b : Bool). if b then snapshot_length s + 1 else used_slots s + 1) has_room
+
+  free-generation : generation_after s ≡ generation s
+  free-generation = ap (λ (b : Bool). if b then generation s + 1 else generation s) has_room
+
+  free-calls : most_calls s ≡ 4
+  free-calls = ap (λ (b : Bool). if b then 523 + snapshot_length s else 4) has_room
+
+-- ---- what the journal has in hand
+
+pub task-appends : {D : Type 0} (j : JournalValue D) (r : Record) (hand : journal_hand.Hand) → IsTaskInHand j (Appends r) hand → IsAppendHand hand
+task-appends j r journal_work.Empty is = absurd is
+task-appends j r (journal_work.Append work) is = tt
+task-appends j r (journal_work.Compact work) is = absurd is
+
+pub task-renews : {D : Type 0} (j : JournalValue D) (records : List Record) (hand : journal_hand.Hand) → IsTaskInHand j (Renews records) hand
+    → RenewsWith j.place hand records
+task-renews j records journal_work.Empty is = absurd is
+task-renews j records (journal_work.Append work) is = absurd is
+task-renews j records (journal_work.Compact work) is = is
+
+-- work that was taken in hand
+abbrev taken : Result (Unit {0}) JournalFault
+taken = Ok tt
+
+abbrev refused : JournalFault → Result (Unit {0}) JournalFault
+refused at = Err at
+
+module _ {D : Type 0} (disk_of : D → Disk) (s : StoreValue D) (idle : IsIdle s) (r : Record) where
+  -- the store with this journal and this work
+  abbrev with_append : JournalValue D → StoreValue D
+  with_append j = record { journal = j; held = s.held; hand = Appending r }
+
+  abbrev with_renewal : JournalValue D → StoreValue D
+  with_renewal j = record { journal = j; held = s.held; hand = Renewing r }
+
+  module _ (room : used_slots s < slots) where
+    append-stored : (j : JournalValue D) → journal.Starts disk_of s.journal (Appends r) taken j → IsStored disk_of s → IsStored disk_of (with_append j)
+    append-stored j starts stored =
+        let holds = idle-holds disk_of s stored idle in
+        record {
+          content = stored.content;
+          next = content_with_record stored.content r;
+          holding = append-with (disk_of j.disk) j.place j.hand (snapshot (standing_in s)) stored.content (content_with_record stored.content r)
+              (task-appends s.journal r j.hand starts.hand) (starts.holds stored.content holds);
+          stands = stored.stands;
+          becomes = standing-with this_edition stored.content r (standing_in s) (held-within disk_of s.journal stored.content holds) stored.stands;
+          leads = refl;
+        }
+
+    append-in_hand : (j : JournalValue D) (after : Standing) → journal.Starts disk_of s.journal (Appends r) taken j
+        → standing_after_record (standing_in s) r ≡ Some after → HasInHand disk_of s after (with_append j)
+    append-in_hand j after starts follows = record {
+      running = starts.running;
+      device = starts.device;
+      standing = refl;
+      leads = follows;
+      busy = λ empty. absurd cc;
+      slots = ap (λ (p : Place). p.free + 1) starts.place ∙ sym (free-slots s room);
+      generation = ap (λ (p : Place). p.head.generation) starts.place ∙ sym (free-generation s room);
+      left = starts.left ∙ sym (free-calls s room);
+      stored = append-stored j starts;
+    }
+
+    not-full : IsSpent s → ⊥
+    not-full spent = let full = spent.1 in omega (arith, room, full)
+
+    -- the record is in hand, where a slot is free
+    pub append-started : (j : JournalValue D) → journal.Starts disk_of s.journal (Appends r) taken j → StartsRecord disk_of s r taken (with_append j)
+    append-started j starts = record {
+      stopped = (λ same. starts.stopped.0 same, λ is. starts.stopped.1 is);
+      spent = (λ same. absurd cc, λ spent. absurd (not-full spent));
+      names = tt;
+      same = tt;
+      in_hand = λ after follows. append-in_hand j after starts follows;
+    }
+
+    -- or is not, since the store is stopped
+    pub append-refused : (at : JournalFault) (j : JournalValue D) → journal.Starts disk_of s.journal (Appends r) (refused at) j
+        → StartsRecord disk_of s r (refused at) (record s { journal = j })
+    append-refused at j starts = record {
+      stopped = (λ same. starts.stopped.0 same, λ is. starts.stopped.1 is);
+      spent = (λ same. absurd ((starts.spent.0 same).1), λ spent. absurd (not-full spent));
+      names = starts.names;
+      same = ap (λ (j : JournalValue D). record s { journal = j }) starts.same;
+      in_hand = tt;
+    }
+
+  module _ (full : used_slots s ≡ slots) (stands : snapshot_of this_edition (standing_in s).identity (snapshot (standing_in s)) ≡ Some (standing_in s)) where
+    abbrev records : List Record
+    records = snapshot (standing_in s)
+
+    renewal-stored : (j : JournalValue D) → journal.Starts disk_of s.journal (Renews records) taken j → IsStored disk_of s → IsStored disk_of (with_renewal j)
+    renewal-stored j starts stored =
+        let holds = idle-holds disk_of s stored idle in
+        record {
+          content = stored.content;
+          next = compacted stored.content records;
+          holding = renewal-with (disk_of j.disk) j.place j.hand records stored.content (starts.holds stored.content holds);
+          stands = stored.stands;
+          becomes = meaning-compacted this_edition stored.content (standing_in s) records stored.stands stands;
+          leads = tt;
+        }
+
+    renewal-in_hand : (j : JournalValue D) (after : Standing) → journal.Starts disk_of s.journal (Renews records) taken j
+        → standing_after_record (standing_in s) r ≡ Some after → HasInHand disk_of s after (with_renewal j)
+    renewal-in_hand j after starts follows = record {
+      running = starts.running;
+      device = starts.device;
+      standing = refl;
+      leads = follows;
+      busy = λ empty. absurd cc;
+      slots = sym (full-slots s full);
+      generation = ap (λ (p : Place). p.head.generation + 1) starts.place ∙ sym (full-generation s full);
+      left = let calls = starts.left in let most = full-calls s full in omega (arith, calls, most);
+      stored = renewal-stored j starts;
+    }
+
+    -- the compaction is in hand, where all slots are used
+    pub renewal-started : (j : JournalValue D) → journal.Starts disk_of s.journal (Renews records) taken j → StartsRecord disk_of s r taken (with_renewal j)
+    renewal-started j starts = record {
+      stopped = (λ same. starts.stopped.0 same, λ is. starts.stopped.1 is);
+      spent = (λ same. absurd cc, λ spent. absurd (let is = starts.spent.1 (spent.0, spent.2) in cc));
+      names = tt;
+      same = tt;
+      in_hand = λ after follows. renewal-in_hand j after starts follows;
+    }
+
+    -- or is not
+    pub renewal-refused : (at : JournalFault) (j : JournalValue D) → journal.Starts disk_of s.journal (Renews records) (refused at) j
+        → StartsRecord disk_of s r (refused at) (record s { journal = j })
+    renewal-refused at j starts = record {
+      stopped = (λ same. starts.stopped.0 same, λ is. starts.stopped.1 is);
+      spent = (λ same. let both = starts.spent.0 same in (both.0, full, both.1), λ spent. starts.spent.1 (spent.0, spent.2));
+      names = starts.names;
+      same = ap (λ (j : JournalValue D). record s { journal = j }) starts.same;
+      in_hand = tt;
+    }

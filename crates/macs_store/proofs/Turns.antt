@@ -1,0 +1,433 @@
+-- One step of a store, from what its journal answers.
+use Rattle.std.proofs.Common.{◌≡◌, ◌≢◌, ◌≤◌, ◌+◌, ◌∙◌, ℕ, true, false, if◌then◌else◌, Bool, List, [], length, Option, Some, None, Result, Ok, Err, inl, inr, refl, ap, sym, subst, arith}
+use Rattle.std.specs.Option.{IsSome}
+use Rattle.macs_config.specs.Config.{this_edition}
+use Rattle.macs_disk.specs.Disk.{Disk, IsHonest}
+use Rattle.macs_disk.specs.Runs.{Leaves}
+use Rattle.macs_disk.proofs.Moments.{Leaves-start, Leaves-weaker, Works-start}
+use Rattle.macs_journal.specs.Appending.{HasEitherJournal}
+use Rattle.macs_journal.specs.Found.{Content, content_with_record}
+use Rattle.macs_journal.specs.Stepping as journal
+use Rattle.macs_journal.specs.Stepping.{Appends, IsAppendHand, IsSameTask, RenewsWith, place_then}
+use Rattle.macs_journal.specs.Value.{HoldsWith, IsHolding, IsMadeOf, JournalValue, left_of}
+use Rattle.macs_journal.specs.Value as journal_value
+use Rattle.macs_journal.specs.Work.{IsWorkOf}
+use Rattle.macs_journal.specs.declared.fault.JournalFault.{JournalFault}
+use Rattle.macs_journal.specs.declared.fault.JournalFault.TheVariants as fault
+use Rattle.macs_journal.specs.declared.hand.Hand as journal_hand
+use Rattle.macs_journal.specs.declared.hand.Hand.TheVariants as journal_work
+use Rattle.macs_journal.specs.declared.place.Place.{Place}
+use Rattle.macs_journal.specs.declared.work.JournalStep.{JournalStep}
+use Rattle.macs_journal.specs.declared.work.JournalStep.TheVariants.{Finished, Going, Idle}
+use Rattle.macs_journal.proofs.Tasks.{append-with, still-appends}
+use Rattle.macs_record.specs.declared.record.Record.{Record}
+use Rattle.macs_store.specs.Found.{StandsForEither}
+use Rattle.macs_store.specs.Replay.{meaning_of, standing_after_record}
+use Rattle.macs_store.specs.Snapshot.{snapshot}
+use Rattle.macs_store.specs.Standing.{Standing}
+use Rattle.macs_store.specs.Stepping.{IsAppending, IsRenewing, Steps}
+use Rattle.macs_store.specs.Table.{StandingValue, standing_of}
+use Rattle.macs_store.specs.Value.{FitsHand, IsIdle, IsStored, StoreValue, calls_left, calls_with, disk_in, generation_with, is_stopped, slots_with, snapshot_length, standing_in, standing_next, standing_then, standing_with}
+use Rattle.macs_store.specs.declared.hand.Hand.{Hand}
+use Rattle.macs_store.specs.declared.hand.Hand.TheVariants.{Appending, Empty, Renewing}
+use Rattle.macs_store.proofs.InHand.{task-appends}
+use Rattle.macs_store.proofs.Keeping.{either-image, held-within, in_hand-image, standing-with}
+
+-- what a step answers
+abbrev answers : JournalStep → Result JournalStep JournalFault
+answers step = Ok step
+
+abbrev refuses : JournalFault → Result JournalStep JournalFault
+refuses at = Err at
+
+-- ---- no work is in hand
+
+module _ {D : Type 0} (disk_of : D → Disk) (s : StoreValue D) where
+  nothing-new : IsStored disk_of s → (after : Standing) → standing_then s ≡ Some after → Leaves (disk_in disk_of s) (disk_in disk_of s) (StandsForEither (standing_in s) after)
+  nothing-new stored after follows =
+      Leaves-start (disk_in disk_of s) (StandsForEither (standing_in s) after) (in_hand-image disk_of s stored after follows)
+
+  rests-stopped : is_stopped s ≡ true → Steps disk_of s (refuses fault.Stopped) s
+  rests-stopped is = record {
+    stopped = (λ same. is, λ same. refl);
+    idle = (λ same. absurd cc, λ both. absurd (let no : true ≡ false = sym is ∙ both.0 in cc));
+    names = inl refl;
+    same = λ which. refl;
+    halted = λ same. absurd (let no : fault.Stopped ≡ fault.Disk = cc in cc);
+    running = tt;
+    standing = λ not. refl;
+    going = λ same. absurd cc;
+    finished = λ same. absurd cc;
+    slots = tt;
+    generation = tt;
+    work = record { works = Works-start (disk_in disk_of s); fails = refl };
+    one = omega arith;
+    call = tt;
+    left = tt;
+    any_moment = λ honest stored after follows. nothing-new stored after follows;
+    stored = tt;
+  }
+
+  rests-idle : is_stopped s ≡ false → IsIdle s → Steps disk_of s (answers Idle) s
+  rests-idle runs idle = record {
+    stopped = (λ same. absurd cc, λ is. absurd (let no : true ≡ false = sym is ∙ runs in cc));
+    idle = (λ same. (runs, idle), λ both. refl);
+    names = tt;
+    same = λ which. refl;
+    halted = λ same. absurd cc;
+    running = runs;
+    standing = λ not. refl;
+    going = λ same. absurd (let no : Idle ≡ Going = cc in cc);
+    finished = λ same. absurd (let no : Idle ≡ Finished = cc in cc);
+    slots = refl;
+    generation = refl;
+    work = record { works = Works-start (disk_in disk_of s); fails = refl };
+    one = omega arith;
+    call = λ busy. absurd (busy idle);
+    left = λ busy. absurd (busy idle);
+    any_moment = λ honest stored after follows. nothing-new stored after follows;
+    stored = λ honest stored. stored;
+  }
+
+  pub rests : IsIdle s → Steps disk_of s (if is_stopped s then refuses fault.Stopped else answers Idle) s
+  rests idle = by_test (is_stopped s) refl where
+    by_test : (stopped : Bool) → is_stopped s ≡ stopped → Steps disk_of s (if stopped then refuses fault.Stopped else answers Idle) s
+    by_test true is = rests-stopped is
+    by_test false is = rests-idle is idle
+
+-- ---- what is read of a store with work in hand
+
+-- the slots, the generation and the calls, by what is read of its journal
+slots-kept : {D : Type 0} (old new : StoreValue D) (hand : Hand) → new.journal.place ≡ old.journal.place → new.held ≡ old.held → slots_with new hand ≡ slots_with old hand
+slots-kept old new Empty place held = ap (λ (p : Place). p.free) place
+slots-kept old new (Renewing r) place held = ap (λ (h : StandingValue). length (snapshot (standing_of h)) + 1) held
+slots-kept old new (Appending r) place held = ap (λ (p : Place). p.free + 1) place
+
+generation-kept : {D : Type 0} (old new : StoreValue D) (hand : Hand) → new.journal.place ≡ old.journal.place → generation_with new hand ≡ generation_with old hand
+generation-kept old new Empty place = ap (λ (p : Place). p.head.generation) place
+generation-kept old new (Renewing r) place = ap (λ (p : Place). p.head.generation + 1) place
+generation-kept old new (Appending r) place = ap (λ (p : Place). p.head.generation) place
+
+calls-fewer : {D : Type 0} (old new : StoreValue D) (hand : Hand) → hand ≢ Empty → left_of new.journal.hand + 1 ≤ left_of old.journal.hand
+    → calls_with new hand + 1 ≤ calls_with old hand
+calls-fewer old new Empty busy less = absurd (busy refl)
+calls-fewer old new (Renewing r) busy less = omega (arith, less)
+calls-fewer old new (Appending r) busy less = less
+
+-- ---- a device call of the journal
+
+module _ {D : Type 0} (disk_of : D → Disk) (s : StoreValue D) (runs : is_stopped s ≡ false) (busy : ¬ IsIdle s) (at_work : ¬ (journal_value.IsIdle s.journal))
+    (records : List Record)
+    (lent : (content next : Content)
+    → HoldsWith (disk_in disk_of s) s.journal.place s.journal.hand (snapshot (standing_in s)) content next
+    → HoldsWith (disk_in disk_of s) s.journal.place s.journal.hand records content next) where
+  runs_on : is_stopped s ≡ true → ⊥
+  runs_on is = let no : true ≡ false = sym is ∙ runs in cc
+
+  -- what a power loss leaves, whatever it answered
+  moments : (result : Result JournalStep JournalFault) (j : JournalValue D) → journal.Steps disk_of s.journal records result j
+      → IsHonest (disk_of j.disk) → IsStored disk_of s → (after : Standing) → standing_then s ≡ Some after
+      → Leaves (disk_in disk_of s) (disk_of j.disk) (StandsForEither (standing_in s) after)
+  moments result j steps honest stored after follows =
+      Leaves-weaker (disk_in disk_of s) (disk_of j.disk) (HasEitherJournal stored.content stored.next) (StandsForEither (standing_in s) after)
+      (λ image left. either-image disk_of s stored after follows image left)
+      (steps.any_moment honest stored.content stored.next (lent stored.content stored.next stored.holding))
+
+  -- it failed
+  pub turn-failed : (at : JournalFault) (j : JournalValue D) → journal.Steps disk_of s.journal records (refuses at) j
+      → Steps disk_of s (refuses at) (record { journal = j; held = s.held; hand = Empty })
+  turn-failed at j steps = record {
+    stopped = (λ same. steps.stopped.0 same, λ is. steps.stopped.1 is);
+    idle = (λ same. absurd cc, λ both. absurd (busy both.1));
+    names = steps.names;
+    same = λ which. elim which [
+      | inl stopped ↦ absurd (runs_on (steps.stopped.0 stopped))
+      | inr idle ↦ absurd cc
+    ];
+    halted = λ same. ((steps.halted same).0, refl);
+    running = tt;
+    standing = λ not. refl;
+    going = λ same. absurd cc;
+    finished = λ same. absurd cc;
+    slots = tt;
+    generation = tt;
+    work = steps.work;
+    one = steps.one;
+    call = tt;
+    left = tt;
+    any_moment = λ honest stored after follows. moments (refuses at) j steps honest stored after follows;
+    stored = tt;
+  }
+
+  -- the same work goes on
+  module _ (back : (j : JournalValue D) → IsSameTask s.journal.hand j.hand → (content next : Content)
+      → HoldsWith (disk_of j.disk) j.place j.hand records content next
+      → HoldsWith (disk_of j.disk) j.place j.hand (snapshot (standing_in s)) content next) where
+    turn-going : (j : JournalValue D) → journal.Steps disk_of s.journal records (answers Going) j
+        → Steps disk_of s (answers Going) (record s { journal = j })
+    turn-going j steps =
+        let place = steps.place (λ same. let no : Going ≡ Finished = cc in cc) in
+        record {
+          stopped = (λ same. absurd cc, λ is. absurd (runs_on is));
+          idle = (λ same. absurd (let no : Going ≡ Idle = cc in cc), λ both. absurd (busy both.1));
+          names = tt;
+          same = λ which. elim which [
+            | inl stopped ↦ absurd cc
+            | inr idle ↦ absurd (let no : Going ≡ Idle = cc in cc)
+          ];
+          halted = λ same. absurd cc;
+          running = steps.running;
+          standing = λ not. refl;
+          going = λ same. (busy, refl);
+          finished = λ same. absurd (let no : Going ≡ Finished = cc in cc);
+          slots = slots-kept s (record s { journal = j }) s.hand place refl;
+          generation = generation-kept s (record s { journal = j }) s.hand place;
+          work = record { works = steps.work.works; fails = steps.work.fails };
+          one = steps.one;
+          call = λ was. steps.call at_work;
+          left = λ was. calls-fewer s (record s { journal = j }) s.hand busy (steps.left at_work);
+          any_moment = λ honest stored after follows. moments (answers Going) j steps honest stored after follows;
+          stored = λ honest stored. record {
+            content = stored.content;
+            next = stored.next;
+            holding = back j (steps.task refl) stored.content stored.next
+                (steps.goes_on refl honest stored.content stored.next (lent stored.content stored.next stored.holding));
+            stands = stored.stands;
+            becomes = stored.becomes;
+            leads = stored.leads;
+          };
+        }
+
+    pub turn-on : (step : JournalStep) (j : JournalValue D) → step ≢ Finished → journal.Steps disk_of s.journal records (answers step) j
+        → Steps disk_of s (answers Going) (record s { journal = j })
+    turn-on Idle j other steps = absurd (at_work (steps.idle.0 refl).1)
+    turn-on Going j other steps = turn-going j steps
+    turn-on Finished j other steps = absurd (other refl)
+
+-- ---- its last one
+
+-- of an append
+module _ {D : Type 0} (disk_of : D → Disk) (s : StoreValue D) (runs : is_stopped s ≡ false) (r : Record) (hand_is : s.hand ≡ Appending r)
+    (appends : IsAppendHand s.journal.hand) where
+  -- the journal is at work
+  append-busy : ¬ IsIdle s
+  append-busy idle = let no : Appending r ≡ Empty = sym hand_is ∙ idle in cc
+
+  pub append-works : ¬ (journal_value.IsIdle s.journal)
+  append-works idle = subst (λ (h : journal_hand.Hand). IsAppendHand h) idle appends
+
+  append-lent : (records : List Record) (content next : Content) → HoldsWith (disk_in disk_of s) s.journal.place s.journal.hand (snapshot (standing_in s)) content next
+      → HoldsWith (disk_in disk_of s) s.journal.place s.journal.hand records content next
+  append-lent records content next holding = append-with (disk_in disk_of s) s.journal.place s.journal.hand records content next appends holding.holds
+
+  -- one slot more is used
+  append-place : (place : Place) (hand : journal_hand.Hand) → IsAppendHand hand → place_then place hand ≡ record place { free = place.free + 1 }
+  append-place place journal_work.Empty is = absurd is
+  append-place place (journal_work.Append work) is = refl
+  append-place place (journal_work.Compact work) is = absurd is
+
+  pub append-finished : (records : List Record) (j : JournalValue D) (held : StandingValue) → standing_after_record (standing_in s) r ≡ Some (standing_of held)
+      → journal.Steps disk_of s.journal records (answers Finished) j
+      → Steps disk_of s (answers Finished) (record { journal = j; held = held; hand = Empty })
+  append-finished records j held follows steps =
+      let place = steps.moved refl ∙ append-place s.journal.place s.journal.hand appends in
+      record {
+        stopped = (λ same. absurd cc, λ is. absurd (let no : true ≡ false = sym is ∙ runs in cc));
+        idle = (λ same. absurd (let no : Finished ≡ Idle = cc in cc), λ both. absurd (append-busy both.1));
+        names = tt;
+        same = λ which. elim which [
+          | inl stopped ↦ absurd cc
+          | inr idle ↦ absurd (let no : Finished ≡ Idle = cc in cc)
+        ];
+        halted = λ same. absurd cc;
+        running = steps.running;
+        standing = λ not. absurd (not refl);
+        going = λ same. absurd (let no : Finished ≡ Going = cc in cc);
+        finished = λ same. (refl, ap (standing_with (standing_in s)) hand_is ∙ follows);
+        slots = ap (λ (p : Place). p.free) place ∙ sym (ap (slots_with s) hand_is);
+        generation = ap (λ (p : Place). p.head.generation) place ∙ sym (ap (generation_with s) hand_is);
+        work = record { works = steps.work.works; fails = steps.work.fails };
+        one = steps.one;
+        call = λ was. steps.call append-works;
+        left = λ was. (let less = steps.left append-works in let calls : calls_left s ≡ left_of s.journal.hand = ap (calls_with s) hand_is in omega (arith, less, calls));
+        any_moment = λ honest stored after follows.
+            moments disk_of s runs append-busy append-works records (append-lent records) (answers Finished) j steps honest stored after follows;
+        stored = λ honest stored.
+            let means : meaning_of this_edition stored.next ≡ Some (standing_of held) = stored.becomes ∙ ap (standing_next (standing_in s)) hand_is ∙ follows in
+            record {
+              content = stored.next;
+              next = stored.next;
+              holding = record {
+                holds = steps.done refl honest stored.content stored.next (append-lent records stored.content stored.next stored.holding);
+                made = subst (λ (h : journal_hand.Hand). IsMadeOf h (snapshot (standing_of held)) stored.next stored.next) (sym (steps.finished refl)) tt;
+              };
+              stands = means;
+              becomes = means;
+              leads = refl;
+            };
+      }
+
+-- of a compaction, behind which the record is in hand
+module _ {D : Type 0} (disk_of : D → Disk) (s : StoreValue D) (runs : is_stopped s ≡ false) (r : Record) (hand_is : s.hand ≡ Renewing r)
+    (renews : RenewsWith s.journal.place s.journal.hand (snapshot (standing_in s))) where
+  renewal-busy : ¬ IsIdle s
+  renewal-busy idle = let no : Renewing r ≡ Empty = sym hand_is ∙ idle in cc
+
+  pub renewal-works : ¬ (journal_value.IsIdle s.journal)
+  renewal-works idle = subst (λ (h : journal_hand.Hand). RenewsWith s.journal.place h (snapshot (standing_in s))) idle renews
+
+  renewal-lent : (content next : Content) → HoldsWith (disk_in disk_of s) s.journal.place s.journal.hand (snapshot (standing_in s)) content next
+      → HoldsWith (disk_in disk_of s) s.journal.place s.journal.hand (snapshot (standing_in s)) content next
+  renewal-lent content next holding = holding
+
+  -- as many slots as the snapshot has records are used, in the next generation
+  renewal-slots : (place : Place) (hand : journal_hand.Hand) (records : List Record) → RenewsWith place hand records → (place_then place hand).free ≡ length records
+  renewal-slots place journal_work.Empty records is = absurd is
+  renewal-slots place (journal_work.Append work) records is = absurd is
+  renewal-slots place (journal_work.Compact work) records is = ap (λ h. h.count) (sym is)
+
+  renewal-generation : (place : Place) (hand : journal_hand.Hand) (records : List Record) → RenewsWith place hand records
+      → (place_then place hand).head.generation ≡ place.head.generation + 1
+  renewal-generation place journal_work.Empty records is = absurd is
+  renewal-generation place (journal_work.Append work) records is = absurd is
+  renewal-generation place (journal_work.Compact work) records is = ap (λ h. h.generation) (sym is)
+
+  module _ (mid : JournalValue D) (steps : journal.Steps disk_of s.journal (snapshot (standing_in s)) (answers Finished) mid) where
+    -- the journal goes on with a free slot
+    pub renewal-room : mid.place.free ≡ snapshot_length s
+    renewal-room = ap (λ (p : Place). p.free) (steps.moved refl) ∙ renewal-slots s.journal.place s.journal.hand (snapshot (standing_in s)) renews
+
+    module _ (j : JournalValue D) (starts : journal.Starts disk_of mid (Appends r) (Ok tt) j) where
+      same-disk : disk_of mid.disk ≡ disk_of j.disk
+      same-disk = ap disk_of (sym starts.device)
+
+      at_rest : (d : Disk) → disk_of mid.disk ≡ d → IsHonest d → IsHonest (disk_of mid.disk)
+      at_rest d is honest = subst (λ (x : Disk). IsHonest x) (sym is) honest
+
+      renewed-stored : IsHonest (disk_of j.disk) → IsStored disk_of s → IsStored disk_of (record { journal = j; held = s.held; hand = Appending r })
+      renewed-stored honest stored =
+          let before = at_rest (disk_of j.disk) same-disk honest in
+          let holds = steps.done refl before stored.content stored.next stored.holding in
+          let means : meaning_of this_edition stored.next ≡ Some (standing_in s) = stored.becomes ∙ ap (standing_next (standing_in s)) hand_is in
+          record {
+            content = stored.next;
+            next = content_with_record stored.next r;
+            holding = append-with (disk_of j.disk) j.place j.hand (snapshot (standing_in s)) stored.next (content_with_record stored.next r)
+                (task-appends mid r j.hand starts.hand) (starts.holds stored.next holds);
+            stands = means;
+            becomes = standing-with this_edition stored.next r (standing_in s) (held-within disk_of mid stored.next holds) means;
+            leads = refl;
+          }
+
+      pub renewal-finished : Steps disk_of s (answers Going) (record { journal = j; held = s.held; hand = Appending r })
+      renewal-finished = record {
+        stopped = (λ same. absurd cc, λ is. absurd (let no : true ≡ false = sym is ∙ runs in cc));
+        idle = (λ same. absurd (let no : Going ≡ Idle = cc in cc), λ both. absurd (renewal-busy both.1));
+        names = tt;
+        same = λ which. elim which [
+          | inl stopped ↦ absurd cc
+          | inr idle ↦ absurd (let no : Going ≡ Idle = cc in cc)
+        ];
+        halted = λ same. absurd cc;
+        running = starts.running;
+        standing = λ not. refl;
+        going = λ same. (λ empty. absurd cc, sym (ap (standing_with (standing_in s)) hand_is));
+        finished = λ same. absurd (let no : Going ≡ Finished = cc in cc);
+        slots = ap (λ (p : Place). p.free + 1) starts.place ∙ ap (λ (n : ℕ). n + 1) renewal-room ∙ sym (ap (slots_with s) hand_is);
+        generation = ap (λ (p : Place). p.head.generation) (starts.place ∙ steps.moved refl)
+            ∙ renewal-generation s.journal.place s.journal.hand (snapshot (standing_in s)) renews ∙ sym (ap (generation_with s) hand_is);
+        work = subst (λ (d : Disk). IsWorkOf (disk_in disk_of s) d (answers Going)) same-disk (record { works = steps.work.works; fails = steps.work.fails });
+        one = subst (λ (d : Disk). d.clock ≤ (disk_in disk_of s).clock + 1) same-disk steps.one;
+        call = λ was. subst (λ (d : Disk). d.clock ≡ (disk_in disk_of s).clock + 1) same-disk (steps.call renewal-works);
+        left = λ was.
+            (let less = steps.left renewal-works in let four = starts.left in
+            let calls : calls_left s ≡ left_of s.journal.hand + 4 = ap (calls_with s) hand_is in omega (arith, less, four, calls));
+        any_moment = λ honest stored after follows.
+            subst (λ (d : Disk). Leaves (disk_in disk_of s) d (StandsForEither (standing_in s) after)) same-disk
+            (moments disk_of s runs renewal-busy renewal-works (snapshot (standing_in s)) renewal-lent (answers Finished) mid steps
+            (at_rest (disk_of j.disk) same-disk honest) stored after follows);
+        stored = λ honest stored. renewed-stored honest stored;
+      }
+
+-- ---- by the invariant of a store
+
+not-none : (found : Option Standing) → IsSome found → found ≡ None → ⊥
+not-none None some none = cc
+not-none (Some next) some none = cc
+
+-- what follows from what stands, once it was looked for
+pub must-follow : (fits : Bool) (found : Option Standing) (next : Standing) → IsSome found → (fits ≡ true → found ≡ Some next) → (fits ≡ false → found ≡ None)
+    → found ≡ Some next
+must-follow true found next some follows refused = follows refl
+must-follow false found next some follows refused = absurd (not-none found some (refused refl))
+
+appending-is : (hand : Hand) → IsAppending hand → (r : Record) × (hand ≡ Appending r)
+appending-is Empty is = absurd is
+appending-is (Renewing r) is = absurd is
+appending-is (Appending r) is = (r, refl)
+
+renewing-is : (hand : Hand) → IsRenewing hand → (r : Record) × (hand ≡ Renewing r)
+renewing-is Empty is = absurd is
+renewing-is (Renewing r) is = (r, refl)
+renewing-is (Appending r) is = absurd is
+
+module _ {D : Type 0} (disk_of : D → Disk) (s : StoreValue D) (fits : FitsHand s.journal (standing_in s) s.hand) where
+  -- what the invariant says of a record that is being appended, and of one that waits
+  pub fits-append : (r : Record) → s.hand ≡ Appending r → FitsHand s.journal (standing_in s) (Appending r)
+  fits-append r is = subst (λ (h : Hand). FitsHand s.journal (standing_in s) h) is fits
+
+  pub fits-renewal : (r : Record) → s.hand ≡ Renewing r → FitsHand s.journal (standing_in s) (Renewing r)
+  fits-renewal r is = subst (λ (h : Hand). FitsHand s.journal (standing_in s) h) is fits
+
+  module _ (is : IsAppending s.hand) where
+    the-append : (r : Record) × (s.hand ≡ Appending r)
+    the-append = appending-is s.hand is
+
+    its-append : FitsHand s.journal (standing_in s) (Appending the-append.0)
+    its-append = fits-append the-append.0 the-append.1
+
+    pub append-failed : (at : JournalFault) (j : JournalValue D) → journal.Steps disk_of s.journal [] (refuses at) j
+        → Steps disk_of s (refuses at) (record { journal = j; held = s.held; hand = Empty })
+    append-failed at j steps =
+        let r = the-append.0 in
+        let hand_is = the-append.1 in
+        turn-failed disk_of s its-append.0 (append-busy disk_of s its-append.0 r hand_is its-append.2) (append-works disk_of s its-append.0 r hand_is its-append.2) []
+        (append-lent disk_of s its-append.0 r hand_is its-append.2 []) at j steps
+
+    pub append-on : (step : JournalStep) (j : JournalValue D) → step ≢ Finished → journal.Steps disk_of s.journal [] (answers step) j
+        → Steps disk_of s (answers Going) (record s { journal = j })
+    append-on step j other steps =
+        let r = the-append.0 in
+        let hand_is = the-append.1 in
+        turn-on disk_of s its-append.0 (append-busy disk_of s its-append.0 r hand_is its-append.2) (append-works disk_of s its-append.0 r hand_is its-append.2) []
+        (append-lent disk_of s its-append.0 r hand_is its-append.2 [])
+        (λ j same content next holding.
+        append-with (disk_of j.disk) j.place j.hand (snapshot (standing_in s)) content next (still-appends s.journal.hand j.hand same its-append.2) holding.holds)
+        step j other steps
+
+  module _ (is : IsRenewing s.hand) where
+    the-renewal : (r : Record) × (s.hand ≡ Renewing r)
+    the-renewal = renewing-is s.hand is
+
+    its-renewal : FitsHand s.journal (standing_in s) (Renewing the-renewal.0)
+    its-renewal = fits-renewal the-renewal.0 the-renewal.1
+
+    -- as its journal is lent the records of the snapshot
+    pub renews-now : RenewsWith s.journal.place s.journal.hand (snapshot (standing_in s))
+    renews-now = its-renewal.2
+
+    pub renewal-failed : (at : JournalFault) (j : JournalValue D) → journal.Steps disk_of s.journal (snapshot (standing_in s)) (refuses at) j
+        → Steps disk_of s (refuses at) (record { journal = j; held = s.held; hand = Empty })
+    renewal-failed at j steps =
+        let r = the-renewal.0 in
+        let hand_is = the-renewal.1 in
+        turn-failed disk_of s its-renewal.0 (renewal-busy disk_of s its-renewal.0 r hand_is its-renewal.2) (renewal-works disk_of s its-renewal.0 r hand_is its-renewal.2)
+        (snapshot (standing_in s)) (renewal-lent disk_of s its-renewal.0 r hand_is its-renewal.2) at j steps
+
+    pub renewal-on : (step : JournalStep) (j : JournalValue D) → step ≢ Finished → journal.Steps disk_of s.journal (snapshot (standing_in s)) (answers step) j
+        → Steps disk_of s (answers Going) (record s { journal = j })
+    renewal-on step j other steps =
+        let r = the-renewal.0 in
+        let hand_is = the-renewal.1 in
+        turn-on disk_of s its-renewal.0 (renewal-busy disk_of s its-renewal.0 r hand_is its-renewal.2) (renewal-works disk_of s its-renewal.0 r hand_is its-renewal.2)
+        (snapshot (standing_in s)) (renewal-lent disk_of s its-renewal.0 r hand_is its-renewal.2) (λ j same content next holding. holding) step j other steps

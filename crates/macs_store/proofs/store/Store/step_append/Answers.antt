@@ -1,0 +1,45 @@
+use Rattle.std.proofs.Common.{◌≡◌, ◌∙◌, [], Ok, sym, subst}
+use Rattle.macs_journal.specs.Stepping as journal
+use Rattle.macs_journal.specs.declared.work.JournalStep.{JournalStep}
+use Rattle.macs_journal.specs.declared.work.JournalStep.TheVariants.{Finished}
+use Rattle.macs_store.specs.Stepping.{IsAppending, Steps}
+use Rattle.macs_store.specs.Table.{standing_of}
+use Rattle.macs_store.specs.Value.{FitsHand, StoreValue}
+use Rattle.macs_store.specs.declared.hand.Hand.{Hand}
+use Rattle.macs_store.specs.declared.hand.Hand.TheVariants.{Appending}
+use Rattle.macs_store.proofs.Turns.{append-failed, append-finished, append-on, fits-append, must-follow}
+use Rattle.macs_store.proofs.store.Store.step_append.Given.{Over}
+use Rattle.macs_store.proofs.store.Store.step_append.Goals.{After-step}
+use Rattle.macs_store.proofs.store.Store.step_append.Goals as goal
+
+module _ (g : Over) (c : After-step g) where
+  abbrev old : StoreValue g.row.D.Denot
+  old = record { journal = c.self.inside.journal; held = c.self.inside.standing; hand = c.self.inside.hand }
+
+  fits : FitsHand c.self.inside.journal (standing_of c.self.inside.standing) c.self.inside.hand
+  fits = c.self.invariant
+
+  is : IsAppending c.self.inside.hand
+  is = rw (← c.self.view_is) at c.requires.appending
+
+pub returns-in-Appending : goal.returns-in-Appending
+returns-in-Appending g c =
+    let at = (goal.at.returns-in-Appending g c).After-step in
+    let d = g.D.SectorDisk.disk in
+    let hand_is : c.self.inside.hand ≡ Appending c.in-Appending.value = sym c.replace.ensures.value ∙ c.in-Appending.is in
+    let its = fits-append d (old g at) (fits g at) c.in-Appending.value hand_is in
+    rw (← c.self.view_is)
+    (subst (λ (h : Hand). Steps d (old g at) (Ok Finished) (record { journal = c.step.new.self; held = c.follow.new.self; hand = h })) (sym c.replace.ensures.after)
+    (append-finished d (old g at) its.0 c.in-Appending.value hand_is its.2 [] c.step.new.self c.follow.new.self
+    (must-follow c.follow.result _ (standing_of c.follow.new.self) its.1 c.follow.ensures.fits c.follow.ensures.refused)
+    (subst (λ (step : JournalStep). journal.Steps d c.self.inside.journal [] (Ok step) c.step.new.self) c.in-Finished.is c.in-Ok.ensures)))
+
+pub returns-in_default : goal.returns-in_default
+returns-in_default g c =
+    let at = (goal.at.returns-in_default g c).After-step in
+    rw (← c.self.view_is) (append-on g.D.SectorDisk.disk (old g at) (fits g at) (is g at) c.in-Ok.step c.step.new.self c.in_default.not-Finished c.in-Ok.ensures)
+
+pub returns-in-Err : goal.returns-in-Err
+returns-in-Err g c =
+    let at = (goal.at.returns-in-Err g c).After-step in
+    rw (← c.self.view_is) (append-failed g.D.SectorDisk.disk (old g at) (fits g at) (is g at) c.in-Err.fault c.step.new.self c.in-Err.ensures)

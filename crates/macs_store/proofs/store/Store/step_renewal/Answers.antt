@@ -1,0 +1,64 @@
+use Rattle.std.proofs.Common.{◌≡◌, ◌∙◌, Ok, sym, subst, arith}
+use Rattle.macs_journal.specs.Stepping as journal
+use Rattle.macs_journal.specs.declared.work.JournalStep.{JournalStep}
+use Rattle.macs_journal.specs.declared.work.JournalStep.TheVariants.{Finished}
+use Rattle.macs_store.specs.Snapshot.{snapshot}
+use Rattle.macs_store.specs.Stepping.{IsRenewing}
+use Rattle.macs_store.specs.Table.{standing_of}
+use Rattle.macs_store.specs.Value.{FitsHand, StoreValue}
+use Rattle.macs_store.specs.declared.hand.Hand.TheVariants.{Renewing}
+use Rattle.macs_store.proofs.Turns.{fits-renewal, renewal-failed, renewal-finished, renewal-on, renewal-room}
+use Rattle.macs_store.proofs.store.Store.step_renewal.Given.{Over}
+use Rattle.macs_store.proofs.store.Store.step_renewal.Goals.{After-step_with_snapshot, In-Renewing}
+use Rattle.macs_store.proofs.store.Store.step_renewal.Goals as goal
+
+module _ (g : Over) (c : After-step_with_snapshot g) where
+  abbrev old : StoreValue g.row.D.Denot
+  old = record { journal = c.self.inside.journal; held = c.self.inside.standing; hand = c.self.inside.hand }
+
+  fits : FitsHand c.self.inside.journal (standing_of c.self.inside.standing) c.self.inside.hand
+  fits = c.self.invariant
+
+  is : IsRenewing c.self.inside.hand
+  is = rw (← c.self.view_is) at c.requires.renewing
+
+-- behind the last device call of the compaction
+module _ (g : Over) (c : In-Renewing g) where
+  abbrev was : StoreValue g.row.D.Denot
+  was = record { journal = c.self.inside.journal; held = c.self.inside.standing; hand = c.self.inside.hand }
+
+  hand_is : c.self.inside.hand ≡ Renewing c.in-Renewing.value
+  hand_is = sym c.replace.ensures.value ∙ c.in-Renewing.is
+
+  its : FitsHand c.self.inside.journal (standing_of c.self.inside.standing) (Renewing c.in-Renewing.value)
+  its = fits-renewal g.D.SectorDisk.disk was c.self.invariant c.in-Renewing.value hand_is
+
+  last : journal.Steps g.D.SectorDisk.disk c.self.inside.journal (snapshot (standing_of c.self.inside.standing)) (Ok Finished) c.step_with_snapshot.new.journal
+  last =
+      subst (λ (step : JournalStep). journal.Steps g.D.SectorDisk.disk c.self.inside.journal (snapshot (standing_of c.self.inside.standing)) (Ok step) c.step_with_snapshot.new.journal)
+      c.in-Finished.is c.in-Ok.ensures
+
+pub start_append-requires-clause-room : goal.start_append-requires-clause-room
+start_append-requires-clause-room g c =
+    let at = (goal.at.start_append-requires-clause-room g c).In-Renewing in
+    let used = renewal-room g.D.SectorDisk.disk (was g at) (its g at).0 c.in-Renewing.value (hand_is g at) (its g at).2
+    c.step_with_snapshot.new.journal (last g at) in
+    let few = c.facts.ensures.few in
+    omega (arith, used, few)
+
+pub returns-in-Renewing : goal.returns-in-Renewing
+returns-in-Renewing g c =
+    let at = (goal.at.returns-in-Renewing g c).In-Renewing in
+    rw (← c.self.view_is)
+    (renewal-finished g.D.SectorDisk.disk (was g at) (its g at).0 c.in-Renewing.value (hand_is g at) (its g at).2
+    c.step_with_snapshot.new.journal (last g at) c.start_append.new.self (rw c.unwrap.ensures at c.start_append.ensures))
+
+pub returns-in_default : goal.returns-in_default
+returns-in_default g c =
+    let at = (goal.at.returns-in_default g c).After-step_with_snapshot in
+    rw (← c.self.view_is) (renewal-on g.D.SectorDisk.disk (old g at) (fits g at) (is g at) c.in-Ok.step c.step_with_snapshot.new.journal c.in_default.not-Finished c.in-Ok.ensures)
+
+pub returns-in-Err : goal.returns-in-Err
+returns-in-Err g c =
+    let at = (goal.at.returns-in-Err g c).After-step_with_snapshot in
+    rw (← c.self.view_is) (renewal-failed g.D.SectorDisk.disk (old g at) (fits g at) (is g at) c.in-Err.fault c.step_with_snapshot.new.journal c.in-Err.ensures)

@@ -1,0 +1,221 @@
+//! What a store keeps, one device call at a time.
+
+ghost use Rattle.std.specs.Prelude.{◌≡◌, ◌<◌, ◌≤◌, ◌^◌, if◌then◌else◌, IfSome, IsSome, Ok, Err, true, false};
+ghost use Rattle.macs_config.specs.Numbers.{block_beyond};
+ghost use Rattle.macs_journal.specs.Stepping as journal_steps;
+ghost use Rattle.macs_journal.specs.Stepping.{Renews, RenewsWith};
+ghost use Rattle.macs_journal.specs.Value as journal_value;
+ghost use Rattle.macs_journal.specs.declared.fault.JournalFault.TheVariants.{Stopped};
+ghost use Rattle.macs_journal.specs.declared.work.JournalStep.TheVariants.{Idle};
+ghost use Rattle.macs_store.specs.Replay.{standing_after_record};
+ghost use Rattle.macs_store.specs.Snapshot.{snapshot};
+ghost use Rattle.macs_store.specs.Standing.{standing_with_rx_raised, standing_with_tx_raised};
+ghost use Rattle.macs_store.specs.Stepping.{Finishes, IsAppending, IsRenewing};
+ghost use Rattle.macs_store.specs.Stepping.{Starts, StartsCommit, StartsRecord, Steps};
+ghost use Rattle.macs_store.specs.Table.{standing_of};
+ghost use Rattle.macs_store.specs.Value.{IsIdle, calls_left, is_stopped, standing_in};
+
+use crate::ahead::ahead;
+use crate::fault::CommitFault;
+use crate::hand::Hand;
+use crate::standing::Standing;
+use crate::store::Store;
+use macs_config::Command;
+use macs_disk::SectorDisk;
+use macs_frame::{An, Pn, Sci};
+use macs_journal::{Journal, JournalFault, JournalStep, Records};
+use macs_record::Record;
+use std::mem::replace;
+
+impl<D: SectorDisk> Store<D> {
+    /// Takes a command in hand, and makes no device call. No work is in hand. Refused as `Stopped`, then as
+    /// `Refused` with the first refusal that holds, then as `GenerationsSpent`; these change nothing.
+    pub fn start_commit(&mut self, command: &Command) -> Result<(), CommitFault>
+        requires idle { IsIdle self.old }
+        ensures { StartsCommit D.disk self.old command.now result self.new }
+    {
+        if self.is_stopped() {
+            return Err(CommitFault::Stopped);
+        }
+        if let Err(refusal) = self.standing.check(command) {
+            return Err(CommitFault::Refused(refusal));
+        }
+        let value = Record::command(command).unwrap();
+        match self.start(value) {
+            Ok(()) => Ok(()),
+            Err(_) => Err(CommitFault::GenerationsSpent),
+        }
+    }
+
+    /// Takes in hand that the ceiling of a transmit association is raised by a block, to 2^32 at most, and makes no
+    /// device call. No work is in hand; the association stands, and its ceiling is below 2^32. Refused as `Stopped`,
+    /// then as `GenerationsSpent`; these change nothing.
+    pub fn start_tx(&mut self, an: An) -> Result<(), JournalFault>
+        requires idle { IsIdle self.old }
+        requires raised { IfSome ((standing_in self.old).ceilings.tx an) (λ old. old < 2 ^ 32) }
+        requires stands { IsSome ((standing_in self.old).ceilings.tx an) }
+        ensures { Starts D.disk self.old (standing_with_tx_raised (standing_in self.old) an) result self.new }
+    {
+        let old = self.tx_ceiling(an).unwrap();
+        let ceiling = ahead(old.get(), self.identity().tx_block());
+        self.start(Record::TxCeiling { an, ceiling })
+    }
+
+    /// Takes in hand that the ceiling of a receive association is raised to a block beyond a packet number, to 2^32
+    /// at most, and makes no device call. No work is in hand; the association stands, and its ceiling is below the new
+    /// one. Refused as `start_tx`.
+    pub fn start_rx(&mut self, sci: Sci, an: An, pn: Pn) -> Result<(), JournalFault>
+        requires idle { IsIdle self.old }
+        requires raised { IfSome ((standing_in self.old).ceilings.rx sci an)
+            (λ old. old < block_beyond pn (standing_in self.old).identity.rx_block) }
+        requires stands { IsSome ((standing_in self.old).ceilings.rx sci an) }
+        ensures { Starts D.disk self.old (standing_with_rx_raised (standing_in self.old) sci an pn) result self.new }
+    {
+        let ceiling = ahead(u64::from(pn.get()), self.identity().rx_block());
+        self.start(Record::RxCeiling { sci, an, ceiling })
+    }
+
+    /// Takes a record in hand that follows from what stands. Where all 256 slots are used the journal is to begin anew
+    /// first.
+    fn start(&mut self, value: Record) -> Result<(), JournalFault>
+        requires idle { IsIdle self.old }
+        requires follows { IsSome (standing_after_record (standing_in self.old) value) }
+        ensures { StartsRecord D.disk self.old value result self.new }
+    {
+        if self.journal.is_full() {
+            self.standing.facts();
+            start_renewal(&mut self.journal, &self.standing)?;
+            self.hand = Hand::Renewing(value);
+        } else {
+            self.journal.start_append(&value)?;
+            self.hand = Hand::Appending(value);
+        }
+        Ok(())
+    }
+
+    /// Makes the next device call of the work in hand, and none where no work is in hand. Configuration and ceilings
+    /// change where it answers `Finished` and at no other time. A record that waits for a compaction is begun by the
+    /// step behind it. Refused as `Stopped`, and as `Disk` where the call fails: then no work is in hand, what stands is
+    /// as it was, and a power loss leaves it with the work or without.
+    pub fn step(&mut self) -> Result<JournalStep, JournalFault>
+        ensures { Steps D.disk self.old result self.new }
+    {
+        match &self.hand {
+            Hand::Empty => self.rest(),
+            Hand::Renewing(_) => self.step_renewal(),
+            Hand::Appending(_) => self.step_append(),
+        }
+    }
+
+    /// Makes the device calls of the work in hand up to its end, and none where no work is in hand. Refused as `step`.
+    pub fn finish(&mut self) -> Result<(), JournalFault>
+        ensures { Finishes D.disk self.old result self.new }
+    {
+        if self.is_stopped() {
+            return Err(JournalFault::Stopped);
+        }
+        while self.is_busy() {
+            self.step()?;
+        }
+        Ok(())
+    }
+
+    /// Whether work is in hand.
+    fn is_busy(&self) -> bool
+        ensures idle { result ≡ false → IsIdle self.now }
+        ensures busy { result ≡ true → ¬ IsIdle self.now }
+        ensures some { result ≡ true → 1 ≤ calls_left self.now }
+    {
+        match &self.hand {
+            Hand::Empty => false,
+            Hand::Renewing(_) => true,
+            Hand::Appending(_) => true,
+        }
+    }
+
+    /// What a step answers where no work is in hand.
+    fn rest(&self) -> Result<JournalStep, JournalFault>
+        ensures { result ≡ (if is_stopped self.now then Err Stopped else Ok Idle) }
+    {
+        if self.is_stopped() {
+            return Err(JournalFault::Stopped);
+        }
+        Ok(JournalStep::Idle)
+    }
+
+    /// The next device call of a journal that begins anew. Behind the last one the record is in hand.
+    fn step_renewal(&mut self) -> Result<JournalStep, JournalFault>
+        requires renewing { IsRenewing self.old.hand }
+        ensures { Steps D.disk self.old result self.new }
+    {
+        self.standing.facts();
+        match step_with_snapshot(&mut self.journal, &self.standing) {
+            Ok(step) => match step {
+                JournalStep::Finished => {
+                    if let Hand::Renewing(value) = replace(&mut self.hand, Hand::Empty) {
+                        self.journal.start_append(&value).unwrap();
+                        self.hand = Hand::Appending(value);
+                    }
+                    Ok(JournalStep::Going)
+                }
+                _ => Ok(JournalStep::Going),
+            },
+            Err(fault) => {
+                self.hand = Hand::Empty; // The next opening finds what stands.
+                Err(fault)
+            }
+        }
+    }
+
+    /// The next device call of an append. Behind the last one what stands is what the record makes of it.
+    fn step_append(&mut self) -> Result<JournalStep, JournalFault>
+        requires appending { IsAppending self.old.hand }
+        ensures { Steps D.disk self.old result self.new }
+    {
+        match self.journal.step(&[]) {
+            Ok(step) => match step {
+                JournalStep::Finished => {
+                    if let Hand::Appending(value) = replace(&mut self.hand, Hand::Empty) {
+                        self.standing.follow(&value);
+                    }
+                    Ok(JournalStep::Finished)
+                }
+                _ => Ok(JournalStep::Going), // What stands is as it was.
+            },
+            Err(fault) => {
+                self.hand = Hand::Empty; // The next opening finds the record or not.
+                Err(fault)
+            }
+        }
+    }
+}
+
+/// Takes in hand that the journal begins anew with a snapshot of what stands.
+#[inline(never)] // The records of a snapshot take 127 KB, which no other frame is to hold.
+fn start_renewal<D: SectorDisk>(
+    journal: &mut Journal<D>,
+    standing: &Standing,
+) -> Result<(), JournalFault>
+    requires idle { journal_value.IsIdle journal.old }
+    ensures { journal_steps.Starts D.disk journal.old (Renews (snapshot (standing_of standing.now))) result journal.new }
+{
+    let mut records = Records::new();
+    standing.snapshot(&mut records);
+    standing.facts();
+    journal.start_compact(records.as_slice())
+}
+
+/// The next device call of a journal that begins anew with a snapshot of what stands.
+#[inline(never)] // As above.
+fn step_with_snapshot<D: SectorDisk>(
+    journal: &mut Journal<D>,
+    standing: &Standing,
+) -> Result<JournalStep, JournalFault>
+    requires renews { RenewsWith journal.old.place journal.old.hand (snapshot (standing_of standing.now)) }
+    ensures { journal_steps.Steps D.disk journal.old (snapshot (standing_of standing.now)) result journal.new }
+{
+    let mut records = Records::new();
+    standing.snapshot(&mut records);
+    standing.facts();
+    journal.step(records.as_slice())
+}
