@@ -2,7 +2,7 @@ use Rattle.std.proofs.Common.{◌≡◌, ◌∙◌, false, Some, Err, IsOk, refl
 use Rattle.macs_record.specs.Commands.{record_of}
 use Rattle.macs_store.specs.Standing.{accept}
 use Rattle.macs_store.specs.Value.{StoreValue, is_stopped, standing_in}
-use Rattle.macs_store.proofs.StartedCommands.{accepted-record_follows, commit-refused, commit-started, commit-stopped}
+use Rattle.macs_store.proofs.StartedCommands.{accepted-record_follows, commit-refused, commit-spent, commit-started, commit-stopped}
 use Rattle.macs_store.proofs.store.Store.start_commit.Given.{Over}
 use Rattle.macs_store.proofs.store.Store.start_commit.Goals.{After-unwrap-value}
 use Rattle.macs_store.proofs.store.Store.start_commit.Goals as goal
@@ -35,3 +35,9 @@ pub returns-in-Ok : goal.returns-in-Ok
 returns-in-Ok g c =
     let at = (goal.at.returns-in-Ok g c).After-unwrap-value in
     commit-started g.D.SectorDisk.disk c.args.self.now c.args.command.now c.unwrap-value.result c.start.new.self (has g at) (fits g at) (running g at) c.in-Ok.ensures
+
+pub returns-in-Err-start : goal.returns-in-Err-start
+returns-in-Err-start g c =
+    let at = (goal.at.returns-in-Err-start g c).After-unwrap-value in
+    commit-spent g.D.SectorDisk.disk c.args.self.now c.args.command.now c.unwrap-value.result c.start.new.self (has g at) (fits g at) (running g at)
+    c.in-Err-start.field-0 c.in-Err-start.ensures
