@@ -8,6 +8,7 @@ use Rattle.macs_journal.specs.Value.{HoldsWith, IsHolding}
 use Rattle.macs_journal.specs.declared.hand.Hand.TheVariants.{Compact, Empty}
 use Rattle.macs_journal.specs.declared.place.Place.{Place}
 use Rattle.macs_journal.proofs.Anew.{anew-done, anew-last, anew-leaves, anew-left, anew-lent, anew-made, anew-next, anew-place, anew-task, lent-count}
+use Rattle.macs_journal.proofs.Working.{called}
 use Rattle.macs_journal.proofs.journal.Journal.step_compact.Given.{Over}
 use Rattle.macs_journal.proofs.journal.Journal.step_compact.Goals.{After-perform}
 use Rattle.macs_journal.proofs.journal.Journal.step_compact.Goals as goal
@@ -25,7 +26,7 @@ pub returns-in-Ok-Some : goal.returns-in-Ok-Some
 returns-in-Ok-Some g c = record {
   names = tt;
   work = search rules;
-  device = search rules;
+  device = rw (← c.self.view_is) (called _ _ _ _ refl c.in-Ok-Some.ensures.call);
   after = search rules;
   one = search rules;
   call = search rules;
@@ -55,7 +56,7 @@ pub returns-in-Ok-None : goal.returns-in-Ok-None
 returns-in-Ok-None g c = record {
   names = tt;
   work = search rules;
-  device = search rules;
+  device = rw (← c.self.view_is) (called _ _ _ _ refl c.in-Ok-None.ensures.call);
   after = search rules;
   one = search rules;
   call = search rules;
@@ -82,7 +83,7 @@ pub returns-in-Err : goal.returns-in-Err
 returns-in-Err g c = record {
   names = search rules;
   work = search rules;
-  device = search rules;
+  device = rw (← c.self.view_is) (called _ _ _ _ refl c.in-Err.ensures.call);
   after = search rules;
   one = search rules;
   call = tt;
