@@ -75,7 +75,7 @@ pub record AreWithin (tx : Tx) (rx : rxsc.RxValue) (identity : Identity) : Type 
       → IsRxWithin identity.rx_block ((rxsc.rx_side_of rx).numbers sci an) (rxsc.ceilings_of rx sci an)
   pub few : (sci : List ℕ) (an : ℕ) → 4 ≤ an → (rxsc.rx_side_of rx).numbers sci an ≡ None
 
--- and between calls no work is in hand; a command is where a device call cut its work short
+-- and between calls the store has no work in hand; a command is in hand only where a device call failed while it was kept
 pub record IsSoundEndpoint {D : Type 0} (e : EndpointValue D) : Type 0 where
   pub identity : IsIdentity (standing_in e.store).identity
   pub channels : AreChannels e.tx e.rx (standing_in e.store)

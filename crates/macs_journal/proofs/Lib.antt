@@ -1,5 +1,5 @@
 pub mod Items
-mod Working
+pub mod Working
 pub mod Counting
 pub mod Current
 pub mod Findings

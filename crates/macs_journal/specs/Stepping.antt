@@ -29,7 +29,7 @@ pub data Task : Type 0 where
   Appends : Record → Task
   Renews : List Record → Task
 
--- what a work asks for
+-- what the work asks for
 abbrev pub task_of : Work → Task
 task_of (Append r) = Appends r
 task_of (Compact records) = Renews records.items
@@ -44,12 +44,12 @@ abbrev pub FitsWork : Place → Work → Type 0
 FitsWork place (Append r) = place.free < slots
 FitsWork place (Compact records) = 1 ≤ length records.items
 
--- the journal cannot begin anew
+-- the journal is to begin anew, and its generation is the last
 abbrev pub IsSpent : {D : Type 0} → JournalValue D → Task → Type 0
 IsSpent j (Appends r) = ⊥
 IsSpent j (Renews records) = generation j ≡ last_generation
 
--- what it takes in hand: the sector of the record, with its first device call; or the head of the next generation, with that of a compaction
+-- what it takes in hand: the sector of the record, or the head of the next generation; which call comes first is said by how many are left
 abbrev pub IsTaskInHand : {D : Type 0} → JournalValue D → Task → Hand → Type 0
 IsTaskInHand j task hand.Empty = ⊥
 IsTaskInHand j (Appends r) (hand.Append work) = IsSectorOf r work.sector
@@ -158,7 +158,7 @@ pub record Steps {D : Type 0} (disk_of : D → disk.Disk) (old : JournalValue D)
   pub device : is_stopped old ≡ false → (¬ IsIdle old) → IsDeviceCall (disk_in disk_of old) (disk_in disk_of new) result
   pub one : (disk_in disk_of new).clock ≤ (disk_in disk_of old).clock + 1
   pub call : OnOk result ((¬ IsIdle old) → (disk_in disk_of new).clock ≡ (disk_in disk_of old).clock + 1)
-  -- how many are left: one less for an append
+  -- fewer are left, and exactly one less of an append
   pub left : OnOk result ((¬ IsIdle old) → left_of new.hand + 1 ≤ left_of old.hand)
   pub exact : OnOk result ((¬ IsIdle old) → IsNoCompact old.hand → left_of new.hand + 1 ≡ left_of old.hand)
   -- the content before the work or after it at any moment, and the one after it once it is finished

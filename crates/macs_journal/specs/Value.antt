@@ -54,7 +54,7 @@ pub record IsAt (place : Place) (c : Content) : Type 0 where
   pub head : c.head ≡ place.head
   pub free : length c.records ≡ place.free
 
--- The journal began anew at a disk with the content `before`, with some records, and its calls went on to here.
+-- At the disk `began`, with the content `before`, the journal started to begin anew with these records, and its calls led to this disk.
 pub record IsCompacting (d : Disk) (work : Compacting) (before after : Content) : Type 0 where
   pub began : Disk
   pub records : List Record

@@ -8,6 +8,7 @@ ghost use Rattle.macs_journal.specs.Areas.{gates, least_sectors, other_area, slo
 ghost use Rattle.macs_journal.specs.Compacting.{CompactWrites, Compacts, FindsUntil, HasOpenGates, compacted, last_generation, next_head};
 ghost use Rattle.macs_journal.specs.Found.{Content};
 ghost use Rattle.macs_journal.specs.Rewriting.{HasNewGates};
+ghost use Rattle.macs_journal.specs.Value.{IsIdle};
 ghost use Rattle.macs_journal.specs.Work.{IsSpared};
 
 use crate::area::Area;
@@ -26,8 +27,9 @@ impl<D: SectorDisk> Journal<D> {
     /// records and of a head of the next generation are written and made durable; the head gate is
     /// opened and made durable. Refused as `Stopped`, and as `GenerationsSpent`, where nothing is
     /// changed; as `Disk` at the first call that fails: then a power loss leaves the journal with the
-    /// records of before or with these, and no work is in hand.
+    /// records of before or with these. No work is in hand, before or after.
     pub fn compact(&mut self, records: &[Record]) -> Result<(), JournalFault>
+        requires idle { IsIdle self.old }
         requires some { (1 ≤ length records.now) × (length records.now ≤ slots) }
         ensures { Compacts D.disk self.old records.now result self.new }
     {

@@ -94,10 +94,11 @@ impl<D: SectorDisk> Journal<D> {
     }
 
     /// Appends a record in four calls of the disk: it is written into the body of the first free slot,
-    /// made durable, the slot's gate opened and made durable. The area is not full. Refused as
+    /// made durable, the slot's gate opened and made durable. No work is in hand, and the area is not full. Refused as
     /// `Stopped`, and as `Disk` at the first call that fails; then a power loss leaves the journal
     /// with the record or without it, and no work is in hand.
     pub fn append(&mut self, value: &Record) -> Result<(), JournalFault>
+        requires idle { IsIdle self.old }
         requires room { used_slots self.old < slots }
         ensures stopped { IsErrOf result Stopped ↔ (is_stopped self.old ≡ true) }
         ensures same { is_stopped self.old ≡ true → self.new ≡ self.old }
@@ -133,7 +134,7 @@ impl<D: SectorDisk> Journal<D> {
         self.finish()
     }
 
-    /// Goes on until nothing is in hand.
+    /// Makes the calls of the append in hand up to its end.
     fn finish(&mut self) -> Result<(), JournalFault>
         requires no_compact { IsNoCompact self.old.hand }
         requires running { is_stopped self.old ≡ false }
@@ -164,7 +165,7 @@ impl<D: SectorDisk> Journal<D> {
         Ok(())
     }
 
-    /// Whether work is in hand.
+    /// Whether an append is in hand.
     fn is_busy(&self) -> bool
         requires no_compact { IsNoCompact self.now.hand }
         ensures busy { IsTrue result ↔ (1 ≤ append_left self.now.hand) }

@@ -22,10 +22,10 @@ use macs_record::laws::record_in_range;
 use macs_record::{Record, encode};
 
 impl<D: SectorDisk> Journal<D> {
-    /// Takes work in hand, and makes no call of the disk. No work is in hand; for an append the area is not full, and
-    /// a journal begins anew with 1 to 256 records, which stay with the caller: their number alone is read. Refused as
-    /// `Stopped`, and as `GenerationsSpent` where the journal is to begin anew and its generation is the last; nothing
-    /// changes then.
+    /// Takes work in hand, and makes no call of the disk. None is in hand before; for an append the area is not full,
+    /// and a journal begins anew with 1 to 256 records. These stay with the caller: their number alone is read. Refused
+    /// as `Stopped` where a device call failed before, then as `GenerationsSpent` where the journal is to begin anew and
+    /// its generation is 2^64 - 1; nothing changes then.
     pub fn start(&mut self, work: &Work) -> Result<(), JournalFault>
         requires idle { IsIdle self.old }
         requires fits { FitsWork self.old.place work.now }
@@ -37,7 +37,7 @@ impl<D: SectorDisk> Journal<D> {
         }
     }
 
-    /// Takes a record in hand that is to be appended, as `start` does.
+    /// Takes in hand that this record is appended: `start` for a record that is lent. Refused as `Stopped` alone.
     pub fn start_append(&mut self, value: &Record) -> Result<(), JournalFault>
         requires idle { IsIdle self.old }
         requires room { used_slots self.old < slots }
@@ -54,7 +54,8 @@ impl<D: SectorDisk> Journal<D> {
         Ok(())
     }
 
-    /// Takes in hand that the journal begins anew with these records, 1 to 256, as `start` does.
+    /// Takes in hand that the journal begins anew with these records, 1 to 256: `start` for records that are lent, with
+    /// its refusals.
     pub fn start_compact(&mut self, records: &[Record]) -> Result<(), JournalFault>
         requires idle { IsIdle self.old }
         requires some { (1 ≤ length records.now) × (length records.now ≤ slots) }
@@ -87,10 +88,10 @@ impl<D: SectorDisk> Journal<D> {
     }
 
     /// Makes the next call of the disk of the work in hand, and none where no work is in hand. Where the journal begins
-    /// anew, `snapshot` has as many records as it was started with, 1 to 256; what is promised of the content is promised
-    /// where they are the same records at each step. For other work it is not read. Refused as `Stopped`, and as `Disk`
-    /// where the call fails: then a power loss leaves the journal as before the work or as after it, and no work is in
-    /// hand.
+    /// anew, `snapshot` has as many records as it was started with (`may_lend`). They are to be the same records at each
+    /// step: else nothing is promised of what stands on the disk. For other work `snapshot` is not read. Refused as
+    /// `Stopped` where a device call failed before, and as `Disk` where this one fails: then a power loss leaves the
+    /// journal as before the work or as after it, and no work is in hand.
     pub fn step(&mut self, snapshot: &[Record]) -> Result<JournalStep, JournalFault>
         requires lent { AreLent self.old.hand snapshot.now }
         ensures { Steps D.disk self.old snapshot.now result self.new }

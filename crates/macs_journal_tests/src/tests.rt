@@ -150,6 +150,7 @@ fn append<D: SectorDisk>(
     journal: &mut Journal<D>,
     window: u32,
 ) -> Result<(), JournalFault> {
+    assert!(rt; journal.is_idle());
     assert!(rt; !journal.is_full());
     journal.append(&record(Item::Window(window)))
 }
@@ -220,6 +221,7 @@ fn compact<D: SectorDisk>(
         records.push(record(*item));
     }
     assert!(rt; !records.is_empty());
+    assert!(rt; journal.is_idle());
     journal.compact(records.as_slice())
 }
 

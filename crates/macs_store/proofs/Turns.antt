@@ -2,14 +2,14 @@
 use Rattle.std.proofs.Common.{◌≡◌, ◌≢◌, ◌≤◌, ◌+◌, ◌∙◌, ℕ, true, false, if◌then◌else◌, Bool, List, [], length, Option, Some, None, Result, Ok, Err, inl, inr, refl, ap, sym, subst, arith}
 use Rattle.std.specs.Option.{IsSome}
 use Rattle.macs_config.specs.Config.{this_edition}
-use Rattle.macs_disk.specs.Disk.{Disk, IsHonest}
+use Rattle.macs_disk.specs.Disk.{Disk, IsDeviceCall, IsHonest}
 use Rattle.macs_disk.specs.Runs.{Leaves}
 use Rattle.macs_disk.proofs.Moments.{Leaves-start, Leaves-weaker, Works-start}
 use Rattle.macs_journal.specs.Appending.{HasEitherJournal}
 use Rattle.macs_journal.specs.Found.{Content, content_with_record}
 use Rattle.macs_journal.specs.Stepping as journal
 use Rattle.macs_journal.specs.Stepping.{Appends, IsAppendHand, IsSameTask, RenewsWith, place_then}
-use Rattle.macs_journal.specs.Value.{HoldsWith, IsHolding, IsMadeOf, JournalValue, left_of}
+use Rattle.macs_journal.specs.Value.{HoldsWith, IsHolding, IsMadeOf, IsNoCompact, JournalValue, left_of}
 use Rattle.macs_journal.specs.Value as journal_value
 use Rattle.macs_journal.specs.Work.{IsWorkOf}
 use Rattle.macs_journal.specs.declared.fault.JournalFault.{JournalFault}
@@ -20,6 +20,7 @@ use Rattle.macs_journal.specs.declared.place.Place.{Place}
 use Rattle.macs_journal.specs.declared.work.JournalStep.{JournalStep}
 use Rattle.macs_journal.specs.declared.work.JournalStep.TheVariants.{Finished, Going, Idle}
 use Rattle.macs_journal.proofs.Tasks.{append-with, still-appends}
+use Rattle.macs_journal.proofs.Working.{called}
 use Rattle.macs_record.specs.declared.record.Record.{Record}
 use Rattle.macs_store.specs.Found.{StandsForEither}
 use Rattle.macs_store.specs.Replay.{meaning_of, standing_after_record}
@@ -61,9 +62,11 @@ module _ {D : Type 0} (disk_of : D → Disk) (s : StoreValue D) where
     slots = tt;
     generation = tt;
     work = record { works = Works-start (disk_in disk_of s); fails = refl };
+    device = λ runs busy. absurd (let no : true ≡ false = sym is ∙ runs in cc);
     one = omega arith;
     call = tt;
     left = tt;
+    last = λ same. absurd cc;
     any_moment = λ honest stored after follows. nothing-new stored after follows;
     stored = tt;
   }
@@ -82,9 +85,11 @@ module _ {D : Type 0} (disk_of : D → Disk) (s : StoreValue D) where
     slots = refl;
     generation = refl;
     work = record { works = Works-start (disk_in disk_of s); fails = refl };
+    device = λ runs busy. absurd (busy idle);
     one = omega arith;
     call = λ busy. absurd (busy idle);
     left = λ busy. absurd (busy idle);
+    last = λ same. absurd (let no : Idle ≡ Finished = cc in cc);
     any_moment = λ honest stored after follows. nothing-new stored after follows;
     stored = λ honest stored. stored;
   }
@@ -152,9 +157,11 @@ module _ {D : Type 0} (disk_of : D → Disk) (s : StoreValue D) (runs : is_stopp
     slots = tt;
     generation = tt;
     work = steps.work;
+    device = λ was still. steps.device runs at_work;
     one = steps.one;
     call = tt;
     left = tt;
+    last = λ same. absurd cc;
     any_moment = λ honest stored after follows. moments (refuses at) j steps honest stored after follows;
     stored = tt;
   }
@@ -183,9 +190,11 @@ module _ {D : Type 0} (disk_of : D → Disk) (s : StoreValue D) (runs : is_stopp
           slots = slots-kept s (record s { journal = j }) s.hand place refl;
           generation = generation-kept s (record s { journal = j }) s.hand place;
           work = record { works = steps.work.works; fails = steps.work.fails };
+          device = λ was still. steps.device runs at_work;
           one = steps.one;
           call = λ was. steps.call at_work;
           left = λ was. calls-fewer s (record s { journal = j }) s.hand busy (steps.left at_work);
+          last = λ same. absurd (let no : Going ≡ Finished = cc in cc);
           any_moment = λ honest stored after follows. moments (answers Going) j steps honest stored after follows;
           stored = λ honest stored. record {
             content = stored.content;
@@ -220,6 +229,11 @@ module _ {D : Type 0} (disk_of : D → Disk) (s : StoreValue D) (runs : is_stopp
       → HoldsWith (disk_in disk_of s) s.journal.place s.journal.hand records content next
   append-lent records content next holding = append-with (disk_in disk_of s) s.journal.place s.journal.hand records content next appends holding.holds
 
+  append-alone : (hand : journal_hand.Hand) → IsAppendHand hand → IsNoCompact hand
+  append-alone journal_work.Empty is = absurd is
+  append-alone (journal_work.Append work) is = tt
+  append-alone (journal_work.Compact work) is = absurd is
+
   -- one slot more is used
   append-place : (place : Place) (hand : journal_hand.Hand) → IsAppendHand hand → place_then place hand ≡ record place { free = place.free + 1 }
   append-place place journal_work.Empty is = absurd is
@@ -247,9 +261,12 @@ module _ {D : Type 0} (disk_of : D → Disk) (s : StoreValue D) (runs : is_stopp
         slots = ap (λ (p : Place). p.free) place ∙ sym (ap (slots_with s) hand_is);
         generation = ap (λ (p : Place). p.head.generation) place ∙ sym (ap (generation_with s) hand_is);
         work = record { works = steps.work.works; fails = steps.work.fails };
+        device = λ was still. steps.device runs append-works;
         one = steps.one;
         call = λ was. steps.call append-works;
         left = λ was. (let less = steps.left append-works in let calls : calls_left s ≡ left_of s.journal.hand = ap (calls_with s) hand_is in omega (arith, less, calls));
+        last = λ same. (let exact = steps.exact append-works (append-alone s.journal.hand appends) in let none = ap left_of (steps.finished refl) in
+            let calls : calls_left s ≡ left_of s.journal.hand = ap (calls_with s) hand_is in omega (arith, exact, none, calls));
         any_moment = λ honest stored after follows.
             moments disk_of s runs append-busy append-works records (append-lent records) (answers Finished) j steps honest stored after follows;
         stored = λ honest stored.
@@ -337,11 +354,14 @@ module _ {D : Type 0} (disk_of : D → Disk) (s : StoreValue D) (runs : is_stopp
         generation = ap (λ (p : Place). p.head.generation) (starts.place ∙ steps.moved refl)
             ∙ renewal-generation s.journal.place s.journal.hand (snapshot (standing_in s)) renews ∙ sym (ap (generation_with s) hand_is);
         work = subst (λ (d : Disk). IsWorkOf (disk_in disk_of s) d (answers Going)) same-disk (record { works = steps.work.works; fails = steps.work.fails });
+        device = λ was still. subst (λ (d : Disk). IsDeviceCall (disk_in disk_of s) d (answers Going)) same-disk
+            (called (disk_in disk_of s) (disk_of mid.disk) (answers Finished) (answers Going) refl (steps.device runs renewal-works));
         one = subst (λ (d : Disk). d.clock ≤ (disk_in disk_of s).clock + 1) same-disk steps.one;
         call = λ was. subst (λ (d : Disk). d.clock ≡ (disk_in disk_of s).clock + 1) same-disk (steps.call renewal-works);
         left = λ was.
             (let less = steps.left renewal-works in let four = starts.left in
             let calls : calls_left s ≡ left_of s.journal.hand + 4 = ap (calls_with s) hand_is in omega (arith, less, four, calls));
+        last = λ same. absurd (let no : Going ≡ Finished = cc in cc);
         any_moment = λ honest stored after follows.
             subst (λ (d : Disk). Leaves (disk_in disk_of s) d (StandsForEither (standing_in s) after)) same-disk
             (moments disk_of s runs renewal-busy renewal-works (snapshot (standing_in s)) renewal-lent (answers Finished) mid steps

@@ -2,7 +2,7 @@
 use Rattle.std.specs.Prelude.{◌≡◌, ◌≤◌, ◌+◌, ◌↔◌, ◌⊎◌, true, false, Some, Result, Ok, Err, IsOk, OnOk, OnErr, IsErrOf}
 use Rattle.macs_config.specs.declared.command.Command.{Command}
 use Rattle.macs_config.specs.declared.refusal.Refusal.{Refusal}
-use Rattle.macs_disk.specs.Disk.{IsHonest, MayLeave}
+use Rattle.macs_disk.specs.Disk.{IsDeviceCall, IsHonest, MayLeave}
 use Rattle.macs_disk.specs.Disk as disk
 use Rattle.macs_disk.specs.Runs.{Leaves}
 use Rattle.macs_journal.specs.Work.{IsWorkOf}
@@ -94,9 +94,11 @@ pub record Steps {D : Type 0} (disk_of : D → disk.Disk) (old : StoreValue D) (
   pub generation : OnOk result (generation_then new ≡ generation_then old)
   -- its device calls
   pub work : IsWorkOf (disk_in disk_of old) (disk_in disk_of new) result
+  pub device : is_stopped old ≡ false → (¬ IsIdle old) → IsDeviceCall (disk_in disk_of old) (disk_in disk_of new) result
   pub one : (disk_in disk_of new).clock ≤ (disk_in disk_of old).clock + 1
   pub call : OnOk result ((¬ IsIdle old) → (disk_in disk_of new).clock ≡ (disk_in disk_of old).clock + 1)
   pub left : OnOk result ((¬ IsIdle old) → calls_left new + 1 ≤ calls_left old)
+  pub last : result ≡ Ok Finished → calls_left old ≡ 1
   -- what a power loss leaves
   pub any_moment : IsHonest (disk_in disk_of new) → IsStored disk_of old → (after : Standing) → standing_then old ≡ Some after
       → Leaves (disk_in disk_of old) (disk_in disk_of new) (StandsForEither (standing_in old) after)

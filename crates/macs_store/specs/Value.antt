@@ -63,7 +63,7 @@ standing_with standing (Appending r) = standing_after_record standing r
 abbrev pub standing_then : {D : Type 0} → StoreValue D → Option Standing
 standing_then s = standing_with (standing_in s) s.hand
 
--- how many slots are used then
+-- how many slots are used once the work in hand is done
 abbrev pub slots_with : {D : Type 0} → StoreValue D → Hand → ℕ
 slots_with s Empty = used_slots s
 slots_with s (Renewing r) = snapshot_length s + 1
@@ -83,7 +83,7 @@ generation_with s (Appending r) = generation s
 abbrev pub generation_then : {D : Type 0} → StoreValue D → ℕ
 generation_then s = generation_with s s.hand
 
--- how many device calls it takes yet, at most
+-- how many device calls are still to come, at most
 abbrev pub calls_with : {D : Type 0} → StoreValue D → Hand → ℕ
 calls_with s Empty = 0
 calls_with s (Renewing r) = left_of s.journal.hand + 4

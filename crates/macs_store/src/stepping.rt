@@ -28,8 +28,9 @@ use macs_record::Record;
 use std::mem::replace;
 
 impl<D: SectorDisk> Store<D> {
-    /// Takes a command in hand, and makes no device call. No work is in hand. Refused as `Stopped`, then as
-    /// `Refused` with the first refusal that holds, then as `GenerationsSpent`; these change nothing.
+    /// Takes a command in hand, and makes no device call. No work is in hand before. Refused as `Stopped` where a device
+    /// call failed before, then as `Refused` with the first refusal that holds, then as `GenerationsSpent` where all 256
+    /// slots are used and the generation is 2^64 - 1; never as `Disk`. A refusal changes nothing.
     pub fn start_commit(&mut self, command: &Command) -> Result<(), CommitFault>
         requires idle { IsIdle self.old }
         ensures { StartsCommit D.disk self.old command.now result self.new }
@@ -48,8 +49,9 @@ impl<D: SectorDisk> Store<D> {
     }
 
     /// Takes in hand that the ceiling of a transmit association is raised by a block, to 2^32 at most, and makes no
-    /// device call. No work is in hand; the association stands, and its ceiling is below 2^32. Refused as `Stopped`,
-    /// then as `GenerationsSpent`; these change nothing.
+    /// device call. No work is in hand before; the association stands, and its ceiling is below 2^32. Refused as
+    /// `Stopped` where a device call failed before, then as `GenerationsSpent` where all 256 slots are used and the
+    /// generation is 2^64 - 1; these change nothing.
     pub fn start_tx(&mut self, an: An) -> Result<(), JournalFault>
         requires idle { IsIdle self.old }
         requires raised { IfSome ((standing_in self.old).ceilings.tx an) (λ old. old < 2 ^ 32) }

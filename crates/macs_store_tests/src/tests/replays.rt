@@ -23,6 +23,7 @@ fn recovered(rt: &impl Abort, disk: MemDisk) -> Journal<MemDisk> {
 }
 
 fn append(rt: &impl Abort, journal: &mut Journal<MemDisk>, value: &Record) {
+    assert!(rt; journal.is_idle());
     assert!(rt; !journal.is_full());
     assert!(rt; journal.append(value).is_ok());
 }
