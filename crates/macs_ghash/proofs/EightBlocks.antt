@@ -1,7 +1,7 @@
 -- Eight blocks taken in are eight products, and those are joined from products of words.
 use Rattle.std.proofs.Common.{◌≡◌, ℕ, zero, suc, ◌+◌, ◌-◌, ◌*◌, ◌/◌, ◌%◌, ◌^◌, ◌<◌, ◌∙◌, List, [], ◌∷◌, get_or, length, bit_and, bit_xor, ap, ap₂, sym, refl, arith}
 use Rattle.std.proofs.lemmas.List.FromFn.{fill_by_all}
-use lib.Bits.{xor_assoc, xor_zero_r}
+use lib.Bits.{xor_assoc, xor_zero_l, xor_zero_r}
 use Rattle.macs_gf.specs.Gf128.{block_product}
 use Rattle.macs_gf.specs.Ghash.{absorb, ghash, ghash_from, subkey_power}
 use Rattle.macs_gf.proofs.BlockField.{below-lt, one, product-assoc, product-comm, product-one}
@@ -12,7 +12,7 @@ use Rattle.macs_gf.specs.Gf128.{times_power}
 use Rattle.macs_gf.proofs.Xor.{xor_middle}
 use Rattle.macs_gf.proofs.BlockField.{times_power-xor}
 use Rattle.std.specs.Simd.Lanes.{zip2}
-use Rattle.macs_ghash.specs.Lanes.{AreLanes, AreMasks, joined, joined_at, shifted_sum, sum_of, total}
+use Rattle.macs_ghash.specs.Lanes.{AreLanes, AreMasks, bits_total, joined, joined_at, shifted_sum, sum_of, total}
 use Rattle.macs_ghash.proofs.Totals.{sum-same, words-xor}
 use Rattle.macs_ghash.proofs.Shifted.{product-joined, shifted-product, shifted-same, shifted-sum_of}
 use Rattle.macs_ghash.proofs.LaneMasks.{total-chosen}
@@ -72,6 +72,15 @@ pub eight_back : (xs : List ℕ) → length xs ≡ 8
 eight_back xs len = sym (fill_by_all (λ k. get_or xs k 0) xs 8 0 len (λ k h. refl))
 
 -- ---- the products of eight lanes
+
+-- the sums of the words that bits choose, shifted, are the products of words
+pub bits_products : (numbers words : List ℕ) → AreLanes numbers → AreLanes words
+    → shifted_sum (bits_total numbers words) 64 ≡ sum_of (λ l. block_product (get_or numbers l 0 * 2 ^ 64) (get_or words l 0 * 2 ^ 64)) 8
+bits_products numbers words n w =
+    let f : ℕ → ℕ → ℕ = λ (l : ℕ) (j : ℕ). bit_at (get_or numbers l 0) j * get_or words l 0 in
+    shifted-sum_of f 8 64
+    ∙ sum-same (λ l. shifted_sum (f l) 64) (λ l. block_product (get_or numbers l 0 * 2 ^ 64) (get_or words l 0 * 2 ^ 64)) 8 (omega arith)
+    (λ l h. shifted-product (get_or numbers l 0) (get_or words l 0) (n.small l h) (w.small l h))
 
 -- the sums of words, shifted, are the products of words
 pub words_products : (numbers : List ℕ) (masks : List (List ℕ)) (words : List ℕ) → AreLanes numbers → AreMasks numbers masks 64 → AreLanes words
@@ -136,3 +145,29 @@ lanes_joined ah al dh dl mh ml mb a b d e m n o =
     ∙ product-joined (get_or ah l 0) (get_or al l 0) (get_or dh l 0) (get_or dl l 0) (a.small l k) (b.small l k) (d.small l k) (e.small l k)
     ∙ product-comm (get_or ah l 0 * 2 ^ 64 + get_or al l 0) (get_or dh l 0 * 2 ^ 64 + get_or dl l 0)
     (omega (arith, a.small l k, b.small l k)) (omega (arith, d.small l k, e.small l k)))
+
+-- the same of the sums of the words that bits choose
+pub bits_joined : (ah al dh dl : List ℕ) → AreLanes ah → AreLanes al → AreLanes dh → AreLanes dl
+    → joined (shifted_sum (bits_total ah dh) 64) (shifted_sum (bits_total (zip2 bit_xor ah al) (zip2 bit_xor dh dl)) 64) (shifted_sum (bits_total al dl) 64)
+    ≡ sum_of (λ l. block_product (joined_at ah al l) (joined_at dh dl l)) 8
+unfolding joined_at
+bits_joined ah al dh dl a b d e =
+    let p : List ℕ → List ℕ → ℕ → ℕ = λ x y l. block_product (get_or x l 0 * 2 ^ 64) (get_or y l 0 * 2 ^ 64) in
+    let ab : List ℕ = zip2 bit_xor ah al in
+    let db : List ℕ = zip2 bit_xor dh dl in
+    let both : AreLanes ab = words-xor 8 ah al a b in
+    let both_words : AreLanes db = words-xor 8 dh dl d e in
+    ap₂ (λ (x y : ℕ). joined x y (shifted_sum (bits_total al dl) 64)) (bits_products ah dh a d) (bits_products ab db both both_words)
+    ∙ ap (joined (sum_of (p ah dh) 8) (sum_of (p ab db) 8)) (bits_products al dl b e)
+    ∙ sum_joined (p ah dh) (p ab db) (p al dl) 8
+    ∙ sum-same (λ l. joined (p ah dh l) (p ab db l) (p al dl l)) (λ l. block_product (get_or ah l 0 * 2 ^ 64 + get_or al l 0) (get_or dh l 0 * 2 ^ 64 + get_or dl l 0)) 8 (omega arith)
+    (λ l k.
+    ap₂ (λ (x y : ℕ). joined (p ah dh l) (block_product (x * 2 ^ 64) (y * 2 ^ 64)) (p al dl l)) (xor_lane ah al l a.size b.size k) (xor_lane dh dl l d.size e.size k)
+    ∙ product-joined (get_or ah l 0) (get_or al l 0) (get_or dh l 0) (get_or dl l 0) (a.small l k) (b.small l k) (d.small l k) (e.small l k))
+
+-- eight blocks from the zero block
+pub eight_first : (h a b c d e f g i : ℕ) → h < 2 ^ 128
+    → sum_of (λ l. block_product (get_or (a ∷ b ∷ c ∷ d ∷ e ∷ f ∷ g ∷ i ∷ []) l 0) (subkey_power h (8 - l))) 8 ≡ ghash_from h 0 (a ∷ b ∷ c ∷ d ∷ e ∷ f ∷ g ∷ i ∷ [])
+eight_first h a b c d e f g i k =
+    ap (λ (v : ℕ). sum_of (λ l. block_product (get_or (v ∷ b ∷ c ∷ d ∷ e ∷ f ∷ g ∷ i ∷ []) l 0) (subkey_power h (8 - l))) 8) (sym (xor_zero_l a))
+    ∙ eight_taken h 0 a b c d e f g i k

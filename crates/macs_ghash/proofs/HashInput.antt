@@ -1,8 +1,10 @@
 -- The blocks of the string that is hashed.
-use Rattle.std.proofs.Common.{◌≡◌, ℕ, bit_or, bit_xor, lit≤, ◌+◌, ◌-◌, ◌*◌, ◌/◌, ◌%◌, ◌^◌, ◌<◌, ◌≤◌, List, [], ◌∷◌, ◌++◌, length, take, drop, get_or, set, sym, refl, ap, ◌∙◌, arith, inl, inr}
+use Rattle.std.proofs.Common.{◌≡◌, ℕ, zero, suc, replicate, bit_or, bit_xor, lit≤, ◌+◌, ◌-◌, ◌*◌, ◌/◌, ◌%◌, ◌^◌, ◌<◌, ◌≤◌, List, [], ◌∷◌, ◌++◌, length, take, drop, get_or, set, sym, refl, ap, ◌∙◌, arith, inl, inr}
 use Rattle.std.proofs.lemmas.Bool.{cases_lt}
 use Rattle.std.specs.Int.{w64, w128, from_be_bytes, to_be_bytes}
-use Rattle.std.proofs.lemmas.List.{append_assoc, ext_get_or, get_or-drop, get_or-set_other, get_or-set_same, get_or-take, length-append, length-drop, length-take-le, take_all}
+use Rattle.std.proofs.lemmas.List.{append_assoc, ext_get_or, get_or-drop, get_or-set_other, get_or-set_same, get_or-append_right, get_or-take, get_or_append_left, length-append, length-drop, length-replicate, length-take-le, take_all}
+use Rattle.std.proofs.lemmas.Simd.{get_or-replicate}
+use Rattle.macs_ghash.proofs.Shifted.{product-none}
 use Rattle.std.proofs.lemmas.Nat.{from_be_bytes-to_be_bytes_8, shl_whole}
 use lib.Bits.{or_shifted}
 use Rattle.std.proofs.Math.Seq.{take-add}
@@ -116,4 +118,43 @@ block-set f blocks k block below is held j h = elim (cases_lt j k) [
   | inr ge ↦
       let same : j ≡ k = omega arith in
       rw same (get_or-set_same blocks k block 0 below ∙ is)
+]
+
+-- ---- few blocks, behind zero blocks
+
+-- zero blocks in front change nothing
+pub zeros_taken : (h : ℕ) (n : ℕ) (bs : List ℕ) → ghash_from h 0 (replicate n 0 ++ bs) ≡ ghash_from h 0 bs
+zeros_taken h zero bs = refl
+zeros_taken h (suc n) bs = ap (λ (y : ℕ). ghash_from h y (replicate n 0 ++ bs)) (product-none h) ∙ zeros_taken h n bs
+
+-- all blocks, behind as many zero blocks as make eight
+pub behind_zeros : (h : ℕ) (a c : List ℕ) (n : ℕ) (blocks : List ℕ) → n ≡ filled a + filled c + 1 → n ≤ 8 → length blocks ≡ 8
+    → ((k : ℕ) → k < 8 - n → get_or blocks k 0 ≡ 0) → ((k : ℕ) → k < n → get_or blocks (8 - n + k) 0 ≡ block_at (hash_input a c) k)
+    → ghash_from h 0 blocks ≡ ghash_from h 0 (take n (blocks_of (hash_input a c)))
+behind_zeros h a c n blocks is few eight none each =
+    let s : List ℕ = hash_input a c in
+    let bs : List ℕ = blocks_of s in
+    let size : length bs ≡ n = length-input_blocks a c ∙ sym is in
+    let octets : length s / 16 ≡ n = omega (arith, length-input a c) in
+    let front : List ℕ = replicate (8 - n) 0 in
+    let front_size : length front ≡ 8 - n = length-replicate (8 - n) 0 in
+    let whole : blocks ≡ front ++ bs = ext_get_or 0 blocks (front ++ bs) (omega (arith, eight, size, front_size, length-append front bs)) (λ k h.
+    elim (cases_lt k (8 - n)) [
+      | inl lt ↦ none k lt ∙ sym (get_or_append_left front bs 0 k (omega arith) ∙ get_or-replicate (8 - n) k 0 0 lt)
+      | inr ge ↦
+          let within : k - (8 - n) < n = omega (arith, eight) in
+          let place : 8 - n + (k - (8 - n)) ≡ k = omega arith in
+          ap (λ (i : ℕ). get_or blocks i 0) (sym place) ∙ each (k - (8 - n)) within
+          ∙ sym (get_or-append_right front bs (8 - n) k 0 front_size (omega arith) ∙ get_or-blocks_of s (k - (8 - n)) (omega arith))
+    ]) in
+    ap (ghash_from h 0) whole ∙ zeros_taken h (8 - n) bs ∙ ap (ghash_from h 0) (sym (take_all n bs (omega (arith, size))))
+
+-- one block more behind the zero blocks
+pub block-set_behind : (f : ℕ → ℕ) (blocks : List ℕ) (n k block : ℕ) → n + k < length blocks → block ≡ f k → ((j : ℕ) → j < k → get_or blocks (n + j) 0 ≡ f j)
+    → (j : ℕ) → j < k + 1 → get_or (set blocks (n + k) block) (n + j) 0 ≡ f j
+block-set_behind f blocks n k block below is held j h = elim (cases_lt j k) [
+  | inl lt ↦ get_or-set_other blocks (n + k) (n + j) block 0 (omega arith) ∙ held j lt
+  | inr ge ↦
+      let same : j ≡ k = omega arith in
+      rw same (get_or-set_same blocks (n + k) block 0 below ∙ is)
 ]

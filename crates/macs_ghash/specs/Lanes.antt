@@ -40,6 +40,10 @@ pub record AreMasks (numbers : List ℕ) (masks : List (List ℕ)) (n : ℕ) : T
 abbrev pub chosen_total : List (List ℕ) → List ℕ → ℕ → ℕ
 chosen_total masks words j = total (zip2 bit_and (get_or masks j []) words)
 
+-- the total of the words of those lanes in which the number has bit j
+abbrev pub bits_total : List ℕ → List ℕ → ℕ → ℕ
+bits_total numbers words j = sum_of (λ l. bit_at (get_or numbers l 0) j * get_or words l 0) 8
+
 -- n steps, each a shift to the right by one bit and f i added 64 bits further left
 unfoldable pub shifted_sum : (ℕ → ℕ) → ℕ → ℕ
 shifted_sum f zero = 0

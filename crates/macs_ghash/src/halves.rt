@@ -3,9 +3,9 @@
 ghost use Rattle.std.specs.Prelude.{◌≡◌, ◌<◌, ◌+◌, ◌*◌, ◌/◌, ◌^◌, ℕ, [], get_or, length, bit_xor};
 ghost use Rattle.std.specs.Simd.Lanes.{zip2};
 ghost use Rattle.macs_ghash.specs.declared.lanes.TheConstants.{FOLD};
-ghost use Rattle.macs_ghash.specs.Lanes.{AreLanes, AreWords, chosen_total, joined, shifted_sum, total};
+ghost use Rattle.macs_ghash.specs.Lanes.{AreLanes, AreWords, bits_total, chosen_total, joined, shifted_sum, total};
 
-use crate::lanes::{Blocks, FOLD, folded};
+use crate::lanes::{Blocks, FOLD, folded, mask_of};
 use crate::masks::Mask;
 use crate::reduction::overflow;
 use std::marker::Model;
@@ -105,6 +105,41 @@ pub(crate) fn products(
         low: second.number(),
         both: third.number(),
     }
+}
+
+/// The sums over the lanes of the products of the numbers with the words, under masks that are made for each
+/// step and not kept: for a turn that is alone.
+#[inline(always)]
+pub(crate) fn products_once(numbers: &Blocks, words: &Blocks) -> HalfProducts
+    requires high_numbers { AreLanes numbers.now.high }
+    requires low_numbers { AreLanes numbers.now.low }
+    requires high_words { AreLanes words.now.high }
+    requires low_words { AreLanes words.now.low }
+    ensures high { result.high ≡ shifted_sum (bits_total numbers.now.high words.now.high) 64 }
+    ensures low { result.low ≡ shifted_sum (bits_total numbers.now.low words.now.low) 64 }
+    ensures both { result.both ≡ shifted_sum (bits_total (zip2 bit_xor numbers.now.high numbers.now.low) (zip2 bit_xor words.now.high words.now.low)) 64 }
+{
+    let high_numbers = numbers.high;
+    let low_numbers = numbers.low;
+    let number_sums = high_numbers ^ low_numbers;
+    let high_words = words.high;
+    let low_words = words.low;
+    let word_sums = high_words ^ low_words;
+    let mut first = Sum::zero();
+    let mut second = Sum::zero();
+    let mut third = Sum::zero();
+    for j in 0..u64::BITS {
+        let high_mask = mask_of(high_numbers, j);
+        first = first.next(high_mask & high_words);
+        let low_mask = mask_of(low_numbers, j);
+        second = second.next(low_mask & low_words);
+        let both_mask = mask_of(number_sums, j);
+        third = third.next(both_mask & word_sums);
+    }
+    let high = first.number();
+    let low = second.number();
+    let both = third.number();
+    HalfProducts { high, low, both }
 }
 
 /// The product of blocks from the products of their halves, reduced.

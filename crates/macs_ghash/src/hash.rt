@@ -1,6 +1,6 @@
 //! GHASH of the padded additional data, the padded text and their lengths (NIST SP 800-38D, 7.1).
 
-ghost use Rattle.std.specs.Prelude.{◌≡◌, ◌+◌, ◌*◌, ◌/◌, ◌^◌, ◌<◌, ◌≤◌, ◌++◌, drop, length, take};
+ghost use Rattle.std.specs.Prelude.{◌≡◌, ◌+◌, ◌*◌, ◌/◌, ◌^◌, ◌<◌, ◌≤◌, ◌-◌, ℕ, ◌++◌, drop, length, slice_index, take};
 ghost use Rattle.std.specs.Int.{from_be_bytes, to_be_bytes, w64, w128};
 ghost use Rattle.macs_gf.specs.Ghash.{block_at, blocks_of, ghash, hash_input, padded_string};
 
@@ -10,6 +10,10 @@ use crate::powers::Powers;
 /// From so many blocks on, masks are made and blocks are taken in eight at a time. With fewer the masks cost
 /// more than a turn saves.
 const MASKED: usize = 16;
+
+/// From so many blocks to eight, all are taken in together, under masks that are not kept. With fewer that is slower
+/// than one by one.
+const TOGETHER: usize = 6;
 
 /// Block i of a string, which is short, as a number: filled up with zero octets (7.1, step 4).
 fn short_block(octets: &[u8], i: usize) -> u128
@@ -79,6 +83,34 @@ fn input_blocks(aad: &[u8], text: &[u8], i: usize) -> [u128; 8]
     blocks
 }
 
+/// All blocks of the string that is hashed, behind as many zero blocks as make eight.
+fn behind_zeros(aad: &[u8], text: &[u8], count: usize) -> [u128; 8]
+    requires aad { length aad.now < 2 ^ 32 }
+    requires text { length text.now < 2 ^ 32 }
+    requires all { count ≡ (length aad.now + 15) / 16 + (length text.now + 15) / 16 + 1 }
+    requires few { count ≤ 8 }
+    ensures size { length result ≡ 8 }
+    ensures zeros { (k : ℕ) → k < 8 - count → slice_index result k ≡ 0 }
+    ensures blocks { (k : ℕ) → k < count → slice_index result (8 - count + k) ≡ block_at (hash_input aad.now text.now) k }
+{
+    let mut blocks = [0u128; 8];
+    for k in 0..count {
+        blocks[8 - count + k] = input_block(aad, text, k);
+    }
+    blocks
+}
+
+/// The hash of all blocks, which are at most eight, in one turn.
+fn together(powers: &Powers, aad: &[u8], text: &[u8], count: usize) -> u128
+    requires aad { length aad.now < 2 ^ 32 }
+    requires text { length text.now < 2 ^ 32 }
+    requires all { count ≡ (length aad.now + 15) / 16 + (length text.now + 15) / 16 + 1 }
+    requires few { count ≤ 8 }
+    ensures { result ≡ ghash powers.now (take count (blocks_of (hash_input aad.now text.now))) }
+{
+    powers.eight(&behind_zeros(aad, text, count))
+}
+
 /// The state after n turns of eight blocks each, under masks made for them.
 #[inline(never)]
 fn turns(powers: &Powers, aad: &[u8], text: &[u8], n: usize) -> u128
@@ -112,6 +144,9 @@ pub fn ghash(powers: &Powers, aad: &[u8], text: &[u8]) -> [u8; 16]
     if count >= MASKED {
         state = turns(powers, aad, text, count / 8);
         taken = count / 8 * 8;
+    } else if count >= TOGETHER && count <= 8 {
+        state = together(powers, aad, text, count);
+        taken = count;
     }
     for i in taken..count {
         state = powers.one(state, input_block(aad, text, i));

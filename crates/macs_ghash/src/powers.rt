@@ -2,8 +2,10 @@
 
 ghost use Rattle.std.specs.Prelude.{◌≡◌, ◌<◌, ◌^◌, ℕ, bit_xor};
 ghost use Rattle.macs_gf.specs.Gf128.{block_product};
+ghost use Rattle.macs_gf.specs.Ghash.{ghash};
 ghost use Rattle.macs_ghash.specs.Lanes.{ArePowers, AreParts};
 
+use crate::halves::{HalfProducts, joined, products_once};
 use crate::lanes::{Blocks, side_by_side};
 use crate::masks::{Mask, PowerMasks};
 use crate::pieces::product_by;
@@ -76,6 +78,17 @@ impl Powers {
         ensures { result ≡ block_product (bit_xor before block) self.now }
     {
         product_by(before ^ block, &self.parts)
+    }
+
+    /// Eight blocks taken in from the zero block (NIST SP 800-38D, 6.4, steps 2 and 3), under masks that are not
+    /// kept.
+    #[inline(always)]
+    pub(crate) fn eight(&self, blocks: &[u128; 8]) -> u128
+        ensures { result ≡ ghash self.now blocks.now }
+    {
+        let numbers = side_by_side(*blocks);
+        let HalfProducts { high, low, both } = products_once(&numbers, &self.powers);
+        joined(high, both, low)
     }
 
     /// The masks for turns of eight blocks, made in the room that is lent.

@@ -1,5 +1,5 @@
 -- From each octet to each block.
-use Rattle.std.proofs.Common.{◌≡◌, ℕ, zero, suc, ◌+◌, ◌*◌, ◌<◌, ◌≤◌, List, [], ◌∷◌, map, get_or, length, bit_xor, refl, ap, ap₂, sym, ◌∙◌, arith, ◌^◌}
+use Rattle.std.proofs.Common.{◌≡◌, ℕ, zero, suc, ◌+◌, ◌*◌, ◌<◌, ◌≤◌, List, [], ◌∷◌, map, get_or, length, slice_index, bit_xor, refl, ap, ap₂, sym, ◌∙◌, arith, ◌^◌}
 use lib.Bits.{xor_assoc}
 use Rattle.std.specs.List.{range_with_len}
 use Rattle.std.specs.Int.{bit_at}
@@ -12,7 +12,7 @@ use Rattle.macs_aes.specs.Cipher.{mix_columns, mixed_octet, shift_rows, sub_byte
 use Rattle.macs_aes.specs.SBox.{s_box}
 use Rattle.macs_planes.specs.Blocks.{bit_in, block_in, blocks_in, octet, octet_basis, octet_in}
 use Rattle.macs_planes.specs.BlockSteps.{AreBlocks}
-use Rattle.macs_planes.specs.Rows.{below, shifted}
+use Rattle.macs_planes.specs.Rows.{below, shifted, turned_below}
 use Rattle.macs_planes.proofs.Circuit.{octet_of}
 use Rattle.macs_planes.proofs.Inverse.{octet_small}
 
@@ -59,6 +59,28 @@ pub mix_columns_is : (g : ℕ → ℕ) → map (λ j. mixed_octet (g j) (g (belo
 unfolding below
 mix_columns_is g = refl
 
+-- MixColumns of a block whose rows ShiftRows has still to turn
+unfoldable pub mixed_turned : List ℕ → List ℕ
+mixed_turned s =
+    map (λ j. mixed_octet (slice_index s j) (slice_index s (turned_below 1 j)) (slice_index s (turned_below 2 j)) (slice_index s (turned_below 3 j))) (range_with_len 0 16)
+
+pub mixed_turned_is : (g : ℕ → ℕ) → map (λ j. mixed_octet (g j) (g (turned_below 1 j)) (g (turned_below 2 j)) (g (turned_below 3 j))) (range_with_len 0 16) ≡ mixed_turned (map g (range_with_len 0 16))
+unfolding mixed_turned turned_below
+mixed_turned_is g = refl
+
+pub turned_mixed : (blocks : List (List ℕ)) → map shift_rows (map mixed_turned blocks) ≡ map mix_columns (map shift_rows blocks)
+unfolding mixed_turned turned_below
+turned_mixed [] = refl
+turned_mixed (b ∷ blocks) = ap (λ t. mix_columns (shift_rows b) ∷ t) (turned_mixed blocks)
+
+pub shift_twice_is : (g : ℕ → ℕ) → map (λ j. g (shifted (shifted j))) (range_with_len 0 16) ≡ shift_rows (shift_rows (map g (range_with_len 0 16)))
+unfolding shifted
+shift_twice_is g = refl
+
+pub shifted_twice : (blocks : List (List ℕ)) → map (λ s. shift_rows (shift_rows s)) blocks ≡ map shift_rows (map shift_rows blocks)
+shifted_twice [] = refl
+shifted_twice (b ∷ blocks) = ap (λ t. shift_rows (shift_rows b) ∷ t) (shifted_twice blocks)
+
 pub shifted-lt : (j : ℕ) → j < 16 → shifted j < 16
 unfolding shifted
 shifted-lt j h = omega arith
@@ -66,6 +88,14 @@ shifted-lt j h = omega arith
 pub below-lt : (n j : ℕ) → j < 16 → below n j < 16
 unfolding below
 below-lt n j h = omega arith
+
+pub turned_below-lt : (n j : ℕ) → j < 16 → turned_below n j < 16
+unfolding turned_below
+turned_below-lt n j h = omega arith
+
+pub turned_next : (j : ℕ) → j < 16 → turned_below 1 (turned_below 2 j) ≡ turned_below 3 j
+unfolding turned_below
+turned_next j h = omega arith
 
 pub below_next : (j : ℕ) → j < 16 → below 1 (below 2 j) ≡ below 3 j
 unfolding below

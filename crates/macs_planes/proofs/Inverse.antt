@@ -7,7 +7,7 @@ use Rattle.macs_gf.specs.Polynomial.{product_below, remainder}
 use Rattle.macs_aes.specs.SBox.{s_box}
 use Rattle.macs_aes.proofs.SBoxTable.{s_box_values, s_box_values-is}
 use Rattle.macs_planes.specs.Blocks.{bits_in, combined, octet_basis, octet_in}
-use Rattle.macs_planes.specs.Tower.{affine, high_of, low_of, squared, tower_root, tower_unit}
+use Rattle.macs_planes.specs.Tower.{affine, fourteenth, high_of, low_of, tower_root, tower_unit}
 use Rattle.macs_planes.proofs.Circuit.{agree, agreed, are_bits, bits_in_length}
 
 -- u + v
@@ -18,12 +18,10 @@ both_of x = bit_xor (high_of x) (low_of x)
 norm_of : ℕ → ℕ
 norm_of x = bit_xor (octet_product (low_of x) (both_of x)) (octet_product tower_unit (octet_product (high_of x) (high_of x)))
 
--- n^14
-fourteenth : ℕ → ℕ
-fourteenth n = octet_product (squared n) (squared (squared (octet_product n (squared n))))
-
 by_tower : ℕ → ℕ
-by_tower x = affine (bit_xor (octet_product (both_of x) (fourteenth (norm_of x))) (octet_product tower_root (octet_product (high_of x) (fourteenth (norm_of x)))))
+by_tower x =
+    affine (bit_xor (octet_product (both_of x) (fourteenth (norm_of x)))
+    (octet_product tower_root (bit_xor (octet_product (both_of x) (fourteenth (norm_of x))) (octet_product (low_of x) (fourteenth (norm_of x))))))
 
 values_are : map by_tower (range_with_len 0 256) ≡ s_box_values
 unfolding by_tower fourteenth norm_of both_of low_of high_of affine octet_product product_below remainder s_box_values
@@ -35,13 +33,12 @@ by_tower-is x h =
     ∙ ap (λ t. get_or t x 0) (values_are ∙ s_box_values-is) ∙ get_or-map-range_with_len s_box 0 256 x x 0 h (omega arith)
 
 -- the steps of the code, one after another
-pub tower_steps : (x u v w q p n n2 n3 n6 n12 n14 e f z : ℕ) → x < 256 → u ≡ high_of x → v ≡ low_of x → w ≡ bit_xor u v
+pub tower_steps : (x u v w q p n m e f z : ℕ) → x < 256 → u ≡ high_of x → v ≡ low_of x → w ≡ bit_xor u v
     → q ≡ octet_product tower_unit (octet_product u u) → p ≡ octet_product v w → n ≡ bit_xor p q
-    → n2 ≡ octet_product n n → n3 ≡ octet_product n n2 → n6 ≡ octet_product n3 n3 → n12 ≡ octet_product n6 n6
-    → n14 ≡ octet_product n2 n12 → e ≡ octet_product w n14 → f ≡ octet_product u n14
-    → z ≡ affine (bit_xor e (octet_product tower_root f)) → z ≡ s_box x
-unfolding by_tower fourteenth norm_of both_of
-tower_steps x u v w q p n n2 n3 n6 n12 n14 e f z h eu ev ew eq ep en e2 e3 e6 e12 e14 ee ef ez =
+    → m ≡ fourteenth n → e ≡ octet_product w m → f ≡ octet_product v m
+    → z ≡ affine (bit_xor e (octet_product tower_root (bit_xor e f))) → z ≡ s_box x
+unfolding by_tower norm_of both_of
+tower_steps x u v w q p n m e f z h eu ev ew eq ep en em ee ef ez =
     let whole = by_tower-is x h in
     cc
 

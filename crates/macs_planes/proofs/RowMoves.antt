@@ -1,6 +1,6 @@
 -- The moves of rows, as data.
 use Rattle.std.proofs.Common.{◌≡◌, refl}
-use Rattle.macs_planes.specs.Rows.{below, shifted}
+use Rattle.macs_planes.specs.Rows.{below, shifted, turned_below}
 use Rattle.macs_planes.proofs.Moves.{Move, From, Down, Up, Mask, Plus, from_places, kept, places, risen, sources}
 
 unfoldable pub lift_plane_moves : Move
@@ -26,3 +26,30 @@ shift_plane_moves = Plus (Mask 0x5555 rows_swapped) (Mask 0xaaaa (Plus (Mask 0x0
 pub shift_plane_from : from_places shift_plane_moves ≡ places (λ _. 0) shifted
 unfolding from_places kept places risen sources rows_swapped shift_plane_moves shifted
 shift_plane_from = refl
+
+unfoldable pub halves_swapped : Move
+halves_swapped = Plus (Mask 0x00ff (Down 8 (From 0))) (Up 8 (From 0))
+
+unfoldable pub shift_plane_twice_moves : Move
+shift_plane_twice_moves = Plus (Mask 0x5555 (From 0)) (Mask 0xaaaa halves_swapped)
+
+pub shift_plane_twice_from : from_places shift_plane_twice_moves ≡ places (λ _. 0) (λ j. shifted (shifted j))
+unfolding from_places kept places risen sources halves_swapped shift_plane_twice_moves shifted
+shift_plane_twice_from = refl
+
+unfoldable pub columns_turned : Move
+columns_turned = Plus (Mask 0x0fff (Down 4 (From 0))) (Up 12 (From 0))
+
+unfoldable pub lift_plane_turned_moves : Move
+lift_plane_turned_moves = Plus (Mask 0x7777 (Down 1 columns_turned)) (Mask 0x8888 (Up 3 columns_turned))
+
+pub lift_plane_turned_from : from_places lift_plane_turned_moves ≡ places (λ _. 0) (turned_below 1)
+unfolding from_places kept places risen sources columns_turned lift_plane_turned_moves turned_below
+lift_plane_turned_from = refl
+
+unfoldable pub lift_plane_twice_turned_moves : Move
+lift_plane_twice_turned_moves = Plus (Mask 0x3333 (Down 2 halves_swapped)) (Mask 0xcccc (Up 2 halves_swapped))
+
+pub lift_plane_twice_turned_from : from_places lift_plane_twice_turned_moves ≡ places (λ _. 0) (turned_below 2)
+unfolding from_places kept places risen sources halves_swapped lift_plane_twice_turned_moves turned_below
+lift_plane_twice_turned_from = refl

@@ -3,9 +3,9 @@ use Rattle.std.proofs.Common.{◌≡◌, ℕ, List, [], ◌∷◌, ◌++◌, tak
 use Rattle.macs_gf.specs.Gf256.{octet_product}
 use Rattle.macs_gf.specs.Polynomial.{product_below, remainder}
 use Rattle.macs_planes.specs.Blocks.{combined, octet_basis, subfield_basis}
-use Rattle.macs_planes.specs.Tower.{affine, high_of, low_of, tower_root, tower_unit}
+use Rattle.macs_planes.specs.Tower.{affine, fourteenth, high_of, low_of, tower_root, tower_unit}
 use Rattle.macs_planes.proofs.Circuit.{agree, bit_circuit, bit_gate, bit_pick, bit_run}
-use Rattle.macs_planes.proofs.Gates.{affine_of_gates, affine_of_outputs, high_gates, high_outputs, low_gates, low_outputs, scaled_gates, scaled_outputs, product_gates, product_outputs, square_gates, square_outputs, twice_gates, twice_outputs}
+use Rattle.macs_planes.proofs.Gates.{affine_of_gates, affine_of_outputs, high_gates, high_outputs, inverse_gates, inverse_outputs, low_gates, low_outputs, scaled_gates, scaled_outputs, product_gates, product_outputs, twice_gates, twice_outputs}
 
 unfoldable pub product_of : List ℕ → ℕ
 product_of v = octet_product (combined subfield_basis (take 4 v)) (combined subfield_basis (drop 4 v))
@@ -14,12 +14,12 @@ pub product_agrees : agree 8 (λ v. combined subfield_basis (bit_circuit product
 unfolding agree combined bit_circuit bit_gate bit_pick bit_run product_gates product_outputs product_of octet_product product_below remainder
 product_agrees = refl
 
-unfoldable pub square_of : List ℕ → ℕ
-square_of v = octet_product (combined subfield_basis v) (combined subfield_basis v)
+unfoldable pub inverse_of : List ℕ → ℕ
+inverse_of v = fourteenth (combined subfield_basis v)
 
-pub square_agrees : agree 4 (λ v. combined subfield_basis (bit_circuit square_gates square_outputs v)) square_of ≡ true
-unfolding agree combined bit_circuit bit_gate bit_pick bit_run square_gates square_outputs square_of octet_product product_below remainder
-square_agrees = refl
+pub inverse_agrees : agree 4 (λ v. combined subfield_basis (bit_circuit inverse_gates inverse_outputs v)) inverse_of ≡ true
+unfolding agree combined bit_circuit bit_gate bit_pick bit_run inverse_gates inverse_outputs inverse_of fourteenth octet_product product_below remainder
+inverse_agrees = refl
 
 unfoldable pub twice_of : List ℕ → ℕ
 twice_of v = octet_product 2 (combined octet_basis v)
@@ -50,7 +50,7 @@ unfolding agree combined bit_circuit bit_gate bit_pick bit_run low_gates low_out
 low_agrees = refl
 
 unfoldable pub affine_in : List ℕ → ℕ
-affine_in v = affine (bit_xor (combined subfield_basis (take 4 v)) (octet_product tower_root (combined subfield_basis (drop 4 v))))
+affine_in v = affine (bit_xor (combined subfield_basis (take 4 v)) (octet_product tower_root (bit_xor (combined subfield_basis (take 4 v)) (combined subfield_basis (drop 4 v)))))
 
 pub affine_agrees : agree 8 (λ v. combined octet_basis (bit_circuit affine_of_gates affine_of_outputs (v ++ 1 ∷ []))) affine_in ≡ true
 unfolding agree combined bit_circuit bit_gate bit_pick bit_run affine_of_gates affine_of_outputs affine_in affine octet_product product_below remainder

@@ -34,9 +34,10 @@ blocks_in lanes basis planes = map (block_in basis planes) (range_with_len 0 lan
 abbrev pub octet_basis : List ℕ
 octet_basis = 0x01 ∷ 0x02 ∷ 0x04 ∷ 0x08 ∷ 0x10 ∷ 0x20 ∷ 0x40 ∷ 0x80 ∷ []
 
--- 1, g, g^2 and g^3, g a root of x^4 + x + 1: the sums of these are the subfield of sixteen elements
+-- w z, w^2 z, w z^4 and w^2 z^4, where w is a root of x^2 + x + 1 and z one of x^2 + x + w: the sums of these are the
+-- subfield of sixteen elements
 abbrev pub subfield_basis : List ℕ
-subfield_basis = 0x01 ∷ 0x5c ∷ 0xe0 ∷ 0x50 ∷ []
+subfield_basis = 0xb0 ∷ 0xec ∷ 0x0c ∷ 0x51 ∷ []
 
 -- octet j of block i
 abbrev pub octet : List (List ℕ) → ℕ → ℕ → ℕ

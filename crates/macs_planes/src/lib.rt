@@ -18,5 +18,5 @@ mod subfield;
 #[cfg(test)]
 mod tests;
 
-pub use group::encrypt16;
+pub use group::{BLOCKS_OF_A_GROUP, GroupKeys, encrypt16};
 pub use planes::Planes;

@@ -8,9 +8,9 @@ ghost use Rattle.macs_planes.specs.RoundKeys.{octet_in_words, octets_in_words};
 
 use crate::bits::plane;
 use crate::columns::{Columns, cross, row};
-use crate::mixing::{mix, xor};
+use crate::mixing::{mix, mix_turned, xor};
 use crate::round_keys::{KeyBits, bits_of};
-use crate::rows::shift;
+use crate::rows::{shift, shift_twice};
 use crate::sbox::s_boxes;
 use macs_aes::Block;
 use std::marker::Model;
@@ -130,6 +130,26 @@ impl<const N: usize> Planes<N> {
     {
         are_blocks(self);
         *self = mix(self);
+        are_blocks(self);
+    }
+
+    /// ShiftRows of each block, twice.
+    #[inline(always)]
+    pub(crate) fn shift_rows_twice(&mut self)
+        ensures { self.new ≡ map shift_rows (map shift_rows self.old) }
+    {
+        are_blocks(self);
+        *self = shift_twice(self);
+        are_blocks(self);
+    }
+
+    /// MixColumns of each block, where ShiftRows has still to turn the rows, before and after.
+    #[inline(always)]
+    pub(crate) fn mix_columns_turned(&mut self)
+        ensures { map shift_rows self.new ≡ map mix_columns (map shift_rows self.old) }
+    {
+        are_blocks(self);
+        *self = mix_turned(self);
         are_blocks(self);
     }
 

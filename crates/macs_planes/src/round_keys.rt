@@ -1,6 +1,8 @@
 //! Round keys as words of bits, which are the same for all blocks.
 
-ghost use Rattle.std.specs.Prelude.{◌≡◌};
+ghost use Rattle.std.specs.Prelude.{◌≡◌, ◌<◌, ◌%◌};
+ghost use Rattle.macs_aes.specs.Cipher.{round_key, shift_rows};
+ghost use Rattle.macs_aes.specs.KeyExpansion.{key_words};
 ghost use Rattle.macs_planes.specs.RoundKeys.{AreRoundKeys, octets_in_words};
 
 use crate::bits::{bit_word, octets_of};
@@ -30,13 +32,37 @@ pub(crate) fn bits_of(key: &Block) -> KeyBits
     ]
 }
 
-/// The bits of all round keys.
+/// The block that ShiftRows (FIPS 197, 5.1.2) turns into the given one.
+fn unturned(block: &Block) -> Block
+    ensures { shift_rows result ≡ block.now }
+{
+    [
+        block[0], block[13], block[10], block[7], block[4], block[1], block[14], block[11],
+        block[8], block[5], block[2], block[15], block[12], block[9], block[6], block[3],
+    ]
+}
+
+/// The bits of the key of a round, 0 to 10; where it is odd, with rows that ShiftRows has still to turn.
+fn round_bits(schedule: &Schedule, round: usize) -> KeyBits
+    requires { round < 11 }
+    ensures even { round % 2 ≡ 0 → octets_in_words result ≡ round_key (key_words schedule.now) round }
+    ensures odd { round % 2 ≡ 1 → shift_rows (octets_in_words result) ≡ round_key (key_words schedule.now) round }
+{
+    let key = schedule.round_key(round);
+    if round % 2 == 0 {
+        bits_of(&key)
+    } else {
+        bits_of(&unturned(&key))
+    }
+}
+
+/// The bits of all round keys, those of odd rounds with rows that ShiftRows has still to turn.
 pub(crate) fn round_keys(schedule: &Schedule) -> [KeyBits; ROUND_KEYS]
     ensures { AreRoundKeys schedule.now result }
 {
     let mut keys = [[0; 8]; ROUND_KEYS];
     for round in 0..ROUND_KEYS {
-        keys[round] = bits_of(&schedule.round_key(round));
+        keys[round] = round_bits(schedule, round);
     }
     keys
 }

@@ -4,7 +4,7 @@
 
 ghost use Rattle.std.specs.Prelude.{◌≡◌, ◌<◌, ℕ, length};
 ghost use Rattle.macs_planes.specs.Blocks.{bit_in, octet};
-ghost use Rattle.macs_planes.specs.Rows.{below, shifted};
+ghost use Rattle.macs_planes.specs.Rows.{below, shifted, turned_below};
 
 use crate::planes::Planes;
 use std::simd::prelude::*;
@@ -94,5 +94,92 @@ pub(crate) fn lift_twice<const N: usize>(x: &Planes<N>) -> Planes<N>
         p5: lift_plane_twice(x.p5),
         p6: lift_plane_twice(x.p6),
         p7: lift_plane_twice(x.p7),
+    }
+}
+
+/// In each place the bit that ShiftRows takes there when it is applied twice: rows 1 and 3 turn by two columns.
+#[inline(always)]
+pub(crate) fn shift_plane_twice<const N: usize>(x: [u16; N]) -> [u16; N]
+    requires { length x ≡ N }
+    ensures lanes { length result ≡ N }
+    ensures bits { (i j : ℕ) → i < N → j < 16 → bit_in result i j ≡ bit_in x.entry i (shifted (shifted j)) }
+{
+    let x = Simd::from_array(x);
+    let swapped = ((x >> 8) & Simd::splat(0x00ff)) ^ (x << 8);
+    ((x & Simd::splat(0x5555)) ^ (swapped & Simd::splat(0xaaaa))).to_array()
+}
+
+/// In each place the bit one row below and one column to the right.
+#[inline(always)]
+pub(crate) fn lift_plane_turned<const N: usize>(x: [u16; N]) -> [u16; N]
+    requires { length x ≡ N }
+    ensures lanes { length result ≡ N }
+    ensures bits { (i j : ℕ) → i < N → j < 16 → bit_in result i j ≡ bit_in x.entry i (turned_below 1 j) }
+{
+    let x = Simd::from_array(x);
+    let turned = ((x >> 4) & Simd::splat(0x0fff)) ^ (x << 12);
+    (((turned >> 1) & Simd::splat(0x7777)) ^ ((turned << 3) & Simd::splat(0x8888))).to_array()
+}
+
+/// In each place the bit two rows below and two columns to the right.
+#[inline(always)]
+pub(crate) fn lift_plane_twice_turned<const N: usize>(x: [u16; N]) -> [u16; N]
+    requires { length x ≡ N }
+    ensures lanes { length result ≡ N }
+    ensures bits { (i j : ℕ) → i < N → j < 16 → bit_in result i j ≡ bit_in x.entry i (turned_below 2 j) }
+{
+    let x = Simd::from_array(x);
+    let swapped = ((x >> 8) & Simd::splat(0x00ff)) ^ (x << 8);
+    (((swapped >> 2) & Simd::splat(0x3333)) ^ ((swapped << 2) & Simd::splat(0xcccc))).to_array()
+}
+
+/// In each place the octet that ShiftRows takes there when it is applied twice.
+#[inline(always)]
+pub(crate) fn shift_twice<const N: usize>(x: &Planes<N>) -> Planes<N>
+    ensures { (i j : ℕ) → i < N → j < 16 → octet result i j ≡ octet x.now i (shifted (shifted j)) }
+{
+    Planes {
+        p0: shift_plane_twice(x.p0),
+        p1: shift_plane_twice(x.p1),
+        p2: shift_plane_twice(x.p2),
+        p3: shift_plane_twice(x.p3),
+        p4: shift_plane_twice(x.p4),
+        p5: shift_plane_twice(x.p5),
+        p6: shift_plane_twice(x.p6),
+        p7: shift_plane_twice(x.p7),
+    }
+}
+
+/// In each place the octet one row below and one column to the right.
+#[inline(always)]
+pub(crate) fn lift_turned<const N: usize>(x: &Planes<N>) -> Planes<N>
+    ensures { (i j : ℕ) → i < N → j < 16 → octet result i j ≡ octet x.now i (turned_below 1 j) }
+{
+    Planes {
+        p0: lift_plane_turned(x.p0),
+        p1: lift_plane_turned(x.p1),
+        p2: lift_plane_turned(x.p2),
+        p3: lift_plane_turned(x.p3),
+        p4: lift_plane_turned(x.p4),
+        p5: lift_plane_turned(x.p5),
+        p6: lift_plane_turned(x.p6),
+        p7: lift_plane_turned(x.p7),
+    }
+}
+
+/// In each place the octet two rows below and two columns to the right.
+#[inline(always)]
+pub(crate) fn lift_twice_turned<const N: usize>(x: &Planes<N>) -> Planes<N>
+    ensures { (i j : ℕ) → i < N → j < 16 → octet result i j ≡ octet x.now i (turned_below 2 j) }
+{
+    Planes {
+        p0: lift_plane_twice_turned(x.p0),
+        p1: lift_plane_twice_turned(x.p1),
+        p2: lift_plane_twice_turned(x.p2),
+        p3: lift_plane_twice_turned(x.p3),
+        p4: lift_plane_twice_turned(x.p4),
+        p5: lift_plane_twice_turned(x.p5),
+        p6: lift_plane_twice_turned(x.p6),
+        p7: lift_plane_twice_turned(x.p7),
     }
 }

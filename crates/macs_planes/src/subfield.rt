@@ -3,13 +3,13 @@
 ghost use Rattle.std.specs.Prelude.{◌≡◌, ◌<◌, ℕ, List, [], ◌∷◌, bit_xor};
 ghost use Rattle.macs_gf.specs.Gf256.{octet_product};
 ghost use Rattle.macs_planes.specs.Blocks.{ArePlanes, blocks_in, octet, subfield_basis};
-ghost use Rattle.macs_planes.specs.Tower.{tower_unit};
+ghost use Rattle.macs_planes.specs.Tower.{fourteenth, tower_unit};
 
 use std::marker::Model;
 use std::simd::prelude::*;
 
-/// N blocks of octets that are in the subfield: four planes, which count 1, g, g^2 and g^3, where g is
-/// the root 5c of x^4 + x + 1.
+/// N blocks of octets that are in the subfield: four planes, which count w z, w^2 z, w z^4 and w^2 z^4, where
+/// w is the root bc of x^2 + x + 1 and z the root 5c of x^2 + x + w.
 #[derive(Drop)]
 pub(crate) struct Subfield<const N: usize> {
     pub(crate) p0: [u16; N],
@@ -39,48 +39,66 @@ pub(crate) fn product<const N: usize>(x: &Subfield<N>, y: &Subfield<N>) -> Subfi
     let y1 = Simd::from_array(y.p1);
     let y2 = Simd::from_array(y.p2);
     let y3 = Simd::from_array(y.p3);
-    let l0 = x0 & y0;
-    let l1 = (x0 & y1) ^ (x1 & y0);
-    let l2 = x1 & y1;
-    let h0 = x2 & y2;
-    let h1 = (x2 & y3) ^ (x3 & y2);
-    let h2 = x3 & y3;
-    let s = x0 ^ x2;
-    let t = x1 ^ x3;
-    let u = y0 ^ y2;
-    let v = y1 ^ y3;
-    let m0 = s & u;
-    let m1 = (s & v) ^ (t & u);
-    let m2 = t & v;
-    let e = l2 ^ h0 ^ h2;
-    let f = l1 ^ h1;
-    let k = l0 ^ e;
+    let s01 = x0 ^ x1;
+    let s23 = x2 ^ x3;
+    let s02 = x0 ^ x2;
+    let s13 = x1 ^ x3;
+    let s = s02 ^ s13;
+    let u01 = y0 ^ y1;
+    let u23 = y2 ^ y3;
+    let u02 = y0 ^ y2;
+    let u13 = y1 ^ y3;
+    let u = u02 ^ u13;
+    let l = s01 & u01;
+    let h = s23 & u23;
+    let m0 = s02 & u02;
+    let m1 = s13 & u13;
+    let m = s & u;
+    let n0 = m1 ^ m;
+    let n1 = m1 ^ m0;
+    let k0 = l ^ n0;
+    let k1 = l ^ n1;
+    let k2 = h ^ n0;
+    let k3 = h ^ n1;
     Subfield {
-        p0: (m2 ^ k).to_array(),
-        p1: (m2 ^ e ^ f).to_array(),
-        p2: (h1 ^ m0 ^ k).to_array(),
-        p3: (h2 ^ m1 ^ f).to_array(),
+        p0: ((x0 & y0) ^ k0).to_array(),
+        p1: ((x1 & y1) ^ k1).to_array(),
+        p2: ((x2 & y2) ^ k2).to_array(),
+        p3: ((x3 & y3) ^ k3).to_array(),
     }
 }
 
-/// The square of each octet.
+/// The power 14 of each octet: its inverse, and 0 for 0.
 #[inline(always)]
-pub(crate) fn square<const N: usize>(x: &Subfield<N>) -> Subfield<N>
-    ensures { (i j : ℕ) → i < N → j < 16 → octet result i j ≡ octet_product (octet x.now i j) (octet x.now i j) }
+pub(crate) fn inverse<const N: usize>(x: &Subfield<N>) -> Subfield<N>
+    ensures { (i j : ℕ) → i < N → j < 16 → octet result i j ≡ fourteenth (octet x.now i j) }
 {
     let x0 = Simd::from_array(x.p0);
     let x1 = Simd::from_array(x.p1);
     let x2 = Simd::from_array(x.p2);
     let x3 = Simd::from_array(x.p3);
+    let a = x0 ^ x1;
+    let b = x0 & x2;
+    let c = x3 ^ b;
+    let r3 = (a & c) ^ x1;
+    let d = x2 ^ x3;
+    let e = x1 ^ b;
+    let r1 = (e & d) ^ x3;
+    let f = x2 ^ r1;
+    let g = c ^ r1;
+    let h = x3 & g;
+    let r0 = h ^ f;
+    let k = c ^ h;
+    let r2 = a ^ (r3 & k);
     Subfield {
-        p0: (x0 ^ x2).to_array(),
-        p1: x.p2,
-        p2: (x1 ^ x3).to_array(),
-        p3: x.p3,
+        p0: r0.to_array(),
+        p1: r1.to_array(),
+        p2: r2.to_array(),
+        p3: r3.to_array(),
     }
 }
 
-/// t^17 times the square of each octet, where t is the root a2.
+/// t^17 times the square of each octet, where t is the root ff.
 #[inline(always)]
 pub(crate) fn scaled_square<const N: usize>(x: &Subfield<N>) -> Subfield<N>
     ensures { (i j : ℕ) → i < N → j < 16 → octet result i j ≡ octet_product tower_unit (octet_product (octet x.now i j) (octet x.now i j)) }
@@ -89,12 +107,11 @@ pub(crate) fn scaled_square<const N: usize>(x: &Subfield<N>) -> Subfield<N>
     let x1 = Simd::from_array(x.p1);
     let x2 = Simd::from_array(x.p2);
     let x3 = Simd::from_array(x.p3);
-    let k = x2 ^ x3;
     Subfield {
-        p0: x.p2,
-        p1: (k ^ x1).to_array(),
-        p2: x.p1,
-        p3: (k ^ x0).to_array(),
+        p0: (x0 ^ x1).to_array(),
+        p1: x.p1,
+        p2: (x1 ^ x3).to_array(),
+        p3: (x0 ^ x2).to_array(),
     }
 }
 

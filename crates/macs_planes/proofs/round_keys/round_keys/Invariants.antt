@@ -1,5 +1,5 @@
-use Rattle.std.proofs.Common.{◌≡◌, ◌<◌, ℕ, [], get_or, length}
-use Rattle.macs_aes.specs.Cipher.{round_key}
+use Rattle.std.proofs.Common.{◌≡◌, ◌<◌, ◌%◌, ℕ, [], get_or, length}
+use Rattle.macs_aes.specs.Cipher.{round_key, shift_rows}
 use Rattle.macs_aes.specs.KeyExpansion.{key_words}
 use Rattle.macs_planes.specs.RoundKeys.{octets_in_words}
 use Rattle.macs_planes.proofs.round_keys.round_keys.Given as goal
@@ -7,5 +7,6 @@ use Rattle.macs_planes.proofs.round_keys.round_keys.Given as goal
 abbrev pub invariant-loop-round : goal.invariant-loop-round
 invariant-loop-round l = record {
   size : length l.keys ≡ 11;
-  done : (i : ℕ) → i < l.round → octets_in_words (get_or l.keys i []) ≡ round_key (key_words l.schedule) i;
+  even : (i : ℕ) → i < l.round → i % 2 ≡ 0 → octets_in_words (get_or l.keys i []) ≡ round_key (key_words l.schedule) i;
+  odd : (i : ℕ) → i < l.round → i % 2 ≡ 1 → shift_rows (octets_in_words (get_or l.keys i [])) ≡ round_key (key_words l.schedule) i;
 }

@@ -25,4 +25,4 @@ returns g c = λ i j h k.
     let fs = f.p0 ∷ f.p1 ∷ f.p2 ∷ f.p3 ∷ [] in
     octet_of g.row.N octet_basis (circuit g.row.N affine_of_gates affine_of_outputs ((es ++ fs) ++ ones g.row.N ∷ [])) i j h k
     ∙ circuit_is_ones g.row.N octet_basis affine_of_gates affine_of_outputs affine_in 8 (es ++ fs) i j affine_agrees refl (are_joined g.row.N es fs c.e.invariant c.f.invariant) h k
-    ∙ ap₂ (λ (u w : ℕ). affine (bit_xor u (octet_product tower_root w))) (octet_was g.row.N subfield_basis es c.args.e.now i j c.e.view_is h k) (octet_was g.row.N subfield_basis fs c.args.f.now i j c.f.view_is h k)
+    ∙ ap₂ (λ (u w : ℕ). affine (bit_xor u (octet_product tower_root (bit_xor u w)))) (octet_was g.row.N subfield_basis es c.args.e.now i j c.e.view_is h k) (octet_was g.row.N subfield_basis fs c.args.f.now i j c.f.view_is h k)

@@ -12,10 +12,8 @@ returns g c = λ i j h k.
     let small : octet_in octet_basis planes i j < 256 = octet_small planes i j refl in
     let below : octet c.args.x.now i j < 256 = omega arith in
     tower_steps (octet c.args.x.now i j) (octet c.high_part-high.result i j) (octet c.low_part-low.result i j) (octet c.add-both.result i j) (octet c.scaled_square.result i j)
-    (octet c.product.result i j) (octet c.add-norm.result i j) (octet c.square-norm2.result i j) (octet c.product-2.result i j)
-    (octet c.square.result i j) (octet c.square-norm12.result i j) (octet c.product-norm14.result i j)
-    (octet c.product-3.result i j) (octet c.product-4.result i j) (octet c.affine_of.result i j) below
+    (octet c.product.result i j) (octet c.add-norm.result i j) (octet c.inverse-norm14.result i j)
+    (octet c.product-2.result i j) (octet c.product-3.result i j) (octet c.affine_of.result i j) below
     (c.high_part-high.ensures i j h k) (c.low_part-low.ensures i j h k) (c.add-both.ensures i j h k) (c.scaled_square.ensures i j h k)
-    (c.product.ensures i j h k) (c.add-norm.ensures i j h k) (c.square-norm2.ensures i j h k) (c.product-2.ensures i j h k)
-    (c.square.ensures i j h k) (c.square-norm12.ensures i j h k) (c.product-norm14.ensures i j h k)
-    (c.product-3.ensures i j h k) (c.product-4.ensures i j h k) (c.affine_of.ensures i j h k)
+    (c.product.ensures i j h k) (c.add-norm.ensures i j h k) (c.inverse-norm14.ensures i j h k)
+    (c.product-2.ensures i j h k) (c.product-3.ensures i j h k) (c.affine_of.ensures i j h k)

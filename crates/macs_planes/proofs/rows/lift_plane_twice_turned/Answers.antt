@@ -1,0 +1,13 @@
+use Rattle.std.proofs.Common.{[], ◌∷◌}
+use Rattle.macs_planes.specs.Rows.{turned_below}
+use Rattle.macs_planes.proofs.Moves.{moved, moved_from, moved_lanes}
+use Rattle.macs_planes.proofs.RowMoves.{halves_swapped, lift_plane_twice_turned_from, lift_plane_twice_turned_moves}
+use Rattle.macs_planes.proofs.rows.lift_plane_twice_turned.Goals as goal
+
+pub returns-clause-lanes : goal.returns-clause-lanes
+unfolding moved halves_swapped lift_plane_twice_turned_moves
+returns-clause-lanes g c = moved_lanes g.row.N lift_plane_twice_turned_moves (c.args.x ∷ []) (c.requires, tt)
+
+pub returns-clause-bits : goal.returns-clause-bits
+unfolding moved halves_swapped lift_plane_twice_turned_moves
+returns-clause-bits g c = λ i j h k. moved_from g.row.N lift_plane_twice_turned_moves (λ _. 0) (turned_below 2) (c.args.x ∷ []) i j lift_plane_twice_turned_from (c.requires, tt) h k
