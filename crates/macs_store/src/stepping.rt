@@ -18,12 +18,13 @@ ghost use Rattle.macs_store.specs.Value.{IsIdle, calls_left, is_stopped, standin
 use crate::ahead::ahead;
 use crate::fault::CommitFault;
 use crate::hand::Hand;
+use crate::snapshot::SnapshotRecords;
 use crate::standing::Standing;
 use crate::store::Store;
 use macs_config::Command;
 use macs_disk::SectorDisk;
 use macs_frame::{An, Pn, Sci};
-use macs_journal::{Journal, JournalFault, JournalStep, Records};
+use macs_journal::{Journal, JournalFault, JournalStep};
 use macs_record::Record;
 use std::mem::replace;
 
@@ -193,7 +194,7 @@ impl<D: SectorDisk> Store<D> {
 }
 
 /// Takes in hand that the journal begins anew with a snapshot of what stands.
-#[inline(never)] // The records of a snapshot take 127 KB, which no other frame is to hold.
+#[inline(never)] // The records of a snapshot take 57 KB, which no other frame is to hold.
 fn start_renewal<D: SectorDisk>(
     journal: &mut Journal<D>,
     standing: &Standing,
@@ -201,7 +202,7 @@ fn start_renewal<D: SectorDisk>(
     requires idle { journal_value.IsIdle journal.old }
     ensures { journal_steps.Starts D.disk journal.old (Renews (snapshot (standing_of standing.now))) result journal.new }
 {
-    let mut records = Records::new();
+    let mut records = SnapshotRecords::new();
     standing.snapshot(&mut records);
     standing.facts();
     journal.start_compact(records.as_slice())
@@ -216,7 +217,7 @@ fn step_with_snapshot<D: SectorDisk>(
     requires renews { RenewsWith journal.old.place journal.old.hand (snapshot (standing_of standing.now)) }
     ensures { journal_steps.Steps D.disk journal.old (snapshot (standing_of standing.now)) result journal.new }
 {
-    let mut records = Records::new();
+    let mut records = SnapshotRecords::new();
     standing.snapshot(&mut records);
     standing.facts();
     journal.step(records.as_slice())
