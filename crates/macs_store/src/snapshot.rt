@@ -127,7 +127,13 @@ fn add_rx_of(config: &Config, ceilings: &CeilingTable, sci: Sci, records: &mut S
 }
 
 /// Adds a receive association, if one stands at that number.
-fn add_rx_at(config: &Config, ceilings: &CeilingTable, sci: Sci, an: An, records: &mut SnapshotRecords)
+fn add_rx_at(
+    config: &Config,
+    ceilings: &CeilingTable,
+    sci: Sci,
+    an: An,
+    records: &mut SnapshotRecords,
+)
     requires room { length records.old.items < most_records }
     ensures added { records.new.items ≡ records.old.items ++ rx_records_at (config_of config.now) (table_ceilings ceilings.now) sci an }
     ensures few { length records.new.items ≤ length records.old.items + 1 }
