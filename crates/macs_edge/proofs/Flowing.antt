@@ -6,11 +6,13 @@ use Rattle.macs_txsc.specs.declared.fault.TxFault.TheVariants.{Runt, ForeignSour
 use Rattle.macs_txsc.specs.declared.fault.TxFault.TheVariants as tx
 use Rattle.macs_rxsc.specs.declared.verdict.Verdict.TheVariants.{Delivered, Discarded, HeldBack}
 use Rattle.macs_endpoint.specs.Lives.{Lives, Turn}
-use Rattle.macs_endpoint.specs.State.{Protected, Ran, Received, Refilled, Refills, Reply}
+use Rattle.macs_endpoint.specs.State.{Advanced, Advances, Protected, Ran, Received, Refilled, Reply, Submitted}
 use Rattle.macs_endpoint.specs.Step.{IsStopped}
 use Rattle.macs_endpoint.specs.Value.{EndpointValue}
 use Rattle.macs_endpoint.specs.declared.fault.ProtectFault.TheVariants as protect
 use Rattle.macs_endpoint.specs.declared.fault.RefillFault.{RefillFault}
+use Rattle.macs_endpoint.specs.declared.fault.StepFault.{StepFault}
+use Rattle.macs_endpoint.specs.declared.progress.Step.{Step as Progress}
 use Rattle.macs_edge.specs.Flows.{AllBut, Became, Flow, IsFlow, Sent, TakenOff, given, given_at, given_by}
 use Rattle.macs_edge.specs.Relaying.{Becomes, Carries, FillsSlot, Forwards, HandsSlot, LaneValue, Relay, Relays, TakesTurn, TakesTurns, Way, empty_lane, one_dropped, one_left, summary_of, way_of}
 use Rattle.macs_edge.specs.Settling.{Settles, Waits, call_on}
@@ -105,6 +107,8 @@ given-passed (Received (Ok HeldBack) o) out settles = absurd settles
 given-passed (Received (Err stopped) o) out settles = absurd settles
 given-passed (Ran result) out settles = absurd settles
 given-passed (Refilled result) out settles = absurd settles
+given-passed (Submitted result) out settles = absurd settles
+given-passed (Advanced result) out settles = absurd settles
 
 given-dropped : (reply : Reply) → Settles reply None → given_by reply ≡ []
 given-dropped (Protected (Ok pn) o) settles = absurd cc
@@ -115,6 +119,8 @@ given-dropped (Received (Ok HeldBack) o) settles = refl
 given-dropped (Received (Err stopped) o) settles = refl
 given-dropped (Ran result) settles = refl
 given-dropped (Refilled result) settles = refl
+given-dropped (Submitted result) settles = refl
+given-dropped (Advanced result) settles = refl
 
 given-waits : (reply : Reply) → Waits reply → given_by reply ≡ []
 given-waits (Protected (Ok pn) o) waits = absurd waits
@@ -125,6 +131,8 @@ given-waits (Received (Ok HeldBack) o) waits = refl
 given-waits (Received (Err stopped) o) waits = refl
 given-waits (Ran result) waits = refl
 given-waits (Refilled result) waits = refl
+given-waits (Submitted result) waits = refl
+given-waits (Advanced result) waits = refl
 
 given-stopped : (side : Side) (frame : List ℕ) (reply : Reply) → IsStopped (call_on side frame) reply → given_by reply ≡ []
 given-stopped Controlled frame (Protected (Ok pn) o) stopped = absurd stopped
@@ -132,11 +140,15 @@ given-stopped Controlled frame (Protected (Err fault) o) stopped = refl
 given-stopped Controlled frame (Received result o) stopped = absurd stopped
 given-stopped Controlled frame (Ran result) stopped = refl
 given-stopped Controlled frame (Refilled result) stopped = refl
+given-stopped Controlled frame (Submitted result) stopped = refl
+given-stopped Controlled frame (Advanced result) stopped = refl
 given-stopped Common frame (Received (Ok verdict) o) stopped = absurd stopped
 given-stopped Common frame (Received (Err s) o) stopped = refl
 given-stopped Common frame (Protected result o) stopped = absurd stopped
 given-stopped Common frame (Ran result) stopped = refl
 given-stopped Common frame (Refilled result) stopped = refl
+given-stopped Common frame (Submitted result) stopped = refl
+given-stopped Common frame (Advanced result) stopped = refl
 
 abbrev other : Side → Side
 other Controlled = Common
@@ -160,9 +172,9 @@ module _ {D : Type 0} where
   given-there Controlled frame reply after = refl
   given-there Common frame reply after = refl
 
-  given-refills : (side : Side) (reply : Reply) (after : EndpointValue D) → given side (record { call = Refills; reply = reply; after = after } ∷ []) ≡ []
-  given-refills Controlled reply after = refl
-  given-refills Common reply after = refl
+  given-steps : (side : Side) (reply : Reply) (after : EndpointValue D) → given side (record { call = Advances; reply = reply; after = after } ∷ []) ≡ []
+  given-steps Controlled reply after = refl
+  given-steps Common reply after = refl
 
 -- ---- one way
 
@@ -472,12 +484,12 @@ module _ {D : Type 0} (disk_of : D → Disk) where
   none-behind : (side : Side) (all : List (List ℕ)) (calls : List (Turn D)) → given side calls ≡ [] → all ++ given side calls ≡ all
   none-behind side all calls none = ap (λ (l : List (List ℕ)). all ++ l) none ∙ append-nil all
 
-  turn-goes : (answer : Result (Unit {0}) RefillFault) (old between new : Relay D) → Goes disk_of old between → TakesTurn disk_of answer between new → Goes disk_of old new
+  turn-goes : (answer : Result Progress StepFault) (old between new : Relay D) → Goes disk_of old between → TakesTurn disk_of answer between new → Goes disk_of old new
   turn-goes answer old between new goes (late, (endpoint, controlled, common, carries_out, carries_back), sound, call) =
       let one = carries-moves disk_of Controlled (way_of between.endpoint between.controlled between.common between.to_common)
       (way_of endpoint controlled common new.to_common) carries_out in
       let two = carries-moves disk_of Common (way_of endpoint common controlled between.to_controlled) (way_of late new.common new.controlled new.to_controlled) carries_back in
-      let three : Turn D = record { call = Refills; reply = Refilled answer; after = new.endpoint } in
+      let three : Turn D = record { call = Advances; reply = Advanced answer; after = new.endpoint } in
       let lives_one = lives-append disk_of old.endpoint between.endpoint endpoint goes.calls one.calls goes.lives one.lives in
       let lives_two = lives-append disk_of old.endpoint endpoint late (goes.calls ++ one.calls) two.calls lives_one two.lives in
       let out_one = one.here old.controlled old.common (given Controlled goes.calls) goes.out in
@@ -513,14 +525,14 @@ module _ {D : Type 0} (disk_of : D → Disk) where
     out = flow-begins old.controlled old.common old.to_common out;
     back = flow-begins old.common old.controlled old.to_controlled back;
   })
-  turns-go (suc turns) old new out back (between, before, last) =
-      turn-goes (Ok tt) old between new (turns-go turns old between out back before) last
+  turns-go (suc turns) old new out back (between, progress, before, last) =
+      turn-goes (Ok progress) old between new (turns-go turns old between out back before) last
 
   relay-goes : {T : Type 0} (turns : ℕ) (old new : Relay D) (result : Result T RefillFault) → old.to_common ≡ empty_lane → old.to_controlled ≡ empty_lane
       → Relays disk_of turns old result new → Goes disk_of old new
   relay-goes turns old new (Ok summary) out back took = turns-go turns old new out back took
-  relay-goes turns old new (Err fault) out back (done, between, few, before, last) =
-      turn-goes (Err fault) old between new (turns-go done old between out back before) last
+  relay-goes turns old new (Err fault) out back (done, between, at, named, few, before, last) =
+      turn-goes (Err at) old between new (turns-go done old between out back before) last
 
   -- what is counted is what went
   pub relay-flows : {T : Type 0} (turns : ℕ) (old new : Relay D) (result : Result T RefillFault) → old.to_common ≡ empty_lane → old.to_controlled ≡ empty_lane

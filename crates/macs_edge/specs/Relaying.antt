@@ -2,10 +2,13 @@
 use Rattle.std.specs.Prelude.{◌≡◌, ◌⊎◌, ◌<◌, ◌+◌, ℕ, zero, suc, if◌then◌else◌, List, Option, Some, None, IfOk, Result, Ok, Err}
 use Rattle.macs_disk.specs.Disk.{Disk}
 use Rattle.macs_endpoint.specs.Calls.{IsCall}
-use Rattle.macs_endpoint.specs.State.{Refilled, Refills, Reply}
+use Rattle.macs_endpoint.specs.Faults.{refill_fault_named}
+use Rattle.macs_endpoint.specs.State.{Advanced, Advances, Reply}
 use Rattle.macs_endpoint.specs.Step.{IsStopped}
 use Rattle.macs_endpoint.specs.Value.{EndpointValue, IsSoundEndpoint}
 use Rattle.macs_endpoint.specs.declared.fault.RefillFault.{RefillFault}
+use Rattle.macs_endpoint.specs.declared.fault.StepFault.{StepFault}
+use Rattle.macs_endpoint.specs.declared.progress.Step.{Step as Progress}
 use Rattle.macs_edge.specs.Settling.{Settles, Waits, call_on}
 use Rattle.macs_edge.specs.Wires.{Receives, Sends, WireState, saturated}
 use Rattle.macs_edge.specs.declared.relaying.Lane.{Lane}
@@ -121,16 +124,17 @@ CarriesBoth {D} disk_of old new = (endpoint : EndpointValue D) × (controlled : 
     × Carries disk_of Controlled (way_of old.endpoint old.controlled old.common old.to_common) (way_of endpoint controlled common new.to_common)
     × Carries disk_of Common (way_of endpoint common controlled old.to_controlled) (way_of new.endpoint new.common new.controlled new.to_controlled)
 
--- a turn, with the answer of its refill
-abbrev pub TakesTurn : {D : Type 0} → (D → Disk) → Result (Unit {0}) RefillFault → Relay D → Relay D → Type 0
+-- a turn, with the answer of its step
+abbrev pub TakesTurn : {D : Type 0} → (D → Disk) → Result Progress StepFault → Relay D → Relay D → Type 0
 TakesTurn {D} disk_of answer old new = (endpoint : EndpointValue D)
     × CarriesBoth disk_of old (record new { endpoint = endpoint })
-    × IsSoundEndpoint endpoint × IsCall disk_of endpoint Refills (Refilled answer) new.endpoint
+    × IsSoundEndpoint endpoint × IsCall disk_of endpoint Advances (Advanced answer) new.endpoint
 
--- so many turns, each with a refill that is answered Ok
+-- so many turns, each with a step that is answered Ok
 abbrev pub TakesTurns : {D : Type 0} → (D → Disk) → ℕ → Relay D → Relay D → Type 0
 TakesTurns disk_of zero old new = new ≡ old
-TakesTurns {D} disk_of (suc turns) old new = (between : Relay D) × TakesTurns disk_of turns old between × TakesTurn disk_of (Ok tt) between new
+TakesTurns {D} disk_of (suc turns) old new = (between : Relay D) × (progress : Progress)
+    × TakesTurns disk_of turns old between × TakesTurn disk_of (Ok progress) between new
 
 -- ---- a run
 
@@ -147,11 +151,12 @@ summary_of to_common to_controlled = record {
   faults = saturated (to_common.tally.faults + to_controlled.tally.faults);
 }
 
--- All turns are taken; or the refill of one of them is answered with a fault, and it is the last one
+-- All turns are taken; or the step of one of them is answered with the fault of that name, and it is the last one
 abbrev pub Relays : {D : Type 0} {T : Type 0} → (D → Disk) → ℕ → Relay D → Result T RefillFault → Relay D → Type 0
 Relays disk_of turns old (Ok summary) new = TakesTurns disk_of turns old new
 Relays {D} disk_of turns old (Err fault) new =
-    (done : ℕ) × (between : Relay D) × (done < turns) × TakesTurns disk_of done old between × TakesTurn disk_of (Err fault) between new
+    (done : ℕ) × (between : Relay D) × (at : StepFault) × (fault ≡ refill_fault_named at)
+    × (done < turns) × TakesTurns disk_of done old between × TakesTurn disk_of (Err at) between new
 
 -- a relay, and what it answers
 abbrev pub IsRelayed : {D : Type 0} → (D → Disk) → ℕ → Relay D → Result RelaySummary RefillFault → EndpointValue D → WireState → WireState → Type 0

@@ -163,12 +163,13 @@ fn summed(to_common: &Lane, to_controlled: &Lane) -> RelaySummary
 
 /// Relays frames between two wires, in so many turns. In each turn a plain frame is taken from the
 /// controlled wire, protected, and sent on the common wire; then a frame is taken from the common wire, and
-/// sent on the controlled wire if it is delivered; then packet numbers are reserved by `refill`, where
-/// they are needed. A frame that waits for packet numbers stays in its slot for the next turn, and no
-/// other is taken on its side. No frame is sent twice, not even after a failed send.
+/// sent on the controlled wire if it is delivered; then the work on the disk goes on by one `step`, where
+/// there is any: at most one device call stands between two frames. A frame that waits for packet numbers
+/// stays in its slot for the next turn, and no other is taken on its side. No frame is sent twice, not
+/// even after a failed send.
 ///
-/// Ends before the last turn with the fault of a `refill`. The frames of that turn were handed in then,
-/// and those that passed were sent. No call waits: where no frame comes a turn is soon over. Memory is
+/// Ends before the last turn with the fault that has the name of a step's. The frames of that turn were
+/// handed in then, and those that passed were sent. No call waits: where no frame comes a turn is soon over. Memory is
 /// taken for three frames and for nothing else.
 pub fn relay<D: SectorDisk, P: Wire, C: Wire>(
     endpoint: &mut Endpoint<D>,
@@ -201,7 +202,7 @@ pub fn relay<D: SectorDisk, P: Wire, C: Wire>(
             &mut out,
         );
         endpoint.facts();
-        endpoint.refill()?;
+        endpoint.step()?;
     }
     Ok(summed(&to_common, &to_controlled))
 }

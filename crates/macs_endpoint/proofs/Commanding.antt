@@ -1,9 +1,8 @@
--- A command that is kept and followed, or refused, or cut short.
-use Rattle.std.proofs.Common.{◌≡◌, ◌≤◌, ◌⊎◌, inl, inr, ℕ, Bool, true, false, not, ◌&&◌, if◌then◌else◌, List, Option, Some, None, Result, Ok, Err, is_ok, IsOk, refl, sym, ◌∙◌, ap, subst}
-use Rattle.std.specs.Prelude.{IsErrOf}
-use Rattle.macs_config.specs.Apply.{IsCommand, apply}
+-- A command that does not wait: it is kept and followed, or refused, or cut short.
+use Rattle.std.proofs.Common.{◌≡◌, ◌≤◌, ◌+◌, [], inl, inr, ℕ, true, false, not, ◌&&◌, if◌then◌else◌, List, Option, Some, None, Result, Ok, Err, is_ok, IsOk, refl, sym, ◌∙◌, ap, subst, arith}
+use Rattle.macs_config.specs.Apply.{IsCommand, answer_or_refusal, apply, config_after, refusal_of}
 use Rattle.macs_config.specs.Config.{Config, this_edition}
-use Rattle.macs_config.specs.Identity.{IsIdentity}
+use Rattle.macs_config.specs.Identity.{Identity, IsIdentity}
 use Rattle.macs_config.specs.declared.command.Command.{Command}
 use Rattle.macs_config.specs.declared.refusal.Refusal.{Refusal}
 use Rattle.macs_disk.specs.Disk.{IsHonest}
@@ -16,151 +15,174 @@ use Rattle.macs_txsc.specs.declared.channel.Tx.{Tx}
 use Rattle.macs_rxsc.specs.Receive.{Numbers}
 use Rattle.macs_rxsc.specs.Value as rxsc
 use Rattle.macs_store.specs.Found.{CommitLeaves}
-use Rattle.macs_store.specs.Keeps.{Commits}
-use Rattle.macs_store.specs.Value.{standing_in}
+use Rattle.macs_store.specs.Keeps.{Commits, most_calls}
+use Rattle.macs_store.specs.Value.{IsIdle, slots_then, standing_in}
 use Rattle.macs_store.specs.Value as store
-use Rattle.macs_store.specs.Standing.{Standing, standing_or_refusal, ceilings_after}
+use Rattle.macs_store.specs.Standing.{Standing, accept, ceilings_after, standing_or_refusal}
 use Rattle.macs_store.specs.Table.{standing_of}
 use Rattle.macs_store.proofs.Keeping.{accepted-in_range}
 use Rattle.macs_store.specs.declared.fault.CommitFault.{CommitFault}
-use Rattle.macs_store.specs.declared.fault.CommitFault.TheVariants.{Disk, GenerationsSpent, Refused, Stopped}
-use Rattle.macs_endpoint.specs.Calls.{Fails, IsCall}
+use Rattle.macs_store.specs.declared.fault.CommitFault.TheVariants as commit
+use Rattle.macs_endpoint.specs.Advancing.{turn_after}
+use Rattle.macs_endpoint.specs.Calls.{Fails, IsCall, Rests}
+use Rattle.macs_endpoint.specs.Ceilings.{Raise, StandsRan, standing_with_reserved}
 use Rattle.macs_endpoint.specs.Counting.{channel_counters_after_command}
-use Rattle.macs_endpoint.specs.Value.{AreChannels, AreWithin, EndpointValue, IsBacked, IsSoundEndpoint, disk_in, is_stopped, state_of}
+use Rattle.macs_endpoint.specs.Keeping.{KeepsCommand, most_in_command, most_with}
 use Rattle.macs_endpoint.specs.Limits.{IsLimited, IsStill}
-use Rattle.macs_endpoint.specs.Restart.{Fits, FitsCall, state_during}
+use Rattle.macs_endpoint.specs.Restart.{Fits, FitsCall, state_during, state_taking_alone}
 use Rattle.macs_endpoint.specs.State.{Accepts, Commands, Logs, Ran, State, state_after_fault, state_with_in_hand}
 use Rattle.macs_endpoint.specs.Step.{Step, next_after, numbers_after}
+use Rattle.macs_endpoint.specs.Value.{AreChannels, EndpointValue, IsBacked, IsSoundEndpoint, disk_in, is_stopped, state_of}
+use Rattle.macs_endpoint.specs.declared.fault.CommandFault.{CommandFault}
+use Rattle.macs_endpoint.specs.declared.fault.CommandFault.TheVariants.{Busy, Disk, GenerationsSpent, Refused, Stopped}
+use Rattle.macs_endpoint.specs.declared.queue.Waiting.{Waiting}
+use Rattle.macs_endpoint.specs.declared.turn.Turn.TheVariants as turn
 use Rattle.macs_endpoint.proofs.Alone.{alone-call}
-use Rattle.macs_endpoint.proofs.Fitting.{AreAhead, accept-parts, ahead-within, command-ahead, fits-commit, kept-ahead, kept-backed}
+use Rattle.macs_endpoint.proofs.Ended.{kept-held, not_stopped}
+use Rattle.macs_endpoint.proofs.Fitting.{AreAhead, accept-parts, ahead-within, command-ahead, fits-commit, kept-ahead}
+use Rattle.macs_endpoint.proofs.InHand.{at-rest, kept-backed}
 
 -- ---- refusals
 
-not_true : (b : Bool) → (b ≡ true → ⊥) → b ≡ false
-not_true true never = absurd (never refl)
-not_true false never = refl
-
--- a command that is not refused is accepted
-unrefused : (s : Standing) (command : Command) (result : Result Config Refusal)
-    → ((refusal : Refusal) → standing_or_refusal s command result ≡ Err refusal → ⊥) → IsOk result
-unrefused s command (Ok config) never = refl
-unrefused s command (Err refusal) never = absurd (never refusal refl)
-
-by_accepted : (s : Standing) (command : Command) (result : Result Config Refusal) → IsOk (standing_or_refusal s command result) → IsOk result
+pub by_accepted : (s : Standing) (command : Command) (result : Result Config Refusal) → IsOk (standing_or_refusal s command result) → IsOk result
 by_accepted s command (Ok config) is = refl
 by_accepted s command (Err refusal) is = absurd cc
 
-by_refused : (s : Standing) (command : Command) (result : Result Config Refusal) (refusal : Refusal) → standing_or_refusal s command result ≡ Err refusal
-    → result ≡ Err refusal
-by_refused s command (Ok config) refusal is = absurd cc
-by_refused s command (Err other) refusal is = let same : other ≡ refusal = cc in ap Err same
+-- what is refused is not applied
+pub refused-by : (identity other : Identity) (config same : Config) (command : Command) (refusal : Refusal) → other ≡ identity → same ≡ config
+    → refusal_of this_edition other same command ≡ Some refusal → apply this_edition identity config command ≡ Err refusal
+refused-by identity other config same command refusal is_identity is_config is =
+    (λ i. apply this_edition (sym is_identity i) (sym is_config i) command)
+    ∙ ap (λ (o : Option Refusal). answer_or_refusal o (config_after same command)) is
 
 -- a command is in hand while it is kept
-during-held : (s : State) (command : Command) → s.stopped ≡ false → Accepts s command → state_during s (Commands command) ≡ state_with_in_hand s command
-during-held s command running accepts = λ i. if not (running i) && accepts i then state_with_in_hand s command else s
+during-held : (s : State) (command : Command) → s.waiting ≡ [] → s.stopped ≡ false → Accepts s command
+    → state_during s (Commands command) ≡ state_with_in_hand s command
+during-held s command none running accepts =
+    ap (λ (waiting : List Waiting). state_taking_alone s command waiting) none
+    ∙ (λ i. if not (running i) && accepts i then state_with_in_hand s command else s)
 
--- ---- what does not change
-
--- another store under the same channels
-pub kept-held : {D : Type 0} (e : EndpointValue D) → IsSoundEndpoint e → (s : store.StoreValue D) (in_hand : Option Command) → standing_in s ≡ standing_in e.store
-    → store.IsIdle s → (store.is_stopped s ≡ false → in_hand ≡ None) → IsSoundEndpoint {D = D} (record { store = s; tx = e.tx; rx = e.rx; in_hand = in_hand })
-kept-held e kept s in_hand same rest idle = record {
-  identity = subst (λ (x : Standing). IsIdentity x.identity) (sym same) kept.identity;
-  channels = subst (λ (x : Standing). AreChannels e.tx e.rx x) (sym same) kept.channels;
-  within = subst (λ (x : Standing). AreWithin e.tx e.rx x.identity) (sym same) kept.within;
-  rest = rest;
-  idle = idle;
-}
-
-module _ {D : Type 0} (disk_of : D → disk.Disk) (e : EndpointValue D) (kept : IsSoundEndpoint e) (command : Command) (ranges : IsCommand this_edition command) where
-  -- ---- a refusal
-
-  unchanged : (fault : CommitFault) → ((logs : Logs) → Step (state_of e logs) (Commands command) (Ran (Err fault)) (state_of e logs))
-      → Fails (disk_in disk_of e) (disk_in disk_of e) (Ran (Err fault)) → IsLimited e (Commands command) (Ran (Err fault)) e
-      → IsStill e (Commands command) (Ran (Err fault)) e → IsCall disk_of e (Commands command) (Ran (Err fault)) e
-  unchanged fault step fails limited still = alone-call disk_of e e.tx e.rx (Commands command) (Ran (Err fault)) fails (λ backed. backed) (record {
+module _ {D : Type 0} (disk_of : D → disk.Disk) (e : EndpointValue D) (command : Command) (ranges : IsCommand this_edition command) where
+  -- nothing changes but whose turn it is
+  unmoved : (fault : CommandFault) (other : EndpointValue D) → other.tx ≡ e.tx → other.rx ≡ e.rx
+      → ((logs : Logs) → Step (state_of e logs) (Commands command) (Ran (Err fault)) (state_of (record other { store = e.store }) logs))
+      → Fails (disk_in disk_of e) (disk_in disk_of e) (Ran (Err fault))
+      → StandsRan (standing_in e.store) e.reserving command (Err fault) (standing_in e.store)
+      → IsLimited e (Commands command) (Ran (Err fault)) (record other { store = e.store })
+      → IsStill e (Commands command) (Ran (Err fault)) (record other { store = e.store })
+      → Rests (Commands command) (Ran (Err fault)) (record other { store = e.store })
+      → other.turn ≡ turn_after e (Commands command) (Ran (Err fault))
+      → (IsBacked disk_of e → IsBacked disk_of (record other { store = e.store }))
+      → IsCall disk_of e (Commands command) (Ran (Err fault)) (record other { store = e.store })
+  unmoved fault other tx rx step fails stands limited still rests whose backs = alone-call disk_of e other (Commands command) (Ran (Err fault)) fails backs (record {
     in_range = ranges;
     step = λ logs. (logs, step logs);
-    ceilings = refl;
+    ceilings = stands;
     limited = limited;
     still = still;
-    tx_counters = refl;
-    rx_counters = refl;
-    channel_counters = refl;
+    rests = rests;
+    advances = tt;
+    turn = whose;
+    tx_counters = ap txsc.counters_of tx;
+    rx_counters = ap rxsc.counters_of rx;
+    channel_counters = ap rxsc.channel_counters_of rx;
   })
 
-  unchanged_by : (fault : CommitFault) → (fault ≡ Disk → ⊥) → Commits disk_of e.store command (Err fault) e.store
-      → IsCall disk_of e (Commands command) (Ran (Err fault)) e
-  unchanged_by Disk other commits = absurd (other refl)
-  unchanged_by Stopped other commits = unchanged Stopped (λ logs. inl (commits.stopped.0 refl, tt, refl)) refl tt refl
-  unchanged_by (Refused refusal) other commits =
-      let is = commits.refused refusal in
-      let both = is.0 refl in
-      let s = standing_in e.store in
-      unchanged (Refused refusal)
-      (λ logs. inr (both.0, (by_refused s command (apply s.edition s.identity s.config command) refusal both.1, refl))) refl tt refl
-  unchanged_by GenerationsSpent other commits =
-      let both = commits.spent.0 refl in
-      let s = standing_in e.store in
-      unchanged GenerationsSpent
-      (λ logs. inr (both.1.0, (by_accepted s command (apply s.edition s.identity s.config command) both.0, refl))) refl both.1 refl
+  quick : (disk_in disk_of e).clock ≤ (disk_in disk_of e).clock + most_in_command e
+  quick = omega arith
 
-  not_disk : (fault : CommitFault) (s : store.StoreValue D) → (fault ≡ Disk → ⊥) → IsErrOf {T = Unit {0}} (Err fault) Disk ⊎ (s ≡ e.store) → s ≡ e.store
-  not_disk fault s other either = elim either [
-    | inl is ↦ absurd (other (let same : fault ≡ Disk = cc in same))
-    | inr same ↦ same
-  ]
+  pub stopped-command : is_stopped e ≡ true → KeepsCommand disk_of e command (Err Stopped) e
+  stopped-command stopped = record {
+    call = unmoved Stopped e refl refl (λ logs. inl (stopped, tt, refl)) refl refl tt refl tt refl (λ backed. backed);
+    most = quick;
+  }
 
-  same_store : (fault : CommitFault) (s : store.StoreValue D) → (fault ≡ Disk → ⊥) → Commits disk_of e.store command (Err fault) s → s ≡ e.store
-  same_store fault s other commits = not_disk fault s other commits.same
+  pub busy-command : is_stopped e ≡ false → ¬ (e.waiting ≡ []) → KeepsCommand disk_of e command (Err Busy) e
+  busy-command running waits = record {
+    call = unmoved Busy e refl refl (λ logs. inr (running, (waits, refl))) refl refl tt refl tt refl (λ backed. backed);
+    most = quick;
+  }
 
-  pub refused-call : (fault : CommitFault) (s : store.StoreValue D) → (fault ≡ Disk → ⊥) → Commits disk_of e.store command (Err fault) s
-      → IsCall disk_of e (Commands command) (Ran (Err fault)) (record { store = s; tx = e.tx; rx = e.rx; in_hand = e.in_hand })
-  refused-call fault s other commits =
-      let same = same_store fault s other commits in
-      subst (λ (x : store.StoreValue D). IsCall disk_of e (Commands command) (Ran (Err fault)) (record { store = x; tx = e.tx; rx = e.rx; in_hand = e.in_hand }))
-      (sym same)
-      (unchanged_by fault other (subst (λ (x : store.StoreValue D). Commits disk_of e.store command (Err fault) x) same commits))
+  turned_backed : IsBacked disk_of e → IsBacked disk_of (record e { turn = turn.Reservation })
+  turned_backed backed = record { size = backed.size; stored = backed.stored; fits = backed.fits }
 
-  pub refused-kept : (fault : CommitFault) (s : store.StoreValue D) → (fault ≡ Disk → ⊥) → Commits disk_of e.store command (Err fault) s
-      → IsSoundEndpoint {D = D} (record { store = s; tx = e.tx; rx = e.rx; in_hand = e.in_hand })
-  refused-kept fault s other commits =
-      let same = same_store fault s other commits in
-      kept-held e kept s e.in_hand (ap (λ (x : store.StoreValue D). standing_in x) same) commits.idle
-      (λ running. kept.idle (subst (λ (x : store.StoreValue D). store.is_stopped x ≡ false) same running))
+  pub refused-command : (refusal : Refusal) → is_stopped e ≡ false → e.waiting ≡ []
+      → apply this_edition (standing_in e.store).identity (standing_in e.store).config command ≡ Err refusal
+      → KeepsCommand disk_of e command (Err (Refused refusal)) (record e { turn = turn.Reservation })
+  refused-command refusal running none refused = record {
+    call = unmoved (Refused refusal) (record e { turn = turn.Reservation }) refl refl (λ logs. inr (running, (none, refused, refl))) refl refl tt refl tt refl turned_backed;
+    most = quick;
+  }
 
-  -- ---- while the command is kept
+-- ---- a command that is accepted
 
-  commit_moments : (new : disk.Disk) (later : State) (logs : Logs) → IsBacked disk_of e → is_stopped e ≡ false
-      → Accepts (state_of e logs) command → Leaves (disk_in disk_of e) new (CommitLeaves (standing_in e.store) command)
+pub ok_not_err : {X : Type 0} (result : Result X Refusal) (refusal : Refusal) → IsOk result → result ≡ Err refusal → ⊥
+ok_not_err (Ok x) refusal is not = absurd cc
+ok_not_err (Err other) refusal is not = absurd cc
+
+module _ {D : Type 0} (disk_of : D → disk.Disk) (e : EndpointValue D) (kept : IsSoundEndpoint e) (command : Command) (ranges : IsCommand this_edition command)
+    (running : is_stopped e ≡ false) (idle : IsIdle e.store) (none : e.waiting ≡ []) (accepted : IsOk (accept (standing_in e.store) command)) where
+  accepts : IsOk (apply this_edition (standing_in e.store).identity (standing_in e.store).config command)
+  accepts = by_accepted (standing_in e.store) command (apply this_edition (standing_in e.store).identity (standing_in e.store).config command) accepted
+
+  free : e.reserving ≡ None
+  free = (at-rest e kept idle).reserving
+
+  no_hand : e.in_hand ≡ None
+  no_hand = (at-rest e kept idle).in_hand running
+
+  few_calls : (old new : ℕ) → new ≤ old + most_calls e.store → new ≤ old + most_in_command e
+  few_calls old new within =
+      let same : most_with (slots_then e.store) (standing_with_reserved (standing_in e.store) e.reserving) ≡ most_calls e.store =
+      λ i. most_with (store.slots_with e.store (idle i)) (standing_with_reserved (standing_in e.store) (free i)) in
+      omega (arith, within, same)
+
+  stands_ran : (result : Result (Unit {0}) CommandFault) (s : Standing) → StandsRan (standing_in e.store) None command result s
+      → StandsRan (standing_in e.store) e.reserving command result s
+  stands_ran result s stands = subst (λ (o : Option Raise). StandsRan (standing_in e.store) o command result s) (sym free) stands
+
+  -- the journal cannot begin anew
+  pub spent-command : (s : store.StoreValue D) → Commits disk_of e.store command (Err commit.GenerationsSpent) s
+      → KeepsCommand disk_of e command (Err GenerationsSpent) (record e { store = s; turn = turn.Reservation })
+  spent-command s commits =
+      let same : s ≡ e.store = elim commits.same [
+        | inl is ↦ absurd cc
+        | inr is ↦ is
+      ] in
+      let spent = (commits.spent.0 refl).1 in
+      subst (λ (x : store.StoreValue D). KeepsCommand disk_of e command (Err GenerationsSpent) (record e { store = x; turn = turn.Reservation })) (sym same)
+      (record {
+        call = unmoved disk_of e command ranges GenerationsSpent (record e { turn = turn.Reservation }) refl refl
+            (λ logs. inr (running, (none, accepts, refl))) refl (stands_ran (Err GenerationsSpent) (standing_in e.store) refl) spent tt idle refl
+            (turned_backed disk_of e command ranges);
+        most = quick disk_of e command ranges;
+      })
+
+  moments : (new : disk.Disk) (later : State) (logs : Logs) → IsBacked disk_of e → Leaves (disk_in disk_of e) new (CommitLeaves (standing_in e.store) command)
       → Leaves (disk_in disk_of e) new (FitsCall (disk_in disk_of e).sectors (state_of e logs) (Commands command) later)
-  commit_moments new later logs backed running accepts leaves =
+  moments new later logs backed leaves =
       let sectors = (disk_in disk_of e).sectors in
       let old = state_of e logs in
       Leaves-weaker (disk_in disk_of e) new (CommitLeaves (standing_in e.store) command) (FitsCall sectors old (Commands command) later)
-      (λ image left. inl (subst (λ (s : State). Fits this_edition sectors image s) (sym (during-held old command running accepts))
+      (λ image left. inl (subst (λ (s : State). Fits this_edition sectors image s) (sym (during-held old command none running accepts))
       (fits-commit sectors image backed.size (state_with_in_hand old command) (standing_in e.store).ceilings command (kept-ahead e kept) ranges refl left)))
       leaves
 
   -- ---- a device call failed
 
-  module _ (s : store.StoreValue D) (commits : Commits disk_of e.store command (Err Disk) s) where
+  module _ (s : store.StoreValue D) (commits : Commits disk_of e.store command (Err commit.Disk) s) where
     abbrev cut : EndpointValue D
-    cut = record { store = s; tx = e.tx; rx = e.rx; in_hand = Some command }
-
-    cut_running : is_stopped e ≡ false
-    cut_running = not_true (is_stopped e) (λ is. let same = commits.stopped.1 is in cc)
-
-    cut_accepts : IsOk (apply this_edition (standing_in e.store).identity (standing_in e.store).config command)
-    cut_accepts =
-        unrefused (standing_in e.store) command (apply this_edition (standing_in e.store).identity (standing_in e.store).config command)
-        (λ refusal is. let parts = commits.refused refusal in let same = parts.1 (cut_running, is) in cc)
+    cut = record e { store = s; in_hand = Some command; turn = turn.Reservation }
 
     cut_same : standing_in s ≡ standing_in e.store
     cut_same = ap standing_of (commits.halted refl).1
 
+    cut_stopped : store.is_stopped s ≡ true
+    cut_stopped = (commits.halted refl).0
+
     pub cut-kept : IsSoundEndpoint cut
-    cut-kept = kept-held e kept s (Some command) cut_same commits.idle (λ running. absurd (let stopped = (commits.halted refl).0 in cc))
+    cut-kept = kept-held e cut kept cut_same kept.few kept.tickets
+        (inl (record { store = commits.idle; reserving = free; in_hand = λ going. absurd (not_stopped (store.is_stopped s) cut_stopped going) }))
 
     cut_state : (logs : Logs) → state_of cut logs ≡ state_after_fault (state_with_in_hand (state_of e logs) command)
     cut_state logs = λ i. record {
@@ -170,42 +192,48 @@ module _ {D : Type 0} (disk_of : D → disk.Disk) (e : EndpointValue D) (kept : 
       next = (txsc.tx_side_of e.tx).next;
       numbers = (rxsc.rx_side_of e.rx).numbers;
       logs = logs;
-      stopped = (commits.halted refl).0 i;
+      stopped = cut_stopped i;
       in_hand = Some command;
+      waiting = e.waiting;
+      tickets = e.tickets;
     }
 
     cut_backed : IsHonest (disk_in disk_of cut) → IsBacked disk_of e → IsBacked disk_of cut
     cut_backed honest backed =
         let sectors = (disk_in disk_of cut).sectors in
         let size : least_sectors ≤ sectors = subst (λ (n : ℕ). least_sectors ≤ n) (sym commits.work.works.sectors) backed.size in
-        let leaves = commits.any_moment honest (backed.stored cut_running) in
+        let leaves = commits.any_moment honest (backed.stored running) in
         record {
           size = size;
-          stored = λ running. absurd (let stopped = (commits.halted refl).0 in cc);
+          stored = λ going. absurd (not_stopped (store.is_stopped s) cut_stopped going);
           fits = λ logs image left. subst (λ (x : State). Fits this_edition sectors image x) (sym (cut_state logs))
               (fits-commit sectors image size (state_after_fault (state_with_in_hand (state_of e logs) command)) (standing_in e.store).ceilings command (kept-ahead e kept) ranges refl
               (Leaves-now (disk_in disk_of e) (disk_in disk_of cut) (CommitLeaves (standing_in e.store) command) leaves image left));
         }
 
-    pub cut-call : IsCall disk_of e (Commands command) (Ran (Err Disk)) cut
-    cut-call = record {
-      behaves = record {
-        in_range = ranges;
-        step = λ logs. (logs, inr (cut_running, (cut_accepts, cut_state logs)));
-        ceilings = cut_same;
-        limited = tt;
-        still = tt;
-        tx_counters = refl;
-        rx_counters = refl;
-        channel_counters = refl;
+    pub cut-command : KeepsCommand disk_of e command (Err Disk) cut
+    cut-command = record {
+      call = record {
+        behaves = record {
+          in_range = ranges;
+          step = λ logs. (logs, inr (running, (none, accepts, cut_state logs)));
+          ceilings = stands_ran (Err Disk) (standing_in s) (inl cut_same);
+          limited = tt;
+          still = tt;
+          rests = tt;
+          advances = tt;
+          turn = refl;
+          tx_counters = refl;
+          rx_counters = refl;
+          channel_counters = refl;
+        };
+        device = record { works = commits.work.works; fails = commits.work.fails };
+        survives = λ honest backed. record {
+          any_moment = λ logs later. moments (disk_in disk_of cut) (state_of cut later) logs backed (commits.any_moment honest (backed.stored running));
+          backed = cut_backed honest backed;
+        };
       };
-      device = record { works = commits.work.works; fails = commits.work.fails };
-      survives = λ honest backed. record {
-        any_moment = λ logs later.
-            commit_moments (disk_in disk_of cut) (state_of cut later) logs backed cut_running cut_accepts
-            (commits.any_moment honest (backed.stored cut_running));
-        backed = cut_backed honest backed;
-      };
+      most = few_calls (disk_in disk_of e).clock (disk_in disk_of cut).clock commits.most;
     }
 
   -- ---- the command was kept
@@ -215,13 +243,7 @@ module _ {D : Type 0} (disk_of : D → disk.Disk) (e : EndpointValue D) (kept : 
       (next : (txsc.tx_side_of tx).next ≡ next_after command (txsc.tx_side_of e.tx).next)
       (numbers : (rxsc.rx_side_of rx).numbers ≡ numbers_after command (rxsc.rx_side_of e.rx).numbers) where
     abbrev done : EndpointValue D
-    done = record { store = s; tx = tx; rx = rx; in_hand = e.in_hand }
-
-    done_running : is_stopped e ≡ false
-    done_running = not_true (is_stopped e) (λ is. let same = commits.stopped.1 is in cc)
-
-    done_idle : e.in_hand ≡ None
-    done_idle = kept.idle done_running
+    done = record e { store = s; tx = tx; rx = rx; turn = turn.Reservation }
 
     pub done-kept : IsSoundEndpoint done
     done-kept =
@@ -242,55 +264,69 @@ module _ {D : Type 0} (disk_of : D → disk.Disk) (e : EndpointValue D) (kept : 
           identity = subst (λ (x : Standing). IsIdentity x.identity) (sym made) kept.identity;
           channels = channels;
           within = ahead-within tx rx (standing_in s) channels third;
-          rest = commits.idle;
-          idle = λ running. done_idle;
+          few = kept.few;
+          tickets = kept.tickets;
+          work = inl (record { store = commits.idle; reserving = free; in_hand = λ going. no_hand });
         }
 
-    done_accepts : IsOk (apply this_edition (standing_in e.store).identity (standing_in e.store).config command)
-    done_accepts = ap is_ok (accept-parts (standing_in e.store) command (standing_in s) commits.done).1
-
-    pub done-call : txsc.counters_of tx ≡ txsc.counters_of e.tx → rxsc.counters_of rx ≡ rxsc.counters_of e.rx
+    pub done-command : txsc.counters_of tx ≡ txsc.counters_of e.tx → rxsc.counters_of rx ≡ rxsc.counters_of e.rx
         → rxsc.channel_counters_of rx ≡ channel_counters_after_command command (rxsc.channel_counters_of e.rx)
-        → IsCall disk_of e (Commands command) (Ran (Ok tt)) done
-    done-call tx_counters rx_counters channel_counters =
+        → KeepsCommand disk_of e command (Ok tt) done
+    done-command tx_counters rx_counters channel_counters =
         let parts = accept-parts (standing_in e.store) command (standing_in s) commits.done in
         record {
-          behaves = record {
-            in_range = ranges;
-            step = λ logs. (
-              logs,
-              inr (
-                done_running,
-                (
-                  parts.0,
-                  parts.1,
-                  λ i. record {
-                    edition = this_edition;
-                    identity = (parts.2 i).identity;
-                    config = (parts.2 i).config;
-                    next = next i;
-                    numbers = numbers i;
-                    logs = logs;
-                    stopped = (commits.running ∙ sym done_running) i;
-                    in_hand = done_idle i;
-                  },
+          call = record {
+            behaves = record {
+              in_range = ranges;
+              step = λ logs. (
+                logs,
+                inr (
+                  running,
+                  (
+                    none,
+                    (
+                      parts.0,
+                      parts.1,
+                      λ i. record {
+                        edition = this_edition;
+                        identity = (parts.2 i).identity;
+                        config = (parts.2 i).config;
+                        next = next i;
+                        numbers = numbers i;
+                        logs = logs;
+                        stopped = (commits.running ∙ sym running) i;
+                        in_hand = no_hand i;
+                        waiting = e.waiting;
+                        tickets = e.tickets;
+                      },
+                    ),
+                  ),
                 ),
-              ),
-            );
-            ceilings = commits.done;
-            limited = tt;
-            still = tt;
-            tx_counters = tx_counters;
-            rx_counters = rx_counters;
-            channel_counters = channel_counters;
+              );
+              ceilings = stands_ran (Ok tt) (standing_in s) commits.done;
+              limited = tt;
+              still = tt;
+              rests = commits.idle;
+              advances = tt;
+              turn = refl;
+              tx_counters = tx_counters;
+              rx_counters = rx_counters;
+              channel_counters = channel_counters;
+            };
+            device = record { works = commits.work.works; fails = commits.work.fails };
+            survives = λ honest backed. record {
+              any_moment = λ logs later. moments (disk_in disk_of done) (state_of done later) logs backed (commits.any_moment honest (backed.stored running));
+              backed = kept-backed done done-kept disk_of
+                  (subst (λ (n : ℕ). least_sectors ≤ n) (sym commits.work.works.sectors) backed.size)
+                  (commits.stored honest (backed.stored running));
+            };
           };
-          device = record { works = commits.work.works; fails = commits.work.fails };
-          survives = λ honest backed. record {
-            any_moment = λ logs later.
-                commit_moments (disk_in disk_of done) (state_of done later) logs backed done_running done_accepts
-                (commits.any_moment honest (backed.stored done_running));
-            backed = kept-backed disk_of done done-kept
-                (subst (λ (n : ℕ). least_sectors ≤ n) (sym commits.work.works.sectors) backed.size)
-                (commits.stored honest (backed.stored done_running));
-          };
+          most = few_calls (disk_in disk_of e).clock (disk_in disk_of done).clock commits.most;
         }
+
+  -- no other refusal is left
+  pub spent_only : (at : CommitFault) (s : store.StoreValue D) → (¬ (at ≡ commit.Disk)) → Commits disk_of e.store command (Err at) s → at ≡ commit.GenerationsSpent
+  spent_only commit.Stopped s other commits = absurd (not_stopped (is_stopped e) (commits.stopped.0 refl) running)
+  spent_only (commit.Refused refusal) s other commits = absurd (ok_not_err (accept (standing_in e.store) command) refusal accepted ((commits.refused refusal).0 refl).1)
+  spent_only commit.GenerationsSpent s other commits = refl
+  spent_only commit.Disk s other commits = absurd (other refl)

@@ -1,16 +1,14 @@
 -- What a power loss leaves fits the state: what stands on the disk is a restart of it.
-use Rattle.std.proofs.Common.{◌≡◌, ◌≤◌, ◌<◌, ◌^◌, ◌==◌, ℕ, zero, suc, Bool, true, false, cond, inl, inr, List, bytes_eq, Option, Some, None, Result, Ok, Err, is_ok, refl, sym, ap, subst, arith}
+use Rattle.std.proofs.Common.{◌≡◌, ◌≤◌, ◌<◌, ◌^◌, ◌==◌, ◌&&◌, ◌∷◌, ◌∙◌, [], ℕ, zero, suc, Bool, true, false, not, cond, if◌then◌else◌, inl, inr, List, bytes_eq, Option, Some, None, Result, Ok, Err, is_ok, refl, sym, ap, subst, arith}
 use Rattle.std.specs.Option.{option_map}
-use Rattle.std.proofs.lemmas.Bool.{eq-eqb}
 use Rattle.macs_config.specs.Apply.{IsCommand, apply, has_wrong_start}
-use Rattle.macs_config.specs.Config.{Config, this_edition}
+use Rattle.macs_config.specs.Config.{Config, Edition, this_edition}
 use Rattle.macs_config.specs.Identity.{Identity}
 use Rattle.macs_config.specs.Tables.{put, put_at}
 use Rattle.macs_config.specs.declared.command.Command.{Command}
 use Rattle.macs_config.specs.declared.command.Command.TheVariants.{SetValidate, SetReplay, SetSciMode, TxInstall, TxUse, TxRemove, RxAdd, RxDrop, RxInstall, RxRemove}
 use Rattle.macs_config.specs.declared.refusal.Refusal.{Refusal}
-use Rattle.macs_config.proofs.Tables.{put-here, put_all}
-use Rattle.macs_disk.specs.Disk.{Disk}
+use Rattle.macs_config.proofs.Tables.{put_all}
 use Rattle.macs_disk.specs.States.{Image}
 use Rattle.macs_journal.specs.Areas.{least_sectors}
 use Rattle.macs_txsc.specs.Value as txsc
@@ -18,14 +16,15 @@ use Rattle.macs_txsc.specs.declared.channel.Tx.{Tx}
 use Rattle.macs_rxsc.specs.Receive.{Numbers, put_numbers, first_numbers, numbers_under_window}
 use Rattle.macs_rxsc.specs.Value as rxsc
 use Rattle.macs_store.specs.Found.{CommitLeaves, StandsFor}
-use Rattle.macs_store.specs.Value.{IsStored, standing_in}
+use Rattle.macs_store.specs.Value.{standing_in}
 use Rattle.macs_config.specs.Numbers.{block_beyond}
 use Rattle.macs_store.specs.Standing.{Ceilings, Standing, accept, standing_or_refusal, ceilings_after}
-use Rattle.macs_store.proofs.Keeping.{accepted-in_range, stored-image}
-use Rattle.macs_endpoint.specs.Value.{AreChannels, AreWithin, IsBacked, IsSoundEndpoint, IsRxWithin, IsTxWithin, EndpointValue, disk_in, state_of}
-use Rattle.macs_endpoint.specs.Restart.{Fits, Resumes, RxRises, TxRises, opened_state}
-use Rattle.macs_endpoint.specs.State.{Logs, State}
+use Rattle.macs_store.proofs.Keeping.{accepted-in_range}
+use Rattle.macs_endpoint.specs.Value.{AreChannels, AreWithin, IsSoundEndpoint, IsRxWithin, IsTxWithin, EndpointValue}
+use Rattle.macs_endpoint.specs.Restart.{Fits, Resumes, RxRises, TxRises, opened_state, state_during, state_taking, state_taking_alone, state_taking_first}
+use Rattle.macs_endpoint.specs.State.{Advances, Commands, State, state_with_in_hand}
 use Rattle.macs_endpoint.specs.Step.{next_after, numbers_after}
+use Rattle.macs_endpoint.specs.declared.queue.Waiting.{Waiting}
 
 -- ---- numbers and their ceilings
 
@@ -203,6 +202,8 @@ resumed s c are = record {
   logs = refl;
   running = refl;
   idle = refl;
+  waiting = refl;
+  tickets = refl;
 }
 
 -- ---- what fits a state
@@ -210,6 +211,11 @@ resumed s c are = record {
 -- the same configuration with these ceilings
 abbrev pub standing_with : State → Ceilings → Standing
 standing_with s c = record { edition = s.edition; identity = s.identity; config = s.config; ceilings = c }
+
+fits-if : (edition : Edition) (s t : State) (b : Bool) → (sectors : ℕ) (image : Image) → Fits edition sectors image t → Fits edition sectors image s
+    → Fits edition sectors image (if b then t else s)
+fits-if edition s t true sectors image taken fits = taken
+fits-if edition s t false sectors image taken fits = fits
 
 module _ (sectors : ℕ) (image : Image) (size : least_sectors ≤ sectors) where
   -- ceilings that are not too far ahead
@@ -245,20 +251,52 @@ module _ (sectors : ℕ) (image : Image) (size : least_sectors ≤ sectors) wher
     | inr later ↦ fits-command s c command later.0 are ranges holds later.1 later.2
   ]
 
--- ---- an endpoint
-
-module _ {D : Type 0} (disk_of : D → Disk) (e : EndpointValue D) (kept : IsSoundEndpoint e) where
-  -- an image that stands for what it has in memory
-  pub kept-fits : (sectors : ℕ) → least_sectors ≤ sectors → (logs : Logs) (image : Image) → StandsFor this_edition image (standing_in e.store)
-      → Fits this_edition sectors image (state_of e logs)
-  kept-fits sectors size logs image finds =
-      fits-ahead sectors image size (state_of e logs) (standing_in e.store).ceilings (kept-ahead e kept) finds
-
-  -- its disk holds what it has in memory
-  pub kept-backed : least_sectors ≤ (disk_in disk_of e).sectors → IsStored disk_of e.store → IsBacked disk_of e
-  kept-backed size stored = record {
-    size = size;
-    stored = λ running. stored;
-    fits = λ logs image left.
-        kept-fits (disk_in disk_of e).sectors size logs image (stored-image disk_of e.store kept.rest stored image left);
+  -- a command in hand leaves what fits
+  pub fits-holding : (edition : Edition) (s : State) (command : Command) → s.in_hand ≡ None → Fits edition sectors image s
+      → Fits edition sectors image (state_with_in_hand s command)
+  fits-holding edition s command free fits = record {
+    found = fits.found;
+    is_found = fits.is_found;
+    restart = elim fits.restart [
+      | inl is ↦ inl (record {
+        edition = is.edition;
+        identity = is.identity;
+        config = is.config;
+        next = is.next;
+        numbers = is.numbers;
+        logs = is.logs;
+        running = is.running;
+        idle = is.idle;
+        waiting = is.waiting;
+        tickets = is.tickets;
+      })
+      | inr is ↦ absurd (let held : Some is.0 ≡ None = sym is.2 ∙ free in cc)
+    ];
   }
+
+  -- and where it may be taken
+  pub fits-taking : (edition : Edition) (s : State) (command : Command) → s.in_hand ≡ None → Fits edition sectors image s
+      → Fits edition sectors image (state_taking s command)
+  fits-taking edition s command free fits =
+      fits-if edition s (state_with_in_hand s command) (not s.stopped && is_ok (apply s.edition s.identity s.config command)) sectors image
+      (fits-holding edition s command free fits) fits
+
+  fits-first : (edition : Edition) (s : State) (in_hand : Option Command) (waiting : List Waiting) → s.in_hand ≡ in_hand → Fits edition sectors image s
+      → Fits edition sectors image (state_taking_first s in_hand waiting)
+  fits-first edition s None [] free fits = fits
+  fits-first edition s None (first ∷ rest) free fits = fits-taking edition s first.command free fits
+  fits-first edition s (Some command) waiting holds fits = fits
+
+  -- what fits the state before a step fits it while the step is made
+  pub fits-advancing : (edition : Edition) (s : State) → Fits edition sectors image s → Fits edition sectors image (state_during s Advances)
+  fits-advancing edition s fits = fits-first edition s s.in_hand s.waiting refl fits
+
+  fits-alone : (edition : Edition) (s : State) (command : Command) (waiting : List Waiting) → s.in_hand ≡ None → Fits edition sectors image s
+      → Fits edition sectors image (state_taking_alone s command waiting)
+  fits-alone edition s command [] free fits = fits-taking edition s command free fits
+  fits-alone edition s command (first ∷ rest) free fits = fits
+
+  -- and while a command is kept
+  pub fits-commanding : (edition : Edition) (s : State) (command : Command) → s.in_hand ≡ None → Fits edition sectors image s
+      → Fits edition sectors image (state_during s (Commands command))
+  fits-commanding edition s command free fits = fits-alone edition s command s.waiting free fits

@@ -1,6 +1,6 @@
 -- Frames protected and received: from what the channels answer to what the endpoint does.
 use Rattle.std.proofs.Common.{◌≡◌, ◌≤◌, ◌<◌, ◌+◌, ◌==◌, ◌||◌, ◌^◌, ◌↔◌, ◌⊎◌, inl, inr, ℕ, Bool, true, false, cond, List, All, [], ◌∷◌, ◌++◌, Option, Some, None, Result, Ok, Err, refl, sym, ◌∙◌, ap, subst, arith}
-use Rattle.std.specs.Prelude.{IfOk, OnErr, OnOk, max}
+use Rattle.std.specs.Prelude.{IfOk, IsSomeAnd, OnErr, OnOk, max}
 use Rattle.std.specs.Option.{option_map, option_map_or}
 use Rattle.std.proofs.lemmas.Bool.Decides.{nat_tests}
 use Rattle.macs_frame.specs.First.{first}
@@ -40,7 +40,9 @@ use Rattle.macs_endpoint.specs.declared.fault.ProtectFault.{ProtectFault}
 use Rattle.macs_endpoint.specs.declared.fault.ProtectFault.TheVariants.{Stopped, Tx as OfTx}
 use Rattle.macs_endpoint.specs.declared.fault.Stopped.{Stopped as StoppedFault}
 use Rattle.macs_endpoint.proofs.Alone.{alone-call}
-use Rattle.macs_endpoint.proofs.Fitting.{kept-ahead, kept-backed}
+use Rattle.macs_endpoint.proofs.Carrying.{NextRises, SeenRises, rx-carried, tx-carried}
+use Rattle.macs_endpoint.proofs.Fitting.{kept-ahead}
+use Rattle.macs_endpoint.proofs.InHand.{kept-backed}
 
 -- ---- a few words on options and tests
 
@@ -214,9 +216,22 @@ at_ceiling side later ceilings plain out sends =
       | inr is ↦ is.2
     ]
 
+-- next numbers do not fall
+next_stays : (next : Option ℕ) → NextRises next next
+next_stays None = tt
+next_stays (Some next) = omega arith
+
+next_above : (pn : ℕ) → NextRises (Some pn) (Some (pn + 1))
+next_above pn = omega arith
+
+next_rises : (next : ℕ → Option ℕ) (at pn : ℕ) → next at ≡ Some pn → (an : ℕ) → NextRises (next an) (put next at (Some (pn + 1)) an)
+next_rises next at pn is an =
+    put_all (λ (n : Option ℕ). NextRises (next an) n) next at (Some (pn + 1)) an
+    (λ same. subst (λ (n : Option ℕ). NextRises n (Some (pn + 1))) (sym (ap next same ∙ is)) (next_above pn)) (λ differ. next_stays (next an))
+
 -- an endpoint with another transmit channel
 abbrev pub with_tx : {D : Type 0} → EndpointValue D → Tx → EndpointValue D
-with_tx e tx = record { store = e.store; tx = tx; rx = e.rx; in_hand = e.in_hand }
+with_tx e tx = record e { tx = tx }
 
 protect_limited : {D : Type 0} (old : EndpointValue D) (tx : Tx) (plain : List ℕ) (later : TxSide) (result : Result ℕ TxFault) (out : List ℕ)
     → Sends (tx_side (state_of old no_logs)) later (standing_in old.store).ceilings.tx plain result out
@@ -242,8 +257,8 @@ module _ {D : Type 0} (old : EndpointValue D) (tx : Tx) (plain : List ℕ) (resu
   -- numbers alone change, and stay below their ceilings
   kept_with : (next : ℕ → Option ℕ) → txsc.tx_side_of tx ≡ record (tx_side (state_of old no_logs)) { next = next }
       → ((an : ℕ) → IsTxWithin (standing_in old.store).identity.tx_block (next an) ((standing_in old.store).ceilings.tx an))
-      → IsSoundEndpoint (with_tx old tx)
-  kept_with next is within =
+      → ((an : ℕ) → NextRises ((txsc.tx_side_of old.tx).next an) (next an)) → IsSoundEndpoint (with_tx old tx)
+  kept_with next is within rises =
       let s = standing_in old.store in
       let same : txsc.ceilings_of tx ≡ s.ceilings.tx = ceilings ∙ kept.channels.tx_ceilings in
       record {
@@ -260,8 +275,10 @@ module _ {D : Type 0} (old : EndpointValue D) (tx : Tx) (plain : List ℕ) (resu
           rx_within = kept.within.rx_within;
           few = kept.within.few;
         };
-        rest = kept.rest;
-        idle = kept.idle;
+        few = kept.few;
+        tickets = kept.tickets;
+        work = tx-carried old tx ceilings
+            (λ an. subst (λ (side : TxSide). NextRises ((txsc.tx_side_of old.tx).next an) (side.next an)) (sym is) (rises an)) kept.work;
       }
 
 kept_sent : {D : Type 0} (old : EndpointValue D) (tx : Tx) (plain : List ℕ) (result : Result ℕ TxFault) (out : List ℕ) (kept : IsSoundEndpoint old)
@@ -275,8 +292,10 @@ kept_sent old tx plain (Ok pn) out kept sends ceilings standing =
     let g = goes side (txsc.tx_side_of tx) s.ceilings.tx plain pn out standing in
     kept_with old tx plain (Ok pn) out kept sends ceilings (put side.next g.o.an (Some (g.o.pn + 1))) g.sent
     (put_within s.identity.tx_block side.next s.ceilings.tx g.o.an g.o.pn (kept-ahead old kept).tx_ahead g.next_is g.below)
+    (next_rises side.next g.o.an g.o.pn g.next_is)
 kept_sent old tx plain (Err fault) out kept sends ceilings standing =
     kept_with old tx plain (Err fault) out kept sends ceilings (txsc.tx_side_of old.tx).next standing.same (kept-ahead old kept).tx_ahead
+    (λ an. next_stays ((txsc.tx_side_of old.tx).next an))
 
 module _ {D : Type 0} (disk_of : D → Disk) (old : EndpointValue D) (tx : Tx) (plain : List ℕ) (result : Result ℕ TxFault) (out : List ℕ) (kept : IsSoundEndpoint old)
     (sends : Sends (txsc.tx_side_of old.tx) (txsc.tx_side_of tx) (txsc.ceilings_of old.tx) plain result out)
@@ -293,12 +312,15 @@ module _ {D : Type 0} (disk_of : D → Disk) (old : EndpointValue D) (tx : Tx) (
       → IsCall disk_of old (Protects plain) (Protected (answered result) out) (with_tx old tx)
   protected-call octets running counters =
       let standing = standing_sends old tx plain result out kept sends ceilings in
-      alone-call disk_of old tx old.rx (Protects plain) (Protected (answered result) out) refl (λ backed. kept-backed disk_of (with_tx old tx) protected-kept backed.size (backed.stored running)) (record {
+      alone-call disk_of old (with_tx old tx) (Protects plain) (Protected (answered result) out) refl (λ backed. kept-backed (with_tx old tx) protected-kept disk_of backed.size (backed.stored running)) (record {
         in_range = octets;
         step = λ logs. protect_step (state_of old logs) (txsc.tx_side_of tx) (standing_in old.store).ceilings.tx plain result out running standing;
         ceilings = refl;
         limited = protect_limited old tx plain (txsc.tx_side_of tx) result out standing;
         still = refl;
+        rests = tt;
+        advances = tt;
+        turn = refl;
         tx_counters = counted_after result counters;
         rx_counters = refl;
         channel_counters = refl;
@@ -309,12 +331,15 @@ pub protect-stopped : {D : Type 0} (disk_of : D → Disk) (old : EndpointValue D
     → is_stopped old ≡ true → out ≡ []
     → IsCall disk_of old (Protects plain) (Protected (Err Stopped) out) old
 protect-stopped disk_of old plain out octets stopped empty =
-    alone-call disk_of old old.tx old.rx (Protects plain) (Protected (Err Stopped) out) refl (λ backed. backed) (record {
+    alone-call disk_of old old (Protects plain) (Protected (Err Stopped) out) refl (λ backed. backed) (record {
       in_range = octets;
       step = λ logs. (logs, inl (stopped, empty, refl));
       ceilings = refl;
       limited = tt;
       still = refl;
+      rests = tt;
+      advances = tt;
+      turn = refl;
       tx_counters = refl;
       rx_counters = refl;
       channel_counters = refl;
@@ -401,6 +426,41 @@ module _ (block : ℕ) (side : RxSide) (ceilings : List ℕ → ℕ → Option �
         (λ above. put_one a.sci a.an (numbers_after_hold a.numbers a.pn) (held_within block a.numbers a.pn (ceilings a.sci a.an) here) sci an))
   ]
 
+-- what was seen stays so
+later_seen : (seen : Option ℕ) (pn n : ℕ) → IsSomeAnd seen (λ (s : ℕ). n ≤ s) → IsSomeAnd (seen_after seen pn) (λ (s : ℕ). n ≤ s)
+later_seen None pn n is = absurd is
+later_seen (Some seen) pn n is = omega (arith, is)
+
+seen_stays : (numbers : Option Numbers) → SeenRises numbers numbers
+seen_stays None = tt
+seen_stays (Some numbers) = λ pn is. is
+
+module _ (side : RxSide) (ceilings : List ℕ → ℕ → Option ℕ) where
+  put_rises : (at : List ℕ) (number : ℕ) (old new : Numbers) → side.numbers at number ≡ Some old → SeenRises (Some old) (Some new)
+      → (sci : List ℕ) (an : ℕ) → SeenRises (side.numbers sci an) (put_numbers side.numbers at number (Some new) sci an)
+  put_rises at number old new is rises sci an =
+      put_at_all (λ (f : ℕ → Option Numbers). SeenRises (side.numbers sci an) (f an)) side.numbers at (put (side.numbers at) number (Some new)) sci
+      (λ same. subst (λ (s : List ℕ). SeenRises (side.numbers s an) (put (side.numbers at) number (Some new) an)) (sym same)
+      (put_all (λ (x : Option Numbers). SeenRises (side.numbers at an) x) (side.numbers at) number (Some new) an
+      (λ same_an. subst (λ (k : ℕ). SeenRises (side.numbers at k) (Some new)) (sym same_an)
+      (subst (λ (x : Option Numbers). SeenRises x (Some new)) (sym is) rises))
+      (λ differ. seen_stays (side.numbers at an))))
+      (λ differ. seen_stays (side.numbers sci an))
+
+  received_rises : (frame : List ℕ) (outcome : Outcome) → rx.IsOutcome side ceilings frame outcome
+      → (sci : List ℕ) (an : ℕ) → SeenRises (side.numbers sci an) (outcome.numbers sci an)
+  received_rises frame outcome receives sci an = elim receives [
+    | inl settles ↦ subst (λ (o : Outcome). SeenRises (side.numbers sci an) (o.numbers sci an)) (sym settles.2) (seen_stays (side.numbers sci an))
+    | inr arrives ↦
+        let P = λ (o : Outcome). SeenRises (side.numbers sci an) (o.numbers sci an) in
+        let a = arrives.0 in
+        subst P (sym arrives.2) (arrived_by P side ceilings a
+        (λ below. put_rises a.sci a.an a.numbers (numbers_after_delivery side.replay.window a.numbers a.pn) arrives.1.are_numbers
+        (λ n is. later_seen a.numbers.seen a.pn n is) sci an)
+        (λ above. put_rises a.sci a.an a.numbers (numbers_after_hold a.numbers a.pn) arrives.1.are_numbers
+        (λ n is. later_seen a.numbers.seen a.pn n is) sci an))
+  ]
+
 -- the endpoint receives what its channels do
 receive_step : (s : State) (ceilings : List ℕ → ℕ → Option ℕ) (frame : List ℕ) (outcome : Outcome) → s.stopped ≡ false
     → ((sci : List ℕ) (an : ℕ) → IsRxWithin s.identity.rx_block (s.numbers sci an) (ceilings sci an)) → rx.IsOutcome (rx_side s) ceilings frame outcome
@@ -465,7 +525,7 @@ held_at_ceiling side ceilings frame outcome receives held = elim receives [
 
 -- an endpoint with other receive channels
 abbrev pub with_rx : {D : Type 0} → EndpointValue D → rxsc.RxValue → EndpointValue D
-with_rx e r = record { store = e.store; tx = e.tx; rx = r; in_hand = e.in_hand }
+with_rx e r = record e { rx = r }
 
 receive_limited : {D : Type 0} (old new : EndpointValue D) (frame : List ℕ) (verdict : Verdict) (out : List ℕ)
     → (verdict ≡ HeldBack → (a : Arrival) × Arrives (rx_side (state_of old no_logs)) frame a
@@ -509,8 +569,10 @@ module _ {D : Type 0} (disk_of : D → Disk) (old : EndpointValue D) (r : rxsc.R
           few = λ sci an over. unnumbered (association_in (channel_at r.channels sci) an)
               ((λ i. (side i).rx sci an) ∙ unowned (association_in (channel_at old.rx.channels sci) an) (kept.within.few sci an over));
         };
-        rest = kept.rest;
-        idle = kept.idle;
+        few = kept.few;
+        tickets = kept.tickets;
+        work = rx-carried old r ceilings (received_rises (rx_side (state_of old no_logs)) s.ceilings.rx frame
+            (record { verdict = verdict; given = out; numbers = numbers }) standing_receives) kept.work;
       }
 
   pub received-call : All (λ octet. octet < 2 ^ 8) frame → is_stopped old ≡ false → rxsc.counters_of r ≡ counters_after_verdict verdict (rxsc.counters_of old.rx)
@@ -519,13 +581,16 @@ module _ {D : Type 0} (disk_of : D → Disk) (old : EndpointValue D) (r : rxsc.R
   received-call octets running counters channel_counters =
       let s = standing_in old.store in
       let outcome : Outcome = record { verdict = verdict; given = out; numbers = (rxsc.rx_side_of r).numbers } in
-      alone-call disk_of old old.tx r (state.Receives frame) (Received (Ok verdict) out) refl (λ backed. kept-backed disk_of (with_rx old r) received-kept backed.size (backed.stored running)) (record {
+      alone-call disk_of old (with_rx old r) (state.Receives frame) (Received (Ok verdict) out) refl (λ backed. kept-backed (with_rx old r) received-kept disk_of backed.size (backed.stored running)) (record {
         in_range = octets;
         step = λ logs. receive_step (state_of old logs) s.ceilings.rx frame outcome running (kept-ahead old kept).rx_ahead standing_receives;
         ceilings = refl;
         limited = receive_limited old (with_rx old r) frame verdict out
             (held_at_ceiling (rx_side (state_of old no_logs)) s.ceilings.rx frame outcome standing_receives);
         still = refl;
+        rests = tt;
+        advances = tt;
+        turn = refl;
         tx_counters = refl;
         rx_counters = counters;
         channel_counters = channel_counters
@@ -535,12 +600,15 @@ module _ {D : Type 0} (disk_of : D → Disk) (old : EndpointValue D) (r : rxsc.R
 pub receive-stopped : {D : Type 0} (disk_of : D → Disk) (old : EndpointValue D) (frame out : List ℕ) (fault : StoppedFault) → All (λ octet. octet < 2 ^ 8) frame
     → is_stopped old ≡ true → out ≡ [] → IsCall disk_of old (state.Receives frame) (Received (Err fault) out) old
 receive-stopped disk_of old frame out fault octets stopped empty =
-    alone-call disk_of old old.tx old.rx (state.Receives frame) (Received (Err fault) out) refl (λ backed. backed) (record {
+    alone-call disk_of old old (state.Receives frame) (Received (Err fault) out) refl (λ backed. backed) (record {
       in_range = octets;
       step = λ logs. (logs, inl (stopped, empty, refl));
       ceilings = refl;
       limited = tt;
       still = refl;
+      rests = tt;
+      advances = tt;
+      turn = refl;
       tx_counters = refl;
       rx_counters = refl;
       channel_counters = refl;

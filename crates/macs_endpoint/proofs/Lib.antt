@@ -1,5 +1,7 @@
 pub mod Fitting
+pub mod InHand
 mod Alone
+mod Carrying
 pub mod Framing
 pub mod FrameNumbers
 pub mod Turns
@@ -11,5 +13,16 @@ pub mod Seen
 pub mod Opened
 pub mod Commanding
 pub mod Raises
-pub mod Raised
+pub mod Begun
+mod Lifted
+pub mod Ended
 pub mod RefillCall
+pub mod Stepped
+pub mod Taken
+mod KeptBehind
+mod TakenUp
+mod Queued
+pub mod Work
+pub mod Changes
+mod Idled
+pub mod Still

@@ -68,16 +68,17 @@ module _ (tx_side : TxSide) (rx_side : RxSide) where
   raises-keep P step old new (raise ∷ raises) raised holds =
       raises-keep P step (standing_with_raise old raise) new raises raised.1 (step old raise raised.0 holds)
 
-raise_parts : (s : Standing) (raise : Raise) → ((standing_with_raise s raise).identity ≡ s.identity) × ((standing_with_raise s raise).config ≡ s.config)
-raise_parts s (RaiseTx an) = (refl, refl)
-raise_parts s (RaiseRx need) = (refl, refl)
+-- a ceiling alone is raised
+pub raise-parts : (s : Standing) (raise : Raise) → ((standing_with_raise s raise).identity ≡ s.identity) × ((standing_with_raise s raise).config ≡ s.config)
+raise-parts s (RaiseTx an) = (refl, refl)
+raise-parts s (RaiseRx need) = (refl, refl)
 
 -- ceilings alone are raised
 pub raises-parts : (tx_side : TxSide) (rx_side : RxSide) (old new : Standing) (raises : List Raise) → Raises tx_side rx_side old raises new
     → (new.identity ≡ old.identity) × (new.config ≡ old.config)
 raises-parts tx_side rx_side old new raises raised =
     raises-keep tx_side rx_side (λ (s : Standing). (s.identity ≡ old.identity) × (s.config ≡ old.config))
-    (λ s raise first same. let parts = raise_parts s raise in (parts.0 ∙ same.0, parts.1 ∙ same.1))
+    (λ s raise first same. let parts = raise-parts s raise in (parts.0 ∙ same.0, parts.1 ∙ same.1))
     old new raises raised (refl, refl)
 
 -- ---- no ceiling comes too far ahead

@@ -1,4 +1,4 @@
--- How far ceilings are ahead: after a refill or an install, and through calls.
+-- How far ceilings are ahead: after a refill, an idle step or an install, and through calls.
 use Rattle.std.proofs.Common.{◌≡◌, ◌≢◌, ◌≤◌, ◌<◌, ◌+◌, ◌-◌, ◌/◌, ◌^◌, ◌==◌, ◌⊎◌, inl, inr, ℕ, Bool, true, false, cond, List, [], ◌∷◌, Option, Some, None, IsSome, Ok, Err, refl, sym, ◌∙◌, ap, subst, arith}
 use Rattle.std.specs.Prelude.{IsSomeAnd, nat_lt}
 use Rattle.std.specs.Option.{option_map, option_map_or}
@@ -13,7 +13,7 @@ use Rattle.macs_config.specs.declared.command.Command.{Command}
 use Rattle.macs_config.specs.declared.command.Command.TheVariants.{SetValidate, SetReplay, SetSciMode, TxInstall, TxUse, TxRemove, RxAdd, RxDrop, RxInstall, RxRemove}
 use Rattle.macs_config.proofs.Tables.{put-here, put-other, put_all, put_at-other, put_at_all}
 use Rattle.macs_disk.specs.Disk.{Disk}
-use Rattle.macs_txsc.specs.Transmit.{Outgoing, TxSide, is_at_ceiling, is_used_up, outgoing_with, next_outgoing, outgoing_at, tx_faults}
+use Rattle.macs_txsc.specs.Transmit.{Outgoing, TxSide, is_at_ceiling, is_used_up, outgoing_with, next_outgoing, outgoing_at}
 use Rattle.macs_txsc.specs.Transmit as tx
 use Rattle.macs_txsc.specs.Value.{association_at, sa_of}
 use Rattle.macs_txsc.specs.declared.association.Association.{Association}
@@ -26,23 +26,26 @@ use Rattle.macs_rxsc.proofs.Left.{no-needs}
 use Rattle.macs_rxsc.proofs.Needed.{unneeded}
 use Rattle.macs_rxsc.proofs.Needs.{among-numbered}
 use Rattle.macs_rxsc.proofs.Steps.{arrives_once}
-use Rattle.macs_rxsc.proofs.Told.{asked}
 use Rattle.macs_store.specs.Value.{standing_in}
 use Rattle.macs_config.specs.Numbers.{block_beyond}
 use Rattle.macs_store.specs.Standing.{Ceilings, Standing, ceilings_after}
-use Rattle.macs_store.specs.declared.fault.CommitFault.TheVariants as commit
 use Rattle.macs_endpoint.specs.Calls.{IsCall}
-use Rattle.macs_endpoint.specs.Ceilings.{CeilingsAfter, Raise, RaiseRx, RaiseTx, first_raise, standing_with_raise}
+use Rattle.macs_endpoint.specs.Ceilings.{CeilingsAfter, IsRefilled, Raise, RaiseRx, RaiseTx, first_raise, standing_with_raise, standing_with_reserved}
+use Rattle.macs_endpoint.specs.Needed.{raise_in}
 use Rattle.macs_endpoint.specs.Value.{IsSoundEndpoint, IsRxWithin, IsTxWithin, EndpointValue, state_of}
 use Rattle.macs_endpoint.specs.Lives.{Lives, Turn}
 use Rattle.macs_endpoint.specs.Rooms.{HasRoom, IsBelow, IsEncodingAn, RxStays, SparesRx, SparesTx, TxStays, frames_in_reply, frames_sent}
-use Rattle.macs_endpoint.specs.State.{Call, Commands, Protects, Protected, Ran, Received, Receives, Refilled, Refills, Reply, State, command_made, no_logs, rx_side, tx_side}
+use Rattle.macs_endpoint.specs.State.{Advanced, Advances, Call, Commands, Protects, Protected, Ran, Received, Receives, Refilled, Refills, Reply, State, Submits, Submitted, command_made, no_logs, rx_side, tx_side}
 use Rattle.macs_endpoint.specs.Step.{Step, next_after}
 use Rattle.macs_endpoint.specs.declared.fault.ProtectFault.TheVariants as protect
-use Rattle.macs_endpoint.specs.declared.fault.RefillFault.TheVariants as refill
+use Rattle.macs_endpoint.specs.declared.progress.Step.TheVariants.{Idle}
+use Rattle.macs_endpoint.proofs.Changes.{Changes, IsAcceptedTo, PassesNone, call-changes, made-accepted, made-quiet, next_after_made, no-answer, stands-keep}
 use Rattle.macs_endpoint.proofs.Fitting.{accept-parts, kept-ahead}
 use Rattle.macs_endpoint.proofs.Framing.{five_others, not_exhausted}
-use Rattle.macs_endpoint.proofs.Raises.{AreRaised, no-first, raises-ahead, raises-keep, raises-parts, rx-first}
+use Rattle.macs_endpoint.proofs.Idled.{idle-step}
+use Rattle.macs_endpoint.proofs.InHand.{at-rest}
+use Rattle.macs_endpoint.proofs.Raises.{no-first, raises-ahead, raises-parts}
+use Rattle.macs_endpoint.proofs.Work.{IsHigher, first-higher, reserved-ahead, reserved-higher, reserved-parts}
 
 -- ---- one place changed
 
@@ -179,94 +182,71 @@ module _ (count used an : ℕ) (s t : State) (f g : Standing) where
   covers_stay extra is_next same covers =
       covers_next extra is_next (subst (λ (x : Standing). Covers count used (s.next an) (x.ceilings.tx an)) (sym same) covers)
 
-  covers_refilled : AreRaised (tx_side s) (rx_side s) f g → Covers count used (s.next an) (f.ceilings.tx an) → Covers count used (s.next an) (g.ceilings.tx an)
-  covers_refilled raised covers =
-      raises-keep (tx_side s) (rx_side s) (λ (x : Standing). Covers count used (s.next an) (x.ceilings.tx an))
-      (λ x raise first. covers_raise count used an (s.next an) x raise) f g raised.0 raised.1 covers
-
   abbrev next_of : State → ℕ → Option ℕ
   next_of x = x.next
 
-  -- through a call
-  covers_step : (call : Call) (reply : Reply) → Step s call reply t → CeilingsAfter s f call reply g → SparesTx an (command_made s call reply)
-      → Covers count used (s.next an) (f.ceilings.tx an)
+  -- where no frame passes
+  covers_quiet : (extra : ℕ) (made : Option Command) → Changes s made t → Covers count used (next_after_made made s.next an) (g.ceilings.tx an)
+      → Covers count (used + extra) (t.next an) (g.ceilings.tx an)
+  covers_quiet extra made changes covers =
+      covers_moved (used + extra) (next_after_made made s.next) g.ceilings.tx changes.0 refl
+      (covers_more count used extra (next_after_made made s.next an) (g.ceilings.tx an) covers)
+
+  covers_by : (reserving : Option Raise) (call : Call) (reply : Reply) → PassesNone call → Step s call reply t → CeilingsAfter s f reserving call reply g
+      → SparesTx an (command_made s call reply) → Covers count used (s.next an) (f.ceilings.tx an)
       → Covers count (used + frames_in_reply s.config.encoding an reply) (t.next an) (g.ceilings.tx an)
-  covers_step (Commands command) (Ran (Ok done)) (inl step) stands keeps covers = absurd step.1
-  covers_step (Commands command) (Ran (Ok done)) (inr step) stands keeps covers =
-      let parts = accept-parts f command g stands in
-      let extra = frames_in_reply s.config.encoding an (Ran (Ok done)) in
-      let next = next_after command s.next in
-      let c = ceilings_after f.identity command f.ceilings in
-      covers_moved (used + extra) next c.tx (ap next_of step.1.2) (ap (λ (x : Standing). x.ceilings.tx) parts.2)
-      (covers_more count used extra (next an) (c.tx an) (covers_command count used an f.identity command done s.next f.ceilings keeps covers))
-  covers_step (Commands command) (Ran (Err fault)) (inl step) stands keeps covers =
-      covers_stay (frames_in_reply s.config.encoding an (Ran (Err fault))) (ap next_of step.2) stands covers
-  covers_step (Commands command) (Ran (Err (commit.Refused refusal))) (inr step) stands keeps covers =
-      covers_stay (frames_in_reply s.config.encoding an (Ran (Err (commit.Refused refusal)))) (ap next_of step.1.1) stands covers
-  covers_step (Commands command) (Ran (Err commit.GenerationsSpent)) (inr step) stands keeps covers =
-      covers_stay (frames_in_reply s.config.encoding an (Ran (Err commit.GenerationsSpent))) (ap next_of step.1.1) stands covers
-  covers_step (Commands command) (Ran (Err commit.Disk)) (inr step) stands keeps covers =
-      covers_stay (frames_in_reply s.config.encoding an (Ran (Err commit.Disk))) (ap next_of step.1.1) stands covers
-  covers_step (Commands command) (Ran (Err commit.Stopped)) (inr step) stands keeps covers = absurd step.1
-  covers_step (Commands command) (Refilled result) (inl step) stands keeps covers = absurd step.1
-  covers_step (Commands command) (Refilled result) (inr step) stands keeps covers = absurd step.1
-  covers_step (Commands command) (Protected result out) (inl step) stands keeps covers = absurd step.1
-  covers_step (Commands command) (Protected result out) (inr step) stands keeps covers = absurd step.1
-  covers_step (Commands command) (Received result out) (inl step) stands keeps covers = absurd step.1
-  covers_step (Commands command) (Received result out) (inr step) stands keeps covers = absurd step.1
-  covers_step Refills (Ran result) (inl step) stands keeps covers = absurd step.1
-  covers_step Refills (Ran result) (inr step) stands keeps covers = absurd step.1
-  covers_step Refills (Refilled (Ok done)) (inl step) stands keeps covers = absurd step.1
-  covers_step Refills (Refilled (Ok done)) (inr step) stands keeps covers =
-      covers_next (frames_in_reply s.config.encoding an (Refilled (Ok done))) (ap next_of step.1) (covers_refilled (stands.raises, stands.raised) covers)
-  covers_step Refills (Refilled (Err refill.Stopped)) (inl step) stands keeps covers =
-      covers_stay (frames_in_reply s.config.encoding an (Refilled (Err refill.Stopped))) (ap next_of step.2) stands covers
-  covers_step Refills (Refilled (Err refill.GenerationsSpent)) (inl step) stands keeps covers = absurd step.1
-  covers_step Refills (Refilled (Err refill.Disk)) (inl step) stands keeps covers = absurd step.1
-  covers_step Refills (Refilled (Err refill.GenerationsSpent)) (inr step) stands keeps covers =
-      covers_next (frames_in_reply s.config.encoding an (Refilled (Err refill.GenerationsSpent))) (ap next_of step.1)
-      (covers_refilled (stands.1.raises, stands.1.raised) covers)
-  covers_step Refills (Refilled (Err refill.Disk)) (inr step) stands keeps covers =
-      covers_next (frames_in_reply s.config.encoding an (Refilled (Err refill.Disk))) (ap next_of step.1)
-      (covers_refilled (stands.1.raises, stands.1.raised) covers)
-  covers_step Refills (Refilled (Err refill.Stopped)) (inr step) stands keeps covers = absurd step.1
-  covers_step Refills (Protected result out) (inl step) stands keeps covers = absurd step.1
-  covers_step Refills (Protected result out) (inr step) stands keeps covers = absurd step.1
-  covers_step Refills (Received result out) (inl step) stands keeps covers = absurd step.1
-  covers_step Refills (Received result out) (inr step) stands keeps covers = absurd step.1
-  covers_step (Protects plain) (Ran result) (inl step) stands keeps covers = absurd step.1
-  covers_step (Protects plain) (Ran result) (inr step) stands keeps covers = absurd step.1
-  covers_step (Protects plain) (Refilled result) (inl step) stands keeps covers = absurd step.1
-  covers_step (Protects plain) (Refilled result) (inr step) stands keeps covers = absurd step.1
-  covers_step (Protects plain) (Protected (Ok pn) out) (inl step) stands keeps covers = absurd step.1
-  covers_step (Protects plain) (Protected (Ok pn) out) (inr step) stands keeps covers =
+  covers_by reserving call reply quiet step stands keeps covers =
+      covers_quiet (frames_in_reply s.config.encoding an reply) (command_made s call reply) (call-changes s t call reply quiet step)
+      (stands-keep s f g reserving (λ (x : Standing). Covers count used (s.next an) (x.ceilings.tx an))
+      (λ (made : Option Command) (x : Standing). Covers count used (next_after_made made s.next an) (x.ceilings.tx an)) (SparesTx an)
+      (λ x raise first. covers_raise count used an (s.next an) x raise)
+      (λ raise is. covers_raise count used an (s.next an) f raise)
+      (λ x holds. holds)
+      (λ command x y is spares holds.
+      let parts = accept-parts x command y is in
+      subst (λ (z : Standing). Covers count used (next_after command s.next an) (z.ceilings.tx an)) (sym parts.2)
+      (covers_command count used an x.identity command tt s.next x.ceilings spares holds))
+      call reply stands keeps covers)
+
+  -- through a call
+  covers_step : (reserving : Option Raise) (call : Call) (reply : Reply) → Step s call reply t → CeilingsAfter s f reserving call reply g
+      → SparesTx an (command_made s call reply) → Covers count used (s.next an) (f.ceilings.tx an)
+      → Covers count (used + frames_in_reply s.config.encoding an reply) (t.next an) (g.ceilings.tx an)
+  covers_step reserving (Commands command) reply step stands keeps covers = covers_by reserving (Commands command) reply tt step stands keeps covers
+  covers_step reserving Refills reply step stands keeps covers = covers_by reserving Refills reply tt step stands keeps covers
+  covers_step reserving (Submits command) reply step stands keeps covers = covers_by reserving (Submits command) reply tt step stands keeps covers
+  covers_step reserving Advances reply step stands keeps covers = covers_by reserving Advances reply tt step stands keeps covers
+  covers_step reserving (Protects plain) (Protected (Ok pn) out) (inl step) stands keeps covers = absurd step.1
+  covers_step reserving (Protects plain) (Protected (Ok pn) out) (inr step) stands keeps covers =
       let went = step.1.1 in
       let o = went.0 in
       covers_moved (used + frames_in_reply s.config.encoding an (Protected (Ok pn) out)) (put s.next o.an (Some (o.pn + 1))) f.ceilings.tx
       (ap next_of went.4) (ap (λ (x : Standing). x.ceilings.tx) stands)
       (covers_sent count used an pn (tx_side s) s.config.encoding o (f.ceilings.tx an) out went.1 covers)
-  covers_step (Protects plain) (Protected (Err (protect.Tx fault)) out) (inl step) stands keeps covers = absurd step.1
-  covers_step (Protects plain) (Protected (Err (protect.Tx fault)) out) (inr step) stands keeps covers =
+  covers_step reserving (Protects plain) (Protected (Err (protect.Tx fault)) out) (inl step) stands keeps covers = absurd step.1
+  covers_step reserving (Protects plain) (Protected (Err (protect.Tx fault)) out) (inr step) stands keeps covers =
       covers_stay (frames_in_reply s.config.encoding an (Protected (Err (protect.Tx fault)) out)) (ap next_of step.1.2) stands covers
-  covers_step (Protects plain) (Protected (Err protect.Stopped) out) (inl step) stands keeps covers =
+  covers_step reserving (Protects plain) (Protected (Err protect.Stopped) out) (inl step) stands keeps covers =
       covers_stay (frames_in_reply s.config.encoding an (Protected (Err protect.Stopped) out)) (ap next_of step.2) stands covers
-  covers_step (Protects plain) (Protected (Err protect.Stopped) out) (inr step) stands keeps covers = absurd step.1
-  covers_step (Protects plain) (Received result out) (inl step) stands keeps covers = absurd step.1
-  covers_step (Protects plain) (Received result out) (inr step) stands keeps covers = absurd step.1
-  covers_step (Receives frame) (Ran result) (inl step) stands keeps covers = absurd step.1
-  covers_step (Receives frame) (Ran result) (inr step) stands keeps covers = absurd step.1
-  covers_step (Receives frame) (Refilled result) (inl step) stands keeps covers = absurd step.1
-  covers_step (Receives frame) (Refilled result) (inr step) stands keeps covers = absurd step.1
-  covers_step (Receives frame) (Protected result out) (inl step) stands keeps covers = absurd step.1
-  covers_step (Receives frame) (Protected result out) (inr step) stands keeps covers = absurd step.1
-  covers_step (Receives frame) (Received result out) (inl step) stands keeps covers =
+  covers_step reserving (Protects plain) (Protected (Err protect.Stopped) out) (inr step) stands keeps covers = absurd step.1
+  covers_step reserving (Protects plain) (Ran result) step stands keeps covers = absurd (no-answer step)
+  covers_step reserving (Protects plain) (Refilled result) step stands keeps covers = absurd (no-answer step)
+  covers_step reserving (Protects plain) (Submitted result) step stands keeps covers = absurd (no-answer step)
+  covers_step reserving (Protects plain) (Advanced result) step stands keeps covers = absurd (no-answer step)
+  covers_step reserving (Protects plain) (Received result out) step stands keeps covers = absurd (no-answer step)
+  covers_step reserving (Receives frame) (Received result out) (inl step) stands keeps covers =
       covers_stay (frames_in_reply s.config.encoding an (Received result out)) (ap next_of step.2) stands covers
-  covers_step (Receives frame) (Received (Ok verdict) out) (inr step) stands keeps covers =
+  covers_step reserving (Receives frame) (Received (Ok verdict) out) (inr step) stands keeps covers =
       covers_stay (frames_in_reply s.config.encoding an (Received (Ok verdict) out)) (elim step.1 [
         | inl settles ↦ ap next_of settles.4
         | inr arrives ↦ elim arrives.2 [ inl held ↦ ap next_of held.3 | inr taken ↦ ap next_of taken.2 ]
       ]) stands covers
-  covers_step (Receives frame) (Received (Err stopped) out) (inr step) stands keeps covers = absurd step.1
+  covers_step reserving (Receives frame) (Received (Err stopped) out) (inr step) stands keeps covers = absurd step.1
+  covers_step reserving (Receives frame) (Ran result) step stands keeps covers = absurd (no-answer step)
+  covers_step reserving (Receives frame) (Refilled result) step stands keeps covers = absurd (no-answer step)
+  covers_step reserving (Receives frame) (Submitted result) step stands keeps covers = absurd (no-answer step)
+  covers_step reserving (Receives frame) (Advanced result) step stands keeps covers = absurd (no-answer step)
+  covers_step reserving (Receives frame) (Protected result out) step stands keeps covers = absurd (no-answer step)
 
 -- ---- reception
 
@@ -296,15 +276,12 @@ under_higher : (c : Option ℕ) (pn top : ℕ) → IsUnder c pn → IsSomeAnd c 
 under_higher None pn top under higher = absurd under
 under_higher (Some ceiling) pn top under higher = omega (arith, under, higher)
 
-under_raise : (sci : List ℕ) (an pn : ℕ) (tx_side : TxSide) (rx_side : RxSide) (s : Standing) (raise : Raise)
-    → first_raise s tx_side rx_side ≡ Some raise → IsUnder (s.ceilings.rx sci an) pn → IsUnder ((standing_with_raise s raise).ceilings.rx sci an) pn
-under_raise sci an pn tx_side rx_side s (RaiseTx at) first under = under
-under_raise sci an pn tx_side rx_side s (RaiseRx need) first under =
-    let block = s.identity.rx_block in
+under_raise : (sci : List ℕ) (an pn : ℕ) (s : Standing) (raise : Raise) → IsHigher s raise → IsUnder (s.ceilings.rx sci an) pn
+    → IsUnder ((standing_with_raise s raise).ceilings.rx sci an) pn
+under_raise sci an pn s (RaiseTx at) higher under = under
+under_raise sci an pn s (RaiseRx need) higher under =
     let c = s.ceilings.rx in
-    let is = rx-first (tx.need_of tx_side s.ceilings.tx s.identity.tx_block) (first_need_of rx_side c block) need first in
-    let higher = asked rx_side c block need is.1 in
-    let top = block_beyond need.pn block in
+    let top = block_beyond need.pn s.identity.rx_block in
     put_at_all (λ (row : ℕ → Option ℕ). IsUnder (row an) pn) c need.sci (put (c need.sci) need.an (Some top)) sci
     (λ same. put_all (λ (o : Option ℕ). IsUnder o pn) (c need.sci) need.an (Some top) an
     (λ same_an. under_higher (c need.sci need.an) pn top
@@ -312,34 +289,21 @@ under_raise sci an pn tx_side rx_side s (RaiseRx need) first under =
     (λ other. subst (λ (t : List ℕ). IsUnder (c t an) pn) same under))
     (λ other. under)
 
-module _ (sci : List ℕ) (an pn : ℕ) (s : State) (f g : Standing) where
-  under_refilled : AreRaised (tx_side s) (rx_side s) f g → IsUnder (f.ceilings.rx sci an) pn → IsUnder (g.ceilings.rx sci an) pn
-  under_refilled raised under =
-      raises-keep (tx_side s) (rx_side s) (λ (x : Standing). IsUnder (x.ceilings.rx sci an) pn)
-      (under_raise sci an pn (tx_side s) (rx_side s)) f g raised.0 raised.1 under
-
-  under_same : g ≡ f → IsUnder (f.ceilings.rx sci an) pn → IsUnder (g.ceilings.rx sci an) pn
-  under_same same under = subst (λ (x : Standing). IsUnder (x.ceilings.rx sci an) pn) (sym same) under
-
-  -- through a call
-  under_stands : (call : Call) (reply : Reply) → CeilingsAfter s f call reply g → SparesRx sci an (command_made s call reply) → IsUnder (f.ceilings.rx sci an) pn
-      → IsUnder (g.ceilings.rx sci an) pn
-  under_stands (Commands command) (Ran (Ok done)) stands keeps under =
-      let parts = accept-parts f command g stands in
-      subst (λ (x : Standing). IsUnder (x.ceilings.rx sci an) pn) (sym parts.2) (under_command sci an pn f.identity command done f.ceilings keeps under)
-  under_stands (Commands command) (Ran (Err fault)) stands keeps under = under_same stands under
-  under_stands (Commands command) (Refilled result) stands keeps under = under_same stands under
-  under_stands (Commands command) (Protected result out) stands keeps under = under_same stands under
-  under_stands (Commands command) (Received result out) stands keeps under = under_same stands under
-  under_stands Refills (Ran result) stands keeps under = under_same stands under
-  under_stands Refills (Refilled (Ok done)) stands keeps under = under_refilled (stands.raises, stands.raised) under
-  under_stands Refills (Refilled (Err refill.Stopped)) stands keeps under = under_same stands under
-  under_stands Refills (Refilled (Err refill.GenerationsSpent)) stands keeps under = under_refilled (stands.1.raises, stands.1.raised) under
-  under_stands Refills (Refilled (Err refill.Disk)) stands keeps under = under_refilled (stands.1.raises, stands.1.raised) under
-  under_stands Refills (Protected result out) stands keeps under = under_same stands under
-  under_stands Refills (Received result out) stands keeps under = under_same stands under
-  under_stands (Protects plain) reply stands keeps under = under_same stands under
-  under_stands (Receives frame) reply stands keeps under = under_same stands under
+-- through a call
+under_stands : (sci : List ℕ) (an pn : ℕ) (s : State) (f g : Standing) (reserving : Option Raise) → ((raise : Raise) → reserving ≡ Some raise → IsHigher f raise)
+    → (call : Call) (reply : Reply) → CeilingsAfter s f reserving call reply g → SparesRx sci an (command_made s call reply)
+    → IsUnder (f.ceilings.rx sci an) pn → IsUnder (g.ceilings.rx sci an) pn
+under_stands sci an pn s f g reserving higher call reply stands keeps under =
+    stands-keep s f g reserving (λ (x : Standing). IsUnder (x.ceilings.rx sci an) pn)
+    (λ (made : Option Command) (x : Standing). IsUnder (x.ceilings.rx sci an) pn) (SparesRx sci an)
+    (λ x raise first. under_raise sci an pn x raise (first-higher (tx_side s) (rx_side s) x raise first))
+    (λ raise is. under_raise sci an pn f raise (higher raise is))
+    (λ x holds. holds)
+    (λ command x y is spares holds.
+    let parts = accept-parts x command y is in
+    subst (λ (z : Standing). IsUnder (z.ceilings.rx sci an) pn) (sym parts.2)
+    (under_command sci an pn x.identity command tt x.ceilings spares holds))
+    call reply stands keeps under
 
 -- a ceiling that is not needed leaves room
 reach_unneeded : (block next seen pn ceiling : ℕ) → is_needed block next ceiling seen ≡ false → 1 ≤ block → pn < 2 ^ 32
@@ -375,7 +339,7 @@ module _ {D : Type 0} (disk_of : D → Disk) where
       subst (λ (e : EndpointValue D). IsUnder ((standing_in e.store).ceilings.rx sci an) pn) (sym lives) under
   under_lives sci an pn (turn ∷ turns) old new lives stays under =
       under_lives sci an pn turns turn.after new lives.2 stays.1
-      (under_stands sci an pn (state_of old no_logs) (standing_in old.store) (standing_in turn.after.store)
+      (under_stands sci an pn (state_of old no_logs) (standing_in old.store) (standing_in turn.after.store) old.reserving (reserved-higher old lives.0)
       turn.call turn.reply lives.1.behaves.ceilings stays.0 under)
 
   pub below-stays : (old new : EndpointValue D) (turns : List (Turn D)) (sci : List ℕ) (an pn : ℕ) → Lives disk_of old turns new → RxStays sci an old turns
@@ -384,6 +348,26 @@ module _ {D : Type 0} (disk_of : D → Disk) where
       below_of new sci an pn ((standing_in new.store).ceilings.rx sci an) refl
       (under_lives sci an pn turns old new lives stays (under_of old sci an pn below))
 
+  -- where no ceiling is to be raised
+  below_unneeded : (e : EndpointValue D) (sci : List ℕ) (an next lowest seen pn : ℕ) → IsSoundEndpoint e
+      → first_need_of (rx_side (state_of e no_logs)) (standing_in e.store).ceilings.rx (standing_in e.store).identity.rx_block ≡ None
+      → (state_of e no_logs).numbers sci an ≡ Some (record { next = next; lowest = lowest; seen = Some seen }) → pn < 2 ^ 32
+      → ((pn ≤ seen) ⊎ ((pn < next + (standing_in e.store).identity.rx_block / 2 + 1) × (pn < seen + (standing_in e.store).identity.rx_block)))
+      → IsBelow e sci an pn
+  below_unneeded e sci an next lowest seen pn kept no_need are last reach =
+      let s = standing_in e.store in
+      let block = s.identity.rx_block in
+      let numbers : Numbers = record { next = next; lowest = lowest; seen = Some seen } in
+      let c = s.ceilings.rx sci an in
+      let rx : RxSide = rx_side (state_of e no_logs) in
+      let channels : (sci : List ℕ) (an : ℕ) → IsSome (rx.numbers sci an) → has_channel rx sci ≡ true = λ sci an some.
+      subst (λ (x : RxSide). has_channel x sci ≡ true) kept.channels.rx_is (among-numbered e.rx.channels sci an some) in
+      let none : need_of block sci an (Some numbers) c ≡ None = ap (λ (n : Option Numbers). need_of block sci an n c) (sym are)
+      ∙ no-needs rx s.ceilings.rx block channels kept.within.few no_need sci an in
+      let within : IsRxWithin block (Some numbers) c = subst (λ (x : Option Numbers). IsRxWithin block x c) are ((kept-ahead e kept).rx_ahead sci an) in
+      below_of e sci an pn c refl
+      (reach_by block an pn next lowest seen sci c kept.identity.rx_block.0 last none within reach)
+
   pub below-refilled : (old new : EndpointValue D) (sci : List ℕ) (an next lowest seen pn : ℕ) → IsSoundEndpoint new → IsCall disk_of old Refills (Refilled (Ok tt)) new
       → (state_of new no_logs).numbers sci an ≡ Some (record { next = next; lowest = lowest; seen = Some seen }) → pn < 2 ^ 32
       → ((pn ≤ seen) ⊎ ((pn < next + (standing_in new.store).identity.rx_block / 2 + 1)
@@ -391,26 +375,29 @@ module _ {D : Type 0} (disk_of : D → Disk) where
       → IsBelow new sci an pn
   below-refilled old new sci an next lowest seen pn kept call are last reach =
       let s = standing_in new.store in
-      let t = state_of new no_logs in
       let block = s.identity.rx_block in
-      let numbers : Numbers = record { next = next; lowest = lowest; seen = Some seen } in
-      let c = s.ceilings.rx sci an in
-      let rx : RxSide = rx_side t in
       let ended = call.behaves.step no_logs in
-      let same : rx ≡ rx_side (state_of old no_logs) = elim ended.1 [
+      let same : rx_side (state_of new no_logs) ≡ rx_side (state_of old no_logs) = elim ended.1 [
         | inl stopped ↦ absurd stopped.1
-        | inr ran ↦ ap (λ (x : State). rx_side x) ran.1
+        | inr ran ↦ ap (λ (x : State). rx_side x) ran.1.1
       ] in
       let parts = no-first (tx.need_of (tx_side (state_of old no_logs)) s.ceilings.tx s.identity.tx_block)
       (first_need_of (rx_side (state_of old no_logs)) s.ceilings.rx block) call.behaves.ceilings.is_next in
-      let no_need : first_need_of rx s.ceilings.rx block ≡ None = ap (λ (x : RxSide). first_need_of x s.ceilings.rx block) same ∙ parts.1 in
-      let channels : (sci : List ℕ) (an : ℕ) → IsSome (rx.numbers sci an) → has_channel rx sci ≡ true = λ sci an some.
-      subst (λ (x : RxSide). has_channel x sci ≡ true) kept.channels.rx_is (among-numbered new.rx.channels sci an some) in
-      let none : need_of block sci an (Some numbers) c ≡ None = ap (λ (n : Option Numbers). need_of block sci an n c) (sym are)
-      ∙ no-needs rx s.ceilings.rx block channels kept.within.few no_need sci an in
-      let within : IsRxWithin block (Some numbers) c = subst (λ (x : Option Numbers). IsRxWithin block x c) are ((kept-ahead new kept).rx_ahead sci an) in
-      below_of new sci an pn c refl
-      (reach_by block an pn next lowest seen sci c kept.identity.rx_block.0 last none within reach)
+      below_unneeded new sci an next lowest seen pn kept (ap (λ (x : RxSide). first_need_of x s.ceilings.rx block) same ∙ parts.1) are last reach
+
+  -- the same behind a step that found nothing to do
+  pub below-idle : (old new : EndpointValue D) (sci : List ℕ) (an next lowest seen pn : ℕ) → IsSoundEndpoint new → IsCall disk_of old Advances (Advanced (Ok Idle)) new
+      → (state_of new no_logs).numbers sci an ≡ Some (record { next = next; lowest = lowest; seen = Some seen }) → pn < 2 ^ 32
+      → ((pn ≤ seen) ⊎ ((pn < next + (standing_in new.store).identity.rx_block / 2 + 1)
+      × (pn < seen + (standing_in new.store).identity.rx_block)))
+      → IsBelow new sci an pn
+  below-idle old new sci an next lowest seen pn kept call are last reach =
+      let s = standing_in new.store in
+      let idle = idle-step disk_of old new call in
+      let parts = no-first (tx.need_of (tx_side (state_of new no_logs)) s.ceilings.tx s.identity.tx_block)
+      (first_need_of (rx_side (state_of new no_logs)) s.ceilings.rx s.identity.rx_block)
+      (subst (λ (e : EndpointValue D). raise_in e ≡ None) (sym idle.0) idle.1) in
+      below_unneeded new sci an next lowest seen pn kept parts.1 are last reach
 
   pub below-delivered : (old new : EndpointValue D) (frame out : List ℕ) (a : Arrival) → IsBelow old a.sci a.an a.pn
       → Arrives (rx_side (state_of old no_logs)) frame a → IsCall disk_of old (Receives frame) (Received (Ok HeldBack) out) new → ⊥
@@ -437,7 +424,7 @@ module _ {D : Type 0} (disk_of : D → Disk) where
       let ended = lives.1.behaves.step no_logs in
       let here : Covers count (used + one) ((state_of turn.after no_logs).next an) ((standing_in turn.after.store).ceilings.tx an) =
       covers_step count used an (state_of old no_logs) (state_of turn.after ended.0) (standing_in old.store) (standing_in turn.after.store)
-      turn.call turn.reply ended.1 lives.1.behaves.ceilings stays.0 covers in
+      old.reserving turn.call turn.reply ended.1 lives.1.behaves.ceilings stays.0 covers in
       let sum : (used + one) + rest ≡ used + (one + rest) = omega arith in
       covers_same count ((used + one) + rest) (used + (one + rest)) ((state_of new no_logs).next an) ((standing_in new.store).ceilings.tx an) sum
       (covers_lives count an turns (used + one) turn.after new lives.2 stays.1 here)
@@ -470,23 +457,27 @@ module _ {D : Type 0} (disk_of : D → Disk) where
       room_of new an count (frames_sent an old turns) (standing_in new.store).identity.tx_block n c refl refl ((kept-ahead new kept).tx_ahead an)
       (covers_same count (0 + frames_sent an old turns) (frames_sent an old turns) n c (omega arith) later)
 
-  pub room-installed : (old new : EndpointValue D) (an : ℕ) (key : List ℕ) (start : ℕ) (confidential : Bool) (offset : ℕ)
-      → IsCall disk_of old (Commands (TxInstall an key start confidential offset)) (Ran (Ok tt)) new
+  -- behind the call that made an install durable, whichever it was
+  pub room-installed : (old new : EndpointValue D) (call : Call) (reply : Reply) (an : ℕ) (key : List ℕ) (start : ℕ) (confidential : Bool) (offset : ℕ)
+      → IsSoundEndpoint old → IsCall disk_of old call reply new
+      → command_made (state_of old no_logs) call reply ≡ Some (TxInstall an key start confidential offset)
       → HasRoom new an (standing_in new.store).identity.tx_block
-  room-installed old new an key start confidential offset call =
+  room-installed old new call reply an key start confidential offset kept is made =
       let command = TxInstall an key start confidential offset in
-      let before = standing_in old.store in
-      let parts = accept-parts before command (standing_in new.store) call.behaves.ceilings in
+      let s = state_of old no_logs in
+      let from = subst (λ (o : Option Command). IsAcceptedTo o (standing_in new.store)) made
+      (made-accepted s (standing_in old.store) (standing_in new.store) old.reserving call reply is.behaves.ceilings) in
+      let before = from.0 in
+      let parts = accept-parts before command (standing_in new.store) from.1 in
       let block = (standing_in new.store).identity.tx_block in
-      let kept : (standing_in new.store).identity ≡ before.identity = ap (λ (x : Standing). x.identity) parts.2 in
-      let ended = call.behaves.step no_logs in
-      let is_next : (state_of new no_logs).next an ≡ Some start = elim ended.1 [
-        | inl stopped ↦ absurd stopped.1
-        | inr ran ↦ ap (λ (x : State). x.next an) ran.1.2 ∙ put-here (state_of old no_logs).next an (Some start)
-      ] in
+      let same : (standing_in new.store).identity ≡ before.identity = ap (λ (x : Standing). x.identity) parts.2 in
+      let ended = is.behaves.step no_logs in
+      let changes = subst (λ (o : Option Command). Changes s o (state_of new ended.0)) made
+      (call-changes s (state_of new ended.0) call reply (made-quiet s call reply command made) ended.1) in
+      let is_next : (state_of new no_logs).next an ≡ Some start = ap (λ (f : ℕ → Option ℕ). f an) changes.0 ∙ put-here s.next an (Some start) in
       let is_ceiling : (standing_in new.store).ceilings.tx an ≡ Some (block_beyond start block) =
       ap (λ (x : Standing). x.ceilings.tx an) parts.2 ∙ put-here before.ceilings.tx an (Some (block_beyond start before.identity.tx_block))
-      ∙ ap (λ (i : Identity). Some (block_beyond start i.tx_block)) (sym kept) in
+      ∙ ap (λ (i : Identity). Some (block_beyond start i.tx_block)) (sym same) in
       record {
         next = start;
         ceiling = block_beyond start block;
@@ -518,21 +509,19 @@ module _ {D : Type 0} (disk_of : D → Disk) where
     | inr over ↦ inr (omega (arith, over, bounded))
   ]
 
-  pub room-refilled : (old new : EndpointValue D) (an : ℕ) → IsSoundEndpoint old → IsCall disk_of old Refills (Refilled (Ok tt)) new → IsEncodingAn new an
+  -- where all ceilings that were needed are raised
+  room_refilled : (old new : EndpointValue D) (an : ℕ) → IsSoundEndpoint old → (state_of new no_logs).next ≡ (state_of old no_logs).next
+      → IsRefilled (tx_side (state_of old no_logs)) (rx_side (state_of old no_logs)) (standing_with_reserved (standing_in old.store) old.reserving)
+      (standing_in new.store) None → IsEncodingAn new an
       → HasRoom new an ((standing_in new.store).identity.tx_block / 2 + 1)
-  room-refilled old new an kept call encodes =
-      let before = standing_in old.store in
+  room_refilled old new an kept same refilled encodes =
+      let before = standing_with_reserved (standing_in old.store) old.reserving in
       let after = standing_in new.store in
       let side = tx_side (state_of old no_logs) in
       let receives = rx_side (state_of old no_logs) in
       let block = after.identity.tx_block in
-      let refilled = call.behaves.ceilings in
-      let same_config = (raises-parts side receives before after refilled.raises refilled.raised).1 in
-      let ended = call.behaves.step no_logs in
-      let same : (state_of new no_logs).next ≡ side.next = elim ended.1 [
-        | inl stopped ↦ absurd stopped.1
-        | inr ran ↦ ap (λ (x : State). x.next) ran.1
-      ] in
+      let same_config = (raises-parts side receives before after refilled.raises refilled.raised).1
+      ∙ (reserved-parts (standing_in old.store) old.reserving).1 in
       let found = association_of (association_at old.tx an) (subst (λ (x : ℕ → Option ℕ). IsSome (x an)) same encodes.1) in
       let one = found.0 in
       let is_next : side.next an ≡ Some one.next = ap (option_map (λ (a : Association). a.next)) found.1 in
@@ -541,7 +530,7 @@ module _ {D : Type 0} (disk_of : D → Disk) where
       let chosen : side.encoding ≡ Some an = sym (ap (λ (x : Config). x.encoding) same_config) ∙ encodes.0 in
       let goes : next_outgoing side ≡ outgoing_with an (Some (sa_of one)) (Some one.next) =
       ap (outgoing_at side) chosen ∙ (λ i. outgoing_with an (is_sa i) (is_next i)) in
-      let are = raises-ahead side receives before after refilled.raises refilled.raised (kept-ahead old kept) in
+      let are = raises-ahead side receives before after refilled.raises refilled.raised (reserved-ahead old kept) in
       let ceiling = ceiling_of block one.next (after.ceilings.tx an)
       (subst (λ (x : Option ℕ). IsTxWithin block x (after.ceilings.tx an)) is_next (are.tx_ahead an)) in
       let none = no-first (tx.need_of side after.ceilings.tx block) (first_need_of receives after.ceilings.rx after.identity.rx_block) refilled.is_next in
@@ -553,6 +542,29 @@ module _ {D : Type 0} (disk_of : D → Disk) where
         room = enough_room block one.next ceiling.0
             (tx-unneeded side after.ceilings.tx block an one.next ceiling.0 (sa_of one) goes ceiling.1 none.0) ceiling.2 ceiling.3;
       }
+
+  pub room-refilled : (old new : EndpointValue D) (an : ℕ) → IsSoundEndpoint old → IsCall disk_of old Refills (Refilled (Ok tt)) new → IsEncodingAn new an
+      → HasRoom new an ((standing_in new.store).identity.tx_block / 2 + 1)
+  room-refilled old new an kept call encodes =
+      let ended = call.behaves.step no_logs in
+      let same : (state_of new no_logs).next ≡ (state_of old no_logs).next = elim ended.1 [
+        | inl stopped ↦ absurd stopped.1
+        | inr ran ↦ ap (λ (x : State). x.next) ran.1.1
+      ] in
+      room_refilled old new an kept same call.behaves.ceilings encodes
+
+  -- the same behind a step that found nothing to do
+  pub room-idle : (old new : EndpointValue D) (an : ℕ) → IsSoundEndpoint old → IsCall disk_of old Advances (Advanced (Ok Idle)) new → IsEncodingAn new an
+      → HasRoom new an ((standing_in new.store).identity.tx_block / 2 + 1)
+  room-idle old new an kept call encodes =
+      let idle = idle-step disk_of old new call in
+      let free : old.reserving ≡ None = (at-rest old kept idle.2).reserving in
+      let same : standing_in new.store ≡ standing_with_reserved (standing_in old.store) old.reserving =
+      ap (λ (e : EndpointValue D). standing_in e.store) idle.0 ∙ ap (λ (o : Option Raise). standing_with_reserved (standing_in old.store) o) (sym free) in
+      let none : first_raise (standing_in new.store) (tx_side (state_of old no_logs)) (rx_side (state_of old no_logs)) ≡ None =
+      ap (λ (e : EndpointValue D). first_raise (standing_in e.store) (tx_side (state_of old no_logs)) (rx_side (state_of old no_logs))) idle.0 ∙ idle.1 in
+      room_refilled old new an kept (ap (λ (e : EndpointValue D). (state_of e no_logs).next) idle.0)
+      (record { raises = []; raised = same; is_next = none }) encodes
 
   -- ---- where no number is left
 

@@ -10,17 +10,18 @@ use Rattle.macs_disk.specs.Disk.{Disk}
 use Rattle.macs_rxsc.specs.Receive.{Arrival, Arrives, RxStepHolds, Numbers, numbers_after_delivery, numbers_after_hold, put_numbers, seen_after, first_numbers, rx_steps, numbers_under_window}
 use Rattle.macs_rxsc.specs.declared.verdict.Verdict.TheVariants.{HeldBack}
 use Rattle.macs_rxsc.proofs.Steps.{arrives_once}
-use Rattle.macs_store.specs.declared.fault.CommitFault.TheVariants as commit
 use Rattle.macs_endpoint.specs.Calls.{IsCall}
 use Rattle.macs_endpoint.specs.Lives.{Lives, Turn}
 use Rattle.macs_endpoint.specs.Rooms.{IsBelow, RxStays, SparesRx}
-use Rattle.macs_endpoint.specs.State.{Call, Commands, Protects, Protected, Ran, Received, Receives, Refilled, Refills, Reply, State, command_made, no_logs, rx_side}
-use Rattle.macs_endpoint.specs.Step.{ArriveStep, Step, state_after_hold, numbers_after}
+use Rattle.macs_endpoint.specs.State.{Advanced, Advances, Call, Commands, Protects, Protected, Ran, Received, Receives, Refilled, Refills, Reply, State, Submits, Submitted, command_made, no_logs, rx_side}
+use Rattle.macs_endpoint.specs.Step.{ArriveStep, Step, numbers_after}
 use Rattle.macs_endpoint.specs.Value.{EndpointValue, IsSoundEndpoint, state_of}
 use Rattle.macs_endpoint.specs.declared.fault.ProtectFault.TheVariants as protect
-use Rattle.macs_endpoint.specs.declared.fault.RefillFault.TheVariants as refill
+use Rattle.macs_endpoint.specs.declared.progress.Step.TheVariants.{Idle}
+use Rattle.macs_endpoint.proofs.Changes.{PassesNone, call-changes, no-answer, numbers_after_made}
+use Rattle.macs_endpoint.proofs.Idled.{idle-step}
 use Rattle.macs_endpoint.proofs.PacketNumber.{pn-in-range}
-use Rattle.macs_endpoint.proofs.Rooms.{below-refilled}
+use Rattle.macs_endpoint.proofs.Rooms.{below-idle, below-refilled}
 
 -- a number was seen that is not below this one
 abbrev IsReached : Option ℕ → ℕ → Type 0
@@ -107,52 +108,34 @@ module _ (sci : List ℕ) (an pn : ℕ) where
         (λ had. subst (λ (o : Option ℕ). IsReached o pn) (sym is)
         (reached-still a.numbers.seen pn a.pn (subst (λ (n : Option Numbers). HasSeen n pn) are had))) seen)
 
+    -- no frame passes
+    seen_made : (made : Option Command) → SparesRx sci an made → HasSeen (s.numbers sci an) pn → HasSeen (numbers_after_made made s.numbers sci an) pn
+    seen_made None spares seen = seen
+    seen_made (Some command) spares seen = seen-command command s.numbers spares seen
+
+    seen_quiet : (call : Call) (reply : Reply) → PassesNone call → Step s call reply t → SparesRx sci an (command_made s call reply)
+        → HasSeen (s.numbers sci an) pn → HasSeen (t.numbers sci an) pn
+    seen_quiet call reply quiet step spares seen =
+        let made = command_made s call reply in
+        subst (λ (f : List ℕ → ℕ → Option Numbers). HasSeen (f sci an) pn) (sym (call-changes s t call reply quiet step).1) (seen_made made spares seen)
+
     seen-step : (call : Call) (reply : Reply) → Step s call reply t → SparesRx sci an (command_made s call reply) → HasSeen (s.numbers sci an) pn
         → HasSeen (t.numbers sci an) pn
-    seen-step (Commands command) (Ran (Ok done)) (inl step) spares seen = absurd step.1
-    seen-step (Commands command) (Ran (Ok done)) (inr step) spares seen =
-        subst (λ (x : State). HasSeen (x.numbers sci an) pn) (sym step.1.2) (seen-command command s.numbers spares seen)
-    seen-step (Commands command) (Ran (Err fault)) (inl step) spares seen = seen-same (ap numbers_in step.2) seen
-    seen-step (Commands command) (Ran (Err (commit.Refused refusal))) (inr step) spares seen = seen-same (ap numbers_in step.1.1) seen
-    seen-step (Commands command) (Ran (Err commit.GenerationsSpent)) (inr step) spares seen = seen-same (ap numbers_in step.1.1) seen
-    seen-step (Commands command) (Ran (Err commit.Disk)) (inr step) spares seen = seen-same (ap numbers_in step.1.1) seen
-    seen-step (Commands command) (Ran (Err commit.Stopped)) (inr step) spares seen = absurd step.1
-    seen-step (Commands command) (Refilled result) (inl step) spares seen = absurd step.1
-    seen-step (Commands command) (Refilled result) (inr step) spares seen = absurd step.1
-    seen-step (Commands command) (Protected result out) (inl step) spares seen = absurd step.1
-    seen-step (Commands command) (Protected result out) (inr step) spares seen = absurd step.1
-    seen-step (Commands command) (Received result out) (inl step) spares seen = absurd step.1
-    seen-step (Commands command) (Received result out) (inr step) spares seen = absurd step.1
-    seen-step Refills (Ran result) (inl step) spares seen = absurd step.1
-    seen-step Refills (Ran result) (inr step) spares seen = absurd step.1
-    seen-step Refills (Refilled (Ok done)) (inl step) spares seen = absurd step.1
-    seen-step Refills (Refilled (Ok done)) (inr step) spares seen = seen-same (ap numbers_in step.1) seen
-    seen-step Refills (Refilled (Err fault)) (inl step) spares seen = seen-same (ap numbers_in step.2) seen
-    seen-step Refills (Refilled (Err refill.GenerationsSpent)) (inr step) spares seen = seen-same (ap numbers_in step.1) seen
-    seen-step Refills (Refilled (Err refill.Disk)) (inr step) spares seen = seen-same (ap numbers_in step.1) seen
-    seen-step Refills (Refilled (Err refill.Stopped)) (inr step) spares seen = absurd step.1
-    seen-step Refills (Protected result out) (inl step) spares seen = absurd step.1
-    seen-step Refills (Protected result out) (inr step) spares seen = absurd step.1
-    seen-step Refills (Received result out) (inl step) spares seen = absurd step.1
-    seen-step Refills (Received result out) (inr step) spares seen = absurd step.1
-    seen-step (Protects plain) (Ran result) (inl step) spares seen = absurd step.1
-    seen-step (Protects plain) (Ran result) (inr step) spares seen = absurd step.1
-    seen-step (Protects plain) (Refilled result) (inl step) spares seen = absurd step.1
-    seen-step (Protects plain) (Refilled result) (inr step) spares seen = absurd step.1
+    seen-step (Commands command) reply step spares seen = seen_quiet (Commands command) reply tt step spares seen
+    seen-step Refills reply step spares seen = seen_quiet Refills reply tt step spares seen
+    seen-step (Submits command) reply step spares seen = seen_quiet (Submits command) reply tt step spares seen
+    seen-step Advances reply step spares seen = seen_quiet Advances reply tt step spares seen
     seen-step (Protects plain) (Protected (Ok number) out) (inl step) spares seen = absurd step.1
     seen-step (Protects plain) (Protected (Ok number) out) (inr step) spares seen = seen-same (ap numbers_in step.1.1.4) seen
     seen-step (Protects plain) (Protected (Err (protect.Tx fault)) out) (inl step) spares seen = absurd step.1
     seen-step (Protects plain) (Protected (Err (protect.Tx fault)) out) (inr step) spares seen = seen-same (ap numbers_in step.1.2) seen
     seen-step (Protects plain) (Protected (Err protect.Stopped) out) (inl step) spares seen = seen-same (ap numbers_in step.2) seen
     seen-step (Protects plain) (Protected (Err protect.Stopped) out) (inr step) spares seen = absurd step.1
-    seen-step (Protects plain) (Received result out) (inl step) spares seen = absurd step.1
-    seen-step (Protects plain) (Received result out) (inr step) spares seen = absurd step.1
-    seen-step (Receives frame) (Ran result) (inl step) spares seen = absurd step.1
-    seen-step (Receives frame) (Ran result) (inr step) spares seen = absurd step.1
-    seen-step (Receives frame) (Refilled result) (inl step) spares seen = absurd step.1
-    seen-step (Receives frame) (Refilled result) (inr step) spares seen = absurd step.1
-    seen-step (Receives frame) (Protected result out) (inl step) spares seen = absurd step.1
-    seen-step (Receives frame) (Protected result out) (inr step) spares seen = absurd step.1
+    seen-step (Protects plain) (Ran result) step spares seen = absurd (no-answer step)
+    seen-step (Protects plain) (Refilled result) step spares seen = absurd (no-answer step)
+    seen-step (Protects plain) (Submitted result) step spares seen = absurd (no-answer step)
+    seen-step (Protects plain) (Advanced result) step spares seen = absurd (no-answer step)
+    seen-step (Protects plain) (Received result out) step spares seen = absurd (no-answer step)
     seen-step (Receives frame) (Received result out) (inl step) spares seen = seen-same (ap numbers_in step.2) seen
     seen-step (Receives frame) (Received (Ok verdict) out) (inr step) spares seen = elim step.1 [
       | inl settles ↦ seen-same (ap numbers_in settles.4) seen
@@ -164,6 +147,11 @@ module _ (sci : List ℕ) (an pn : ℕ) where
           ]
     ]
     seen-step (Receives frame) (Received (Err stopped) out) (inr step) spares seen = absurd step.1
+    seen-step (Receives frame) (Ran result) step spares seen = absurd (no-answer step)
+    seen-step (Receives frame) (Refilled result) step spares seen = absurd (no-answer step)
+    seen-step (Receives frame) (Submitted result) step spares seen = absurd (no-answer step)
+    seen-step (Receives frame) (Advanced result) step spares seen = absurd (no-answer step)
+    seen-step (Receives frame) (Protected result out) step spares seen = absurd (no-answer step)
 
 -- ---- an endpoint
 
@@ -215,26 +203,41 @@ module _ {D : Type 0} (disk_of : D → Disk) where
         ]
       ]
 
-  -- what was held back is below the ceiling once a refill was answered with Ok, where its association stood all the time
-  pub below-again : (old mid late new : EndpointValue D) (turns : List (Turn D)) (frame out : List ℕ) (a : Arrival) → IsSoundEndpoint new
-      → Arrives (rx_side (state_of old no_logs)) frame a → IsCall disk_of old (Receives frame) (Received (Ok HeldBack) out) mid
-      → Lives disk_of mid turns late → RxStays a.sci a.an mid turns → IsCall disk_of late Refills (Refilled (Ok tt)) new → IsBelow new a.sci a.an a.pn
-  below-again old mid late new turns frame out a kept arrives held lives stays refill =
-      let ended = refill.behaves.step no_logs in
-      let same : (state_of new no_logs).numbers ≡ (state_of late no_logs).numbers = elim ended.1 [
-        | inl stopped ↦ absurd stopped.1
-        | inr ran ↦ ap (λ (x : State). x.numbers) ran.1
-      ] in
-      let seen : HasSeen ((state_of late no_logs).numbers a.sci a.an) a.pn =
-      seen-lives a.sci a.an a.pn turns mid late lives stays (seen-held old mid frame out a arrives held) in
-      by ((state_of new no_logs).numbers a.sci a.an) refl
-      (subst (λ (f : List ℕ → ℕ → Option Numbers). HasSeen (f a.sci a.an) a.pn) (sym same) seen)
-    where
-      last : a.pn < 2 ^ 32
-      last = subst (λ (pn : ℕ). pn < 2 ^ 32) (sym arrives.is_pn) (pn-in-range frame held.behaves.in_range)
+  -- a frame that was held back, and calls behind it that leave its association alone
+  module _ (old mid late new : EndpointValue D) (turns : List (Turn D)) (frame out : List ℕ) (a : Arrival) (kept : IsSoundEndpoint new)
+      (arrives : Arrives (rx_side (state_of old no_logs)) frame a) (held : IsCall disk_of old (Receives frame) (Received (Ok HeldBack) out) mid)
+      (lives : Lives disk_of mid turns late) (stays : RxStays a.sci a.an mid turns) where
+    last : a.pn < 2 ^ 32
+    last = subst (λ (pn : ℕ). pn < 2 ^ 32) (sym arrives.is_pn) (pn-in-range frame held.behaves.in_range)
 
-      by : (numbers : Option Numbers) → (state_of new no_logs).numbers a.sci a.an ≡ numbers → HasSeen numbers a.pn → IsBelow new a.sci a.an a.pn
-      by None are seen = absurd seen
-      by (Some numbers) are seen =
-          let reached = reached-numbers numbers numbers.seen a.pn refl seen in
-          below-refilled disk_of late new a.sci a.an numbers.next numbers.lowest reached.0 a.pn kept refill (are ∙ ap Some reached.1) last (inl reached.2)
+    -- behind a call that changes no numbers it was seen still
+    below_by : ((next lowest top : ℕ) → (state_of new no_logs).numbers a.sci a.an ≡ Some (record { next = next; lowest = lowest; seen = Some top })
+        → a.pn ≤ top → IsBelow new a.sci a.an a.pn)
+        → (numbers : Option Numbers) → (state_of new no_logs).numbers a.sci a.an ≡ numbers → HasSeen numbers a.pn → IsBelow new a.sci a.an a.pn
+    below_by far None are seen = absurd seen
+    below_by far (Some numbers) are seen =
+        let reached = reached-numbers numbers numbers.seen a.pn refl seen in
+        far numbers.next numbers.lowest reached.0 (are ∙ ap Some reached.1) reached.2
+
+    seen_now : (state_of new no_logs).numbers ≡ (state_of late no_logs).numbers → HasSeen ((state_of new no_logs).numbers a.sci a.an) a.pn
+    seen_now same =
+        subst (λ (f : List ℕ → ℕ → Option Numbers). HasSeen (f a.sci a.an) a.pn) (sym same)
+        (seen-lives a.sci a.an a.pn turns mid late lives stays (seen-held old mid frame out a arrives held))
+
+    -- it is below the ceiling once a refill was answered with Ok
+    pub below-again : IsCall disk_of late Refills (Refilled (Ok tt)) new → IsBelow new a.sci a.an a.pn
+    below-again refill =
+        let ended = refill.behaves.step no_logs in
+        let same : (state_of new no_logs).numbers ≡ (state_of late no_logs).numbers = elim ended.1 [
+          | inl stopped ↦ absurd stopped.1
+          | inr ran ↦ ap (λ (x : State). x.numbers) ran.1.1
+        ] in
+        below_by (λ next lowest top are reached. below-refilled disk_of late new a.sci a.an next lowest top a.pn kept refill are last (inl reached))
+        ((state_of new no_logs).numbers a.sci a.an) refl (seen_now same)
+
+    -- or a step found nothing to do
+    pub below-later : IsCall disk_of late Advances (Advanced (Ok Idle)) new → IsBelow new a.sci a.an a.pn
+    below-later step =
+        let same = ap (λ (e : EndpointValue D). (state_of e no_logs).numbers) (idle-step disk_of late new step).0 in
+        below_by (λ next lowest top are reached. below-idle disk_of late new a.sci a.an next lowest top a.pn kept step are last (inl reached))
+        ((state_of new no_logs).numbers a.sci a.an) refl (seen_now same)

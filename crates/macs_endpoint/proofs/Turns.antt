@@ -1,5 +1,5 @@
 -- Events served: one turn behind others.
-use Rattle.std.proofs.Common.{◌≡◌, ◌≤◌, ◌<◌, ◌+◌, ◌&&◌, inl, inr, ℕ, Bool, true, false, cond, not, List, [], ◌∷◌, ◌++◌, length, map, Option, Some, None, is_ok, refl, sym, ◌∙◌, ap, subst, arith, append_assoc, append-nil}
+use Rattle.std.proofs.Common.{◌≡◌, ◌≤◌, ◌<◌, ◌+◌, ◌&&◌, inl, inr, ℕ, Bool, true, false, if◌then◌else◌, not, List, [], ◌∷◌, ◌++◌, length, map, Option, Some, None, is_ok, refl, sym, ◌∙◌, ap, subst, arith, append_assoc, append-nil}
 use Rattle.std.proofs.lemmas.Bool.{cases_lt}
 use Rattle.std.proofs.lemmas.List.{map-append, length_push}
 use Rattle.macs_config.specs.Apply.{apply}
@@ -11,14 +11,17 @@ use Rattle.macs_disk.proofs.Moments.{Left-before}
 use Rattle.macs_endpoint.specs.Calls.{IsCall}
 use Rattle.macs_endpoint.specs.Value.{EndpointValue, IsBacked, IsSoundEndpoint, disk_in, is_stopped, state_of}
 use Rattle.macs_endpoint.specs.Lives.{FitsLife, LeavesLife, Lives, Turn, exchange_of}
-use Rattle.macs_endpoint.specs.Restart.{Fits, FitsCall, state_during}
+use Rattle.macs_endpoint.specs.Restart.{Fits, FitsCall, state_during, state_taking_alone}
 use Rattle.macs_endpoint.specs.Serving.{Ends, IsServed, Takes, Told, call_of, is_halt, reply_of}
-use Rattle.macs_endpoint.specs.State.{Call, Commands, Logs, Protects, Receives, Refills, Reply, State, state_with_in_hand, no_logs}
+use Rattle.macs_endpoint.specs.State.{Advances, Call, Commands, Logs, Protects, Receives, Refills, Reply, State, Submits, state_with_in_hand, no_logs}
 use Rattle.macs_endpoint.specs.Step.{Steps, Step}
 use Rattle.macs_endpoint.specs.declared.event.Answer.{Answer}
 use Rattle.macs_endpoint.specs.declared.event.Event.{Event}
 use Rattle.macs_endpoint.specs.declared.event.ServeEnd.{ServeEnd}
 use Rattle.macs_endpoint.specs.declared.event.ServeEnd.TheVariants.{Ended, Halted, TurnsSpent}
+use Rattle.macs_endpoint.specs.declared.queue.Waiting.{Waiting}
+use Rattle.macs_endpoint.proofs.Fitting.{fits-advancing, fits-holding}
+use Rattle.macs_endpoint.proofs.Work.{free-hand}
 
 -- ---- how answers end
 
@@ -44,44 +47,32 @@ ends_last (first ∷ other ∷ others) reply go halt = (go.0, ends_last (other �
 
 -- ---- an image that was left before
 
--- nothing was in hand before a command
-fits_holding : (edition : Edition) (sectors : ℕ) (image : Image) (s : State) (command : Command) → s.in_hand ≡ None → Fits edition sectors image s
-    → Fits edition sectors image (state_with_in_hand s command)
-fits_holding edition sectors image s command idle fits = record {
-  found = fits.found;
-  is_found = fits.is_found;
-  restart = elim fits.restart [
-    | inl resumes ↦ inl (record {
-      edition = resumes.edition;
-      identity = resumes.identity;
-      config = resumes.config;
-      next = resumes.next;
-      numbers = resumes.numbers;
-      logs = resumes.logs;
-      running = resumes.running;
-      idle = resumes.idle;
-    })
-    | inr made ↦ absurd (let held = made.2 in cc)
-  ];
-}
-
-held_or_not : (P : State → Type 0) (stopped accepts : Bool) (x y : State) → (stopped ≡ false → P x) → P y → P (cond (not stopped && accepts) x y)
+held_or_not : (P : State → Type 0) (stopped accepts : Bool) (x y : State) → (stopped ≡ false → P x) → P y → P (if not stopped && accepts then x else y)
 held_or_not P true accepts x y this other = other
 held_or_not P false true x y this other = this refl
 held_or_not P false false x y this other = other
 
-fits_during : (edition : Edition) (sectors : ℕ) (image : Image) (s : State) (call : Call) → (s.stopped ≡ false → s.in_hand ≡ None) → Fits edition sectors image s
-    → Fits edition sectors image (state_during s call)
-fits_during edition sectors image s (Commands command) idle fits =
-    held_or_not (Fits edition sectors image) s.stopped (is_ok (apply s.edition s.identity s.config command)) (state_with_in_hand s command) s
-    (λ running. fits_holding edition sectors image s command (idle running) fits) fits
-fits_during edition sectors image s Refills idle fits = fits
-fits_during edition sectors image s (Protects plain) idle fits = fits
-fits_during edition sectors image s (Receives frame) idle fits = fits
+module _ (edition : Edition) (sectors : ℕ) (image : Image) (s : State) (fits : Fits edition sectors image s) where
+  -- no command was in hand before one that does not wait
+  fits_alone : (command : Command) (waiting : List Waiting) → (waiting ≡ [] → s.stopped ≡ false → s.in_hand ≡ None)
+      → Fits edition sectors image (state_taking_alone s command waiting)
+  fits_alone command [] free =
+      held_or_not (Fits edition sectors image) s.stopped (is_ok (apply s.edition s.identity s.config command)) (state_with_in_hand s command) s
+      (λ running. fits-holding sectors image fits.is_found.0 edition s command (free refl running) fits) fits
+  fits_alone command (first ∷ rest) free = fits
 
--- nothing is in hand unless a device call failed
-abbrev pub IsIdle : {D : Type 0} → EndpointValue D → Type 0
-IsIdle e = is_stopped e ≡ false → e.in_hand ≡ None
+  -- what fits a state fits it while a call is under way
+  fits_during : (call : Call) → (s.waiting ≡ [] → s.stopped ≡ false → s.in_hand ≡ None) → Fits edition sectors image (state_during s call)
+  fits_during (Commands command) free = fits_alone command s.waiting free
+  fits_during Refills free = fits
+  fits_during (Submits command) free = fits
+  fits_during Advances free = fits-advancing sectors image fits.is_found.0 edition s fits
+  fits_during (Protects plain) free = fits
+  fits_during (Receives frame) free = fits
+
+-- while it runs a command in hand is one that waits
+abbrev pub IsFree : {D : Type 0} → EndpointValue D → Type 0
+IsFree e = e.waiting ≡ [] → is_stopped e ≡ false → e.in_hand ≡ None
 
 module _ {D : Type 0} (disk_of : D → Disk) (turn : Turn D) where
   -- ---- calls and their steps
@@ -106,13 +97,13 @@ module _ {D : Type 0} (disk_of : D → Disk) (turn : Turn D) where
   -- ---- what a power loss leaves
 
   -- it fits the state of a moment before, or that of the last call
-  fits_wider : (sectors : ℕ) (image : Image) (turns : List (Turn D)) (old mid : EndpointValue D) → Lives disk_of old turns mid → IsIdle mid
+  fits_wider : (sectors : ℕ) (image : Image) (turns : List (Turn D)) (old mid : EndpointValue D) → Lives disk_of old turns mid → IsFree mid
       → FitsLife sectors old turns image → FitsLife sectors old (turns ++ turn ∷ []) image
-  fits_wider sectors image [] old mid lives idle fits =
-      inl (fits_during this_edition sectors image (state_of old no_logs) turn.call (subst (λ (e : EndpointValue D). IsIdle e) lives idle) fits)
-  fits_wider sectors image (first ∷ turns) old mid lives idle fits = elim fits [
+  fits_wider sectors image [] old mid lives free fits =
+      inl (fits_during this_edition sectors image (state_of old no_logs) fits turn.call (subst (λ (e : EndpointValue D). IsFree e) lives free))
+  fits_wider sectors image (first ∷ turns) old mid lives free fits = elim fits [
     | inl here ↦ inl here
-    | inr later ↦ inr (fits_wider sectors image turns first.after mid lives.2 idle later)
+    | inr later ↦ inr (fits_wider sectors image turns first.after mid lives.2 free later)
   ]
 
   fits_last : (sectors : ℕ) (image : Image) (turns : List (Turn D)) (old mid : EndpointValue D) → Lives disk_of old turns mid
@@ -121,7 +112,7 @@ module _ {D : Type 0} (disk_of : D → Disk) (turn : Turn D) where
       subst (λ (e : EndpointValue D). FitsCall sectors (state_of e no_logs) turn.call (state_of turn.after no_logs) image) lives fits
   fits_last sectors image (first ∷ turns) old mid lives fits = inr (fits_last sectors image turns first.after mid lives.2 fits)
 
-  module _ (mid : EndpointValue D) (call : IsCall disk_of mid turn.call turn.reply turn.after) (idle : IsIdle mid)
+  module _ (mid : EndpointValue D) (call : IsCall disk_of mid turn.call turn.reply turn.after) (free : IsFree mid)
       (honest : IsHonest (disk_in disk_of turn.after)) (backed : IsBacked disk_of mid) where
     -- since any moment before
     left_more : (since : ℕ) (turns : List (Turn D)) (old : EndpointValue D) → Lives disk_of old turns mid
@@ -134,7 +125,7 @@ module _ {D : Type 0} (disk_of : D → Disk) (turn : Turn D) where
         let widened : FitsLife early.sectors old (turns ++ turn ∷ []) image = elim (cases_lt early.clock left.0) [
           | inl after ↦ fits_last early.sectors image turns old mid lives
               (((call.survives honest backed).any_moment no_logs no_logs).each image (left.0, omega (arith, after), left.2, left.3))
-          | inr earlier ↦ fits_wider early.sectors image turns old mid lives idle
+          | inr earlier ↦ fits_wider early.sectors image turns old mid lives free
               (before image (Left-before early late since image call.device.works left earlier))
         ] in
         subst (λ (sectors : ℕ). FitsLife sectors old (turns ++ turn ∷ []) image) (sym call.device.works.sectors) widened
@@ -233,7 +224,7 @@ module _ {D : Type 0} (disk_of : D → Disk) (old : EndpointValue D) (told : Tol
           honest = same ∙ are.honest;
           any_moment = λ honest backed.
               let before : IsHonest (disk_in disk_of mid) = sym same ∙ honest in
-              leaves_more disk_of turn mid call kept.idle honest (are.backed before backed) turns old are.lives (are.any_moment before backed);
+              leaves_more disk_of turn mid call (free-hand mid kept) honest (are.backed before backed) turns old are.lives (are.any_moment before backed);
           backed = λ honest backed. (call.survives honest (are.backed (sym same ∙ honest) backed)).backed;
           source = taken.1 ∙ are.source;
           sink = given.1 ∙ are.sink;

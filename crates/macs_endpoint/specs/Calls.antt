@@ -1,21 +1,23 @@
 -- One call of an endpoint.
-use Rattle.std.specs.Prelude.{◌≡◌, ◌<◌, ◌^◌, All, Err}
+use Rattle.std.specs.Prelude.{◌≡◌, ◌<◌, ◌^◌, All, Ok, Err, false}
 use Rattle.macs_config.specs.Apply.{IsCommand}
 use Rattle.macs_config.specs.Config.{Edition}
 use Rattle.macs_disk.specs.Disk.{Disk, FailsOnce, IsHonest, Works}
 use Rattle.macs_disk.specs.Runs.{Leaves}
 use Rattle.macs_txsc.specs.Value as txsc
 use Rattle.macs_rxsc.specs.Value as rxsc
-use Rattle.macs_store.specs.Value.{standing_in}
-use Rattle.macs_store.specs.declared.fault.CommitFault.TheVariants as commit
+use Rattle.macs_store.specs.Value.{IsIdle, standing_in}
+use Rattle.macs_endpoint.specs.Advancing.{AdvancesAs, turn_after}
 use Rattle.macs_endpoint.specs.Ceilings.{CeilingsAfter}
 use Rattle.macs_endpoint.specs.Counting.{channel_counters_after, rx_counters_after, tx_counters_after}
 use Rattle.macs_endpoint.specs.Limits.{IsLimited, IsStill}
 use Rattle.macs_endpoint.specs.Restart.{FitsCall}
-use Rattle.macs_endpoint.specs.State.{Call, Commands, Logs, Protects, Ran, Receives, Refilled, Refills, Reply, no_logs}
+use Rattle.macs_endpoint.specs.State.{Advanced, Advances, Call, Commands, Logs, Protects, Ran, Receives, Refilled, Refills, Reply, Submits, no_logs}
 use Rattle.macs_endpoint.specs.Step.{Step}
-use Rattle.macs_endpoint.specs.Value.{EndpointValue, IsBacked, disk_in, state_of}
+use Rattle.macs_endpoint.specs.Value.{EndpointValue, IsBacked, disk_in, is_stopped, state_of}
+use Rattle.macs_endpoint.specs.declared.fault.CommandFault.TheVariants as ran
 use Rattle.macs_endpoint.specs.declared.fault.RefillFault.TheVariants as refill
+use Rattle.macs_endpoint.specs.declared.fault.StepFault.TheVariants as step
 
 -- ---- what a call is given
 
@@ -23,19 +25,38 @@ use Rattle.macs_endpoint.specs.declared.fault.RefillFault.TheVariants as refill
 abbrev pub IsInRange : Edition → Call → Type 0
 IsInRange edition (Commands command) = IsCommand edition command
 IsInRange edition Refills = Unit {0}
+IsInRange edition (Submits command) = IsCommand edition command
+IsInRange edition Advances = Unit {0}
 IsInRange edition (Protects plain) = All (λ octet. octet < 2 ^ 8) plain
 IsInRange edition (Receives frame) = All (λ octet. octet < 2 ^ 8) frame
 
 -- ---- on every disk
 
+-- what a step of an endpoint that runs does, where the call is one
+abbrev pub AdvancesIn : {D : Type 0} → (D → Disk) → EndpointValue D → Call → Reply → EndpointValue D → Type 0
+AdvancesIn disk_of old Advances (Advanced result) new = is_stopped old ≡ false → AdvancesAs disk_of old result new
+AdvancesIn disk_of old call reply new = Unit {0}
+
+-- no work is in hand after a command or a refill that went to its end, or that the journal has no room for
+abbrev pub Rests : {D : Type 0} → Call → Reply → EndpointValue D → Type 0
+Rests (Commands command) (Ran (Ok done)) new = IsIdle new.store
+Rests (Commands command) (Ran (Err ran.GenerationsSpent)) new = IsIdle new.store
+Rests Refills (Refilled (Ok done)) new = IsIdle new.store
+Rests Refills (Refilled (Err refill.GenerationsSpent)) new = IsIdle new.store
+Rests call reply new = Unit {0}
+
 -- What a caller sees of one call: what it is given is in range; it is a step of the machine; what becomes of configuration and ceilings;
--- where the answers come that a step leaves to the endpoint; which calls make no device call; what is counted.
-pub record Behaves {D : Type 0} (old : EndpointValue D) (call : Call) (reply : Reply) (new : EndpointValue D) : Type 0 where
+-- where the answers come that a step leaves to the endpoint; which calls make no device call; after which no work is in hand; what a step of
+-- its work does, and whose turn it is after; what is counted.
+pub record Behaves {D : Type 0} (disk_of : D → Disk) (old : EndpointValue D) (call : Call) (reply : Reply) (new : EndpointValue D) : Type 0 where
   pub in_range : IsInRange (standing_in old.store).edition call
   pub step : (logs : Logs) → (after : Logs) × Step (state_of old logs) call reply (state_of new after)
-  pub ceilings : CeilingsAfter (state_of old no_logs) (standing_in old.store) call reply (standing_in new.store)
+  pub ceilings : CeilingsAfter (state_of old no_logs) (standing_in old.store) old.reserving call reply (standing_in new.store)
   pub limited : IsLimited old call reply new
   pub still : IsStill old call reply new
+  pub rests : Rests call reply new
+  pub advances : AdvancesIn disk_of old call reply new
+  pub turn : new.turn ≡ turn_after old call reply
   pub tx_counters : txsc.counters_of new.tx ≡ tx_counters_after reply (txsc.counters_of old.tx)
   pub rx_counters : rxsc.counters_of new.rx ≡ rx_counters_after reply (rxsc.counters_of old.rx)
   pub channel_counters : rxsc.channel_counters_of new.rx
@@ -43,8 +64,9 @@ pub record Behaves {D : Type 0} (old : EndpointValue D) (call : Call) (reply : R
 
 -- one device call between these failed, and no other, exactly where this is answered as Disk
 abbrev pub Fails : Disk → Disk → Reply → Type 0
-Fails old new (Ran (Err commit.Disk)) = FailsOnce old new
+Fails old new (Ran (Err ran.Disk)) = FailsOnce old new
 Fails old new (Refilled (Err refill.Disk)) = FailsOnce old new
+Fails old new (Advanced (Err step.Disk)) = FailsOnce old new
 Fails old new reply = new.failures ≡ old.failures
 
 -- its device calls
@@ -65,6 +87,6 @@ pub record Survives {D : Type 0} (disk_of : D → Disk) (old : EndpointValue D) 
 
 -- one call, whatever happened before it
 pub record IsCall {D : Type 0} (disk_of : D → Disk) (old : EndpointValue D) (call : Call) (reply : Reply) (new : EndpointValue D) : Type 0 where
-  pub behaves : Behaves old call reply new
+  pub behaves : Behaves disk_of old call reply new
   pub device : DeviceCalls disk_of old reply new
   pub survives : IsHonest (disk_in disk_of new) → IsBacked disk_of old → Survives disk_of old call new

@@ -1,5 +1,6 @@
 -- What a call does to the ceilings of packet numbers.
-use Rattle.std.specs.Prelude.{◌≡◌, ℕ, List, [], ◌∷◌, Option, Some, None, Result, Ok, Err}
+use Rattle.std.specs.Prelude.{◌≡◌, ◌⊎◌, ◌<◌, ◌^◌, IfSome, IsSome, ℕ, List, [], ◌∷◌, Option, Some, None, Result, Ok, Err}
+use Rattle.macs_config.specs.Numbers.{block_beyond}
 use Rattle.macs_config.specs.declared.command.Command.{Command}
 use Rattle.macs_txsc.specs.Transmit.{TxSide}
 use Rattle.macs_txsc.specs.Transmit as tx
@@ -7,9 +8,14 @@ use Rattle.macs_rxsc.specs.Needs.{Need}
 use Rattle.macs_rxsc.specs.Needs as rx
 use Rattle.macs_rxsc.specs.Receive.{RxSide}
 use Rattle.macs_store.specs.Standing.{Standing, accept, standing_with_rx_raised, standing_with_tx_raised}
-use Rattle.macs_endpoint.specs.State.{Call, Refilled, Refills, Reply, State, command_made, rx_side, tx_side}
+use Rattle.macs_endpoint.specs.State.{Advanced, Advances, Call, Commands, Ran, Refilled, Refills, Reply, State, command_made, rx_side, tx_side}
+use Rattle.macs_endpoint.specs.declared.fault.CommandFault.{CommandFault}
+use Rattle.macs_endpoint.specs.declared.fault.CommandFault.TheVariants as ran
 use Rattle.macs_endpoint.specs.declared.fault.RefillFault.{RefillFault}
 use Rattle.macs_endpoint.specs.declared.fault.RefillFault.TheVariants as refill
+use Rattle.macs_endpoint.specs.declared.fault.StepFault.{StepFault}
+use Rattle.macs_endpoint.specs.declared.progress.Step.{Step as Progress}
+use Rattle.macs_endpoint.specs.declared.progress.Step.TheVariants.{Reserved}
 
 -- ---- reservations
 
@@ -22,6 +28,12 @@ pub data Raise : Type 0 where
 abbrev pub standing_with_raise : Standing → Raise → Standing
 standing_with_raise s (RaiseTx an) = standing_with_tx_raised s an
 standing_with_raise s (RaiseRx need) = standing_with_rx_raised s need.sci need.an need.pn
+
+-- the association of a ceiling stands, and the ceiling is below the one that it is raised to
+abbrev pub Rises : Standing → Raise → Type 0
+Rises s (RaiseTx an) = IsSome (s.ceilings.tx an) × IfSome (s.ceilings.tx an) (λ old. old < 2 ^ 32)
+Rises s (RaiseRx need) =
+    IsSome (s.ceilings.rx need.sci need.an) × IfSome (s.ceilings.rx need.sci need.an) (λ old. old < block_beyond need.pn s.identity.rx_block)
 
 -- the need of the transmit side, or else that of the receive side
 abbrev pub either_raise : Option ℕ → Option Need → Option Raise
@@ -49,18 +61,42 @@ pub record IsRefilled (tx_side : TxSide) (rx_side : RxSide) (old new : Standing)
 
 -- ---- calls
 
+-- what stands once a reservation that is in hand is done, if one is
+abbrev pub standing_with_reserved : Standing → Option Raise → Standing
+standing_with_reserved s None = s
+standing_with_reserved s (Some raise) = standing_with_raise s raise
+
 -- what stands after a command that was made durable, if one was
 abbrev pub StandsAfter : Option Command → Standing → Standing → Type 0
 StandsAfter None old new = new ≡ old
 StandsAfter (Some command) old new = accept old command ≡ Ok new
 
--- what stands after a refill with this answer: every need is served, or one is left that was not, or nothing changed
-abbrev pub StandsRefilled : TxSide → RxSide → Standing → Result (Unit {0}) RefillFault → Standing → Type 0
-StandsRefilled tx_side rx_side old (Ok done) new = IsRefilled tx_side rx_side old new None
-StandsRefilled tx_side rx_side old (Err refill.Stopped) new = new ≡ old
-StandsRefilled tx_side rx_side old (Err fault) new = (raise : Raise) × IsRefilled tx_side rx_side old new (Some raise)
+-- what stands after a command with this answer: a reservation in hand is done first, unless the command is refused before
+abbrev pub StandsRan : Standing → Option Raise → Command → Result (Unit {0}) CommandFault → Standing → Type 0
+StandsRan old reserving command (Ok done) new = accept (standing_with_reserved old reserving) command ≡ Ok new
+StandsRan old reserving command (Err ran.GenerationsSpent) new = new ≡ standing_with_reserved old reserving
+StandsRan old reserving command (Err ran.Disk) new = (new ≡ old) ⊎ (new ≡ standing_with_reserved old reserving)
+StandsRan old reserving command (Err fault) new = new ≡ old
 
--- what stands, its ceilings included, after a call of an endpoint in this state
-abbrev pub CeilingsAfter : State → Standing → Call → Reply → Standing → Type 0
-CeilingsAfter s old Refills (Refilled result) new = StandsRefilled (tx_side s) (rx_side s) old result new
-CeilingsAfter s old call reply new = StandsAfter (command_made s call reply) old new
+-- what stands after a refill with this answer: a reservation in hand is done first; then every need is served, or one is left that was not; or
+-- nothing changed
+abbrev pub StandsRefilled : TxSide → RxSide → Standing → Option Raise → Result (Unit {0}) RefillFault → Standing → Type 0
+StandsRefilled tx_side rx_side old reserving (Ok done) new = IsRefilled tx_side rx_side (standing_with_reserved old reserving) new None
+StandsRefilled tx_side rx_side old reserving (Err refill.GenerationsSpent) new =
+    (raise : Raise) × IsRefilled tx_side rx_side (standing_with_reserved old reserving) new (Some raise)
+StandsRefilled tx_side rx_side old reserving (Err refill.Disk) new =
+    ((raise : Raise) × (reserving ≡ Some raise) × (new ≡ old))
+    ⊎ ((raise : Raise) × IsRefilled tx_side rx_side (standing_with_reserved old reserving) new (Some raise))
+StandsRefilled tx_side rx_side old reserving (Err fault) new = new ≡ old
+
+-- what stands after a step with this answer: the reservation in hand is done, or a command took effect, or nothing changed
+abbrev pub StandsAdvanced : Standing → Option Raise → Option Command → Result Progress StepFault → Standing → Type 0
+StandsAdvanced old reserving made (Ok Reserved) new = (raise : Raise) × (reserving ≡ Some raise) × (new ≡ standing_with_raise old raise)
+StandsAdvanced old reserving made result new = StandsAfter made old new
+
+-- what stands, its ceilings included, after a call of an endpoint in this state with this reservation in hand
+abbrev pub CeilingsAfter : State → Standing → Option Raise → Call → Reply → Standing → Type 0
+CeilingsAfter s old reserving (Commands command) (Ran result) new = StandsRan old reserving command result new
+CeilingsAfter s old reserving Refills (Refilled result) new = StandsRefilled (tx_side s) (rx_side s) old reserving result new
+CeilingsAfter s old reserving Advances (Advanced result) new = StandsAdvanced old reserving (command_made s Advances (Advanced result)) result new
+CeilingsAfter s old reserving call reply new = new ≡ old

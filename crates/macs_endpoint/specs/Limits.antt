@@ -1,21 +1,24 @@
 -- Where the answers that a step leaves to the endpoint come, and which calls make no device call.
-use Rattle.std.specs.Prelude.{◌≡◌, true, false, Ok, Err}
+use Rattle.std.specs.Prelude.{◌≡◌, true, false, None, Ok, Err}
 use Rattle.macs_txsc.specs.Transmit.{is_at_ceiling, next_outgoing}
 use Rattle.macs_txsc.specs.declared.fault.TxFault.TheVariants.{NoNumber}
 use Rattle.macs_rxsc.specs.Receive.{Arrival, Arrives, is_below}
 use Rattle.macs_rxsc.specs.declared.verdict.Verdict.TheVariants.{HeldBack}
 use Rattle.macs_store.specs.Keeps.{IsSpent}
-use Rattle.macs_store.specs.Value.{standing_in}
-use Rattle.macs_store.specs.declared.fault.CommitFault.TheVariants as commit
+use Rattle.macs_store.specs.Value.{IsIdle, standing_in}
+use Rattle.macs_endpoint.specs.Needed.{raise_in}
 use Rattle.macs_endpoint.specs.Value.{EndpointValue, state_of}
-use Rattle.macs_endpoint.specs.State.{Call, Commands, Protects, Protected, Ran, Received, Receives, Refilled, Refills, Reply, no_logs, rx_side, tx_side}
+use Rattle.macs_endpoint.specs.State.{Advanced, Advances, Call, Commands, Protects, Protected, Ran, Received, Receives, Refilled, Refills, Reply, Submits, Submitted, no_logs, rx_side, tx_side}
+use Rattle.macs_endpoint.specs.declared.fault.CommandFault.TheVariants as ran
 use Rattle.macs_endpoint.specs.declared.fault.ProtectFault.TheVariants.{Tx}
 use Rattle.macs_endpoint.specs.declared.fault.RefillFault.TheVariants as refill
+use Rattle.macs_endpoint.specs.declared.fault.StepFault.TheVariants as step
+use Rattle.macs_endpoint.specs.declared.progress.Step.TheVariants.{Done}
 
 -- GenerationsSpent only where all slots of the current area are used and its generation is the last, NoNumber only where the next number
 -- is the ceiling, HeldBack only where a number is not below it
 abbrev pub IsLimited : {D : Type 0} → EndpointValue D → Call → Reply → EndpointValue D → Type 0
-IsLimited old (Commands command) (Ran (Err commit.GenerationsSpent)) new = IsSpent old.store
+IsLimited old (Commands command) (Ran (Err ran.GenerationsSpent)) new = IsSpent new.store
 IsLimited old Refills (Refilled (Err refill.GenerationsSpent)) new = IsSpent new.store
 IsLimited old (Protects plain) (Protected (Err (Tx NoNumber)) out) new =
     is_at_ceiling (standing_in old.store).ceilings.tx (next_outgoing (tx_side (state_of old no_logs))) ≡ true
@@ -23,11 +26,19 @@ IsLimited old (Receives frame) (Received (Ok HeldBack) out) new =
     (a : Arrival) × Arrives (rx_side (state_of old no_logs)) frame a × (is_below ((standing_in old.store).ceilings.rx a.sci a.an) a.pn ≡ false)
 IsLimited old call reply new = Unit {0}
 
--- frames, refused commands and a stopped endpoint leave the store as it was, and with it the disk and its clock
+-- frames, commands that are to wait, work that is refused before it begins, a refill that has nothing to do and a stopped endpoint leave the
+-- store as it was, and with it the disk and its clock
 abbrev pub IsStill : {D : Type 0} → EndpointValue D → Call → Reply → EndpointValue D → Type 0
-IsStill old (Commands command) (Ran (Err commit.Disk)) new = Unit {0}
-IsStill old (Commands command) (Ran (Err fault)) new = new.store ≡ old.store
+IsStill old (Commands command) (Ran (Err (ran.Refused refusal))) new = new.store ≡ old.store
+IsStill old (Commands command) (Ran (Err ran.Busy)) new = new.store ≡ old.store
+IsStill old (Commands command) (Ran (Err ran.Stopped)) new = new.store ≡ old.store
+IsStill old Refills (Refilled (Ok done)) new = IsIdle old.store → raise_in old ≡ None → new.store ≡ old.store
+IsStill old Refills (Refilled (Err refill.Busy)) new = new.store ≡ old.store
 IsStill old Refills (Refilled (Err refill.Stopped)) new = new.store ≡ old.store
+IsStill old Advances (Advanced (Ok (Done ticket (Err fault)))) new = new.store ≡ old.store
+IsStill old Advances (Advanced (Err step.GenerationsSpent)) new = new.store ≡ old.store
+IsStill old Advances (Advanced (Err step.Stopped)) new = new.store ≡ old.store
+IsStill old (Submits command) (Submitted result) new = new.store ≡ old.store
 IsStill old (Protects plain) (Protected result out) new = new.store ≡ old.store
 IsStill old (Receives frame) (Received result out) new = new.store ≡ old.store
 IsStill old call reply new = Unit {0}

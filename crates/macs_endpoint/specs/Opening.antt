@@ -1,5 +1,5 @@
 -- What the opening of a disk promises: the endpoint that begins there, or why it is refused.
-use Rattle.std.specs.Prelude.{◌≡◌, None, Result, Ok, Err}
+use Rattle.std.specs.Prelude.{◌≡◌, [], None, Result, Ok, Err}
 use Rattle.std.specs.Option.{option_map}
 use Rattle.macs_config.specs.Config.{this_edition}
 use Rattle.macs_disk.specs.Disk.{Disk, IsHonest, MayLeave, now}
@@ -19,25 +19,30 @@ use Rattle.macs_store.specs.Value.{StoreValue, standing_in}
 use Rattle.macs_endpoint.specs.Counting.{new_channel_counters}
 use Rattle.macs_endpoint.specs.Restart.{Fits, opened_state}
 use Rattle.macs_endpoint.specs.State.{Logs, State}
-use Rattle.macs_endpoint.specs.Value.{EndpointValue, IsBacked, IsSoundEndpoint, disk_in, state_of}
+use Rattle.macs_endpoint.specs.declared.turn.Turn.TheVariants.{Reservation}
+use Rattle.macs_endpoint.specs.Value.{EndpointValue, IsAtRest, IsBacked, IsSoundEndpoint, disk_in, state_of}
 
--- A sound endpoint begins with what stands in a store: its packet numbers begin at their ceilings, nothing is in hand, and nothing is
--- counted.
+-- A sound endpoint begins with what stands in a store: its packet numbers begin at their ceilings, nothing is in hand or waits, the first
+-- turn is a reservation's, and nothing is counted.
 pub record Begins {D : Type 0} (store : StoreValue D) (e : EndpointValue D) : Type 0 where
   pub from : e.store ≡ store
   pub sound : IsSoundEndpoint e
-  pub idle : e.in_hand ≡ None
+  pub idle : IsAtRest e × (e.in_hand ≡ None)
+  pub queue : (e.waiting ≡ []) × (e.tickets ≡ 0)
+  pub turn : e.turn ≡ Reservation
   pub next : (txsc.tx_side_of e.tx).next ≡ (standing_in store).ceilings.tx
   pub numbers : (rxsc.rx_side_of e.rx).numbers ≡ (λ sci an. option_map first_numbers ((standing_in store).ceilings.rx sci an))
   pub tx_counters : txsc.counters_of e.tx ≡ transmit.no_counts
   pub rx_counters : rxsc.counters_of e.rx ≡ counting.no_counts
   pub channel_counters : rxsc.channel_counters_of e.rx ≡ new_channel_counters (standing_in store).config.channels
 
--- A disk is opened to this endpoint. It is in the state of one that begins with what stands in its store, after whatever logs, and
--- nothing is counted. On an honest disk the disk stood for that, and holds it.
+-- A disk is opened to this endpoint. It is in the state of one that begins with what stands in its store, after whatever logs, no work is in
+-- hand, and nothing is counted. On an honest disk the disk stood for that, and holds it.
 pub record Opens {D : Type 0} (disk_of : D → Disk) (disk : D) (e : EndpointValue D) : Type 0 where
   pub device : IsOpened (disk_of disk) (disk_in disk_of e)
   pub state : (logs : Logs) → state_of e logs ≡ opened_state (standing_in e.store) logs
+  pub idle : IsAtRest e
+  pub turn : e.turn ≡ Reservation
   pub found : IsHonest (disk_in disk_of e) → StandingIs this_edition (disk_of disk).sectors (now (disk_of disk)).seen (Ok (standing_in e.store))
   pub backed : IsHonest (disk_in disk_of e) → IsBacked disk_of e
   pub tx_counters : txsc.counters_of e.tx ≡ transmit.no_counts

@@ -1,38 +1,44 @@
 -- Reservations of packet numbers, whichever are made.
-use Rattle.std.specs.Prelude.{◌≡◌, Option, Result}
+use Rattle.std.specs.Prelude.{◌≡◌, ◌≤◌, ◌+◌, Some, None, Option, Result, Ok, Err, IsErrOf, OnErr, OnOk}
 use Rattle.macs_disk.specs.Disk.{Disk, IsHonest, Works}
 use Rattle.macs_disk.specs.Runs.{Leaves}
 use Rattle.macs_disk.specs.States.{Image}
+use Rattle.macs_journal.specs.declared.fault.JournalFault.{JournalFault}
+use Rattle.macs_journal.specs.declared.fault.JournalFault.TheVariants as journal
+use Rattle.macs_txsc.specs.Transmit.{TxSide}
 use Rattle.macs_txsc.specs.Value as txsc
+use Rattle.macs_rxsc.specs.Receive.{RxSide}
 use Rattle.macs_rxsc.specs.Value as rxsc
-use Rattle.macs_store.specs.Value.{standing_in}
+use Rattle.macs_store.specs.Keeps.{IsSpent}
+use Rattle.macs_store.specs.Standing.{Standing}
+use Rattle.macs_store.specs.Stepping.{HasInHand}
+use Rattle.macs_store.specs.Value.{IsIdle, calls_left, slots_then, standing_in, used_slots}
 use Rattle.macs_endpoint.specs.Calls.{Fails}
-use Rattle.macs_endpoint.specs.Ceilings as ceilings
-use Rattle.macs_endpoint.specs.Value.{IsBacked, EndpointValue, disk_in, state_of}
+use Rattle.macs_endpoint.specs.Ceilings.{Raise, StandsRefilled, standing_with_raise, standing_with_reserved}
 use Rattle.macs_endpoint.specs.Limits.{IsLimited}
+use Rattle.macs_endpoint.specs.Needed.{raise_in}
 use Rattle.macs_endpoint.specs.Restart.{Fits}
-use Rattle.macs_endpoint.specs.State.{Logs, Refilled, Refills, State, no_logs, rx_side, tx_side}
-use Rattle.macs_endpoint.specs.Step.{RefillStep}
+use Rattle.macs_endpoint.specs.State.{Logs, Refilled, Refills, State, no_logs, rx_side, state_after_fault, tx_side}
+use Rattle.macs_endpoint.specs.Value.{EndpointValue, IsBacked, IsReserving, IsSoundEndpoint, disk_in, state_of}
 use Rattle.macs_endpoint.specs.declared.fault.RefillFault.{RefillFault}
-use Rattle.macs_endpoint.specs.declared.refilling.Raise.{Raise}
-use Rattle.macs_endpoint.specs.declared.refilling.Raise.TheVariants.{Rx, Tx}
-
--- a ceiling that is to be raised, as it is told
-abbrev pub raise_of : Raise → ceilings.Raise
-raise_of (Tx an) = ceilings.RaiseTx an
-raise_of (Rx need) = ceilings.RaiseRx (record { sci = need.sci; an = need.an; pn = need.pn })
-
--- the ceiling that an endpoint is to raise first, if any is needed
-abbrev pub raise_in : {D : Type 0} → EndpointValue D → Option ceilings.Raise
-raise_in e = ceilings.first_raise (standing_in e.store) (tx_side (state_of e no_logs)) (rx_side (state_of e no_logs))
+use Rattle.macs_endpoint.specs.declared.fault.RefillFault.TheVariants as refill
 
 -- opening a disk of that size with this image is a restart of the state
 abbrev pub FitsState : State → Disk → Image → Type 0
 FitsState s disk image = Fits s.edition disk.sectors image s
 
--- Whatever is raised: the step that it is, what it does with the disk, and what a power loss leaves at any moment since it began
+-- reservations leave the state, which has no ceilings, as it was, unless a device call failed
+abbrev pub ReserveStep : State → Result (Unit {0}) RefillFault → State → Type 0
+ReserveStep old (Ok done) new = new ≡ old
+ReserveStep old (Err refill.GenerationsSpent) new = new ≡ old
+ReserveStep old (Err refill.Disk) new = new ≡ state_after_fault old
+ReserveStep old (Err fault) new = ⊥
+
+-- Whatever is raised: the step that it is, that no work is in hand then, what it does with the disk, and what a power loss leaves at any
+-- moment since it began
 pub record Reserves {D : Type 0} (disk_of : D → Disk) (old : EndpointValue D) (result : Result (Unit {0}) RefillFault) (new : EndpointValue D) : Type 0 where
-  pub step : (logs : Logs) → RefillStep (state_of old logs) result (state_of new logs)
+  pub step : (logs : Logs) → ReserveStep (state_of old logs) result (state_of new logs)
+  pub idle : IsIdle new.store
   pub works : Works (disk_in disk_of old) (disk_in disk_of new)
   pub fails : Fails (disk_in disk_of old) (disk_in disk_of new) (Refilled result)
   pub any_moment : IsHonest (disk_in disk_of new) → IsBacked disk_of old → (logs : Logs)
@@ -42,3 +48,34 @@ pub record Reserves {D : Type 0} (disk_of : D → Disk) (old : EndpointValue D) 
   pub tx_counters : txsc.counters_of new.tx ≡ txsc.counters_of old.tx
   pub rx_counters : rxsc.counters_of new.rx ≡ rxsc.counters_of old.rx
   pub channel_counters : rxsc.channel_counters_of new.rx ≡ rxsc.channel_counters_of old.rx
+
+-- this ceiling is raised, or none
+pub record Raised {D : Type 0} (disk_of : D → Disk) (old : EndpointValue D) (raise : Raise) (result : Result (Unit {0}) RefillFault) (new : EndpointValue D) : Type 0 where
+  pub reserves : Reserves disk_of old result new
+  pub done : OnOk result (standing_in new.store ≡ standing_with_raise (standing_in old.store) raise)
+  pub same : OnErr result (standing_in new.store ≡ standing_in old.store)
+
+-- the ceiling that is being raised is raised, if one is
+pub record ReservationEnds {D : Type 0} (disk_of : D → Disk) (old : EndpointValue D) (result : Result (Unit {0}) RefillFault) (new : EndpointValue D) : Type 0 where
+  pub reserves : Reserves disk_of old result new
+  pub done : OnOk result (standing_in new.store ≡ standing_with_reserved (standing_in old.store) old.reserving)
+  pub free : OnOk result (new.reserving ≡ None)
+  pub fault : OnErr result (IsErrOf result refill.Disk × ((raise : Raise) × (old.reserving ≡ Some raise)))
+  pub same : OnErr result (standing_in new.store ≡ standing_in old.store)
+  pub still : IsIdle old.store → new ≡ old
+  pub slots : OnOk result (used_slots new.store ≡ slots_then old.store)
+  pub most : (disk_in disk_of new).clock ≤ (disk_in disk_of old).clock + calls_left old.store
+
+-- every ceiling that is needed is raised, or one is left; where no work is in hand and none is needed the store stays as it is
+pub record ReservesAll {D : Type 0} (disk_of : D → Disk) (old : EndpointValue D) (result : Result (Unit {0}) RefillFault) (new : EndpointValue D) : Type 0 where
+  pub reserves : Reserves disk_of old result new
+  pub ceilings : StandsRefilled (tx_side (state_of old no_logs)) (rx_side (state_of old no_logs)) (standing_in old.store) old.reserving result (standing_in new.store)
+  pub still : IsIdle old.store → raise_in old ≡ None → new.store ≡ old.store
+
+-- It is taken in hand that this ceiling is raised, and no device call is made; or the journal cannot begin anew, and nothing changes.
+pub record StartsRaise {D : Type 0} (disk_of : D → Disk) (old : EndpointValue D) (raise : Raise) (result : Result (Unit {0}) JournalFault) (new : EndpointValue D) : Type 0 where
+  pub refused : OnErr result (IsErrOf result journal.GenerationsSpent × (new ≡ old) × IsSpent old.store)
+  pub in_hand : OnOk result (HasInHand disk_of old.store (standing_with_raise (standing_in old.store) raise) new.store)
+  pub taken : OnOk result (new ≡ record old { store = new.store; reserving = Some raise })
+  pub reserving : OnOk result (IsReserving new)
+  pub kept : OnOk result (IsSoundEndpoint old)

@@ -1,5 +1,5 @@
 -- What a restart may find.
-use Rattle.std.specs.Prelude.{◌≡◌, ◌⊎◌, ◌≤◌, ◌+◌, ◌/◌, ◌^◌, ℕ, min, max, is_ok, not, false, ◌&&◌, if◌then◌else◌, List, Option, Some, None, Ok}
+use Rattle.std.specs.Prelude.{◌≡◌, ◌⊎◌, ◌≤◌, ◌+◌, ◌/◌, ◌^◌, ℕ, min, max, is_ok, not, false, ◌&&◌, if◌then◌else◌, List, [], ◌∷◌, Option, Some, None, Ok}
 use Rattle.std.specs.Option.{option_map}
 use Rattle.macs_config.specs.Apply.{apply}
 use Rattle.macs_config.specs.Config.{Edition, IsUpTo}
@@ -8,8 +8,9 @@ use Rattle.macs_disk.specs.States.{Image}
 use Rattle.macs_rxsc.specs.Receive.{Numbers, first_numbers}
 use Rattle.macs_store.specs.Found.{StandingIs}
 use Rattle.macs_store.specs.Standing.{Standing}
-use Rattle.macs_endpoint.specs.State.{Call, Commands, Logs, State, state_with_in_hand}
+use Rattle.macs_endpoint.specs.State.{Advances, Call, Commands, Logs, State, state_with_in_hand}
 use Rattle.macs_endpoint.specs.Step.{Makes}
+use Rattle.macs_endpoint.specs.declared.queue.Waiting.{Waiting}
 
 -- ---- numbers rise
 
@@ -32,8 +33,8 @@ RxRises block (Some numbers) found =
 
 -- ---- a restart
 
--- The same configuration and logs, with numbers that rose, and nothing in hand, in a program of no smaller edition. Where an opening is
--- spoken of, the logs are the same by themselves; they count where restarts are put together.
+-- The same configuration and logs, with numbers that rose, nothing in hand or waiting and no ticket given, in a program of no smaller
+-- edition. Where an opening is spoken of, the logs are the same by themselves; they count where restarts are put together.
 pub record Resumes (old new : State) : Type 0 where
   pub edition : IsUpTo old.edition new.edition
   pub identity : new.identity ≡ old.identity
@@ -43,6 +44,8 @@ pub record Resumes (old new : State) : Type 0 where
   pub logs : new.logs ≡ old.logs
   pub running : new.stopped ≡ false
   pub idle : new.in_hand ≡ None
+  pub waiting : new.waiting ≡ []
+  pub tickets : new.tickets ≡ 0
 
 -- the state is resumed, or the state after the command in hand
 abbrev pub Restart : State → State → Type 0
@@ -62,6 +65,8 @@ opened_state found logs = record {
   logs = logs;
   stopped = false;
   in_hand = None;
+  waiting = [];
+  tickets = 0;
 }
 
 -- opening a disk of so many sectors with this image in a program of an edition is a restart of the state
@@ -70,10 +75,24 @@ pub record Fits (edition : Edition) (sectors : ℕ) (image : Image) (s : State) 
   pub is_found : StandingIs edition sectors image (Ok found)
   pub restart : Restart s (opened_state found s.logs)
 
--- The state while a call is under way: a command is in hand where work on it may have begun
+-- the state with a command in hand where work on it may begin: the endpoint runs, and accepts it
+abbrev pub state_taking : State → Command → State
+state_taking s command = if not s.stopped && is_ok (apply s.edition s.identity s.config command) then state_with_in_hand s command else s
+
+-- a command that does not wait is taken where none waits
+abbrev pub state_taking_alone : State → Command → List Waiting → State
+state_taking_alone s command [] = state_taking s command
+state_taking_alone s command (first ∷ rest) = s
+
+-- the first command that waits is taken where none is in hand
+abbrev pub state_taking_first : State → Option Command → List Waiting → State
+state_taking_first s None (first ∷ rest) = state_taking s first.command
+state_taking_first s in_hand waiting = s
+
+-- the state while a call is under way: a command is in hand where work on it may have begun
 abbrev pub state_during : State → Call → State
-state_during s (Commands command) =
-    if not s.stopped && is_ok (apply s.edition s.identity s.config command) then state_with_in_hand s command else s
+state_during s (Commands command) = state_taking_alone s command s.waiting
+state_during s Advances = state_taking_first s s.in_hand s.waiting
 state_during s call = s
 
 -- what a power loss during a call or after it leaves

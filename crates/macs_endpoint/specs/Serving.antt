@@ -1,10 +1,9 @@
 -- Events taken from a source, and answers given to a sink.
 use Rattle.std.specs.Prelude.{◌≡◌, ◌≤◌, ℕ, Bool, true, false, List, [], ◌∷◌, ◌++◌, map, length, Option, Some, None, Err}
 use Rattle.macs_disk.specs.Disk.{Disk, IsHonest}
-use Rattle.macs_store.specs.declared.fault.CommitFault.TheVariants as commit
 use Rattle.macs_endpoint.specs.Value.{IsBacked, EndpointValue, disk_in, state_of}
 use Rattle.macs_endpoint.specs.Lives.{LeavesLife, Lives, Turn, exchange_of}
-use Rattle.macs_endpoint.specs.State.{Call, Commands, Logs, Protects, Protected, Ran, Received, Receives, Refilled, Refills, Reply}
+use Rattle.macs_endpoint.specs.State.{Advanced, Advances, Call, Logs, Protects, Protected, Ran, Received, Receives, Refilled, Reply, Submits, Submitted}
 use Rattle.macs_endpoint.specs.Step.{Steps}
 use Rattle.macs_endpoint.specs.declared.event.Answer.{Answer}
 use Rattle.macs_endpoint.specs.declared.event.Answer.TheVariants as answer
@@ -12,27 +11,35 @@ use Rattle.macs_endpoint.specs.declared.event.Event.{Event}
 use Rattle.macs_endpoint.specs.declared.event.Event.TheVariants as event
 use Rattle.macs_endpoint.specs.declared.event.ServeEnd.{ServeEnd}
 use Rattle.macs_endpoint.specs.declared.event.ServeEnd.TheVariants.{Ended, Halted, TurnsSpent}
+use Rattle.macs_endpoint.specs.declared.fault.CommandFault.TheVariants as ran
 use Rattle.macs_endpoint.specs.declared.fault.ProtectFault.TheVariants as protect
 use Rattle.macs_endpoint.specs.declared.fault.RefillFault.TheVariants as refill
+use Rattle.macs_endpoint.specs.declared.fault.StepFault.TheVariants as step
+use Rattle.macs_endpoint.specs.declared.fault.SubmitFault.TheVariants as submit
 
 -- the call that an event asks for
 abbrev pub call_of : Event → Call
-call_of (event.Operator command) = Commands command
+call_of (event.Operator command) = Submits command
 call_of (event.Controlled frame) = Protects frame.items
 call_of (event.Common frame) = Receives frame.items
-call_of event.Work = Refills
+call_of event.Work = Advances
 
 -- what an answer says
 abbrev pub reply_of : Answer → Reply
-reply_of (answer.Ran result) = Ran result
+reply_of (answer.Submitted result) = Submitted result
 reply_of (answer.Protected result out) = Protected result out.items
 reply_of (answer.Received result out) = Received result out.items
+reply_of (answer.Stepped result) = Advanced result
+reply_of (answer.Ran result) = Ran result
 reply_of (answer.Refilled result) = Refilled result
 
 -- an answer says that a device call failed, in its call or before
 abbrev pub is_halt : Reply → Bool
-is_halt (Ran (Err commit.Stopped)) = true
-is_halt (Ran (Err commit.Disk)) = true
+is_halt (Submitted (Err submit.Stopped)) = true
+is_halt (Advanced (Err step.Stopped)) = true
+is_halt (Advanced (Err step.Disk)) = true
+is_halt (Ran (Err ran.Stopped)) = true
+is_halt (Ran (Err ran.Disk)) = true
 is_halt (Refilled (Err refill.Stopped)) = true
 is_halt (Refilled (Err refill.Disk)) = true
 is_halt (Protected (Err protect.Stopped) out) = true

@@ -1,5 +1,5 @@
 -- What an endpoint is at a moment, what it is asked, and what it answers.
-use Rattle.std.specs.Prelude.{ℕ, Bool, true, List, [], Option, Some, None, Result, Ok, IsOk}
+use Rattle.std.specs.Prelude.{◌≡◌, ℕ, Bool, true, List, [], ◌∷◌, Option, Some, None, Result, Ok, IsOk}
 use Rattle.macs_config.specs.Apply.{apply}
 use Rattle.macs_config.specs.Config.{Config, Edition}
 use Rattle.macs_config.specs.Identity.{Identity}
@@ -8,10 +8,16 @@ use Rattle.macs_txsc.specs.Transmit.{TxSide}
 use Rattle.macs_rxsc.specs.Receive.{Numbers, RxSide}
 use Rattle.macs_rxsc.specs.declared.verdict.Kind.{Kind}
 use Rattle.macs_rxsc.specs.declared.verdict.Verdict.{Verdict}
-use Rattle.macs_store.specs.declared.fault.CommitFault.{CommitFault}
+use Rattle.macs_endpoint.specs.Queue.{first_command}
+use Rattle.macs_endpoint.specs.declared.fault.CommandFault.{CommandFault}
 use Rattle.macs_endpoint.specs.declared.fault.ProtectFault.{ProtectFault}
 use Rattle.macs_endpoint.specs.declared.fault.RefillFault.{RefillFault}
+use Rattle.macs_endpoint.specs.declared.fault.StepFault.{StepFault}
 use Rattle.macs_endpoint.specs.declared.fault.Stopped.{Stopped}
+use Rattle.macs_endpoint.specs.declared.fault.SubmitFault.{SubmitFault}
+use Rattle.macs_endpoint.specs.declared.progress.Step.{Step as Progress}
+use Rattle.macs_endpoint.specs.declared.progress.Step.TheVariants.{Done}
+use Rattle.macs_endpoint.specs.declared.queue.Waiting.{Waiting}
 
 -- ---- what happened, over all lives
 
@@ -39,7 +45,8 @@ no_logs = record { used = []; given = [] }
 -- ---- a moment
 
 -- The edition of the program; next packet numbers of transmit associations by their numbers, numbers of receive associations by
--- SCI and number; the command whose work a device fault cut short
+-- SCI and number; the command whose work on the disk began and did not end, which after a device fault stays; the submitted commands that
+-- wait, the one in hand first where it is one of them; and how many tickets were given
 pub record State : Type 0 where
   pub edition : Edition
   pub identity : Identity
@@ -49,6 +56,8 @@ pub record State : Type 0 where
   pub logs : Logs
   pub stopped : Bool
   pub in_hand : Option Command
+  pub waiting : List Waiting
+  pub tickets : ℕ
 
 -- the transmit channel of a configuration, with these next numbers
 abbrev pub tx_side_with : Identity → Config → (ℕ → Option ℕ) → TxSide
@@ -90,23 +99,33 @@ state_after_fault s = record s { stopped = true }
 abbrev pub Accepts : State → Command → Type 0
 Accepts s command = IsOk (apply s.edition s.identity s.config command)
 
+-- no submitted command waits
+abbrev pub NoneWait : State → Type 0
+NoneWait s = s.waiting ≡ []
+
 -- ---- calls
 
--- what is asked: a command, a refill of the ceilings, or a frame from the controlled or the common side
+-- what is asked: a command, a refill of the ceilings, a command that may wait, one device call of the work that there is, or a frame from the
+-- controlled or the common side
 pub data Call : Type 0 where
   Commands : Command → Call
   Refills : Call
+  Submits : Command → Call
+  Advances : Call
   Protects : (plain : List ℕ) → Call
   Receives : (frame : List ℕ) → Call
 
 -- what is answered, with what stands in `out` then
 pub data Reply : Type 0 where
-  Ran : Result (Unit {0}) CommitFault → Reply
+  Ran : Result (Unit {0}) CommandFault → Reply
   Refilled : Result (Unit {0}) RefillFault → Reply
+  Submitted : Result ℕ SubmitFault → Reply
+  Advanced : Result Progress StepFault → Reply
   Protected : Result ℕ ProtectFault → (out : List ℕ) → Reply
   Received : Result Verdict Stopped → (out : List ℕ) → Reply
 
 -- the command that this call of an endpoint in this state made durable, if it was one: it takes effect now
 abbrev pub command_made : State → Call → Reply → Option Command
 command_made s (Commands command) (Ran (Ok done)) = Some command
+command_made s Advances (Advanced (Ok (Done ticket (Ok done)))) = first_command s.waiting
 command_made s call reply = None

@@ -1,5 +1,5 @@
 -- One life of an endpoint, a call at a time (IEEE Std 802.1AE-2018, clause 10).
-use Rattle.std.specs.Prelude.{◌≡◌, ◌⊎◌, ◌≤◌, ◌+◌, ℕ, true, false, List, [], ◌∷◌, Option, Some, None, Result, Ok, Err}
+use Rattle.std.specs.Prelude.{◌≡◌, ◌⊎◌, ◌<◌, ◌≤◌, ◌+◌, ℕ, true, false, List, [], ◌∷◌, ◌++◌, length, Option, Some, None, Result, Ok, Err}
 use Rattle.std.specs.Option.{option_map}
 use Rattle.macs_frame.specs.First.{IsFirst, first}
 use Rattle.macs_config.specs.Apply.{apply}
@@ -13,14 +13,22 @@ use Rattle.macs_rxsc.specs.Receive.{Arrival, Arrives, RxStepHolds, Numbers, numb
 use Rattle.macs_rxsc.specs.Receive as rx
 use Rattle.macs_rxsc.specs.declared.verdict.Verdict.{Verdict}
 use Rattle.macs_rxsc.specs.declared.verdict.Verdict.TheVariants.{Delivered, HeldBack}
-use Rattle.macs_store.specs.declared.fault.CommitFault.{CommitFault}
-use Rattle.macs_store.specs.declared.fault.CommitFault.TheVariants as commit
+use Rattle.macs_endpoint.specs.declared.fault.CommandFault.{CommandFault}
+use Rattle.macs_endpoint.specs.declared.fault.CommandFault.TheVariants as ran
 use Rattle.macs_endpoint.specs.declared.fault.ProtectFault.{ProtectFault}
 use Rattle.macs_endpoint.specs.declared.fault.ProtectFault.TheVariants as protect
 use Rattle.macs_endpoint.specs.declared.fault.RefillFault.{RefillFault}
 use Rattle.macs_endpoint.specs.declared.fault.RefillFault.TheVariants as refill
+use Rattle.macs_endpoint.specs.declared.fault.StepFault.{StepFault}
+use Rattle.macs_endpoint.specs.declared.fault.StepFault.TheVariants as step
 use Rattle.macs_endpoint.specs.declared.fault.Stopped.{Stopped}
-use Rattle.macs_endpoint.specs.State.{Accepts, Call, Commands, Protects, Protected, Ran, Received, Receives, Refilled, Refills, Reply, State, state_after_fault, state_with_in_hand, rx_side, tx_side}
+use Rattle.macs_endpoint.specs.declared.fault.SubmitFault.{SubmitFault}
+use Rattle.macs_endpoint.specs.declared.fault.SubmitFault.TheVariants as submit
+use Rattle.macs_endpoint.specs.declared.progress.Step.{Step as Progress}
+use Rattle.macs_endpoint.specs.declared.progress.Step.TheVariants.{Done, Idle, Reserved, Worked}
+use Rattle.macs_endpoint.specs.declared.queue.Waiting.{Waiting}
+use Rattle.macs_endpoint.specs.Queue.{last_ticket, queue_length, with_waiting}
+use Rattle.macs_endpoint.specs.State.{Accepts, Advanced, Advances, Call, Commands, NoneWait, Protects, Protected, Ran, Received, Receives, Refilled, Refills, Reply, State, Submits, Submitted, state_after_fault, state_with_in_hand, rx_side, tx_side}
 
 -- ---- commands
 
@@ -51,22 +59,71 @@ state_after_command s command config = record s {
 abbrev pub Makes : State → Command → State → Type 0
 Makes old command new = (config : Config) × (apply old.edition old.identity old.config command ≡ Ok config) × (new ≡ state_after_command old command config)
 
--- A command takes effect, or nothing changes, or a device call failed and the command is in hand.
-abbrev pub CommandStep : State → Command → Result (Unit {0}) CommitFault → State → Type 0
-CommandStep old command (Ok done) new = Makes old command new
-CommandStep old command (Err (commit.Refused refusal)) new =
-    (apply old.edition old.identity old.config command ≡ Err refusal) × (new ≡ old)
-CommandStep old command (Err commit.GenerationsSpent) new = Accepts old command × (new ≡ old)
-CommandStep old command (Err commit.Disk) new = Accepts old command × (new ≡ state_after_fault (state_with_in_hand old command))
-CommandStep old command (Err commit.Stopped) new = ⊥
+-- A command takes effect, or nothing changes, or a device call failed and the command is in hand. While a submitted command waits, in hand or
+-- not, no other is taken.
+abbrev pub CommandStep : State → Command → Result (Unit {0}) CommandFault → State → Type 0
+CommandStep old command (Ok done) new = NoneWait old × Makes old command new
+CommandStep old command (Err ran.Busy) new = (¬ NoneWait old) × (new ≡ old)
+CommandStep old command (Err (ran.Refused refusal)) new =
+    NoneWait old × (apply old.edition old.identity old.config command ≡ Err refusal) × (new ≡ old)
+CommandStep old command (Err ran.GenerationsSpent) new = NoneWait old × Accepts old command × (new ≡ old)
+CommandStep old command (Err ran.Disk) new = NoneWait old × Accepts old command × (new ≡ state_after_fault (state_with_in_hand old command))
+CommandStep old command (Err ran.Stopped) new = ⊥
+
+-- ---- commands that wait
+
+-- the state with a command more that waits, under the next ticket
+abbrev pub state_with_waiting : State → Command → State
+state_with_waiting s command = record s {
+  waiting = with_waiting s.waiting (s.tickets + 1) command;
+  tickets = s.tickets + 1;
+}
+
+-- A command is to wait, and its ticket is answered: unless as many wait as may, or no ticket is left.
+abbrev pub SubmitStep : State → Command → Result ℕ SubmitFault → State → Type 0
+SubmitStep old command (Ok ticket) new =
+    (length old.waiting < queue_length) × (old.tickets < last_ticket) × (ticket ≡ old.tickets + 1) × (new ≡ state_with_waiting old command)
+SubmitStep old command (Err submit.QueueFull) new = (queue_length ≤ length old.waiting) × (new ≡ old)
+SubmitStep old command (Err submit.TicketsSpent) new = (length old.waiting < queue_length) × (last_ticket ≤ old.tickets) × (new ≡ old)
+SubmitStep old command (Err submit.Stopped) new = ⊥
+
+-- the first waiting command is taken in hand: it is accepted, and nothing was in hand
+abbrev pub TakesUp : State → State → Type 0
+TakesUp old new = (first : Waiting) × (rest : List Waiting) × (old.waiting ≡ first ∷ rest) × (old.in_hand ≡ None)
+    × Accepts old first.command × (new ≡ state_with_in_hand old first.command)
+
+-- the state without the first waiting command, which is not in hand any more
+abbrev pub state_without_first : State → List Waiting → State
+state_without_first s rest = record s { waiting = rest; in_hand = None }
+
+-- The first waiting command is done with. One that is in hand took effect; one that is not took effect, or was refused, or the journal
+-- cannot begin anew for it.
+abbrev pub Ends : State → Waiting → List Waiting → Result (Unit {0}) CommandFault → State → Type 0
+Ends old first rest (Ok done) new = Makes (state_without_first old rest) first.command new
+Ends old first rest (Err (ran.Refused refusal)) new =
+    (old.in_hand ≡ None) × (apply old.edition old.identity old.config first.command ≡ Err refusal) × (new ≡ state_without_first old rest)
+Ends old first rest (Err ran.GenerationsSpent) new = (old.in_hand ≡ None) × Accepts old first.command × (new ≡ state_without_first old rest)
+Ends old first rest (Err fault) new = ⊥
+
+-- One device call of the work that there is, or none. Nothing changes but what is in hand, unless the first waiting command is done with.
+abbrev pub AdvanceStep : State → Result Progress StepFault → State → Type 0
+AdvanceStep old (Ok Idle) new = new ≡ old
+AdvanceStep old (Ok Worked) new = (new ≡ old) ⊎ TakesUp old new
+AdvanceStep old (Ok Reserved) new = new ≡ old
+AdvanceStep old (Ok (Done ticket result)) new =
+    (first : Waiting) × (rest : List Waiting) × (old.waiting ≡ first ∷ rest) × (ticket ≡ first.ticket) × Ends old first rest result new
+AdvanceStep old (Err step.GenerationsSpent) new = new ≡ old
+AdvanceStep old (Err step.Disk) new = (new ≡ state_after_fault old) ⊎ ((mid : State) × TakesUp old mid × (new ≡ state_after_fault mid))
+AdvanceStep old (Err step.Stopped) new = ⊥
 
 -- ---- work on the disk
 
--- A refill leaves the state, which has no ceilings, as it was, unless a device call failed.
+-- A refill leaves the state, which has no ceilings, as it was, unless a device call failed. While a submitted command waits there is none.
 abbrev pub RefillStep : State → Result (Unit {0}) RefillFault → State → Type 0
-RefillStep old (Ok done) new = new ≡ old
-RefillStep old (Err refill.GenerationsSpent) new = new ≡ old
-RefillStep old (Err refill.Disk) new = new ≡ state_after_fault old
+RefillStep old (Ok done) new = NoneWait old × (new ≡ old)
+RefillStep old (Err refill.Busy) new = (¬ NoneWait old) × (new ≡ old)
+RefillStep old (Err refill.GenerationsSpent) new = NoneWait old × (new ≡ old)
+RefillStep old (Err refill.Disk) new = NoneWait old × (new ≡ state_after_fault old)
 RefillStep old (Err refill.Stopped) new = ⊥
 
 -- ---- frames
@@ -125,14 +182,18 @@ ReceiveStep old frame (Err stopped) out new = ⊥
 abbrev pub RunningStep : State → Call → Reply → State → Type 0
 RunningStep old (Commands command) (Ran result) new = CommandStep old command result new
 RunningStep old Refills (Refilled result) new = RefillStep old result new
+RunningStep old (Submits command) (Submitted result) new = SubmitStep old command result new
+RunningStep old Advances (Advanced result) new = AdvanceStep old result new
 RunningStep old (Protects plain) (Protected result out) new = ProtectStep old plain result out new
 RunningStep old (Receives frame) (Received result out) new = ReceiveStep old frame result out new
 RunningStep old call reply new = ⊥
 
 -- a call is answered with Stopped
 abbrev pub IsStopped : Call → Reply → Type 0
-IsStopped (Commands command) (Ran (Err commit.Stopped)) = Unit {0}
+IsStopped (Commands command) (Ran (Err ran.Stopped)) = Unit {0}
 IsStopped Refills (Refilled (Err refill.Stopped)) = Unit {0}
+IsStopped (Submits command) (Submitted (Err submit.Stopped)) = Unit {0}
+IsStopped Advances (Advanced (Err step.Stopped)) = Unit {0}
 IsStopped (Protects plain) (Protected (Err protect.Stopped) out) = out ≡ []
 IsStopped (Receives frame) (Received (Err stopped) out) = out ≡ []
 IsStopped call reply = ⊥

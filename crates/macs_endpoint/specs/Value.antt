@@ -1,6 +1,8 @@
 -- An endpoint in memory, and what its disk holds.
-use Rattle.std.specs.Prelude.{◌≡◌, ◌≤◌, ◌+◌, ◌/◌, ◌^◌, ℕ, Bool, false, List, Option, Some, None}
+use Rattle.std.specs.Prelude.{◌≡◌, ◌⊎◌, ◌<◌, ◌≤◌, ◌+◌, ◌/◌, ◌^◌, ℕ, Bool, false, List, ◌∷◌, length, Option, Some, None, IsSomeAnd, Ok}
+use Rattle.macs_config.specs.Apply.{IsCommand}
 use Rattle.macs_config.specs.Identity.{Identity, IsIdentity}
+use Rattle.macs_config.specs.Numbers.{block_beyond}
 use Rattle.macs_config.specs.declared.command.Command.{Command}
 use Rattle.macs_disk.specs.Disk.{Disk, MayLeave}
 use Rattle.macs_disk.specs.States.{Image}
@@ -9,18 +11,27 @@ use Rattle.macs_txsc.specs.Value as txsc
 use Rattle.macs_txsc.specs.declared.channel.Tx.{Tx}
 use Rattle.macs_rxsc.specs.Receive.{Numbers}
 use Rattle.macs_rxsc.specs.Value as rxsc
-use Rattle.macs_store.specs.Value.{IsIdle, IsStored, StoreValue, standing_in}
+use Rattle.macs_store.specs.Value.{IsIdle, IsStored, StoreValue, standing_in, standing_then}
 use Rattle.macs_store.specs.Value as store
-use Rattle.macs_store.specs.Standing.{Standing}
+use Rattle.macs_store.specs.Standing.{Standing, accept}
+use Rattle.macs_endpoint.specs.Ceilings.{Raise, RaiseRx, RaiseTx, standing_with_raise}
 use Rattle.macs_endpoint.specs.Restart.{Fits, rx_limit}
+use Rattle.macs_endpoint.specs.Queue.{last_ticket, queue_length}
 use Rattle.macs_endpoint.specs.State.{Logs, State, rx_side_with, tx_side_with}
+use Rattle.macs_endpoint.specs.declared.queue.Waiting.{Waiting}
+use Rattle.macs_endpoint.specs.declared.turn.Turn.{Turn}
 
--- what an endpoint keeps: its store, its channels, and the command whose work a device fault cut short
+-- What an endpoint keeps: its store, its channels, the command whose work on the disk began and did not end, the ceiling whose work did, the
+-- commands that wait, how many tickets were given, and whose turn it is where a ceiling is needed and a command waits
 pub record EndpointValue (D : Type 0) : Type 0 where
   pub store : StoreValue D
   pub tx : Tx
   pub rx : rxsc.RxValue
   pub in_hand : Option Command
+  pub reserving : Option Raise
+  pub waiting : List Waiting
+  pub tickets : ℕ
+  pub turn : Turn
 
 -- its device
 abbrev pub device_in : {D : Type 0} → EndpointValue D → D
@@ -45,6 +56,8 @@ state_of e logs = record {
   logs = logs;
   stopped = is_stopped e;
   in_hand = e.in_hand;
+  waiting = e.waiting;
+  tickets = e.tickets;
 }
 
 -- ---- what holds of it in memory
@@ -75,17 +88,64 @@ pub record AreWithin (tx : Tx) (rx : rxsc.RxValue) (identity : Identity) : Type 
       → IsRxWithin identity.rx_block ((rxsc.rx_side_of rx).numbers sci an) (rxsc.ceilings_of rx sci an)
   pub few : (sci : List ℕ) (an : ℕ) → 4 ≤ an → (rxsc.rx_side_of rx).numbers sci an ≡ None
 
--- and between calls the store has no work in hand; a command is in hand only where a device call failed while it was kept
+-- a raised transmit ceiling is at most a block and a half above the next number
+abbrev pub IsTxRaiseWithin : ℕ → Option ℕ → Option ℕ → Type 0
+IsTxRaiseWithin block (Some next) (Some ceiling) = (ceiling < 2 ^ 32) × (block_beyond ceiling block ≤ next + (block + block / 2))
+IsTxRaiseWithin block next ceiling = ⊥
+
+-- a raised receive ceiling is a block beyond a number that was seen, and above the ceiling
+abbrev pub IsRxRaiseWithin : ℕ → ℕ → Option Numbers → Option ℕ → Type 0
+IsRxRaiseWithin block pn (Some numbers) (Some ceiling) = IsSomeAnd numbers.seen (λ seen. pn ≤ seen) × (ceiling < block_beyond pn block)
+IsRxRaiseWithin block pn numbers ceiling = ⊥
+
+-- a ceiling that is being raised is not too far ahead once it is
+abbrev pub IsRaiseWithin : Tx → rxsc.RxValue → Identity → Raise → Type 0
+IsRaiseWithin tx rx identity (RaiseTx an) = IsTxRaiseWithin identity.tx_block ((txsc.tx_side_of tx).next an) (txsc.ceilings_of tx an)
+IsRaiseWithin tx rx identity (RaiseRx need) =
+    IsRxRaiseWithin identity.rx_block need.pn ((rxsc.rx_side_of rx).numbers need.sci need.an) (rxsc.ceilings_of rx need.sci need.an)
+
+-- no work is in hand: nothing is being raised, and no command is in hand unless a device call failed
+pub record IsAtRest {D : Type 0} (e : EndpointValue D) : Type 0 where
+  pub store : IsIdle e.store
+  pub reserving : e.reserving ≡ None
+  pub in_hand : is_stopped e ≡ false → e.in_hand ≡ None
+
+-- a ceiling is being raised
+pub record IsReserving {D : Type 0} (e : EndpointValue D) : Type 0 where
+  pub running : is_stopped e ≡ false
+  pub busy : ¬ IsIdle e.store
+  pub raise : Raise
+  pub reserving : e.reserving ≡ Some raise
+  pub in_hand : e.in_hand ≡ None
+  pub leads : standing_then e.store ≡ Some (standing_with_raise (standing_in e.store) raise)
+  pub within : IsRaiseWithin e.tx e.rx (standing_in e.store).identity raise
+
+-- the first command that waits is being kept
+pub record IsKeeping {D : Type 0} (e : EndpointValue D) : Type 0 where
+  pub running : is_stopped e ≡ false
+  pub busy : ¬ IsIdle e.store
+  pub reserving : e.reserving ≡ None
+  pub first : Waiting
+  pub rest : List Waiting
+  pub waiting : e.waiting ≡ first ∷ rest
+  pub in_hand : e.in_hand ≡ Some first.command
+  pub in_range : IsCommand (standing_in e.store).edition first.command
+  pub after : Standing
+  pub leads : standing_then e.store ≡ Some after
+  pub accepted : accept (standing_in e.store) first.command ≡ Ok after
+
+-- The channels are those of what stands, no ceiling is too far ahead, no more commands wait than may, and the work in hand is one of these.
 pub record IsSoundEndpoint {D : Type 0} (e : EndpointValue D) : Type 0 where
   pub identity : IsIdentity (standing_in e.store).identity
   pub channels : AreChannels e.tx e.rx (standing_in e.store)
   pub within : AreWithin e.tx e.rx (standing_in e.store).identity
-  pub rest : IsIdle e.store
-  pub idle : is_stopped e ≡ false → e.in_hand ≡ None
+  pub few : length e.waiting ≤ queue_length
+  pub tickets : e.tickets ≤ last_ticket
+  pub work : IsAtRest e ⊎ (IsReserving e ⊎ IsKeeping e)
 
 -- ---- what its disk holds
 
--- The disk holds what stands in memory, unless a device call failed; and what a power loss leaves now fits the state.
+-- The disk holds what stands in memory, with the work in hand, unless a device call failed; and what a power loss leaves now fits the state.
 pub record IsBacked {D : Type 0} (disk_of : D → Disk) (e : EndpointValue D) : Type 0 where
   pub size : least_sectors ≤ (disk_in disk_of e).sectors
   pub stored : is_stopped e ≡ false → IsStored disk_of e.store

@@ -9,9 +9,12 @@ ghost use Rattle.macs_rxsc.specs.Receive.{has_channel, put_numbers, first_number
 ghost use Rattle.macs_store.specs.Value.{standing_in};
 ghost use Rattle.macs_store.specs.Standing.{Standing, accept};
 ghost use Rattle.macs_endpoint.specs.Counting.{channel_counters_after_command};
-ghost use Rattle.macs_endpoint.specs.Value.{AreChannels};
+ghost use Rattle.macs_endpoint.specs.Ceilings.{standing_with_raise};
+ghost use Rattle.macs_endpoint.specs.Told.{raise_of};
+ghost use Rattle.macs_endpoint.specs.Value.{AreChannels, IsRaiseWithin};
 ghost use Rattle.macs_endpoint.specs.Step.{next_after, numbers_after};
 
+use crate::refilling::Raise;
 use macs_config::Command;
 use macs_disk::SectorDisk;
 use macs_frame::{An, Sci};
@@ -53,6 +56,31 @@ impl Channels {
                 install_rx(&mut self.rx, store, *sci, *an, u64::from(*start));
             }
             Command::RxRemove { sci, an } => self.rx.remove(*sci, *an),
+        }
+    }
+
+    /// Raises a ceiling as the store has raised it.
+    pub(crate) fn raise<D: SectorDisk>(&mut self, raise: Raise, store: &Store<D>)
+        requires { (before : Standing) × AreChannels self.old.tx self.old.rx before
+            × IsRaiseWithin self.old.tx self.old.rx before.identity (raise_of raise)
+            × (standing_in store.now ≡ standing_with_raise before (raise_of raise)) }
+        ensures channels { AreChannels self.new.tx self.new.rx (standing_in store.now) }
+        ensures tx_side { txsc.tx_side_of self.new.tx ≡ txsc.tx_side_of self.old.tx }
+        ensures rx_side { rxsc.rx_side_of self.new.rx ≡ rxsc.rx_side_of self.old.rx }
+        ensures tx_counters { txsc.counters_of self.new.tx ≡ txsc.counters_of self.old.tx }
+        ensures rx_counters { rxsc.counters_of self.new.rx ≡ rxsc.counters_of self.old.rx }
+        ensures channel_counters { rxsc.channel_counters_of self.new.rx ≡ rxsc.channel_counters_of self.old.rx }
+    {
+        store.facts();
+        match raise {
+            Raise::Tx(an) => {
+                let ceiling = store.tx_ceiling(an).unwrap();
+                self.tx.raise(an, ceiling.get());
+            }
+            Raise::Rx(need) => {
+                let ceiling = store.rx_ceiling(need.sci, need.an).unwrap();
+                self.rx.raise(need.sci, need.an, ceiling.get());
+            }
         }
     }
 }

@@ -1,26 +1,31 @@
 //! An endpoint: its channels and its store.
 
-ghost use Rattle.std.specs.Prelude.{◌≡◌, ◌≤◌, ◌+◌};
+ghost use Rattle.std.specs.Prelude.{◌≡◌, [], IsOk, false};
 ghost use Rattle.std.specs.Option.{option_map};
 ghost use Rattle.macs_config.specs.Value.{config_of};
 ghost use Rattle.macs_rxsc.specs.Receive.{Numbers};
-ghost use Rattle.macs_store.specs.Keeps.{most_calls};
-ghost use Rattle.macs_store.specs.Value.{IsIdle};
+ghost use Rattle.macs_store.specs.Standing.{accept};
+ghost use Rattle.macs_store.specs.Value.{IsIdle, standing_in};
 ghost use Rattle.macs_endpoint.specs.Calls.{IsCall};
 ghost use Rattle.macs_endpoint.specs.Opening.{Begins, IsOpening};
-ghost use Rattle.macs_endpoint.specs.Value.{EndpointValue, IsSoundEndpoint, device_in, disk_in, state_of};
-ghost use Rattle.macs_endpoint.specs.State.{Commands, Protects, Protected, Ran, Received, Receives, no_logs};
+ghost use Rattle.macs_endpoint.specs.Keeping.{KeepsCommand};
+ghost use Rattle.macs_endpoint.specs.Told.{raise_of};
+ghost use Rattle.macs_endpoint.specs.Value.{EndpointValue, IsSoundEndpoint, device_in, is_stopped, state_of};
+ghost use Rattle.macs_endpoint.specs.State.{Protects, Protected, Received, Receives, no_logs};
 
 use crate::channels::Channels;
 use crate::counters::Counters;
 use crate::fault::{CommandFault, ProtectFault, Stopped};
+use crate::queue::Queue;
+use crate::refilling::Raise;
+use crate::turn::Turn;
 use macs_config::laws::{command_in_range, identity_in_range};
 use macs_config::{Command, Config, Identity};
 use macs_disk::SectorDisk;
 use macs_frame::laws::octets_in_range;
 use macs_frame::{An, FrameBuf, Pn, Sci};
 use macs_rxsc::{RxNumbers, Verdict};
-use macs_store::{OpenRefused, Store};
+use macs_store::{CommitFault, OpenRefused, Store};
 use std::marker::Model;
 
 /// An endpoint of MACsec on a disk of its own. Only packet numbers below ceilings that are durable
@@ -30,15 +35,20 @@ use std::marker::Model;
 pub struct Endpoint<D: SectorDisk> {
     pub(crate) store: Store<D>,
     pub(crate) channels: Channels,
+    /// The command whose work on the disk began and did not end; after a device fault it stays.
     pub(crate) in_hand: Option<Command>,
+    /// The ceiling that is being raised.
+    pub(crate) reserving: Option<Raise>,
+    pub(crate) queue: Queue,
+    pub(crate) turn: Turn,
 }
 
 impl<D: SectorDisk> Model for Endpoint<D> {
     ghost Value = { EndpointValue D };
 
-    ghost view = { λ e. record { store = e.store; tx = e.channels.tx; rx = e.channels.rx; in_hand = e.in_hand } };
+    ghost view = { λ e. record { store = e.store; tx = e.channels.tx; rx = e.channels.rx; in_hand = e.in_hand; reserving = option_map raise_of e.reserving; waiting = e.queue.waiting; tickets = e.queue.given; turn = e.turn } };
 
-    ghost invariant = { λ e. IsSoundEndpoint (record { store = e.store; tx = e.channels.tx; rx = e.channels.rx; in_hand = e.in_hand }) };
+    ghost invariant = { λ e. IsSoundEndpoint (record { store = e.store; tx = e.channels.tx; rx = e.channels.rx; in_hand = e.in_hand; reserving = option_map raise_of e.reserving; waiting = e.queue.waiting; tickets = e.queue.given; turn = e.turn }) };
 }
 
 impl<D: SectorDisk> Endpoint<D> {
@@ -55,7 +65,7 @@ impl<D: SectorDisk> Endpoint<D> {
         }
     }
 
-    /// The endpoint that begins with what stands in a store that was opened.
+    /// The endpoint that begins with what stands in a store that was opened and has nothing in hand.
     #[inline(never)]
     fn over(store: Store<D>) -> Endpoint<D>
         requires { IsIdle store }
@@ -69,26 +79,74 @@ impl<D: SectorDisk> Endpoint<D> {
             store,
             channels,
             in_hand: None,
+            reserving: None,
+            queue: Queue::new(),
+            turn: Turn::Reservation,
         }
     }
 
-    /// Keeps a command and follows it. Refused as `Stopped`, then as `Refused` with the first refusal
-    /// that holds, then as `GenerationsSpent`; these change nothing. `Disk` at the first device call that
-    /// fails: the endpoint is stopped, and the next opening finds it with the command or without.
+    /// Keeps a command and follows it. A reservation that is in hand is finished first, and no other begins. Refused
+    /// as `Stopped`, then as `Busy` where a submitted command waits: nothing changes. Then as `Refused` with the first
+    /// refusal that holds, and as `GenerationsSpent`, where the reservation in hand was finished: these change nothing
+    /// but whose turn it is. `Disk` at the first device call that fails: the endpoint is stopped, and the next opening
+    /// finds it with the command or without.
     pub fn command(&mut self, command: Command) -> Result<(), CommandFault>
-        ensures call { IsCall D.disk self.old (Commands command) (Ran result) self.new }
-        ensures most { (disk_in D.disk self.new).clock ≤ (disk_in D.disk self.old).clock + most_calls self.old.store }
+        ensures { KeepsCommand D.disk self.old command result self.new }
     {
         command_in_range(&command);
-        let outcome = self.store.commit(&command);
-        match outcome {
-            Ok(()) => self.channels.follow(&command, &self.store),
+        if self.is_stopped() {
+            return Err(CommandFault::Stopped);
+        }
+        if !self.queue.is_empty() {
+            return Err(CommandFault::Busy);
+        }
+        if let Err(refusal) = self.store.config().check(&command) {
+            self.turn = Turn::Reservation;
+            return Err(CommandFault::Refused(refusal));
+        }
+        self.keep(command)
+    }
+
+    /// Finishes a reservation that is in hand, and then keeps a command that is accepted. No submitted command waits.
+    fn keep(&mut self, command: Command) -> Result<(), CommandFault>
+        requires running { is_stopped self.old ≡ false }
+        requires none { self.old.waiting ≡ [] }
+        requires accepted { IsOk (accept (standing_in self.old.store) command) }
+        ensures { KeepsCommand D.disk self.old command result self.new }
+    {
+        command_in_range(&command);
+        self.facts();
+        if self.finish_reservation().is_err() {
+            self.in_hand = Some(command);
+            self.turn = Turn::Reservation;
+            return Err(CommandFault::Disk);
+        }
+        self.commit(command)
+    }
+
+    /// Keeps a command that is accepted, and follows it. No work is in hand, and no submitted command waits.
+    fn commit(&mut self, command: Command) -> Result<(), CommandFault>
+        requires running { is_stopped self.old ≡ false }
+        requires idle { IsIdle self.old.store }
+        requires none { self.old.waiting ≡ [] }
+        requires accepted { IsOk (accept (standing_in self.old.store) command) }
+        ensures { KeepsCommand D.disk self.old command result self.new }
+    {
+        command_in_range(&command);
+        self.turn = Turn::Reservation;
+        match self.store.commit(&command) {
+            Ok(()) => {
+                self.channels.follow(&command, &self.store);
+                Ok(())
+            }
             Err(fault) => match fault {
-                CommandFault::Disk => self.in_hand = Some(command),
-                _ => {}
+                CommitFault::Disk => {
+                    self.in_hand = Some(command);
+                    Err(CommandFault::Disk)
+                }
+                _ => Err(CommandFault::GenerationsSpent),
             },
         }
-        outcome
     }
 
     /// Protects a plain frame, writes the frame that goes out on the common side to `out`, and answers its
@@ -132,8 +190,8 @@ impl<D: SectorDisk> Endpoint<D> {
         self.store.is_stopped()
     }
 
-    /// The command whose work a device fault cut short, if one was: after the disk is opened again it
-    /// is found or not.
+    /// The command in hand: its work began and did not end, or a device fault cut its call short: after the
+    /// disk is opened again it is found or not.
     pub fn in_hand(&self) -> Option<Command>
         ensures { result ≡ (state_of self.now no_logs).in_hand }
     {
@@ -184,7 +242,8 @@ impl<D: SectorDisk> Endpoint<D> {
     }
 
     /// What holds of every endpoint: its channels are those of what stands in its store, no ceiling is too
-    /// far ahead, and nothing is in hand unless a device call failed.
+    /// far ahead, no more commands wait than may, and the work in hand is a reservation or the first command
+    /// that waits.
     pub fn facts(&self)
         ensures { IsSoundEndpoint self.now }
     {

@@ -1,6 +1,8 @@
 //! What an endpoint is asked, and what it answers.
 
-use crate::fault::{CommandFault, ProtectFault, RefillFault, Stopped};
+use crate::fault::{CommandFault, ProtectFault, RefillFault, StepFault, Stopped, SubmitFault};
+use crate::progress::Step;
+use crate::queue::Ticket;
 use macs_config::Command;
 use macs_frame::{FrameBuf, Pn};
 use macs_rxsc::Verdict;
@@ -8,13 +10,13 @@ use macs_rxsc::Verdict;
 /// What an endpoint is asked.
 #[derive(Drop)]
 pub enum Event {
-    /// The operator asks for a command.
+    /// The operator asks for a command, which waits for its turn.
     Operator(Command),
     /// A plain frame comes from the controlled side.
     Controlled(FrameBuf),
     /// A frame comes from the common side.
     Common(FrameBuf),
-    /// There is time for work on the disk: reservations of packet numbers.
+    /// There is time for one device call: of a reservation of packet numbers, or of a command that waits.
     Work,
 }
 
@@ -23,12 +25,16 @@ pub enum Event {
 #[derive(Drop)]
 pub enum Answer {
     /// To `Event::Operator`.
-    Ran(Result<(), CommandFault>),
+    Submitted(Result<Ticket, SubmitFault>),
     /// To `Event::Controlled`.
     Protected(Result<Pn, ProtectFault>, FrameBuf),
     /// To `Event::Common`.
     Received(Result<Verdict, Stopped>, FrameBuf),
     /// To `Event::Work`.
+    Stepped(Result<Step, StepFault>),
+    /// To a command that does not wait.
+    Ran(Result<(), CommandFault>),
+    /// To a refill.
     Refilled(Result<(), RefillFault>),
 }
 

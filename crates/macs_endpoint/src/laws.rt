@@ -10,8 +10,9 @@ ghost use Rattle.macs_endpoint.specs.Calls.{IsCall};
 ghost use Rattle.macs_endpoint.specs.Value.{IsSoundEndpoint, EndpointValue, state_of};
 ghost use Rattle.macs_endpoint.specs.Lives.{Lives, Turn};
 ghost use Rattle.macs_endpoint.specs.Rooms.{HasRoom, IsBelow, IsEncodingAn, RxStays, TxStays, frames_sent};
-ghost use Rattle.macs_endpoint.specs.State.{Commands, Protects, Protected, Ran, Received, Receives, Refilled, Refills, no_logs, rx_side};
+ghost use Rattle.macs_endpoint.specs.State.{Advanced, Advances, Call, Protects, Protected, Received, Receives, Refilled, Refills, Reply, command_made, no_logs, rx_side};
 ghost use Rattle.macs_endpoint.specs.declared.fault.ProtectFault.TheVariants.{Tx};
+ghost use Rattle.macs_endpoint.specs.declared.progress.Step.TheVariants.{Idle};
 
 use macs_disk::SectorDisk;
 
@@ -23,14 +24,18 @@ pub fn frame_numbers_in_range<D: SectorDisk>()
 
 /// How many frames go out under an association before `NoNumber` may be answered.
 ///
-/// After `refill` answered Ok it is one more than half a transmit block, rounded down, under the
-/// association that frames go out under; after an install it is a block; or until the numbers end, when
+/// After `refill` answered Ok, or `step` answered `Idle`, it is one more than half a transmit block, rounded down,
+/// under the association that frames go out under; after the call that made an install durable, whichever it was, it
+/// is a block; or until the numbers end, when
 /// `Exhausted` comes. It is one less for each frame that goes out under the association while it stands.
 pub fn frames_before_no_number<D: SectorDisk>()
     ensures refilled { (old new : EndpointValue D) (an : ℕ) → IsSoundEndpoint old → IsCall D.disk old Refills (Refilled (Ok tt)) new → IsEncodingAn new an
         → HasRoom new an ((standing_in new.store).identity.tx_block / 2 + 1) }
-    ensures installed { (old new : EndpointValue D) (an : ℕ) (key : List ℕ) (start : ℕ) (confidential : Bool) (offset : ℕ)
-        → IsCall D.disk old (Commands (TxInstall an key start confidential offset)) (Ran (Ok tt)) new
+    ensures idle { (old new : EndpointValue D) (an : ℕ) → IsSoundEndpoint old → IsCall D.disk old Advances (Advanced (Ok Idle)) new → IsEncodingAn new an
+        → HasRoom new an ((standing_in new.store).identity.tx_block / 2 + 1) }
+    ensures installed { (old new : EndpointValue D) (call : Call) (reply : Reply) (an : ℕ) (key : List ℕ) (start : ℕ) (confidential : Bool) (offset : ℕ)
+        → IsSoundEndpoint old → IsCall D.disk old call reply new
+        → command_made (state_of old no_logs) call reply ≡ Some (TxInstall an key start confidential offset)
         → HasRoom new an (standing_in new.store).identity.tx_block }
     ensures stays { (old new : EndpointValue D) (turns : List (Turn D)) (an count : ℕ) → IsSoundEndpoint new → Lives D.disk old turns new → TxStays an old turns
         → HasRoom old an count → HasRoom new an (count - frames_sent an old turns) }
@@ -40,13 +45,20 @@ pub fn frames_before_no_number<D: SectorDisk>()
 
 /// Which frames are not held back.
 ///
-/// After `refill` answered Ok these are the frames of an association on which a frame was seen, whose
-/// numbers are not above the greatest seen, or below both `next + rx_block / 2 + 1` and
+/// After `refill` answered Ok, or `step` answered `Idle`, these are the frames of an association on which a frame
+/// was seen, whose numbers are not above the greatest seen, or below both `next + rx_block / 2 + 1` and
 /// `seen + rx_block`, as they are then. They are not held back while the association stands. So a frame that
-/// was held back is not held back again once a `refill` after it answered Ok, while its association stands.
+/// was held back is not held back again once a `refill` after it answered Ok, or a `step` `Idle`, while its
+/// association stands.
 pub fn frames_not_held_back<D: SectorDisk>()
     ensures refilled { (old new : EndpointValue D) (sci : List ℕ) (an next lowest seen pn : ℕ) → IsSoundEndpoint new
         → IsCall D.disk old Refills (Refilled (Ok tt)) new
+        → (state_of new no_logs).numbers sci an ≡ Some (record { next = next; lowest = lowest; seen = Some seen }) → pn < 2 ^ 32
+        → ((pn ≤ seen) ⊎ ((pn < next + (standing_in new.store).identity.rx_block / 2 + 1)
+        × (pn < seen + (standing_in new.store).identity.rx_block)))
+        → IsBelow new sci an pn }
+    ensures idle { (old new : EndpointValue D) (sci : List ℕ) (an next lowest seen pn : ℕ) → IsSoundEndpoint new
+        → IsCall D.disk old Advances (Advanced (Ok Idle)) new
         → (state_of new no_logs).numbers sci an ≡ Some (record { next = next; lowest = lowest; seen = Some seen }) → pn < 2 ^ 32
         → ((pn ≤ seen) ⊎ ((pn < next + (standing_in new.store).identity.rx_block / 2 + 1)
         × (pn < seen + (standing_in new.store).identity.rx_block)))
@@ -55,6 +67,11 @@ pub fn frames_not_held_back<D: SectorDisk>()
         → Arrives (rx_side (state_of old no_logs)) frame a
         → IsCall D.disk old (Receives frame) (Received (Ok HeldBack) out) mid
         → Lives D.disk mid turns late → RxStays a.sci a.an mid turns → IsCall D.disk late Refills (Refilled (Ok tt)) new
+        → IsBelow new a.sci a.an a.pn }
+    ensures later { (old mid late new : EndpointValue D) (turns : List (Turn D)) (frame out : List ℕ) (a : Arrival) → IsSoundEndpoint new
+        → Arrives (rx_side (state_of old no_logs)) frame a
+        → IsCall D.disk old (Receives frame) (Received (Ok HeldBack) out) mid
+        → Lives D.disk mid turns late → RxStays a.sci a.an mid turns → IsCall D.disk late Advances (Advanced (Ok Idle)) new
         → IsBelow new a.sci a.an a.pn }
     ensures stays { (old new : EndpointValue D) (turns : List (Turn D)) (sci : List ℕ) (an pn : ℕ) → Lives D.disk old turns new
         → RxStays sci an old turns → IsBelow old sci an pn → IsBelow new sci an pn }

@@ -1,40 +1,80 @@
 //! Reservations of packet numbers.
 
-ghost use Rattle.std.specs.Prelude.{◌≡◌, false, Some, OnOk, OnErr};
+ghost use Rattle.std.specs.Prelude.{◌≡◌, ◌⊎◌, Some, false};
 ghost use Rattle.std.specs.Option.{option_map};
-ghost use Rattle.macs_txsc.specs.Transmit.{need_of};
-ghost use Rattle.macs_rxsc.specs.Needs.{first_need_of};
-ghost use Rattle.macs_store.specs.Value.{standing_in};
-ghost use Rattle.macs_store.specs.Standing.{standing_with_rx_raised, standing_with_tx_raised};
+ghost use Rattle.macs_store.specs.Stepping.{Starts};
+ghost use Rattle.macs_store.specs.Value.{IsIdle, standing_in};
+ghost use Rattle.macs_endpoint.specs.Advancing.{turn_after_refill};
 ghost use Rattle.macs_endpoint.specs.Calls.{IsCall};
-ghost use Rattle.macs_endpoint.specs.Ceilings.{standing_with_raise};
-ghost use Rattle.macs_endpoint.specs.Value.{is_stopped, state_of};
-ghost use Rattle.macs_endpoint.specs.Reserving.{Reserves, raise_in, raise_of};
-ghost use Rattle.macs_endpoint.specs.State.{Refilled, Refills, no_logs, rx_side, tx_side};
+ghost use Rattle.macs_endpoint.specs.Ceilings.{Rises, standing_with_raise};
+ghost use Rattle.macs_endpoint.specs.Needed.{raise_in};
+ghost use Rattle.macs_endpoint.specs.Reserving.{Raised, ReservationEnds, ReservesAll, StartsRaise};
+ghost use Rattle.macs_endpoint.specs.State.{Refilled, Refills};
+ghost use Rattle.macs_endpoint.specs.Told.{raise_of};
+ghost use Rattle.macs_endpoint.specs.Value.{IsAtRest, IsReserving, is_stopped};
 
 use crate::endpoint::Endpoint;
 use crate::fault::RefillFault;
+use crate::turn::Turn;
 use macs_disk::SectorDisk;
 use macs_frame::An;
+use macs_journal::JournalFault;
 use macs_rxsc::RxNeed;
+use macs_store::Store;
 
 /// A ceiling that is to be raised: that of a transmit association, or of a receive association.
-pub(crate) enum Raise {
+#[derive(Clone, Copy)]
+pub enum Raise {
     Tx(An),
     Rx(RxNeed),
 }
 
 impl<D: SectorDisk> Endpoint<D> {
-    /// Makes every reservation of packet numbers that is needed: that of the transmit association that
-    /// frames go out under, then those of receive associations by ascending SCI and number. Refused as
-    /// `Stopped`, then as `GenerationsSpent`, and as `Disk` at the first device call that fails. What was
-    /// reserved before a fault stays.
+    /// Finishes a reservation that is in hand, and then makes every reservation of packet numbers that is needed: that
+    /// of the transmit association that frames go out under, then those of receive associations by ascending SCI and
+    /// number. Refused as `Stopped`, then as `Busy` where a submitted command waits; these change nothing. Then as
+    /// `GenerationsSpent`, and as `Disk` at the first device call that fails. What was reserved before a fault stays.
     pub fn refill(&mut self) -> Result<(), RefillFault>
         ensures call { IsCall D.disk self.old Refills (Refilled result) self.new }
     {
         if self.is_stopped() {
             return Err(RefillFault::Stopped);
         }
+        if !self.queue.is_empty() {
+            return Err(RefillFault::Busy);
+        }
+        let turn = self.turn_after_refill();
+        let result = self.finish_and_reserve();
+        self.turn = turn;
+        result
+    }
+
+    /// Whose turn it is after a refill: a command's where a reservation is in hand, and else that of before.
+    fn turn_after_refill(&self) -> Turn
+        ensures { result ≡ turn_after_refill self.now.turn self.now.reserving }
+    {
+        match self.reserving {
+            Some(_) => Turn::Command,
+            None => self.turn,
+        }
+    }
+
+    /// Finishes a reservation that is in hand, and then makes every reservation that is needed.
+    fn finish_and_reserve(&mut self) -> Result<(), RefillFault>
+        requires running { is_stopped self.old ≡ false }
+        requires work { IsAtRest self.old ⊎ IsReserving self.old }
+        ensures { ReservesAll D.disk self.old result self.new }
+    {
+        self.finish_reservation()?;
+        self.reserve()
+    }
+
+    /// Makes every reservation that is needed. No work is in hand.
+    fn reserve(&mut self) -> Result<(), RefillFault>
+        requires running { is_stopped self.old ≡ false }
+        requires idle { IsIdle self.old.store }
+        ensures { ReservesAll D.disk self.old result self.new }
+    {
         self.facts();
         while let Some(raise) = self.first_raise() {
             self.raise(raise)?;
@@ -43,7 +83,7 @@ impl<D: SectorDisk> Endpoint<D> {
     }
 
     /// The ceiling that is to be raised first, if any is.
-    fn first_raise(&self) -> Option<Raise>
+    pub(crate) fn first_raise(&self) -> Option<Raise>
         ensures { option_map raise_of result ≡ raise_in self.now }
     {
         if let Some(an) = self.channels.tx.needs(self.store.identity().tx_block()) {
@@ -56,46 +96,51 @@ impl<D: SectorDisk> Endpoint<D> {
     /// Raises the ceiling that is to be raised first.
     fn raise(&mut self, raise: Raise) -> Result<(), RefillFault>
         requires running { is_stopped self.old ≡ false }
+        requires idle { IsIdle self.old.store }
         requires first { raise_in self.old ≡ Some (raise_of raise) }
-        ensures reserves { Reserves D.disk self.old result self.new }
-        ensures done { OnOk result (standing_in self.new.store ≡ standing_with_raise (standing_in self.old.store) (raise_of raise)) }
-        ensures same { OnErr result (standing_in self.new.store ≡ standing_in self.old.store) }
+        ensures { Raised D.disk self.old (raise_of raise) result self.new }
     {
-        match raise {
-            Raise::Tx(an) => self.raise_tx(an),
-            Raise::Rx(need) => self.raise_rx(need),
-        }
+        self.start_raise(raise)?;
+        self.finish_reservation()
     }
 
-    /// Raises the ceiling of a transmit association, which is needed.
-    fn raise_tx(&mut self, an: An) -> Result<(), RefillFault>
+    /// Takes in hand that the ceiling is raised which is to be raised first, and makes no device call. No work is in
+    /// hand. Refused as `GenerationsSpent`, which changes nothing.
+    pub(crate) fn start_raise(&mut self, raise: Raise) -> Result<(), JournalFault>
         requires running { is_stopped self.old ≡ false }
-        requires needed { need_of (tx_side (state_of self.old no_logs)) (standing_in self.old.store).ceilings.tx
-            (standing_in self.old.store).identity.tx_block ≡ Some an }
-        ensures reserves { Reserves D.disk self.old result self.new }
-        ensures done { OnOk result (standing_in self.new.store ≡ standing_with_tx_raised (standing_in self.old.store) an) }
-        ensures same { OnErr result (standing_in self.new.store ≡ standing_in self.old.store) }
+        requires idle { IsIdle self.old.store }
+        requires first { raise_in self.old ≡ Some (raise_of raise) }
+        ensures { StartsRaise D.disk self.old (raise_of raise) result self.new }
     {
-        self.channels.tx.facts();
-        self.store.reserve_tx(an)?;
-        let ceiling = self.store.tx_ceiling(an).unwrap();
-        self.channels.tx.raise(an, ceiling.get());
+        start_ceiling(&mut self.store, &raise)?;
+        self.reserving = Some(raise);
         Ok(())
     }
 
-    /// Raises the ceiling of a receive association, which is needed.
-    fn raise_rx(&mut self, need: RxNeed) -> Result<(), RefillFault>
+    /// Finishes a reservation that is in hand. Refused as `Disk` at the first device call that fails; the next opening
+    /// finds it or not.
+    pub(crate) fn finish_reservation(&mut self) -> Result<(), RefillFault>
         requires running { is_stopped self.old ≡ false }
-        requires needed { first_need_of (rx_side (state_of self.old no_logs)) (standing_in self.old.store).ceilings.rx
-            (standing_in self.old.store).identity.rx_block ≡ Some (record { sci = need.sci; an = need.an; pn = need.pn }) }
-        ensures reserves { Reserves D.disk self.old result self.new }
-        ensures done { OnOk result (standing_in self.new.store ≡ standing_with_rx_raised (standing_in self.old.store) need.sci need.an need.pn) }
-        ensures same { OnErr result (standing_in self.new.store ≡ standing_in self.old.store) }
+        requires work { IsAtRest self.old ⊎ IsReserving self.old }
+        ensures { ReservationEnds D.disk self.old result self.new }
     {
-        self.channels.rx.facts();
-        self.store.reserve_rx(need.sci, need.an, need.pn)?;
-        let ceiling = self.store.rx_ceiling(need.sci, need.an).unwrap();
-        self.channels.rx.raise(need.sci, need.an, ceiling.get());
+        let Some(raise) = self.reserving.take() else {
+            return Ok(());
+        };
+        self.store.finish()?;
+        self.channels.raise(raise, &self.store);
         Ok(())
+    }
+}
+
+/// Has a store take in hand that a ceiling is raised. No work is in hand. Refused as the store refuses it.
+fn start_ceiling<D: SectorDisk>(store: &mut Store<D>, raise: &Raise) -> Result<(), JournalFault>
+    requires idle { IsIdle store.old }
+    requires rises { Rises (standing_in store.old) (raise_of raise.now) }
+    ensures { Starts D.disk store.old (standing_with_raise (standing_in store.old) (raise_of raise.now)) result store.new }
+{
+    match raise {
+        Raise::Tx(an) => store.start_tx(*an),
+        Raise::Rx(need) => store.start_rx(need.sci, need.an, need.pn),
     }
 }

@@ -6,7 +6,7 @@ ghost use Rattle.macs_endpoint.specs.Serving.{IsServed, call_of, is_halt, reply_
 
 use crate::endpoint::Endpoint;
 use crate::event::{Answer, Event, ServeEnd};
-use crate::fault::{CommandFault, ProtectFault, RefillFault};
+use crate::fault::{CommandFault, ProtectFault, RefillFault, StepFault, SubmitFault};
 use crate::ports::{AnswerSink, EventSource};
 use macs_disk::SectorDisk;
 use macs_frame::FrameBuf;
@@ -17,7 +17,9 @@ impl Answer {
         ensures { result ≡ is_halt (reply_of self.now) }
     {
         match self {
-            Answer::Ran(Err(CommandFault::Stopped | CommandFault::Disk))
+            Answer::Submitted(Err(SubmitFault::Stopped))
+            | Answer::Stepped(Err(StepFault::Stopped | StepFault::Disk))
+            | Answer::Ran(Err(CommandFault::Stopped | CommandFault::Disk))
             | Answer::Refilled(Err(RefillFault::Stopped | RefillFault::Disk))
             | Answer::Protected(Err(ProtectFault::Stopped), _)
             | Answer::Received(Err(_), _) => true,
@@ -62,7 +64,7 @@ impl<D: SectorDisk> Endpoint<D> {
         ensures { IsCall D.disk self.old (call_of event) (reply_of result) self.new }
     {
         match event {
-            Event::Operator(command) => Answer::Ran(self.command(command)),
+            Event::Operator(command) => Answer::Submitted(self.submit(command)),
             Event::Controlled(plain) => {
                 let mut out = FrameBuf::new();
                 let result = self.protect(plain.as_slice(), &mut out);
@@ -73,7 +75,7 @@ impl<D: SectorDisk> Endpoint<D> {
                 let result = self.receive(frame.as_slice(), &mut out);
                 Answer::Received(result, out)
             }
-            Event::Work => Answer::Refilled(self.refill()),
+            Event::Work => Answer::Stepped(self.step()),
         }
     }
 }

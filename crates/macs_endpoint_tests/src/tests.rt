@@ -9,6 +9,8 @@ mod frames;
 mod receiving;
 mod sending;
 mod serving;
+mod stepped_rows;
+mod stepping;
 mod steps;
 mod stops;
 mod torn;

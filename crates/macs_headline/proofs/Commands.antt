@@ -1,5 +1,5 @@
 -- The headline on commands: what an opening finds of them.
-use Rattle.std.proofs.Common.{◌≡◌, inl, inr, ℕ, refl, sym, ◌∙◌, ap, subst, List, [], ◌∷◌, ◌++◌, Result, Ok, Err, append-nil}
+use Rattle.std.proofs.Common.{◌≡◌, inl, inr, ℕ, refl, sym, ◌∙◌, ap, subst, List, [], ◌∷◌, ◌++◌, drop, Result, Ok, Err, append-nil}
 use Rattle.std.specs.Prelude.{Option}
 use Rattle.std.specs.Option.{option_to_list}
 use Rattle.macs_config.specs.Apply.{apply}
@@ -8,17 +8,25 @@ use Rattle.macs_config.specs.Identity.{Identity}
 use Rattle.macs_config.specs.declared.command.Command.{Command}
 use Rattle.macs_rxsc.specs.declared.verdict.Verdict.{Verdict}
 use Rattle.macs_store.specs.Standing.{Standing}
-use Rattle.macs_store.specs.declared.fault.CommitFault.{CommitFault}
-use Rattle.macs_store.specs.declared.fault.CommitFault.TheVariants as commit
+use Rattle.macs_endpoint.specs.Queue.{with_waiting}
+use Rattle.macs_endpoint.specs.declared.fault.CommandFault.{CommandFault}
+use Rattle.macs_endpoint.specs.declared.fault.CommandFault.TheVariants as ran
 use Rattle.macs_endpoint.specs.declared.fault.ProtectFault.{ProtectFault}
 use Rattle.macs_endpoint.specs.declared.fault.ProtectFault.TheVariants as protect
 use Rattle.macs_endpoint.specs.declared.fault.RefillFault.{RefillFault}
 use Rattle.macs_endpoint.specs.declared.fault.RefillFault.TheVariants as refill
+use Rattle.macs_endpoint.specs.declared.fault.StepFault.{StepFault}
+use Rattle.macs_endpoint.specs.declared.fault.StepFault.TheVariants as advance
 use Rattle.macs_endpoint.specs.declared.fault.Stopped.{Stopped}
+use Rattle.macs_endpoint.specs.declared.fault.SubmitFault.{SubmitFault}
+use Rattle.macs_endpoint.specs.declared.fault.SubmitFault.TheVariants as submit
+use Rattle.macs_endpoint.specs.declared.progress.Step.{Step as Progress}
+use Rattle.macs_endpoint.specs.declared.progress.Step.TheVariants.{Done, Worked}
+use Rattle.macs_endpoint.specs.declared.queue.Waiting.{Waiting}
 use Rattle.macs_endpoint.specs.Restart.{Restart, opened_state}
-use Rattle.macs_endpoint.specs.State.{Call, Commands, Protects, Protected, Ran, Received, Receives, Refilled, Refills, Reply, State}
-use Rattle.macs_endpoint.specs.Step.{CommandStep, Exchange, IsStopped, ProtectStep, ReceiveStep, RefillStep, RunningStep, Step, Steps}
-use Rattle.macs_headline.specs.Commands.{CommandsKept, CommandsMake, FindsPrefix, acknowledged_by, acknowledged_commands}
+use Rattle.macs_endpoint.specs.State.{Advanced, Advances, Call, Commands, Protects, Protected, Ran, Received, Receives, Refilled, Refills, Reply, State, Submits, Submitted}
+use Rattle.macs_endpoint.specs.Step.{AdvanceStep, CommandStep, Ends, Exchange, IsStopped, ProtectStep, ReceiveStep, RefillStep, RunningStep, Step, Steps, SubmitStep, TakesUp}
+use Rattle.macs_headline.specs.Commands.{CommandsKept, CommandsMake, FindsPrefix, acknowledged_by, acknowledged_commands, acknowledged_from, waiting_after}
 use Rattle.macs_headline.specs.History.{logs_of, state_at_end}
 use Rattle.macs_headline.proofs.Effects.{Core}
 use Rattle.macs_headline.proofs.Sound.{end-core, end-edition}
@@ -32,41 +40,133 @@ made_on : (edition : Edition) (identity : Identity) (a b c : Config) (xs ys : Li
 made_on edition identity a b c [] ys one two = subst (λ (a : Config). CommandsMake edition identity a ys c) one two
 made_on edition identity a b c (x ∷ xs) ys one two = (one.0, one.1, made_on edition identity one.0 b c xs ys one.2 two)
 
--- these commands lead from a state to a state
-record IsMadeBy (old new : State) (commands : List Command) : Type 0 where
+-- these commands lead from a state to a state in which these wait
+record IsMadeBy (old new : State) (commands : List Command) (waits : List Waiting) : Type 0 where
   edition : new.edition ≡ old.edition
   identity : new.identity ≡ old.identity
   made : CommandsMake old.edition old.identity old.config commands new.config
+  waiting : new.waiting ≡ waits
 
-unchanged : (old new : State) → new ≡ old → IsMadeBy old new []
-unchanged old new is = record { edition = ap (λ (s : State). s.edition) is; identity = ap (λ (s : State). s.identity) is; made = ap (λ (s : State). s.config) is }
+-- nothing of this changes
+record IsLike (old new : State) : Type 0 where
+  edition : new.edition ≡ old.edition
+  identity : new.identity ≡ old.identity
+  config : new.config ≡ old.config
+  waiting : new.waiting ≡ old.waiting
 
--- those that a call with this answer acknowledges
+same_state : (old new : State) → new ≡ old → IsLike old new
+same_state old new is = record {
+  edition = ap (λ (s : State). s.edition) is;
+  identity = ap (λ (s : State). s.identity) is;
+  config = ap (λ (s : State). s.config) is;
+  waiting = ap (λ (s : State). s.waiting) is;
+}
+
+like : (old new : State) → IsLike old new → IsMadeBy old new [] old.waiting
+like old new is = record { edition = is.edition; identity = is.identity; made = is.config; waiting = is.waiting }
+
+unchanged : (old new : State) → new ≡ old → IsMadeBy old new [] old.waiting
+unchanged old new is = like old new (same_state old new is)
+
+-- those that a call with this answer acknowledges, and those that wait after it
 abbrev IsMadeByCall : State → State → Call → Reply → Type 0
-IsMadeByCall old new call reply = IsMadeBy old new (acknowledged_by call reply)
+IsMadeByCall old new call reply = IsMadeBy old new (acknowledged_by old.waiting call reply) (waiting_after old.waiting call reply)
 
-by_command : (old : State) (c : Command) (result : Result (Unit {0}) CommitFault) (new : State) → CommandStep old c result new
+by_command : (old : State) (c : Command) (result : Result (Unit {0}) CommandFault) (new : State) → CommandStep old c result new
     → IsMadeByCall old new (Commands c) (Ran result)
-by_command old c (Ok done) new h = record {
+by_command old c (Ok done) new (none, h) = record {
   edition = ap (λ (s : State). s.edition) h.2;
   identity = ap (λ (s : State). s.identity) h.2;
   made = (h.0, h.1, ap (λ (s : State). s.config) h.2);
+  waiting = ap (λ (s : State). s.waiting) h.2;
 }
-by_command old c (Err commit.Stopped) new h = absurd h
+by_command old c (Err ran.Stopped) new h = absurd h
+by_command old c (Err ran.Busy) new (some, is) = unchanged old new is
 by_command old c (Err fault) new h = record {
-  edition = ap (λ (s : State). s.edition) h.1;
-  identity = ap (λ (s : State). s.identity) h.1;
-  made = ap (λ (s : State). s.config) h.1;
+  edition = ap (λ (s : State). s.edition) h.2;
+  identity = ap (λ (s : State). s.identity) h.2;
+  made = ap (λ (s : State). s.config) h.2;
+  waiting = ap (λ (s : State). s.waiting) h.2;
 }
 
 by_refill : (old : State) (result : Result (Unit {0}) RefillFault) (new : State) → RefillStep old result new → IsMadeByCall old new Refills (Refilled result)
-by_refill old (Ok done) new is = unchanged old new is
-by_refill old (Err refill.Stopped) new is = absurd is
-by_refill old (Err fault) new is = record {
+by_refill old (Ok done) new (none, is) = unchanged old new is
+by_refill old (Err refill.Stopped) new h = absurd h
+by_refill old (Err fault) new (none, is) = record {
   edition = ap (λ (s : State). s.edition) is;
   identity = ap (λ (s : State). s.identity) is;
   made = ap (λ (s : State). s.config) is;
+  waiting = ap (λ (s : State). s.waiting) is;
 }
+
+by_submit : (old : State) (c : Command) (result : Result ℕ SubmitFault) (new : State) → SubmitStep old c result new
+    → IsMadeByCall old new (Submits c) (Submitted result)
+by_submit old c (Ok ticket) new (few, left, is_ticket, is) = record {
+  edition = ap (λ (s : State). s.edition) is;
+  identity = ap (λ (s : State). s.identity) is;
+  made = ap (λ (s : State). s.config) is;
+  waiting = ap (λ (s : State). s.waiting) is ∙ ap (λ (n : ℕ). with_waiting old.waiting n c) (sym is_ticket);
+}
+by_submit old c (Err submit.QueueFull) new (many, is) = unchanged old new is
+by_submit old c (Err submit.TicketsSpent) new (few, spent, is) = unchanged old new is
+by_submit old c (Err submit.Stopped) new h = absurd h
+
+-- the first one is taken in hand, and still waits
+taken_up : (old new : State) → TakesUp old new → IsLike old new
+taken_up old new (first, rest, waiting, idle, accepts, is) = record {
+  edition = ap (λ (s : State). s.edition) is;
+  identity = ap (λ (s : State). s.identity) is;
+  config = ap (λ (s : State). s.config) is;
+  waiting = ap (λ (s : State). s.waiting) is;
+}
+
+-- the first one is done with, of those that wait
+by_end : (old : State) (first : Waiting) (rest : List Waiting) (ticket : ℕ) (result : Result (Unit {0}) CommandFault) (new : State)
+    → Ends old first rest result new
+    → IsMadeBy old new (acknowledged_by (first ∷ rest) Advances (Advanced (Ok (Done ticket result)))) rest
+by_end old first rest ticket (Ok done) new h = record {
+  edition = ap (λ (s : State). s.edition) h.2;
+  identity = ap (λ (s : State). s.identity) h.2;
+  made = (h.0, h.1, ap (λ (s : State). s.config) h.2);
+  waiting = ap (λ (s : State). s.waiting) h.2;
+}
+by_end old first rest ticket (Err (ran.Refused refusal)) new (idle, why, is) = record {
+  edition = ap (λ (s : State). s.edition) is;
+  identity = ap (λ (s : State). s.identity) is;
+  made = ap (λ (s : State). s.config) is;
+  waiting = ap (λ (s : State). s.waiting) is;
+}
+by_end old first rest ticket (Err ran.GenerationsSpent) new (idle, accepts, is) = record {
+  edition = ap (λ (s : State). s.edition) is;
+  identity = ap (λ (s : State). s.identity) is;
+  made = ap (λ (s : State). s.config) is;
+  waiting = ap (λ (s : State). s.waiting) is;
+}
+by_end old first rest ticket (Err fault) new h = absurd h
+
+by_advance : (old : State) (result : Result Progress StepFault) (new : State) → AdvanceStep old result new
+    → IsMadeByCall old new Advances (Advanced result)
+by_advance old (Ok Worked) new (inl is) = unchanged old new is
+by_advance old (Ok Worked) new (inr takes) = like old new (taken_up old new takes)
+by_advance old (Ok (Done ticket result)) new (first, rest, waiting, is_ticket, ends) =
+    subst (λ (w : List Waiting). IsMadeBy old new (acknowledged_by w Advances (Advanced (Ok (Done ticket result)))) (drop 1 w)) (sym waiting)
+    (by_end old first rest ticket result new ends)
+by_advance old (Err advance.Disk) new (inl is) = record {
+  edition = ap (λ (s : State). s.edition) is;
+  identity = ap (λ (s : State). s.identity) is;
+  made = ap (λ (s : State). s.config) is;
+  waiting = ap (λ (s : State). s.waiting) is;
+}
+by_advance old (Err advance.Disk) new (inr (mid, takes, is)) =
+    let up = taken_up old mid takes in
+    record {
+      edition = ap (λ (s : State). s.edition) is ∙ up.edition;
+      identity = ap (λ (s : State). s.identity) is ∙ up.identity;
+      made = ap (λ (s : State). s.config) is ∙ up.config;
+      waiting = ap (λ (s : State). s.waiting) is ∙ up.waiting;
+    }
+by_advance old (Err advance.Stopped) new h = absurd h
+by_advance old result new is = unchanged old new is
 
 by_protect : (old : State) (plain : List ℕ) (result : Result ℕ ProtectFault) (out : List ℕ) (new : State) → ProtectStep old plain result out new
     → IsMadeByCall old new (Protects plain) (Protected result out)
@@ -74,6 +174,7 @@ by_protect old plain (Ok pn) out new (none, (o, is_o, is_pn, is_out, is)) = reco
   edition = ap (λ (s : State). s.edition) is;
   identity = ap (λ (s : State). s.identity) is;
   made = ap (λ (s : State). s.config) is;
+  waiting = ap (λ (s : State). s.waiting) is;
 }
 by_protect old plain (Err (protect.Tx fault)) out new (why, empty, is) = unchanged old new is
 by_protect old plain (Err protect.Stopped) out new h = absurd h
@@ -85,42 +186,62 @@ by_receive old frame (Ok verdict) out new (inr (a, there, inl (is_verdict, above
   edition = ap (λ (s : State). s.edition) is;
   identity = ap (λ (s : State). s.identity) is;
   made = ap (λ (s : State). s.config) is;
+  waiting = ap (λ (s : State). s.waiting) is;
 }
 by_receive old frame (Ok verdict) out new (inr (a, there, inr (is_verdict, is_out, is))) = record {
   edition = ap (λ (s : State). s.edition) is;
   identity = ap (λ (s : State). s.identity) is;
   made = ap (λ (s : State). s.config) is;
+  waiting = ap (λ (s : State). s.waiting) is;
 }
 by_receive old frame (Err stopped) out new h = absurd h
 
 by_call : (old : State) (call : Call) (reply : Reply) (new : State) → RunningStep old call reply new → IsMadeByCall old new call reply
 by_call old (Commands c) (Ran result) new h = by_command old c result new h
 by_call old Refills (Refilled result) new h = by_refill old result new h
+by_call old (Submits c) (Submitted result) new h = by_submit old c result new h
+by_call old Advances (Advanced result) new h = by_advance old result new h
 by_call old (Protects plain) (Protected result out) new h = by_protect old plain result out new h
 by_call old (Receives frame) (Received result out) new h = by_receive old frame result out new h
 by_call old call reply new h = absurd h
 
 by_stopped : (old : State) (call : Call) (reply : Reply) (new : State) → IsStopped call reply → new ≡ old → IsMadeByCall old new call reply
 by_stopped old (Commands c) (Ran (Ok done)) new h is = absurd h
+by_stopped old (Submits c) (Submitted (Ok ticket)) new h is = absurd h
+by_stopped old Advances (Advanced (Ok progress)) new h is = absurd h
 by_stopped old call reply new h is = unchanged old new is
 
 by_step : (old : State) (call : Call) (reply : Reply) (new : State) → Step old call reply new → IsMadeByCall old new call reply
 by_step old call reply new (inl (stopped, answer, is)) = by_stopped old call reply new answer is
 by_step old call reply new (inr (running, h)) = by_call old call reply new h
 
-by_steps : (old : State) (exchanges : List Exchange) (new : State) → Steps old exchanges new → IsMadeBy old new (acknowledged_commands exchanges)
-by_steps old [] new steps = unchanged old new steps
-by_steps old (e ∷ es) new steps =
+-- these commands lead from a state to a state, whatever waits there
+record IsLedBy (old new : State) (commands : List Command) : Type 0 where
+  edition : new.edition ≡ old.edition
+  identity : new.identity ≡ old.identity
+  made : CommandsMake old.edition old.identity old.config commands new.config
+
+-- those of a life, at whose beginning these wait
+by_steps : (waiting : List Waiting) (old : State) (exchanges : List Exchange) (new : State) → old.waiting ≡ waiting → Steps old exchanges new
+    → IsLedBy old new (acknowledged_from waiting exchanges)
+by_steps waiting old [] new same steps = record {
+  edition = ap (λ (s : State). s.edition) steps;
+  identity = ap (λ (s : State). s.identity) steps;
+  made = ap (λ (s : State). s.config) steps;
+}
+by_steps waiting old (e ∷ es) new same steps =
     let mid = steps.0 in
-    let one = by_step old e.call e.reply mid steps.1 in
-    let two = by_steps mid es new steps.2 in
-    let more = acknowledged_commands es in
+    let one : IsMadeBy old mid (acknowledged_by waiting e.call e.reply) (waiting_after waiting e.call e.reply) =
+    subst (λ (w : List Waiting). IsMadeBy old mid (acknowledged_by w e.call e.reply) (waiting_after w e.call e.reply)) same
+    (by_step old e.call e.reply mid steps.1) in
+    let two = by_steps (waiting_after waiting e.call e.reply) mid es new one.waiting steps.2 in
+    let more = acknowledged_from (waiting_after waiting e.call e.reply) es in
     let same_edition = subst (λ (edition : Edition). CommandsMake edition mid.identity mid.config more new.config) one.edition two.made in
     let same_both = subst (λ (identity : Identity). CommandsMake old.edition identity mid.config more new.config) one.identity same_edition in
     record {
       edition = two.edition ∙ one.edition;
       identity = two.identity ∙ one.identity;
-      made = made_on old.edition old.identity old.config mid.config new.config (acknowledged_by e.call e.reply) more one.made same_both;
+      made = made_on old.edition old.identity old.config mid.config new.config (acknowledged_by waiting e.call e.reply) more one.made same_both;
     }
 
 -- ---- what is found
@@ -152,7 +273,7 @@ finds before after exchanges end edition identity made (inr (c, mid, hand, makes
 pub commands-kept : (sectors : ℕ) → CommandsKept sectors
 commands-kept sectors last m cut later image after fits is_after =
     let found = m.life.found in
-    let done = by_steps (opened_state found (logs_of m.past)) m.exchanges last m.life.steps in
+    let done = by_steps [] (opened_state found (logs_of m.past)) m.exchanges last refl m.life.steps in
     let end = state_at_end last cut in
     let config : end.config ≡ last.config = ap (λ (c : Core). c.config) (end-core last cut) in
     let identity : end.identity ≡ last.identity = ap (λ (c : Core). c.identity) (end-core last cut) in

@@ -1,25 +1,59 @@
 -- What a power loss inside a call leaves: the state before it, with its command in hand where work on it may have begun.
-use Rattle.std.proofs.Common.{◌≡◌, ◌&&◌, inl, inr, ℕ, Bool, true, false, cond, not, List, Option, Some, None, Result, Ok, Err, is_ok, refl, sym, ◌∙◌, ap, subst, arith}
+use Rattle.std.proofs.Common.{◌≡◌, ◌⊎◌, ◌&&◌, inl, inr, ℕ, Bool, true, false, cond, not, List, [], ◌∷◌, Option, Some, None, Result, Ok, Err, is_ok, refl, sym, ◌∙◌, ap, subst, arith}
 use Rattle.macs_config.specs.Apply.{apply}
 use Rattle.macs_config.specs.Config.{Config, Edition, this_edition}
 use Rattle.macs_config.specs.declared.command.Command.{Command}
 use Rattle.macs_disk.specs.Disk.{Disk, IsHonest, LeftSince}
 use Rattle.macs_disk.specs.States.{Image, IsImage}
 use Rattle.macs_store.specs.Value as store
-use Rattle.macs_store.specs.declared.fault.CommitFault.{CommitFault}
-use Rattle.macs_store.specs.declared.fault.CommitFault.TheVariants as commit
+use Rattle.macs_endpoint.specs.declared.fault.CommandFault.{CommandFault}
+use Rattle.macs_endpoint.specs.declared.fault.CommandFault.TheVariants as ran
 use Rattle.macs_endpoint.specs.declared.fault.RefillFault.{RefillFault}
 use Rattle.macs_endpoint.specs.declared.fault.RefillFault.TheVariants as refill
+use Rattle.macs_endpoint.specs.declared.fault.StepFault.{StepFault}
+use Rattle.macs_endpoint.specs.declared.fault.StepFault.TheVariants as advance
+use Rattle.macs_endpoint.specs.declared.progress.Step.{Step as Progress}
+use Rattle.macs_endpoint.specs.declared.progress.Step.TheVariants.{Done, Worked}
+use Rattle.macs_endpoint.specs.declared.queue.Waiting.{Waiting}
 use Rattle.macs_endpoint.specs.Calls.{IsCall}
 use Rattle.macs_endpoint.specs.Limits.{IsStill}
-use Rattle.macs_endpoint.specs.Restart.{Fits, Resumes, opened_state, state_during}
-use Rattle.macs_endpoint.specs.State.{Call, Commands, Logs, Protects, Protected, Receives, Received, Ran, Refilled, Refills, Reply, State, state_after_fault, state_with_in_hand}
-use Rattle.macs_endpoint.specs.Step.{CommandStep, RefillStep, Step, state_after_command}
-use Rattle.macs_endpoint.specs.Value.{EndpointValue, IsBacked, IsSoundEndpoint, disk_in, state_of}
+use Rattle.macs_endpoint.specs.Queue.{first_command}
+use Rattle.macs_endpoint.specs.Restart.{Fits, Resumes, opened_state, state_during, state_taking, state_taking_alone, state_taking_first}
+use Rattle.macs_endpoint.specs.State.{Advanced, Advances, Call, Commands, Logs, NoneWait, Protects, Protected, Receives, Received, Ran, Refilled, Refills, Reply, State, Submits, Submitted, state_after_fault, state_with_in_hand}
+use Rattle.macs_endpoint.specs.Step.{AdvanceStep, CommandStep, Ends, RefillStep, Step, TakesUp, state_after_command, state_without_first}
+use Rattle.macs_endpoint.specs.Value.{EndpointValue, IsAtRest, IsBacked, IsKeeping, IsReserving, IsSoundEndpoint, disk_in, state_of}
+
+-- ---- what is in hand
+
+none_in_hand : (c : Command) → ◌≡◌ {A = Option Command} None (Some c) → ⊥
+none_in_hand c is = cc
+
+-- while the endpoint runs, a command is in hand only where it is the first that waits
+pub record IsSettled (s : State) : Type 0 where
+  pub alone : s.stopped ≡ false → NoneWait s → s.in_hand ≡ None
+  pub first : s.stopped ≡ false → (c : Command) → s.in_hand ≡ Some c → first_command s.waiting ≡ Some c
+
+none_waits : (first : Waiting) (rest : List Waiting) → first ∷ rest ≡ [] → ⊥
+none_waits first rest is = cc
+
+module _ {D : Type 0} (e : EndpointValue D) (logs : Logs) where
+  by_work : IsAtRest e ⊎ (IsReserving e ⊎ IsKeeping e) → IsSettled (state_of e logs)
+  by_work (inl at) = record {
+    alone = λ running none. at.in_hand running;
+    first = λ running c hand. absurd (none_in_hand c (sym (at.in_hand running) ∙ hand));
+  }
+  by_work (inr (inl at)) = record {
+    alone = λ running none. at.in_hand;
+    first = λ running c hand. absurd (none_in_hand c (sym at.in_hand ∙ hand));
+  }
+  by_work (inr (inr at)) = record {
+    alone = λ running none. absurd (none_waits at.first at.rest (sym at.waiting ∙ none));
+    first = λ running c hand. ap first_command at.waiting ∙ sym at.in_hand ∙ hand;
+  }
 
 -- ---- states that a restart does not tell apart
 
--- the same but for what is in hand, and for whether it is stopped
+-- the same but for what is in hand or waits, for the tickets, and for whether it is stopped
 record IsAlike (a b : State) : Type 0 where
   edition : a.edition ≡ b.edition
   identity : a.identity ≡ b.identity
@@ -30,7 +64,8 @@ record IsAlike (a b : State) : Type 0 where
 
 resumes_alike : (a b new : State) → IsAlike a b → Resumes a new → Resumes b new
 resumes_alike a b new alike up =
-    let same : record a { stopped = b.stopped; in_hand = b.in_hand } ≡ b =
+    let part : State = record a { stopped = b.stopped; in_hand = b.in_hand; waiting = b.waiting; tickets = b.tickets } in
+    let same : part ≡ b =
     (λ i. record {
       edition = alike.edition i;
       identity = alike.identity i;
@@ -40,8 +75,10 @@ resumes_alike a b new alike up =
       logs = alike.logs i;
       stopped = b.stopped;
       in_hand = b.in_hand;
+      waiting = b.waiting;
+      tickets = b.tickets;
     }) in
-    let moved : Resumes (record a { stopped = b.stopped; in_hand = b.in_hand }) new = record {
+    let moved : Resumes part new = record {
       edition = up.edition;
       identity = up.identity;
       config = up.config;
@@ -50,14 +87,14 @@ resumes_alike a b new alike up =
       logs = up.logs;
       running = up.running;
       idle = up.idle;
+      waiting = up.waiting;
+      tickets = up.tickets;
     } in
     subst (λ (s : State). Resumes s new) same moved
 
-all_alike : (a : State) (stopped : Bool) (in_hand : Option Command) → IsAlike a (record a { stopped = stopped; in_hand = in_hand })
-all_alike a stopped in_hand = record { edition = refl; identity = refl; config = refl; next = refl; numbers = refl; logs = refl }
-
-none_in_hand : (c : Command) → ◌≡◌ {A = Option Command} None (Some c) → ⊥
-none_in_hand c is = cc
+all_alike : (a : State) (stopped : Bool) (in_hand : Option Command) (waiting : List Waiting)
+    → IsAlike a (record a { stopped = stopped; in_hand = in_hand; waiting = waiting })
+all_alike a stopped in_hand waiting = record { edition = refl; identity = refl; config = refl; next = refl; numbers = refl; logs = refl }
 
 module _ (edition : Edition) (sectors : ℕ) (image : Image) where
   abbrev FitsHere : State → Type 0
@@ -69,7 +106,7 @@ module _ (edition : Edition) (sectors : ℕ) (image : Image) where
     found = fits.found;
     is_found = fits.is_found;
     restart = elim fits.restart [
-      | inl up ↦ inl (resumes_alike s (state_with_in_hand s command) (opened_state fits.found s.logs) (all_alike s s.stopped (Some command)) up)
+      | inl up ↦ inl (resumes_alike s (state_with_in_hand s command) (opened_state fits.found s.logs) (all_alike s s.stopped (Some command) s.waiting) up)
       | inr made ↦ absurd (none_in_hand made.0 (sym idle ∙ made.2))
     ];
   }
@@ -84,14 +121,50 @@ module _ (edition : Edition) (sectors : ℕ) (image : Image) where
   held_surely P false true x y running accepted this = this
   held_surely P false false x y running accepted this = absurd (cc)
 
+  -- a command that is accepted is taken
+  taken : (s : State) (c : Command) → s.stopped ≡ false → is_ok (apply s.edition s.identity s.config c) ≡ true → FitsHere (state_with_in_hand s c)
+      → FitsHere (state_taking s c)
+  taken s c running accepted fits =
+      held_surely FitsHere s.stopped (is_ok (apply s.edition s.identity s.config c)) (state_with_in_hand s c) s running accepted fits
+
   -- before the call
-  fits_during : (s : State) (call : Call) → (s.stopped ≡ false → s.in_hand ≡ None) → FitsHere s → FitsHere (state_during s call)
-  fits_during s (Commands command) idle fits =
-      held_or_not FitsHere s.stopped (is_ok (apply s.edition s.identity s.config command)) (state_with_in_hand s command) s
-      (λ running. fits_holding s command (idle running) fits) fits
-  fits_during s Refills idle fits = fits
-  fits_during s (Protects plain) idle fits = fits
-  fits_during s (Receives frame) idle fits = fits
+  fits_taking : (s : State) (c : Command) → (s.stopped ≡ false → s.in_hand ≡ None) → FitsHere s → FitsHere (state_taking s c)
+  fits_taking s c idle fits =
+      held_or_not FitsHere s.stopped (is_ok (apply s.edition s.identity s.config c)) (state_with_in_hand s c) s
+      (λ running. fits_holding s c (idle running) fits) fits
+
+  fits_alone : (s : State) (c : Command) (waiting : List Waiting) → (s.stopped ≡ false → waiting ≡ [] → s.in_hand ≡ None) → FitsHere s
+      → FitsHere (state_taking_alone s c waiting)
+  fits_alone s c [] idle fits = fits_taking s c (λ running. idle running refl) fits
+  fits_alone s c (first ∷ rest) idle fits = fits
+
+  fits_first : (s : State) (in_hand : Option Command) (waiting : List Waiting) → s.in_hand ≡ in_hand → FitsHere s → FitsHere (state_taking_first s in_hand waiting)
+  fits_first s None [] is fits = fits
+  fits_first s None (first ∷ rest) is fits = fits_taking s first.command (λ running. is) fits
+  fits_first s (Some c) waiting is fits = fits
+
+  fits_during : (s : State) (call : Call) → IsSettled s → FitsHere s → FitsHere (state_during s call)
+  fits_during s (Commands c) settled fits = fits_alone s c s.waiting settled.alone fits
+  fits_during s Refills settled fits = fits
+  fits_during s (Submits c) settled fits = fits
+  fits_during s Advances settled fits = fits_first s s.in_hand s.waiting refl fits
+  fits_during s (Protects plain) settled fits = fits
+  fits_during s (Receives frame) settled fits = fits
+
+  -- while none waits
+  during_alone : (s : State) (c : Command) → NoneWait s → FitsHere (state_taking s c) → FitsHere (state_during s (Commands c))
+  during_alone s c none fits = subst (λ (w : List Waiting). FitsHere (state_taking_alone s c w)) (sym none) fits
+
+  -- while none is in hand
+  during_first : (s : State) (first : Waiting) (rest : List Waiting) → s.waiting ≡ first ∷ rest → s.in_hand ≡ None → FitsHere (state_taking s first.command)
+      → FitsHere (state_during s Advances)
+  during_first s first rest waiting idle fits =
+      subst (λ (w : List Waiting). FitsHere (state_taking_first s s.in_hand w)) (sym waiting)
+      (subst (λ (h : Option Command). FitsHere (state_taking_first s h (first ∷ rest))) (sym idle) fits)
+
+  -- while one is
+  during_held : (s : State) (c : Command) → s.in_hand ≡ Some c → FitsHere s → FitsHere (state_during s Advances)
+  during_held s c hand fits = subst (λ (h : Option Command). FitsHere (state_taking_first s h s.waiting)) (sym hand) fits
 
   -- whether it is stopped is forgotten
   fits_running : (s : State) → FitsHere (state_after_fault s) → FitsHere s
@@ -99,7 +172,7 @@ module _ (edition : Edition) (sectors : ℕ) (image : Image) where
     found = fits.found;
     is_found = fits.is_found;
     restart = elim fits.restart [
-      | inl up ↦ inl (resumes_alike (state_after_fault s) s (opened_state fits.found s.logs) (all_alike (state_after_fault s) s.stopped s.in_hand) up)
+      | inl up ↦ inl (resumes_alike (state_after_fault s) s (opened_state fits.found s.logs) (all_alike (state_after_fault s) s.stopped s.in_hand s.waiting) up)
       | inr made ↦
           let command = made.0 in
           let makes = made.3 in
@@ -110,51 +183,116 @@ module _ (edition : Edition) (sectors : ℕ) (image : Image) where
             state_after_command s command makes.0,
             made.2,
             (makes.0, makes.1, refl),
-            resumes_alike later (state_after_command s command makes.0) (opened_state fits.found s.logs) (all_alike later s.stopped None) up,
+            resumes_alike later (state_after_command s command makes.0) (opened_state fits.found s.logs) (all_alike later s.stopped None s.waiting) up,
           )
     ];
   }
 
-  -- the command was done
-  fits_done : (s : State) (command : Command) (config : Config) → s.stopped ≡ false → apply s.edition s.identity s.config command ≡ Ok config
-      → FitsHere (state_after_command s command config) → FitsHere (state_during s (Commands command))
-  fits_done s command config running ok fits =
-      held_surely FitsHere s.stopped (is_ok (apply s.edition s.identity s.config command)) (state_with_in_hand s command) s running (ap is_ok ok)
-      (record {
+  -- the command in hand was done, whatever waits then
+  fits_done : (s : State) (rest : List Waiting) (c : Command) (config : Config) → s.in_hand ≡ Some c → apply s.edition s.identity s.config c ≡ Ok config
+      → FitsHere (state_after_command (record s { waiting = rest }) c config) → FitsHere s
+  fits_done s rest c config hand ok fits =
+      let later = state_after_command (record s { waiting = rest }) c config in
+      let mid = state_after_command s c config in
+      record {
         found = fits.found;
         is_found = fits.is_found;
         restart = elim fits.restart [
-          | inl up ↦ inr (command, state_after_command s command config, refl, (config, ok, refl), up)
+          | inl up ↦ inr (
+            c,
+            mid,
+            hand,
+            (config, ok, refl),
+            resumes_alike later mid (opened_state fits.found s.logs) (all_alike later s.stopped None s.waiting) up,
+          )
           | inr made ↦ absurd (none_in_hand made.0 made.2)
         ];
-      })
+      }
+
+  -- the first one that waits was refused
+  fits_refused : (s : State) (rest : List Waiting) → FitsHere (state_without_first s rest) → FitsHere s
+  fits_refused s rest fits =
+      let later = state_without_first s rest in
+      record {
+        found = fits.found;
+        is_found = fits.is_found;
+        restart = elim fits.restart [
+          | inl up ↦ inl (resumes_alike later s (opened_state fits.found s.logs) (all_alike later s.stopped s.in_hand s.waiting) up)
+          | inr made ↦ absurd (none_in_hand made.0 made.2)
+        ];
+      }
 
   -- ---- what fits the state after a call fits the one while it is under way
 
-  by_command : (old : State) (c : Command) (result : Result (Unit {0}) CommitFault) (new : State) → old.stopped ≡ false → (old.stopped ≡ false → old.in_hand ≡ None)
+  by_command : (old : State) (c : Command) (result : Result (Unit {0}) CommandFault) (new : State) → old.stopped ≡ false → IsSettled old
       → CommandStep old c result new → FitsHere new → FitsHere (state_during old (Commands c))
-  by_command old c (Ok done) new running idle (config, ok, is) fits = fits_done old c config running ok (subst FitsHere is fits)
-  by_command old c (Err commit.Stopped) new running idle h fits = absurd h
-  by_command old c (Err commit.Disk) new running idle (accepts, is) fits =
-      held_surely FitsHere old.stopped (is_ok (apply old.edition old.identity old.config c)) (state_with_in_hand old c) old running accepts
-      (fits_running (state_with_in_hand old c) (subst FitsHere is fits))
-  by_command old c (Err fault) new running idle h fits = fits_during old (Commands c) idle (subst FitsHere h.1 fits)
+  by_command old c (Ok done) new running settled (none, (config, ok, is)) fits =
+      during_alone old c none
+      (taken old c running (ap is_ok ok) (fits_done (state_with_in_hand old c) old.waiting c config refl ok (subst FitsHere is fits)))
+  by_command old c (Err ran.Stopped) new running settled h fits = absurd h
+  by_command old c (Err ran.Disk) new running settled (none, accepts, is) fits =
+      during_alone old c none (taken old c running accepts (fits_running (state_with_in_hand old c) (subst FitsHere is fits)))
+  by_command old c (Err ran.Busy) new running settled (some, is) fits = fits_during old (Commands c) settled (subst FitsHere is fits)
+  by_command old c (Err fault) new running settled h fits = fits_during old (Commands c) settled (subst FitsHere h.2 fits)
 
   by_refill : (old : State) (result : Result (Unit {0}) RefillFault) (new : State) → RefillStep old result new → FitsHere new → FitsHere old
+  by_refill old (Ok done) new (none, is) fits = subst FitsHere is fits
   by_refill old (Err refill.Stopped) new h fits = absurd h
-  by_refill old (Err refill.Disk) new is fits = fits_running old (subst FitsHere is fits)
-  by_refill old result new is fits = subst FitsHere is fits
+  by_refill old (Err refill.Disk) new (none, is) fits = fits_running old (subst FitsHere is fits)
+  by_refill old (Err fault) new (none, is) fits = subst FitsHere is fits
 
-  pub during-command : (old : State) (c : Command) (reply : Reply) (new : State) → (old.stopped ≡ false → old.in_hand ≡ None)
-      → Step old (Commands c) reply new → FitsHere new → FitsHere (state_during old (Commands c))
-  during-command old c reply new idle (inl (stopped, answer, is)) fits = fits_during old (Commands c) idle (subst FitsHere is fits)
-  during-command old c (Ran result) new idle (inr (running, h)) fits = by_command old c result new running idle h fits
-  during-command old c reply new idle (inr (running, h)) fits = absurd h
+  by_taking : (old new : State) → old.stopped ≡ false → TakesUp old new → FitsHere new → FitsHere (state_during old Advances)
+  by_taking old new running (first, rest, waiting, idle, accepts, is) fits =
+      during_first old first rest waiting idle (taken old first.command running accepts (subst FitsHere is fits))
+
+  -- the first one that waits took effect, in hand before or not
+  by_done : (old : State) (first : Waiting) (rest : List Waiting) (config : Config) (in_hand : Option Command) → old.stopped ≡ false → IsSettled old
+      → old.waiting ≡ first ∷ rest → old.in_hand ≡ in_hand → apply old.edition old.identity old.config first.command ≡ Ok config
+      → FitsHere (state_after_command (state_without_first old rest) first.command config) → FitsHere (state_during old Advances)
+  by_done old first rest config None running settled waiting hand ok fits =
+      during_first old first rest waiting hand
+      (taken old first.command running (ap is_ok ok) (fits_done (state_with_in_hand old first.command) rest first.command config refl ok fits))
+  by_done old first rest config (Some c) running settled waiting hand ok fits =
+      let its : old.in_hand ≡ Some first.command = hand ∙ sym (settled.first running c hand) ∙ ap first_command waiting in
+      during_held old first.command its (fits_done old rest first.command config its ok fits)
+
+  by_end : (old : State) (first : Waiting) (rest : List Waiting) (result : Result (Unit {0}) CommandFault) (new : State) → old.stopped ≡ false → IsSettled old
+      → old.waiting ≡ first ∷ rest → Ends old first rest result new → FitsHere new → FitsHere (state_during old Advances)
+  by_end old first rest (Ok done) new running settled waiting (config, ok, is) fits =
+      by_done old first rest config old.in_hand running settled waiting refl ok (subst FitsHere is fits)
+  by_end old first rest (Err (ran.Refused refusal)) new running settled waiting (idle, why, is) fits =
+      fits_during old Advances settled (fits_refused old rest (subst FitsHere is fits))
+  by_end old first rest (Err ran.GenerationsSpent) new running settled waiting (idle, accepts, is) fits =
+      fits_during old Advances settled (fits_refused old rest (subst FitsHere is fits))
+  by_end old first rest (Err fault) new running settled waiting h fits = absurd h
+
+  by_advance : (old : State) (result : Result Progress StepFault) (new : State) → old.stopped ≡ false → IsSettled old → AdvanceStep old result new → FitsHere new
+      → FitsHere (state_during old Advances)
+  by_advance old (Ok Worked) new running settled (inl is) fits = fits_during old Advances settled (subst FitsHere is fits)
+  by_advance old (Ok Worked) new running settled (inr takes) fits = by_taking old new running takes fits
+  by_advance old (Ok (Done ticket result)) new running settled (first, rest, waiting, is_ticket, ends) fits =
+      by_end old first rest result new running settled waiting ends fits
+  by_advance old (Err advance.Disk) new running settled (inl is) fits = fits_during old Advances settled (fits_running old (subst FitsHere is fits))
+  by_advance old (Err advance.Disk) new running settled (inr (mid, takes, is)) fits =
+      by_taking old mid running takes (fits_running mid (subst FitsHere is fits))
+  by_advance old (Err advance.Stopped) new running settled h fits = absurd h
+  by_advance old result new running settled is fits = fits_during old Advances settled (subst FitsHere is fits)
+
+  pub during-command : (old : State) (c : Command) (reply : Reply) (new : State) → IsSettled old → Step old (Commands c) reply new → FitsHere new
+      → FitsHere (state_during old (Commands c))
+  during-command old c reply new settled (inl (stopped, answer, is)) fits = fits_during old (Commands c) settled (subst FitsHere is fits)
+  during-command old c (Ran result) new settled (inr (running, h)) fits = by_command old c result new running settled h fits
+  during-command old c reply new settled (inr (running, h)) fits = absurd h
 
   pub during-refill : (old : State) (reply : Reply) (new : State) → Step old Refills reply new → FitsHere new → FitsHere old
   during-refill old reply new (inl (stopped, answer, is)) fits = subst FitsHere is fits
   during-refill old (Refilled result) new (inr (running, h)) fits = by_refill old result new h fits
   during-refill old reply new (inr (running, h)) fits = absurd h
+
+  pub during-step : (old : State) (reply : Reply) (new : State) → IsSettled old → Step old Advances reply new → FitsHere new → FitsHere (state_during old Advances)
+  during-step old reply new settled (inl (stopped, answer, is)) fits = fits_during old Advances settled (subst FitsHere is fits)
+  during-step old (Advanced result) new settled (inr (running, h)) fits = by_advance old result new running settled h fits
+  during-step old reply new settled (inr (running, h)) fits = absurd h
 
 -- ---- calls of an endpoint
 
@@ -164,6 +302,12 @@ still_left a b image same left =
     let at_a : LeftSince a a.clock image = subst (λ (d : Disk). LeftSince d a.clock image) (sym same) left in
     let at_now : at_a.0 ≡ a.clock = omega (arith, at_a.1, at_a.2) in
     subst (λ (k : ℕ). IsImage (a.past k) image) at_now at_a.3
+
+submits_still : {D : Type 0} (old new : EndpointValue D) (logs later : Logs) (c : Command) (reply : Reply)
+    → Step (state_of old logs) (Submits c) reply (state_of new later) → IsStill old (Submits c) reply new → new.store ≡ old.store
+submits_still old new logs later c (Submitted result) step still = still
+submits_still old new logs later c reply (inl h) still = absurd h.1
+submits_still old new logs later c reply (inr h) still = absurd h.1
 
 protects_still : {D : Type 0} (old new : EndpointValue D) (logs later : Logs) (plain : List ℕ) (reply : Reply)
     → Step (state_of old logs) (Protects plain) reply (state_of new later) → IsStill old (Protects plain) reply new → new.store ≡ old.store
@@ -186,13 +330,25 @@ module _ {D : Type 0} (disk_of : D → Disk) (last after : EndpointValue D) (log
       let step = is.behaves.step logs in
       elim (((is.survives (is.device.works.honest ∙ honest) backed).any_moment logs step.0).each image left) [
         | inl before ↦ before
-        | inr later ↦ during-command this_edition (disk_in disk_of last).sectors image (state_of last logs) c reply (state_of after step.0) sound.idle step.1 later
+        | inr later ↦ during-command this_edition (disk_in disk_of last).sectors image (state_of last logs) c reply (state_of after step.0)
+            (by_work last logs sound.work) step.1 later
       ]
   cut-call Refills is image left =
       let step = is.behaves.step logs in
       elim (((is.survives (is.device.works.honest ∙ honest) backed).any_moment logs step.0).each image left) [
         | inl before ↦ before
         | inr later ↦ during-refill this_edition (disk_in disk_of last).sectors image (state_of last logs) reply (state_of after step.0) step.1 later
+      ]
+  cut-call (Submits c) is image left =
+      let step = is.behaves.step logs in
+      let same = submits_still last after logs step.0 c reply step.1 is.behaves.still in
+      backed.fits logs image (still_left (disk_in disk_of last) (disk_in disk_of after) image (ap (λ (s : store.StoreValue D). store.disk_in disk_of s) (sym same)) left)
+  cut-call Advances is image left =
+      let step = is.behaves.step logs in
+      elim (((is.survives (is.device.works.honest ∙ honest) backed).any_moment logs step.0).each image left) [
+        | inl before ↦ before
+        | inr later ↦
+            during-step this_edition (disk_in disk_of last).sectors image (state_of last logs) reply (state_of after step.0) (by_work last logs sound.work) step.1 later
       ]
   cut-call (Protects plain) is image left =
       let step = is.behaves.step logs in

@@ -14,18 +14,25 @@ use Rattle.macs_config.specs.declared.command.Command.{Command}
 use Rattle.macs_txsc.specs.Transmit.{Outgoing, TxSide, outgoing_at, outgoing_with}
 use Rattle.macs_rxsc.specs.Receive.{Arrival, Arrives, Numbers, RxSide, delivery_kind, numbers_after_delivery, numbers_after_hold, numbers_of}
 use Rattle.macs_rxsc.specs.declared.verdict.Verdict.{Verdict}
-use Rattle.macs_store.specs.declared.fault.CommitFault.{CommitFault}
-use Rattle.macs_store.specs.declared.fault.CommitFault.TheVariants as commit
+use Rattle.macs_endpoint.specs.declared.fault.CommandFault.{CommandFault}
+use Rattle.macs_endpoint.specs.declared.fault.CommandFault.TheVariants as ran
 use Rattle.macs_endpoint.specs.declared.fault.ProtectFault.{ProtectFault}
 use Rattle.macs_endpoint.specs.declared.fault.ProtectFault.TheVariants as protect
 use Rattle.macs_endpoint.specs.declared.fault.RefillFault.{RefillFault}
 use Rattle.macs_endpoint.specs.declared.fault.RefillFault.TheVariants as refill
+use Rattle.macs_endpoint.specs.declared.fault.StepFault.{StepFault}
+use Rattle.macs_endpoint.specs.declared.fault.StepFault.TheVariants as advance
 use Rattle.macs_endpoint.specs.declared.fault.Stopped.{Stopped}
-use Rattle.macs_endpoint.specs.State.{Call, Commands, Delivery, Protects, Protected, Ran, Received, Receives, Refilled, Refills, Reply, State, Use, rx_side, tx_side}
-use Rattle.macs_endpoint.specs.Step.{CommandStep, ProtectStep, ReceiveStep, RefillStep, RunningStep, Step, next_after, numbers_after}
+use Rattle.macs_endpoint.specs.declared.fault.SubmitFault.{SubmitFault}
+use Rattle.macs_endpoint.specs.declared.fault.SubmitFault.TheVariants as submit
+use Rattle.macs_endpoint.specs.declared.progress.Step.{Step as Progress}
+use Rattle.macs_endpoint.specs.declared.progress.Step.TheVariants.{Done, Worked}
+use Rattle.macs_endpoint.specs.declared.queue.Waiting.{Waiting}
+use Rattle.macs_endpoint.specs.State.{Advanced, Advances, Call, Commands, Delivery, Protects, Protected, Ran, Received, Receives, Refilled, Refills, Reply, State, Submits, Submitted, Use, rx_side, tx_side}
+use Rattle.macs_endpoint.specs.Step.{AdvanceStep, CommandStep, Ends, ProtectStep, ReceiveStep, RefillStep, RunningStep, Step, SubmitStep, TakesUp, next_after, numbers_after}
 use Rattle.macs_headline.proofs.Places.{put_rx}
 
--- the state but for its edition, for whether it is stopped, and for what is in hand
+-- the state but for its edition, for whether it is stopped, and for what is in hand or waits
 pub record Core : Type 0 where
   pub identity : Identity
   pub config : Config
@@ -109,16 +116,42 @@ in_time side frame a there on =
 
 -- ---- calls
 
-by_command : (old : State) (c : Command) (result : Result (Unit {0}) CommitFault) (new : State) → CommandStep old c result new
+by_command : (old : State) (c : Command) (result : Result (Unit {0}) CommandFault) (new : State) → CommandStep old c result new
     → Effect old.edition (core old) (core new)
-by_command old c (Ok done) new h = Commanded c h.0 h.1 (ap core h.2)
-by_command old c (Err commit.Stopped) new h = absurd h
-by_command old c (Err fault) new h = NoEffect (ap core h.1)
+by_command old c (Ok done) new (none, makes) = Commanded c makes.0 makes.1 (ap core makes.2)
+by_command old c (Err ran.Stopped) new h = absurd h
+by_command old c (Err ran.Busy) new (some, is) = NoEffect (ap core is)
+by_command old c (Err fault) new h = NoEffect (ap core h.2)
 
 by_refill : (old : State) (result : Result (Unit {0}) RefillFault) (new : State) → RefillStep old result new → Effect old.edition (core old) (core new)
-by_refill old (Ok done) new h = NoEffect (ap core h)
+by_refill old (Ok done) new (none, is) = NoEffect (ap core is)
 by_refill old (Err refill.Stopped) new h = absurd h
-by_refill old (Err fault) new h = NoEffect (ap core h)
+by_refill old (Err fault) new (none, is) = NoEffect (ap core is)
+
+by_submit : (old : State) (c : Command) (result : Result ℕ SubmitFault) (new : State) → SubmitStep old c result new → Effect old.edition (core old) (core new)
+by_submit old c (Ok ticket) new (few, left, is_ticket, is) = NoEffect (ap core is)
+by_submit old c (Err submit.QueueFull) new (many, is) = NoEffect (ap core is)
+by_submit old c (Err submit.TicketsSpent) new (few, spent, is) = NoEffect (ap core is)
+by_submit old c (Err submit.Stopped) new h = absurd h
+
+taken_up : (old new : State) → TakesUp old new → core new ≡ core old
+taken_up old new (first, rest, waiting, idle, accepts, is) = ap core is
+
+by_end : (old : State) (first : Waiting) (rest : List Waiting) (result : Result (Unit {0}) CommandFault) (new : State) → Ends old first rest result new
+    → Effect old.edition (core old) (core new)
+by_end old first rest (Ok done) new makes = Commanded first.command makes.0 makes.1 (ap core makes.2)
+by_end old first rest (Err (ran.Refused refusal)) new (idle, why, is) = NoEffect (ap core is)
+by_end old first rest (Err ran.GenerationsSpent) new (idle, accepts, is) = NoEffect (ap core is)
+by_end old first rest (Err fault) new h = absurd h
+
+by_advance : (old : State) (result : Result Progress StepFault) (new : State) → AdvanceStep old result new → Effect old.edition (core old) (core new)
+by_advance old (Ok Worked) new (inl is) = NoEffect (ap core is)
+by_advance old (Ok Worked) new (inr takes) = NoEffect (taken_up old new takes)
+by_advance old (Ok (Done ticket result)) new (first, rest, waiting, is_ticket, ends) = by_end old first rest result new ends
+by_advance old (Err advance.Disk) new (inl is) = NoEffect (ap core is)
+by_advance old (Err advance.Disk) new (inr (mid, takes, is)) = NoEffect (ap core is ∙ taken_up old mid takes)
+by_advance old (Err advance.Stopped) new h = absurd h
+by_advance old result new is = NoEffect (ap core is)
 
 by_protect : (old : State) (plain : List ℕ) (result : Result ℕ ProtectFault) (out : List ℕ) (new : State) → ProtectStep old plain result out new
     → Effect old.edition (core old) (core new)
@@ -139,6 +172,8 @@ by_receive old frame (Err stopped) out new h = absurd h
 by_call : (old : State) (call : Call) (reply : Reply) (new : State) → RunningStep old call reply new → Effect old.edition (core old) (core new)
 by_call old (Commands c) (Ran result) new h = by_command old c result new h
 by_call old Refills (Refilled result) new h = by_refill old result new h
+by_call old (Submits c) (Submitted result) new h = by_submit old c result new h
+by_call old Advances (Advanced result) new h = by_advance old result new h
 by_call old (Protects plain) (Protected result out) new h = by_protect old plain result out new h
 by_call old (Receives frame) (Received result out) new h = by_receive old frame result out new h
 by_call old call reply new h = absurd h

@@ -11,7 +11,7 @@ use Rattle.macs_headline.specs.ExampleDisk.{cut_image, last_image, new_image, se
 use Rattle.macs_headline.specs.ExampleStanding.{full_standing, last_standing, served_config}
 use Rattle.macs_headline.specs.History.{formatted_state}
 use Rattle.macs_headline.proofs.ExampleImages.{cut-is, larger, last-is, later-config, new-is, served-is, served_standing}
-use Rattle.macs_headline.proofs.ExampleStates.{after_hold, before_frame, first_end, first_followed, last_state, s0, s6, s7, second_end, t0, third_end, u0}
+use Rattle.macs_headline.proofs.ExampleStates.{after_hold, before_frame, first_end, first_followed, last_state, s0, s11, s12, second_end, t0, third_end, u0}
 use Rattle.macs_headline.proofs.Formats.{new-fits}
 use Rattle.macs_headline.proofs.Places.{cases_place, put_rx, put_rx-that}
 
@@ -40,7 +40,9 @@ rx_all old new here none sci an = elim (cases_place sci an peer_sci 0) [
 
 -- ---- after the first life
 
-tx_first : (own : Bool) → TxRises 4 (cond own (Some 3) (cond own (Some 2) (cond own (Some 1) None))) (cond own (Some 9) (cond own (Some 5) None))
+tx_first : (own : Bool)
+    → TxRises 4 (cond own (Some 7) (cond own (Some 6) (cond own (Some 5) (cond own (Some 4) (cond own (Some 3) (cond own (Some 2) (cond own (Some 1) None)))))))
+    (cond own (Some 9) (cond own (Some 5) None))
 tx_first true = (9, refl, omega arith, omega arith, omega arith)
 tx_first false = refl
 
@@ -61,13 +63,15 @@ fits-served = record {
       next = λ an. tx_first (an == 0);
       numbers = rx_all first_followed.numbers t0.numbers (9, refl, omega arith, omega arith) (λ sci an apart. (
         ap (option_map (numbers_under_window 3))
-            (away s7.numbers (Some (numbers_after_delivery 0 after_hold 5)) sci an apart ∙ away s6.numbers (Some after_hold) sci an apart
+            (away s12.numbers (Some (numbers_after_delivery 0 after_hold 5)) sci an apart ∙ away s11.numbers (Some after_hold) sci an apart
             ∙ away s0.numbers (Some before_frame) sci an apart),
         ap (option_map first_numbers) (away (put_rx no_ceilings.rx peer_sci 0 (Some 1)) (Some 9) sci an apart ∙ away no_ceilings.rx (Some 1) sci an apart),
       ));
       logs = refl;
       running = refl;
       idle = refl;
+      waiting = refl;
+      tickets = refl;
     },
   );
 }
@@ -95,6 +99,8 @@ fits-cut = record {
     logs = refl;
     running = refl;
     idle = refl;
+    waiting = refl;
+    tickets = refl;
   });
 }
 
@@ -121,5 +127,7 @@ fits-last = record {
     logs = refl;
     running = refl;
     idle = refl;
+    waiting = refl;
+    tickets = refl;
   });
 }

@@ -1,13 +1,15 @@
 -- The states of the example's lives.
-use Rattle.std.specs.Prelude.{ℕ}
+use Rattle.std.specs.Prelude.{ℕ, []}
 use Rattle.macs_config.specs.Apply.{config_after}
 use Rattle.macs_config.specs.Config.{Config, default, this_edition}
+use Rattle.macs_config.specs.declared.command.Command.{Command}
 use Rattle.macs_txsc.specs.Transmit.{Outgoing}
 use Rattle.macs_rxsc.specs.Receive.{Numbers, first_numbers, numbers_after_hold}
 use Rattle.macs_store.specs.Standing.{new_standing}
 use Rattle.macs_endpoint.specs.Restart.{opened_state}
 use Rattle.macs_endpoint.specs.State.{State, no_logs, state_after_fault, state_with_in_hand}
-use Rattle.macs_endpoint.specs.Step.{state_after_command, state_after_delivery, state_after_frame, state_after_hold}
+use Rattle.macs_endpoint.specs.Step.{state_after_command, state_after_delivery, state_after_frame, state_after_hold, state_with_waiting, state_without_first}
+use Rattle.macs_endpoint.specs.declared.queue.Waiting.{Waiting}
 use Rattle.macs_headline.specs.Example.{add_peer, check_only, example_identity, install_own, install_peer, later_edition, own_sa, remove_peer, use_own, widen}
 use Rattle.macs_headline.specs.ExampleStanding.{full_standing, last_standing, served_config}
 use Rattle.macs_headline.proofs.ExampleFrames.{arrival}
@@ -40,6 +42,7 @@ s1 = state_after_command s0 install_own c1
 abbrev pub s2 : State
 s2 = state_after_command s1 use_own c2
 
+-- frames 1 to 4
 abbrev pub s3 : State
 s3 = state_after_frame s2 (outgoing 1)
 
@@ -47,10 +50,30 @@ abbrev pub s4 : State
 s4 = state_after_frame s3 (outgoing 2)
 
 abbrev pub s5 : State
-s5 = state_after_command s4 add_peer c3
+s5 = state_after_frame s4 (outgoing 3)
 
 abbrev pub s6 : State
-s6 = state_after_command s5 install_peer c4
+s6 = state_after_frame s5 (outgoing 4)
+
+-- a command that waits, under this ticket
+abbrev pub waits : ℕ → Command → Waiting
+waits ticket command = record { ticket = ticket; command = command }
+
+-- the peer's channel is to be added: it waits, it is in hand, a frame goes out between, and it takes effect
+abbrev pub s7 : State
+s7 = state_with_waiting s6 add_peer
+
+abbrev pub s8 : State
+s8 = state_with_in_hand s7 add_peer
+
+abbrev pub s9 : State
+s9 = state_after_frame s8 (outgoing 5)
+
+abbrev pub s10 : State
+s10 = state_after_command (state_without_first s9 []) add_peer c3
+
+abbrev pub s11 : State
+s11 = state_after_command s10 install_peer c4
 
 -- the numbers of the receive association, before the frame comes and once it is held back
 abbrev pub before_frame : Numbers
@@ -59,14 +82,21 @@ before_frame = first_numbers 1
 abbrev pub after_hold : Numbers
 after_hold = numbers_after_hold before_frame 5
 
-abbrev pub s7 : State
-s7 = state_after_hold s6 (arrival before_frame)
+abbrev pub s12 : State
+s12 = state_after_hold s11 (arrival before_frame)
 
-abbrev pub s8 : State
-s8 = state_after_delivery s7 (arrival after_hold)
+abbrev pub s13 : State
+s13 = state_after_delivery s12 (arrival after_hold)
+
+-- the window is to be widened: it waits, and is in hand when the power goes, with a frame between
+abbrev pub s14 : State
+s14 = state_with_waiting s13 widen
+
+abbrev pub s15 : State
+s15 = state_with_in_hand s14 widen
 
 abbrev pub first_end : State
-first_end = state_with_in_hand s8 widen
+first_end = state_after_frame s15 (outgoing 6)
 
 -- what it is once the command in hand was followed
 abbrev pub first_followed : State
@@ -75,7 +105,7 @@ first_followed = state_after_command first_end widen served_config
 -- ---- the second life
 
 abbrev pub t0 : State
-t0 = opened_state served_standing s8.logs
+t0 = opened_state served_standing first_end.logs
 
 abbrev pub t1 : State
 t1 = state_after_frame t0 (outgoing 9)

@@ -39,6 +39,8 @@ new-fits sectors image identity is = record {
     logs = refl;
     running = refl;
     idle = refl;
+    waiting = refl;
+    tickets = refl;
   });
 }
 

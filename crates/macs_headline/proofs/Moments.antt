@@ -12,7 +12,9 @@ use Rattle.macs_store.specs.Standing.{Standing}
 use Rattle.macs_store.specs.Value.{standing_in}
 use Rattle.macs_endpoint.specs.Calls.{IsCall}
 use Rattle.macs_endpoint.specs.Lives.{Lives, Turn, exchange_of}
-use Rattle.macs_endpoint.specs.State.{Call, Commands, Logs, Protects, Protected, Receives, Refills, State, no_logs, state_with_in_hand}
+use Rattle.macs_endpoint.specs.Restart.{state_taking_alone, state_taking_first}
+use Rattle.macs_endpoint.specs.State.{Advances, Call, Commands, Logs, Protects, Protected, Receives, Refills, State, Submits, no_logs, state_with_in_hand}
+use Rattle.macs_endpoint.specs.declared.queue.Waiting.{Waiting}
 use Rattle.macs_endpoint.specs.Value.{EndpointValue, IsSoundEndpoint, disk_in, state_of}
 use Rattle.macs_headline.specs.Binding.{FramesAreWrittenOnce, IsAtMoment, IsNewDisk, LivesAreMoments, LivesKeepCommands, LossesAreCuts}
 use Rattle.macs_headline.specs.Commands.{FindsPrefix}
@@ -138,14 +140,29 @@ in_hand_or : (b : Bool) (s t : State) (c : Command) → s.in_hand ≡ t.in_hand
 in_hand_or true s t c same = refl
 in_hand_or false s t c same = same
 
+alone_hand : {D : Type 0} (e : EndpointValue D) (logs : Logs) (c : Command) (waiting : List Waiting)
+    → (state_taking_alone (state_of e logs) c waiting).in_hand ≡ (state_taking_alone (state_of e no_logs) c waiting).in_hand
+alone_hand e logs c [] =
+    let s = state_of e logs in
+    in_hand_or (not s.stopped && is_ok (apply s.edition s.identity s.config c)) s (state_of e no_logs) c refl
+alone_hand e logs c (first ∷ rest) = refl
+
+first_hand : {D : Type 0} (e : EndpointValue D) (logs : Logs) (in_hand : Option Command) (waiting : List Waiting)
+    → (state_taking_first (state_of e logs) in_hand waiting).in_hand ≡ (state_taking_first (state_of e no_logs) in_hand waiting).in_hand
+first_hand e logs None [] = refl
+first_hand e logs None (first ∷ rest) =
+    let s = state_of e logs in
+    in_hand_or (not s.stopped && is_ok (apply s.edition s.identity s.config first.command)) s (state_of e no_logs) first.command refl
+first_hand e logs (Some c) waiting = refl
+
 -- it does not depend on the logs
 in_hand_at_end : {D : Type 0} (e : EndpointValue D) (logs : Logs) (cut : Option Call)
     → (state_at_end (state_of e logs) cut).in_hand ≡ (state_at_end (state_of e no_logs) cut).in_hand
 in_hand_at_end e logs None = refl
-in_hand_at_end e logs (Some (Commands c)) =
-    let s = state_of e logs in
-    in_hand_or (not s.stopped && is_ok (apply s.edition s.identity s.config c)) s (state_of e no_logs) c refl
+in_hand_at_end e logs (Some (Commands c)) = alone_hand e logs c e.waiting
 in_hand_at_end e logs (Some Refills) = refl
+in_hand_at_end e logs (Some (Submits c)) = refl
+in_hand_at_end e logs (Some Advances) = first_hand e logs e.in_hand e.waiting
 in_hand_at_end e logs (Some (Protects plain)) = refl
 in_hand_at_end e logs (Some (Receives frame)) = refl
 

@@ -1,4 +1,4 @@
--- Next packet numbers stay within 1 and 2^32, and a command in hand in its ranges.
+-- Next packet numbers stay within 1 and 2^32, and commands in hand and those that wait in their ranges.
 use Rattle.std.proofs.Common.{◌≡◌, ◌<◌, ◌≤◌, ◌+◌, ◌^◌, ◌==◌, inl, inr, ℕ, refl, sym, ◌∙◌, ap, subst, arith, List, [], ◌∷◌, Bool, true, false, cond, Result, Ok, Err}
 use Rattle.std.specs.Prelude.{Option, Some, None, IfSome, not, ◌&&◌, is_ok}
 use Rattle.std.specs.List.{AllByRecursion}
@@ -14,17 +14,25 @@ use Rattle.macs_txsc.specs.Transmit.{is_used_up, next_outgoing, tx_faults}
 use Rattle.macs_rxsc.specs.declared.verdict.Verdict.{Verdict}
 use Rattle.macs_store.specs.Found.{StandingIs}
 use Rattle.macs_store.specs.Standing.{Standing}
-use Rattle.macs_store.specs.declared.fault.CommitFault.{CommitFault}
-use Rattle.macs_store.specs.declared.fault.CommitFault.TheVariants as commit
 use Rattle.macs_endpoint.specs.Calls.{IsInRange}
+use Rattle.macs_endpoint.specs.Queue.{with_waiting}
+use Rattle.macs_endpoint.specs.declared.fault.CommandFault.{CommandFault}
+use Rattle.macs_endpoint.specs.declared.fault.CommandFault.TheVariants as ran
 use Rattle.macs_endpoint.specs.declared.fault.ProtectFault.{ProtectFault}
 use Rattle.macs_endpoint.specs.declared.fault.ProtectFault.TheVariants as protect
 use Rattle.macs_endpoint.specs.declared.fault.RefillFault.{RefillFault}
 use Rattle.macs_endpoint.specs.declared.fault.RefillFault.TheVariants as refill
+use Rattle.macs_endpoint.specs.declared.fault.StepFault.{StepFault}
+use Rattle.macs_endpoint.specs.declared.fault.StepFault.TheVariants as advance
 use Rattle.macs_endpoint.specs.declared.fault.Stopped.{Stopped}
-use Rattle.macs_endpoint.specs.Restart.{Restart, Resumes, TxRises, opened_state}
-use Rattle.macs_endpoint.specs.State.{Call, Commands, Protects, Protected, Ran, Received, Receives, Refilled, Refills, Reply, State, no_logs, state_with_in_hand, tx_side}
-use Rattle.macs_endpoint.specs.Step.{CommandStep, Exchange, Makes, ProtectStep, ReceiveStep, RefillStep, RunningStep, Step, Steps, next_after}
+use Rattle.macs_endpoint.specs.declared.fault.SubmitFault.{SubmitFault}
+use Rattle.macs_endpoint.specs.declared.fault.SubmitFault.TheVariants as submit
+use Rattle.macs_endpoint.specs.declared.progress.Step.{Step as Progress}
+use Rattle.macs_endpoint.specs.declared.progress.Step.TheVariants.{Done, Worked}
+use Rattle.macs_endpoint.specs.declared.queue.Waiting.{Waiting}
+use Rattle.macs_endpoint.specs.Restart.{Restart, Resumes, TxRises, opened_state, state_taking, state_taking_alone, state_taking_first}
+use Rattle.macs_endpoint.specs.State.{Advanced, Advances, Call, Commands, Protects, Protected, Ran, Received, Receives, Refilled, Refills, Reply, State, Submits, Submitted, no_logs, state_with_in_hand, tx_side}
+use Rattle.macs_endpoint.specs.Step.{AdvanceStep, CommandStep, Ends, Exchange, Makes, ProtectStep, ReceiveStep, RefillStep, RunningStep, Step, Steps, SubmitStep, TakesUp, next_after, state_without_first}
 use Rattle.macs_headline.specs.Frames.{FramesAreStandard, IsStandardFrame}
 use Rattle.macs_headline.specs.History.{Blank, FitsPast, FormatLeads, Formats, Formatted, IsLifeSoFar, LeadOn, Leads, Life, Past, Refuses, Serves, formatted_state, logs_of, state_at_end}
 use Rattle.macs_headline.proofs.Ledger.{some_one}
@@ -38,11 +46,16 @@ use Rattle.macs_headline.proofs.Histories.{fits-restart, found-new}
 abbrev IsNext : ℕ → Type 0
 IsNext m = (1 ≤ m) × (m ≤ 2 ^ 32)
 
--- a state of a program of this edition, with numbers and a command in their ranges
+-- each command that waits is in its ranges
+abbrev AreCommands : Edition → List Waiting → Type 0
+AreCommands edition waiting = AllByRecursion (λ (w : Waiting). IsCommand edition w.command) waiting
+
+-- a state of a program of this edition, with numbers and commands in their ranges
 pub record IsRanged (edition : Edition) (s : State) : Type 0 where
   pub same : s.edition ≡ edition
   pub nexts : (an m : ℕ) → s.next an ≡ Some m → IsNext m
   pub hand : (c : Command) → s.in_hand ≡ Some c → IsCommand edition c
+  pub queue : AreCommands edition s.waiting
 
 none_some : {X : Type 0} (o : Option X) (x : X) → o ≡ None → o ≡ Some x → ⊥
 none_some o x is js = absurd (cc)
@@ -80,29 +93,89 @@ module _ (edition : Edition) where
         same = ranged.same;
         nexts = nexts_after old.edition old.identity old.config c old.next edition command a.0 ranged.nexts;
         hand = λ d is. absurd (none_some None d refl is);
+        queue = ranged.queue;
       })
 
   stopped_range : (old new : State) → new ≡ record old { stopped = true } → IsRanged edition old → IsRanged edition new
-  stopped_range old new is ranged = subst (IsRanged edition) (sym is) (record { same = ranged.same; nexts = ranged.nexts; hand = ranged.hand })
+  stopped_range old new is ranged = subst (IsRanged edition) (sym is) (record { same = ranged.same; nexts = ranged.nexts; hand = ranged.hand; queue = ranged.queue })
 
   hand_range : (s : State) (c : Command) → IsCommand edition c → IsRanged edition s → IsRanged edition (state_with_in_hand s c)
   hand_range s c command ranged = record {
     same = ranged.same;
     nexts = ranged.nexts;
     hand = λ d is. subst (IsCommand edition) (let one : c ≡ d = cc in one) command;
+    queue = ranged.queue;
   }
 
-  by_command : (old : State) (c : Command) (result : Result (Unit {0}) CommitFault) (new : State) → IsCommand edition c → CommandStep old c result new
+  by_command : (old : State) (c : Command) (result : Result (Unit {0}) CommandFault) (new : State) → IsCommand edition c → CommandStep old c result new
       → IsRanged edition old → IsRanged edition new
-  by_command old c (Ok done) new command h ranged = makes_range old c new command h ranged
-  by_command old c (Err commit.Stopped) new command h ranged = absurd h
-  by_command old c (Err commit.Disk) new command h ranged = stopped_range (state_with_in_hand old c) new h.1 (hand_range old c command ranged)
-  by_command old c (Err fault) new command h ranged = same_range old new h.1 ranged
+  by_command old c (Ok done) new command (none, makes) ranged = makes_range old c new command makes ranged
+  by_command old c (Err ran.Stopped) new command h ranged = absurd h
+  by_command old c (Err ran.Disk) new command (none, accepts, is) ranged = stopped_range (state_with_in_hand old c) new is (hand_range old c command ranged)
+  by_command old c (Err ran.Busy) new command (some, is) ranged = same_range old new is ranged
+  by_command old c (Err fault) new command h ranged = same_range old new h.2 ranged
 
   by_refill : (old : State) (result : Result (Unit {0}) RefillFault) (new : State) → RefillStep old result new → IsRanged edition old → IsRanged edition new
+  by_refill old (Ok done) new (none, is) ranged = same_range old new is ranged
   by_refill old (Err refill.Stopped) new h ranged = absurd h
-  by_refill old (Err refill.Disk) new h ranged = stopped_range old new h ranged
-  by_refill old result new h ranged = same_range old new h ranged
+  by_refill old (Err refill.Disk) new (none, is) ranged = stopped_range old new is ranged
+  by_refill old (Err fault) new (none, is) ranged = same_range old new is ranged
+
+  -- one more that waits
+  more_commands : (waiting : List Waiting) (ticket : ℕ) (c : Command) → IsCommand edition c → AreCommands edition waiting
+      → AreCommands edition (with_waiting waiting ticket c)
+  more_commands [] ticket c command are = (command, tt)
+  more_commands (first ∷ rest) ticket c command are = (are.0, more_commands rest ticket c command are.1)
+
+  by_submit : (old : State) (c : Command) (result : Result ℕ SubmitFault) (new : State) → IsCommand edition c → SubmitStep old c result new
+      → IsRanged edition old → IsRanged edition new
+  by_submit old c (Ok ticket) new command (few, left, is_ticket, is) ranged =
+      subst (IsRanged edition) (sym is) (record {
+        same = ranged.same;
+        nexts = ranged.nexts;
+        hand = ranged.hand;
+        queue = more_commands old.waiting (old.tickets + 1) c command ranged.queue;
+      })
+  by_submit old c (Err submit.QueueFull) new command (many, is) ranged = same_range old new is ranged
+  by_submit old c (Err submit.TicketsSpent) new command (few, spent, is) ranged = same_range old new is ranged
+  by_submit old c (Err submit.Stopped) new command h ranged = absurd h
+
+  -- the first one that waits
+  first_command : (old : State) (first : Waiting) (rest : List Waiting) → old.waiting ≡ first ∷ rest → IsRanged edition old
+      → IsCommand edition first.command × AreCommands edition rest
+  first_command old first rest waiting ranged = subst (AreCommands edition) waiting ranged.queue
+
+  taken_up : (old new : State) → TakesUp old new → IsRanged edition old → IsRanged edition new
+  taken_up old new (first, rest, waiting, idle, accepts, is) ranged =
+      same_range (state_with_in_hand old first.command) new is
+      (hand_range old first.command (first_command old first rest waiting ranged).0 ranged)
+
+  -- it waits no more
+  without_first : (old : State) (rest : List Waiting) → AreCommands edition rest → IsRanged edition old → IsRanged edition (state_without_first old rest)
+  without_first old rest are ranged = record {
+    same = ranged.same;
+    nexts = ranged.nexts;
+    hand = λ d is. absurd (none_some None d refl is);
+    queue = are;
+  }
+
+  by_end : (old : State) (first : Waiting) (rest : List Waiting) (result : Result (Unit {0}) CommandFault) (new : State) → IsCommand edition first.command
+      → IsRanged edition (state_without_first old rest) → Ends old first rest result new → IsRanged edition new
+  by_end old first rest (Ok done) new command ranged makes = makes_range (state_without_first old rest) first.command new command makes ranged
+  by_end old first rest (Err (ran.Refused refusal)) new command ranged (idle, why, is) = same_range (state_without_first old rest) new is ranged
+  by_end old first rest (Err ran.GenerationsSpent) new command ranged (idle, accepts, is) = same_range (state_without_first old rest) new is ranged
+  by_end old first rest (Err fault) new command ranged h = absurd h
+
+  by_advance : (old : State) (result : Result Progress StepFault) (new : State) → AdvanceStep old result new → IsRanged edition old → IsRanged edition new
+  by_advance old (Ok Worked) new (inl is) ranged = same_range old new is ranged
+  by_advance old (Ok Worked) new (inr takes) ranged = taken_up old new takes ranged
+  by_advance old (Ok (Done ticket result)) new (first, rest, waiting, is_ticket, ends) ranged =
+      let queue = first_command old first rest waiting ranged in
+      by_end old first rest result new queue.0 (without_first old rest queue.1 ranged) ends
+  by_advance old (Err advance.Disk) new (inl is) ranged = stopped_range old new is ranged
+  by_advance old (Err advance.Disk) new (inr (mid, takes, is)) ranged = stopped_range mid new is (taken_up old mid takes ranged)
+  by_advance old (Err advance.Stopped) new h ranged = absurd h
+  by_advance old result new is ranged = same_range old new is ranged
 
   -- a frame that goes out
   goes_out : (old : State) (plain : List ℕ) (pn : ℕ) (out : List ℕ) (new : State) → ProtectStep old plain (Ok pn) out new → IsRanged edition old
@@ -137,6 +210,7 @@ module _ (edition : Edition) where
             | inr apart ↦ ranged.nexts an m (sym (put-that old.next o.an an (Some (o.pn + 1)) apart) ∙ is_m)
           ];
           hand = ranged.hand;
+          queue = ranged.queue;
         }),
       )
 
@@ -150,15 +224,17 @@ module _ (edition : Edition) where
       → IsRanged edition old → IsRanged edition new
   by_receive old frame (Ok verdict) out new (inl (step, is_first, is_verdict, is_out, is)) ranged = same_range old new is ranged
   by_receive old frame (Ok verdict) out new (inr (a, there, inl (is_verdict, above, is_out, is))) ranged =
-      subst (IsRanged edition) (sym is) (record { same = ranged.same; nexts = ranged.nexts; hand = ranged.hand })
+      subst (IsRanged edition) (sym is) (record { same = ranged.same; nexts = ranged.nexts; hand = ranged.hand; queue = ranged.queue })
   by_receive old frame (Ok verdict) out new (inr (a, there, inr (is_verdict, is_out, is))) ranged =
-      subst (IsRanged edition) (sym is) (record { same = ranged.same; nexts = ranged.nexts; hand = ranged.hand })
+      subst (IsRanged edition) (sym is) (record { same = ranged.same; nexts = ranged.nexts; hand = ranged.hand; queue = ranged.queue })
   by_receive old frame (Err stopped) out new h ranged = absurd h
 
   by_call : (old : State) (call : Call) (reply : Reply) (new : State) → IsInRange edition call → RunningStep old call reply new
       → IsRanged edition old → IsRanged edition new
   by_call old (Commands c) (Ran result) new given h ranged = by_command old c result new given h ranged
   by_call old Refills (Refilled result) new given h ranged = by_refill old result new h ranged
+  by_call old (Submits c) (Submitted result) new given h ranged = by_submit old c result new given h ranged
+  by_call old Advances (Advanced result) new given h ranged = by_advance old result new h ranged
   by_call old (Protects plain) (Protected result out) new given h ranged = by_protect old plain result out new h ranged
   by_call old (Receives frame) (Received result out) new given h ranged = by_receive old frame result out new h ranged
   by_call old call reply new given h ranged = absurd h
@@ -180,11 +256,26 @@ module _ (edition : Edition) where
   either_range true x y is other = is
   either_range false x y is other = other
 
+  taking_range : (s : State) (c : Command) → IsCommand edition c → IsRanged edition s → IsRanged edition (state_taking s c)
+  taking_range s c given ranged =
+      either_range (not s.stopped && is_ok (apply s.edition s.identity s.config c)) (state_with_in_hand s c) s (hand_range s c given ranged) ranged
+
+  alone_range : (s : State) (c : Command) (waiting : List Waiting) → IsCommand edition c → IsRanged edition s → IsRanged edition (state_taking_alone s c waiting)
+  alone_range s c [] given ranged = taking_range s c given ranged
+  alone_range s c (first ∷ rest) given ranged = ranged
+
+  first_range : (s : State) (in_hand : Option Command) (waiting : List Waiting) → AreCommands edition waiting → IsRanged edition s
+      → IsRanged edition (state_taking_first s in_hand waiting)
+  first_range s None [] are ranged = ranged
+  first_range s None (first ∷ rest) are ranged = taking_range s first.command are.0 ranged
+  first_range s (Some c) waiting are ranged = ranged
+
   end_range : (s : State) (cut : Option Call) → IfSome cut (λ call. IsInRange edition call) → IsRanged edition s → IsRanged edition (state_at_end s cut)
   end_range s None given ranged = ranged
-  end_range s (Some (Commands c)) given ranged =
-      either_range (not s.stopped && is_ok (apply s.edition s.identity s.config c)) (state_with_in_hand s c) s (hand_range s c given ranged) ranged
+  end_range s (Some (Commands c)) given ranged = alone_range s c s.waiting given ranged
   end_range s (Some Refills) given ranged = ranged
+  end_range s (Some (Submits c)) given ranged = ranged
+  end_range s (Some Advances) given ranged = first_range s s.in_hand s.waiting ranged.queue ranged
   end_range s (Some (Protects plain)) given ranged = ranged
   end_range s (Some (Receives frame)) given ranged = ranged
 
@@ -205,6 +296,7 @@ resumes_range edition old new up ranged = record {
   same = refl;
   nexts = λ an m is. rises_range old.identity.tx_block (old.next an) (new.next an) m (up.next an) (λ n is. ranged.nexts an n is) is;
   hand = λ c is. absurd (none_some new.in_hand c up.idle is);
+  queue = subst (AreCommands new.edition) (sym up.waiting) tt;
 }
 
 restart_range : (edition : Edition) (old new : State) → Restart old new → IsRanged edition old → IsRanged new.edition new
@@ -217,6 +309,7 @@ formatted_range edition identity = record {
   same = refl;
   nexts = λ an m is. absurd (none_some None m refl is);
   hand = λ c is. absurd (none_some None c refl is);
+  queue = tt;
 }
 
 -- ---- histories

@@ -1,5 +1,5 @@
 -- The headline on commands.
-use Rattle.std.specs.Prelude.{◌≡◌, ◌++◌, ℕ, List, [], ◌∷◌, flat_map, option_to_list, Option, Ok}
+use Rattle.std.specs.Prelude.{◌≡◌, ◌++◌, ℕ, List, [], ◌∷◌, drop, option_to_list, Option, Ok}
 use Rattle.macs_config.specs.Apply.{apply}
 use Rattle.macs_config.specs.Config.{Config, Edition}
 use Rattle.macs_config.specs.Identity.{Identity}
@@ -7,22 +7,38 @@ use Rattle.macs_config.specs.declared.command.Command.{Command}
 use Rattle.macs_disk.specs.States.{Image}
 use Rattle.macs_store.specs.Found.{StandingIs}
 use Rattle.macs_store.specs.Standing.{Standing}
+use Rattle.macs_endpoint.specs.Queue.{first_command, with_waiting}
 use Rattle.macs_endpoint.specs.Restart.{Fits}
-use Rattle.macs_endpoint.specs.State.{Call, Commands, Ran, Reply, State}
+use Rattle.macs_endpoint.specs.State.{Advanced, Advances, Call, Commands, Ran, Reply, State, Submits, Submitted}
 use Rattle.macs_endpoint.specs.Step.{Exchange}
+use Rattle.macs_endpoint.specs.declared.progress.Step.TheVariants.{Done}
+use Rattle.macs_endpoint.specs.declared.queue.Waiting.{Waiting}
 use Rattle.macs_headline.specs.History.{state_at_end}
 use Rattle.macs_headline.specs.Moments.{Moment}
 
 -- ---- the commands of a life
 
--- the command that this answer acknowledges, if it is one to a command
-abbrev pub acknowledged_by : Call → Reply → List Command
-acknowledged_by (Commands command) (Ran (Ok done)) = command ∷ []
-acknowledged_by call reply = []
+-- The command that this answer acknowledges, if it acknowledges one: it is that of the call, or the first of these that wait.
+abbrev pub acknowledged_by : List Waiting → Call → Reply → List Command
+acknowledged_by waiting (Commands command) (Ran (Ok done)) = command ∷ []
+acknowledged_by waiting Advances (Advanced (Ok (Done ticket (Ok done)))) = option_to_list (first_command waiting)
+acknowledged_by waiting call reply = []
 
--- those that were acknowledged, in their order
+-- the commands that wait after a call, behind these: one more, or one less
+abbrev pub waiting_after : List Waiting → Call → Reply → List Waiting
+waiting_after waiting (Submits command) (Submitted (Ok ticket)) = with_waiting waiting ticket command
+waiting_after waiting Advances (Advanced (Ok (Done ticket result))) = drop 1 waiting
+waiting_after waiting call reply = waiting
+
+-- those that were acknowledged while these waited at first, in their order
+abbrev pub acknowledged_from : List Waiting → List Exchange → List Command
+acknowledged_from waiting [] = []
+acknowledged_from waiting (e ∷ exchanges) =
+    acknowledged_by waiting e.call e.reply ++ acknowledged_from (waiting_after waiting e.call e.reply) exchanges
+
+-- those of a whole life, in which none waits at first
 abbrev pub acknowledged_commands : List Exchange → List Command
-acknowledged_commands exchanges = flat_map (λ (e : Exchange). acknowledged_by e.call e.reply) exchanges
+acknowledged_commands exchanges = acknowledged_from [] exchanges
 
 -- those whose work on the disk began: the acknowledged ones, and then the one that is in hand at the end of the life, if one is
 abbrev pub accepted_commands : List Exchange → (in_hand : Option Command) → List Command

@@ -10,8 +10,8 @@ use macs_endpoint::{Endpoint, OpenRefused, format};
 use macs_frame::FrameBuf;
 
 /// Formats a new disk, opens it, asks for two commands, as that an association is installed and that frames
-/// go out under it, gives a plain frame, and gives the disk back: that is its history, whatever the calls
-/// answered. A disk that is not opened is given back with its fault.
+/// go out under it, the second by steps, gives a plain frame between two steps, and gives the disk back: that
+/// is its history, whatever the calls answered. A disk that is not opened is given back with its fault.
 pub fn a_day<D: SectorDisk>(
     mut disk: D,
     identity: &Identity,
@@ -28,8 +28,12 @@ pub fn a_day<D: SectorDisk>(
     endpoint.facts();
     let _installed = endpoint.command(install);
     endpoint.facts();
-    let _selected = endpoint.command(select);
+    let _submitted = endpoint.submit(select);
+    endpoint.facts();
+    let _begun = endpoint.step();
     endpoint.facts();
     let _sent = endpoint.protect(plain, out);
+    endpoint.facts();
+    let _went_on = endpoint.step();
     Ok(endpoint.into_disk())
 }

@@ -11,10 +11,10 @@ use Rattle.macs_disk.specs.Disk.{Disk}
 use Rattle.macs_endpoint.specs.Calls.{IsCall}
 use Rattle.macs_endpoint.specs.State.{Commands, Ran}
 use Rattle.macs_endpoint.specs.Value.{EndpointValue}
-use Rattle.macs_journal.specs.declared.fault.JournalFault.{JournalFault}
 use Rattle.macsecd.specs.Applying.{Applies, AppliesAll, AppliesSome, EndsRun, answer_of, outcome_line, outcome_lines, outcomes_status}
-use Rattle.macsecd.specs.Failing.{failure_of_journal}
+use Rattle.macsecd.specs.declared.failure.DiskFault.{DiskFault}
 use Rattle.macsecd.specs.declared.failure.Failure.{Failure}
+use Rattle.macsecd.specs.declared.failure.Failure.TheVariants.{Disk as DiskFailure}
 use Rattle.macsecd.specs.declared.status.Status.{Status}
 use Rattle.macsecd.specs.declared.status.Status.TheVariants.{Refused, Done}
 
@@ -115,7 +115,7 @@ one-applied disk_of old between new commands i d command before known after stat
 pub some-applied : {D : Type 0} (disk_of : D → Disk) (old between new : EndpointValue D) (commands : List Command) (i : ℕ) (d command : Command)
     (before known after : Option (List ℕ)) (status : Status) (failure : Failure) → i < length commands → command ≡ get_or commands i d
     → AppliesAll disk_of old (take i commands) before known status between → EndsRun disk_of between command failure new
-    → ((fault : JournalFault) → failure ≡ failure_of_journal fault → after ≡ known)
+    → ((fault : DiskFault) → failure ≡ DiskFailure fault → after ≡ known)
     → AppliesSome disk_of old commands before after failure new
 some-applied disk_of old between new commands i d command before known after status failure within next so_far ended silent = record {
   done = take i commands;

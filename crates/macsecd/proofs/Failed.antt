@@ -23,6 +23,7 @@ fault-status (Pcap pcap.Write) is = cc
 fault-status (Pcap pcap.Memory) is = cc
 fault-status (Pcap pcap.TooManyRecords) is = cc
 fault-status (Device refill.Stopped) is = cc
+fault-status (Device refill.Busy) is = cc
 fault-status (Device refill.GenerationsSpent) is = cc
 fault-status (Device refill.Disk) is = cc
 

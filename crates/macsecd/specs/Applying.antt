@@ -14,12 +14,12 @@ use Rattle.macs_edge.specs.CommandFiles.{file_commands}
 use Rattle.macs_endpoint.specs.Calls.{IsCall}
 use Rattle.macs_endpoint.specs.State.{Commands, Ran}
 use Rattle.macs_endpoint.specs.Value.{EndpointValue}
-use Rattle.macs_journal.specs.declared.fault.JournalFault.{JournalFault}
+use Rattle.macs_endpoint.specs.declared.fault.CommandFault.{CommandFault}
+use Rattle.macs_endpoint.specs.declared.fault.CommandFault.TheVariants as ran
 use Rattle.macs_journal.specs.declared.fault.JournalFault.TheVariants as journal
-use Rattle.macs_store.specs.declared.fault.CommitFault.{CommitFault}
-use Rattle.macs_store.specs.declared.fault.CommitFault.TheVariants as commit
-use Rattle.macsecd.specs.Failing.{failure_of_journal}
 use Rattle.macsecd.specs.Showing.{line}
+use Rattle.macsecd.specs.declared.failure.DiskFault.{DiskFault}
+use Rattle.macsecd.specs.declared.failure.DiskFault.TheVariants as disk
 use Rattle.macsecd.specs.declared.failure.Failure.{Failure}
 use Rattle.macsecd.specs.declared.failure.Failure.TheVariants as failures
 use Rattle.macsecd.specs.declared.status.Status.{Status}
@@ -73,9 +73,9 @@ outcomes_status outcomes = if list_any is_some outcomes then ends.Refused else e
 -- ---- commands
 
 -- what the endpoint answers to a command that is kept or refused
-abbrev pub answer_of : Option Refusal → Result (Unit {0}) CommitFault
+abbrev pub answer_of : Option Refusal → Result (Unit {0}) CommandFault
 answer_of None = Ok tt
-answer_of (Some refusal) = Err (commit.Refused refusal)
+answer_of (Some refusal) = Err (ran.Refused refusal)
 
 -- these commands are given to the endpoint, one after another, and each is kept or refused
 abbrev pub Applies : {D : Type 0} → (D → Disk) → EndpointValue D → List Command → List (Option Refusal) → EndpointValue D → Type 0
@@ -86,17 +86,18 @@ Applies {D} disk_of old (command ∷ more) outcomes new =
     × Applies disk_of between more rest new
 
 -- the fault that a command meets in place of being kept or refused
-abbrev pub commit_fault : JournalFault → CommitFault → Type 0
-commit_fault fault commit.Stopped = fault ≡ journal.Stopped
-commit_fault fault commit.GenerationsSpent = fault ≡ journal.GenerationsSpent
-commit_fault fault commit.Disk = fault ≡ journal.Disk
-commit_fault fault (commit.Refused refusal) = ⊥
+abbrev pub commit_fault : DiskFault → CommandFault → Type 0
+commit_fault fault ran.Stopped = fault ≡ disk.Journal journal.Stopped
+commit_fault fault ran.Busy = fault ≡ disk.Busy
+commit_fault fault ran.GenerationsSpent = fault ≡ disk.Journal journal.GenerationsSpent
+commit_fault fault ran.Disk = fault ≡ disk.Journal journal.Disk
+commit_fault fault (ran.Refused refusal) = ⊥
 
 -- A command ends the run, behind so many that were kept or refused: a fault of the disk in its place, with no line; or its line cannot
 -- be written
 abbrev pub EndsRun : {D : Type 0} → (D → Disk) → EndpointValue D → Command → Failure → EndpointValue D → Type 0
 EndsRun disk_of old command failure new =
-    ((fault : JournalFault) × (answer : CommitFault) × commit_fault fault answer × (failure ≡ failure_of_journal fault)
+    ((fault : DiskFault) × (answer : CommandFault) × commit_fault fault answer × (failure ≡ failures.Disk fault)
     × IsCall disk_of old (Commands command) (Ran (Err answer)) new)
     ⊎ ((failure ≡ failures.Output)
     × (outcome : Option Refusal) × IsCall disk_of old (Commands command) (Ran (answer_of outcome)) new)
@@ -119,4 +120,4 @@ pub record AppliesSome {D : Type 0} (disk_of : D → Disk) (old : EndpointValue 
   pub between : EndpointValue D
   pub applied : Applies disk_of old done outcomes between
   pub ends : EndsRun disk_of between next failure new
-  pub printed : (fault : JournalFault) → failure ≡ failure_of_journal fault → Appends before after (outcome_lines 1 outcomes)
+  pub printed : (fault : DiskFault) → failure ≡ failures.Disk fault → Appends before after (outcome_lines 1 outcomes)

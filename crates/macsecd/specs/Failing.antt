@@ -48,6 +48,7 @@ failure_of_commands fault = failure.Commands
 
 abbrev pub failure_of_refill : RefillFault → Failure
 failure_of_refill refill.Stopped = failure_of_journal journal.Stopped
+failure_of_refill refill.Busy = failure.Disk disk.Busy
 failure_of_refill refill.GenerationsSpent = failure_of_journal journal.GenerationsSpent
 failure_of_refill refill.Disk = failure_of_journal journal.Disk
 
@@ -76,6 +77,7 @@ address_fault_text address.Peer2 = codes "PEER2 is not an address and a port"
 abbrev pub disk_fault_text : DiskFault → List ℕ
 disk_fault_text disk.File = codes "disk file"
 disk_fault_text disk.Length = codes "disk length"
+disk_fault_text disk.Busy = codes "busy"
 disk_fault_text (disk.Journal journal.Stopped) = codes "stopped"
 disk_fault_text (disk.Journal journal.TooSmall) = codes "too small"
 disk_fault_text (disk.Journal journal.Disk) = codes "disk"

@@ -24,7 +24,7 @@ pub record ComesTo (F : Type 0) (turns : ℕ) (summary : RelaySummary) : Type 0 
   pub common : WireState
   pub relayed : IsRelayed disk_in_file turns (relay_of old new_wire new_wire empty_lane empty_lane) (Ok summary) new controlled common
 
--- how a relay fails: with the fault of a refill; or all turns are taken, and its line cannot be written
+-- how a relay fails: with the fault that has the name of a step's; or all turns are taken, and its line cannot be written
 abbrev pub EndsRelay : {D : Type 0} → (D → Disk) → ℕ → Relay D → Failure → EndpointValue D → WireState → WireState → Type 0
 EndsRelay disk_of turns old failure endpoint controlled common =
     ((fault : RefillFault) × (failure ≡ failure_of_refill fault) × IsRelayed disk_of turns old (Err fault) endpoint controlled common)

@@ -10,13 +10,12 @@ ghost use Rattle.macs_config.specs.declared.refusal.Refusal.{Refusal};
 ghost use Rattle.macs_edge.specs.CommandFiles.{file_commands};
 ghost use Rattle.macs_endpoint.specs.Calls.{IsCall};
 ghost use Rattle.macs_endpoint.specs.State.{Commands, Ran};
-ghost use Rattle.macs_journal.specs.declared.fault.JournalFault.{JournalFault};
-ghost use Rattle.macs_store.specs.declared.fault.CommitFault.{CommitFault};
+ghost use Rattle.macs_endpoint.specs.declared.fault.CommandFault.{CommandFault};
 ghost use Rattle.macsecd.specs.Applying.{AppliesAll, AppliesSome, EndsRun, SaysCommands, answer_of, commit_fault};
 ghost use Rattle.macsecd.specs.Applying.{outcome_line, refusal_name};
-ghost use Rattle.macsecd.specs.Failing.{failure_of_journal};
+ghost use Rattle.macsecd.specs.declared.failure.DiskFault.{DiskFault};
 
-use crate::failure::Failure;
+use crate::failure::{DiskFault, Failure};
 use crate::output::{Line, print_octets};
 use crate::status::Status;
 use itoa::Buffer;
@@ -118,19 +117,22 @@ fn outcome_line(at: usize, outcome: Option<Refusal>) -> Line
 fn settle<D: SectorDisk>(
     endpoint: &mut Endpoint<D>,
     command: Command,
-) -> Result<Option<Refusal>, JournalFault>
+) -> Result<Option<Refusal>, DiskFault>
     ensures settled { IfOk result (λ outcome.
         IsCall D.disk endpoint.old (Commands command) (Ran (answer_of outcome)) endpoint.new) }
-    ensures failed { IfErr result (λ fault. (answer : CommitFault) × commit_fault fault answer
+    ensures failed { IfErr result (λ fault. (answer : CommandFault) × commit_fault fault answer
         × IsCall D.disk endpoint.old (Commands command) (Ran (Err answer)) endpoint.new) }
 {
     match endpoint.command(command) {
         Ok(()) => Ok(None),
         Err(fault) => match fault {
             CommandFault::Refused(refusal) => Ok(Some(refusal)),
-            CommandFault::Stopped => Err(JournalFault::Stopped),
-            CommandFault::GenerationsSpent => Err(JournalFault::GenerationsSpent),
-            CommandFault::Disk => Err(JournalFault::Disk),
+            CommandFault::Stopped => Err(DiskFault::Journal(JournalFault::Stopped)),
+            CommandFault::Busy => Err(DiskFault::Busy),
+            CommandFault::GenerationsSpent => {
+                Err(DiskFault::Journal(JournalFault::GenerationsSpent))
+            }
+            CommandFault::Disk => Err(DiskFault::Journal(JournalFault::Disk)),
         },
     }
 }
@@ -146,8 +148,7 @@ fn apply_command<D: SectorDisk, W: Write>(
         × IsCall D.disk endpoint.old (Commands command) (Ran (answer_of outcome)) endpoint.new
         × Appends (W.contents out.old) (W.contents out.new) (outcome_line at outcome)) }
     ensures ended { IfErr result (λ failure. EndsRun D.disk endpoint.old command failure endpoint.new) }
-    ensures silent { IfErr result (λ failure. (fault : JournalFault) → failure ≡ failure_of_journal fault
-        → out.new ≡ out.old) }
+    ensures silent { IfErr result (λ failure. (fault : DiskFault) → failure ≡ Failure.Disk fault → out.new ≡ out.old) }
 {
     let outcome = settle(endpoint, command)?;
     let line = outcome_line(at, outcome);

@@ -19,6 +19,8 @@ pub enum DiskFault {
     File,
     /// It is not a whole number of sectors of 512 octets.
     Length,
+    /// A submitted command waits: never, since the program submits none.
+    Busy,
     /// Something on it failed, or stands on it that is no journal.
     Journal(JournalFault),
 }
@@ -59,6 +61,7 @@ impl DiskFault {
         match self {
             DiskFault::File => "disk file",
             DiskFault::Length => "disk length",
+            DiskFault::Busy => "busy",
             DiskFault::Journal(JournalFault::Stopped) => "stopped",
             DiskFault::Journal(JournalFault::TooSmall) => "too small",
             DiskFault::Journal(JournalFault::Disk) => "disk",
@@ -167,6 +170,17 @@ impl From<InputFault> for Failure {
     }
 }
 
+impl From<DiskFault> for Failure {
+    ghost use Rattle.std.specs.Prelude.{◌≡◌};
+    ghost use Rattle.macsecd.specs.declared.failure.Failure.TheVariants.{Disk};
+
+    ghost from_gives = { λ fault failure. failure ≡ Disk fault };
+
+    fn from(fault: DiskFault) -> Failure {
+        Failure::Disk(fault)
+    }
+}
+
 impl From<FileFault> for Failure {
     ghost use Rattle.std.specs.Prelude.{◌≡◌};
     ghost use Rattle.macsecd.specs.Failing.{failure_of_file};
@@ -230,6 +244,7 @@ impl From<RefillFault> for Failure {
     fn from(fault: RefillFault) -> Failure {
         match fault {
             RefillFault::Stopped => JournalFault::Stopped.into(),
+            RefillFault::Busy => Failure::Disk(DiskFault::Busy),
             RefillFault::GenerationsSpent => JournalFault::GenerationsSpent.into(),
             RefillFault::Disk => JournalFault::Disk.into(),
         }

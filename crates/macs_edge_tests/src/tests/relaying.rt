@@ -104,31 +104,51 @@ fn has_plain<A: Allocator + Copy>(wire: &MemWire<A>, count: u8) -> bool {
     wire.sent().len() == usize::from(count)
 }
 
-/// Six plain frames, of which some wait for numbers, by blocks of several sizes.
+/// Six plain frames, of which some wait for numbers, by blocks of several sizes. A reservation takes the steps
+/// of four turns, from that of the frame on that finds the need: so by blocks of 1 every fourth turn sends a
+/// frame, and by blocks of 4 the fifth turn sends none.
 #[test]
 fn frames_are_protected(rt: HostRuntime) {
-    for block in [1, 4, 65_536] {
+    for (block, turns, sent, dropped) in [
+        (1, 4, 1_u32, 1),
+        (1, 5, 2, 0),
+        (1, 20, 5, 1),
+        (1, 21, 6, 0),
+        (4, 4, 4, 0),
+        (4, 5, 4, 1),
+        (4, 6, 5, 0),
+        (4, 7, 6, 0),
+        (65_536, 6, 6, 0),
+    ] {
         let mut endpoint = sending(&rt, formatted(&rt, rt.alloc(), LEFT, block));
         let mut controlled = MemWire::new(rt.alloc());
         let mut common = MemWire::new(rt.alloc());
         push_plain(&rt, rt.alloc(), &mut controlled, 6);
-        let answer = relayed(&mut endpoint, &mut controlled, &mut common, 20);
-        assert!(rt; answer == counted(6, 0, 0, 0), "blocks of {block}");
-        assert!(rt; has_numbers(&common, 6), "blocks of {block}");
+        let answer = relayed(&mut endpoint, &mut controlled, &mut common, turns);
+        assert!(rt;
+            answer == counted(u64::from(sent), 0, dropped, 0),
+            "blocks of {block}, {turns} turns"
+        );
+        assert!(rt;
+            has_numbers(&common, sent),
+            "blocks of {block}, {turns} turns"
+        );
         assert!(rt; controlled.sent().is_empty());
     }
 }
 
-/// What one endpoint sends the other one delivers, both ways at once: some frames are held back.
+/// What one endpoint sends the other one delivers, both ways at once: some frames are held back. Numbers to
+/// send under are reserved first: by blocks of 1 the steps of 32 turns are for the eight frames that are sent,
+/// and then each delivery takes five turns.
 #[test]
 fn frames_pass_both_ways(rt: HostRuntime) {
-    for block in [1, 4] {
+    for (block, one_way, both_ways) in [(1, 37, 82), (4, 12, 22)] {
         let mut left = joined(&rt, rt.alloc(), LEFT, RIGHT, block);
         let mut right = joined(&rt, rt.alloc(), RIGHT, LEFT, block);
         let mut inside = MemWire::new(rt.alloc());
         let mut between = MemWire::new(rt.alloc());
         push_plain(&rt, rt.alloc(), &mut inside, 10);
-        let answer = relayed(&mut left, &mut inside, &mut between, 30);
+        let answer = relayed(&mut left, &mut inside, &mut between, one_way);
         assert!(rt; answer == counted(10, 0, 0, 0), "blocks of {block}");
         let mut outside = MemWire::new(rt.alloc());
         let mut back = MemWire::new(rt.alloc());
@@ -136,14 +156,14 @@ fn frames_pass_both_ways(rt: HostRuntime) {
             assert!(rt; push(&mut back, sent(&between, place)) == Ok(()));
         }
         push_plain(&rt, rt.alloc(), &mut outside, 8);
-        let answer = relayed(&mut right, &mut outside, &mut back, 30);
+        let answer = relayed(&mut right, &mut outside, &mut back, both_ways);
         assert!(rt; answer == counted(8, 10, 0, 0), "blocks of {block}");
         assert!(rt; has_plain(&outside, 10), "blocks of {block}");
         assert!(rt; has_numbers(&back, 8), "blocks of {block}");
     }
 }
 
-/// A thousand frames in a burst, one of which is taken in each turn.
+/// A thousand frames in a burst, four of which are sent in five turns.
 #[test]
 fn a_burst_is_sent(rt: HostRuntime) {
     let mut endpoint = sending(&rt, formatted(&rt, rt.alloc(), LEFT, 4));
@@ -152,7 +172,7 @@ fn a_burst_is_sent(rt: HostRuntime) {
     for _ in 0..1_000_u32 {
         assert!(rt; push(&mut controlled, &[5; 60]) == Ok(()));
     }
-    let answer = relayed(&mut endpoint, &mut controlled, &mut common, 1_000);
+    let answer = relayed(&mut endpoint, &mut controlled, &mut common, 1_249);
     assert!(rt; answer == counted(1_000, 0, 0, 0));
     assert!(rt; has_numbers(&common, 1_000));
 }
@@ -196,17 +216,23 @@ fn each_turn_takes_a_frame_of_each_wire(rt: HostRuntime) {
     }
 }
 
-/// An endpoint that was opened again: it has no packet number until a refill, and begins at its ceiling.
+/// An endpoint that was opened again: it has no packet number until one is reserved, and begins at its ceiling.
 fn opened_again(rt: &impl Abort, alloc: Global) -> Endpoint<MemDisk> {
     let endpoint = sending(rt, formatted(rt, alloc, LEFT, 4));
     opened(rt, endpoint.into_disk())
 }
 
-/// A frame that waits for a packet number stays for the next turn, and the one behind it on its wire. Where
-/// there is no next turn it is dropped.
+/// A frame that waits for a packet number stays in its slot for the four steps of a reservation, and the one
+/// behind it on its wire. Where there is no turn behind them it is dropped.
 #[test]
 fn a_frame_waits_for_a_number(rt: HostRuntime) {
-    for (turns, sent, dropped, left) in [(1, 0, 1, 2), (2, 1, 0, 2), (3, 2, 0, 1), (4, 3, 0, 0)] {
+    for (turns, sent, dropped, left) in [
+        (1, 0, 1, 2),
+        (4, 0, 1, 2),
+        (5, 1, 0, 2),
+        (6, 2, 0, 1),
+        (7, 3, 0, 0),
+    ] {
         let mut endpoint = opened_again(&rt, rt.alloc());
         let mut controlled = MemWire::new(rt.alloc());
         let mut common = MemWire::new(rt.alloc());
@@ -221,10 +247,10 @@ fn a_frame_waits_for_a_number(rt: HostRuntime) {
     }
 }
 
-/// A frame that is held back is delivered in the turn behind a refill, once.
+/// A frame that is held back is delivered in the turn behind the four steps of a reservation, once.
 #[test]
 fn a_frame_is_held_back(rt: HostRuntime) {
-    for (turns, delivered, dropped) in [(1, 0, 1), (2, 1, 0), (3, 1, 1)] {
+    for (turns, delivered, dropped) in [(1, 0, 1), (4, 0, 1), (5, 1, 0), (6, 1, 1)] {
         let mut endpoint = receiving(&rt, formatted(&rt, rt.alloc(), LEFT, 4));
         let mut controlled = MemWire::new(rt.alloc());
         let mut common = MemWire::new(rt.alloc());
@@ -246,7 +272,7 @@ fn sent_in(rt: &impl Abort, alloc: Global, heap: &LocalHeap) -> u64 {
     let mut controlled = MemWire::new(alloc);
     let mut common = MemWire::new(heap);
     push_plain(rt, alloc, &mut controlled, 6);
-    let answer = relayed(&mut endpoint, &mut controlled, &mut common, 6);
+    let answer = relayed(&mut endpoint, &mut controlled, &mut common, 7);
     let sent = common.sent().len() as u64;
     assert!(rt; answer == counted(sent, 0, 0, 6_u64.saturating_sub(sent)));
     assert!(rt; endpoint.next_number(number_of(rt, 0)) == Some(7));
@@ -276,23 +302,23 @@ fn a_frame_that_is_not_sent_is_lost(rt: HostRuntime) {
     assert!(rt; most == 6);
 }
 
-/// A refill that fails ends a relay, and one of an endpoint that is stopped ends in its first turn. What was
-/// sent before is sent, and nothing after.
+/// The four calls of a reservation fail in turn: a step that fails ends a relay, and one of an endpoint that is
+/// stopped ends in its first turn. What was sent before is sent, and nothing after.
 #[test]
 fn a_device_fault_ends_it(rt: HostRuntime) {
-    let disk = Fuse::new(formatted(&rt, rt.alloc(), LEFT, 4), 268);
-    let mut endpoint = sending(&rt, disk);
-    let mut controlled = MemWire::new(rt.alloc());
-    let mut common = MemWire::new(rt.alloc());
-    push_plain(&rt, rt.alloc(), &mut controlled, 6);
-    let answer = relayed(&mut endpoint, &mut controlled, &mut common, 6);
-    assert!(rt; answer == Err(RefillFault::Disk));
-    let sent = u32::try_from(common.sent().len()).unwrap_or(0);
-    assert!(rt; 0 < sent && sent <= 4);
-    assert!(rt; has_numbers(&common, sent));
-    let answer = relayed(&mut endpoint, &mut controlled, &mut common, 6);
-    assert!(rt; answer == Err(RefillFault::Stopped));
-    let answer = relayed(&mut endpoint, &mut controlled, &mut common, 0);
-    assert!(rt; answer == counted(0, 0, 0, 0));
-    assert!(rt; has_numbers(&common, sent));
+    for (calls, sent) in [(268, 2), (269, 3), (270, 4), (271, 4)] {
+        let disk = Fuse::new(formatted(&rt, rt.alloc(), LEFT, 4), calls);
+        let mut endpoint = sending(&rt, disk);
+        let mut controlled = MemWire::new(rt.alloc());
+        let mut common = MemWire::new(rt.alloc());
+        push_plain(&rt, rt.alloc(), &mut controlled, 6);
+        let answer = relayed(&mut endpoint, &mut controlled, &mut common, 6);
+        assert!(rt; answer == Err(RefillFault::Disk), "{calls} calls");
+        assert!(rt; has_numbers(&common, sent), "{calls} calls");
+        let answer = relayed(&mut endpoint, &mut controlled, &mut common, 6);
+        assert!(rt; answer == Err(RefillFault::Stopped), "{calls} calls");
+        let answer = relayed(&mut endpoint, &mut controlled, &mut common, 0);
+        assert!(rt; answer == counted(0, 0, 0, 0), "{calls} calls");
+        assert!(rt; has_numbers(&common, sent), "{calls} calls");
+    }
 }

@@ -4,13 +4,13 @@ ghost use Rattle.std.specs.Prelude.{true};
 
 use super::frames::{PLAIN, copied};
 use super::steps::Step::{Commands, HasInHand};
-use super::steps::play;
+use super::steps::{Came, play, told_of};
 use super::{NO_TAG, OWN, formatted, fuse, made, number_of, opened, tx_install, window};
 use macs_config::Command;
 use macs_disk::SectorDisk;
 use macs_endpoint::{
     Answer, AnswerSink, CommandFault, Endpoint, Event, EventSource, ProtectFault, RefillFault,
-    ServeEnd, Stopped,
+    ServeEnd, StepFault, Stopped, SubmitFault, Ticket,
 };
 use macs_frame::Pn;
 use macs_rxsc::Verdict;
@@ -53,20 +53,24 @@ impl<R: Abort> AnswerSink for Answers<'_, R> {
     }
 }
 
-/// An answer, with the number of octets for a frame's.
+/// An answer, with a ticket's number, or the number of octets for a frame's.
 #[derive(Clone, Copy, PartialEq)]
 enum Told {
-    Ran(Result<(), CommandFault>),
+    Submitted(Result<u64, SubmitFault>),
+    Stepped(Result<Came, StepFault>),
     Protected(Result<u32, ProtectFault>, usize),
     Received(Result<Verdict, Stopped>, usize),
+    Ran(Result<(), CommandFault>),
     Refilled(Result<(), RefillFault>),
 }
 
 fn told_by(answer: &Answer) -> Told {
     match answer {
-        Answer::Ran(result) => Told::Ran(*result),
+        Answer::Submitted(result) => Told::Submitted(result.map(Ticket::get)),
+        Answer::Stepped(result) => Told::Stepped(result.map(told_of)),
         Answer::Protected(result, out) => Told::Protected(result.map(Pn::get), out.len()),
         Answer::Received(result, out) => Told::Received(*result, out.len()),
+        Answer::Ran(result) => Told::Ran(*result),
         Answer::Refilled(result) => Told::Refilled(*result),
     }
 }
@@ -75,12 +79,19 @@ fn add(rt: &impl Abort, events: &mut VecDeque<Event>, event: Event) {
     events.push_back(event).expect(rt, "memory");
 }
 
-/// An install, its use, a frame that goes out, one that comes and has no SecTAG, and work.
-fn five_events(rt: &impl Abort, alloc: Global) -> Script {
+/// A device call is made, and the work goes on.
+const WORKED: Told = Told::Stepped(Ok(Came::Worked));
+
+/// An install and its use, which are kept; a frame that goes out, one that comes and has no SecTAG, and
+/// work.
+fn some_events(rt: &impl Abort, alloc: Global) -> Script {
     let an = number_of(rt, 0);
     let mut events = VecDeque::new(alloc);
     add(rt, &mut events, Event::Operator(tx_install(an, 1, 1)));
     add(rt, &mut events, Event::Operator(Command::TxUse { an }));
+    for _ in 0..8 {
+        add(rt, &mut events, Event::Work);
+    }
     add(rt, &mut events, Event::Controlled(copied(rt, PLAIN)));
     add(rt, &mut events, Event::Common(copied(rt, PLAIN)));
     add(rt, &mut events, Event::Work);
@@ -88,12 +99,20 @@ fn five_events(rt: &impl Abort, alloc: Global) -> Script {
 }
 
 /// What is answered to them: a frame is longer by a SecTAG of 16 octets and an ICV of 16.
-const EXPECTED: [Told; 5] = [
-    Told::Ran(Ok(())),
-    Told::Ran(Ok(())),
+const EXPECTED: [Told; 13] = [
+    Told::Submitted(Ok(1)),
+    Told::Submitted(Ok(2)),
+    WORKED,
+    WORKED,
+    WORKED,
+    Told::Stepped(Ok(Came::Done(1, Ok(())))),
+    WORKED,
+    WORKED,
+    WORKED,
+    Told::Stepped(Ok(Came::Done(2, Ok(())))),
     Told::Protected(Ok(1), 94),
     Told::Received(Ok(NO_TAG), 0),
-    Told::Refilled(Ok(())),
+    Told::Stepped(Ok(Came::Idle)),
 ];
 
 /// Serves events in so many turns.
@@ -113,7 +132,7 @@ fn expect_told<R: Abort>(sink: &Answers<'_, R>, expected: &[Told]) {
     }
 }
 
-/// Serves the five events in so many turns, and expects these answers and this end. The source is
+/// Serves the events in so many turns, and expects these answers and this end. The source is
 /// asked so often.
 fn expect_served<D: SectorDisk>(
     rt: &impl Abort,
@@ -124,7 +143,7 @@ fn expect_served<D: SectorDisk>(
     end: ServeEnd,
     asked: u64,
 ) {
-    let mut source = five_events(rt, alloc);
+    let mut source = some_events(rt, alloc);
     let mut sink = Answers {
         rt,
         given: Vec::new(alloc),
@@ -138,10 +157,10 @@ fn expect_served<D: SectorDisk>(
 fn a_source_ends(rt: HostRuntime) {
     let mut endpoint = made(&rt, rt.alloc(), OWN);
     let end = ServeEnd::Ended;
-    expect_served(&rt, rt.alloc(), &mut endpoint, 9, &EXPECTED, end, 6);
+    expect_served(&rt, rt.alloc(), &mut endpoint, 20, &EXPECTED, end, 14);
 }
 
-/// A new endpoint serves so many of the five events.
+/// A new endpoint serves so many of the events.
 fn expect_turns(rt: &impl Abort, alloc: Global, turns: usize) {
     let mut endpoint = made(rt, alloc, OWN);
     let expected = first_told(rt, &EXPECTED, turns);
@@ -159,42 +178,52 @@ fn first_told<'a>(rt: &impl Abort, told: &'a [Told], count: usize) -> &'a [Told]
 
 #[test]
 fn turns_are_spent(rt: HostRuntime) {
-    for turns in 0..=5 {
+    for turns in 0..=13 {
         expect_turns(&rt, rt.alloc(), turns);
     }
 }
 
-/// The second command fails, on the last turn too.
+/// The second device call of the second command fails, on the last turn too.
 fn expect_halt(rt: &impl Abort, alloc: Global, turns: u64) {
     let an = number_of(rt, 0);
-    let expected = [Told::Ran(Ok(())), Told::Ran(Err(CommandFault::Disk))];
+    let mut expected = EXPECTED;
+    expected[7] = Told::Stepped(Err(StepFault::Disk));
+    let expected = first_told(rt, &expected, 8);
     let mut endpoint = opened(rt, fuse(formatted(rt, alloc, OWN), 5));
     let end = ServeEnd::Halted;
-    expect_served(rt, alloc, &mut endpoint, turns, &expected, end, 2);
+    expect_served(rt, alloc, &mut endpoint, turns, expected, end, 8);
     let in_hand = HasInHand(Some(Command::TxUse { an }));
     play(rt, &mut endpoint, &[in_hand]);
 }
 
 #[test]
 fn a_device_fault_halts(rt: HostRuntime) {
-    for turns in 2..=4 {
+    for turns in 8..=10 {
         expect_halt(&rt, rt.alloc(), turns);
     }
 }
 
-/// What a stopped endpoint answers to all but the first of the five events, after the next of which it
-/// halts each time.
+/// One event of each kind.
+fn each_event(rt: &impl Abort, alloc: Global) -> Script {
+    let mut events = VecDeque::new(alloc);
+    add(rt, &mut events, Event::Operator(window(3)));
+    add(rt, &mut events, Event::Controlled(copied(rt, PLAIN)));
+    add(rt, &mut events, Event::Common(copied(rt, PLAIN)));
+    add(rt, &mut events, Event::Work);
+    Script { events, asked: 0 }
+}
+
+/// What a stopped endpoint answers to them, after each of which it halts.
 const STOPPED: [Told; 4] = [
-    Told::Ran(Err(CommandFault::Stopped)),
+    Told::Submitted(Err(SubmitFault::Stopped)),
     Told::Protected(Err(ProtectFault::Stopped), 0),
     Told::Received(Err(Stopped), 0),
-    Told::Refilled(Err(RefillFault::Stopped)),
+    Told::Stepped(Err(StepFault::Stopped)),
 ];
 
 /// Halts after each of four events, whatever it is.
 fn expect_halts<D: SectorDisk>(rt: &impl Abort, alloc: Global, endpoint: &mut Endpoint<D>) {
-    let mut source = five_events(rt, alloc);
-    let _install = source.next_event();
+    let mut source = each_event(rt, alloc);
     let mut sink = Answers {
         rt,
         given: Vec::new(alloc),

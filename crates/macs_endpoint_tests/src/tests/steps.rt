@@ -4,11 +4,23 @@ use super::frames::{Frame, PEER, PLAIN, clear_octets, sevens};
 use super::{OK, OTHER, number_of, reopened};
 use macs_config::{Command, Config, Identity, Refusal, Replay, SciMode, Validate};
 use macs_disk::{MemDisk, SectorDisk};
-use macs_endpoint::{CommandFault, Counters, Endpoint, ProtectFault, RefillFault, Stopped};
+use macs_endpoint::{
+    CommandFault, Counters, Endpoint, ProtectFault, RefillFault, Step as Progress, StepFault,
+    Stopped, SubmitFault, Ticket,
+};
 use macs_frame::{An, FrameBuf, Pn, Sci};
 use macs_rxsc::{RxNumbers, Verdict};
 use macs_txsc::TxFault;
 use std::process::Abort;
+
+/// What a step came to, with a ticket's number.
+#[derive(Clone, Copy, PartialEq)]
+pub(super) enum Came {
+    Idle,
+    Worked,
+    Reserved,
+    Done(u64, Result<(), CommandFault>),
+}
 
 /// What an endpoint is asked for and what it answers, or what it has.
 #[derive(Clone, Copy)]
@@ -28,7 +40,17 @@ pub(super) enum Step {
     ReceivesUntagged(usize, Verdict),
     /// A frame of the peer with this number is held back, and is delivered after a reservation.
     HeldBack(u32),
-    /// There is time for work on the disk.
+    /// A command is to wait: the number of its ticket.
+    Submits(Command, Result<u64, SubmitFault>),
+    /// There is time for one device call.
+    Advances(Result<Came, StepFault>),
+    /// A command is to wait, and so many steps lead to its end: what becomes of it.
+    Keeps(Command, u64, Result<(), CommandFault>),
+    /// So many steps lead to one that finds nothing to do.
+    Rests(u64),
+    /// A frame of the peer with this number is held back, and is delivered after so many steps, behind which nothing is to do.
+    HeldBackFor(u32, u64),
+    /// There is time for reservations.
     Refills(Result<(), RefillFault>),
     /// The next number of a transmit association.
     HasNext(u8, Option<u64>),
@@ -61,6 +83,19 @@ pub(super) enum Step {
     CountsProtected(u64),
     /// How often a fault was answered.
     CountsFaults(TxFault, u64),
+}
+
+/// More steps than any piece of work takes.
+const MOST_STEPS: u64 = 700;
+
+/// A command is kept by a submission and four steps.
+pub(super) fn keeps_by_steps(command: Command) -> Step {
+    Step::Keeps(command, 4, Ok(()))
+}
+
+/// A command is refused at the first step.
+pub(super) fn refuses_at_a_step(command: Command, refusal: Refusal) -> Step {
+    Step::Keeps(command, 1, Err(CommandFault::Refused(refusal)))
 }
 
 /// A command is kept.
@@ -96,6 +131,31 @@ pub(super) fn arrives(number: u32, verdict: Verdict) -> Step {
 /// A frame has this verdict.
 pub(super) fn receives(frame: Frame, verdict: Verdict) -> Step {
     Step::Receives(frame, Ok(verdict))
+}
+
+/// A command is to wait under this ticket.
+pub(super) fn submits(command: Command, ticket: u64) -> Step {
+    Step::Submits(command, Ok(ticket))
+}
+
+/// Nothing is to be done.
+pub(super) fn idle() -> Step {
+    Step::Advances(Ok(Came::Idle))
+}
+
+/// A device call is made, and the work goes on.
+pub(super) fn works() -> Step {
+    Step::Advances(Ok(Came::Worked))
+}
+
+/// The last device call of a reservation is made.
+pub(super) fn reserves() -> Step {
+    Step::Advances(Ok(Came::Reserved))
+}
+
+/// The command of this ticket is done with.
+pub(super) fn ends(ticket: u64, answer: Result<(), CommandFault>) -> Step {
+    Step::Advances(Ok(Came::Done(ticket, answer)))
 }
 
 /// Nothing is wrong with the work on the disk.
@@ -148,6 +208,13 @@ fn take<D: SectorDisk>(rt: &impl Abort, endpoint: &mut Endpoint<D>, step: &Step)
             receive(rt, endpoint, frame, frame) == Ok(verdict)
         }
         Step::HeldBack(number) => receive_in_the_end(rt, endpoint, Frame::Peers { number }),
+        Step::Submits(command, answer) => submit(endpoint, command) == answer,
+        Step::Advances(answer) => advance(endpoint) == answer,
+        Step::Keeps(command, steps, answer) => keep(endpoint, command) == Some((steps, answer)),
+        Step::Rests(steps) => rest(endpoint) == Some(steps),
+        Step::HeldBackFor(number, steps) => {
+            receive_after_steps(rt, endpoint, Frame::Peers { number }, steps)
+        }
         Step::Refills(answer) => refill(endpoint) == answer,
         _ => has(rt, endpoint, step),
     }
@@ -224,6 +291,48 @@ fn command_answer<D: SectorDisk>(
     endpoint.command(command)
 }
 
+fn submit<D: SectorDisk>(endpoint: &mut Endpoint<D>, command: Command) -> Result<u64, SubmitFault> {
+    endpoint.submit(command).map(Ticket::get)
+}
+
+/// What a step says of itself.
+pub(super) fn told_of(progress: Progress) -> Came {
+    match progress {
+        Progress::Idle => Came::Idle,
+        Progress::Worked => Came::Worked,
+        Progress::Reserved => Came::Reserved,
+        Progress::Done(ticket, answer) => Came::Done(ticket.get(), answer),
+    }
+}
+
+fn advance<D: SectorDisk>(endpoint: &mut Endpoint<D>) -> Result<Came, StepFault> {
+    endpoint.step().map(told_of)
+}
+
+/// Submits a command and steps until it is done with: how many steps that took, and what became of it.
+fn keep<D: SectorDisk>(
+    endpoint: &mut Endpoint<D>,
+    command: Command,
+) -> Option<(u64, Result<(), CommandFault>)> {
+    let ticket = submit(endpoint, command).ok()?;
+    for steps in 1..MOST_STEPS {
+        if let Came::Done(done, answer) = advance(endpoint).ok()? {
+            return (done == ticket).then_some((steps, answer));
+        }
+    }
+    None
+}
+
+/// Steps until there is nothing to do: how many steps that took.
+fn rest<D: SectorDisk>(endpoint: &mut Endpoint<D>) -> Option<u64> {
+    for steps in 0..MOST_STEPS {
+        if advance(endpoint).ok()? == Came::Idle {
+            return Some(steps);
+        }
+    }
+    None
+}
+
 fn refill<D: SectorDisk>(endpoint: &mut Endpoint<D>) -> Result<(), RefillFault> {
     endpoint.refill()
 }
@@ -285,4 +394,17 @@ fn receive_in_the_end<D: SectorDisk>(
     let work = refill(endpoint);
     let after = receive_frame(rt, endpoint, frame);
     before == Ok(Verdict::HeldBack) && work.is_ok() && after == Ok(OK)
+}
+
+/// Whether a frame is held back, and is delivered after so many steps.
+fn receive_after_steps<D: SectorDisk>(
+    rt: &impl Abort,
+    endpoint: &mut Endpoint<D>,
+    frame: Frame,
+    steps: u64,
+) -> bool {
+    let before = receive_frame(rt, endpoint, frame);
+    let took = rest(endpoint);
+    let after = receive_frame(rt, endpoint, frame);
+    before == Ok(Verdict::HeldBack) && took == Some(steps) && after == Ok(OK)
 }

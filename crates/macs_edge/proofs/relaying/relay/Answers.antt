@@ -7,8 +7,8 @@ use Rattle.macs_edge.proofs.relaying.relay.Goals as goal
 pub loop-init : goal.loop-init
 loop-init g c = (omega arith, λ i. relay_of c.args.endpoint.now (g.P.Wire.state c.args.controlled.now) (g.C.Wire.state c.args.common.now) (c.new-to_common.ensures i) (c.new-to_controlled.ensures i))
 
-pub returns-in_err-refill : goal.returns-in_err-refill
-returns-in_err-refill g c =
+pub returns-in_err-step : goal.returns-in_err-step
+returns-in_err-step g c =
     let risen = err_from_is_err_and c.from_residual.result c.from_residual.ensures.1 in
     let between = relay_of c.loop.endpoint (g.P.Wire.state c.loop.controlled) (g.C.Wire.state c.loop.common) (lane_value c.loop.to_common) (lane_value c.loop.to_controlled) in
     rw (risen.1, risen.2) (
@@ -17,13 +17,15 @@ returns-in_err-refill g c =
       (
         c.loop.counter,
         between,
+        risen.1,
+        refl,
         c.loop-test.true,
         c.loop.invariant.1,
         (
           c.carry-in-loop.new.endpoint,
           (c.carry.new.endpoint, g.P.Wire.state c.carry.new.from, g.C.Wire.state c.carry.new.to, c.carry.ensures, c.carry-in-loop.ensures),
           c.facts.ensures,
-          c.in_err-refill.ensures.call,
+          c.in_err-step.ensures.call,
         ),
       ),
       tt,
@@ -33,11 +35,11 @@ pub loop-preserved : goal.loop-preserved
 loop-preserved g c =
     let between = relay_of c.loop.endpoint (g.P.Wire.state c.loop.controlled) (g.C.Wire.state c.loop.common) (lane_value c.loop.to_common) (lane_value c.loop.to_controlled) in (
       omega (arith, c.loop-test.true),
-      turns-more g.D.SectorDisk.disk c.loop.counter _ between _ c.loop.invariant.1 (
+      turns-more g.D.SectorDisk.disk c.loop.counter _ between _ c.in_ok-step.result c.loop.invariant.1 (
         c.carry-in-loop.new.endpoint,
         (c.carry.new.endpoint, g.P.Wire.state c.carry.new.from, g.C.Wire.state c.carry.new.to, c.carry.ensures, c.carry-in-loop.ensures),
         c.facts.ensures,
-        c.in_ok-refill.ensures.call,
+        c.in_ok-step.ensures.call,
       ),
     )
 

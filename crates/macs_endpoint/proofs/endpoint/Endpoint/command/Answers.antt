@@ -1,62 +1,46 @@
-use Rattle.std.proofs.Common.{◌≡◌, Some, Result, Ok, Err, sym, subst}
-use Rattle.macs_endpoint.specs.Calls.{IsCall}
-use Rattle.macs_endpoint.specs.Value.{EndpointValue}
-use Rattle.macs_endpoint.specs.State.{Commands, Ran}
-use Rattle.macs_store.specs.Keeps.{Commits}
-use Rattle.macs_store.specs.declared.fault.CommitFault.{CommitFault}
-use Rattle.macs_endpoint.proofs.Commanding.{cut-call, done-call, done-kept, refused-call}
-use Rattle.macs_endpoint.proofs.endpoint.Endpoint.command.Given.{Over}
-use Rattle.macs_endpoint.proofs.endpoint.Endpoint.command.Goals.{After-commit-outcome}
+use Rattle.std.proofs.Common.{◌≡◌, ◌∙◌, [], false, Err, sym, ap, subst}
+use Rattle.std.specs.Option.{option_map}
+use Rattle.macs_config.specs.Apply.{apply}
+use Rattle.macs_config.specs.Config.{this_edition}
+use Rattle.macs_config.specs.Value.{config_of}
+use Rattle.macs_store.specs.Value.{standing_in}
+use Rattle.macs_endpoint.specs.Keeping.{KeepsCommand}
+use Rattle.macs_endpoint.specs.Told.{raise_of}
+use Rattle.macs_endpoint.specs.Value.{EndpointValue, is_stopped}
+use Rattle.macs_endpoint.specs.declared.fault.CommandFault.TheVariants.{Refused}
+use Rattle.macs_endpoint.specs.declared.turn.Turn.TheVariants.{Reservation}
+use Rattle.macs_endpoint.proofs.Commanding.{busy-command, refused-by, refused-command, stopped-command}
+use Rattle.macs_endpoint.proofs.Ended.{not_stopped}
 use Rattle.macs_endpoint.proofs.endpoint.Endpoint.command.Goals as goal
 
-module _ (g : Over) (c : After-commit-outcome g) where
-  abbrev old : EndpointValue g.row.D.Denot
-  old = record {
-    store = c.self.inside.store;
-    tx = c.self.inside.channels.tx;
-    rx = c.self.inside.channels.rx;
-    in_hand = c.self.inside.in_hand;
-  }
+pub returns-then-is_stopped : goal.returns-then-is_stopped
+returns-then-is_stopped g c =
+    stopped-command g.D.SectorDisk.disk c.args.self.now c.args.command c.command_in_range.ensures (sym c.is_stopped.ensures ∙ c.if-is_stopped.true)
 
-  -- what the store says of it
-  commits : (result : Result (Unit {0}) CommitFault) → c.commit-outcome.result ≡ result
-      → Commits g.D.SectorDisk.disk c.self.inside.store c.args.command result c.commit-outcome.new.self
-  commits result is =
-      subst (λ (r : Result (Unit {0}) CommitFault). Commits g.D.SectorDisk.disk c.self.inside.store c.args.command r c.commit-outcome.new.self) is
-      c.commit-outcome.ensures
+pub returns-then-not-is_empty : goal.returns-then-not-is_empty
+returns-then-not-is_empty g c =
+    let waits : ¬ (c.args.self.now.waiting ≡ []) = λ none.
+    not_stopped c.is_empty.result (c.is_empty.ensures.1 (ap (λ (e : EndpointValue g.row.D.Denot). e.waiting) c.self.view_is ∙ none)) c.if-not-is_empty.true in
+    busy-command g.D.SectorDisk.disk c.args.self.now c.args.command c.command_in_range.ensures (sym c.is_stopped.ensures ∙ c.if-is_stopped.false) waits
 
-pub invariant_of-self : goal.invariant_of-self
-invariant_of-self g c =
-    let at = (goal.at.invariant_of-self g c).After-commit-outcome in
-    let followed = c.follow.ensures in
-    done-kept g.D.SectorDisk.disk (old g at) c.self.invariant c.args.command c.command_in_range.ensures c.commit-outcome.new.self
-    (commits g at (Ok tt) c.in-Ok.is) c.follow.new.self.tx c.follow.new.self.rx followed.channels followed.next followed.numbers
-
-pub returns-in-Ok-clause-call : goal.returns-in-Ok-clause-call
-returns-in-Ok-clause-call g c =
-    let at = (goal.at.returns-in-Ok-clause-call g c).After-commit-outcome in
-    let followed = c.follow.ensures in
-    rw (← c.self.view_is) (rw c.in-Ok.is (done-call g.D.SectorDisk.disk (old g at) c.self.invariant c.args.command c.command_in_range.ensures c.commit-outcome.new.self
-    (commits g at (Ok tt) c.in-Ok.is) c.follow.new.self.tx c.follow.new.self.rx followed.channels followed.next followed.numbers
-    followed.tx_counters followed.rx_counters followed.channel_counters))
-
-pub returns-in-Disk-clause-call : goal.returns-in-Disk-clause-call
-returns-in-Disk-clause-call g c =
-    let at = (goal.at.returns-in-Disk-clause-call g c).After-commit-outcome in
-    let cut : EndpointValue g.row.D.Denot = record {
-      store = c.commit-outcome.new.self;
+pub returns-in-Err : goal.returns-in-Err
+returns-in-Err g c =
+    let d = g.D.SectorDisk.disk in
+    let old : EndpointValue g.row.D.Denot = record {
+      store = c.self.inside.store;
       tx = c.self.inside.channels.tx;
       rx = c.self.inside.channels.rx;
-      in_hand = Some c.args.command;
+      in_hand = c.self.inside.in_hand;
+      reserving = option_map raise_of c.self.inside.reserving;
+      waiting = c.self.inside.queue.waiting;
+      tickets = c.self.inside.queue.given;
+      turn = c.self.inside.turn;
     } in
-    let call = cut-call g.D.SectorDisk.disk (old g at) c.self.invariant c.args.command c.command_in_range.ensures c.commit-outcome.new.self
-    (subst (λ (f : CommitFault). Commits g.D.SectorDisk.disk c.self.inside.store c.args.command (Err f) c.commit-outcome.new.self) c.in-Disk.is
-    (commits g at (Err c.in-Err.fault) c.in-Err.is)) in
-    rw (← c.self.view_is) (subst (λ (f : CommitFault). IsCall g.D.SectorDisk.disk (old g at) (Commands c.args.command) (Ran (Err f)) cut)
-    (sym c.in-Disk.is) call)
-
-pub returns-in_default-clause-call : goal.returns-in_default-clause-call
-returns-in_default-clause-call g c =
-    let at = (goal.at.returns-in_default-clause-call g c).After-commit-outcome in
-    rw (← c.self.view_is) (refused-call g.D.SectorDisk.disk (old g at) c.self.invariant c.args.command c.command_in_range.ensures
-    c.in-Err.fault c.commit-outcome.new.self c.in_default.not-Disk (commits g at (Err c.in-Err.fault) c.in-Err.is))
+    let refusal = c.in-Err.refusal in
+    let running : is_stopped old ≡ false =
+    ap (λ (e : EndpointValue g.row.D.Denot). is_stopped e) c.self.view_is ∙ sym c.is_stopped.ensures ∙ c.if-is_stopped.false in
+    let refused : apply this_edition (standing_in old.store).identity (standing_in old.store).config c.args.command ≡ Err refusal =
+    refused-by (standing_in old.store).identity c.config.result.now.identity (standing_in old.store).config (config_of c.config.result.now) c.args.command refusal
+    c.config.ensures.identity c.config.ensures.config ((c.check.ensures.refused refusal).0 c.in-Err.is) in
+    subst (λ (x : EndpointValue g.row.D.Denot). KeepsCommand d x c.args.command (Err (Refused refusal)) (record old { turn = Reservation })) c.self.view_is
+    (refused-command d old c.args.command c.command_in_range.ensures refusal running (c.is_empty.ensures.0 c.if-not-is_empty.false) refused)

@@ -1,4 +1,4 @@
-use Rattle.std.proofs.Common.{◌≡◌, ◌≢◌, ◌≤◌, ℕ, false, None, Result, Ok, Err, refl, sym, ◌∙◌, subst}
+use Rattle.std.proofs.Common.{◌≡◌, ◌≢◌, ◌≤◌, ℕ, [], false, None, Result, Ok, Err, refl, sym, ◌∙◌, subst}
 use Rattle.std.specs.Option.{option_map}
 use Rattle.macs_config.specs.Config.{this_edition}
 use Rattle.macs_disk.specs.Disk.{now}
@@ -18,7 +18,7 @@ use Rattle.macs_endpoint.specs.Value.{EndpointValue, is_stopped, state_of}
 use Rattle.macs_endpoint.specs.Opening.{Begins}
 use Rattle.macs_endpoint.specs.Restart.{Fits, opened_state}
 use Rattle.macs_endpoint.specs.State.{Logs, State}
-use Rattle.macs_endpoint.proofs.Fitting.{kept-backed}
+use Rattle.macs_endpoint.proofs.InHand.{kept-backed}
 use Rattle.macs_endpoint.proofs.endpoint.Endpoint.open.Goals as goal
 
 -- ---- a disk that fits a state is refused for the device alone
@@ -51,8 +51,8 @@ returns-in-Err g c =
 
 begins : {D : Type 0} (e : EndpointValue D) (logs : Logs) → (txsc.tx_side_of e.tx).next ≡ (standing_in e.store).ceilings.tx
     → (rxsc.rx_side_of e.rx).numbers ≡ (λ sci an. option_map first_numbers ((standing_in e.store).ceilings.rx sci an))
-    → is_stopped e ≡ false → e.in_hand ≡ None → state_of e logs ≡ opened_state (standing_in e.store) logs
-begins e logs next numbers running idle = λ i. record {
+    → is_stopped e ≡ false → e.in_hand ≡ None → e.waiting ≡ [] → e.tickets ≡ 0 → state_of e logs ≡ opened_state (standing_in e.store) logs
+begins e logs next numbers running idle none zero = λ i. record {
   edition = this_edition;
   identity = (standing_in e.store).identity;
   config = (standing_in e.store).config;
@@ -61,6 +61,8 @@ begins e logs next numbers running idle = λ i. record {
   logs = logs;
   stopped = running i;
   in_hand = idle i;
+  waiting = none i;
+  tickets = zero i;
 }
 
 pub returns-in-Ok : goal.returns-in-Ok
@@ -72,9 +74,11 @@ returns-in-Ok g c =
     let opened = subst (λ (s : StoreValue g.row.D.Denot). OpensStore d c.args.disk s) from c.in-Ok.ensures in
     record {
       device = opened.device;
-      state = λ logs. begins e logs is.next is.numbers opened.running is.idle;
+      state = λ logs. begins e logs is.next is.numbers opened.running is.idle.1 is.queue.0 is.queue.1;
+      idle = is.idle.0;
+      turn = is.turn;
       found = opened.found;
-      backed = λ honest. kept-backed d e is.sound (subst (λ (n : ℕ). least_sectors ≤ n) (sym opened.device.works.sectors) opened.device.large) (opened.stored honest);
+      backed = λ honest. kept-backed e is.sound d (subst (λ (n : ℕ). least_sectors ≤ n) (sym opened.device.works.sectors) opened.device.large) (opened.stored honest);
       tx_counters = is.tx_counters;
       rx_counters = is.rx_counters;
       channel_counters = is.channel_counters;

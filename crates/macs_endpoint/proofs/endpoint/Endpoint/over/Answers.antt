@@ -1,4 +1,4 @@
-use Rattle.std.proofs.Common.{◌≡◌, ℕ, List, Option, Some, None, refl, sym, ◌∙◌, ap, subst, arith, rules}
+use Rattle.std.proofs.Common.{◌≡◌, ◌≤◌, ℕ, List, length, inl, Option, Some, None, refl, sym, ◌∙◌, ap, subst, arith, rules}
 use Rattle.std.specs.Option.{option_map}
 use Rattle.macs_config.specs.Config.{Config}
 use Rattle.macs_config.specs.Identity.{IsIdentity}
@@ -11,10 +11,13 @@ use Rattle.macs_rxsc.specs.Value as rxsc
 use Rattle.macs_rxsc.proofs.Needs.{unnumbered}
 use Rattle.macs_store.specs.Value.{standing_in}
 use Rattle.macs_store.specs.Standing.{Standing}
-use Rattle.macs_endpoint.specs.Value.{IsRxWithin, IsSoundEndpoint, IsTxWithin}
+use Rattle.macs_endpoint.specs.Queue.{last_ticket, queue_length}
+use Rattle.macs_endpoint.specs.Value.{EndpointValue, IsAtRest, IsRxWithin, IsSoundEndpoint, IsTxWithin}
+use Rattle.macs_endpoint.specs.declared.queue.Waiting.{Waiting}
+use Rattle.macs_endpoint.specs.declared.turn.Turn.TheVariants.{Reservation}
 use Rattle.macs_endpoint.specs.State.{rx_side_with, tx_side_with}
 use Rattle.macs_endpoint.proofs.endpoint.Endpoint.over.Given.{Over}
-use Rattle.macs_endpoint.proofs.endpoint.Endpoint.over.Goals.{After-facts-2}
+use Rattle.macs_endpoint.proofs.endpoint.Endpoint.over.Goals.{After-new}
 use Rattle.macs_endpoint.proofs.endpoint.Endpoint.over.Goals as goal
 
 -- ---- numbers begin at their ceilings
@@ -33,7 +36,7 @@ rx_begins : (block : ℕ) (numbers : Option Numbers) (ceiling : Option ℕ) → 
 rx_begins block numbers ceiling same =
     subst (λ (n : Option Numbers). IsRxWithin block n ceiling) (sym same) (rx_started block ceiling)
 
-module _ (g : Over) (c : After-facts-2 g) where
+module _ (g : Over) (c : After-new g) where
   abbrev s : Standing
   s = standing_in c.args.store
 
@@ -49,40 +52,58 @@ module _ (g : Over) (c : After-facts-2 g) where
   numbers : (rxsc.rx_side_of rx).numbers ≡ (λ sci an. option_map first_numbers (s.ceilings.rx sci an))
   numbers = ap (λ side. side.numbers) c.opened-channels.ensures.rx
 
-  kept : IsSoundEndpoint {D = g.row.D.Denot} (record { store = c.args.store; tx = tx; rx = rx; in_hand = None })
+  abbrev opened : EndpointValue g.row.D.Denot
+  opened = record {
+    store = c.args.store;
+    tx = tx;
+    rx = rx;
+    in_hand = None;
+    reserving = None;
+    waiting = c.new.result.waiting;
+    tickets = c.new.result.given;
+    turn = Reservation;
+  }
+
+  rests : IsAtRest opened
+  rests = record { store = c.requires; reserving = refl; in_hand = λ running. refl }
+
+  kept : IsSoundEndpoint opened
   kept =
-      let opened = c.opened-channels.ensures in
+      let made = c.opened-channels.ensures in
       record {
         identity = subst IsIdentity c.identity.ensures c.identity_in_range.ensures;
         channels = record {
-          tx_is = opened.tx ∙ ap (λ (n : ℕ → Option ℕ). tx_side_with s.identity s.config n) (sym next);
-          rx_is = opened.rx ∙ ap (λ (n : List ℕ → ℕ → Option Numbers). rx_side_with s.config n) (sym numbers);
-          tx_ceilings = opened.tx_ceilings;
-          rx_ceilings = opened.rx_ceilings;
+          tx_is = made.tx ∙ ap (λ (n : ℕ → Option ℕ). tx_side_with s.identity s.config n) (sym next);
+          rx_is = made.rx ∙ ap (λ (n : List ℕ → ℕ → Option Numbers). rx_side_with s.config n) (sym numbers);
+          tx_ceilings = made.tx_ceilings;
+          rx_ceilings = made.rx_ceilings;
         };
         within = record {
           tx_within = λ an. tx_begins s.identity.tx_block ((txsc.tx_side_of tx).next an) (txsc.ceilings_of tx an)
-              (λ i. (next ∙ sym opened.tx_ceilings) i an) (c.facts.ensures an).0;
+              (λ i. (next ∙ sym made.tx_ceilings) i an) (c.facts.ensures an).0;
           rx_within = λ sci an. rx_begins s.identity.rx_block ((rxsc.rx_side_of rx).numbers sci an) (rxsc.ceilings_of rx sci an)
-              ((λ i. numbers i sci an) ∙ (λ i. option_map first_numbers (sym opened.rx_ceilings i sci an)));
+              ((λ i. numbers i sci an) ∙ (λ i. option_map first_numbers (sym made.rx_ceilings i sci an)));
           few = λ sci an over. unnumbered (association_in (channel_at rx.channels sci) an)
-              ((λ i. (opened.rx i).rx sci an)
+              ((λ i. (made.rx i).rx sci an)
               ∙ subst (λ (k : Config). k.rx sci an ≡ None) c.config.ensures.config (c.facts-2.ensures.rx_numbers sci an over));
         };
-        rest = c.requires;
-        idle = λ running. refl;
+        few = subst (λ (w : List Waiting). length w ≤ queue_length) (sym c.new.ensures.waiting) (omega arith);
+        tickets = subst (λ (n : ℕ). n ≤ last_ticket) (sym c.new.ensures.given) (omega arith);
+        work = inl rests;
       }
 
 pub invariant_of-result : goal.invariant_of-result
-invariant_of-result g c = kept g (goal.at.invariant_of-result g c).After-facts-2
+invariant_of-result g c = kept g (goal.at.invariant_of-result g c).After-new
 
 pub returns : goal.returns
 returns g c =
-    let at = (goal.at.returns g c).After-facts-2 in
+    let at = (goal.at.returns g c).After-new in
     record {
       from = refl;
       sound = kept g at;
-      idle = refl;
+      idle = (rests g at, refl);
+      queue = (c.new.ensures.waiting, c.new.ensures.given);
+      turn = refl;
       next = next g at;
       numbers = numbers g at;
       tx_counters = search rules;

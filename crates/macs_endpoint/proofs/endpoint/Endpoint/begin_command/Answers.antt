@@ -1,0 +1,42 @@
+use Rattle.std.proofs.Common.{◌≡◌, ◌∙◌, Result, Ok, Err, sym, ap, subst}
+use Rattle.macs_store.specs.declared.fault.CommitFault.{CommitFault}
+use Rattle.macs_endpoint.specs.Keeping.{StartsFirst}
+use Rattle.macs_endpoint.specs.Needed.{raise_in}
+use Rattle.macs_endpoint.specs.Queue.{first_waiting}
+use Rattle.macs_endpoint.specs.Value.{EndpointValue, IsSoundEndpoint}
+use Rattle.macs_endpoint.proofs.Taken.{takes-first}
+use Rattle.macs_endpoint.proofs.TakenUp.{front-is, keep-begins, refused-ends}
+use Rattle.macs_endpoint.proofs.endpoint.Endpoint.begin_command.Given.{Over}
+use Rattle.macs_endpoint.proofs.endpoint.Endpoint.begin_command.Goals.{After-start_first}
+use Rattle.macs_endpoint.proofs.endpoint.Endpoint.begin_command.Goals as goal
+
+-- what is said of its start
+starts : (g : Over) (c : After-start_first g) (result : Result (Unit {0}) CommitFault) → c.start_first.result ≡ result
+    → StartsFirst g.D.SectorDisk.disk c.args.self.now c.args.first result c.start_first.new.self
+starts g c result is =
+    subst (λ (r : Result (Unit {0}) CommitFault). StartsFirst g.D.SectorDisk.disk c.args.self.now c.args.first r c.start_first.new.self) is c.start_first.ensures
+
+pub returns-in-Err : goal.returns-in-Err
+returns-in-Err g c =
+    let at = (goal.at.returns-in-Err g c).After-start_first in
+    let d = g.D.SectorDisk.disk in
+    let e = c.args.self.now in
+    let refused = starts g at (Err c.in-Err.fault) c.in-Err.is in
+    let same = c.self.view_is ∙ refused.same in
+    let waits = takes-first e.turn (raise_in e) (first_waiting e.waiting) c.args.first c.requires.next in
+    let others = c.pop.new.self.waiting in
+    let popped = front-is e.waiting c.pop.result c.args.first others
+    (ap (λ (x : EndpointValue g.row.D.Denot). x.waiting) (sym same) ∙ c.pop.ensures.waiting) waits in
+    refused-ends d e (subst (λ (x : EndpointValue g.row.D.Denot). IsSoundEndpoint x) same c.self.invariant) c.requires.running c.requires.idle
+    c.args.first c.command_in_range.ensures waits others popped c.in-Err.fault c.start_first.new.self.store refused.starts c.requires.next
+    c.from.result c.from.ensures _ same c.pop.new.self.given c.pop.ensures.given
+
+pub returns : goal.returns
+returns g c =
+    let at = (goal.at.returns g c).After-start_first in
+    let e = c.args.self.now in
+    let made = starts g at (Ok tt) c.in_default.is in
+    let has = made.starts.in_hand in
+    keep-begins g.D.SectorDisk.disk e made.kept c.requires.running c.requires.idle c.args.first c.command_in_range.ensures
+    (takes-first e.turn (raise_in e) (first_waiting e.waiting) c.args.first c.requires.next) c.start_first.new.self.store has.0 has.1 has.2
+    c.start_first.new.self c.go_on_keeping.new.self c.go_on_keeping.result made.taken c.requires.next c.go_on_keeping.ensures

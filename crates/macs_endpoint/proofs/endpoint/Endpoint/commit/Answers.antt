@@ -1,0 +1,73 @@
+use Rattle.std.proofs.Common.{◌≡◌, ◌∙◌, [], false, Result, Ok, Err, IsOk, sym, ap, subst}
+use Rattle.std.specs.Option.{option_map}
+use Rattle.macs_store.specs.Keeps.{Commits}
+use Rattle.macs_store.specs.Standing.{accept}
+use Rattle.macs_store.specs.Value.{IsIdle, standing_in}
+use Rattle.macs_store.specs.declared.fault.CommitFault.{CommitFault}
+use Rattle.macs_store.specs.declared.fault.CommitFault.TheVariants as commit
+use Rattle.macs_endpoint.specs.Told.{raise_of}
+use Rattle.macs_endpoint.specs.Value.{EndpointValue, is_stopped}
+use Rattle.macs_endpoint.proofs.Commanding.{cut-command, done-command, done-kept, spent-command, spent_only}
+use Rattle.macs_endpoint.proofs.endpoint.Endpoint.commit.Given.{Over}
+use Rattle.macs_endpoint.proofs.endpoint.Endpoint.commit.Goals.{After-commit}
+use Rattle.macs_endpoint.proofs.endpoint.Endpoint.commit.Goals as goal
+
+module _ (g : Over) (c : After-commit g) where
+  abbrev old : EndpointValue g.row.D.Denot
+  old = record {
+    store = c.self.inside.store;
+    tx = c.self.inside.channels.tx;
+    rx = c.self.inside.channels.rx;
+    in_hand = c.self.inside.in_hand;
+    reserving = option_map raise_of c.self.inside.reserving;
+    waiting = c.self.inside.queue.waiting;
+    tickets = c.self.inside.queue.given;
+    turn = c.self.inside.turn;
+  }
+
+  running : is_stopped old ≡ false
+  running = rw (← c.self.view_is) at c.requires.running
+
+  idle : IsIdle old.store
+  idle = rw (← c.self.view_is) at c.requires.idle
+
+  none : old.waiting ≡ []
+  none = rw (← c.self.view_is) at c.requires.none
+
+  accepted : IsOk (accept (standing_in old.store) c.args.command)
+  accepted = subst (λ (e : EndpointValue g.row.D.Denot). IsOk (accept (standing_in e.store) c.args.command)) (sym c.self.view_is) c.requires.accepted
+
+  commits : (result : Result (Unit {0}) CommitFault) → c.commit.result ≡ result
+      → Commits g.D.SectorDisk.disk c.self.inside.store c.args.command result c.commit.new.self
+  commits result is =
+      subst (λ (r : Result (Unit {0}) CommitFault). Commits g.D.SectorDisk.disk c.self.inside.store c.args.command r c.commit.new.self) is c.commit.ensures
+
+pub invariant_of-self : goal.invariant_of-self
+invariant_of-self g c =
+    let at = (goal.at.invariant_of-self g c).After-commit in
+    let followed = c.follow.ensures in
+    done-kept g.D.SectorDisk.disk (old g at) c.self.invariant c.args.command c.command_in_range.ensures (running g at) (idle g at) (none g at) (accepted g at)
+    c.commit.new.self (commits g at (Ok tt) c.in-Ok.is) c.follow.new.self.tx c.follow.new.self.rx followed.channels followed.next followed.numbers
+
+pub returns-in-Ok : goal.returns-in-Ok
+returns-in-Ok g c =
+    let at = (goal.at.returns-in-Ok g c).After-commit in
+    let followed = c.follow.ensures in
+    rw (← c.self.view_is) (done-command g.D.SectorDisk.disk (old g at) c.self.invariant c.args.command c.command_in_range.ensures (running g at) (idle g at) (none g at) (accepted g at)
+    c.commit.new.self (commits g at (Ok tt) c.in-Ok.is) c.follow.new.self.tx c.follow.new.self.rx followed.channels followed.next followed.numbers
+    followed.tx_counters followed.rx_counters followed.channel_counters)
+
+pub returns-in-Disk : goal.returns-in-Disk
+returns-in-Disk g c =
+    let at = (goal.at.returns-in-Disk g c).After-commit in
+    rw (← c.self.view_is) (cut-command g.D.SectorDisk.disk (old g at) c.self.invariant c.args.command c.command_in_range.ensures (running g at) (idle g at) (none g at) (accepted g at)
+    c.commit.new.self (commits g at (Err commit.Disk) (c.in-Err.is ∙ ap Err c.in-Disk.is)))
+
+pub returns-in_default : goal.returns-in_default
+returns-in_default g c =
+    let at = (goal.at.returns-in_default g c).After-commit in
+    let d = g.D.SectorDisk.disk in
+    let only = spent_only d (old g at) c.self.invariant c.args.command c.command_in_range.ensures (running g at) (idle g at) (none g at) (accepted g at)
+    c.in-Err.fault c.commit.new.self c.in_default.not-Disk (commits g at (Err c.in-Err.fault) c.in-Err.is) in
+    rw (← c.self.view_is) (spent-command d (old g at) c.self.invariant c.args.command c.command_in_range.ensures (running g at) (idle g at) (none g at) (accepted g at)
+    c.commit.new.self (commits g at (Err commit.GenerationsSpent) (c.in-Err.is ∙ ap Err only)))

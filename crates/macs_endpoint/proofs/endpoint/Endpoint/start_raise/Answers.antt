@@ -1,0 +1,68 @@
+use Rattle.std.proofs.Common.{◌≡◌, false, Some, Result, Ok, refl, sym, subst}
+use Rattle.std.specs.Option.{option_map}
+use Rattle.macs_journal.specs.declared.fault.JournalFault.{JournalFault}
+use Rattle.macs_store.specs.Stepping.{HasInHand, Starts}
+use Rattle.macs_store.specs.Value.{IsIdle, standing_in}
+use Rattle.macs_endpoint.specs.Ceilings.{standing_with_raise}
+use Rattle.macs_endpoint.specs.Needed.{raise_in}
+use Rattle.macs_endpoint.specs.State.{no_logs, rx_side, tx_side}
+use Rattle.macs_endpoint.specs.Told.{raise_of}
+use Rattle.macs_endpoint.specs.Value.{EndpointValue, is_stopped, state_of}
+use Rattle.macs_endpoint.proofs.Begun.{first-rises}
+use Rattle.macs_endpoint.proofs.Ended.{begun-kept, begun-reserving}
+use Rattle.macs_endpoint.proofs.endpoint.Endpoint.start_raise.Given.{Over}
+use Rattle.macs_endpoint.proofs.endpoint.Endpoint.start_raise.Goals.{After-self, After-start_ceiling}
+use Rattle.macs_endpoint.proofs.endpoint.Endpoint.start_raise.Goals as goal
+
+module _ (g : Over) (c : After-self g) where
+  abbrev old : EndpointValue g.row.D.Denot
+  old = record {
+    store = c.self.inside.store;
+    tx = c.self.inside.channels.tx;
+    rx = c.self.inside.channels.rx;
+    in_hand = c.self.inside.in_hand;
+    reserving = option_map raise_of c.self.inside.reserving;
+    waiting = c.self.inside.queue.waiting;
+    tickets = c.self.inside.queue.given;
+    turn = c.self.inside.turn;
+  }
+
+  running : is_stopped old ≡ false
+  running = rw (← c.self.view_is) at c.requires.running
+
+  idle : IsIdle old.store
+  idle = rw (← c.self.view_is) at c.requires.idle
+
+  first : raise_in old ≡ Some (raise_of c.args.raise)
+  first = subst (λ (e : EndpointValue g.row.D.Denot). raise_in e ≡ Some (raise_of c.args.raise)) (sym c.self.view_is) c.requires.first
+
+pub start_ceiling-requires-clause-rises : goal.start_ceiling-requires-clause-rises
+start_ceiling-requires-clause-rises g c =
+    let at = (goal.at.start_ceiling-requires-clause-rises g c).After-self in
+    first-rises (standing_in c.self.inside.store) (tx_side (state_of (old g at) no_logs)) (rx_side (state_of (old g at) no_logs)) (raise_of c.args.raise) (first g at)
+
+-- what the store says of it
+taken : (g : Over) (c : After-start_ceiling g) → c.start_ceiling.result ≡ Ok tt
+    → HasInHand g.D.SectorDisk.disk c.self.inside.store (standing_with_raise (standing_in c.self.inside.store) (raise_of c.args.raise)) c.start_ceiling.new.store
+taken g c is =
+    (subst (λ (r : Result (Unit {0}) JournalFault). Starts g.D.SectorDisk.disk c.self.inside.store
+    (standing_with_raise (standing_in c.self.inside.store) (raise_of c.args.raise)) r c.start_ceiling.new.store) is c.start_ceiling.ensures).in_hand
+
+pub invariant_of-self-2 : goal.invariant_of-self-2
+invariant_of-self-2 g c =
+    let at = goal.at.invariant_of-self-2 g c in
+    begun-kept g.D.SectorDisk.disk (old g at.After-self) c.self.invariant (running g at.After-self) (idle g at.After-self) (raise_of c.args.raise)
+    (first g at.After-self) c.start_ceiling.new.store (taken g at.After-start_ceiling c.in_ok-start_ceiling.was)
+
+pub returns : goal.returns
+returns g c =
+    let at = goal.at.returns g c in
+    let has = taken g at.After-start_ceiling c.in_ok-start_ceiling.was in
+    rw (← c.self.view_is) (record {
+      refused = tt;
+      in_hand = has;
+      taken = refl;
+      reserving = begun-reserving g.D.SectorDisk.disk (old g at.After-self) c.self.invariant (running g at.After-self) (idle g at.After-self)
+          (raise_of c.args.raise) (first g at.After-self) c.start_ceiling.new.store has;
+      kept = c.self.invariant;
+    })

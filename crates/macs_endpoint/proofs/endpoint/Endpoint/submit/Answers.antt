@@ -1,0 +1,42 @@
+use Rattle.std.proofs.Common.{◌≡◌, ◌∙◌, false, sym, ap}
+use Rattle.std.specs.Option.{option_map}
+use Rattle.macs_endpoint.specs.Told.{raise_of}
+use Rattle.macs_endpoint.specs.Value.{EndpointValue, is_stopped}
+use Rattle.macs_endpoint.proofs.Queued.{queued-kept, queued-submit, stopped-submit}
+use Rattle.macs_endpoint.proofs.endpoint.Endpoint.submit.Given.{Over}
+use Rattle.macs_endpoint.proofs.endpoint.Endpoint.submit.Goals.{After-push}
+use Rattle.macs_endpoint.proofs.endpoint.Endpoint.submit.Goals as goal
+
+pub returns-then-is_stopped : goal.returns-then-is_stopped
+returns-then-is_stopped g c = record {
+  call = stopped-submit g.D.SectorDisk.disk c.args.self.now c.args.command c.command_in_range.ensures (sym c.is_stopped.ensures ∙ c.if-is_stopped.true);
+}
+
+module _ (g : Over) (c : After-push g) where
+  abbrev old : EndpointValue g.row.D.Denot
+  old = record {
+    store = c.self.inside.store;
+    tx = c.self.inside.channels.tx;
+    rx = c.self.inside.channels.rx;
+    in_hand = c.self.inside.in_hand;
+    reserving = option_map raise_of c.self.inside.reserving;
+    waiting = c.self.inside.queue.waiting;
+    tickets = c.self.inside.queue.given;
+    turn = c.self.inside.turn;
+  }
+
+  running : is_stopped old ≡ false
+  running = ap (λ (e : EndpointValue g.row.D.Denot). is_stopped e) c.self.view_is ∙ sym c.is_stopped.ensures ∙ c.if-is_stopped.false
+
+pub invariant_of-self : goal.invariant_of-self
+invariant_of-self g c =
+    let at = (goal.at.invariant_of-self g c).After-push in
+    queued-kept g.D.SectorDisk.disk (old g at) c.args.command c.command_in_range.ensures c.self.invariant c.push.result c.push.new.self c.push.ensures
+
+pub returns : goal.returns
+returns g c =
+    let at = (goal.at.returns g c).After-push in
+    rw (← c.self.view_is) (record {
+      call = queued-submit g.D.SectorDisk.disk (old g at) c.args.command c.command_in_range.ensures c.self.invariant (running g at) c.push.result
+          c.push.new.self c.push.ensures;
+    })

@@ -1,0 +1,104 @@
+-- What one step of the work that there is does.
+use Rattle.std.specs.Prelude.{◌≡◌, ◌≤◌, ◌+◌, ℕ, List, Option, Some, None, Result, Ok, Err}
+use Rattle.macs_config.specs.declared.command.Command.{Command}
+use Rattle.macs_disk.specs.Disk.{Disk}
+use Rattle.macs_store.specs.Keeps.{IsSpent, most_calls}
+use Rattle.macs_store.specs.Value.{IsIdle, calls_left}
+use Rattle.macs_endpoint.specs.Ceilings.{Raise}
+use Rattle.macs_endpoint.specs.Needed.{raise_in}
+use Rattle.macs_endpoint.specs.Queue.{first_waiting}
+use Rattle.macs_endpoint.specs.State.{Advanced, Advances, Call, Commands, Ran, Refilled, Refills, Reply}
+use Rattle.macs_endpoint.specs.Value.{EndpointValue, disk_in}
+use Rattle.macs_endpoint.specs.declared.fault.CommandFault.TheVariants as ran
+use Rattle.macs_endpoint.specs.declared.fault.RefillFault.TheVariants as refill
+use Rattle.macs_endpoint.specs.declared.fault.StepFault.{StepFault}
+use Rattle.macs_endpoint.specs.declared.fault.StepFault.TheVariants as step
+use Rattle.macs_endpoint.specs.declared.progress.Step.{Step as Progress}
+use Rattle.macs_endpoint.specs.declared.progress.Step.TheVariants.{Done, Idle, Reserved, Worked}
+use Rattle.macs_endpoint.specs.declared.queue.Waiting.{Waiting}
+use Rattle.macs_endpoint.specs.declared.turn.Turn.{Turn}
+use Rattle.macs_endpoint.specs.declared.turn.Turn.TheVariants as turn
+
+-- ---- turns
+
+-- a piece of work: to raise a ceiling, or to keep the first command that waits
+pub data Piece : Type 0 where
+  Raises : Raise → Piece
+  Takes : Waiting → Piece
+
+-- which one begins where a ceiling is needed and a command waits
+abbrev pub piece_by_turn : Turn → Raise → Waiting → Piece
+piece_by_turn turn.Reservation raise first = Raises raise
+piece_by_turn turn.Command raise first = Takes first
+
+-- which one begins, if any: where there is but one of the two, that one
+abbrev pub piece_among : Turn → Option Raise → Option Waiting → Option Piece
+piece_among whose None None = None
+piece_among whose (Some raise) None = Some (Raises raise)
+piece_among whose None (Some first) = Some (Takes first)
+piece_among whose (Some raise) (Some first) = Some (piece_by_turn whose raise first)
+
+abbrev pub next_piece : {D : Type 0} → EndpointValue D → Option Piece
+next_piece e = piece_among e.turn (raise_in e) (first_waiting e.waiting)
+
+-- whose turn it is after a step: a reservation that is done, or that the journal has no room for, leaves it to a command; a command that is
+-- done, refused or not, to a reservation
+abbrev pub turn_after_step : Turn → Result Progress StepFault → Turn
+turn_after_step whose (Ok Reserved) = turn.Command
+turn_after_step whose (Ok (Done ticket result)) = turn.Reservation
+turn_after_step whose (Err step.GenerationsSpent) = turn.Command
+turn_after_step whose result = whose
+
+-- and after a refill that finished the reservation in hand
+abbrev pub turn_after_refill : Turn → Option Raise → Turn
+turn_after_refill whose None = whose
+turn_after_refill whose (Some raise) = turn.Command
+
+-- and after any call. A command that does not wait uses a turn as one that does.
+abbrev pub turn_after : {D : Type 0} → EndpointValue D → Call → Reply → Turn
+turn_after e (Commands command) (Ran (Err ran.Stopped)) = e.turn
+turn_after e (Commands command) (Ran (Err ran.Busy)) = e.turn
+turn_after e (Commands command) (Ran result) = turn.Reservation
+turn_after e Refills (Refilled (Err refill.Stopped)) = e.turn
+turn_after e Refills (Refilled (Err refill.Busy)) = e.turn
+turn_after e Refills (Refilled result) = turn_after_refill e.turn e.reserving
+turn_after e Advances (Advanced result) = turn_after_step e.turn result
+turn_after e call reply = e.turn
+
+-- ---- a step
+
+-- A step of an endpoint that runs and has no work in hand: it is idle where no piece of work is there, and else that piece begins, with its
+-- first device call, or is refused before. A command whose first device call fails is in hand then, and a reservation leaves none there.
+abbrev pub BeginsWith : {D : Type 0} → EndpointValue D → Option Piece → Result Progress StepFault → EndpointValue D → Type 0
+BeginsWith old None (Ok Idle) new = new ≡ old
+BeginsWith old (Some (Raises raise)) (Ok Worked) new = (new.reserving ≡ Some raise) × (calls_left new.store + 1 ≤ most_calls old.store)
+BeginsWith old (Some (Raises raise)) (Err step.GenerationsSpent) new = IsSpent old.store
+BeginsWith old (Some (Raises raise)) (Err step.Disk) new = new.in_hand ≡ None
+BeginsWith old (Some (Takes first)) (Ok Worked) new = (new.in_hand ≡ Some first.command) × (calls_left new.store + 1 ≤ most_calls old.store)
+BeginsWith old (Some (Takes first)) (Ok (Done ticket (Err (ran.Refused refusal)))) new = Unit {0}
+BeginsWith old (Some (Takes first)) (Ok (Done ticket (Err ran.GenerationsSpent))) new = IsSpent old.store
+BeginsWith old (Some (Takes first)) (Err step.Disk) new = new.in_hand ≡ Some first.command
+BeginsWith old piece result new = ⊥
+
+-- A step of an endpoint with work in hand: the next device call of that work, which goes on, with fewer calls left, or is done with the
+-- last. Where the call fails a command in hand stays there.
+abbrev pub GoesOn : {D : Type 0} → EndpointValue D → Result Progress StepFault → EndpointValue D → Type 0
+GoesOn old (Ok Worked) new =
+    (new.reserving ≡ old.reserving) × (new.in_hand ≡ old.in_hand) × (¬ IsIdle new.store) × (calls_left new.store + 1 ≤ calls_left old.store)
+GoesOn old (Ok Reserved) new = ((raise : Raise) × (old.reserving ≡ Some raise)) × IsIdle new.store × (calls_left old.store ≡ 1)
+GoesOn old (Ok (Done ticket (Ok done))) new = ((command : Command) × (old.in_hand ≡ Some command)) × IsIdle new.store × (calls_left old.store ≡ 1)
+GoesOn old (Err step.Disk) new = new.in_hand ≡ old.in_hand
+GoesOn old result new = ⊥
+
+-- how far the clock of the disk goes on in a step with this answer: by one where the work went on or was done, and else by one at most
+abbrev pub ClockAfter : ℕ → Result Progress StepFault → ℕ → Type 0
+ClockAfter old (Ok Worked) new = new ≡ old + 1
+ClockAfter old (Ok Reserved) new = new ≡ old + 1
+ClockAfter old (Ok (Done ticket (Ok done))) new = new ≡ old + 1
+ClockAfter old result new = new ≤ old + 1
+
+-- what a step of an endpoint that runs does
+pub record AdvancesAs {D : Type 0} (disk_of : D → Disk) (old : EndpointValue D) (result : Result Progress StepFault) (new : EndpointValue D) : Type 0 where
+  pub begins : IsIdle old.store → BeginsWith old (next_piece old) result new
+  pub goes_on : (¬ IsIdle old.store) → GoesOn old result new
+  pub one : ClockAfter (disk_in disk_of old).clock result (disk_in disk_of new).clock

@@ -1,0 +1,181 @@
+//! Work on the disk, one device call at a time, with frames and commands between.
+
+ghost use Rattle.std.specs.Prelude.{◌≡◌, Some, false};
+ghost use Rattle.std.specs.Option.{option_map};
+ghost use Rattle.macs_store.specs.Value.{IsIdle};
+ghost use Rattle.macs_endpoint.specs.Advancing.{Raises, Takes, next_piece};
+ghost use Rattle.macs_endpoint.specs.Calls.{IsCall};
+ghost use Rattle.macs_endpoint.specs.Keeping.{StartsFirst};
+ghost use Rattle.macs_endpoint.specs.Told.{piece_of, raise_of};
+ghost use Rattle.macs_endpoint.specs.Queue.{first_waiting};
+ghost use Rattle.macs_endpoint.specs.State.{Advanced, Advances, Submits, Submitted};
+ghost use Rattle.macs_endpoint.specs.Value.{IsKeeping, IsReserving, is_stopped};
+
+use crate::endpoint::Endpoint;
+use crate::fault::{CommandFault, StepFault, SubmitFault};
+use crate::progress::Step;
+use crate::queue::{Ticket, Waiting};
+use crate::refilling::Raise;
+use crate::turn::Turn;
+use macs_config::Command;
+use macs_config::laws::command_in_range;
+use macs_disk::SectorDisk;
+use macs_store::{CommitFault, JournalStep};
+
+/// A piece of work on the disk.
+pub enum Piece {
+    /// To raise a ceiling.
+    Raise(Raise),
+    /// To keep the first command that waits.
+    Keep(Waiting),
+}
+
+impl<D: SectorDisk> Endpoint<D> {
+    /// Takes a command that is to be kept when its turn comes, and answers the ticket by which `step` tells what
+    /// became of it. Whether it fits the configuration is judged then. Refused as `Stopped`, then as `QueueFull`,
+    /// then as `TicketsSpent`; these change nothing. No device call is made.
+    pub fn submit(&mut self, command: Command) -> Result<Ticket, SubmitFault>
+        ensures call { IsCall D.disk self.old (Submits command) (Submitted result) self.new }
+    {
+        command_in_range(&command);
+        if self.is_stopped() {
+            return Err(SubmitFault::Stopped);
+        }
+        self.queue.push(command)
+    }
+
+    /// Makes one device call of the work that there is, or none where there is none. Work in hand goes on; else the
+    /// reservation that is needed first begins, or the first command that waits, by turns where there are both, of which
+    /// the first after an opening is the reservation's. What is reserved or commanded takes effect with the last device
+    /// call of its work. Refused as `Stopped`; as `GenerationsSpent`, where a reservation has its turn and the journal
+    /// cannot begin anew; and as `Disk` where the call fails: the endpoint is stopped, and the next opening finds what
+    /// was in hand or not.
+    pub fn step(&mut self) -> Result<Step, StepFault>
+        ensures call { IsCall D.disk self.old Advances (Advanced result) self.new }
+    {
+        if self.is_stopped() {
+            return Err(StepFault::Stopped);
+        }
+        if self.store.is_idle() {
+            return self.begin();
+        }
+        if self.reserving.is_some() {
+            self.go_on_reserving()
+        } else {
+            self.go_on_keeping()
+        }
+    }
+
+    /// Begins the piece of work that is next, if any is. No work is in hand.
+    fn begin(&mut self) -> Result<Step, StepFault>
+        requires running { is_stopped self.old ≡ false }
+        requires idle { IsIdle self.old.store }
+        ensures { IsCall D.disk self.old Advances (Advanced result) self.new }
+    {
+        match self.next_piece() {
+            Some(Piece::Raise(raise)) => self.begin_raise(raise),
+            Some(Piece::Keep(first)) => self.begin_command(first),
+            None => Ok(Step::Idle),
+        }
+    }
+
+    /// The piece of work that is next: that whose turn it is where there are both, and else the one that there is.
+    fn next_piece(&self) -> Option<Piece>
+        ensures { option_map piece_of result ≡ next_piece self.now }
+    {
+        match (self.first_raise(), self.queue.first()) {
+            (Some(raise), Some(first)) => match self.turn {
+                Turn::Reservation => Some(Piece::Raise(raise)),
+                Turn::Command => Some(Piece::Keep(first)),
+            },
+            (Some(raise), None) => Some(Piece::Raise(raise)),
+            (None, Some(first)) => Some(Piece::Keep(first)),
+            (None, None) => None,
+        }
+    }
+
+    /// Takes a reservation in hand and makes its first device call.
+    fn begin_raise(&mut self, raise: Raise) -> Result<Step, StepFault>
+        requires running { is_stopped self.old ≡ false }
+        requires idle { IsIdle self.old.store }
+        requires next { next_piece self.old ≡ Some (Raises (raise_of raise)) }
+        ensures { IsCall D.disk self.old Advances (Advanced result) self.new }
+    {
+        if self.start_raise(raise).is_err() {
+            self.turn = Turn::Command;
+            return Err(StepFault::GenerationsSpent);
+        }
+        self.go_on_reserving()
+    }
+
+    /// Takes the first command that waits in hand and makes its first device call, or tells why it is not kept.
+    fn begin_command(&mut self, first: Waiting) -> Result<Step, StepFault>
+        requires running { is_stopped self.old ≡ false }
+        requires idle { IsIdle self.old.store }
+        requires next { next_piece self.old ≡ Some (Takes first) }
+        ensures { IsCall D.disk self.old Advances (Advanced result) self.new }
+    {
+        command_in_range(&first.command);
+        if let Err(fault) = self.start_first(first) {
+            self.queue.pop();
+            self.turn = Turn::Reservation;
+            return Ok(Step::Done(first.ticket, Err(CommandFault::from(fault))));
+        }
+        self.go_on_keeping()
+    }
+
+    /// Takes the first command that waits in hand, and makes no device call. Refused as the store refuses it.
+    fn start_first(&mut self, first: Waiting) -> Result<(), CommitFault>
+        requires running { is_stopped self.old ≡ false }
+        requires idle { IsIdle self.old.store }
+        requires waits { first_waiting self.old.waiting ≡ Some first }
+        ensures { StartsFirst D.disk self.old first result self.new }
+    {
+        command_in_range(&first.command);
+        self.store.start_commit(&first.command)?;
+        self.in_hand = Some(first.command);
+        Ok(())
+    }
+
+    /// The next device call of a reservation in hand. With the last one the ceiling is raised.
+    fn go_on_reserving(&mut self) -> Result<Step, StepFault>
+        requires { IsReserving self.old }
+        ensures { IsCall D.disk self.old Advances (Advanced result) self.new }
+    {
+        match self.store.step() {
+            Ok(progress) => match progress {
+                JournalStep::Finished => {
+                    let raise = self.reserving.take().unwrap();
+                    self.channels.raise(raise, &self.store);
+                    self.turn = Turn::Command;
+                    Ok(Step::Reserved)
+                }
+                _ => Ok(Step::Worked),
+            },
+            Err(_) => {
+                self.reserving = None; // The next opening finds it or not.
+                Err(StepFault::Disk)
+            }
+        }
+    }
+
+    /// The next device call of the command in hand. With the last one it takes effect.
+    fn go_on_keeping(&mut self) -> Result<Step, StepFault>
+        requires { IsKeeping self.old }
+        ensures { IsCall D.disk self.old Advances (Advanced result) self.new }
+    {
+        match self.store.step() {
+            Ok(progress) => match progress {
+                JournalStep::Finished => {
+                    let done = self.queue.pop();
+                    self.channels.follow(&done.command, &self.store);
+                    self.in_hand = None;
+                    self.turn = Turn::Reservation;
+                    Ok(Step::Done(done.ticket, Ok(())))
+                }
+                _ => Ok(Step::Worked),
+            },
+            Err(_) => Err(StepFault::Disk),
+        }
+    }
+}
