@@ -168,9 +168,10 @@ fn summed(to_common: &Lane, to_controlled: &Lane) -> RelaySummary
 /// stays in its slot for the next turn, and no other is taken on its side. No frame is sent twice, not
 /// even after a failed send.
 ///
-/// Ends before the last turn with the fault that has the name of a step's. The frames of that turn were
-/// handed in then, and those that passed were sent. No call waits: where no frame comes a turn is soon over. Memory is
-/// taken for three frames and for nothing else.
+/// Ends with the first turn whose step is refused, with the fault of the same name: the frames of that turn
+/// were handed in by then, and those that passed were sent. What a step tells of submitted commands is not
+/// kept. No call waits: where no frame comes a turn is soon over. Memory is taken for three frames and for
+/// nothing else.
 pub fn relay<D: SectorDisk, P: Wire, C: Wire>(
     endpoint: &mut Endpoint<D>,
     controlled: &mut P,

@@ -1,5 +1,5 @@
 -- One device call of the work in hand: it goes on, is done, or is cut short.
-use Rattle.std.proofs.Common.{◌≡◌, ◌≤◌, ◌+◌, ◌⊎◌, ◌∷◌, inl, inr, ℕ, false, List, length, Option, Some, None, Result, Ok, Err, is_ok, refl, sym, ◌∙◌, ap, subst, arith}
+use Rattle.std.proofs.Common.{◌≡◌, ◌≤◌, ◌⊎◌, ◌∷◌, inl, inr, ℕ, false, List, length, Option, Some, None, Result, Ok, Err, is_ok, refl, sym, ◌∙◌, ap, subst, arith}
 use Rattle.macs_config.specs.Apply.{IsCommand}
 use Rattle.macs_config.specs.Config.{this_edition}
 use Rattle.macs_config.specs.Identity.{IsIdentity}

@@ -1,16 +1,13 @@
 -- Reservations of packet numbers, whichever are made.
-use Rattle.std.specs.Prelude.{◌≡◌, ◌≤◌, ◌+◌, Some, None, Option, Result, Ok, Err, IsErrOf, OnErr, OnOk}
+use Rattle.std.specs.Prelude.{◌≡◌, ◌≤◌, ◌+◌, Some, None, Result, Ok, Err, IsErrOf, OnErr, OnOk}
 use Rattle.macs_disk.specs.Disk.{Disk, IsHonest, Works}
 use Rattle.macs_disk.specs.Runs.{Leaves}
 use Rattle.macs_disk.specs.States.{Image}
 use Rattle.macs_journal.specs.declared.fault.JournalFault.{JournalFault}
 use Rattle.macs_journal.specs.declared.fault.JournalFault.TheVariants as journal
-use Rattle.macs_txsc.specs.Transmit.{TxSide}
 use Rattle.macs_txsc.specs.Value as txsc
-use Rattle.macs_rxsc.specs.Receive.{RxSide}
 use Rattle.macs_rxsc.specs.Value as rxsc
 use Rattle.macs_store.specs.Keeps.{IsSpent}
-use Rattle.macs_store.specs.Standing.{Standing}
 use Rattle.macs_store.specs.Stepping.{HasInHand}
 use Rattle.macs_store.specs.Value.{IsIdle, calls_left, slots_then, standing_in, used_slots}
 use Rattle.macs_endpoint.specs.Calls.{Fails}

@@ -1,9 +1,9 @@
 //! Laws of the definitions, for those above.
 
-ghost use Rattle.std.specs.Prelude.{◌≡◌, ◌<◌, ◌≤◌, ◌⊎◌, ◌+◌, ◌/◌, ◌^◌, ◌-◌, Bool, ℕ, List, false, Some, None, Ok, Err};
+ghost use Rattle.std.specs.Prelude.{◌≡◌, ◌<◌, ◌≤◌, ◌⊎◌, ◌+◌, ◌/◌, ◌^◌, ◌-◌, Bool, ℕ, List, Some, Ok, Err};
 ghost use Rattle.macs_config.specs.declared.command.Command.TheVariants.{TxInstall};
 ghost use Rattle.macs_txsc.specs.declared.fault.TxFault.TheVariants.{NoNumber};
-ghost use Rattle.macs_rxsc.specs.Receive.{Arrival, Arrives, Numbers};
+ghost use Rattle.macs_rxsc.specs.Receive.{Arrival, Arrives};
 ghost use Rattle.macs_rxsc.specs.declared.verdict.Verdict.TheVariants.{HeldBack};
 ghost use Rattle.macs_store.specs.Value.{standing_in};
 ghost use Rattle.macs_endpoint.specs.Calls.{IsCall};
