@@ -17,7 +17,7 @@ use Rattle.macs_endpoint.specs.declared.turn.Turn.{Turn}
 use Rattle.macs_endpoint.specs.declared.turn.Turn.TheVariants as turn
 
 -- work is in hand, or none is
-in_hand_or_not : (hand : Hand) → (hand ≡ Empty) ⊎ (¬ (hand ≡ Empty))
+pub in_hand_or_not : (hand : Hand) → (hand ≡ Empty) ⊎ (¬ (hand ≡ Empty))
 in_hand_or_not Empty = inl refl
 in_hand_or_not (Renewing r) = inr (λ is. cc)
 in_hand_or_not (Appending r) = inr (λ is. cc)

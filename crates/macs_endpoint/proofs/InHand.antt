@@ -102,7 +102,7 @@ raise-is s c (RaiseRx need) = refl
 pub some_is : {A : Type 0} (a b : A) → Some a ≡ Some b → a ≡ b
 some_is a b is = cc
 
-not_stopped : (b : Bool) → b ≡ true → b ≡ false → ⊥
+pub not_stopped : (b : Bool) → b ≡ true → b ≡ false → ⊥
 not_stopped b is not = absurd cc
 
 module _ {D : Type 0} (e : EndpointValue D) (kept : IsSoundEndpoint e) where

@@ -26,3 +26,7 @@ pub mod Work
 pub mod Changes
 mod Idled
 pub mod Still
+mod Alike
+mod Lasting
+mod Between
+mod AsBegun

@@ -18,3 +18,4 @@ pub mod Keeping
 pub mod Lives
 pub mod Serving
 pub mod Rooms
+pub mod Lasting

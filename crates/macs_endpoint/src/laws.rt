@@ -1,18 +1,22 @@
 //! Laws of the definitions, for those above.
 
-ghost use Rattle.std.specs.Prelude.{◌≡◌, ◌<◌, ◌≤◌, ◌⊎◌, ◌+◌, ◌/◌, ◌^◌, ◌-◌, Bool, ℕ, List, Some, Ok, Err};
+ghost use Rattle.std.specs.Prelude.{◌≡◌, ◌≢◌, ◌<◌, ◌≤◌, ◌⊎◌, ◌+◌, ◌/◌, ◌^◌, ◌-◌, Bool, ℕ, List, [], Some, Ok, Err};
 ghost use Rattle.macs_config.specs.declared.command.Command.TheVariants.{TxInstall};
 ghost use Rattle.macs_txsc.specs.declared.fault.TxFault.TheVariants.{NoNumber};
 ghost use Rattle.macs_rxsc.specs.Receive.{Arrival, Arrives};
 ghost use Rattle.macs_rxsc.specs.declared.verdict.Verdict.TheVariants.{HeldBack};
-ghost use Rattle.macs_store.specs.Value.{standing_in};
+ghost use Rattle.macs_store.specs.Keeps.{most_calls};
+ghost use Rattle.macs_store.specs.Value.{IsIdle, standing_in};
+ghost use Rattle.macs_endpoint.specs.Advancing.{Raises, next_piece};
 ghost use Rattle.macs_endpoint.specs.Calls.{IsCall};
+ghost use Rattle.macs_endpoint.specs.Ceilings.{Raise, standing_with_raise};
 ghost use Rattle.macs_endpoint.specs.Value.{IsSoundEndpoint, EndpointValue, state_of};
+ghost use Rattle.macs_endpoint.specs.Lasting.{Lasts, NoneDone, reservations_made, steps_made};
 ghost use Rattle.macs_endpoint.specs.Lives.{Lives, Turn};
 ghost use Rattle.macs_endpoint.specs.Rooms.{HasRoom, IsBelow, IsEncodingAn, RxStays, TxStays, frames_sent};
 ghost use Rattle.macs_endpoint.specs.State.{Advanced, Advances, Call, Protects, Protected, Received, Receives, Refilled, Refills, Reply, command_made, no_logs, rx_side};
 ghost use Rattle.macs_endpoint.specs.declared.fault.ProtectFault.TheVariants.{Tx};
-ghost use Rattle.macs_endpoint.specs.declared.progress.Step.TheVariants.{Idle};
+ghost use Rattle.macs_endpoint.specs.declared.progress.Step.TheVariants.{Idle, Reserved, Worked};
 
 use macs_disk::SectorDisk;
 
@@ -78,4 +82,31 @@ pub fn frames_not_held_back<D: SectorDisk>()
     ensures delivered { (old new : EndpointValue D) (frame out : List ℕ) (a : Arrival) → IsBelow old a.sci a.an a.pn
         → Arrives (rx_side (state_of old no_logs)) frame a
         → IsCall D.disk old (Receives frame) (Received (Ok HeldBack) out) new → ⊥ }
+{}
+
+/// How many steps a piece of work takes.
+///
+/// From the step that begins it to the one that ends it, both included, these are 4 at most; or, where all 256 slots of
+/// the journal's current area are used when it begins, 523 and one for each record of the snapshot. What other calls
+/// come between is left open; no device call fails.
+pub fn work_ends<D: SectorDisk>()
+    ensures { (old begun new : EndpointValue D) (turns : List (Turn D)) → IsIdle old.store
+        → IsCall D.disk old Advances (Advanced (Ok Worked)) begun → Lives D.disk begun turns new → Lasts begun turns
+        → steps_made turns + 1 ≤ most_calls old.store }
+{}
+
+/// What is reserved is what was needed first when the reservation began, though frames may have come between.
+pub fn reserved_as_begun<D: SectorDisk>()
+    ensures { (old begun last new : EndpointValue D) (turns : List (Turn D)) (raise : Raise) → IsIdle old.store → next_piece old ≡ Some (Raises raise)
+        → IsCall D.disk old Advances (Advanced (Ok Worked)) begun → Lives D.disk begun turns last → Lasts begun turns → IsSoundEndpoint last
+        → IsCall D.disk last Advances (Advanced (Ok Reserved)) new
+        → standing_in new.store ≡ standing_with_raise (standing_in old.store) raise }
+{}
+
+/// Between two commands that wait one reservation at most has its turn.
+///
+/// While a command waits, in hand or not, and none is done with, one step at most is answered with `Reserved`, or with
+/// `GenerationsSpent`, whatever other calls come between.
+pub fn one_reservation_between<D: SectorDisk>()
+    ensures { (old new : EndpointValue D) (turns : List (Turn D)) → old.waiting ≢ [] → Lives D.disk old turns new → NoneDone turns → reservations_made turns ≤ 1 }
 {}

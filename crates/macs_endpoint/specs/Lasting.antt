@@ -1,0 +1,48 @@
+-- How long work in hand lasts, and what has its turn, through calls.
+use Rattle.std.specs.Prelude.{◌≡◌, ◌+◌, ℕ, false, List, [], ◌∷◌, Ok, Err}
+use Rattle.macs_store.specs.Value.{IsIdle}
+use Rattle.macs_endpoint.specs.Lives.{Turn}
+use Rattle.macs_endpoint.specs.State.{Advanced, Advances, Call, Reply}
+use Rattle.macs_endpoint.specs.Value.{EndpointValue, is_stopped}
+use Rattle.macs_endpoint.specs.declared.fault.StepFault.TheVariants.{GenerationsSpent}
+use Rattle.macs_endpoint.specs.declared.progress.Step.TheVariants.{Done, Reserved}
+
+-- ---- work in hand
+
+-- 1 for a step, else 0
+abbrev pub steps_in_call : Call → ℕ
+steps_in_call Advances = 1
+steps_in_call call = 0
+
+-- how many of these calls are steps
+abbrev pub steps_made : {D : Type 0} → List (Turn D) → ℕ
+steps_made [] = 0
+steps_made (turn ∷ turns) = steps_in_call turn.call + steps_made turns
+
+-- work is in hand before each of these calls, and none of them finds or makes the endpoint stopped
+abbrev pub Lasts : {D : Type 0} → EndpointValue D → List (Turn D) → Type 0
+Lasts e [] = Unit {0}
+Lasts e (turn ∷ turns) = (¬ IsIdle e.store) × (is_stopped turn.after ≡ false) × Lasts turn.after turns
+
+-- ---- turns of reservations
+
+-- 1 where a reservation used its turn, made or refused, else 0
+abbrev pub reservations_in_reply : Reply → ℕ
+reservations_in_reply (Advanced (Ok Reserved)) = 1
+reservations_in_reply (Advanced (Err GenerationsSpent)) = 1
+reservations_in_reply reply = 0
+
+-- how many of these calls are answered so
+abbrev pub reservations_made : {D : Type 0} → List (Turn D) → ℕ
+reservations_made [] = 0
+reservations_made (turn ∷ turns) = reservations_in_reply turn.reply + reservations_made turns
+
+-- an answer does not say that a submitted command is done with
+abbrev pub IsNotDone : Reply → Type 0
+IsNotDone (Advanced (Ok (Done ticket result))) = ⊥
+IsNotDone reply = Unit {0}
+
+-- and none of these answers does
+abbrev pub NoneDone : {D : Type 0} → List (Turn D) → Type 0
+NoneDone [] = Unit {0}
+NoneDone (turn ∷ turns) = IsNotDone turn.reply × NoneDone turns
