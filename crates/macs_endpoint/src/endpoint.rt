@@ -35,7 +35,7 @@ use std::marker::Model;
 pub struct Endpoint<D: SectorDisk> {
     pub(crate) store: Store<D>,
     pub(crate) channels: Channels,
-    /// The command whose work on the disk began and did not end; after a device fault it stays.
+    /// The command whose call or whose work on the disk began and did not end; after a device fault it stays.
     pub(crate) in_hand: Option<Command>,
     /// The ceiling that is being raised.
     pub(crate) reserving: Option<Raise>,
@@ -87,8 +87,8 @@ impl<D: SectorDisk> Endpoint<D> {
 
     /// Keeps a command and follows it. A reservation that is in hand is finished first, and no other begins. Refused
     /// as `Stopped`, then as `Busy` where a submitted command waits: nothing changes. Then as `Refused` with the first
-    /// refusal that holds, and as `GenerationsSpent`, where the reservation in hand was finished: these change nothing
-    /// but whose turn it is. `Disk` at the first device call that fails: the endpoint is stopped, and the next opening
+    /// refusal that holds: nothing changes but whose turn it is. Then as `GenerationsSpent`: nothing changes but that, and
+    /// by the reservation in hand, which was finished. `Disk` at the first device call that fails: the endpoint is stopped, and the next opening
     /// finds it with the command or without.
     pub fn command(&mut self, command: Command) -> Result<(), CommandFault>
         ensures { KeepsCommand D.disk self.old command result self.new }
@@ -152,7 +152,8 @@ impl<D: SectorDisk> Endpoint<D> {
     /// Protects a plain frame, writes the frame that goes out on the common side to `out`, and answers its
     /// packet number, which is then used. Refused as `Stopped`, then as the first fault of the transmit
     /// channel: below 14 octets, or above 9,216 with SecTAG and ICV, among others; then `out` is empty, and
-    /// no number is used. No device call is made. On `NoNumber` call `refill` and hand the frame in again.
+    /// no number is used. No device call is made. On `NoNumber` call `refill`, or `step` until it goes out, and
+    /// hand the frame in again.
     pub fn protect(&mut self, plain: &[u8], out: &mut FrameBuf) -> Result<Pn, ProtectFault>
         ensures call { IsCall D.disk self.old (Protects plain.now) (Protected result out.new.items) self.new }
         ensures store { self.new.store ≡ self.old.store }
@@ -170,7 +171,7 @@ impl<D: SectorDisk> Endpoint<D> {
 
     /// The verdict on a frame from the common side, of any number of octets. What is delivered is
     /// written to `out`, which is empty unless the verdict is `Delivered`. No device call is made. On
-    /// `HeldBack` call `refill` and hand the same frame in again.
+    /// `HeldBack` call `refill`, or `step` until it is settled, and hand the same frame in again.
     pub fn receive(&mut self, frame: &[u8], out: &mut FrameBuf) -> Result<Verdict, Stopped>
         ensures call { IsCall D.disk self.old (Receives frame.now) (Received result out.new.items) self.new }
         ensures store { self.new.store ≡ self.old.store }
@@ -190,8 +191,8 @@ impl<D: SectorDisk> Endpoint<D> {
         self.store.is_stopped()
     }
 
-    /// The command in hand: its work began and did not end, or a device fault cut its call short: after the
-    /// disk is opened again it is found or not.
+    /// The command in hand: its call, or its work, began and did not end. After a device fault it stays, and is
+    /// found or not once the disk is opened again.
     pub fn in_hand(&self) -> Option<Command>
         ensures { result ≡ (state_of self.now no_logs).in_hand }
     {
