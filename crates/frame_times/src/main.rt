@@ -1,15 +1,25 @@
-//! What an endpoint adds to sealing and opening, in one process, for frames of 1,500 and of 64 octets. Words:
+//! What an endpoint adds to sealing and opening, in one process, for frames of 1,500 and of 64 octets; and how long
+//! frames wait for its work on a disk file. Words:
 //!
 //! - `seal N` seals N frames of 1,500 octets and prints `sealed N frames`: to compare a whole run with.
 //! - `times ROUNDS` takes each time once in each of so many rounds, in turn, and prints the least: nanoseconds for a
 //!   frame, and ratios. A sample lasts 50 microseconds or more.
+//! - `gaps BLOCK N` protects N frames of 1,500 octets through an endpoint on a disk file that reserves BLOCK packet numbers
+//!   at a time, twice: with one `step` after each frame on the new file `stepped.disk`, and with `refill` after each frame
+//!   on the new file `blocking.disk`, both in the current folder. A line for each says how long the frames took, how many
+//!   calls of `protect` answered `NoNumber` and in which share of the time each call would have, and the longest time
+//!   between two frames that went out. Where one of the files is there already, no frame is protected.
 //! - Without words it does a few of everything, and prints the same each time.
 #![tactic(auto)]
 
 mod bare;
 mod channels;
 mod endpoints;
+mod failure;
+mod form;
 mod frames;
+mod gap;
+mod gaps;
 mod ratio;
 mod receiving;
 mod row;
@@ -20,6 +30,9 @@ mod table;
 mod times;
 mod work;
 
+use crate::endpoints::identity_of;
+use crate::failure::Failure;
+use crate::gaps::print_gaps;
 use crate::sealed::seal_all;
 use crate::table::{Table, print_few, take_few};
 use std::env;
@@ -35,19 +48,10 @@ enum Request {
     Seal(u32),
     /// To take times in so many rounds.
     Times(u32),
+    /// To protect so many frames between the device calls of an endpoint with blocks of so many packet numbers.
+    Gaps { block: u32, frames: u32 },
     /// To do a few of everything.
     Few,
-}
-
-/// Why a request is not met.
-#[derive(Clone, Copy)]
-enum Failure {
-    /// The words ask for nothing that there is.
-    Words,
-    /// Memory was wanting, a frame did not come out as it should, or there is no clock.
-    Work,
-    /// Standard output took less than the text.
-    Output,
 }
 
 /// What the words of the process ask for.
@@ -60,6 +64,10 @@ fn request_of_words(rt: &HostRuntime) -> Option<Request> {
     match task.as_str() {
         "seal" => Some(Request::Seal(count)),
         "times" => Some(Request::Times(count)),
+        "gaps" => Some(Request::Gaps {
+            block: count,
+            frames: words.next()?.parse().ok()?,
+        }),
         _ => None,
     }
 }
@@ -86,6 +94,14 @@ fn time(rt: &HostRuntime, rounds: u32) -> Result<(), Failure> {
     }
 }
 
+/// Protects so many frames in each form, and prints what was measured.
+fn measure_gaps(rt: &HostRuntime, block: u32, frames: u32) -> Result<(), Failure> {
+    let Some(identity) = identity_of(block) else {
+        return Err(Failure::Words);
+    };
+    print_gaps(rt, &identity, frames)
+}
+
 /// Does a few of everything.
 fn try_all(rt: &HostRuntime) -> Result<(), Failure> {
     seal(rt, FEW)?;
@@ -103,19 +119,18 @@ fn perform(rt: &HostRuntime) -> Result<(), Failure> {
     match request_of_words(rt) {
         Some(Request::Seal(count)) => seal(rt, count),
         Some(Request::Times(rounds)) => time(rt, rounds),
+        Some(Request::Gaps { block, frames }) => measure_gaps(rt, block, frames),
         Some(Request::Few) => try_all(rt),
         None => Err(Failure::Words),
     }
 }
 
 fn main(rt: HostRuntime) -> ExitCode {
-    let fault = match perform(&rt) {
-        Ok(()) => return ExitCode::SUCCESS,
-        Err(Failure::Words) => "the words are 'seal N', 'times ROUNDS' or none",
-        Err(Failure::Work) =>
-            "memory is wanting, a frame did not come out as it should, or there is no clock",
-        Err(Failure::Output) => "nothing more can be printed",
-    };
-    let _told = eprintln!(rt; "frame_times: {fault}");
-    ExitCode::FAILURE
+    match perform(&rt) {
+        Ok(()) => ExitCode::SUCCESS,
+        Err(failure) => {
+            let _told = eprintln!(rt; "frame_times: {failure}");
+            ExitCode::FAILURE
+        }
+    }
 }

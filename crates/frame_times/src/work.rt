@@ -24,6 +24,11 @@ pub fn time_of<C: Clock, W: Work>(clock: &C, work: &mut W, frames: u32) -> Optio
             return None;
         }
     }
+    nanos_since(clock, start)
+}
+
+/// How long ago a moment was, in nanoseconds. `None` where there is no clock.
+pub fn nanos_since<C: Clock>(clock: &C, start: Instant) -> Option<u64> {
     let took = start.elapsed(clock).ok()?;
     u64::try_from(took.as_nanos()).ok()
 }

@@ -38,6 +38,7 @@ piece_among whose (Some raise) None = Some (Raises raise)
 piece_among whose None (Some first) = Some (Takes first)
 piece_among whose (Some raise) (Some first) = Some (piece_by_turn whose raise first)
 
+-- and which one does in an endpoint
 abbrev pub next_piece : {D : Type 0} → EndpointValue D → Option Piece
 next_piece e = piece_among e.turn (raise_in e) (first_waiting e.waiting)
 

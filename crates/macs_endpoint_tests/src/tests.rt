@@ -9,7 +9,9 @@ mod frames;
 mod receiving;
 mod sending;
 mod serving;
-mod stepped_rows;
+mod stepped;
+mod stepped_compactions;
+mod stepped_stops;
 mod stepping;
 mod steps;
 mod stops;
@@ -97,7 +99,12 @@ fn blank(rt: &impl Abort, alloc: Global, sectors: u64) -> MemDisk {
 
 /// A disk in memory with the journal of a new endpoint.
 fn formatted(rt: &impl Abort, alloc: Global, sci: Sci) -> MemDisk {
-    let identity = Identity::new(sci, 4, 4).expect(rt, "identity");
+    formatted_with(rt, alloc, sci, 4)
+}
+
+/// A disk in memory with the journal of a new endpoint, whose blocks are of this many packet numbers.
+fn formatted_with(rt: &impl Abort, alloc: Global, sci: Sci, block: u32) -> MemDisk {
+    let identity = Identity::new(sci, block, block).expect(rt, "identity");
     let mut disk = blank(rt, alloc, SECTORS);
     assert!(rt; format(&mut disk, &identity).is_ok());
     disk
@@ -116,6 +123,11 @@ fn made(rt: &impl Abort, alloc: Global, sci: Sci) -> Endpoint<MemDisk> {
     opened(rt, formatted(rt, alloc, sci))
 }
 
+/// A new endpoint whose blocks are of this many packet numbers.
+fn made_with(rt: &impl Abort, alloc: Global, sci: Sci, block: u32) -> Endpoint<MemDisk> {
+    opened(rt, formatted_with(rt, alloc, sci, block))
+}
+
 /// Takes these steps with a new endpoint.
 fn play_new(rt: &impl Abort, alloc: Global, sci: Sci, steps: &[Step]) {
     play(rt, &mut made(rt, alloc, sci), steps);
@@ -123,14 +135,26 @@ fn play_new(rt: &impl Abort, alloc: Global, sci: Sci, steps: &[Step]) {
 
 /// An endpoint whose frames go out under association 0, from a first packet number on.
 fn sender(rt: &impl Abort, alloc: Global, start: u32) -> Endpoint<MemDisk> {
+    let mut endpoint = made(rt, alloc, OWN);
+    use_association(rt, &mut endpoint, start);
+    endpoint
+}
+
+/// An endpoint whose frames go out under association 0, from packet number 1 on, in blocks of this many.
+fn wide_sender(rt: &impl Abort, alloc: Global, block: u32) -> Endpoint<MemDisk> {
+    let mut endpoint = made_with(rt, alloc, OWN, block);
+    use_association(rt, &mut endpoint, 1);
+    endpoint
+}
+
+/// Has the frames of an endpoint go out under association 0, from a first packet number on.
+fn use_association(rt: &impl Abort, endpoint: &mut Endpoint<MemDisk>, start: u32) {
     let an = number_of(rt, 0);
     let steps = [
         keeps(tx_install(an, 1, start)),
         keeps(Command::TxUse { an }),
     ];
-    let mut endpoint = made(rt, alloc, OWN);
-    play(rt, &mut endpoint, &steps);
-    endpoint
+    play(rt, endpoint, &steps);
 }
 
 /// Gives an endpoint a channel and its association 2, from packet number 1 on.

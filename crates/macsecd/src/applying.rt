@@ -128,7 +128,7 @@ fn settle<D: SectorDisk>(
         Err(fault) => match fault {
             CommandFault::Refused(refusal) => Ok(Some(refusal)),
             CommandFault::Stopped => Err(DiskFault::Journal(JournalFault::Stopped)),
-            CommandFault::Busy => Err(DiskFault::Busy),
+            CommandFault::Busy => Err(DiskFault::Busy), // Never: no command is submitted.
             CommandFault::GenerationsSpent => {
                 Err(DiskFault::Journal(JournalFault::GenerationsSpent))
             }

@@ -244,7 +244,7 @@ impl From<RefillFault> for Failure {
     fn from(fault: RefillFault) -> Failure {
         match fault {
             RefillFault::Stopped => JournalFault::Stopped.into(),
-            RefillFault::Busy => Failure::Disk(DiskFault::Busy),
+            RefillFault::Busy => Failure::Disk(DiskFault::Busy), // Never: no command is submitted.
             RefillFault::GenerationsSpent => JournalFault::GenerationsSpent.into(),
             RefillFault::Disk => JournalFault::Disk.into(),
         }

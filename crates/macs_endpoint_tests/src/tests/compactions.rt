@@ -18,14 +18,19 @@ use std::alloc::Global;
 use std::process::Abort;
 
 /// Sets windows from the first size to the last.
-fn set_windows(rt: &impl Abort, endpoint: &mut Endpoint<MemDisk>, first: u32, last: u32) {
+pub(super) fn set_windows(
+    rt: &impl Abort,
+    endpoint: &mut Endpoint<MemDisk>,
+    first: u32,
+    last: u32,
+) {
     for size in first..=last {
         play(rt, endpoint, &[keeps(window(size))]);
     }
 }
 
 /// A disk with 255 commands behind the snapshot of a new journal: all slots are used.
-fn full(rt: &impl Abort, alloc: Global) -> MemDisk {
+pub(super) fn full(rt: &impl Abort, alloc: Global) -> MemDisk {
     let mut endpoint = made(rt, alloc, PEER);
     set_windows(rt, &mut endpoint, 1, 255);
     endpoint.into_disk()
@@ -33,7 +38,7 @@ fn full(rt: &impl Abort, alloc: Global) -> MemDisk {
 
 /// The endpoint of a full disk behind a fuse that passes the calls of an opening, which reads one more for
 /// each of 255 records, and so many.
-fn fused(rt: &impl Abort, disk: MemDisk, calls: u64) -> Endpoint<Fuse<MemDisk>> {
+pub(super) fn fused(rt: &impl Abort, disk: MemDisk, calls: u64) -> Endpoint<Fuse<MemDisk>> {
     opened(rt, fuse(disk, calls.saturating_add(255)))
 }
 
@@ -75,13 +80,13 @@ fn the_first_sectors_of_a_journal_that_began_anew(rt: HostRuntime) {
     play(&rt, &mut opened(&rt, disk), &[HasWindow(256)]);
 }
 
-fn write(rt: &impl Abort, disk: &mut MemDisk, at: u64, sector: &[u8; SECTOR]) {
+pub(super) fn write(rt: &impl Abort, disk: &mut MemDisk, at: u64, sector: &[u8; SECTOR]) {
     assert!(rt; at < disk.sectors());
     assert!(rt; disk.write(at, sector).is_ok());
 }
 
 /// A disk with the sectors of another one.
-fn copied(rt: &impl Abort, alloc: Global, disk: &mut MemDisk) -> MemDisk {
+pub(super) fn copied(rt: &impl Abort, alloc: Global, disk: &mut MemDisk) -> MemDisk {
     let mut copy = blank(rt, alloc, SECTORS);
     for at in 0..SECTORS {
         let sector = read(rt, disk, at);
@@ -232,7 +237,7 @@ fn a_key_stays_spent(rt: HostRuntime) {
 }
 
 /// The disk of an endpoint that sends. All slots are used, and the generation is the last.
-fn spent(rt: &impl Abort, alloc: Global) -> MemDisk {
+pub(super) fn spent(rt: &impl Abort, alloc: Global) -> MemDisk {
     let mut endpoint = sender(rt, alloc, 1);
     set_windows(rt, &mut endpoint, 1, 253);
     let mut disk = endpoint.into_disk();

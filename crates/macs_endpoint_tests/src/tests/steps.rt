@@ -291,7 +291,10 @@ fn command_answer<D: SectorDisk>(
     endpoint.command(command)
 }
 
-fn submit<D: SectorDisk>(endpoint: &mut Endpoint<D>, command: Command) -> Result<u64, SubmitFault> {
+pub(super) fn submit<D: SectorDisk>(
+    endpoint: &mut Endpoint<D>,
+    command: Command,
+) -> Result<u64, SubmitFault> {
     endpoint.submit(command).map(Ticket::get)
 }
 
@@ -305,7 +308,7 @@ pub(super) fn told_of(progress: Progress) -> Came {
     }
 }
 
-fn advance<D: SectorDisk>(endpoint: &mut Endpoint<D>) -> Result<Came, StepFault> {
+pub(super) fn advance<D: SectorDisk>(endpoint: &mut Endpoint<D>) -> Result<Came, StepFault> {
     endpoint.step().map(told_of)
 }
 
@@ -376,7 +379,7 @@ pub(super) fn receive<D: SectorDisk>(
     answer
 }
 
-fn receive_frame<D: SectorDisk>(
+pub(super) fn receive_frame<D: SectorDisk>(
     rt: &impl Abort,
     endpoint: &mut Endpoint<D>,
     frame: Frame,

@@ -1,4 +1,4 @@
-use Rattle.std.proofs.Common.{◌≡◌, ℕ, arith, subst}
+use Rattle.std.proofs.Common.{◌≡◌, ℕ, arith, refl, subst}
 use Rattle.std.proofs.lemmas.Result.{err_from_is_err_and}
 use Rattle.macs_edge.specs.Relaying.{TakesTurns, empty_lane, lane_value, relay_of}
 use Rattle.macs_edge.proofs.Relayed.{turns-more}
@@ -17,7 +17,7 @@ returns-in_err-step g c =
       (
         c.loop.counter,
         between,
-        risen.1,
+        c.in_err-step.field-0.0,
         refl,
         c.loop-test.true,
         c.loop.invariant.1,
@@ -33,9 +33,10 @@ returns-in_err-step g c =
 
 pub loop-preserved : goal.loop-preserved
 loop-preserved g c =
+    let start = relay_of c.args.endpoint.now (g.P.Wire.state c.args.controlled.now) (g.C.Wire.state c.args.common.now) empty_lane empty_lane in
     let between = relay_of c.loop.endpoint (g.P.Wire.state c.loop.controlled) (g.C.Wire.state c.loop.common) (lane_value c.loop.to_common) (lane_value c.loop.to_controlled) in (
       omega (arith, c.loop-test.true),
-      turns-more g.D.SectorDisk.disk c.loop.counter _ between _ c.in_ok-step.result c.loop.invariant.1 (
+      turns-more g.D.SectorDisk.disk c.loop.counter start between _ c.in_ok-step.field-0 c.loop.invariant.1 (
         c.carry-in-loop.new.endpoint,
         (c.carry.new.endpoint, g.P.Wire.state c.carry.new.from, g.C.Wire.state c.carry.new.to, c.carry.ensures, c.carry-in-loop.ensures),
         c.facts.ensures,

@@ -20,10 +20,23 @@ returns g c =
     let links : List (Link g.row.D.Denot) =
     record { deed = Formatting c.args.identity.now c.format-formatted.result; after = c.format-formatted.new.disk }
     ∷ record { deed = Living first turns last None; after = c.into_disk.result } ∷ [] in
-    let lived : Lives g.D.SectorDisk.disk first turns last =
-    (c.facts.ensures, c.command-installed.ensures.call, (c.facts-2.ensures, c.submit-submitted.ensures.call,
-    (c.facts-3.ensures, c.step-begun.ensures.call, (c.facts-4.ensures, c.protect-sent.ensures.call,
-    (c.facts-5.ensures, c.step-went_on.ensures.call, refl))))) in
+    let lived : Lives g.D.SectorDisk.disk first turns last = (
+      c.facts.ensures,
+      c.command-installed.ensures.call,
+      (
+        c.facts-2.ensures,
+        c.submit-submitted.ensures.call,
+        (
+          c.facts-3.ensures,
+          c.step-begun.ensures.call,
+          (
+            c.facts-4.ensures,
+            c.protect-sent.ensures.call,
+            (c.facts-5.ensures, c.step-went_on.ensures.call, refl),
+          ),
+        ),
+      ),
+    ) in
     record {
       formatted = is_ok c.format-formatted.result;
       image = (now (g.D.SectorDisk.disk c.format-formatted.new.disk)).seen;

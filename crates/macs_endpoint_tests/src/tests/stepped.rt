@@ -1,20 +1,16 @@
-//! What endpoints answer where commands and reservations are cut into steps: as where they are not.
+//! Endpoints whose work is cut into steps answer as where it is not.
 
-use super::frames::{Frame, PEER};
-use super::steps::Step::{
-    Advances, HasNext, HasWindow, HeldBackFor, IsStopped, Keeps, Receives, Refills, Rests, Submits,
-};
+use super::steps::Step::{HasNext, HeldBackFor, Rests};
 use super::steps::{
-    Step, arrives, keeps, keeps_by_steps, numbers, play, refuses_at_a_step, reserves, sends, story,
-    submits, waits, works,
+    arrives, keeps_by_steps, numbers, play, refuses_at_a_step, reserves, sends, story, submits,
+    waits, works,
 };
 use super::{
-    ADD, LATE, OK, OWN, crashed, formatted, fuse, made, number_of, opened, reopened, rx_install,
-    sender, tx_install, unfused, window,
+    ADD, LATE, OK, OWN, SECTORS, crashed, made, number_of, rx_install, sender, tx_install, window,
 };
 use macs_config::{Command, Refusal};
-use macs_disk::MemDisk;
-use macs_endpoint::{CommandFault, Endpoint, ProtectFault, RefillFault, StepFault, Stopped};
+use macs_disk::{MemDisk, SectorDisk};
+use macs_endpoint::Endpoint;
 use macs_record::{SECTOR, open_gate};
 use std::alloc::Global;
 use std::process::Abort;
@@ -68,6 +64,7 @@ fn torn(rt: &impl Abort, alloc: Global, gate: &[u8; SECTOR]) -> Endpoint<MemDisk
         &[submits(install, 1), works(), works(), works()],
     );
     let mut disk = endpoint.into_disk();
+    assert!(rt; disk.sectors() == SECTORS);
     assert!(rt; disk.tear(5, gate));
     crashed(rt, disk)
 }
@@ -158,63 +155,4 @@ fn a_window_changes(rt: HostRuntime) {
 fn a_window_is_empty_after_an_opening(rt: HostRuntime) {
     let found = [numbers(14, 14), arrives(10, LATE)];
     story(&rt, windowed(&rt, rt.alloc()), &[], &found);
-}
-
-/// The second sync of a command fails: what was pending is found.
-#[test]
-fn a_stopped_endpoint_does_nothing(rt: HostRuntime) {
-    let steps = [
-        submits(window(3), 1),
-        works(),
-        works(),
-        works(),
-        Advances(Err(StepFault::Disk)),
-        IsStopped(true),
-        Advances(Err(StepFault::Stopped)),
-        Refills(Err(RefillFault::Stopped)),
-        Step::Commands(window(4), Err(CommandFault::Stopped)),
-        Step::Protects(62, Err(ProtectFault::Stopped)),
-        Receives(Frame::Peers { number: 1 }, Err(Stopped)),
-    ];
-    let mut endpoint = opened(&rt, fuse(formatted(&rt, rt.alloc(), OWN), 3));
-    play(&rt, &mut endpoint, &steps);
-    play(&rt, &mut crashed(&rt, unfused(endpoint)), &[HasWindow(3)]);
-}
-
-/// Sets windows from the first size to the last.
-fn set_windows(rt: &impl Abort, endpoint: &mut Endpoint<MemDisk>, first: u32, last: u32) {
-    for size in first..=last {
-        play(rt, endpoint, &[keeps(window(size))]);
-    }
-}
-
-/// The power goes after so many steps of a command that finds all slots used.
-fn expect_found(rt: &impl Abort, alloc: Global, steps: u64) {
-    let mut endpoint = made(rt, alloc, PEER);
-    set_windows(rt, &mut endpoint, 1, 255);
-    play(rt, &mut endpoint, &[submits(window(256), 1)]);
-    for _ in 0..steps {
-        play(rt, &mut endpoint, &[works()]);
-    }
-    play(rt, &mut reopened(rt, endpoint), &[HasWindow(255)]);
-}
-
-#[test]
-fn a_command_is_not_found_before_the_last_step_of_a_compaction(rt: HostRuntime) {
-    for steps in [1, 100, 257, 258, 259, 260, 264] {
-        expect_found(&rt, rt.alloc(), steps);
-    }
-}
-
-/// The first compaction finds all 257 gates of the other area closed, and the second one open. Beside their reads, and the writes that
-/// close them, it makes a sync, writes the bodies of one record and of a head, makes a sync, opens the head gate and makes a sync;
-/// the command's own record takes four.
-#[test]
-fn a_worst_compaction_is_counted(rt: HostRuntime) {
-    let mut endpoint = made(&rt, rt.alloc(), PEER);
-    set_windows(&rt, &mut endpoint, 1, 255);
-    play(&rt, &mut endpoint, &[Keeps(window(256), 267, Ok(()))]);
-    set_windows(&rt, &mut endpoint, 257, 510);
-    play(&rt, &mut endpoint, &[Keeps(window(511), 524, Ok(()))]);
-    play(&rt, &mut reopened(&rt, endpoint), &[HasWindow(511)]);
 }
