@@ -1,7 +1,7 @@
 pub mod Images
 pub mod Moments
 pub mod Calls
-mod StoppedCalls
+mod BlownWrites
 mod Kept
 mod RecordedCalls
 mod Blank

@@ -1,39 +1,47 @@
 -- What the disks of this crate hand to the trait: that they are sound, and worn no sooner than their clock is full. It stands here
 -- and not among the proofs, since what a ghost item cites of its own crate stands in its specs.
-use Rattle.std.proofs.Common.{◌≡◌, ◌≤◌, ◌+◌, ◌-◌, ◌^◌, ◌==◌, inl, inr, ℕ, min, Bool, true, false, List, refl, ap, arith, subst, sym}
+use Rattle.std.proofs.Common.{◌≡◌, ◌≤◌, ◌+◌, ◌-◌, ◌^◌, ◌==◌, inl, inr, ℕ, min, max, Bool, true, false, List, refl, ap, arith, subst, sym}
 use Rattle.std.proofs.lemmas.Bool.{cases_eq}
 use Rattle.std.proofs.lemmas.Bool.Decides.{nat_tests}
 use Rattle.macs_disk.specs.States.{IsSound, settled_state}
 use Rattle.macs_disk.specs.Disk.{Disk, now}
-use Rattle.macs_disk.specs.Fused.{fused_disk}
+use Rattle.macs_disk.specs.Fused.{FuseValue, disk_of_fuse, fused_disk}
 use Rattle.macs_disk.specs.Recorded.{IsSoundMemory, state_at, sectors_in}
 use Rattle.macs_disk.specs.declared.record.Entry.{Entry}
 
 -- ---- a disk behind a fuse
 
 -- a disk behind a fuse is now in the state of the disk itself
-pub fused-now : (disk : Disk) (failed : ℕ) → now (fused_disk disk failed) ≡ now disk
-fused-now disk failed =
-    let same : min (disk.clock + failed) disk.clock ≡ disk.clock = omega arith in
+pub fused-now : (disk : Disk) (at missed added : ℕ) → at ≤ disk.clock → now (fused_disk disk at missed added) ≡ now disk
+fused-now disk at missed added le =
+    let same : min (disk.clock + missed) (max at (disk.clock + missed - missed)) ≡ disk.clock = omega (arith, le) in
     ap disk.past same
 
 -- which is as sound
-pub fused-sound : (disk : Disk) (failed : ℕ) → IsSound (now disk) → IsSound (now (fused_disk disk failed))
-fused-sound disk failed sound = subst IsSound (sym (fused-now disk failed)) sound
+pub fused-sound : (disk : Disk) (at missed added : ℕ) → at ≤ disk.clock → IsSound (now disk) → IsSound (now (fused_disk disk at missed added))
+fused-sound disk at missed added le sound = subst IsSound (sym (fused-now disk at missed added le)) sound
 
 -- a disk behind a fuse is worn no sooner than one of the two counts is full
-pub fused-wear : (disk : Disk) (failed : ℕ) → (disk.worn ≡ true → 2 ^ 64 - 1 ≤ disk.clock) → (fused_disk disk failed).worn ≡ true
-    → 2 ^ 64 - 1 ≤ (fused_disk disk failed).clock
-fused-wear disk failed inner is = elim (cases_eq failed (2 ^ 64 - 1)) [
+pub fused-wear : (disk : Disk) (at missed added : ℕ) → (disk.worn ≡ true → 2 ^ 64 - 1 ≤ disk.clock) → (fused_disk disk at missed added).worn ≡ true
+    → 2 ^ 64 - 1 ≤ (fused_disk disk at missed added).clock
+fused-wear disk at missed added inner is = elim (cases_eq missed (2 ^ 64 - 1)) [
   | inl full ↦ omega (arith, full)
   | inr other ↦ inner_worn disk.worn refl other
 ] where
-  inner_worn : (b : Bool) → disk.worn ≡ b → (failed ≡ 2 ^ 64 - 1 → ⊥) → 2 ^ 64 - 1 ≤ disk.clock + failed
+  inner_worn : (b : Bool) → disk.worn ≡ b → (missed ≡ 2 ^ 64 - 1 → ⊥) → 2 ^ 64 - 1 ≤ disk.clock + missed
   inner_worn true worn other = let h = inner worn in omega (arith, h)
   inner_worn false worn other = absurd (
-      let no : (failed == 2 ^ 64 - 1) ≡ false = grind (arith, nat_tests) in
-      let fresh : (fused_disk disk failed).worn ≡ false = rw (worn, no) refl in
+      let no : (missed == 2 ^ 64 - 1) ≡ false = grind (arith, nat_tests) in
+      let fresh : (fused_disk disk at missed added).worn ≡ false = rw (worn, no) refl in
       cc)
+
+-- what a fuse is
+pub fuse-sound : {D : Type 0} (disk : D → Disk) (fuse : FuseValue D) → IsSound (now (disk fuse.inner)) → IsSound (now (disk_of_fuse disk fuse))
+fuse-sound disk fuse = fused-sound (disk fuse.inner) (min (disk fuse.when).clock (disk fuse.inner).clock) fuse.missed fuse.added (omega arith)
+
+pub fuse-wear : {D : Type 0} (disk : D → Disk) (fuse : FuseValue D) → ((disk fuse.inner).worn ≡ true → 2 ^ 64 - 1 ≤ (disk fuse.inner).clock)
+    → (disk_of_fuse disk fuse).worn ≡ true → 2 ^ 64 - 1 ≤ (disk_of_fuse disk fuse).clock
+fuse-wear disk fuse = fused-wear (disk fuse.inner) (min (disk fuse.when).clock (disk fuse.inner).clock) fuse.missed fuse.added
 
 -- ---- a disk in memory
 

@@ -1,38 +1,85 @@
-//! A disk that stops after some calls.
+//! A disk that stops after some calls, or fails one of them.
 
-ghost use Rattle.std.specs.Prelude.{◌≡◌, ◌<◌, ◌+◌, ◌^◌, IsErr, OnOk, OnErr};
+ghost use Rattle.std.specs.Prelude.{◌≡◌, ◌≢◌, ◌≤◌, ◌<◌, ◌+◌, ◌^◌, ℕ, List, Option, Some, IsErr, OnOk, OnErr, IfSome};
+ghost use Rattle.macs_disk.specs.States.{IsSector};
 ghost use Rattle.macs_disk.specs.Disk.{IsDeviceCall, IsHonest, Reads, Syncs, Writes, now};
-ghost use Rattle.macs_disk.specs.Fused.{FuseValue, disk_of_fuse, fuse_after_blown_call};
+ghost use Rattle.macs_disk.specs.Fused.{AreCounted, BlowsWrite, FuseValue, IsCounted, IsPassing, disk_of_fuse};
+ghost use Rattle.macs_disk.specs.Fused.{fuse_after_blown_call, fuse_after_passed_call, fuse_after_stopped_call};
+ghost use Rattle.macs_disk.specs.declared.fuse.Blow.TheVariants.{EachCall, OneCall, NoCall};
 
 use crate::disk::{DeviceFault, SectorDisk};
 use std::marker::Model;
+use std::snapshot::Snapshot;
 
-/// A disk in front of another: it passes some calls on, and then fails each without passing it on. It
-/// counts the calls that it failed beside those of the disk behind it.
-#[derive(Drop)]
-pub struct Fuse<D> {
-    disk: D,
-    left: u64,
-    failed: u64,
+/// Which calls a fuse fails once it has passed on those that were left.
+#[derive(Clone, Copy)]
+pub(crate) enum Blow {
+    /// Each.
+    EachCall,
+    /// The next one alone. Where it is a write, these octets are written in its place.
+    OneCall([u8; 512]),
+    /// None: it has failed its one call.
+    NoCall,
 }
 
-impl<D> Model for Fuse<D> {
+/// A disk in front of another: it passes some calls on, and then fails each, or one. A call that it
+/// fails does not reach the disk behind it, but for a write that `once` fails. It counts the failed calls
+/// that the disk behind it missed, and the failures that it added.
+#[derive(Drop)]
+pub struct Fuse<D: SectorDisk> {
+    disk: D,
+    when: Snapshot<D>,
+    left: u64,
+    blow: Blow,
+    missed: u64,
+    added: u64,
+}
+
+impl<D: SectorDisk> Model for Fuse<D> {
     ghost Value = { FuseValue D };
 
-    ghost view = { λ fuse. record { inner = fuse.disk; left = fuse.left; failed = fuse.failed } };
+    ghost view = { λ fuse. record {
+      inner = fuse.disk;
+      when = fuse.when.value;
+      left = fuse.left;
+      blow = fuse.blow;
+      missed = fuse.missed;
+      added = fuse.added;
+    } };
 
-    ghost invariant = { λ fuse. 0 < fuse.failed → fuse.left ≡ 0 };
+    ghost invariant = { λ fuse. AreCounted fuse.blow (D.disk fuse.when.value).clock (D.disk fuse.disk).clock
+        fuse.left fuse.missed fuse.added };
 }
 
 impl<D: SectorDisk> Fuse<D> {
-    /// A fuse that passes `left` calls of `read`, `write` and `sync` on to the disk.
+    /// A fuse that passes `left` calls of `read`, `write` and `sync` on to the disk, and then fails each.
     pub fn new(disk: D, left: u64) -> Self
-        ensures { result ≡ record { inner = disk; left = left; failed = 0 } }
+        ensures { result ≡ record { inner = disk; when = disk; left = left; blow = EachCall; missed = 0; added = 0 } }
     {
+        Fuse::with(disk, left, Blow::EachCall)
+    }
+
+    /// A fuse that passes `left` calls of `read`, `write` and `sync` on to the disk, fails the next one,
+    /// and passes all later ones on. Where the one that it fails is a write, it writes `fill` into that
+    /// sector of the disk; a read or a sync that it fails changes nothing there.
+    pub fn once(disk: D, left: u64, fill: [u8; 512]) -> Self
+        ensures { result ≡ record { inner = disk; when = disk; left = left; blow = OneCall fill; missed = 0; added = 0 } }
+    {
+        Fuse::with(disk, left, Blow::OneCall(fill))
+    }
+
+    // A fuse that has failed no call yet.
+    fn with(disk: D, left: u64, blow: Blow) -> Self
+        ensures { result ≡ record { inner = disk; when = disk; left = left; blow = blow; missed = 0; added = 0 } }
+    {
+        let when = Snapshot::of(&disk);
         Fuse {
             disk,
+            when,
             left,
-            failed: 0,
+            blow,
+            missed: 0,
+            added: 0,
         }
     }
 
@@ -44,31 +91,69 @@ impl<D: SectorDisk> Fuse<D> {
         disk
     }
 
-    // Takes one of the calls that are left, or counts a failed one.
+    // Takes a call that is to be passed on, or counts one that the disk behind misses.
     fn pass(&mut self) -> Result<(), DeviceFault>
-        ensures ok { OnOk result ((self.new.inner ≡ self.old.inner)
-            × (self.new.left + 1 ≡ self.old.left) × (self.new.failed ≡ self.old.failed)) }
-        ensures unblown { OnOk result (self.new.failed ≡ 0) }
-        ensures err { OnErr result ((self.old.left ≡ 0) × (self.old.failed < 2 ^ 64)
-            × (self.new ≡ fuse_after_blown_call self.old)) }
+        ensures counted { IsCounted D.disk self.old }
+        ensures ok { OnOk result (IsPassing self.old × (self.new ≡ fuse_after_passed_call self.old self.old.inner)) }
+        ensures few { OnOk result (self.old.missed ≤ 1) }
+        ensures err { OnErr result ((self.old.left ≡ 0) × (self.old.blow ≢ NoCall)) }
+        ensures stopped { self.old.left ≡ 0 → self.old.blow ≡ EachCall
+            → IsErr result × (self.new ≡ fuse_after_stopped_call self.old) }
+        ensures blown { (fill : List ℕ) → self.old.left ≡ 0 → self.old.blow ≡ OneCall fill
+            → IsErr result × (self.new ≡ fuse_after_blown_call self.old) }
     {
-        if self.left == 0 {
-            self.failed = self.failed.saturating_add(1);
-            return Err(DeviceFault);
+        if self.left > 0 {
+            self.left -= 1;
+            return Ok(());
         }
-        self.left -= 1;
-        Ok(())
+        match self.blow {
+            Blow::NoCall => return Ok(()),
+            Blow::OneCall(_) => self.blow = Blow::NoCall,
+            Blow::EachCall => {}
+        }
+        self.when = Snapshot::of(&self.disk);
+        self.missed = self.missed.saturating_add(1);
+        self.added = self.added.saturating_add(1);
+        Err(DeviceFault)
+    }
+
+    // The octets that the next call is to write if it is a write, where it is the one that fails.
+    fn fill(&self) -> Option<[u8; 512]>
+        ensures some { IfSome result (λ fill. (self.now.left ≡ 0) × (self.now.blow ≡ OneCall fill)) }
+        ensures found { (fill : List ℕ) → self.now.left ≡ 0 → self.now.blow ≡ OneCall fill → result ≡ Some fill }
+    {
+        match self.blow {
+            Blow::OneCall(fill) if self.left == 0 => Some(fill),
+            _ => None,
+        }
+    }
+
+    // Fails the one call, a write: these octets are written in its place.
+    fn blow_write(&mut self, at: u64, fill: &[u8; 512]) -> Result<(), DeviceFault>
+        requires within { at < (D.disk self.old.inner).sectors }
+        requires next { (self.old.left ≡ 0) × (self.old.blow ≡ OneCall fill.now) }
+        ensures counted { IsCounted D.disk self.old }
+        ensures err { IsErr result }
+        ensures sector { IsSector fill.now }
+        ensures blown { BlowsWrite D.disk self.old self.new at fill.now }
+    {
+        self.when = Snapshot::of(&self.disk);
+        self.blow = Blow::NoCall;
+        if self.disk.write(at, fill).is_ok() {
+            self.added += 1;
+        }
+        Err(DeviceFault)
     }
 }
 
 impl<D: SectorDisk> SectorDisk for Fuse<D> {
-    ghost use Rattle.macs_disk.specs.Evidence.{fused-sound, fused-wear};
+    ghost use Rattle.macs_disk.specs.Evidence.{fuse-sound, fuse-wear};
 
     ghost disk = { disk_of_fuse D.disk };
 
-    ghost sound = { λ fuse honest. fused-sound (D.disk fuse.inner) fuse.failed (D.sound fuse.inner honest) };
+    ghost sound = { λ fuse honest. fuse-sound D.disk fuse (D.sound fuse.inner honest) };
 
-    ghost wear = { λ fuse. fused-wear (D.disk fuse.inner) fuse.failed (D.wear fuse.inner) };
+    ghost wear = { λ fuse. fuse-wear D.disk fuse (D.wear fuse.inner) };
 
     fn sectors(&self) -> u64 {
         self.disk.sectors()
@@ -79,10 +164,14 @@ impl<D: SectorDisk> SectorDisk for Fuse<D> {
         ensures call { IsDeviceCall (disk_of_fuse D.disk self.old) (disk_of_fuse D.disk self.new) result }
         ensures effect { IsHonest (disk_of_fuse D.disk self.new)
             → Reads (now (disk_of_fuse D.disk self.old)) (now (disk_of_fuse D.disk self.new)) at into.new result }
-        ensures passed { 0 < self.old.left → (self.new.left + 1 ≡ self.old.left)
+        ensures passed { IsPassing self.old → (self.new ≡ fuse_after_passed_call self.old self.new.inner)
             × IsDeviceCall (D.disk self.old.inner) (D.disk self.new.inner) result }
-        ensures stopped { self.old.left ≡ 0 → IsErr result × (self.new ≡ fuse_after_blown_call self.old) }
+        ensures stopped { self.old.left ≡ 0 → self.old.blow ≡ EachCall
+            → IsErr result × (self.new ≡ fuse_after_stopped_call self.old) }
+        ensures blown { (fill : List ℕ) → self.old.left ≡ 0 → self.old.blow ≡ OneCall fill
+            → IsErr result × (self.new ≡ fuse_after_blown_call self.old) }
     {
+        // A read that fails reads nothing.
         self.pass()?;
         self.disk.read(at, into)
     }
@@ -92,10 +181,16 @@ impl<D: SectorDisk> SectorDisk for Fuse<D> {
         ensures call { IsDeviceCall (disk_of_fuse D.disk self.old) (disk_of_fuse D.disk self.new) result }
         ensures effect { IsHonest (disk_of_fuse D.disk self.new)
             → Writes (now (disk_of_fuse D.disk self.old)) (now (disk_of_fuse D.disk self.new)) at from.now result }
-        ensures passed { 0 < self.old.left → (self.new.left + 1 ≡ self.old.left)
+        ensures passed { IsPassing self.old → (self.new ≡ fuse_after_passed_call self.old self.new.inner)
             × IsDeviceCall (D.disk self.old.inner) (D.disk self.new.inner) result }
-        ensures stopped { self.old.left ≡ 0 → IsErr result × (self.new ≡ fuse_after_blown_call self.old) }
+        ensures stopped { self.old.left ≡ 0 → self.old.blow ≡ EachCall
+            → IsErr result × (self.new ≡ fuse_after_stopped_call self.old) }
+        ensures blown { (fill : List ℕ) → self.old.left ≡ 0 → self.old.blow ≡ OneCall fill
+            → IsErr result × BlowsWrite D.disk self.old self.new at fill }
     {
+        if let Some(fill) = self.fill() {
+            return self.blow_write(at, &fill);
+        }
         self.pass()?;
         self.disk.write(at, from)
     }
@@ -104,10 +199,14 @@ impl<D: SectorDisk> SectorDisk for Fuse<D> {
         ensures call { IsDeviceCall (disk_of_fuse D.disk self.old) (disk_of_fuse D.disk self.new) result }
         ensures effect { IsHonest (disk_of_fuse D.disk self.new)
             → Syncs (now (disk_of_fuse D.disk self.old)) (now (disk_of_fuse D.disk self.new)) result }
-        ensures passed { 0 < self.old.left → (self.new.left + 1 ≡ self.old.left)
+        ensures passed { IsPassing self.old → (self.new ≡ fuse_after_passed_call self.old self.new.inner)
             × IsDeviceCall (D.disk self.old.inner) (D.disk self.new.inner) result }
-        ensures stopped { self.old.left ≡ 0 → IsErr result × (self.new ≡ fuse_after_blown_call self.old) }
+        ensures stopped { self.old.left ≡ 0 → self.old.blow ≡ EachCall
+            → IsErr result × (self.new ≡ fuse_after_stopped_call self.old) }
+        ensures blown { (fill : List ℕ) → self.old.left ≡ 0 → self.old.blow ≡ OneCall fill
+            → IsErr result × (self.new ≡ fuse_after_blown_call self.old) }
     {
+        // A sync that fails syncs nothing.
         self.pass()?;
         self.disk.sync()
     }
