@@ -9,7 +9,7 @@ use Rattle.macs_pcap.specs.Reading.{HoldsOfLeft, ReadsRecord, Takes}
 use Rattle.macs_pcap.specs.Records.{BeginsWithRecord, CaptureRecord, record_text}
 use Rattle.macs_pcap.specs.States.{SinkState, SourceState}
 use Rattle.macs_pcap.specs.declared.header.Stamp.{Stamp}
-use Rattle.macs_endpoint.specs.Lives.{Lives, Turn}
+use Rattle.macs_endpoint.specs.Lives.{Lives, Transition}
 use Rattle.macs_endpoint.specs.State.{Reply, State}
 use Rattle.macs_endpoint.specs.Step.{Step}
 use Rattle.macs_endpoint.specs.Value.{EndpointValue, state_of}
@@ -47,7 +47,7 @@ passes-more side old between new (one ∷ more) taken passed reply frame passes 
       passes-more side next between new more taken rest reply frame later step settles,
     )
 
-hands-more : {D : Type 0} (side : Side) (records : List CaptureRecord) (taken : CaptureRecord) (turns more : List (Turn D)) (reply : Reply)
+hands-more : {D : Type 0} (side : Side) (records : List CaptureRecord) (taken : CaptureRecord) (turns more : List (Transition D)) (reply : Reply)
     → HandsAllIn side records turns → HandsIn (call_on side taken.frame) more reply → HandsAllIn side (records ++ taken ∷ []) (turns ++ more)
 hands-more side [] taken turns more reply all one = (more, [], reply, ap (λ (l : _). l ++ more) all ∙ sym (append-nil more), one, refl)
 hands-more side (first ∷ others) taken turns more reply all one =

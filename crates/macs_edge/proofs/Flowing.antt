@@ -5,7 +5,7 @@ use Rattle.macs_disk.specs.Disk.{Disk}
 use Rattle.macs_txsc.specs.declared.fault.TxFault.TheVariants.{Runt, ForeignSource, NoEncodingSa, Exhausted, NoNumber}
 use Rattle.macs_txsc.specs.declared.fault.TxFault.TheVariants as tx
 use Rattle.macs_rxsc.specs.declared.verdict.Verdict.TheVariants.{Delivered, Discarded, HeldBack}
-use Rattle.macs_endpoint.specs.Lives.{Lives, Turn}
+use Rattle.macs_endpoint.specs.Lives.{Lives, Transition}
 use Rattle.macs_endpoint.specs.State.{Advanced, Advances, Protected, Ran, Received, Refilled, Reply, Submitted}
 use Rattle.macs_endpoint.specs.Step.{IsStopped}
 use Rattle.macs_endpoint.specs.Value.{EndpointValue}
@@ -155,7 +155,7 @@ other Controlled = Common
 other Common = Controlled
 
 module _ {D : Type 0} where
-  given-append : (side : Side) (turns more : List (Turn D)) → given side (turns ++ more) ≡ given side turns ++ given side more
+  given-append : (side : Side) (turns more : List (Transition D)) → given side (turns ++ more) ≡ given side turns ++ given side more
   given-append side [] more = refl
   given-append side (turn ∷ turns) more =
       ap (λ (l : List (List ℕ)). given_at side turn ++ l) (given-append side turns more)
@@ -370,7 +370,7 @@ flow-drops from from1 to to1 to2 all lane lane2 frame is flow none same same_to 
 
 -- the calls that are made, what goes this way, and that nothing changes the other way
 record Moves {D : Type 0} (disk_of : D → Disk) (side : Side) (old new : Way D) : Type 0 where
-  calls : List (Turn D)
+  calls : List (Transition D)
   lives : Lives disk_of old.endpoint calls new.endpoint
   here : (from to : WireState) (all : List (List ℕ)) → Flow from old.from to old.to all old.lane → Flow from new.from to new.to (all ++ given side calls) new.lane
   there : given (other side) calls ≡ []
@@ -455,7 +455,7 @@ module _ {D : Type 0} (disk_of : D → Disk) (side : Side) where
 
 -- the calls of a relay so far, and what went each way
 record Goes {D : Type 0} (disk_of : D → Disk) (old new : Relay D) : Type 0 where
-  calls : List (Turn D)
+  calls : List (Transition D)
   lives : Lives disk_of old.endpoint calls new.endpoint
   out : Flow old.controlled new.controlled old.common new.common (given Controlled calls) new.to_common
   back : Flow old.common new.common old.controlled new.controlled (given Common calls) new.to_controlled
@@ -476,12 +476,12 @@ flow-begins from to lane is = subst (λ (l : LaneValue). Flow from from to to []
   off (Some frames) = ([], refl, refl)
 
 module _ {D : Type 0} (disk_of : D → Disk) where
-  given-behind : (side : Side) (a b c d : List (Turn D)) → ((given side a ++ given side b) ++ given side c) ++ given side d ≡ given side (((a ++ b) ++ c) ++ d)
+  given-behind : (side : Side) (a b c d : List (Transition D)) → ((given side a ++ given side b) ++ given side c) ++ given side d ≡ given side (((a ++ b) ++ c) ++ d)
   given-behind side a b c d =
       ap (λ (l : List (List ℕ)). (l ++ given side c) ++ given side d) (sym (given-append side a b))
       ∙ ap (λ (l : List (List ℕ)). l ++ given side d) (sym (given-append side (a ++ b) c)) ∙ sym (given-append side ((a ++ b) ++ c) d)
 
-  none-behind : (side : Side) (all : List (List ℕ)) (calls : List (Turn D)) → given side calls ≡ [] → all ++ given side calls ≡ all
+  none-behind : (side : Side) (all : List (List ℕ)) (calls : List (Transition D)) → given side calls ≡ [] → all ++ given side calls ≡ all
   none-behind side all calls none = ap (λ (l : List (List ℕ)). all ++ l) none ∙ append-nil all
 
   turn-goes : (answer : Result Progress StepFault) (old between new : Relay D) → Goes disk_of old between → TakesTurn disk_of answer between new → Goes disk_of old new
@@ -489,7 +489,7 @@ module _ {D : Type 0} (disk_of : D → Disk) where
       let one = carries-moves disk_of Controlled (way_of between.endpoint between.controlled between.common between.to_common)
       (way_of endpoint controlled common new.to_common) carries_out in
       let two = carries-moves disk_of Common (way_of endpoint common controlled between.to_controlled) (way_of late new.common new.controlled new.to_controlled) carries_back in
-      let three : Turn D = record { call = Advances; reply = Advanced answer; after = new.endpoint } in
+      let three : Transition D = record { call = Advances; reply = Advanced answer; after = new.endpoint } in
       let lives_one = lives-append disk_of old.endpoint between.endpoint endpoint goes.calls one.calls goes.lives one.lives in
       let lives_two = lives-append disk_of old.endpoint endpoint late (goes.calls ++ one.calls) two.calls lives_one two.lives in
       let out_one = one.here old.controlled old.common (given Controlled goes.calls) goes.out in

@@ -3,7 +3,7 @@ use Rattle.std.specs.Prelude.{◌≡◌, ◌⊎◌, ◌+◌, ◌++◌, ⊤, ℕ,
 use Rattle.std.specs.Option.{option_map}
 use Rattle.macs_disk.specs.Disk.{Disk}
 use Rattle.macs_rxsc.specs.declared.verdict.Verdict.TheVariants.{Delivered}
-use Rattle.macs_endpoint.specs.Lives.{Lives, Turn}
+use Rattle.macs_endpoint.specs.Lives.{Lives, Transition}
 use Rattle.macs_endpoint.specs.State.{Call, Protected, Protects, Received, Receives, Reply}
 use Rattle.macs_edge.specs.Relaying.{LaneValue, Relay, one_left}
 use Rattle.macs_edge.specs.Wires.{WireState, saturated}
@@ -24,11 +24,11 @@ given_by (Received (Ok (Delivered kind)) out) = out ∷ []
 given_by reply = []
 
 -- what a call gives on this side
-abbrev pub given_at : {D : Type 0} → Side → Turn D → List (List ℕ)
+abbrev pub given_at : {D : Type 0} → Side → Transition D → List (List ℕ)
 given_at side turn = if is_on side turn.call then given_by turn.reply else []
 
 -- all that was given on this side, in order
-abbrev pub given : {D : Type 0} → Side → List (Turn D) → List (List ℕ)
+abbrev pub given : {D : Type 0} → Side → List (Transition D) → List (List ℕ)
 given side [] = []
 given side (turn ∷ turns) = given_at side turn ++ given side turns
 
@@ -78,7 +78,7 @@ pub record Flow (from from' to to' : WireState) (all : List (List ℕ)) (lane : 
 -- Both ways: the calls of the endpoint, one after another, and what goes each way. The summary has what each wire gained, as far as its
 -- numbers go; its faults are the failed calls of both wires, and what it has as dropped are the other frames that were taken
 pub record IsFlow {D : Type 0} (disk_of : D → Disk) (old new : Relay D) (summary : RelaySummary) : Type 0 where
-  pub calls : List (Turn D)
+  pub calls : List (Transition D)
   pub lives : Lives disk_of old.endpoint calls new.endpoint
   pub out : Flow old.controlled new.controlled old.common new.common (given Controlled calls) new.to_common
   pub back : Flow old.common new.common old.controlled new.controlled (given Common calls) new.to_controlled

@@ -2,7 +2,7 @@
 use Rattle.std.specs.Prelude.{◌≡◌, ◌≤◌, ◌⊎◌, ◌+◌, ◌++◌, ℕ, Bool, if◌then◌else◌, List, [], ◌∷◌, length, Option, Some, None, IfSome, Result, Ok, Err, OnErr, OnOk}
 use Rattle.std.specs.Io.KnownBytes.{Appends}
 use Rattle.macs_disk.specs.Disk.{Disk}
-use Rattle.macs_endpoint.specs.Lives.{Lives, Turn}
+use Rattle.macs_endpoint.specs.Lives.{Lives, Transition}
 use Rattle.macs_endpoint.specs.State.{Logs, Reply, State}
 use Rattle.macs_endpoint.specs.Step.{Step}
 use Rattle.macs_endpoint.specs.Value.{EndpointValue, state_of}
@@ -70,16 +70,16 @@ abbrev pub run_of : {D : Type 0} → EndpointValue D → SourceState → SinkSta
 run_of endpoint source sink = record { endpoint = endpoint; source = source; sink = sink }
 
 -- the frames of these records were handed in by these calls, one after another
-abbrev pub HandsAllIn : {D : Type 0} → Side → List CaptureRecord → List (Turn D) → Type 0
+abbrev pub HandsAllIn : {D : Type 0} → Side → List CaptureRecord → List (Transition D) → Type 0
 HandsAllIn side [] turns = turns ≡ []
 HandsAllIn {D} side (taken ∷ more) turns =
-    (first : List (Turn D)) × (rest : List (Turn D)) × (reply : Reply)
+    (first : List (Transition D)) × (rest : List (Transition D)) × (reply : Reply)
     × (turns ≡ first ++ rest) × HandsIn (call_on side taken.frame) first reply × HandsAllIn side more rest
 
 -- these records were taken, and these went out
 pub record HasPassed {D : Type 0} (disk_of : D → Disk) (side : Side) (big : Bool) (old : Run D) (records passed : List CaptureRecord) (new : Run D) : Type 0 where
   pub few : length records ≤ max_records
-  pub turns : List (Turn D)
+  pub turns : List (Transition D)
   pub lives : Lives disk_of old.endpoint turns new.endpoint
   pub handed : HandsAllIn side records turns
   pub steps : (logs : Logs) → (after : Logs) × Passes side (state_of old.endpoint logs) records passed (state_of new.endpoint after)

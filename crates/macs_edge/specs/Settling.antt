@@ -4,7 +4,7 @@ use Rattle.macs_disk.specs.Disk.{Disk}
 use Rattle.macs_txsc.specs.declared.fault.TxFault.TheVariants.{NoNumber}
 use Rattle.macs_rxsc.specs.declared.verdict.Verdict.TheVariants.{Delivered, Discarded, HeldBack}
 use Rattle.macs_endpoint.specs.Calls.{IsCall}
-use Rattle.macs_endpoint.specs.Lives.{Lives, Turn}
+use Rattle.macs_endpoint.specs.Lives.{Lives, Transition}
 use Rattle.macs_endpoint.specs.State.{Call, Logs, Protects, Protected, Received, Receives, Refilled, Refills, Reply}
 use Rattle.macs_endpoint.specs.Step.{IsStopped, Step}
 use Rattle.macs_endpoint.specs.Value.{EndpointValue, state_of}
@@ -46,7 +46,7 @@ Means call reply out outcome.Stopped = IsStopped call reply
 
 -- A frame is handed in by these calls and answered with this at last: once; or, where it waits, once more behind a refill that is
 -- answered Ok
-abbrev pub HandsIn : {D : Type 0} → Call → List (Turn D) → Reply → Type 0
+abbrev pub HandsIn : {D : Type 0} → Call → List (Transition D) → Reply → Type 0
 HandsIn call (only ∷ []) reply = (only.call ≡ call) × (only.reply ≡ reply)
 HandsIn call (early ∷ between ∷ late ∷ []) reply =
     (early.call ≡ call) × Waits early.reply
@@ -56,7 +56,7 @@ HandsIn call turns reply = ⊥
 
 -- The frame is handed in and settled, and all that was done with it is one step of the machine, as though it had never waited
 pub record IsSettled {D : Type 0} (disk_of : D → Disk) (old : EndpointValue D) (call : Call) (passed : Option (List ℕ)) (new : EndpointValue D) : Type 0 where
-  pub turns : List (Turn D)
+  pub turns : List (Transition D)
   pub lives : Lives disk_of old turns new
   pub reply : Reply
   pub handed : HandsIn call turns reply

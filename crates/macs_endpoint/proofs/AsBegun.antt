@@ -4,12 +4,12 @@ use Rattle.macs_config.specs.declared.command.Command.{Command}
 use Rattle.macs_disk.specs.Disk.{Disk}
 use Rattle.macs_store.specs.Standing.{Standing}
 use Rattle.macs_store.specs.Value.{IsIdle, StoreValue, standing_in, standing_then}
-use Rattle.macs_endpoint.specs.Advancing.{BeginsWith, GoesOn, Piece, Raises, next_piece}
+use Rattle.macs_endpoint.specs.Advancing.{BeginsWith, GoesOn, Piece, ToRaise, next_piece}
 use Rattle.macs_endpoint.specs.Calls.{AdvancesIn, IsCall, Rests}
 use Rattle.macs_endpoint.specs.Ceilings.{CeilingsAfter, Raise, standing_with_raise}
 use Rattle.macs_endpoint.specs.Lasting.{Lasts}
 use Rattle.macs_endpoint.specs.Limits.{IsStill}
-use Rattle.macs_endpoint.specs.Lives.{Lives, Turn}
+use Rattle.macs_endpoint.specs.Lives.{Lives, Transition}
 use Rattle.macs_endpoint.specs.State.{Advanced, Advances, Call, Commands, Logs, Protected, Protects, Ran, Received, Receives, Refilled, Refills, Reply, State, Submits, Submitted, no_logs}
 use Rattle.macs_endpoint.specs.Step.{AdvanceStep, RunningStep, SubmitStep}
 use Rattle.macs_endpoint.specs.Value.{EndpointValue, IsAtRest, IsKeeping, IsReserving, IsSoundEndpoint, is_stopped, state_of}
@@ -125,15 +125,15 @@ module _ {D : Type 0} (disk_of : D → Disk) (from to : Standing) (old new : End
 -- ---- through calls
 
 module _ {D : Type 0} (disk_of : D → Disk) where
-  sound_at : (turns : List (Turn D)) (e last : EndpointValue D) → Lives disk_of e turns last → IsSoundEndpoint last → IsSoundEndpoint e
+  sound_at : (turns : List (Transition D)) (e last : EndpointValue D) → Lives disk_of e turns last → IsSoundEndpoint last → IsSoundEndpoint e
   sound_at [] e last lives kept = subst (λ (x : EndpointValue D). IsSoundEndpoint x) lives kept
   sound_at (turn ∷ turns) e last lives kept = lives.0
 
-  busy_at : (turns : List (Turn D)) (e last : EndpointValue D) → Lives disk_of e turns last → Lasts e turns → (¬ IsIdle last.store) → IsIdle e.store → ⊥
+  busy_at : (turns : List (Transition D)) (e last : EndpointValue D) → Lives disk_of e turns last → Lasts e turns → (¬ IsIdle last.store) → IsIdle e.store → ⊥
   busy_at [] e last lives lasts busy = subst (λ (x : EndpointValue D). ¬ IsIdle x.store) lives busy
   busy_at (turn ∷ turns) e last lives lasts busy = lasts.0
 
-  leads_life : (from to : Standing) (turns : List (Turn D)) (e last : EndpointValue D) → Lives disk_of e turns last → Lasts e turns → IsSoundEndpoint last
+  leads_life : (from to : Standing) (turns : List (Transition D)) (e last : EndpointValue D) → Lives disk_of e turns last → Lasts e turns → IsSoundEndpoint last
       → (¬ IsIdle last.store) → LeadsTo from to e → LeadsTo from to last
   leads_life from to [] e last lives lasts kept busy leads = subst (λ (x : EndpointValue D). LeadsTo from to x) (sym lives) leads
   leads_life from to (turn ∷ turns) e last lives lasts kept busy leads =
@@ -148,7 +148,7 @@ module _ {D : Type 0} (disk_of : D → Disk) where
   ]
 
   -- what is reserved is what was to be raised when the reservation began
-  pub as-begun : (old begun last new : EndpointValue D) (turns : List (Turn D)) (raise : Raise) → IsIdle old.store → next_piece old ≡ Some (Raises raise)
+  pub as-begun : (old begun last new : EndpointValue D) (turns : List (Transition D)) (raise : Raise) → IsIdle old.store → next_piece old ≡ Some (ToRaise raise)
       → IsCall disk_of old Advances (Advanced (Ok Worked)) begun → Lives disk_of begun turns last → Lasts begun turns → IsSoundEndpoint last
       → IsCall disk_of last Advances (Advanced (Ok Reserved)) new → standing_in new.store ≡ standing_with_raise (standing_in old.store) raise
   as-begun old begun last new turns raise idle is_next begins lives lasts kept ends =

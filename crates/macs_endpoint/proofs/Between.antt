@@ -3,12 +3,12 @@ use Rattle.std.proofs.Common.{◌≡◌, ◌≢◌, ◌≤◌, ◌+◌, ◌++◌
 use Rattle.macs_config.specs.declared.command.Command.{Command}
 use Rattle.macs_disk.specs.Disk.{Disk}
 use Rattle.macs_store.specs.Value.{IsIdle, StoreValue}
-use Rattle.macs_endpoint.specs.Advancing.{AdvancesAs, BeginsWith, Piece, Raises, Takes, next_piece, piece_among, turn_after, turn_after_step}
+use Rattle.macs_endpoint.specs.Advancing.{AdvancesAs, BeginsWith, Piece, ToKeep, ToRaise, next_piece, piece_among, turn_after, turn_after_step}
 use Rattle.macs_endpoint.specs.Calls.{AdvancesIn, IsCall}
 use Rattle.macs_endpoint.specs.Ceilings.{Raise}
 use Rattle.macs_endpoint.specs.Lasting.{IsNotDone, NoneDone, reservations_in_reply, reservations_made}
 use Rattle.macs_endpoint.specs.Limits.{IsStill}
-use Rattle.macs_endpoint.specs.Lives.{Lives, Turn}
+use Rattle.macs_endpoint.specs.Lives.{Lives, Transition}
 use Rattle.macs_endpoint.specs.Needed.{raise_in}
 use Rattle.macs_endpoint.specs.Queue.{first_waiting}
 use Rattle.macs_endpoint.specs.State.{Advanced, Advances, Call, Commands, Logs, Protected, Protects, Ran, Received, Receives, Refilled, Refills, Reply, State, Submits, Submitted, no_logs}
@@ -39,21 +39,21 @@ IsCommands e = ((command : Command) × (e.in_hand ≡ Some command)) ⊎ (IsIdle
 
 -- where it is next it begins
 takes_by : (whose : Whose) (o : Option Raise) (w : Option Waiting) (first : Waiting) → whose ≡ turn.Command → w ≡ Some first
-    → piece_among whose o w ≡ Some (Takes first)
+    → piece_among whose o w ≡ Some (ToKeep first)
 takes_by turn.Reservation o w first is waits = absurd cc
 takes_by turn.Command o None first is waits = absurd cc
-takes_by turn.Command None (Some f) first is waits = ap (λ (x : Waiting). Some (Takes x)) (some_is f first waits)
-takes_by turn.Command (Some raise) (Some f) first is waits = ap (λ (x : Waiting). Some (Takes x)) (some_is f first waits)
+takes_by turn.Command None (Some f) first is waits = ap (λ (x : Waiting). Some (ToKeep x)) (some_is f first waits)
+takes_by turn.Command (Some raise) (Some f) first is waits = ap (λ (x : Waiting). Some (ToKeep x)) (some_is f first waits)
 
 pub none_reserved : {D : Type 0} (old new : EndpointValue D) (piece : Option Piece) → BeginsWith old piece (Ok Reserved) new → ⊥
 none_reserved old new None begins = begins
-none_reserved old new (Some (Raises raise)) begins = begins
-none_reserved old new (Some (Takes first)) begins = begins
+none_reserved old new (Some (ToRaise raise)) begins = begins
+none_reserved old new (Some (ToKeep first)) begins = begins
 
 none_idle : {D : Type 0} (old new : EndpointValue D) (piece : Option Piece) → BeginsWith old piece (Ok Idle) new → new ≡ old
 none_idle old new None begins = begins
-none_idle old new (Some (Raises raise)) begins = absurd begins
-none_idle old new (Some (Takes first)) begins = absurd begins
+none_idle old new (Some (ToRaise raise)) begins = absurd begins
+none_idle old new (Some (ToKeep first)) begins = absurd begins
 
 -- a stopped endpoint reserves nothing
 stopped_none : (call : Call) (reply : Reply) → IsStopped call reply → reservations_in_reply reply ≡ 0
@@ -109,7 +109,7 @@ module _ {D : Type 0} (disk_of : D → Disk) (old new : EndpointValue D) (kept :
     -- ---- a step
 
     -- a command that is next begins
-    begins : IsIdle old.store → IsCommands old → next_piece old ≡ Some (Takes waits.0)
+    begins : IsIdle old.store → IsCommands old → next_piece old ≡ Some (ToKeep waits.0)
     begins idle (inl held) = absurd (let is = sym held.1 ∙ (at-rest old kept idle).in_hand running in cc)
     begins idle (inr next) = takes_by old.turn (raise_in old) (first_waiting old.waiting) waits.0 next.1 (ap first_waiting waits.2)
 
@@ -216,7 +216,7 @@ module _ {D : Type 0} (disk_of : D → Disk) (old new : EndpointValue D) (kept :
 
 module _ {D : Type 0} (disk_of : D → Disk) where
   -- a stopped endpoint reserves nothing
-  stopped_life : (turns : List (Turn D)) (e new : EndpointValue D) → is_stopped e ≡ true → Lives disk_of e turns new → reservations_made turns ≡ 0
+  stopped_life : (turns : List (Transition D)) (e new : EndpointValue D) → is_stopped e ≡ true → Lives disk_of e turns new → reservations_made turns ≡ 0
   stopped_life [] e new stopped lives = refl
   stopped_life (turn ∷ turns) e new stopped lives = elim (lives.1.behaves.step no_logs).1 [
     | inl is ↦
@@ -226,7 +226,7 @@ module _ {D : Type 0} (disk_of : D → Disk) where
   ]
 
   -- no reservation has its turn before the command has had it
-  commands_life : (turns : List (Turn D)) (e new : EndpointValue D) → Waits e → IsCommands e → Lives disk_of e turns new → NoneDone turns → reservations_made turns ≡ 0
+  commands_life : (turns : List (Transition D)) (e new : EndpointValue D) → Waits e → IsCommands e → Lives disk_of e turns new → NoneDone turns → reservations_made turns ≡ 0
   commands_life [] e new waits commands lives free = refl
   commands_life (turn ∷ turns) e new waits commands lives free = elim (uses disk_of e turn.after lives.0 waits turn.call turn.reply lives.1 free.0) [
     | inl (stopped, none) ↦ omega (arith, none, stopped_life turns turn.after new stopped lives.2)
@@ -234,7 +234,7 @@ module _ {D : Type 0} (disk_of : D → Disk) where
     | inr (inr (one, others, now, wait)) ↦ absurd (others commands)
   ]
 
-  one_life : (turns : List (Turn D)) (e new : EndpointValue D) → Waits e → Lives disk_of e turns new → NoneDone turns → reservations_made turns ≤ 1
+  one_life : (turns : List (Transition D)) (e new : EndpointValue D) → Waits e → Lives disk_of e turns new → NoneDone turns → reservations_made turns ≤ 1
   one_life [] e new waits lives free = omega arith
   one_life (turn ∷ turns) e new waits lives free = elim (uses disk_of e turn.after lives.0 waits turn.call turn.reply lives.1 free.0) [
     | inl (stopped, none) ↦ omega (arith, none, stopped_life turns turn.after new stopped lives.2)
@@ -247,6 +247,6 @@ module _ {D : Type 0} (disk_of : D → Disk) where
   waits_by e (first ∷ rest) is some = (first, rest, is)
 
   -- while a command waits, and none is done with, one reservation at most uses its turn
-  pub one-between : (old new : EndpointValue D) (turns : List (Turn D)) → old.waiting ≢ [] → Lives disk_of old turns new → NoneDone turns
+  pub one-between : (old new : EndpointValue D) (turns : List (Transition D)) → old.waiting ≢ [] → Lives disk_of old turns new → NoneDone turns
       → reservations_made turns ≤ 1
   one-between old new turns some lives free = one_life turns old new (waits_by old old.waiting refl some) lives free

@@ -15,7 +15,7 @@ use Rattle.macs_txsc.specs.declared.channel.Tx.{Tx}
 use Rattle.macs_rxsc.specs.Receive.{Numbers}
 use Rattle.macs_rxsc.specs.Value as rxsc
 use Rattle.macs_store.specs.Found.{CommitLeaves}
-use Rattle.macs_store.specs.Keeps.{Commits, most_calls}
+use Rattle.macs_store.specs.Keeps.{Commits, most_calls, most_with_change}
 use Rattle.macs_store.specs.Value.{IsIdle, slots_then, standing_in}
 use Rattle.macs_store.specs.Value as store
 use Rattle.macs_store.specs.Standing.{Standing, accept, ceilings_after, standing_or_refusal}
@@ -27,9 +27,10 @@ use Rattle.macs_endpoint.specs.Advancing.{turn_after}
 use Rattle.macs_endpoint.specs.Calls.{Fails, IsCall, Rests}
 use Rattle.macs_endpoint.specs.Ceilings.{Raise, StandsRan, standing_with_reserved}
 use Rattle.macs_endpoint.specs.Counting.{channel_counters_after_command}
-use Rattle.macs_endpoint.specs.Keeping.{KeepsCommand, most_in_command, most_with}
+use Rattle.macs_endpoint.specs.Keeping.{KeepsCommand, most_in_command}
 use Rattle.macs_endpoint.specs.Limits.{IsLimited, IsStill}
 use Rattle.macs_endpoint.specs.Restart.{Fits, FitsCall, state_during, state_taking_alone}
+use Rattle.macs_endpoint.specs.Spending.{reserved_in}
 use Rattle.macs_endpoint.specs.State.{Accepts, Commands, Logs, Ran, State, state_after_fault, state_with_in_hand}
 use Rattle.macs_endpoint.specs.Step.{Step, next_after, numbers_after}
 use Rattle.macs_endpoint.specs.Value.{AreChannels, EndpointValue, IsBacked, IsSoundEndpoint, disk_in, is_stopped, state_of}
@@ -133,8 +134,8 @@ module _ {D : Type 0} (disk_of : D → disk.Disk) (e : EndpointValue D) (kept : 
 
   few_calls : (old new : ℕ) → new ≤ old + most_calls e.store → new ≤ old + most_in_command e
   few_calls old new within =
-      let same : most_with (slots_then e.store) (standing_with_reserved (standing_in e.store) e.reserving) ≡ most_calls e.store =
-      λ i. most_with (store.slots_with e.store (idle i)) (standing_with_reserved (standing_in e.store) (free i)) in
+      let same : most_with_change (slots_then e.store) (reserved_in e) ≡ most_calls e.store =
+      λ i. most_with_change (store.slots_with e.store (idle i)) (standing_with_reserved (standing_in e.store) (free i)) in
       omega (arith, within, same)
 
   stands_ran : (result : Result (Unit {0}) CommandFault) (s : Standing) → StandsRan (standing_in e.store) None command result s
@@ -153,7 +154,7 @@ module _ {D : Type 0} (disk_of : D → disk.Disk) (e : EndpointValue D) (kept : 
       subst (λ (x : store.StoreValue D). KeepsCommand disk_of e command (Err GenerationsSpent) (record e { store = x; turn = turn.Reservation })) (sym same)
       (record {
         call = unmoved disk_of e command ranges GenerationsSpent (record e { turn = turn.Reservation }) refl refl
-            (λ logs. inr (running, (none, accepts, refl))) refl (stands_ran (Err GenerationsSpent) (standing_in e.store) refl) spent tt idle refl
+            (λ logs. inr (running, (none, accepts, refl))) refl (stands_ran (Err GenerationsSpent) (standing_in e.store) refl) spent (λ rests. refl) idle refl
             (turned_backed disk_of e command ranges);
         most = quick disk_of e command ranges;
       })

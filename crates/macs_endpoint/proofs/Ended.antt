@@ -1,5 +1,5 @@
 -- Work in hand that goes on, is done, or is cut short by a fault, and a reservation that ends so.
-use Rattle.std.proofs.Common.{◌≡◌, ◌≤◌, ◌⊎◌, inl, inr, ℕ, Bool, true, false, length, Option, Some, None, Result, Ok, Err, refl, sym, ◌∙◌, ap, subst, arith}
+use Rattle.std.proofs.Common.{◌≡◌, ◌≤◌, ◌+◌, ◌⊎◌, inl, inr, ℕ, Bool, true, false, length, Option, Some, None, Result, Ok, Err, refl, sym, ◌∙◌, ap, subst, arith}
 use Rattle.std.specs.Prelude.{IsErrOf}
 use Rattle.macs_config.specs.Config.{this_edition}
 use Rattle.macs_config.specs.Identity.{Identity, IsIdentity}
@@ -17,7 +17,7 @@ use Rattle.macs_txsc.specs.declared.channel.Tx.{Tx}
 use Rattle.macs_rxsc.specs.Receive.{RxSide}
 use Rattle.macs_rxsc.specs.Value as rxsc
 use Rattle.macs_store.specs.Found.{StandsForEither}
-use Rattle.macs_store.specs.Keeps.{IsSpent}
+use Rattle.macs_store.specs.Keeps.{IsSpent, most_calls}
 use Rattle.macs_store.specs.Standing.{Standing}
 use Rattle.macs_store.specs.Stepping.{Finishes, HasInHand, Steps}
 use Rattle.macs_store.specs.Table.{standing_of}
@@ -200,22 +200,42 @@ module _ {D : Type 0} (disk_of : D → disk.Disk) (e : EndpointValue D) (kept : 
     channel_counters = r.channel_counters;
   }
 
-  ends_raised : (result : Result (Unit {0}) RefillFault) (new : EndpointValue D) → ReservationEnds disk_of begun result new → Raised disk_of e raise result new
-  ends_raised (Ok done) new ends = record {
+  few_calls : (new : EndpointValue D) → (disk_in disk_of new).clock ≤ (disk_in disk_of begun).clock + store.calls_left s
+      → (disk_in disk_of new).clock ≤ (disk_in disk_of e).clock + most_calls e.store
+  few_calls new most =
+      subst (λ (d : disk.Disk). (disk_in disk_of new).clock ≤ d.clock + most_calls e.store) begun_disk
+      (subst (λ (n : ℕ). (disk_in disk_of new).clock ≤ (disk_in disk_of begun).clock + n) in_hand.left most)
+
+  not_spent : (at : RefillFault) → IsErrOf {T = Unit {0}} (Err at) refill.Disk → IsErrOf {T = Unit {0}} (Err at) refill.GenerationsSpent → ⊥
+  not_spent at is other = cc
+
+  ends_raised : (result : Result (Unit {0}) RefillFault) (new : EndpointValue D) → (¬ IsSpent e.store) → ReservationEnds disk_of begun result new
+      → Raised disk_of e raise result new
+  ends_raised (Ok done) new room ends = record {
     reserves = begun-reserves (Ok done) new ends.reserves;
     done = ends.done ∙ ap (λ (x : Standing). standing_with_raise x raise) begun_same;
     same = tt;
+    spent = (λ other. absurd cc, λ is. absurd (room is));
+    refused = λ other. absurd cc;
+    slots = ends.slots ∙ in_hand.slots;
+    generation = ends.generation ∙ in_hand.generation;
+    most = few_calls new ends.most;
   }
-  ends_raised (Err at) new ends = record {
+  ends_raised (Err at) new room ends = record {
     reserves = begun-reserves (Err at) new ends.reserves;
     done = tt;
     same = ends.same ∙ begun_same;
+    spent = (λ other. absurd (not_spent at ends.fault.0 other), λ is. absurd (room is));
+    refused = λ other. absurd (not_spent at ends.fault.0 other);
+    slots = tt;
+    generation = tt;
+    most = few_calls new ends.most;
   }
 
   -- the ceiling is raised, or not
-  pub begun-raised : (mid new : EndpointValue D) (result : Result (Unit {0}) RefillFault) → mid ≡ begun → ReservationEnds disk_of mid result new
+  pub begun-raised : (mid new : EndpointValue D) (result : Result (Unit {0}) RefillFault) → mid ≡ begun → (¬ IsSpent e.store) → ReservationEnds disk_of mid result new
       → Raised disk_of e raise result new
-  begun-raised mid new result same ends = ends_raised result new (subst (λ (x : EndpointValue D). ReservationEnds disk_of x result new) same ends)
+  begun-raised mid new result same room ends = ends_raised result new room (subst (λ (x : EndpointValue D). ReservationEnds disk_of x result new) same ends)
 
 -- no reservation begins, since the journal cannot begin anew
 pub spent-raised : {D : Type 0} (disk_of : D → disk.Disk) (e : EndpointValue D) (raise : Raise) → IsIdle e.store → IsSpent e.store
@@ -236,6 +256,11 @@ spent-raised disk_of e raise idle spent = record {
   };
   done = tt;
   same = refl;
+  spent = (λ is. spent, λ is. refl);
+  refused = λ is. refl;
+  slots = tt;
+  generation = tt;
+  most = omega arith;
 }
 
 -- ---- a reservation ends
@@ -379,6 +404,7 @@ module _ {D : Type 0} (disk_of : D → disk.Disk) (e : EndpointValue D) (kept : 
     same = tt;
     still = λ idle. refl;
     slots = sym (ap (λ (h : Hand). store.slots_with e.store h) rest.store);
+    generation = sym (ap (λ (h : Hand). store.generation_with e.store h) rest.store);
     most = omega arith;
   }
 
@@ -413,6 +439,7 @@ module _ {D : Type 0} (disk_of : D → disk.Disk) (e : EndpointValue D) (kept : 
           same = tt;
           still = λ idle. absurd (work.busy idle);
           slots = finishes.slots;
+          generation = finishes.generation;
           most = finishes.most;
         }
 
@@ -439,6 +466,7 @@ module _ {D : Type 0} (disk_of : D → disk.Disk) (e : EndpointValue D) (kept : 
           same = cut.stands;
           still = λ idle. absurd (work.busy idle);
           slots = tt;
+          generation = tt;
           most = finishes.most;
         }
 

@@ -4,7 +4,7 @@ use Rattle.macs_disk.specs.Disk.{Disk}
 use Rattle.macs_store.specs.Value.{IsIdle}
 use Rattle.macs_store.specs.declared.hand.Hand.{Hand}
 use Rattle.macs_store.specs.declared.hand.Hand.TheVariants.{Appending, Empty, Renewing}
-use Rattle.macs_endpoint.specs.Advancing.{BeginsWith, Piece, Raises, Takes, next_piece, piece_among}
+use Rattle.macs_endpoint.specs.Advancing.{BeginsWith, Piece, ToKeep, ToRaise, next_piece, piece_among}
 use Rattle.macs_endpoint.specs.Calls.{IsCall}
 use Rattle.macs_endpoint.specs.Ceilings.{Raise}
 use Rattle.macs_endpoint.specs.Needed.{raise_in}
@@ -32,8 +32,8 @@ no_raise turn.Command (Some raise) (Some first) is = absurd cc
 module _ {D : Type 0} (disk_of : D → Disk) (old new : EndpointValue D) (call : IsCall disk_of old Advances (Advanced (Ok Idle)) new) where
   begins_none : (piece : Option Piece) → BeginsWith old piece (Ok Idle) new → (piece ≡ None) × (new ≡ old)
   begins_none None begins = (refl, begins)
-  begins_none (Some (Raises raise)) begins = absurd begins
-  begins_none (Some (Takes first)) begins = absurd begins
+  begins_none (Some (ToRaise raise)) begins = absurd begins
+  begins_none (Some (ToKeep first)) begins = absurd begins
 
   running : is_stopped old ≡ false
   running = elim (call.behaves.step no_logs).1 [

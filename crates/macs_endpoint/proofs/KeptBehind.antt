@@ -7,6 +7,7 @@ use Rattle.macs_config.specs.declared.refusal.Refusal.{Refusal}
 use Rattle.macs_disk.specs.Disk.{IsHonest}
 use Rattle.macs_disk.specs.Disk as disk
 use Rattle.macs_disk.proofs.Moments.{FailsOnce-before, Leaves-join, Leaves-weaker, Works-on}
+use Rattle.macs_store.specs.Keeps.{most_with_change}
 use Rattle.macs_store.specs.Standing.{Standing, accept, standing_or_refusal}
 use Rattle.macs_store.specs.Value.{calls_left, slots_then, standing_in}
 use Rattle.macs_store.specs.Value as store
@@ -15,10 +16,11 @@ use Rattle.macs_endpoint.specs.Advancing.{turn_after}
 use Rattle.macs_endpoint.specs.Calls.{Fails}
 use Rattle.macs_endpoint.specs.Ceilings.{Raise, StandsRan, standing_with_reserved}
 use Rattle.macs_endpoint.specs.Counting.{channel_counters_after}
-use Rattle.macs_endpoint.specs.Keeping.{KeepsCommand, most_in_command, most_with}
+use Rattle.macs_endpoint.specs.Keeping.{KeepsCommand, most_in_command}
 use Rattle.macs_endpoint.specs.Limits.{IsLimited, IsStill}
 use Rattle.macs_endpoint.specs.Reserving.{FitsState, ReservationEnds}
 use Rattle.macs_endpoint.specs.Restart.{FitsCall}
+use Rattle.macs_endpoint.specs.Spending.{reserved_in}
 use Rattle.macs_endpoint.specs.State.{Commands, Logs, Ran, State, no_logs, state_with_in_hand}
 use Rattle.macs_endpoint.specs.Step.{Step}
 use Rattle.macs_endpoint.specs.Value.{EndpointValue, IsAtRest, IsBacked, IsKeeping, IsReserving, IsSoundEndpoint, disk_in, is_stopped, state_of}
@@ -149,7 +151,7 @@ module _ {D : Type 0} (disk_of : D → disk.Disk) (e : EndpointValue D) (command
         ok_standing after command (apply this_edition after.identity after.config command) behind_applies
 
     -- what stands then
-    behind_stands : standing_with_reserved (standing_in mid.store) mid.reserving ≡ standing_with_reserved (standing_in e.store) e.reserving
+    behind_stands : reserved_in mid ≡ reserved_in e
     behind_stands = ap (λ (o : Option Raise). standing_with_reserved (standing_in mid.store) o) ends.free ∙ ends.done
 
     few_calls : (late : ℕ) → late ≤ (disk_in disk_of mid).clock + most_in_command mid → late ≤ (disk_in disk_of e).clock + most_in_command e
@@ -157,8 +159,8 @@ module _ {D : Type 0} (disk_of : D → disk.Disk) (e : EndpointValue D) (command
         let most = ends.most in
         let idle : calls_left mid.store ≡ 0 = ap (λ (h : Hand). store.calls_with mid.store h) ends.reserves.idle in
         let free : slots_then mid.store ≡ slots_then e.store = ap (λ (h : Hand). store.slots_with mid.store h) ends.reserves.idle ∙ ends.slots in
-        let same : most_with (slots_then mid.store) (standing_with_reserved (standing_in mid.store) mid.reserving)
-        ≡ most_with (slots_then e.store) (standing_with_reserved (standing_in e.store) e.reserving) = λ i. most_with (free i) (behind_stands i) in
+        let same : most_with_change (slots_then mid.store) (reserved_in mid) ≡ most_with_change (slots_then e.store) (reserved_in e) =
+        λ i. most_with_change (free i) (behind_stands i) in
         omega (arith, within, most, idle, same)
 
     behind_by : (result : Result (Unit {0}) CommandFault) (new : EndpointValue D) → KeepsCommand disk_of mid command result new
@@ -218,7 +220,8 @@ module _ {D : Type 0} (disk_of : D → disk.Disk) (e : EndpointValue D) (command
         (subst (λ (x : Standing). accept x command ≡ Ok (standing_in new.store)) behind_stands keeps.call.behaves.ceilings) tt tt keeps.call.behaves.turn
         (keeps.call.device.fails ∙ ends.reserves.fails)
     behind-keeps (Err ran.GenerationsSpent) new keeps =
-        behind_by (Err ran.GenerationsSpent) new keeps (keeps.call.behaves.ceilings ∙ behind_stands) keeps.call.behaves.limited tt keeps.call.behaves.turn
+        behind_by (Err ran.GenerationsSpent) new keeps (keeps.call.behaves.ceilings ∙ behind_stands) keeps.call.behaves.limited
+        (λ idle. keeps.call.behaves.still ends.reserves.idle ∙ ap (λ (x : EndpointValue D). x.store) (ends.still idle)) keeps.call.behaves.turn
         (keeps.call.device.fails ∙ ends.reserves.fails)
     behind-keeps (Err ran.Disk) new keeps =
         behind_by (Err ran.Disk) new keeps (inr (elim keeps.call.behaves.ceilings [

@@ -13,6 +13,7 @@ pub mod Seen
 pub mod Opened
 pub mod Commanding
 pub mod Raises
+pub mod Spending
 pub mod Begun
 mod Lifted
 pub mod Ended

@@ -44,21 +44,14 @@ abbrev pub AreRaised : TxSide → RxSide → Standing → Standing → Type 0
 AreRaised tx_side rx_side old new = (raises : List Raise) × Raises tx_side rx_side old raises new
 
 module _ (tx_side : TxSide) (rx_side : RxSide) where
-  more : (old mid : Standing) (raises : List Raise) (raise : Raise) → Raises tx_side rx_side old raises mid
+  -- and one more, the first that was needed then
+  pub raises-more : (old mid : Standing) (raises : List Raise) (raise : Raise) → Raises tx_side rx_side old raises mid
       → first_raise mid tx_side rx_side ≡ Some raise → Raises tx_side rx_side old (raises ++ raise ∷ []) (standing_with_raise mid raise)
-  more old mid [] raise same first = (
+  raises-more old mid [] raise same first = (
     subst (λ (s : Standing). first_raise s tx_side rx_side ≡ Some raise) same first,
     ap (λ (s : Standing). standing_with_raise s raise) same,
   )
-  more old mid (other ∷ raises) raise raised first = (raised.0, more (standing_with_raise old other) mid raises raise raised.1 first)
-
-  -- and the first that was needed then
-  pub raises-more : (old mid new : Standing) (raise : Raise) → AreRaised tx_side rx_side old mid
-      → first_raise mid tx_side rx_side ≡ Some raise → new ≡ standing_with_raise mid raise → AreRaised tx_side rx_side old new
-  raises-more old mid new raise raised first is = (
-    raised.0 ++ raise ∷ [],
-    subst (λ (s : Standing). Raises tx_side rx_side old (raised.0 ++ raise ∷ []) s) (sym is) (more old mid raised.0 raise raised.1 first),
-  )
+  raises-more old mid (other ∷ raises) raise raised first = (raised.0, raises-more (standing_with_raise old other) mid raises raise raised.1 first)
 
   -- what the raise of a ceiling that is needed keeps all of them keep
   pub raises-keep : (P : Standing → Type 0)

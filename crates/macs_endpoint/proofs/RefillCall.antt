@@ -1,10 +1,11 @@
 -- A refill: raises one behind the other, and the call that they make.
-use Rattle.std.proofs.Common.{◌≡◌, ◌<◌, inl, inr, ℕ, true, false, [], IsErrOf, Option, Some, None, Result, Ok, Err, refl, sym, ◌∙◌, ap, subst}
+use Rattle.std.proofs.Common.{◌≡◌, ◌<◌, ◌⊎◌, inl, inr, ℕ, true, false, [], IsErrOf, Option, Some, None, Result, Ok, Err, refl, sym, ◌∙◌, ap, subst}
 use Rattle.macs_config.specs.Config.{this_edition}
 use Rattle.macs_config.specs.Identity.{IsIdentity}
 use Rattle.macs_disk.specs.Disk.{IsHonest}
 use Rattle.macs_disk.specs.Disk as disk
 use Rattle.macs_disk.proofs.Moments.{FailsOnce-before, Leaves-join, Leaves-start, Leaves-weaker, Works-on, Works-start}
+use Rattle.macs_store.specs.Keeps.{IsSpent}
 use Rattle.macs_store.specs.Standing.{Standing}
 use Rattle.macs_txsc.specs.Transmit.{TxSide}
 use Rattle.macs_rxsc.specs.Receive.{RxSide}
@@ -14,8 +15,9 @@ use Rattle.macs_endpoint.specs.Ceilings.{IsRefilled, Raise, StandsRefilled, firs
 use Rattle.macs_endpoint.specs.Limits.{IsLimited, IsStill}
 use Rattle.macs_endpoint.specs.Advancing.{turn_after, turn_after_refill}
 use Rattle.macs_endpoint.specs.Needed.{raise_in}
-use Rattle.macs_endpoint.specs.Reserving.{FitsState, ReservationEnds, ReserveStep, Reserves, ReservesAll}
+use Rattle.macs_endpoint.specs.Reserving.{FitsState, Raised, ReservationEnds, ReserveStep, Reserves, ReservesAll}
 use Rattle.macs_endpoint.specs.Restart.{Fits, FitsCall}
+use Rattle.macs_endpoint.specs.Spending.{Spends}
 use Rattle.macs_endpoint.specs.State.{Logs, Refilled, Refills, State, no_logs, rx_side, tx_side}
 use Rattle.macs_endpoint.specs.Step.{RefillStep, Step}
 use Rattle.macs_endpoint.specs.Value.{EndpointValue, IsBacked, IsSoundEndpoint, disk_in, is_stopped, state_of}
@@ -24,7 +26,8 @@ use Rattle.macs_endpoint.specs.declared.fault.RefillFault.TheVariants as refill
 use Rattle.macs_endpoint.specs.declared.turn.Turn.{Turn}
 use Rattle.macs_endpoint.proofs.Alone.{alone-call}
 use Rattle.macs_endpoint.proofs.Fitting.{kept-ahead}
-use Rattle.macs_endpoint.proofs.Raises.{AreRaised, IsAhead, left, raise-less, raises-ahead, raises-more, raises-parts}
+use Rattle.macs_endpoint.proofs.Raises.{AreRaised, IsAhead, left, raise-less, raises-ahead, raises-parts}
+use Rattle.macs_endpoint.proofs.Spending.{HaveRaised, raised-in, raised-more, raised-not, spends-behind, spends-cut}
 
 -- some ceilings were raised, each the first that was needed then, by the numbers of the first of these two
 abbrev pub AreRaisedIn : {D : Type 0} → EndpointValue D → EndpointValue D → Type 0
@@ -141,11 +144,11 @@ module _ {D : Type 0} (disk_of : D → disk.Disk) where
   limited_by old new (Err refill.Disk) limited = tt
 
   still_turned : (old new : EndpointValue D) (result : Result (Unit {0}) RefillFault) → ReserveStep (state_of old no_logs) result (state_of new no_logs)
-      → (IsIdle old.store → raise_in old ≡ None → new.store ≡ old.store)
+      → (IsIdle old.store → (raise_in old ≡ None) ⊎ IsSpent old.store → new.store ≡ old.store)
       → IsStill old Refills (Refilled result) (record new { turn = turn_after_refill old.turn old.reserving })
   still_turned old new (Ok done) step still = still
-  still_turned old new (Err refill.GenerationsSpent) step still = tt
-  still_turned old new (Err refill.Disk) step still = tt
+  still_turned old new (Err refill.GenerationsSpent) step still = still
+  still_turned old new (Err refill.Disk) step still = still
   still_turned old new (Err refill.Stopped) step still = absurd step
   still_turned old new (Err refill.Busy) step still = absurd step
 
@@ -192,7 +195,10 @@ module _ {D : Type 0} (disk_of : D → disk.Disk) where
 
   -- ---- what stands then
 
-  module _ (old mid new : EndpointValue D) (so_far : Reserves disk_of old (Ok tt) mid) (raised : AreRaisedIn old mid) where
+  module _ (old mid new : EndpointValue D) (so_far : Reserves disk_of old (Ok tt) mid) (none : old.reserving ≡ None) (has : HaveRaised disk_of old mid.store) where
+    raised : AreRaisedIn old mid
+    raised = raised-in disk_of old none mid.store has
+
     -- the first that is needed, by the state before
     first_before : (next : Option Raise) → raise_in mid ≡ next
         → first_raise (standing_in mid.store) (tx_side (state_of old no_logs)) (rx_side (state_of old no_logs)) ≡ next
@@ -206,11 +212,16 @@ module _ {D : Type 0} (disk_of : D → disk.Disk) where
 
     -- ---- one more is raised
 
-    pub turn-raised : (raise : Raise) → raise_in mid ≡ Some raise → standing_in new.store ≡ standing_with_raise (standing_in mid.store) raise
-        → AreRaisedIn old new
-    turn-raised raise first done =
-        raises-more (tx_side (state_of old no_logs)) (rx_side (state_of old no_logs)) (standing_in old.store) (standing_in mid.store)
-        (standing_in new.store) raise raised (first_before (Some raise) first) done
+    pub turn-raised : (raise : Raise) → raise_in mid ≡ Some raise → Raised disk_of mid raise (Ok tt) new → HaveRaised disk_of old new.store
+    turn-raised raise first made = raised-more disk_of old mid new has raise (first_before (Some raise) first) made
+
+    -- of an endpoint that needs none, or whose journal cannot begin anew
+    pub turn-moves : (free : (raise_in old ≡ None) ⊎ IsSpent old.store) → ((raise_in old ≡ None) ⊎ IsSpent old.store → mid ≡ old) → (raise : Raise)
+        → raise_in mid ≡ Some raise → Raised disk_of mid raise (Ok tt) new → ⊥
+    turn-moves free still raise first made = elim free [
+      | inl unneeded ↦ needed-not raise (sym first ∙ ap (λ (e : EndpointValue D). raise_in e) (still (inl unneeded)) ∙ unneeded)
+      | inr spent ↦ (let no = made.spent.1 (subst (λ (e : EndpointValue D). IsSpent e.store) (sym (still (inr spent))) spent) in cc)
+    ]
 
     pub turn-less : IsSoundEndpoint old → (raise : Raise) → raise_in mid ≡ Some raise
         → Reserves disk_of mid (Ok tt) new → standing_in new.store ≡ standing_with_raise (standing_in mid.store) raise
@@ -239,23 +250,36 @@ module _ {D : Type 0} (disk_of : D → disk.Disk) where
     stands_by refill.GenerationsSpent raise step is = (raise, is)
     stands_by refill.Disk raise step is = inr (raise, is)
 
-    pub cut-refill : old.reserving ≡ None → (raise_in old ≡ None → mid ≡ old) → (fault : RefillFault) (raise : Raise) → raise_in mid ≡ Some raise
-        → Reserves disk_of mid (Err fault) new → standing_in new.store ≡ standing_in mid.store → ReservesAll disk_of old (Err fault) new
-    cut-refill none still fault raise first last same = record {
-      reserves = reserves-on old mid new (Err fault) so_far last;
+    not_moved : ((raise_in old ≡ None) ⊎ IsSpent old.store → mid ≡ old) → (fault : RefillFault) (raise : Raise) → raise_in mid ≡ Some raise
+        → Raised disk_of mid raise (Err fault) new → (raise_in old ≡ None) ⊎ IsSpent old.store → new.store ≡ old.store
+    not_moved still fault raise first last free = elim free [
+      | inl unneeded ↦ absurd (needed-not raise (sym first ∙ ap (λ (e : EndpointValue D). raise_in e) (still (inl unneeded)) ∙ unneeded))
+      | inr spent ↦ (
+          let same = still (inr spent) in
+          let refused = last.spent.1 (subst (λ (e : EndpointValue D). IsSpent e.store) (sym same) spent) in
+          ap (λ (e : EndpointValue D). e.store) (last.refused refused ∙ same)
+          )
+    ]
+
+    pub cut-refill : ((raise_in old ≡ None) ⊎ IsSpent old.store → mid ≡ old) → (fault : RefillFault) (raise : Raise) → raise_in mid ≡ Some raise
+        → Raised disk_of mid raise (Err fault) new → ReservesAll disk_of old (Err fault) new
+    cut-refill still fault raise first last = record {
+      reserves = reserves-on old mid new (Err fault) so_far last.reserves;
       ceilings = subst (λ (o : Option Raise). StandsRefilled (tx_side (state_of old no_logs)) (rx_side (state_of old no_logs)) (standing_in old.store) o (Err fault) (standing_in new.store))
-          (sym none) (stands_by fault raise (last.step no_logs) (stands_with (Some raise) same first));
-      still = λ idle unneeded. absurd (needed-not raise (sym first ∙ ap (λ (e : EndpointValue D). raise_in e) (still unneeded) ∙ unneeded));
+          (sym none) (stands_by fault raise (last.reserves.step no_logs) (stands_with (Some raise) last.same first));
+      still = λ idle free. not_moved still fault raise first last free;
+      spends = raised-not disk_of old mid new has raise (first_before (Some raise) first) fault last;
     }
 
   -- all that are needed are raised
-  pub done-refill : (old new : EndpointValue D) → old.reserving ≡ None → (raise_in old ≡ None → new ≡ old) → Reserves disk_of old (Ok tt) new
-      → AreRaisedIn old new → raise_in new ≡ None → ReservesAll disk_of old (Ok tt) new
-  done-refill old new none still reserves raised ends = record {
+  pub done-refill : (old new : EndpointValue D) → old.reserving ≡ None → ((raise_in old ≡ None) ⊎ IsSpent old.store → new ≡ old)
+      → Reserves disk_of old (Ok tt) new → HaveRaised disk_of old new.store → raise_in new ≡ None → ReservesAll disk_of old (Ok tt) new
+  done-refill old new none still reserves has ends = record {
     reserves = reserves;
     ceilings = subst (λ (o : Option Raise). StandsRefilled (tx_side (state_of old no_logs)) (rx_side (state_of old no_logs)) (standing_in old.store) o (Ok tt) (standing_in new.store))
-        (sym none) (stands_with old new new reserves raised None refl ends);
-    still = λ idle unneeded. ap (λ (e : EndpointValue D). e.store) (still unneeded);
+        (sym none) (stands_with old new new reserves none has None refl ends);
+    still = λ idle free. ap (λ (e : EndpointValue D). e.store) (still free);
+    spends = has;
   }
 
   -- ---- behind a reservation that was in hand
@@ -294,9 +318,11 @@ module _ {D : Type 0} (disk_of : D → disk.Disk) where
         reserves = reserves-on old mid new result ends.reserves all.reserves;
         ceilings = stands_on sends receives (standing_in old.store) (standing_in mid.store) (standing_in new.store) old.reserving result ends.done others.0 others.1
             (subst (λ (s : State). StandsRefilled (tx_side s) (rx_side s) (standing_in mid.store) None result (standing_in new.store)) (ends.reserves.step no_logs) free);
-        still = λ idle unneeded.
+        still = λ idle free.
             let same = ends.still idle in
-            all.still ends.reserves.idle (ap (λ (e : EndpointValue D). raise_in e) same ∙ unneeded) ∙ ap (λ (e : EndpointValue D). e.store) same;
+            all.still ends.reserves.idle (subst (λ (e : EndpointValue D). (raise_in e ≡ None) ⊎ IsSpent e.store) (sym same) free)
+            ∙ ap (λ (e : EndpointValue D). e.store) same;
+        spends = spends-behind disk_of old mid ends result new.store others.0 others.1 all.spends;
       }
 
   disk_named : (fault : RefillFault) → IsErrOf {T = Unit {0}} (Err fault) refill.Disk → fault ≡ refill.Disk
@@ -309,5 +335,7 @@ module _ {D : Type 0} (disk_of : D → disk.Disk) where
         reserves = ends.reserves;
         ceilings = subst (λ (f : RefillFault). StandsRefilled (tx_side (state_of old no_logs)) (rx_side (state_of old no_logs)) (standing_in old.store) old.reserving (Err f) (standing_in new.store))
             (sym is) (inl (ends.fault.1.0, ends.fault.1.1, ends.same));
-        still = λ idle unneeded. ap (λ (e : EndpointValue D). e.store) (ends.still idle);
+        still = λ idle free. ap (λ (e : EndpointValue D). e.store) (ends.still idle);
+        spends = subst (λ (f : RefillFault). Spends disk_of old (Err f) new.store) (sym is)
+            (spends-cut disk_of old new (subst (λ (f : RefillFault). ReservationEnds disk_of old (Err f) new) is ends));
       }

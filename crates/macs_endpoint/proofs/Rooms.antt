@@ -33,7 +33,7 @@ use Rattle.macs_endpoint.specs.Calls.{IsCall}
 use Rattle.macs_endpoint.specs.Ceilings.{CeilingsAfter, IsRefilled, Raise, RaiseRx, RaiseTx, first_raise, standing_with_raise, standing_with_reserved}
 use Rattle.macs_endpoint.specs.Needed.{raise_in}
 use Rattle.macs_endpoint.specs.Value.{IsSoundEndpoint, IsRxWithin, IsTxWithin, EndpointValue, state_of}
-use Rattle.macs_endpoint.specs.Lives.{Lives, Turn}
+use Rattle.macs_endpoint.specs.Lives.{Lives, Transition}
 use Rattle.macs_endpoint.specs.Rooms.{HasRoom, IsBelow, IsEncodingAn, RxStays, SparesRx, SparesTx, TxStays, frames_in_reply, frames_sent}
 use Rattle.macs_endpoint.specs.State.{Advanced, Advances, Call, Commands, Protects, Protected, Ran, Received, Receives, Refilled, Refills, Reply, State, Submits, Submitted, command_made, no_logs, rx_side, tx_side}
 use Rattle.macs_endpoint.specs.Step.{Step, next_after}
@@ -333,7 +333,7 @@ under_of : {D : Type 0} (e : EndpointValue D) (sci : List ℕ) (an pn : ℕ) →
 under_of e sci an pn below = subst (λ (x : Option ℕ). IsUnder x pn) (sym below.is_ceiling) below.below
 
 module _ {D : Type 0} (disk_of : D → Disk) where
-  under_lives : (sci : List ℕ) (an pn : ℕ) (turns : List (Turn D)) (old new : EndpointValue D) → Lives disk_of old turns new → RxStays sci an old turns
+  under_lives : (sci : List ℕ) (an pn : ℕ) (turns : List (Transition D)) (old new : EndpointValue D) → Lives disk_of old turns new → RxStays sci an old turns
       → IsUnder ((standing_in old.store).ceilings.rx sci an) pn → IsUnder ((standing_in new.store).ceilings.rx sci an) pn
   under_lives sci an pn [] old new lives stays under =
       subst (λ (e : EndpointValue D). IsUnder ((standing_in e.store).ceilings.rx sci an) pn) (sym lives) under
@@ -342,7 +342,7 @@ module _ {D : Type 0} (disk_of : D → Disk) where
       (under_stands sci an pn (state_of old no_logs) (standing_in old.store) (standing_in turn.after.store) old.reserving (reserved-higher old lives.0)
       turn.call turn.reply lives.1.behaves.ceilings stays.0 under)
 
-  pub below-stays : (old new : EndpointValue D) (turns : List (Turn D)) (sci : List ℕ) (an pn : ℕ) → Lives disk_of old turns new → RxStays sci an old turns
+  pub below-stays : (old new : EndpointValue D) (turns : List (Transition D)) (sci : List ℕ) (an pn : ℕ) → Lives disk_of old turns new → RxStays sci an old turns
       → IsBelow old sci an pn → IsBelow new sci an pn
   below-stays old new turns sci an pn lives stays below =
       below_of new sci an pn ((standing_in new.store).ceilings.rx sci an) refl
@@ -412,7 +412,7 @@ module _ {D : Type 0} (disk_of : D → Disk) where
 
   -- ---- room of a transmit association
 
-  covers_lives : (count an : ℕ) (turns : List (Turn D)) (used : ℕ) (old new : EndpointValue D) → Lives disk_of old turns new → TxStays an old turns
+  covers_lives : (count an : ℕ) (turns : List (Transition D)) (used : ℕ) (old new : EndpointValue D) → Lives disk_of old turns new → TxStays an old turns
       → Covers count used ((state_of old no_logs).next an) ((standing_in old.store).ceilings.tx an)
       → Covers count (used + frames_sent an old turns) ((state_of new no_logs).next an) ((standing_in new.store).ceilings.tx an)
   covers_lives count an [] used old new lives stays covers =
@@ -446,7 +446,7 @@ module _ {D : Type 0} (disk_of : D → Disk) where
   }
 
   -- where its numbers are in order at the end
-  pub room-stays : (old new : EndpointValue D) (turns : List (Turn D)) (an count : ℕ) → IsSoundEndpoint new → Lives disk_of old turns new → TxStays an old turns
+  pub room-stays : (old new : EndpointValue D) (turns : List (Transition D)) (an count : ℕ) → IsSoundEndpoint new → Lives disk_of old turns new → TxStays an old turns
       → HasRoom old an count → HasRoom new an (count - frames_sent an old turns)
   room-stays old new turns an count kept lives stays room =
       let n = (state_of new no_logs).next an in

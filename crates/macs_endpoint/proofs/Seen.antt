@@ -11,7 +11,7 @@ use Rattle.macs_rxsc.specs.Receive.{Arrival, Arrives, RxStepHolds, Numbers, numb
 use Rattle.macs_rxsc.specs.declared.verdict.Verdict.TheVariants.{HeldBack}
 use Rattle.macs_rxsc.proofs.Steps.{arrives_once}
 use Rattle.macs_endpoint.specs.Calls.{IsCall}
-use Rattle.macs_endpoint.specs.Lives.{Lives, Turn}
+use Rattle.macs_endpoint.specs.Lives.{Lives, Transition}
 use Rattle.macs_endpoint.specs.Rooms.{IsBelow, RxStays, SparesRx}
 use Rattle.macs_endpoint.specs.State.{Advanced, Advances, Call, Commands, Protects, Protected, Ran, Received, Receives, Refilled, Refills, Reply, State, Submits, Submitted, command_made, no_logs, rx_side}
 use Rattle.macs_endpoint.specs.Step.{ArriveStep, Step, numbers_after}
@@ -168,7 +168,7 @@ reached-numbers numbers (Some top) pn is reached =
     (top, λ i. record { next = numbers.next; lowest = numbers.lowest; seen = is i }, reached)
 
 module _ {D : Type 0} (disk_of : D → Disk) where
-  seen-lives : (sci : List ℕ) (an pn : ℕ) (turns : List (Turn D)) (old new : EndpointValue D) → Lives disk_of old turns new → RxStays sci an old turns
+  seen-lives : (sci : List ℕ) (an pn : ℕ) (turns : List (Transition D)) (old new : EndpointValue D) → Lives disk_of old turns new → RxStays sci an old turns
       → HasSeen ((state_of old no_logs).numbers sci an) pn → HasSeen ((state_of new no_logs).numbers sci an) pn
   seen-lives sci an pn [] old new lives stays seen =
       subst (λ (e : EndpointValue D). HasSeen ((state_of e no_logs).numbers sci an) pn) (sym lives) seen
@@ -204,7 +204,7 @@ module _ {D : Type 0} (disk_of : D → Disk) where
       ]
 
   -- a frame that was held back, and calls behind it that leave its association alone
-  module _ (old mid late new : EndpointValue D) (turns : List (Turn D)) (frame out : List ℕ) (a : Arrival) (kept : IsSoundEndpoint new)
+  module _ (old mid late new : EndpointValue D) (turns : List (Transition D)) (frame out : List ℕ) (a : Arrival) (kept : IsSoundEndpoint new)
       (arrives : Arrives (rx_side (state_of old no_logs)) frame a) (held : IsCall disk_of old (Receives frame) (Received (Ok HeldBack) out) mid)
       (lives : Lives disk_of mid turns late) (stays : RxStays a.sci a.an mid turns) where
     last : a.pn < 2 ^ 32

@@ -16,7 +16,7 @@ use Rattle.macs_store.specs.Stepping.{HasInHand}
 use Rattle.macs_store.specs.Table.{standing_of}
 use Rattle.macs_store.specs.Value.{IsIdle, calls_left, standing_in}
 use Rattle.macs_store.specs.Value as store
-use Rattle.macs_endpoint.specs.Advancing.{BeginsWith, ClockAfter, GoesOn, Piece, Raises, Takes, next_piece, piece_among, turn_after_step}
+use Rattle.macs_endpoint.specs.Advancing.{BeginsWith, ClockAfter, GoesOn, Piece, ToKeep, ToRaise, next_piece, piece_among, turn_after_step}
 use Rattle.macs_endpoint.specs.Calls.{Fails, IsCall}
 use Rattle.macs_endpoint.specs.Ceilings.{Raise, StandsAdvanced, standing_with_raise}
 use Rattle.macs_endpoint.specs.Counting.{channel_counters_after}
@@ -39,25 +39,25 @@ use Rattle.macs_endpoint.proofs.Still.{still-on, still-same}
 
 -- ---- which piece is next
 
-raised_piece : (a b : Raise) → Raises a ≡ Raises b → Some a ≡ Some b
+raised_piece : (a b : Raise) → ToRaise a ≡ ToRaise b → Some a ≡ Some b
 raised_piece a b is = cc
 
-taken_piece : (a b : Waiting) → Takes a ≡ Takes b → Some a ≡ Some b
+taken_piece : (a b : Waiting) → ToKeep a ≡ ToKeep b → Some a ≡ Some b
 taken_piece a b is = cc
 
-pub raises-first : (whose : Turn) (o : Option Raise) (w : Option Waiting) (raise : Raise) → piece_among whose o w ≡ Some (Raises raise) → o ≡ Some raise
+pub raises-first : (whose : Turn) (o : Option Raise) (w : Option Waiting) (raise : Raise) → piece_among whose o w ≡ Some (ToRaise raise) → o ≡ Some raise
 raises-first whose None None raise is = absurd cc
-raises-first whose (Some other) None raise is = let same : Raises other ≡ Raises raise = cc in raised_piece other raise same
+raises-first whose (Some other) None raise is = let same : ToRaise other ≡ ToRaise raise = cc in raised_piece other raise same
 raises-first whose None (Some first) raise is = absurd cc
-raises-first turn.Reservation (Some other) (Some first) raise is = let same : Raises other ≡ Raises raise = cc in raised_piece other raise same
+raises-first turn.Reservation (Some other) (Some first) raise is = let same : ToRaise other ≡ ToRaise raise = cc in raised_piece other raise same
 raises-first turn.Command (Some other) (Some first) raise is = absurd cc
 
-pub takes-first : (whose : Turn) (o : Option Raise) (w : Option Waiting) (first : Waiting) → piece_among whose o w ≡ Some (Takes first) → w ≡ Some first
+pub takes-first : (whose : Turn) (o : Option Raise) (w : Option Waiting) (first : Waiting) → piece_among whose o w ≡ Some (ToKeep first) → w ≡ Some first
 takes-first whose None None first is = absurd cc
 takes-first whose (Some raise) None first is = absurd cc
-takes-first whose None (Some other) first is = let same : Takes other ≡ Takes first = cc in taken_piece other first same
+takes-first whose None (Some other) first is = let same : ToKeep other ≡ ToKeep first = cc in taken_piece other first same
 takes-first turn.Reservation (Some raise) (Some other) first is = absurd cc
-takes-first turn.Command (Some raise) (Some other) first is = let same : Takes other ≡ Takes first = cc in taken_piece other first same
+takes-first turn.Command (Some raise) (Some other) first is = let same : ToKeep other ≡ ToKeep first = cc in taken_piece other first same
 
 -- ---- a change takes more than one call
 
@@ -139,7 +139,7 @@ module _ {D : Type 0} (disk_of : D → disk.Disk) (e : EndpointValue D) (running
 -- ---- a reservation
 
 module _ {D : Type 0} (disk_of : D → disk.Disk) (e : EndpointValue D) (kept : IsSoundEndpoint e) (running : is_stopped e ≡ false) (idle : IsIdle e.store)
-    (raise : Raise) (first : raise_in e ≡ Some raise) (next : next_piece e ≡ Some (Raises raise)) (s : store.StoreValue D)
+    (raise : Raise) (first : raise_in e ≡ Some raise) (next : next_piece e ≡ Some (ToRaise raise)) (s : store.StoreValue D)
     (has : HasInHand disk_of e.store (standing_with_raise (standing_in e.store) raise) s) where
   abbrev raising : EndpointValue D
   raising = record e { store = s; reserving = Some raise }
@@ -152,7 +152,7 @@ module _ {D : Type 0} (disk_of : D → disk.Disk) (e : EndpointValue D) (kept : 
 
   raise_call : (result : Result Progress StepFault) (new : EndpointValue D) → IsCall disk_of raising Advances (Advanced result) new
       → StandsAdvanced (standing_in e.store) e.reserving (command_made (state_of e no_logs) Advances (Advanced result)) result (standing_in new.store)
-      → BeginsWith e (Some (Raises raise)) result new
+      → BeginsWith e (Some (ToRaise raise)) result new
       → rxsc.channel_counters_of new.rx ≡ channel_counters_after (state_of e no_logs) Advances (Advanced result) (rxsc.channel_counters_of e.rx)
       → IsCall disk_of e Advances (Advanced result) new
   raise_call result new call stands begins counted =
@@ -220,7 +220,7 @@ module _ {D : Type 0} (disk_of : D → disk.Disk) (e : EndpointValue D) (running
       (clock-stays (disk_in disk_of e).clock) (λ backed. backed)
 
   -- the journal cannot begin anew for a reservation
-  pub spent-call : (raise : Raise) → next_piece e ≡ Some (Raises raise) → IsSpent e.store
+  pub spent-call : (raise : Raise) → next_piece e ≡ Some (ToRaise raise) → IsSpent e.store
       → IsCall disk_of e Advances (Advanced (Err step.GenerationsSpent)) (record e { turn = turn.Command })
   spent-call raise next spent =
       quiet (Err step.GenerationsSpent) (record e { turn = turn.Command }) (λ logs. refl) refl refl

@@ -15,7 +15,7 @@ use Rattle.macs_store.specs.Value.{IsIdle, standing_in}
 use Rattle.macs_store.specs.Value as store
 use Rattle.macs_store.specs.declared.fault.CommitFault.{CommitFault}
 use Rattle.macs_store.specs.declared.fault.CommitFault.TheVariants as commit
-use Rattle.macs_endpoint.specs.Advancing.{BeginsWith, GoesOn, Piece, Takes, next_piece}
+use Rattle.macs_endpoint.specs.Advancing.{BeginsWith, GoesOn, Piece, ToKeep, next_piece}
 use Rattle.macs_endpoint.specs.Calls.{IsCall}
 use Rattle.macs_endpoint.specs.Ceilings.{StandsAdvanced}
 use Rattle.macs_endpoint.specs.Counting.{channel_counters_after}
@@ -156,9 +156,9 @@ module _ {D : Type 0} (disk_of : D → disk.Disk) (e : EndpointValue D) (kept : 
     take_call : (result : Result Progress StepFault) (new : EndpointValue D) → IsCall disk_of keeping Advances (Advanced result) new
         → ((logs : Logs) (t : State) → AdvanceStep (state_of keeping logs) result t → AdvanceStep (state_of e logs) result t)
         → StandsAdvanced (standing_in e.store) e.reserving (command_made (state_of e no_logs) Advances (Advanced result)) result (standing_in new.store)
-        → BeginsWith e (Some (Takes first)) result new
+        → BeginsWith e (Some (ToKeep first)) result new
         → rxsc.channel_counters_of new.rx ≡ channel_counters_after (state_of e no_logs) Advances (Advanced result) (rxsc.channel_counters_of e.rx)
-        → next_piece e ≡ Some (Takes first) → IsCall disk_of e Advances (Advanced result) new
+        → next_piece e ≡ Some (ToKeep first) → IsCall disk_of e Advances (Advanced result) new
     take_call result new call leads stands begins counted next =
         taken-call disk_of e running idle after s has (Some first.command) e.reserving result new call leads stands
         (subst (λ (p : Option Piece). BeginsWith e p result new) (sym next) begins) counted
@@ -167,7 +167,7 @@ module _ {D : Type 0} (disk_of : D → disk.Disk) (e : EndpointValue D) (kept : 
         taken_backed
 
     by_result : (result : Result Progress StepFault) (new : EndpointValue D) → IsCall disk_of keeping Advances (Advanced result) new
-        → GoesOn keeping result new → next_piece e ≡ Some (Takes first) → IsCall disk_of e Advances (Advanced result) new
+        → GoesOn keeping result new → next_piece e ≡ Some (ToKeep first) → IsCall disk_of e Advances (Advanced result) new
     by_result (Ok Worked) new call goes next =
         take_call (Ok Worked) new call
         (λ logs t steps. elim steps [
@@ -191,7 +191,7 @@ module _ {D : Type 0} (disk_of : D → disk.Disk) (e : EndpointValue D) (kept : 
     by_result (Err step.GenerationsSpent) new call goes next = absurd goes
 
     -- the command begins, with its first device call
-    pub keep-begins : (mid new : EndpointValue D) (result : Result Progress StepFault) → mid ≡ keeping → next_piece e ≡ Some (Takes first)
+    pub keep-begins : (mid new : EndpointValue D) (result : Result Progress StepFault) → mid ≡ keeping → next_piece e ≡ Some (ToKeep first)
         → IsCall disk_of mid Advances (Advanced result) new → IsCall disk_of e Advances (Advanced result) new
     keep-begins mid new result same next call =
         let made = subst (λ (x : EndpointValue D). IsCall disk_of x Advances (Advanced result) new) same call in
@@ -219,14 +219,14 @@ module _ {D : Type 0} (disk_of : D → disk.Disk) (e : EndpointValue D) (kept : 
 
     -- it is done with, and nothing else changes
     refused_call : (at : CommandFault) → ((logs : Logs) → Ends (state_of e logs) first others (Err at) (state_of without logs))
-        → BeginsWith e (Some (Takes first)) (Ok (Done first.ticket (Err at))) without → next_piece e ≡ Some (Takes first)
+        → BeginsWith e (Some (ToKeep first)) (Ok (Done first.ticket (Err at))) without → next_piece e ≡ Some (ToKeep first)
         → IsCall disk_of e Advances (Advanced (Ok (Done first.ticket (Err at)))) without
     refused_call at ends begins next =
         quiet disk_of e running idle (Ok (Done first.ticket (Err at))) without (λ logs. (first, others, popped, refl, ends logs)) refl refl
         (subst (λ (p : Option Piece). BeginsWith e p (Ok (Done first.ticket (Err at))) without) (sym next) begins) refl refl refl refl
         (clock-stays (disk_in disk_of e).clock) without_backed
 
-    by_fault : (at : CommitFault) (s : store.StoreValue D) → StartsCommit disk_of e.store first.command (Err at) s → next_piece e ≡ Some (Takes first)
+    by_fault : (at : CommitFault) (s : store.StoreValue D) → StartsCommit disk_of e.store first.command (Err at) s → next_piece e ≡ Some (ToKeep first)
         → IsCall disk_of e Advances (Advanced (Ok (Done first.ticket (Err (command_fault_of at))))) without
     by_fault commit.Stopped s starts next = absurd (not_stopped (is_stopped e) (starts.stopped.0 refl) running)
     by_fault commit.Disk s starts next = absurd (starts.names refl)
@@ -250,7 +250,7 @@ module _ {D : Type 0} (disk_of : D → disk.Disk) (e : EndpointValue D) (kept : 
 
     -- the store refuses it, and it is told why
     pub refused-ends : (at : CommitFault) (s : store.StoreValue D) → StartsCommit disk_of e.store first.command (Err at) s
-        → next_piece e ≡ Some (Takes first) → (told : CommandFault) → told ≡ command_fault_of at → (x : EndpointValue D) → x ≡ e → (tickets : ℕ) → tickets ≡ x.tickets
+        → next_piece e ≡ Some (ToKeep first) → (told : CommandFault) → told ≡ command_fault_of at → (x : EndpointValue D) → x ≡ e → (tickets : ℕ) → tickets ≡ x.tickets
         → IsCall disk_of e Advances (Advanced (Ok (Done first.ticket (Err told))))
         (record x { waiting = others; tickets = tickets; turn = turn.Reservation })
     refused-ends at s starts next told is x same tickets given =

@@ -10,9 +10,9 @@ use Rattle.macs_disk.specs.States.{Image, IsImage}
 use Rattle.macs_disk.proofs.Moments.{Left-before}
 use Rattle.macs_endpoint.specs.Calls.{IsCall}
 use Rattle.macs_endpoint.specs.Value.{EndpointValue, IsBacked, IsSoundEndpoint, disk_in, is_stopped, state_of}
-use Rattle.macs_endpoint.specs.Lives.{FitsLife, LeavesLife, Lives, Turn, exchange_of}
+use Rattle.macs_endpoint.specs.Lives.{FitsLife, LeavesLife, Lives, Transition, exchange_of}
 use Rattle.macs_endpoint.specs.Restart.{Fits, FitsCall, state_during, state_taking_alone}
-use Rattle.macs_endpoint.specs.Serving.{Ends, IsServed, Takes, Told, call_of, is_halt, reply_of}
+use Rattle.macs_endpoint.specs.Serving.{EndsAs, IsServed, Takes, Told, call_of, is_halt, reply_of}
 use Rattle.macs_endpoint.specs.State.{Advances, Call, Commands, Logs, Protects, Receives, Refills, Reply, State, Submits, state_with_in_hand, no_logs}
 use Rattle.macs_endpoint.specs.Step.{Steps, Step}
 use Rattle.macs_endpoint.specs.declared.event.Answer.{Answer}
@@ -30,17 +30,17 @@ abbrev pub AllGo : List Reply → Type 0
 AllGo [] = Unit {0}
 AllGo (reply ∷ replies) = (is_halt reply ≡ false) × AllGo replies
 
-pub ends-ended : (replies : List Reply) → AllGo replies → Ends replies Ended
+pub ends-ended : (replies : List Reply) → AllGo replies → EndsAs replies Ended
 ends-ended [] go = tt
 ends-ended (reply ∷ []) go = (go.0, tt)
 ends-ended (reply ∷ other ∷ others) go = (go.0, ends-ended (other ∷ others) go.1)
 
-pub ends-spent : (replies : List Reply) → AllGo replies → Ends replies TurnsSpent
+pub ends-spent : (replies : List Reply) → AllGo replies → EndsAs replies TurnsSpent
 ends-spent [] go = tt
 ends-spent (reply ∷ []) go = (go.0, tt)
 ends-spent (reply ∷ other ∷ others) go = (go.0, ends-spent (other ∷ others) go.1)
 
-ends_last : (replies : List Reply) (reply : Reply) → AllGo replies → is_halt reply ≡ true → Ends (replies ++ reply ∷ []) Halted
+ends_last : (replies : List Reply) (reply : Reply) → AllGo replies → is_halt reply ≡ true → EndsAs (replies ++ reply ∷ []) Halted
 ends_last [] reply go halt = halt
 ends_last (first ∷ []) reply go halt = (go.0, halt)
 ends_last (first ∷ other ∷ others) reply go halt = (go.0, ends_last (other ∷ others) reply go.1 halt)
@@ -74,30 +74,30 @@ module _ (edition : Edition) (sectors : ℕ) (image : Image) (s : State) (fits :
 abbrev pub IsFree : {D : Type 0} → EndpointValue D → Type 0
 IsFree e = e.waiting ≡ [] → is_stopped e ≡ false → e.in_hand ≡ None
 
-module _ {D : Type 0} (disk_of : D → Disk) (turn : Turn D) where
+module _ {D : Type 0} (disk_of : D → Disk) (turn : Transition D) where
   -- ---- calls and their steps
 
-  lives_more : (turns : List (Turn D)) (old mid : EndpointValue D) → Lives disk_of old turns mid → IsSoundEndpoint mid
+  lives_more : (turns : List (Transition D)) (old mid : EndpointValue D) → Lives disk_of old turns mid → IsSoundEndpoint mid
       → IsCall disk_of mid turn.call turn.reply turn.after
       → Lives disk_of old (turns ++ turn ∷ []) turn.after
   lives_more [] old mid lives kept call =
       (subst (λ (e : EndpointValue D). IsSoundEndpoint e) lives kept, subst (λ (e : EndpointValue D). IsCall disk_of e turn.call turn.reply turn.after) lives call, refl)
   lives_more (first ∷ turns) old mid lives kept call = (lives.0, lives.1, lives_more turns first.after mid lives.2 kept call)
 
-  run_more : (turns : List (Turn D)) (s mid new : State) → Steps s (map exchange_of turns) mid → Step mid turn.call turn.reply new
+  run_more : (turns : List (Transition D)) (s mid new : State) → Steps s (map exchange_of turns) mid → Step mid turn.call turn.reply new
       → Steps s (map exchange_of (turns ++ turn ∷ [])) new
   run_more [] s mid new run step = (new, subst (λ (x : State). Step x turn.call turn.reply new) run step, refl)
   run_more (first ∷ turns) s mid new run step = (run.0, run.1, run_more turns run.0 mid new run.2 step)
 
-  go_more : (turns : List (Turn D)) → AllGo (map (λ (t : Turn D). t.reply) turns) → is_halt turn.reply ≡ false
-      → AllGo (map (λ (t : Turn D). t.reply) (turns ++ turn ∷ []))
+  go_more : (turns : List (Transition D)) → AllGo (map (λ (t : Transition D). t.reply) turns) → is_halt turn.reply ≡ false
+      → AllGo (map (λ (t : Transition D). t.reply) (turns ++ turn ∷ []))
   go_more [] go goes = (goes, tt)
   go_more (first ∷ turns) go goes = (go.0, go_more turns go.1 goes)
 
   -- ---- what a power loss leaves
 
   -- it fits the state of a moment before, or that of the last call
-  fits_wider : (sectors : ℕ) (image : Image) (turns : List (Turn D)) (old mid : EndpointValue D) → Lives disk_of old turns mid → IsFree mid
+  fits_wider : (sectors : ℕ) (image : Image) (turns : List (Transition D)) (old mid : EndpointValue D) → Lives disk_of old turns mid → IsFree mid
       → FitsLife sectors old turns image → FitsLife sectors old (turns ++ turn ∷ []) image
   fits_wider sectors image [] old mid lives free fits =
       inl (fits_during this_edition sectors image (state_of old no_logs) fits turn.call (subst (λ (e : EndpointValue D). IsFree e) lives free))
@@ -106,7 +106,7 @@ module _ {D : Type 0} (disk_of : D → Disk) (turn : Turn D) where
     | inr later ↦ inr (fits_wider sectors image turns first.after mid lives.2 free later)
   ]
 
-  fits_last : (sectors : ℕ) (image : Image) (turns : List (Turn D)) (old mid : EndpointValue D) → Lives disk_of old turns mid
+  fits_last : (sectors : ℕ) (image : Image) (turns : List (Transition D)) (old mid : EndpointValue D) → Lives disk_of old turns mid
       → FitsCall sectors (state_of mid no_logs) turn.call (state_of turn.after no_logs) image → FitsLife sectors old (turns ++ turn ∷ []) image
   fits_last sectors image [] old mid lives fits =
       subst (λ (e : EndpointValue D). FitsCall sectors (state_of e no_logs) turn.call (state_of turn.after no_logs) image) lives fits
@@ -115,7 +115,7 @@ module _ {D : Type 0} (disk_of : D → Disk) (turn : Turn D) where
   module _ (mid : EndpointValue D) (call : IsCall disk_of mid turn.call turn.reply turn.after) (free : IsFree mid)
       (honest : IsHonest (disk_in disk_of turn.after)) (backed : IsBacked disk_of mid) where
     -- since any moment before
-    left_more : (since : ℕ) (turns : List (Turn D)) (old : EndpointValue D) → Lives disk_of old turns mid
+    left_more : (since : ℕ) (turns : List (Transition D)) (old : EndpointValue D) → Lives disk_of old turns mid
         → ((image : Image) → LeftSince (disk_in disk_of mid) since image → FitsLife (disk_in disk_of mid).sectors old turns image)
         → (image : Image) → LeftSince (disk_in disk_of turn.after) since image
         → FitsLife (disk_in disk_of turn.after).sectors old (turns ++ turn ∷ []) image
@@ -138,7 +138,7 @@ module _ {D : Type 0} (disk_of : D → Disk) (turn : Turn D) where
         let at_now : left.0 ≡ disk.clock = omega (arith, left.1, left.2) in
         (call.survives honest backed).backed.fits no_logs image (subst (λ (k : ℕ). IsImage (disk.past k) image) at_now left.3)
 
-    leaves_more : (turns : List (Turn D)) (old : EndpointValue D) → Lives disk_of old turns mid → LeavesLife disk_of (disk_in disk_of mid) old turns
+    leaves_more : (turns : List (Transition D)) (old : EndpointValue D) → Lives disk_of old turns mid → LeavesLife disk_of (disk_in disk_of mid) old turns
         → LeavesLife disk_of (disk_in disk_of turn.after) old (turns ++ turn ∷ [])
     leaves_more [] old lives leaves = (left_more (disk_in disk_of old).clock [] old lives leaves, left_last)
     leaves_more (first ∷ turns) old lives leaves =
@@ -147,7 +147,7 @@ module _ {D : Type 0} (disk_of : D → Disk) (turn : Turn D) where
 -- ---- turns
 
 -- What so many turns did, between what a source and a sink told before and after
-pub record AreTurns {D : Type 0} (disk_of : D → Disk) (turns : List (Turn D)) (old : EndpointValue D) (told : Told) (new : EndpointValue D) (tells : Told) : Type 0 where
+pub record AreTurns {D : Type 0} (disk_of : D → Disk) (turns : List (Transition D)) (old : EndpointValue D) (told : Told) (new : EndpointValue D) (tells : Told) : Type 0 where
   pub lives : Lives disk_of old turns new
   pub run : (logs : Logs) → (after : Logs) × Steps (state_of old logs) (map exchange_of turns) (state_of new after)
   pub honest : (disk_in disk_of new).honest ≡ (disk_in disk_of old).honest
@@ -186,7 +186,7 @@ module _ {D : Type 0} (disk_of : D → Disk) (old : EndpointValue D) (told : Tol
     given = λ tells. ([], sym (append-nil told.took), refl);
   }
 
-  module _ (turns : List (Turn D)) (mid : EndpointValue D) (tells : Told) (are : AreTurns disk_of turns old told mid tells) where
+  module _ (turns : List (Transition D)) (mid : EndpointValue D) (tells : Told) (are : AreTurns disk_of turns old told mid tells) where
     -- where the source has no further event
     pub turns-ended : (later : Told) → HasTaken tells None later → later.sink_tells ≡ tells.sink_tells → later.took ≡ tells.took
         → AreTurns disk_of turns old told mid later × (told.source_tells ≡ true → later.left ≡ [])
@@ -213,7 +213,7 @@ module _ {D : Type 0} (disk_of : D → Disk) (old : EndpointValue D) (told : Tol
         → HasTaken tells (Some event) later → HasGiven tells answer later
         → AreTurns disk_of (turns ++ record { call = call_of event; reply = reply_of answer; after = new } ∷ []) old told new later
     turns-more event answer new later call kept taken given =
-        let turn : Turn D = record { call = call_of event; reply = reply_of answer; after = new } in
+        let turn : Transition D = record { call = call_of event; reply = reply_of answer; after = new } in
         let same : (disk_in disk_of new).honest ≡ (disk_in disk_of mid).honest = call.device.works.honest in
         record {
           lives = lives_more disk_of turn turns old mid are.lives kept call;
@@ -234,7 +234,7 @@ module _ {D : Type 0} (disk_of : D → Disk) (old : EndpointValue D) (told : Tol
                 before.0 ++ event ∷ [],
                 before.1 ∙ ap (λ (l : List Event). before.0 ++ l) rest ∙ sym (append_assoc before.0 (event ∷ []) later.left),
                 map-append call_of before.0 (event ∷ []) ∙ ap (λ (l : List Call). l ++ call_of event ∷ []) before.2
-                    ∙ sym (map-append (λ (t : Turn D). t.call) turns (turn ∷ [])),
+                    ∙ sym (map-append (λ (t : Transition D). t.call) turns (turn ∷ [])),
               );
           given = λ is.
               let before = are.given is in
@@ -242,13 +242,13 @@ module _ {D : Type 0} (disk_of : D → Disk) (old : EndpointValue D) (told : Tol
                 before.0 ++ answer ∷ [],
                 more ∙ ap (λ (l : List Answer). l ++ answer ∷ []) before.1 ∙ append_assoc told.took before.0 (answer ∷ []),
                 map-append reply_of before.0 (answer ∷ []) ∙ ap (λ (l : List Reply). l ++ reply_of answer ∷ []) before.2
-                    ∙ sym (map-append (λ (t : Turn D). t.reply) turns (turn ∷ [])),
+                    ∙ sym (map-append (λ (t : Transition D). t.reply) turns (turn ∷ [])),
               );
         }
 
     -- what was served
     pub turns-served : (most : ℕ) (end : ServeEnd) → length turns ≤ most → (end ≡ Ended → told.source_tells ≡ true → tells.left ≡ [])
-        → (end ≡ TurnsSpent → length turns ≡ most) → Ends (map (λ (t : Turn D). t.reply) turns) end
+        → (end ≡ TurnsSpent → length turns ≡ most) → EndsAs (map (λ (t : Transition D). t.reply) turns) end
         → IsServed disk_of most old told end mid tells
     turns-served most end few ended spent ends = record {
       turns = turns;
@@ -270,9 +270,9 @@ module _ {D : Type 0} (disk_of : D → Disk) (old : EndpointValue D) (told : Tol
 
 -- so many turns were served, and none of their answers says that a device call failed
 pub record IsServing {D : Type 0} (disk_of : D → Disk) (count : ℕ) (old : EndpointValue D) (told : Told) (new : EndpointValue D) (tells : Told) : Type 0 where
-  pub turns : List (Turn D)
+  pub turns : List (Transition D)
   pub number : length turns ≡ count
-  pub go : AllGo (map (λ (t : Turn D). t.reply) turns)
+  pub go : AllGo (map (λ (t : Transition D). t.reply) turns)
   pub are : AreTurns disk_of turns old told new tells
 
 module _ {D : Type 0} (disk_of : D → Disk) (old : EndpointValue D) (told : Told) where
@@ -284,7 +284,7 @@ module _ {D : Type 0} (disk_of : D → Disk) (old : EndpointValue D) (told : Tol
     pub served-spent : IsServed disk_of count old told TurnsSpent mid tells
     served-spent =
         turns-served disk_of old told serving.turns mid tells serving.are count TurnsSpent (omega (arith, serving.number)) (λ is. absurd cc)
-        (λ is. serving.number) (ends-spent (map (λ (t : Turn D). t.reply) serving.turns) serving.go)
+        (λ is. serving.number) (ends-spent (map (λ (t : Transition D). t.reply) serving.turns) serving.go)
 
     -- the source has no further event
     pub served-ended : (most : ℕ) (later : Told) → count ≤ most → HasTaken tells None later → later.sink_tells ≡ tells.sink_tells
@@ -292,14 +292,14 @@ module _ {D : Type 0} (disk_of : D → Disk) (old : EndpointValue D) (told : Tol
     served-ended most later few taken sink took =
         let end = turns-ended disk_of old told serving.turns mid tells serving.are later taken sink took in
         turns-served disk_of old told serving.turns mid later end.0 most Ended (omega (arith, serving.number, few)) (λ is. end.1) (λ is. absurd cc)
-        (ends-ended (map (λ (t : Turn D). t.reply) serving.turns) serving.go)
+        (ends-ended (map (λ (t : Transition D). t.reply) serving.turns) serving.go)
 
     module _ (event : Event) (answer : Answer) (new : EndpointValue D) (later : Told) (call : IsCall disk_of mid (call_of event) (reply_of answer) new)
         (kept : IsSoundEndpoint mid) (taken : HasTaken tells (Some event) later) (given : HasGiven tells answer later) where
       -- one more
       pub serving-more : is_halt (reply_of answer) ≡ false → IsServing disk_of (count + 1) old told new later
       serving-more goes =
-          let turn : Turn D = record { call = call_of event; reply = reply_of answer; after = new } in
+          let turn : Transition D = record { call = call_of event; reply = reply_of answer; after = new } in
           record {
             turns = serving.turns ++ turn ∷ [];
             number = length_push serving.turns turn ∙ ap (λ (n : ℕ). n + 1) serving.number;
@@ -310,10 +310,10 @@ module _ {D : Type 0} (disk_of : D → Disk) (old : EndpointValue D) (told : Tol
       -- a device call failed
       pub served-halted : (most : ℕ) → count < most → is_halt (reply_of answer) ≡ true → IsServed disk_of most old told Halted new later
       served-halted most few halt =
-          let turn : Turn D = record { call = call_of event; reply = reply_of answer; after = new } in
-          let replies = λ (turns : List (Turn D)). map (λ (t : Turn D). t.reply) turns in
-          let ends : Ends (replies (serving.turns ++ turn ∷ [])) Halted =
-          subst (λ (l : List Reply). Ends l Halted) (sym (map-append (λ (t : Turn D). t.reply) serving.turns (turn ∷ [])))
+          let turn : Transition D = record { call = call_of event; reply = reply_of answer; after = new } in
+          let replies = λ (turns : List (Transition D)). map (λ (t : Transition D). t.reply) turns in
+          let ends : EndsAs (replies (serving.turns ++ turn ∷ [])) Halted =
+          subst (λ (l : List Reply). EndsAs l Halted) (sym (map-append (λ (t : Transition D). t.reply) serving.turns (turn ∷ [])))
           (ends_last (replies serving.turns) (reply_of answer) serving.go halt) in
           turns-served disk_of old told (serving.turns ++ turn ∷ []) new later
           (turns-more disk_of old told serving.turns mid tells serving.are event answer new later call kept taken given) most Halted

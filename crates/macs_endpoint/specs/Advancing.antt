@@ -23,19 +23,19 @@ use Rattle.macs_endpoint.specs.declared.turn.Turn.TheVariants as turn
 
 -- a piece of work: to raise a ceiling, or to keep the first command that waits
 pub data Piece : Type 0 where
-  Raises : Raise → Piece
-  Takes : Waiting → Piece
+  ToRaise : Raise → Piece
+  ToKeep : Waiting → Piece
 
 -- which one begins where a ceiling is needed and a command waits
 abbrev pub piece_by_turn : Turn → Raise → Waiting → Piece
-piece_by_turn turn.Reservation raise first = Raises raise
-piece_by_turn turn.Command raise first = Takes first
+piece_by_turn turn.Reservation raise first = ToRaise raise
+piece_by_turn turn.Command raise first = ToKeep first
 
 -- which one begins, if any: where there is but one of the two, that one
 abbrev pub piece_among : Turn → Option Raise → Option Waiting → Option Piece
 piece_among whose None None = None
-piece_among whose (Some raise) None = Some (Raises raise)
-piece_among whose None (Some first) = Some (Takes first)
+piece_among whose (Some raise) None = Some (ToRaise raise)
+piece_among whose None (Some first) = Some (ToKeep first)
 piece_among whose (Some raise) (Some first) = Some (piece_by_turn whose raise first)
 
 -- and which one does in an endpoint
@@ -72,13 +72,13 @@ turn_after e call reply = e.turn
 -- first device call, or is refused before. A command whose first device call fails is in hand then, and a reservation leaves none there.
 abbrev pub BeginsWith : {D : Type 0} → EndpointValue D → Option Piece → Result Progress StepFault → EndpointValue D → Type 0
 BeginsWith old None (Ok Idle) new = new ≡ old
-BeginsWith old (Some (Raises raise)) (Ok Worked) new = (new.reserving ≡ Some raise) × (calls_left new.store + 1 ≤ most_calls old.store)
-BeginsWith old (Some (Raises raise)) (Err step.GenerationsSpent) new = IsSpent old.store
-BeginsWith old (Some (Raises raise)) (Err step.Disk) new = new.in_hand ≡ None
-BeginsWith old (Some (Takes first)) (Ok Worked) new = (new.in_hand ≡ Some first.command) × (calls_left new.store + 1 ≤ most_calls old.store)
-BeginsWith old (Some (Takes first)) (Ok (Done ticket (Err (ran.Refused refusal)))) new = Unit {0}
-BeginsWith old (Some (Takes first)) (Ok (Done ticket (Err ran.GenerationsSpent))) new = IsSpent old.store
-BeginsWith old (Some (Takes first)) (Err step.Disk) new = new.in_hand ≡ Some first.command
+BeginsWith old (Some (ToRaise raise)) (Ok Worked) new = (new.reserving ≡ Some raise) × (calls_left new.store + 1 ≤ most_calls old.store)
+BeginsWith old (Some (ToRaise raise)) (Err step.GenerationsSpent) new = IsSpent old.store
+BeginsWith old (Some (ToRaise raise)) (Err step.Disk) new = new.in_hand ≡ None
+BeginsWith old (Some (ToKeep first)) (Ok Worked) new = (new.in_hand ≡ Some first.command) × (calls_left new.store + 1 ≤ most_calls old.store)
+BeginsWith old (Some (ToKeep first)) (Ok (Done ticket (Err (ran.Refused refusal)))) new = Unit {0}
+BeginsWith old (Some (ToKeep first)) (Ok (Done ticket (Err ran.GenerationsSpent))) new = IsSpent old.store
+BeginsWith old (Some (ToKeep first)) (Err step.Disk) new = new.in_hand ≡ Some first.command
 BeginsWith old piece result new = ⊥
 
 -- A step of an endpoint with work in hand: the next device call of that work, which goes on, with fewer calls left, or is done with the

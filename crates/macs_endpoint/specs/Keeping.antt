@@ -1,28 +1,21 @@
 -- Commands that are kept.
-use Rattle.std.specs.Prelude.{◌≡◌, ◌≤◌, ◌+◌, ◌==◌, ℕ, if◌then◌else◌, Some, length, Result, OnErr, OnOk}
+use Rattle.std.specs.Prelude.{◌≡◌, ◌≤◌, ◌+◌, ℕ, Some, Result, OnErr, OnOk}
 use Rattle.macs_config.specs.declared.command.Command.{Command}
 use Rattle.macs_disk.specs.Disk.{Disk}
-use Rattle.macs_journal.specs.Areas.{slots}
+use Rattle.macs_store.specs.Keeps.{most_with_change}
 use Rattle.macs_store.specs.Stepping.{StartsCommit}
-use Rattle.macs_store.specs.Snapshot.{snapshot}
-use Rattle.macs_store.specs.Standing.{Standing}
-use Rattle.macs_store.specs.Value.{calls_left, slots_then, standing_in}
+use Rattle.macs_store.specs.Value.{calls_left, slots_then}
 use Rattle.macs_store.specs.declared.fault.CommitFault.{CommitFault}
 use Rattle.macs_endpoint.specs.Calls.{IsCall}
-use Rattle.macs_endpoint.specs.Ceilings.{standing_with_reserved}
+use Rattle.macs_endpoint.specs.Spending.{reserved_in}
 use Rattle.macs_endpoint.specs.State.{Commands, Ran}
 use Rattle.macs_endpoint.specs.Value.{EndpointValue, IsKeeping, IsSoundEndpoint, disk_in}
 use Rattle.macs_endpoint.specs.declared.fault.CommandFault.{CommandFault}
 use Rattle.macs_endpoint.specs.declared.queue.Waiting.{Waiting}
 
--- how many device calls a change takes where so many slots are used and this stands, at most: 4 for its record, and where all slots are used
--- 519 for a compaction and one for each record of the snapshot
-abbrev pub most_with : ℕ → Standing → ℕ
-most_with used s = if used == slots then 523 + length (snapshot s) else 4
-
 -- how many device calls a command takes that does not wait, at most: those that are left of a reservation in hand, and its own behind it
 abbrev pub most_in_command : {D : Type 0} → EndpointValue D → ℕ
-most_in_command e = calls_left e.store + most_with (slots_then e.store) (standing_with_reserved (standing_in e.store) e.reserving)
+most_in_command e = calls_left e.store + most_with_change (slots_then e.store) (reserved_in e)
 
 -- A command is kept, or not.
 pub record KeepsCommand {D : Type 0} (disk_of : D → Disk) (old : EndpointValue D) (command : Command) (result : Result (Unit {0}) CommandFault) (new : EndpointValue D) : Type 0 where
@@ -35,4 +28,4 @@ pub record StartsFirst {D : Type 0} (disk_of : D → Disk) (old : EndpointValue 
   pub same : OnErr result (new ≡ old)
   pub taken : OnOk result (new ≡ record old { store = new.store; in_hand = Some first.command })
   pub keeping : OnOk result (IsKeeping new)
-  pub kept : OnOk result (IsSoundEndpoint old)
+  pub sound : OnOk result (IsSoundEndpoint old)

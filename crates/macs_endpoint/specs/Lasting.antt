@@ -1,7 +1,7 @@
 -- How long work in hand lasts, and what has its turn, through calls.
 use Rattle.std.specs.Prelude.{◌≡◌, ◌+◌, ℕ, false, List, [], ◌∷◌, Ok, Err}
 use Rattle.macs_store.specs.Value.{IsIdle}
-use Rattle.macs_endpoint.specs.Lives.{Turn}
+use Rattle.macs_endpoint.specs.Lives.{Transition}
 use Rattle.macs_endpoint.specs.State.{Advanced, Advances, Call, Reply}
 use Rattle.macs_endpoint.specs.Value.{EndpointValue, is_stopped}
 use Rattle.macs_endpoint.specs.declared.fault.StepFault.TheVariants.{GenerationsSpent}
@@ -15,12 +15,12 @@ steps_in_call Advances = 1
 steps_in_call call = 0
 
 -- how many of these calls are steps
-abbrev pub steps_made : {D : Type 0} → List (Turn D) → ℕ
+abbrev pub steps_made : {D : Type 0} → List (Transition D) → ℕ
 steps_made [] = 0
 steps_made (turn ∷ turns) = steps_in_call turn.call + steps_made turns
 
 -- work is in hand before each of these calls, and none of them finds or makes the endpoint stopped
-abbrev pub Lasts : {D : Type 0} → EndpointValue D → List (Turn D) → Type 0
+abbrev pub Lasts : {D : Type 0} → EndpointValue D → List (Transition D) → Type 0
 Lasts e [] = Unit {0}
 Lasts e (turn ∷ turns) = (¬ IsIdle e.store) × (is_stopped turn.after ≡ false) × Lasts turn.after turns
 
@@ -33,7 +33,7 @@ reservations_in_reply (Advanced (Err GenerationsSpent)) = 1
 reservations_in_reply reply = 0
 
 -- how many of these calls are answered so
-abbrev pub reservations_made : {D : Type 0} → List (Turn D) → ℕ
+abbrev pub reservations_made : {D : Type 0} → List (Transition D) → ℕ
 reservations_made [] = 0
 reservations_made (turn ∷ turns) = reservations_in_reply turn.reply + reservations_made turns
 
@@ -43,6 +43,6 @@ IsNotDone (Advanced (Ok (Done ticket result))) = ⊥
 IsNotDone reply = Unit {0}
 
 -- and none of these answers does
-abbrev pub NoneDone : {D : Type 0} → List (Turn D) → Type 0
+abbrev pub NoneDone : {D : Type 0} → List (Transition D) → Type 0
 NoneDone [] = Unit {0}
 NoneDone (turn ∷ turns) = IsNotDone turn.reply × NoneDone turns

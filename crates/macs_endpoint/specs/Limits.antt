@@ -1,5 +1,5 @@
 -- Where the answers that a step leaves to the endpoint come, and which calls make no device call.
-use Rattle.std.specs.Prelude.{◌≡◌, true, false, None, Ok, Err}
+use Rattle.std.specs.Prelude.{◌≡◌, ◌⊎◌, true, false, None, Ok, Err}
 use Rattle.macs_txsc.specs.Transmit.{is_at_ceiling, next_outgoing}
 use Rattle.macs_txsc.specs.declared.fault.TxFault.TheVariants.{NoNumber}
 use Rattle.macs_rxsc.specs.Receive.{Arrival, Arrives, is_below}
@@ -26,15 +26,17 @@ IsLimited old (Receives frame) (Received (Ok HeldBack) out) new =
     (a : Arrival) × Arrives (rx_side (state_of old no_logs)) frame a × (is_below ((standing_in old.store).ceilings.rx a.sci a.an) a.pn ≡ false)
 IsLimited old call reply new = Unit {0}
 
--- frames, commands that are to wait, work that is refused before it begins, a refill that has nothing to do and a stopped endpoint leave the
--- store as it was, and with it the disk and its clock
+-- Frames, commands that are to wait, work that is refused before it begins and a stopped endpoint leave the store as it was, and with it the
+-- disk and its clock. Where no work is in hand so do a command that the journal has no room for, and a refill where no ceiling is needed or
+-- the journal cannot begin anew.
 abbrev pub IsStill : {D : Type 0} → EndpointValue D → Call → Reply → EndpointValue D → Type 0
 IsStill old (Commands command) (Ran (Err (ran.Refused refusal))) new = new.store ≡ old.store
 IsStill old (Commands command) (Ran (Err ran.Busy)) new = new.store ≡ old.store
 IsStill old (Commands command) (Ran (Err ran.Stopped)) new = new.store ≡ old.store
-IsStill old Refills (Refilled (Ok done)) new = IsIdle old.store → raise_in old ≡ None → new.store ≡ old.store
+IsStill old (Commands command) (Ran (Err ran.GenerationsSpent)) new = IsIdle old.store → new.store ≡ old.store
 IsStill old Refills (Refilled (Err refill.Busy)) new = new.store ≡ old.store
 IsStill old Refills (Refilled (Err refill.Stopped)) new = new.store ≡ old.store
+IsStill old Refills (Refilled result) new = IsIdle old.store → (raise_in old ≡ None) ⊎ IsSpent old.store → new.store ≡ old.store
 IsStill old Advances (Advanced (Ok (Done ticket (Err fault)))) new = new.store ≡ old.store
 IsStill old Advances (Advanced (Err step.GenerationsSpent)) new = new.store ≡ old.store
 IsStill old Advances (Advanced (Err step.Stopped)) new = new.store ≡ old.store

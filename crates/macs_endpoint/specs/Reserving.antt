@@ -1,5 +1,5 @@
 -- Reservations of packet numbers, whichever are made.
-use Rattle.std.specs.Prelude.{◌≡◌, ◌≤◌, ◌+◌, Some, None, Result, Ok, Err, IsErrOf, OnErr, OnOk}
+use Rattle.std.specs.Prelude.{◌≡◌, ◌⊎◌, ◌↔◌, ◌≤◌, ◌+◌, Some, None, Result, Ok, Err, IsErrOf, OnErr, OnOk}
 use Rattle.macs_disk.specs.Disk.{Disk, IsHonest, Works}
 use Rattle.macs_disk.specs.Runs.{Leaves}
 use Rattle.macs_disk.specs.States.{Image}
@@ -7,14 +7,15 @@ use Rattle.macs_journal.specs.declared.fault.JournalFault.{JournalFault}
 use Rattle.macs_journal.specs.declared.fault.JournalFault.TheVariants as journal
 use Rattle.macs_txsc.specs.Value as txsc
 use Rattle.macs_rxsc.specs.Value as rxsc
-use Rattle.macs_store.specs.Keeps.{IsSpent}
+use Rattle.macs_store.specs.Keeps.{IsSpent, generation_after, most_calls, slots_after}
 use Rattle.macs_store.specs.Stepping.{HasInHand}
-use Rattle.macs_store.specs.Value.{IsIdle, calls_left, slots_then, standing_in, used_slots}
+use Rattle.macs_store.specs.Value.{IsIdle, calls_left, generation, generation_then, slots_then, standing_in, used_slots}
 use Rattle.macs_endpoint.specs.Calls.{Fails}
 use Rattle.macs_endpoint.specs.Ceilings.{Raise, StandsRefilled, standing_with_raise, standing_with_reserved}
 use Rattle.macs_endpoint.specs.Limits.{IsLimited}
 use Rattle.macs_endpoint.specs.Needed.{raise_in}
 use Rattle.macs_endpoint.specs.Restart.{Fits}
+use Rattle.macs_endpoint.specs.Spending.{Spends}
 use Rattle.macs_endpoint.specs.State.{Logs, Refilled, Refills, State, no_logs, rx_side, state_after_fault, tx_side}
 use Rattle.macs_endpoint.specs.Value.{EndpointValue, IsBacked, IsReserving, IsSoundEndpoint, disk_in, state_of}
 use Rattle.macs_endpoint.specs.declared.fault.RefillFault.{RefillFault}
@@ -46,11 +47,16 @@ pub record Reserves {D : Type 0} (disk_of : D → Disk) (old : EndpointValue D) 
   pub rx_counters : rxsc.counters_of new.rx ≡ rxsc.counters_of old.rx
   pub channel_counters : rxsc.channel_counters_of new.rx ≡ rxsc.channel_counters_of old.rx
 
--- this ceiling is raised, or none
+-- This ceiling is raised, by one change, or none. Refused as GenerationsSpent exactly where the journal cannot begin anew, and nothing changes.
 pub record Raised {D : Type 0} (disk_of : D → Disk) (old : EndpointValue D) (raise : Raise) (result : Result (Unit {0}) RefillFault) (new : EndpointValue D) : Type 0 where
   pub reserves : Reserves disk_of old result new
   pub done : OnOk result (standing_in new.store ≡ standing_with_raise (standing_in old.store) raise)
   pub same : OnErr result (standing_in new.store ≡ standing_in old.store)
+  pub spent : IsErrOf result refill.GenerationsSpent ↔ IsSpent old.store
+  pub refused : IsErrOf result refill.GenerationsSpent → new ≡ old
+  pub slots : OnOk result (used_slots new.store ≡ slots_after old.store)
+  pub generation : OnOk result (generation new.store ≡ generation_after old.store)
+  pub most : (disk_in disk_of new).clock ≤ (disk_in disk_of old).clock + most_calls old.store
 
 -- the ceiling that is being raised is raised, if one is
 pub record ReservationEnds {D : Type 0} (disk_of : D → Disk) (old : EndpointValue D) (result : Result (Unit {0}) RefillFault) (new : EndpointValue D) : Type 0 where
@@ -61,18 +67,22 @@ pub record ReservationEnds {D : Type 0} (disk_of : D → Disk) (old : EndpointVa
   pub same : OnErr result (standing_in new.store ≡ standing_in old.store)
   pub still : IsIdle old.store → new ≡ old
   pub slots : OnOk result (used_slots new.store ≡ slots_then old.store)
+  pub generation : OnOk result (generation new.store ≡ generation_then old.store)
   pub most : (disk_in disk_of new).clock ≤ (disk_in disk_of old).clock + calls_left old.store
 
--- every ceiling that is needed is raised, or one is left; where no work is in hand and none is needed the store stays as it is
+-- Every ceiling that is needed is raised, or one is left. Where no work is in hand, and none is needed or the journal cannot begin anew, the
+-- store stays as it is.
 pub record ReservesAll {D : Type 0} (disk_of : D → Disk) (old : EndpointValue D) (result : Result (Unit {0}) RefillFault) (new : EndpointValue D) : Type 0 where
   pub reserves : Reserves disk_of old result new
   pub ceilings : StandsRefilled (tx_side (state_of old no_logs)) (rx_side (state_of old no_logs)) (standing_in old.store) old.reserving result (standing_in new.store)
-  pub still : IsIdle old.store → raise_in old ≡ None → new.store ≡ old.store
+  pub still : IsIdle old.store → (raise_in old ≡ None) ⊎ IsSpent old.store → new.store ≡ old.store
+  pub spends : Spends disk_of old result new.store
 
 -- It is taken in hand that this ceiling is raised, and no device call is made; or the journal cannot begin anew, and nothing changes.
 pub record StartsRaise {D : Type 0} (disk_of : D → Disk) (old : EndpointValue D) (raise : Raise) (result : Result (Unit {0}) JournalFault) (new : EndpointValue D) : Type 0 where
   pub refused : OnErr result (IsErrOf result journal.GenerationsSpent × (new ≡ old) × IsSpent old.store)
+  pub room : OnOk result (¬ IsSpent old.store)
   pub in_hand : OnOk result (HasInHand disk_of old.store (standing_with_raise (standing_in old.store) raise) new.store)
   pub taken : OnOk result (new ≡ record old { store = new.store; reserving = Some raise })
   pub reserving : OnOk result (IsReserving new)
-  pub kept : OnOk result (IsSoundEndpoint old)
+  pub sound : OnOk result (IsSoundEndpoint old)

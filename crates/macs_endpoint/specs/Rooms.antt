@@ -5,7 +5,7 @@ use Rattle.macs_config.specs.declared.command.Command.{Command}
 use Rattle.macs_config.specs.declared.command.Command.TheVariants.{RxDrop, RxInstall, RxRemove, TxInstall, TxRemove}
 use Rattle.macs_store.specs.Value.{standing_in}
 use Rattle.macs_endpoint.specs.Value.{EndpointValue, state_of}
-use Rattle.macs_endpoint.specs.Lives.{Turn}
+use Rattle.macs_endpoint.specs.Lives.{Transition}
 use Rattle.macs_endpoint.specs.State.{Protected, Reply, command_made, no_logs}
 
 -- ---- transmission
@@ -29,7 +29,7 @@ SparesTx an (Some (TxRemove removed)) = removed ≢ an
 SparesTx an command = Unit {0}
 
 -- no command that these calls made durable removes or replaces the transmit association at this AN
-abbrev pub TxStays : {D : Type 0} → ℕ → EndpointValue D → List (Turn D) → Type 0
+abbrev pub TxStays : {D : Type 0} → ℕ → EndpointValue D → List (Transition D) → Type 0
 TxStays an e [] = Unit {0}
 TxStays an e (turn ∷ turns) = SparesTx an (command_made (state_of e no_logs) turn.call turn.reply) × TxStays an turn.after turns
 
@@ -39,7 +39,7 @@ frames_in_reply (Some encoding) an (Protected (Ok pn) out) = if encoding == an t
 frames_in_reply encoding an reply = 0
 
 -- how many frames went out under the transmit association at this AN
-abbrev pub frames_sent : {D : Type 0} → ℕ → EndpointValue D → List (Turn D) → ℕ
+abbrev pub frames_sent : {D : Type 0} → ℕ → EndpointValue D → List (Transition D) → ℕ
 frames_sent an e [] = 0
 frames_sent an e (turn ∷ turns) = frames_in_reply (standing_in e.store).config.encoding an turn.reply + frames_sent an turn.after turns
 
@@ -59,6 +59,6 @@ SparesRx sci an (Some (RxRemove channel removed)) = (channel ≢ sci) ⊎ (remov
 SparesRx sci an command = Unit {0}
 
 -- no command that these calls made durable removes or replaces the receive association of this SCI and AN
-abbrev pub RxStays : {D : Type 0} → List ℕ → ℕ → EndpointValue D → List (Turn D) → Type 0
+abbrev pub RxStays : {D : Type 0} → List ℕ → ℕ → EndpointValue D → List (Transition D) → Type 0
 RxStays sci an e [] = Unit {0}
 RxStays sci an e (turn ∷ turns) = SparesRx sci an (command_made (state_of e no_logs) turn.call turn.reply) × RxStays sci an turn.after turns

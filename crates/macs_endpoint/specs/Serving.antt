@@ -2,7 +2,7 @@
 use Rattle.std.specs.Prelude.{◌≡◌, ◌≤◌, ℕ, Bool, true, false, List, [], ◌∷◌, ◌++◌, map, length, Option, Some, None, Err}
 use Rattle.macs_disk.specs.Disk.{Disk, IsHonest}
 use Rattle.macs_endpoint.specs.Value.{IsBacked, EndpointValue, disk_in, state_of}
-use Rattle.macs_endpoint.specs.Lives.{LeavesLife, Lives, Turn, exchange_of}
+use Rattle.macs_endpoint.specs.Lives.{LeavesLife, Lives, Transition, exchange_of}
 use Rattle.macs_endpoint.specs.State.{Advanced, Advances, Call, Logs, Protects, Protected, Ran, Received, Receives, Refilled, Reply, Submits, Submitted}
 use Rattle.macs_endpoint.specs.Step.{Steps}
 use Rattle.macs_endpoint.specs.declared.event.Answer.{Answer}
@@ -52,11 +52,11 @@ Takes old None new = (old ≡ []) × (new ≡ [])
 Takes old (Some event) new = old ≡ event ∷ new
 
 -- Halted is the end exactly where the last answer says that a device call failed, and no answer before it says so
-abbrev pub Ends : List Reply → ServeEnd → Type 0
-Ends [] Halted = ⊥
-Ends [] end = Unit {0}
-Ends (reply ∷ []) Halted = is_halt reply ≡ true
-Ends (reply ∷ replies) end = (is_halt reply ≡ false) × Ends replies end
+abbrev pub EndsAs : List Reply → ServeEnd → Type 0
+EndsAs [] Halted = ⊥
+EndsAs [] end = Unit {0}
+EndsAs (reply ∷ []) Halted = is_halt reply ≡ true
+EndsAs (reply ∷ replies) end = (is_halt reply ≡ false) × EndsAs replies end
 
 -- what a source tells of the events that it has left, if it tells, and a sink of the answers that it took
 pub record Told : Type 0 where
@@ -68,7 +68,7 @@ pub record Told : Type 0 where
 -- What was served in at most so many turns, with what source and sink tell before and after: the calls link the endpoint of before to that of
 -- after, their answers are a run of the machine, and a power loss at any moment leaves what fits one of their states.
 pub record IsServed {D : Type 0} (disk_of : D → Disk) (most : ℕ) (old : EndpointValue D) (before : Told) (end : ServeEnd) (new : EndpointValue D) (after : Told) : Type 0 where
-  pub turns : List (Turn D)
+  pub turns : List (Transition D)
   pub lives : Lives disk_of old turns new
   pub few : length turns ≤ most
   pub run : (logs : Logs) → (later : Logs) × Steps (state_of old logs) (map exchange_of turns) (state_of new later)
@@ -82,4 +82,4 @@ pub record IsServed {D : Type 0} (disk_of : D → Disk) (most : ℕ) (old : Endp
       × (after.took ≡ before.took ++ answers) × (map reply_of answers ≡ map (λ turn. turn.reply) turns)
   pub ended : end ≡ Ended → before.source_tells ≡ true → after.left ≡ []
   pub spent : end ≡ TurnsSpent → length turns ≡ most
-  pub ends : Ends (map (λ turn. turn.reply) turns) end
+  pub ends : EndsAs (map (λ turn. turn.reply) turns) end

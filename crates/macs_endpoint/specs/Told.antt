@@ -1,5 +1,5 @@
 -- What private types of the program tell.
-use Rattle.macs_endpoint.specs.Advancing.{Piece, Raises, Takes}
+use Rattle.macs_endpoint.specs.Advancing.{Piece, ToKeep, ToRaise}
 use Rattle.macs_endpoint.specs.Ceilings as ceilings
 use Rattle.macs_endpoint.specs.declared.refilling.Raise.{Raise}
 use Rattle.macs_endpoint.specs.declared.refilling.Raise.TheVariants.{Rx, Tx}
@@ -13,5 +13,5 @@ raise_of (Rx need) = ceilings.RaiseRx (record { sci = need.sci; an = need.an; pn
 
 -- a piece of work
 abbrev pub piece_of : declared.Piece → Piece
-piece_of (variant.Raise raise) = Raises (raise_of raise)
-piece_of (variant.Keep first) = Takes first
+piece_of (variant.Raise raise) = ToRaise (raise_of raise)
+piece_of (variant.Keep first) = ToKeep first

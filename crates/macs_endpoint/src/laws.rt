@@ -7,12 +7,12 @@ ghost use Rattle.macs_rxsc.specs.Receive.{Arrival, Arrives};
 ghost use Rattle.macs_rxsc.specs.declared.verdict.Verdict.TheVariants.{HeldBack};
 ghost use Rattle.macs_store.specs.Keeps.{most_calls};
 ghost use Rattle.macs_store.specs.Value.{IsIdle, standing_in};
-ghost use Rattle.macs_endpoint.specs.Advancing.{Raises, next_piece};
+ghost use Rattle.macs_endpoint.specs.Advancing.{ToRaise, next_piece};
 ghost use Rattle.macs_endpoint.specs.Calls.{IsCall};
 ghost use Rattle.macs_endpoint.specs.Ceilings.{Raise, standing_with_raise};
 ghost use Rattle.macs_endpoint.specs.Value.{IsSoundEndpoint, EndpointValue, state_of};
 ghost use Rattle.macs_endpoint.specs.Lasting.{Lasts, NoneDone, reservations_made, steps_made};
-ghost use Rattle.macs_endpoint.specs.Lives.{Lives, Turn};
+ghost use Rattle.macs_endpoint.specs.Lives.{Lives, Transition};
 ghost use Rattle.macs_endpoint.specs.Rooms.{HasRoom, IsBelow, IsEncodingAn, RxStays, TxStays, frames_sent};
 ghost use Rattle.macs_endpoint.specs.State.{Advanced, Advances, Call, Protects, Protected, Received, Receives, Refilled, Refills, Reply, command_made, no_logs, rx_side};
 ghost use Rattle.macs_endpoint.specs.declared.fault.ProtectFault.TheVariants.{Tx};
@@ -41,7 +41,7 @@ pub fn frames_before_no_number<D: SectorDisk>()
         → IsSoundEndpoint old → IsCall D.disk old call reply new
         → command_made (state_of old no_logs) call reply ≡ Some (TxInstall an key start confidential offset)
         → HasRoom new an (standing_in new.store).identity.tx_block }
-    ensures stays { (old new : EndpointValue D) (turns : List (Turn D)) (an count : ℕ) → IsSoundEndpoint new → Lives D.disk old turns new → TxStays an old turns
+    ensures stays { (old new : EndpointValue D) (turns : List (Transition D)) (an count : ℕ) → IsSoundEndpoint new → Lives D.disk old turns new → TxStays an old turns
         → HasRoom old an count → HasRoom new an (count - frames_sent an old turns) }
     ensures numbered { (old new : EndpointValue D) (an count : ℕ) (plain out : List ℕ) → IsEncodingAn old an → HasRoom old an count → 1 ≤ count
         → IsCall D.disk old (Protects plain) (Protected (Err (Tx NoNumber)) out) new → ⊥ }
@@ -67,17 +67,17 @@ pub fn frames_not_held_back<D: SectorDisk>()
         → ((pn ≤ seen) ⊎ ((pn < next + (standing_in new.store).identity.rx_block / 2 + 1)
         × (pn < seen + (standing_in new.store).identity.rx_block)))
         → IsBelow new sci an pn }
-    ensures again { (old mid late new : EndpointValue D) (turns : List (Turn D)) (frame out : List ℕ) (a : Arrival) → IsSoundEndpoint new
+    ensures again { (old mid late new : EndpointValue D) (turns : List (Transition D)) (frame out : List ℕ) (a : Arrival) → IsSoundEndpoint new
         → Arrives (rx_side (state_of old no_logs)) frame a
         → IsCall D.disk old (Receives frame) (Received (Ok HeldBack) out) mid
         → Lives D.disk mid turns late → RxStays a.sci a.an mid turns → IsCall D.disk late Refills (Refilled (Ok tt)) new
         → IsBelow new a.sci a.an a.pn }
-    ensures later { (old mid late new : EndpointValue D) (turns : List (Turn D)) (frame out : List ℕ) (a : Arrival) → IsSoundEndpoint new
+    ensures later { (old mid late new : EndpointValue D) (turns : List (Transition D)) (frame out : List ℕ) (a : Arrival) → IsSoundEndpoint new
         → Arrives (rx_side (state_of old no_logs)) frame a
         → IsCall D.disk old (Receives frame) (Received (Ok HeldBack) out) mid
         → Lives D.disk mid turns late → RxStays a.sci a.an mid turns → IsCall D.disk late Advances (Advanced (Ok Idle)) new
         → IsBelow new a.sci a.an a.pn }
-    ensures stays { (old new : EndpointValue D) (turns : List (Turn D)) (sci : List ℕ) (an pn : ℕ) → Lives D.disk old turns new
+    ensures stays { (old new : EndpointValue D) (turns : List (Transition D)) (sci : List ℕ) (an pn : ℕ) → Lives D.disk old turns new
         → RxStays sci an old turns → IsBelow old sci an pn → IsBelow new sci an pn }
     ensures delivered { (old new : EndpointValue D) (frame out : List ℕ) (a : Arrival) → IsBelow old a.sci a.an a.pn
         → Arrives (rx_side (state_of old no_logs)) frame a
@@ -90,14 +90,14 @@ pub fn frames_not_held_back<D: SectorDisk>()
 /// the journal's current area are used when it begins, 523 and one for each record of the snapshot. What other calls
 /// come between is left open; no device call fails.
 pub fn work_ends<D: SectorDisk>()
-    ensures { (old begun new : EndpointValue D) (turns : List (Turn D)) → IsIdle old.store
+    ensures { (old begun new : EndpointValue D) (turns : List (Transition D)) → IsIdle old.store
         → IsCall D.disk old Advances (Advanced (Ok Worked)) begun → Lives D.disk begun turns new → Lasts begun turns
         → steps_made turns + 1 ≤ most_calls old.store }
 {}
 
 /// What is reserved is what was needed first when the reservation began, though frames may have come between.
 pub fn reserved_as_begun<D: SectorDisk>()
-    ensures { (old begun last new : EndpointValue D) (turns : List (Turn D)) (raise : Raise) → IsIdle old.store → next_piece old ≡ Some (Raises raise)
+    ensures { (old begun last new : EndpointValue D) (turns : List (Transition D)) (raise : Raise) → IsIdle old.store → next_piece old ≡ Some (ToRaise raise)
         → IsCall D.disk old Advances (Advanced (Ok Worked)) begun → Lives D.disk begun turns last → Lasts begun turns → IsSoundEndpoint last
         → IsCall D.disk last Advances (Advanced (Ok Reserved)) new
         → standing_in new.store ≡ standing_with_raise (standing_in old.store) raise }
@@ -108,5 +108,5 @@ pub fn reserved_as_begun<D: SectorDisk>()
 /// While a command waits, in hand or not, and none is done with, one step at most is answered with `Reserved`, or with
 /// `GenerationsSpent`, whatever other calls come between.
 pub fn one_reservation_between<D: SectorDisk>()
-    ensures { (old new : EndpointValue D) (turns : List (Turn D)) → old.waiting ≢ [] → Lives D.disk old turns new → NoneDone turns → reservations_made turns ≤ 1 }
+    ensures { (old new : EndpointValue D) (turns : List (Transition D)) → old.waiting ≢ [] → Lives D.disk old turns new → NoneDone turns → reservations_made turns ≤ 1 }
 {}

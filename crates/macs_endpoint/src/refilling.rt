@@ -9,6 +9,7 @@ ghost use Rattle.macs_endpoint.specs.Calls.{IsCall};
 ghost use Rattle.macs_endpoint.specs.Ceilings.{Rises, standing_with_raise};
 ghost use Rattle.macs_endpoint.specs.Needed.{raise_in};
 ghost use Rattle.macs_endpoint.specs.Reserving.{Raised, ReservationEnds, ReservesAll, StartsRaise};
+ghost use Rattle.macs_endpoint.specs.Spending.{Spends};
 ghost use Rattle.macs_endpoint.specs.State.{Refilled, Refills};
 ghost use Rattle.macs_endpoint.specs.Told.{raise_of};
 ghost use Rattle.macs_endpoint.specs.Value.{IsAtRest, IsReserving, is_stopped};
@@ -34,8 +35,11 @@ impl<D: SectorDisk> Endpoint<D> {
     /// of the transmit association that frames go out under, then those of receive associations by ascending SCI and
     /// number. Refused as `Stopped`, then as `Busy` where a submitted command waits; these change nothing. Then as
     /// `GenerationsSpent`, and as `Disk` at the first device call that fails. What was reserved before a fault stays.
+    /// A reservation takes one slot of the journal and four device calls at most, and a compaction more where all slots
+    /// are used.
     pub fn refill(&mut self) -> Result<(), RefillFault>
         ensures call { IsCall D.disk self.old Refills (Refilled result) self.new }
+        ensures spends { Spends D.disk self.old result self.new.store }
     {
         if self.is_stopped() {
             return Err(RefillFault::Stopped);

@@ -3,7 +3,7 @@
 ghost use Rattle.std.specs.Prelude.{◌≡◌, Some, false};
 ghost use Rattle.std.specs.Option.{option_map};
 ghost use Rattle.macs_store.specs.Value.{IsIdle};
-ghost use Rattle.macs_endpoint.specs.Advancing.{Raises, Takes, next_piece};
+ghost use Rattle.macs_endpoint.specs.Advancing.{ToKeep, ToRaise, next_piece};
 ghost use Rattle.macs_endpoint.specs.Calls.{IsCall};
 ghost use Rattle.macs_endpoint.specs.Keeping.{StartsFirst};
 ghost use Rattle.macs_endpoint.specs.Told.{piece_of, raise_of};
@@ -98,7 +98,7 @@ impl<D: SectorDisk> Endpoint<D> {
     fn begin_raise(&mut self, raise: Raise) -> Result<Step, StepFault>
         requires running { is_stopped self.old ≡ false }
         requires idle { IsIdle self.old.store }
-        requires next { next_piece self.old ≡ Some (Raises (raise_of raise)) }
+        requires next { next_piece self.old ≡ Some (ToRaise (raise_of raise)) }
         ensures { IsCall D.disk self.old Advances (Advanced result) self.new }
     {
         if self.start_raise(raise).is_err() {
@@ -112,7 +112,7 @@ impl<D: SectorDisk> Endpoint<D> {
     fn begin_command(&mut self, first: Waiting) -> Result<Step, StepFault>
         requires running { is_stopped self.old ≡ false }
         requires idle { IsIdle self.old.store }
-        requires next { next_piece self.old ≡ Some (Takes first) }
+        requires next { next_piece self.old ≡ Some (ToKeep first) }
         ensures { IsCall D.disk self.old Advances (Advanced result) self.new }
     {
         command_in_range(&first.command);

@@ -10,7 +10,7 @@ use Rattle.macs_journal.specs.declared.recovery.RecoverRefused.{RecoverRefused}
 use Rattle.macs_store.specs.Found.{StandingIs}
 use Rattle.macs_store.specs.Value.{standing_in}
 use Rattle.macs_endpoint.specs.Calls.{IsCall, IsInRange}
-use Rattle.macs_endpoint.specs.Lives.{Lives, Turn, exchange_of}
+use Rattle.macs_endpoint.specs.Lives.{Lives, Transition, exchange_of}
 use Rattle.macs_endpoint.specs.Opening.{IsOpening}
 use Rattle.macs_endpoint.specs.Restart.{Fits, state_during}
 use Rattle.macs_endpoint.specs.State.{Call, Logs, Reply, State}
@@ -65,7 +65,7 @@ module _ {D : Type 0} (disk_of : D → Disk) (sound : (it : D) → IsHonest (dis
 -- ---- calls, one after another
 
 module _ {D : Type 0} (disk_of : D → Disk) where
-  lives_steps : (turns : List (Turn D)) (old new : EndpointValue D) (logs : Logs) → Lives disk_of old turns new
+  lives_steps : (turns : List (Transition D)) (old new : EndpointValue D) (logs : Logs) → Lives disk_of old turns new
       → (after : Logs) × Steps (state_of old logs) (map exchange_of turns) (state_of new after)
   lives_steps [] old new logs lives = (logs, ap (λ (e : EndpointValue D). state_of e logs) lives)
   lives_steps (turn ∷ turns) old new logs (kept, call, rest) =
@@ -73,7 +73,7 @@ module _ {D : Type 0} (disk_of : D → Disk) where
       let more = lives_steps turns turn.after new step.0 rest in
       (more.0, (state_of turn.after step.0, step.1, more.1))
 
-  lives_in_range : (turns : List (Turn D)) (old new : EndpointValue D) → Lives disk_of old turns new
+  lives_in_range : (turns : List (Transition D)) (old new : EndpointValue D) → Lives disk_of old turns new
       → AllByRecursion (λ (e : Exchange). IsInRange this_edition e.call) (map exchange_of turns)
   lives_in_range [] old new lives = tt
   lives_in_range (turn ∷ turns) old new (kept, call, rest) = (call.behaves.in_range, lives_in_range turns turn.after new rest)
@@ -84,7 +84,7 @@ module _ {D : Type 0} (disk_of : D → Disk) where
     size : (disk_in disk_of new).sectors ≡ (disk_in disk_of old).sectors
     backed : IsHonest (disk_in disk_of old) → IsBacked disk_of old → IsBacked disk_of new
 
-  lives_on : (turns : List (Turn D)) (old new : EndpointValue D) → Lives disk_of old turns new → GoesOn old new
+  lives_on : (turns : List (Transition D)) (old new : EndpointValue D) → Lives disk_of old turns new → GoesOn old new
   lives_on [] old new lives = subst (λ (e : EndpointValue D). GoesOn old e) (sym lives) (record { honest = refl; size = refl; backed = λ honest backed. backed })
   lives_on (turn ∷ turns) old new (kept, call, rest) =
       let works = call.device.works in
@@ -96,7 +96,7 @@ module _ {D : Type 0} (disk_of : D → Disk) where
       }
 
   -- an endpoint that opened a disk and made calls
-  pub record IsAlive (sectors : ℕ) (past : Past) (image : Image) (first : EndpointValue D) (turns : List (Turn D)) (last : EndpointValue D) : Type 0 where
+  pub record IsAlive (sectors : ℕ) (past : Past) (image : Image) (first : EndpointValue D) (turns : List (Transition D)) (last : EndpointValue D) : Type 0 where
     pub logs : Logs
     pub life : IsLifeSoFar sectors past this_edition image (map exchange_of turns) (state_of last logs)
     pub same_found : life.found ≡ standing_in first.store
@@ -105,7 +105,7 @@ module _ {D : Type 0} (disk_of : D → Disk) where
     pub backed : IsBacked disk_of last
 
 module _ {D : Type 0} (disk_of : D → Disk) (sound : (it : D) → IsHonest (disk_of it) → IsSound (now (disk_of it))) (sectors : ℕ) (past : Past)
-    (old : D) (first : EndpointValue D) (turns : List (Turn D)) (last : EndpointValue D) (covered : IsCovered sectors past (disk_of old))
+    (old : D) (first : EndpointValue D) (turns : List (Transition D)) (last : EndpointValue D) (covered : IsCovered sectors past (disk_of old))
     (lived : LivesFrom disk_of old first turns last) where
   pub alive : IsAlive disk_of sectors past (now (disk_of old)).seen first turns last
   alive =

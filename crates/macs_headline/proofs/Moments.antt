@@ -11,7 +11,7 @@ use Rattle.macs_store.specs.Found.{StandingIs}
 use Rattle.macs_store.specs.Standing.{Standing}
 use Rattle.macs_store.specs.Value.{standing_in}
 use Rattle.macs_endpoint.specs.Calls.{IsCall}
-use Rattle.macs_endpoint.specs.Lives.{Lives, Turn, exchange_of}
+use Rattle.macs_endpoint.specs.Lives.{Lives, Transition, exchange_of}
 use Rattle.macs_endpoint.specs.Restart.{state_taking_alone, state_taking_first}
 use Rattle.macs_endpoint.specs.State.{Advances, Call, Commands, Logs, Protects, Protected, Receives, Refills, State, Submits, no_logs, state_with_in_hand}
 use Rattle.macs_endpoint.specs.declared.queue.Waiting.{Waiting}
@@ -33,16 +33,16 @@ use Rattle.macs_headline.proofs.Sound.{sound-effect}
 -- ---- the call in which a power loss lies
 
 module _ {D : Type 0} (disk_of : D → Disk) where
-  lives_work : (turns : List (Turn D)) (old new : EndpointValue D) → Lives disk_of old turns new → Works (disk_in disk_of old) (disk_in disk_of new)
+  lives_work : (turns : List (Transition D)) (old new : EndpointValue D) → Lives disk_of old turns new → Works (disk_in disk_of old) (disk_in disk_of new)
   lives_work [] old new lives = subst (λ (e : EndpointValue D). Works (disk_in disk_of old) (disk_in disk_of e)) (sym lives) (Works-start (disk_in disk_of old))
   lives_work (turn ∷ turns) old new (kept, call, rest) =
       Works-on (disk_in disk_of old) (disk_in disk_of turn.after) (disk_in disk_of new) call.device.works (lives_work turns turn.after new rest)
 
-  record IsWithin (first last : EndpointValue D) (turns : List (Turn D)) (image : Image) : Type 0 where
-    before : List (Turn D)
+  record IsWithin (first last : EndpointValue D) (turns : List (Transition D)) (image : Image) : Type 0 where
+    before : List (Transition D)
     mid : EndpointValue D
-    turn : Turn D
-    rest : List (Turn D)
+    turn : Transition D
+    rest : List (Transition D)
     whole : before ++ turn ∷ rest ≡ turns
     lives : Lives disk_of first before mid
     kept : IsSoundEndpoint mid
@@ -50,7 +50,7 @@ module _ {D : Type 0} (disk_of : D → Disk) where
     left : LeftSince (disk_in disk_of turn.after) (disk_in disk_of mid).clock image
     on : Works (disk_in disk_of turn.after) (disk_in disk_of last)
 
-  within : (turns : List (Turn D)) (first last : EndpointValue D) (image : Image) → Lives disk_of first turns last
+  within : (turns : List (Transition D)) (first last : EndpointValue D) (image : Image) → Lives disk_of first turns last
       → LeftSince (disk_in disk_of last) (disk_in disk_of first).clock image → (last ≡ first) ⊎ IsWithin first last turns image
   within [] first last image lives left = inl lives
   within (turn ∷ turns) first last image (kept, call, rest) left =
@@ -169,7 +169,7 @@ in_hand_at_end e logs (Some (Receives frame)) = refl
 -- ---- the moment
 
 module _ {D : Type 0} (disk_of : D → Disk) (sound : (it : D) → IsHonest (disk_of it) → IsSound (now (disk_of it))) (old disk : D) (links : List (Link D))
-    (is_new : IsNewDisk (disk_of old)) (chain : Chain disk_of old links disk) (first last : EndpointValue D) (turns : List (Turn D))
+    (is_new : IsNewDisk (disk_of old)) (chain : Chain disk_of old links disk) (first last : EndpointValue D) (turns : List (Transition D))
     (lived : LivesFrom disk_of disk first turns last) where
   abbrev sectors : ℕ
   sectors = (disk_of old).sectors

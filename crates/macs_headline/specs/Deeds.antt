@@ -8,7 +8,7 @@ use Rattle.macs_journal.specs.declared.fault.JournalFault.{JournalFault}
 use Rattle.macs_journal.specs.declared.recovery.RecoverRefused.{RecoverRefused}
 use Rattle.macs_endpoint.specs.Calls.{IsCall}
 use Rattle.macs_endpoint.specs.Formatting.{IsFormat}
-use Rattle.macs_endpoint.specs.Lives.{Lives, Turn, exchange_of}
+use Rattle.macs_endpoint.specs.Lives.{Lives, Transition, exchange_of}
 use Rattle.macs_endpoint.specs.Opening.{IsOpening}
 use Rattle.macs_endpoint.specs.State.{Call, Reply}
 use Rattle.macs_endpoint.specs.Value.{EndpointValue, IsSoundEndpoint, device_in, disk_in}
@@ -32,7 +32,7 @@ pub data Deed (D : Type 0) : Type 0 where
   FormattingCut : (identity : Identity) → Deed D
   Refusing : (fault : JournalFault) → Deed D
   OpeningCut : Deed D
-  Living : (first : EndpointValue D) (turns : List (Turn D)) (last : EndpointValue D) (cut : Option Call) → Deed D
+  Living : (first : EndpointValue D) (turns : List (Transition D)) (last : EndpointValue D) (cut : Option Call) → Deed D
   PowerLoss : Deed D
 
 -- the disk after an opening, refused or not
@@ -41,7 +41,7 @@ disk_after_opening disk_of (Ok e) = disk_in disk_of e
 disk_after_opening disk_of (Err refused) = disk_of refused.disk
 
 -- A disk is opened to this endpoint, whose calls lead to that one.
-abbrev pub LivesFrom : {D : Type 0} → (D → Disk) → D → EndpointValue D → List (Turn D) → EndpointValue D → Type 0
+abbrev pub LivesFrom : {D : Type 0} → (D → Disk) → D → EndpointValue D → List (Transition D) → EndpointValue D → Type 0
 LivesFrom disk_of disk first turns last = IsOpening disk_of disk (Ok first) × Lives disk_of first turns last
 
 -- A deed leads from a disk to a disk. What is cut short is something that would have been answered, and the power goes at some moment of it.

@@ -22,7 +22,7 @@ use Rattle.macs_store.specs.Table.{standing_of}
 use Rattle.macs_store.specs.Value.{FitsHand, IsIdle, IsStored, StoreValue, calls_left, calls_with, disk_in, generation_then, generation_with, is_stopped, slots_then, slots_with, standing_in, standing_then, standing_with}
 use Rattle.macs_store.specs.declared.hand.Hand.{Hand}
 use Rattle.macs_store.specs.declared.hand.Hand.TheVariants.{Appending, Empty, Renewing}
-use Rattle.macs_store.proofs.Keeping.{in_hand-image}
+use Rattle.macs_store.proofs.Keeping.{in_hand-image, stored-image}
 
 -- ---- a call is left while work is in hand
 
@@ -109,6 +109,7 @@ module _ {D : Type 0} (disk_of : D → Disk) (s : StoreValue D) where
     work = record { works = Works-start (disk_in disk_of s); fails = refl };
     any_moment = λ honest stored after follows. alone stored after follows;
     stored = tt;
+    kept = tt;
   }
 
 module _ {D : Type 0} (disk_of : D → Disk) (old mid : StoreValue D) (way : IsOnItsWay disk_of old mid) where
@@ -132,6 +133,7 @@ module _ {D : Type 0} (disk_of : D → Disk) (old mid : StoreValue D) (way : IsO
     work = record { works = way.works; fails = way.steady };
     any_moment = way.moments;
     stored = way.stored;
+    kept = λ honest stored image left. stored-image disk_of mid idle (way.stored honest stored) image left;
   }
 
   -- ---- one step more
@@ -210,4 +212,5 @@ module _ {D : Type 0} (disk_of : D → Disk) (old mid : StoreValue D) (way : IsO
       };
       any_moment = λ honest stored after follows. moments-more (refuses at) new steps honest stored after follows;
       stored = tt;
+      kept = tt;
     }

@@ -58,7 +58,7 @@ module _ {D : Type 0} (disk_of : D → Disk) (old : StoreValue D) (after : Stand
     end-stored honest stored = finishes.stored honest (has.stored stored)
 
     end-kept : IsHonest (disk_in disk_of new) → IsStored disk_of old → (image : Image) → MayLeave (disk_in disk_of new) image → StandsFor this_edition image (standing_in new)
-    end-kept honest stored image left = stored-image disk_of new (finishes.idle has.running) (end-stored honest stored) image left
+    end-kept honest stored image left = finishes.kept honest (has.stored stored) image left
 
 -- ---- a reservation
 

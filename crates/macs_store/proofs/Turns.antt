@@ -9,7 +9,7 @@ use Rattle.macs_journal.specs.Appending.{HasEitherJournal}
 use Rattle.macs_journal.specs.Found.{Content, content_with_record}
 use Rattle.macs_journal.specs.Stepping as journal
 use Rattle.macs_journal.specs.Stepping.{Appends, IsAppendHand, IsSameTask, RenewsWith, place_then}
-use Rattle.macs_journal.specs.Value.{HoldsWith, IsHolding, IsMadeOf, IsNoCompact, JournalValue, left_of}
+use Rattle.macs_journal.specs.Value.{HoldsWith, IsMadeOf, IsNoCompact, JournalValue, left_of}
 use Rattle.macs_journal.specs.Value as journal_value
 use Rattle.macs_journal.specs.Work.{IsWorkOf}
 use Rattle.macs_journal.specs.declared.fault.JournalFault.{JournalFault}
@@ -32,7 +32,7 @@ use Rattle.macs_store.specs.Value.{FitsHand, IsIdle, IsStored, StoreValue, calls
 use Rattle.macs_store.specs.declared.hand.Hand.{Hand}
 use Rattle.macs_store.specs.declared.hand.Hand.TheVariants.{Appending, Empty, Renewing}
 use Rattle.macs_store.proofs.InHand.{task-appends}
-use Rattle.macs_store.proofs.Keeping.{either-image, held-within, in_hand-image, standing-with}
+use Rattle.macs_store.proofs.Keeping.{either-image, held-within, in_hand-image, standing-with, stored-image}
 
 -- what a step answers
 abbrev answers : JournalStep → Result JournalStep JournalFault
@@ -69,6 +69,7 @@ module _ {D : Type 0} (disk_of : D → Disk) (s : StoreValue D) where
     last = λ same. absurd cc;
     any_moment = λ honest stored after follows. nothing-new stored after follows;
     stored = tt;
+    kept = λ same. absurd cc;
   }
 
   rests-idle : is_stopped s ≡ false → IsIdle s → Steps disk_of s (answers Idle) s
@@ -92,6 +93,7 @@ module _ {D : Type 0} (disk_of : D → Disk) (s : StoreValue D) where
     last = λ same. absurd (let no : Idle ≡ Finished = cc in cc);
     any_moment = λ honest stored after follows. nothing-new stored after follows;
     stored = λ honest stored. stored;
+    kept = λ same. absurd (let no : Idle ≡ Finished = cc in cc);
   }
 
   pub rests : IsIdle s → Steps disk_of s (if is_stopped s then refuses fault.Stopped else answers Idle) s
@@ -164,6 +166,7 @@ module _ {D : Type 0} (disk_of : D → Disk) (s : StoreValue D) (runs : is_stopp
     last = λ same. absurd cc;
     any_moment = λ honest stored after follows. moments (refuses at) j steps honest stored after follows;
     stored = tt;
+    kept = λ same. absurd cc;
   }
 
   -- the same work goes on
@@ -205,6 +208,7 @@ module _ {D : Type 0} (disk_of : D → Disk) (s : StoreValue D) (runs : is_stopp
             becomes = stored.becomes;
             leads = stored.leads;
           };
+          kept = λ same. absurd (let no : Going ≡ Finished = cc in cc);
         }
 
     pub turn-on : (step : JournalStep) (j : JournalValue D) → step ≢ Finished → journal.Steps disk_of s.journal records (answers step) j
@@ -240,6 +244,23 @@ module _ {D : Type 0} (disk_of : D → Disk) (s : StoreValue D) (runs : is_stopp
   append-place place (journal_work.Append work) is = refl
   append-place place (journal_work.Compact work) is = absurd is
 
+  append-stored : (records : List Record) (j : JournalValue D) (held : StandingValue) → standing_after_record (standing_in s) r ≡ Some (standing_of held)
+      → journal.Steps disk_of s.journal records (answers Finished) j → IsHonest (disk_of j.disk) → IsStored disk_of s
+      → IsStored disk_of (record { journal = j; held = held; hand = Empty })
+  append-stored records j held follows steps honest stored =
+      let means : meaning_of this_edition stored.next ≡ Some (standing_of held) = stored.becomes ∙ ap (standing_next (standing_in s)) hand_is ∙ follows in
+      record {
+        content = stored.next;
+        next = stored.next;
+        holding = record {
+          holds = steps.done refl honest stored.content stored.next (append-lent records stored.content stored.next stored.holding);
+          made = subst (λ (h : journal_hand.Hand). IsMadeOf h (snapshot (standing_of held)) stored.next stored.next) (sym (steps.finished refl)) tt;
+        };
+        stands = means;
+        becomes = means;
+        leads = refl;
+      }
+
   pub append-finished : (records : List Record) (j : JournalValue D) (held : StandingValue) → standing_after_record (standing_in s) r ≡ Some (standing_of held)
       → journal.Steps disk_of s.journal records (answers Finished) j
       → Steps disk_of s (answers Finished) (record { journal = j; held = held; hand = Empty })
@@ -269,19 +290,9 @@ module _ {D : Type 0} (disk_of : D → Disk) (s : StoreValue D) (runs : is_stopp
             let calls : calls_left s ≡ left_of s.journal.hand = ap (calls_with s) hand_is in omega (arith, exact, none, calls));
         any_moment = λ honest stored after follows.
             moments disk_of s runs append-busy append-works records (append-lent records) (answers Finished) j steps honest stored after follows;
-        stored = λ honest stored.
-            let means : meaning_of this_edition stored.next ≡ Some (standing_of held) = stored.becomes ∙ ap (standing_next (standing_in s)) hand_is ∙ follows in
-            record {
-              content = stored.next;
-              next = stored.next;
-              holding = record {
-                holds = steps.done refl honest stored.content stored.next (append-lent records stored.content stored.next stored.holding);
-                made = subst (λ (h : journal_hand.Hand). IsMadeOf h (snapshot (standing_of held)) stored.next stored.next) (sym (steps.finished refl)) tt;
-              };
-              stands = means;
-              becomes = means;
-              leads = refl;
-            };
+        stored = λ honest stored. append-stored records j held follows steps honest stored;
+        kept = λ same honest stored image left.
+            stored-image disk_of (record { journal = j; held = held; hand = Empty }) refl (append-stored records j held follows steps honest stored) image left;
       }
 
 -- of a compaction, behind which the record is in hand
@@ -367,6 +378,7 @@ module _ {D : Type 0} (disk_of : D → Disk) (s : StoreValue D) (runs : is_stopp
             (moments disk_of s runs renewal-busy renewal-works (snapshot (standing_in s)) renewal-lent (answers Finished) mid steps
             (at_rest (disk_of j.disk) same-disk honest) stored after follows);
         stored = λ honest stored. renewed-stored honest stored;
+        kept = λ same. absurd (let no : Going ≡ Finished = cc in cc);
       }
 
 -- ---- by the invariant of a store

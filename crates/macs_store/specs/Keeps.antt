@@ -1,5 +1,5 @@
 -- What the calls of a store promise that keep something.
-use Rattle.std.specs.Prelude.{◌≡◌, ◌≤◌, ◌+◌, ◌==◌, ◌↔◌, ◌⊎◌, ℕ, true, false, if◌then◌else◌, Result, Ok, Err, IsOk, OnOk, OnErr, IsErrOf}
+use Rattle.std.specs.Prelude.{◌≡◌, ◌≤◌, ◌+◌, ◌==◌, ◌↔◌, ◌⊎◌, ℕ, true, false, if◌then◌else◌, length, Result, Ok, Err, IsOk, OnOk, OnErr, IsErrOf}
 use Rattle.macs_config.specs.Config.{this_edition}
 use Rattle.macs_config.specs.declared.command.Command.{Command}
 use Rattle.macs_config.specs.declared.refusal.Refusal.{Refusal}
@@ -13,8 +13,9 @@ use Rattle.macs_journal.specs.Work.{IsWorkOf}
 use Rattle.macs_journal.specs.declared.fault.JournalFault.{JournalFault}
 use Rattle.macs_journal.specs.declared.fault.JournalFault.TheVariants as journal
 use Rattle.macs_store.specs.Found.{CommitLeaves, StandsFor, StandsForEither}
+use Rattle.macs_store.specs.Snapshot.{snapshot}
 use Rattle.macs_store.specs.Standing.{Standing, accept}
-use Rattle.macs_store.specs.Value.{IsIdle, IsStored, StoreValue, disk_in, generation, is_stopped, snapshot_length, standing_in, used_slots}
+use Rattle.macs_store.specs.Value.{IsIdle, IsStored, StoreValue, disk_in, generation, is_stopped, standing_in, used_slots}
 use Rattle.macs_store.specs.declared.fault.CommitFault.{CommitFault}
 use Rattle.macs_store.specs.declared.fault.CommitFault.TheVariants as commit
 
@@ -24,18 +25,31 @@ use Rattle.macs_store.specs.declared.fault.CommitFault.TheVariants as commit
 abbrev pub IsSpent : {D : Type 0} → StoreValue D → Type 0
 IsSpent s = (is_stopped s ≡ false) × (used_slots s ≡ slots) × (generation s ≡ last_generation)
 
--- how many slots are used after one more change: where all were used the journal began anew with a snapshot
+-- how many slots are used after one more change, where so many were used and this stood: where all were used the journal began anew with
+-- a snapshot
+abbrev pub slots_with_change : ℕ → Standing → ℕ
+slots_with_change used s = if used == slots then length (snapshot s) + 1 else used + 1
+
+-- and in which generation they stand, where those before stood in this one
+abbrev pub generation_with_change : ℕ → ℕ → ℕ
+generation_with_change used number = if used == slots then number + 1 else number
+
+-- how many device calls the change takes at most: 4 for its record, and where all slots are used 519 for a compaction and one for each
+-- record of the snapshot
+abbrev pub most_with_change : ℕ → Standing → ℕ
+most_with_change used s = if used == slots then 523 + length (snapshot s) else 4
+
+-- how many slots of a store are used after one more change
 abbrev pub slots_after : {D : Type 0} → StoreValue D → ℕ
-slots_after s = if used_slots s == slots then snapshot_length s + 1 else used_slots s + 1
+slots_after s = slots_with_change (used_slots s) (standing_in s)
 
 -- and in which generation they stand
 abbrev pub generation_after : {D : Type 0} → StoreValue D → ℕ
-generation_after s = if used_slots s == slots then generation s + 1 else generation s
+generation_after s = generation_with_change (used_slots s) (generation s)
 
--- how many device calls a change takes at most: 4 for its record, and where all slots are used 519 for a compaction and one for each
--- record of the snapshot
+-- how many device calls the change takes at most
 abbrev pub most_calls : {D : Type 0} → StoreValue D → ℕ
-most_calls s = if used_slots s == slots then 523 + snapshot_length s else 4
+most_calls s = most_with_change (used_slots s) (standing_in s)
 
 -- ---- a reservation
 

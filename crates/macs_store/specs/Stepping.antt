@@ -1,17 +1,19 @@
 -- What a store keeps, one device call at a time.
 use Rattle.std.specs.Prelude.{◌≡◌, ◌≤◌, ◌+◌, ◌↔◌, ◌⊎◌, true, false, Some, Result, Ok, Err, IsOk, OnOk, OnErr, IsErrOf}
+use Rattle.macs_config.specs.Config.{this_edition}
 use Rattle.macs_config.specs.declared.command.Command.{Command}
 use Rattle.macs_config.specs.declared.refusal.Refusal.{Refusal}
 use Rattle.macs_disk.specs.Disk.{IsDeviceCall, IsHonest, MayLeave}
 use Rattle.macs_disk.specs.Disk as disk
 use Rattle.macs_disk.specs.Runs.{Leaves}
+use Rattle.macs_disk.specs.States.{Image}
 use Rattle.macs_journal.specs.Work.{IsWorkOf}
 use Rattle.macs_journal.specs.declared.fault.JournalFault.{JournalFault}
 use Rattle.macs_journal.specs.declared.fault.JournalFault.TheVariants as journal
 use Rattle.macs_journal.specs.declared.work.JournalStep.{JournalStep}
 use Rattle.macs_journal.specs.declared.work.JournalStep.TheVariants.{Finished, Going, Idle}
 use Rattle.macs_record.specs.declared.record.Record.{Record}
-use Rattle.macs_store.specs.Found.{StandsForEither}
+use Rattle.macs_store.specs.Found.{StandsFor, StandsForEither}
 use Rattle.macs_store.specs.Keeps.{IsSpent, generation_after, most_calls, slots_after}
 use Rattle.macs_store.specs.Replay.{standing_after_record}
 use Rattle.macs_store.specs.Standing.{Standing, accept}
@@ -78,7 +80,7 @@ IsAppending other = ⊥
 -- A step of a store: one device call of the work in hand. Stopped exactly where a device call failed before, and Idle exactly where nothing
 -- is in hand: then no call is made and nothing changes. Disk exactly where the call failed, which stops the store and leaves nothing in hand.
 -- Else the work goes on, or is finished: what stands changes then, and at no other time. At each moment a power loss leaves what stood, or
--- what stands once the work is done.
+-- what stands once the work is done; and what stands alone, once it is finished.
 pub record Steps {D : Type 0} (disk_of : D → disk.Disk) (old : StoreValue D) (result : Result JournalStep JournalFault) (new : StoreValue D) : Type 0 where
   -- what is answered, and what becomes of the store in memory
   pub stopped : IsErrOf result journal.Stopped ↔ (is_stopped old ≡ true)
@@ -103,10 +105,13 @@ pub record Steps {D : Type 0} (disk_of : D → disk.Disk) (old : StoreValue D) (
   pub any_moment : IsHonest (disk_in disk_of new) → IsStored disk_of old → (after : Standing) → standing_then old ≡ Some after
       → Leaves (disk_in disk_of old) (disk_in disk_of new) (StandsForEither (standing_in old) after)
   pub stored : OnOk result (IsHonest (disk_in disk_of new) → IsStored disk_of old → IsStored disk_of new)
+  pub kept : result ≡ Ok Finished → IsHonest (disk_in disk_of new) → IsStored disk_of old
+      → (image : Image) → MayLeave (disk_in disk_of new) image → StandsFor this_edition image (standing_in new)
 
 -- ---- to the end
 
--- The device calls of the work in hand, up to its end. Refused as a step. After Ok nothing is in hand, and the work is done.
+-- The device calls of the work in hand, up to its end. Refused as a step. After Ok nothing is in hand, the work is done, and a power loss
+-- leaves what stands.
 pub record Finishes {D : Type 0} (disk_of : D → disk.Disk) (old : StoreValue D) (result : Result (Unit {0}) JournalFault) (new : StoreValue D) : Type 0 where
   pub stopped : IsErrOf result journal.Stopped ↔ (is_stopped old ≡ true)
   pub names : OnErr result (IsErrOf result journal.Stopped ⊎ IsErrOf result journal.Disk)
@@ -122,3 +127,5 @@ pub record Finishes {D : Type 0} (disk_of : D → disk.Disk) (old : StoreValue D
   pub any_moment : IsHonest (disk_in disk_of new) → IsStored disk_of old → (after : Standing) → standing_then old ≡ Some after
       → Leaves (disk_in disk_of old) (disk_in disk_of new) (StandsForEither (standing_in old) after)
   pub stored : OnOk result (IsHonest (disk_in disk_of new) → IsStored disk_of old → IsStored disk_of new)
+  pub kept : OnOk result (IsHonest (disk_in disk_of new) → IsStored disk_of old
+      → (image : Image) → MayLeave (disk_in disk_of new) image → StandsFor this_edition image (standing_in new))

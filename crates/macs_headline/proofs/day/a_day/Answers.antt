@@ -1,7 +1,7 @@
 use Rattle.std.proofs.Common.{List, [], ◌∷◌, refl}
 use Rattle.std.specs.Prelude.{None, is_ok}
 use Rattle.macs_disk.specs.Disk.{now}
-use Rattle.macs_endpoint.specs.Lives.{Lives, Turn}
+use Rattle.macs_endpoint.specs.Lives.{Lives, Transition}
 use Rattle.macs_endpoint.specs.State.{Advanced, Advances, Commands, Protects, Protected, Ran, Submits, Submitted}
 use Rattle.macs_headline.specs.Deeds.{Formatting, Link, Living}
 use Rattle.macs_headline.proofs.Chains.{deeds-are-histories}
@@ -11,7 +11,7 @@ pub returns : goal.returns
 returns g c =
     let first = c.in_ok-endpoint.endpoint in
     let last = c.step-went_on.new.self in
-    let turns : List (Turn g.row.D.Denot) =
+    let turns : List (Transition g.row.D.Denot) =
     record { call = Commands c.args.install; reply = Ran c.command-installed.result; after = c.command-installed.new.self }
     ∷ record { call = Submits c.args.select; reply = Submitted c.submit-submitted.result; after = c.submit-submitted.new.self }
     ∷ record { call = Advances; reply = Advanced c.step-begun.result; after = c.step-begun.new.self }

@@ -37,6 +37,6 @@ returns g c =
     let e = c.args.self.now in
     let made = starts g at (Ok tt) c.in_default.is in
     let has = made.starts.in_hand in
-    keep-begins g.D.SectorDisk.disk e made.kept c.requires.running c.requires.idle c.args.first c.command_in_range.ensures
+    keep-begins g.D.SectorDisk.disk e made.sound c.requires.running c.requires.idle c.args.first c.command_in_range.ensures
     (takes-first e.turn (raise_in e) (first_waiting e.waiting) c.args.first c.requires.next) c.start_first.new.self.store has.0 has.1 has.2
     c.start_first.new.self c.go_on_keeping.new.self c.go_on_keeping.result made.taken c.requires.next c.go_on_keeping.ensures

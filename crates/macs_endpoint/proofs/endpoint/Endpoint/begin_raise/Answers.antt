@@ -32,7 +32,7 @@ returns g c =
     let e = c.args.self.now in
     let ok = sym c.is_err.ensures.value ∙ c.if-is_err.false in
     let starts = c.start_raise.ensures in
-    raise-begins g.D.SectorDisk.disk e (on-ok c.start_raise.result ok starts.kept) c.requires.running c.requires.idle (raise_of c.args.raise)
+    raise-begins g.D.SectorDisk.disk e (on-ok c.start_raise.result ok starts.sound) c.requires.running c.requires.idle (raise_of c.args.raise)
     (raises-first e.turn (raise_in e) (first_waiting e.waiting) (raise_of c.args.raise) c.requires.next) c.requires.next c.start_raise.new.self.store
     (on-ok c.start_raise.result ok starts.in_hand) c.start_raise.new.self c.go_on_reserving.new.self c.go_on_reserving.result
     (on-ok c.start_raise.result ok starts.taken) c.go_on_reserving.ensures

@@ -47,6 +47,6 @@ pub returns : goal.returns
 returns g c =
     let at = (goal.at.returns g c).After-start_raise in
     let made = starts g at (Ok tt) c.in_ok-start_raise.was in
-    begun-raised g.D.SectorDisk.disk c.args.self.now made.kept c.requires.running c.requires.idle (raise_of c.args.raise) c.requires.first
+    begun-raised g.D.SectorDisk.disk c.args.self.now made.sound c.requires.running c.requires.idle (raise_of c.args.raise) c.requires.first
     c.start_raise.new.self.store made.in_hand c.start_raise.new.self c.finish_reservation.new.self c.finish_reservation.result made.taken
-    c.finish_reservation.ensures
+    made.room c.finish_reservation.ensures

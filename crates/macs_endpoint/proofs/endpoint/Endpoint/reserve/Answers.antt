@@ -1,14 +1,14 @@
-use Rattle.std.proofs.Common.{◌≡◌, [], Some, None, Result, Ok, Err, refl, sym, ◌∙◌, ap, subst}
+use Rattle.std.proofs.Common.{◌≡◌, Some, None, Result, Ok, Err, refl, sym, ◌∙◌, ap, subst}
 use Rattle.std.specs.Option.{option_map}
 use Rattle.std.proofs.lemmas.Result.{err_from_is_err_and}
 use Rattle.macs_endpoint.specs.Needed.{raise_in}
 use Rattle.macs_endpoint.specs.Reserving.{Raised}
 use Rattle.macs_endpoint.specs.State.{no_logs}
 use Rattle.macs_endpoint.specs.Told.{raise_of}
-use Rattle.macs_endpoint.specs.Value.{EndpointValue}
 use Rattle.macs_endpoint.specs.declared.fault.RefillFault.{RefillFault}
 use Rattle.macs_endpoint.proofs.InHand.{at-rest}
-use Rattle.macs_endpoint.proofs.RefillCall.{cut-refill, done-refill, needed-not, reserves-none, reserves-on, turn-less, turn-raised}
+use Rattle.macs_endpoint.proofs.RefillCall.{cut-refill, done-refill, reserves-none, reserves-on, turn-less, turn-moves, turn-raised}
+use Rattle.macs_endpoint.proofs.Spending.{raised-none}
 use Rattle.macs_endpoint.proofs.endpoint.Endpoint.reserve.Given.{Over}
 use Rattle.macs_endpoint.proofs.endpoint.Endpoint.reserve.Goals.{After-facts, After-raise}
 use Rattle.macs_endpoint.proofs.endpoint.Endpoint.reserve.Goals as goal
@@ -29,8 +29,8 @@ pub loop-raise-init : goal.loop-raise-init
 loop-raise-init g c = record {
   running = c.requires.running;
   reserves = reserves-none g.D.SectorDisk.disk c.args.self.now c.requires.idle;
-  raised = ([], refl);
-  still = λ unneeded. refl;
+  raised = raised-none g.D.SectorDisk.disk c.args.self.now (none g (goal.at.loop-raise-init g c).After-facts) c.requires.idle;
+  still = λ free. refl;
 }
 
 pub raise-requires-clause-running : goal.raise-requires-clause-running
@@ -41,24 +41,25 @@ raise-requires-clause-idle g c = c.loop-raise.invariant.reserves.idle
 
 pub loop-raise-smaller : goal.loop-raise-smaller
 loop-raise-smaller g c =
-    let at = (goal.at.loop-raise-smaller g c).After-raise in
+    let at = goal.at.loop-raise-smaller g c in
     let i = c.loop-raise.invariant in
-    let made = step g at (Ok tt) c.in_ok-raise.was in
-    turn-less g.D.SectorDisk.disk c.args.self.now c.loop-raise.self c.raise.new.self i.reserves i.raised c.facts.ensures
-    (raise_of c.in-Some.raise) (first g at) made.reserves made.done
+    let made = step g at.After-raise (Ok tt) c.in_ok-raise.was in
+    turn-less g.D.SectorDisk.disk c.args.self.now c.loop-raise.self c.raise.new.self i.reserves (none g at.After-facts) i.raised c.facts.ensures
+    (raise_of c.in-Some.raise) (first g at.After-raise) made.reserves made.done
 
 pub loop-raise-preserved : goal.loop-raise-preserved
 loop-raise-preserved g c =
-    let at = (goal.at.loop-raise-preserved g c).After-raise in
+    let at = goal.at.loop-raise-preserved g c in
     let d = g.D.SectorDisk.disk in
     let i = c.loop-raise.invariant in
-    let made = step g at (Ok tt) c.in_ok-raise.was in
+    let raise = raise_of c.in-Some.raise in
+    let made = step g at.After-raise (Ok tt) c.in_ok-raise.was in
     record {
       running = ap (λ s. s.stopped) (made.reserves.step no_logs) ∙ i.running;
       reserves = reserves-on d c.args.self.now c.loop-raise.self c.raise.new.self (Ok tt) i.reserves made.reserves;
-      raised = turn-raised d c.args.self.now c.loop-raise.self c.raise.new.self i.reserves i.raised (raise_of c.in-Some.raise) (first g at) made.done;
-      still = λ unneeded. absurd (needed-not (raise_of c.in-Some.raise)
-          (sym (first g at) ∙ ap (λ (e : EndpointValue g.row.D.Denot). raise_in e) (i.still unneeded) ∙ unneeded));
+      raised = turn-raised d c.args.self.now c.loop-raise.self c.raise.new.self i.reserves (none g at.After-facts) i.raised raise (first g at.After-raise) made;
+      still = λ free. absurd (turn-moves d c.args.self.now c.loop-raise.self c.raise.new.self i.reserves (none g at.After-facts) i.raised free i.still raise
+          (first g at.After-raise) made);
     }
 
 pub returns-in_err-raise : goal.returns-in_err-raise
@@ -68,8 +69,8 @@ returns-in_err-raise g c =
     let fault = c.in_err-raise.field-0.0 in
     let made = step g at.After-raise (Err fault) c.in_err-raise.was in
     let risen = err_from_is_err_and c.from_residual.result c.from_residual.ensures.1 in
-    rw (risen.1, risen.2) (cut-refill g.D.SectorDisk.disk c.args.self.now c.loop-raise.self c.raise.new.self i.reserves i.raised (none g at.After-facts) i.still fault
-    (raise_of c.in-Some.raise) (first g at.After-raise) made.reserves made.same)
+    rw (risen.1, risen.2) (cut-refill g.D.SectorDisk.disk c.args.self.now c.loop-raise.self c.raise.new.self i.reserves (none g at.After-facts) i.raised i.still fault
+    (raise_of c.in-Some.raise) (first g at.After-raise) made)
 
 pub returns : goal.returns
 returns g c =

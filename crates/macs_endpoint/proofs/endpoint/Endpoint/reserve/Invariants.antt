@@ -1,19 +1,20 @@
-use Rattle.std.specs.Prelude.{◌≡◌, false, None, Ok}
+use Rattle.std.specs.Prelude.{◌≡◌, ◌⊎◌, false, None, Ok}
+use Rattle.macs_store.specs.Keeps.{IsSpent}
 use Rattle.macs_store.specs.Value.{standing_in}
 use Rattle.macs_endpoint.specs.Value.{is_stopped, state_of}
 use Rattle.macs_endpoint.specs.Needed.{raise_in}
 use Rattle.macs_endpoint.specs.Reserving.{Reserves}
 use Rattle.macs_endpoint.specs.State.{no_logs, rx_side, tx_side}
 use Rattle.macs_endpoint.proofs.Raises.{left}
-use Rattle.macs_endpoint.proofs.RefillCall.{AreRaisedIn}
+use Rattle.macs_endpoint.proofs.Spending.{HaveRaised}
 use Rattle.macs_endpoint.proofs.endpoint.Endpoint.reserve.Given as goal
 
 abbrev pub invariant-loop-raise : goal.invariant-loop-raise
 invariant-loop-raise g l = record {
   running : is_stopped l.self ≡ false;
   reserves : Reserves g.D.SectorDisk.disk l.fn.self (Ok tt) l.self;
-  raised : AreRaisedIn l.fn.self l.self;
-  still : raise_in l.fn.self ≡ None → l.self ≡ l.fn.self;
+  raised : HaveRaised g.D.SectorDisk.disk l.fn.self l.self.store;
+  still : (raise_in l.fn.self ≡ None) ⊎ IsSpent l.fn.self.store → l.self ≡ l.fn.self;
 }
 
 abbrev pub decreases-loop-raise : goal.decreases-loop-raise

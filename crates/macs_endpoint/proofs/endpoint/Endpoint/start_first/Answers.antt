@@ -57,5 +57,5 @@ returns g c =
       taken = refl;
       keeping = taken-keeping g.D.SectorDisk.disk (old g at) c.self.invariant (running g at) (idle g at) c.args.first c.command_in_range.ensures (waits g at)
           c.start_commit.new.self has.0 has.1 has.2;
-      kept = c.self.invariant;
+      sound = c.self.invariant;
     })

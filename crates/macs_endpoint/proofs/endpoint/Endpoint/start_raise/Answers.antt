@@ -42,11 +42,15 @@ start_ceiling-requires-clause-rises g c =
     first-rises (standing_in c.self.inside.store) (tx_side (state_of (old g at) no_logs)) (rx_side (state_of (old g at) no_logs)) (raise_of c.args.raise) (first g at)
 
 -- what the store says of it
+starts : (g : Over) (c : After-start_ceiling g) (result : Result (Unit {0}) JournalFault) → c.start_ceiling.result ≡ result
+    → Starts g.D.SectorDisk.disk c.self.inside.store (standing_with_raise (standing_in c.self.inside.store) (raise_of c.args.raise)) result c.start_ceiling.new.store
+starts g c result is =
+    subst (λ (r : Result (Unit {0}) JournalFault). Starts g.D.SectorDisk.disk c.self.inside.store
+    (standing_with_raise (standing_in c.self.inside.store) (raise_of c.args.raise)) r c.start_ceiling.new.store) is c.start_ceiling.ensures
+
 taken : (g : Over) (c : After-start_ceiling g) → c.start_ceiling.result ≡ Ok tt
     → HasInHand g.D.SectorDisk.disk c.self.inside.store (standing_with_raise (standing_in c.self.inside.store) (raise_of c.args.raise)) c.start_ceiling.new.store
-taken g c is =
-    (subst (λ (r : Result (Unit {0}) JournalFault). Starts g.D.SectorDisk.disk c.self.inside.store
-    (standing_with_raise (standing_in c.self.inside.store) (raise_of c.args.raise)) r c.start_ceiling.new.store) is c.start_ceiling.ensures).in_hand
+taken g c is = (starts g c (Ok tt) is).in_hand
 
 pub invariant_of-self-2 : goal.invariant_of-self-2
 invariant_of-self-2 g c =
@@ -60,9 +64,10 @@ returns g c =
     let has = taken g at.After-start_ceiling c.in_ok-start_ceiling.was in
     rw (← c.self.view_is) (record {
       refused = tt;
+      room = λ is. let no = (starts g at.After-start_ceiling (Ok tt) c.in_ok-start_ceiling.was).spent.1 is in cc;
       in_hand = has;
       taken = refl;
       reserving = begun-reserving g.D.SectorDisk.disk (old g at.After-self) c.self.invariant (running g at.After-self) (idle g at.After-self)
           (raise_of c.args.raise) (first g at.After-self) c.start_ceiling.new.store has;
-      kept = c.self.invariant;
+      sound = c.self.invariant;
     })
