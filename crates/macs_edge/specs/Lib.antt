@@ -6,5 +6,6 @@ pub mod Passing
 pub mod Wires
 pub mod MemWires
 pub mod UdpWires
+pub mod FaultWires
 pub mod Relaying
 pub mod Flows

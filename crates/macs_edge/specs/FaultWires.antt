@@ -1,0 +1,36 @@
+-- A wire that fails some calls itself: these do not reach the wire behind it.
+use Rattle.std.specs.Prelude.{◌≡◌, ◌+◌, ◌&&◌, ℕ, if◌then◌else◌, nat_le, nat_lt}
+use Rattle.macs_edge.specs.Wires.{WireState, saturated}
+
+-- calls of one kind: the number of the one that is to fail, counted from 1, where 0 is none; and how many were asked for, up to 2^64 - 1
+pub record CallsValue : Type 0 where
+  pub fails_at : ℕ
+  pub asked : ℕ
+
+-- the next call is the one that is to fail. Behind 2^64 - 1 calls none is: no number that is told to fail is greater
+abbrev pub FailsNext : CallsValue → Type 0
+FailsNext calls = calls.asked + 1 ≡ calls.fails_at
+
+-- one call more was asked for
+abbrev pub asked_once_more : CallsValue → CallsValue
+asked_once_more calls = record calls { asked = saturated (calls.asked + 1) }
+
+-- how many of the calls that were asked for failed: one, or none
+abbrev pub failed_among : CallsValue → ℕ
+failed_among calls = if nat_lt 0 calls.fails_at && nat_le calls.fails_at calls.asked then 1 else 0
+
+-- a wire in front of another: the one behind it, and the calls that it was asked for
+pub record FaultWireValue (W : Type 0) : Type 0 where
+  pub inner : W
+  pub receives : CallsValue
+  pub sends : CallsValue
+
+-- what it tells, where this is what the wire behind it tells: the frames are those of the wire behind it, and its own failed calls
+-- are counted with those of that wire
+abbrev pub fault_wire_state : {W : Type 0} → (W → WireState) → FaultWireValue W → WireState
+fault_wire_state state wire = record {
+  waiting = (state wire.inner).waiting;
+  sent = (state wire.inner).sent;
+  failed_receives = saturated ((state wire.inner).failed_receives + failed_among wire.receives);
+  failed_sends = saturated ((state wire.inner).failed_sends + failed_among wire.sends);
+}
