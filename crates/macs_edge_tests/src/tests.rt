@@ -2,7 +2,9 @@
 
 mod captures;
 mod datagrams;
+mod fault_wires;
 mod faults;
+mod hostile_files;
 mod memory;
 mod reading;
 mod relaying;

@@ -1,5 +1,6 @@
 //! Frames of outside origin: IEEE Std 802.1AE-2018, Annex C, and Python's `cryptography`.
 
+mod altered;
 mod opening;
 mod ranges;
 mod reading;

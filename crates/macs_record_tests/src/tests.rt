@@ -1,5 +1,6 @@
 //! Records and their octets, written out by hand from the table of the kinds; heads and gates.
 
+mod altered;
 mod commands;
 mod gates;
 mod heads;

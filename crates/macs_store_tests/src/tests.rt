@@ -1,5 +1,6 @@
 //! Stores on disks in memory: what is kept and found again, and what is refused.
 
+mod altered;
 mod commits;
 mod compactions;
 mod full;

@@ -5,10 +5,12 @@ use linked_list_allocator::LocalHeap;
 use macs_edge::{ConfigFault, commands_of};
 use std::process::Abort;
 
-/// Heaps from 0 octets on, in steps of 16, until one suffices: each smaller one is refused as `Memory`.
+/// Heaps from 0 octets on, in steps of 16, until one suffices: each smaller one is refused as `Memory`, and gives no
+/// command. The others give the commands that are read in ample memory.
 #[test]
 fn a_refused_growth_is_memory(rt: HostRuntime) {
     let file = toml::table_from_str(rt.alloc(), ALL).expect(&rt, "a table");
+    let ample = commands_of(rt.alloc(), &file).ok().expect(&rt, "commands");
     let mut refused = 0_u64;
     let mut read = 0_u64;
     for size in 0..200_usize {
@@ -18,7 +20,7 @@ fn a_refused_growth_is_memory(rt: HostRuntime) {
         match commands_of(&heap, &file) {
             Ok(commands) => {
                 read = read.saturating_add(1);
-                assert!(rt; commands.len() == 10);
+                assert!(rt; commands.as_slice() == ample.as_slice());
             }
             Err(fault) => {
                 refused = refused.saturating_add(1);

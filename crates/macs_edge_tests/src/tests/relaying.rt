@@ -1,5 +1,7 @@
 //! Frames between two wires in memory, through endpoints whose disks stand in memory, too.
 
+mod faults;
+
 use super::captures::{SEALED, formatted, number_of, opened, receiving, sending};
 use super::wires::{filled, is_filled, push, receive};
 use linked_list_allocator::LocalHeap;

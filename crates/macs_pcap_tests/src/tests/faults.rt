@@ -2,7 +2,7 @@
 //! 2^32 of them.
 
 use super::Outcome::{Header, Records};
-use super::{BIG, HEADER, Outcome, WHOLE, reading_of, with_octets};
+use super::{BIG, HEADER, LITTLE, Outcome, WHOLE, reading_of, with_octets};
 use macs_pcap::PcapFault;
 use std::alloc::Global;
 use std::process::Abort;
@@ -17,25 +17,31 @@ fn short_headers_are_cut(rt: HostRuntime) {
     }
 }
 
-/// Inside the header and inside a record a capture is cut; behind the header and behind a record it ends.
+/// Inside the header and inside a record a capture is cut; behind the header and behind a record it ends. Both
+/// captures of 43 octets: 2 * 44 lengths.
 #[test]
 fn cut_at_every_length(rt: HostRuntime) {
-    for length in 0..=WHOLE {
-        let expected = if length < HEADER {
-            Header(PcapFault::CutFile)
-        } else if length == HEADER {
-            Records(0, None)
-        } else if length < WHOLE {
-            Records(0, Some(PcapFault::CutFile))
-        } else {
-            Records(1, None)
-        };
-        let (octets, _) = BIG.split_at(length);
-        assert!(rt;
-            reading_of(&rt, rt.alloc(), octets, 0) == expected,
-            "length {length}"
-        );
+    let mut captures = 0_u32;
+    for whole in [BIG, LITTLE] {
+        for length in 0..=WHOLE {
+            let expected = if length < HEADER {
+                Header(PcapFault::CutFile)
+            } else if length == HEADER {
+                Records(0, None)
+            } else if length < WHOLE {
+                Records(0, Some(PcapFault::CutFile))
+            } else {
+                Records(1, None)
+            };
+            let (octets, _) = whole.split_at(length);
+            assert!(rt;
+                reading_of(&rt, rt.alloc(), octets, 0) == expected,
+                "length {length}"
+            );
+            captures = captures.wrapping_add(1);
+        }
     }
+    assert!(rt; captures == 88);
 }
 
 /// Four octets from a place on that are changed.

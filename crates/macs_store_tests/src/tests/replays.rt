@@ -172,7 +172,7 @@ fn a_ceiling_goes_with_its_association(rt: HostRuntime) {
     expect_refused(&rt, with(&rt, rt.alloc(), &records));
 }
 
-fn write(rt: &impl Abort, disk: &mut MemDisk, at: u64, sector: &[u8; SECTOR]) {
+pub(super) fn write(rt: &impl Abort, disk: &mut MemDisk, at: u64, sector: &[u8; SECTOR]) {
     assert!(rt; at < disk.sectors());
     assert!(rt; disk.write(at, sector).is_ok());
 }

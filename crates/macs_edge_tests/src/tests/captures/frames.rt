@@ -1,19 +1,17 @@
 //! Frames that pass, and frames that are left out.
 
 use super::{
-    HEADER, OWN, PEER, PEER_KEY, SEALED, WRITTEN, Way, command, formatted, next_number, number_of,
-    opened, plain, plain_capture, protect, published_capture, push_frame, receiver, run_whole,
-    sender, sending, summary,
+    HEADER, OWN, PEER, PEER_KEY, PLAIN, SEALED, WRITTEN, Way, command, formatted, next_number,
+    number_of, opened, plain, plain_capture, protect, published_capture, push_frame, receiver,
+    run_whole, sender, sending, summary,
 };
 use macs_config::Command;
+use macs_disk::MemDisk;
+use macs_endpoint::Endpoint;
 use macs_frame::FrameBuf;
 use std::alloc::Global;
 use std::process::Abort;
 use std::test::Fail;
-
-/// The plain frame of the published one: addresses and User Data.
-const PLAIN: [u8; 54] = *b"\xd6\x09\xb1\xf0\x56\x63\x7a\x0d\x46\xdf\x99\x8d\
-\x08\x00\x0f\x10\x11\x12\x13\x14\x15\x16\x17\x18\x19\x1a\x1b\x1c\x1d\x1e\x1f\x20\x21\x22\x23\x24\x25\x26\x27\x28\x29\x2a\x2b\x2c\x2d\x2e\x2f\x30\x31\x32\x33\x34\x00\x01";
 
 /// The sizes of frames, up to the first 0; how many pass, and how many are left out.
 const RUNS: [([usize; 10], u64, u64); 6] = [
@@ -27,7 +25,11 @@ const RUNS: [([usize; 10], u64, u64); 6] = [
 
 /// The capture of these frames as an endpoint protects them that never waits for a number, each with its
 /// record's stamp.
-fn protected_capture(rt: &impl Abort, alloc: Global, sizes: [usize; 10]) -> Result<Vec<u8>, Fail> {
+pub(super) fn protected_capture(
+    rt: &impl Abort,
+    alloc: Global,
+    sizes: [usize; 10],
+) -> Result<Vec<u8>, Fail> {
     let mut endpoint = sending(rt, formatted(rt, alloc, OWN, 1_000));
     let mut octets = Vec::from_slice(alloc, &WRITTEN)?;
     let mut out = FrameBuf::new();
@@ -68,11 +70,10 @@ fn frames_are_protected(rt: HostRuntime) -> Result<(), Fail> {
     Ok(())
 }
 
-/// The plain frame goes out as the published one.
-#[test]
-fn the_published_frame_goes_out(rt: HostRuntime) -> Result<(), Fail> {
-    let an = number_of(&rt, 2);
-    let mut endpoint = opened(&rt, formatted(&rt, rt.alloc(), PEER, 4));
+/// A new endpoint whose next frame is the published one.
+pub(super) fn published_sender(rt: &impl Abort, alloc: Global) -> Endpoint<MemDisk> {
+    let an = number_of(rt, 2);
+    let mut endpoint = opened(rt, formatted(rt, alloc, PEER, 4));
     let install = Command::TxInstall {
         an,
         key: PEER_KEY.to_be_bytes(),
@@ -80,8 +81,15 @@ fn the_published_frame_goes_out(rt: HostRuntime) -> Result<(), Fail> {
         confidential: false,
         offset: 0,
     };
-    command(&rt, &mut endpoint, install);
-    command(&rt, &mut endpoint, Command::TxUse { an });
+    command(rt, &mut endpoint, install);
+    command(rt, &mut endpoint, Command::TxUse { an });
+    endpoint
+}
+
+/// The plain frame goes out as the published one.
+#[test]
+fn the_published_frame_goes_out(rt: HostRuntime) -> Result<(), Fail> {
+    let mut endpoint = published_sender(&rt, rt.alloc());
     let mut octets = Vec::from_slice(rt.alloc(), &HEADER)?;
     push_frame(&mut octets, 9, &PLAIN)?;
     let mut wanted = Vec::from_slice(rt.alloc(), &WRITTEN)?;
