@@ -1,0 +1,100 @@
+//! A life that a stop cuts short: what it leaves on its disk, and what was known then.
+
+use super::disks::blank;
+use super::known::Known;
+use super::life::play;
+use super::{BLOCK, OWN};
+use macs_config::Identity;
+use macs_disk::{Fuse, MemDisk};
+use macs_endpoint::{Endpoint, OpenRefused, format};
+use macs_journal::JournalFault;
+use std::alloc::Global;
+use std::process::Abort;
+
+/// A stop: how many device calls pass before it, and what comes of it.
+#[derive(Clone, Copy)]
+pub(super) struct Stop {
+    pub(super) passed: u64,
+    pub(super) kind: Kind,
+}
+
+/// What comes of a stop.
+#[derive(Clone, Copy)]
+pub(super) enum Kind {
+    /// Neither the call nor any behind it reaches the disk.
+    Dead,
+    /// The call alone fails: a write has filled its sector with ones.
+    Filled,
+}
+
+/// What a life leaves.
+#[derive(Drop)]
+pub(super) struct Cut {
+    pub(super) disk: MemDisk,
+    pub(super) known: Known,
+}
+
+/// A blank disk behind a fuse.
+fn fused(rt: &impl Abort, alloc: Global, stop: Stop) -> Fuse<MemDisk> {
+    let disk = blank(rt, alloc);
+    match stop.kind {
+        Kind::Dead => Fuse::new(disk, stop.passed),
+        Kind::Filled => Fuse::once(disk, stop.passed, [0xff; 512]),
+    }
+}
+
+fn identity(rt: &impl Abort) -> Identity {
+    Identity::new(OWN, BLOCK, BLOCK).expect(rt, "identity")
+}
+
+fn format_fused(disk: &mut Fuse<MemDisk>, identity: &Identity) -> Result<(), JournalFault> {
+    format(disk, identity)
+}
+
+/// A format of the same endpoint, without a stop.
+pub(super) fn format_again(rt: &impl Abort, disk: &mut MemDisk) -> Result<(), JournalFault> {
+    format(disk, &identity(rt))
+}
+
+/// Plays the script from a blank disk on, to a stop or to its end: whether there was a stop, and what is left.
+pub(super) fn play_to(rt: &impl Abort, alloc: Global, stop: Stop) -> (bool, Cut) {
+    let identity = identity(rt);
+    let mut disk = fused(rt, alloc, stop);
+    let mut known = Known::new(&identity);
+    if let Err(fault) = format_fused(&mut disk, &identity) {
+        assert!(rt; fault == JournalFault::Disk);
+        return (
+            true,
+            Cut {
+                disk: disk.into_inner(),
+                known,
+            },
+        );
+    }
+    known.is_formatted = true;
+    match Endpoint::open(disk) {
+        Ok(endpoint) => live(rt, endpoint, known),
+        Err(refused) => {
+            let OpenRefused { disk, fault } = refused;
+            assert!(rt; fault == JournalFault::Disk);
+            (
+                true,
+                Cut {
+                    disk: disk.into_inner(),
+                    known,
+                },
+            )
+        }
+    }
+}
+
+/// Plays the script with an opened endpoint.
+fn live(rt: &impl Abort, endpoint: Endpoint<Fuse<MemDisk>>, known: Known) -> (bool, Cut) {
+    let mut endpoint = endpoint;
+    let mut known = known;
+    let is_cut = play(rt, &mut endpoint, &mut known).is_err();
+    assert!(rt; endpoint.is_stopped() == is_cut);
+    known.is_in_hand = endpoint.in_hand().is_some();
+    let disk = endpoint.into_disk().into_inner();
+    (is_cut, Cut { disk, known })
+}

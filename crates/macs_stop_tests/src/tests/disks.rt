@@ -1,0 +1,59 @@
+//! Disks in memory.
+
+use super::SECTORS;
+use super::tearing::Pending;
+use macs_disk::{MemDisk, SectorDisk};
+use macs_record::SECTOR;
+use std::alloc::Global;
+use std::process::Abort;
+
+/// A disk of zeros.
+pub(super) fn blank(rt: &impl Abort, alloc: Global) -> MemDisk {
+    match MemDisk::new(alloc, SECTORS) {
+        Ok(disk) => disk,
+        Err(_) => panic!(rt; "no disk"),
+    }
+}
+
+/// The octets that are durable in a sector.
+pub(super) fn durable(rt: &impl Abort, disk: &MemDisk, at: u64) -> [u8; SECTOR] {
+    let mut octets = [0xaa; SECTOR];
+    assert!(rt; at < disk.sectors());
+    disk.durable(at, &mut octets);
+    octets
+}
+
+/// The octets that were last written to a sector.
+pub(super) fn last(rt: &impl Abort, disk: &mut MemDisk, at: u64) -> [u8; SECTOR] {
+    let mut octets = [0xaa; SECTOR];
+    assert!(rt; at < disk.sectors());
+    assert!(rt; disk.read(at, &mut octets).is_ok());
+    octets
+}
+
+fn put(rt: &impl Abort, disk: &mut MemDisk, at: u64, octets: &[u8; SECTOR]) {
+    assert!(rt; at < disk.sectors());
+    assert!(rt; disk.write(at, octets).is_ok());
+}
+
+/// A disk that is durable and pending as this one is.
+pub(super) fn copy(
+    rt: &impl Abort,
+    alloc: Global,
+    disk: &mut MemDisk,
+    pending: &Pending,
+) -> MemDisk {
+    let mut copy = blank(rt, alloc);
+    for at in 0..SECTORS {
+        let octets = durable(rt, disk, at);
+        if octets != [0; SECTOR] {
+            put(rt, &mut copy, at, &octets);
+        }
+    }
+    assert!(rt; copy.sync().is_ok());
+    for place in 0..pending.len() {
+        let octets = last(rt, disk, pending[place]);
+        put(rt, &mut copy, pending[place], &octets);
+    }
+    copy
+}

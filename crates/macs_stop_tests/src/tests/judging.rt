@@ -1,0 +1,110 @@
+//! What is found after a power loss, judged by what was known before.
+
+use super::cutting::{Cut, format_again};
+use super::known::{Known, Passed};
+use super::life::{protect, receive};
+use super::tearing::pending;
+use macs_disk::{Fuse, MemDisk};
+use macs_endpoint::{Endpoint, OpenRefused};
+use macs_journal::JournalFault;
+use std::process::Abort;
+
+/// How many plain frames go out after an opening.
+const SENT_AGAIN: u32 = 2;
+
+/// More device calls than any opening takes.
+const MOST_CALLS: u64 = 600;
+
+/// What an opening finds is what was known, and goes on above it. Where a format was cut short, the disk may
+/// be none of an endpoint yet.
+pub(super) fn judge(rt: &impl Abort, disk: MemDisk, known: &Known) {
+    match Endpoint::open(disk) {
+        Ok(mut endpoint) => {
+            assert!(rt; known.allows(endpoint.config()));
+            assert!(rt; known.passed.is_behind(rt, &endpoint));
+            go_on(rt, &mut endpoint, known.passed);
+        }
+        Err(refused) => {
+            assert!(rt; refused.fault == JournalFault::NotFormatted);
+            assert!(rt; !known.is_formatted);
+        }
+    }
+}
+
+/// Plain frames go out under packet numbers above all before, and no frame that was delivered is delivered
+/// as Ok again.
+fn go_on(rt: &impl Abort, endpoint: &mut Endpoint<MemDisk>, passed: Passed) {
+    let mut passed = passed;
+    assert!(rt; endpoint.refill().is_ok());
+    if endpoint.config().encoding().is_some() {
+        for _ in 0..SENT_AGAIN {
+            let number = protect(endpoint).expect(rt, "a packet number");
+            passed.send(rt, endpoint.config(), number);
+        }
+    }
+    for number in 1..passed.delivered.saturating_add(1) {
+        assert!(rt; !receive(rt, endpoint, number));
+    }
+}
+
+/// The opening of a disk behind which so many device calls pass: the disk, and whether it was opened.
+fn open_behind(rt: &impl Abort, disk: MemDisk, calls: u64) -> (MemDisk, bool) {
+    match Endpoint::open(Fuse::new(disk, calls)) {
+        Ok(endpoint) => (endpoint.into_disk().into_inner(), true),
+        Err(refused) => {
+            let OpenRefused { disk, fault } = refused;
+            assert!(rt; fault == JournalFault::Disk);
+            (disk.into_inner(), false)
+        }
+    }
+}
+
+/// An opening that is not stopped: what it finds is what was known.
+fn open_whole(rt: &impl Abort, disk: MemDisk, known: &Known) -> MemDisk {
+    match Endpoint::open(disk) {
+        Ok(endpoint) => {
+            assert!(rt; known.allows(endpoint.config()));
+            assert!(rt; known.passed.is_behind(rt, &endpoint));
+            endpoint.into_disk()
+        }
+        Err(_) => panic!(rt; "not opened"),
+    }
+}
+
+/// The opening is stopped at each of its device calls, twice in a row, and is whole then. How many stops
+/// that were.
+pub(super) fn judge_stopped_openings(rt: &impl Abort, disk: MemDisk, known: &Known) -> u64 {
+    let mut disk = disk;
+    for calls in 0..MOST_CALLS {
+        let (left, is_open) = open_behind(rt, disk, calls);
+        if is_open {
+            judge(rt, left, known);
+            return 2 * calls;
+        }
+        let (left, is_open) = open_behind(rt, left, calls);
+        assert!(rt; !is_open);
+        disk = open_whole(rt, left, known);
+    }
+    panic!(rt; "an opening without an end")
+}
+
+/// The disk is opened as it stands, which leaves nothing pending. Then the power goes.
+pub(super) fn judge_opened(rt: &impl Abort, cut: Cut) {
+    let Cut { disk, known } = cut;
+    let mut disk = open_whole(rt, disk, &known);
+    assert!(rt; pending(rt, &disk).is_empty());
+    disk.crash();
+    judge(rt, disk, &known);
+}
+
+/// The disk is formatted as it stands, unless the format that was cut short was done. That leaves nothing
+/// pending. Then the power goes.
+pub(super) fn judge_formatted(rt: &impl Abort, cut: Cut) {
+    let Cut { mut disk, known } = cut;
+    if let Err(fault) = format_again(rt, &mut disk) {
+        assert!(rt; fault == JournalFault::AlreadyFormatted);
+    }
+    assert!(rt; pending(rt, &disk).is_empty());
+    disk.crash();
+    open_whole(rt, disk, &known);
+}

@@ -1,0 +1,254 @@
+#!/usr/bin/env python3
+"""Kills the program at each system call on its disk file, leaves what was not synced in each of several ways, and opens it again.
+
+    python3 tools/killed_program.py
+
+It takes `./macsecd`, strace (Debian's package) and a folder for temporary files on a real disk. Three runs of the program are killed: `format`, `apply` of
+four commands, and `protect` of a capture of 400 frames of 1,500 octets at blocks of 32, which reserves packet numbers between frames that go out. A run is first traced
+whole: which system calls it makes on its disk file, and the octets that it writes. Then it is made again for each of these calls, and killed as that call begins.
+
+A kill alone loses nothing, since the operating system keeps what was written. So the power loss is made by hand: a sector that was written and not synced is left
+with one of six contents: the octets of the last sync, the last write, zeros, ones, an open gate, or the first half of the last write and the octets of the last
+sync behind it. The same is left in each such sector; where there are two, each pair.
+
+What is asserted of what `show` finds then:
+  format   an endpoint as it was asked for, or none;
+  apply    the configuration after the commands of which a line was printed, or after those and one more;
+  protect  the configuration as it was, and a next packet number above all that went out.
+It prints how many kills and how many power losses there were.
+"""
+
+import os
+import re
+import shutil
+import struct
+import subprocess
+import sys
+import tempfile
+
+TOP = os.path.abspath(os.path.join(os.path.dirname(__file__), ".."))
+MACSECD = os.path.join(TOP, "macsecd")
+SECTOR = 512
+OPEN = b"MSECOPEN" + bytes(504)
+CALLS = ["openat", "lseek", "read", "write", "fsync", "fdatasync", "ftruncate", "fallocate", "flock", "fcntl", "close"]
+SCI = "0200000000010001"
+FRAMES = 400
+BLOCK = "32"
+COMMANDS = """
+[[command]]
+do = "tx-install"
+an = 0
+key = "000102030405060708090a0b0c0d0e0f"
+start = 1
+confidential = true
+offset = 0
+
+[[command]]
+do = "tx-use"
+an = 0
+
+[[command]]
+do = "rx-add"
+sci = "0200000000020001"
+
+[[command]]
+do = "set-replay"
+on = true
+window = 7
+"""
+
+
+def program():
+    """The built program's path: the script that builds it starts it, so it is asked for its version first."""
+    subprocess.run([MACSECD, "--version"], check=True, stdout=subprocess.DEVNULL)
+    cpu = os.environ.get("MACSECD_CPU")
+    folders = [cpu] if cpu else ["x86-64-v3", "x86-64-v2"]
+    for folder in folders:
+        path = os.path.join(TOP, "crates/macsecd/out", folder, "macsecd")
+        if os.path.exists(path):
+            return path
+    sys.exit("macsecd is not built")
+
+
+def traced(disk, words, extra=()):
+    """Runs the program under strace: its output, and its system calls on the disk file."""
+    trace = disk + ".trace"
+    command = ["strace", "-o", trace, "-xx", "-s", "600", "-e", "trace=" + ",".join(CALLS), "-P", disk, *extra, *words]
+    done = subprocess.run(command, capture_output=True)
+    lines = [line for line in open(trace) if not line.startswith(("+++", "---"))]
+    return done, lines
+
+
+def octets_in(text):
+    return bytes.fromhex(text.replace("\\x", ""))
+
+
+class Sectors:
+    """What a disk file has, by the calls that were made on it: what is durable, and what was written since."""
+
+    def __init__(self, path):
+        self.durable = open(path, "rb").read() if os.path.exists(path) else b""
+        self.pending = {}
+        self.place = 0
+
+    def follow(self, line):
+        found = re.match(r"(\w+)\((.*)\) += (-?\d+)", line)
+        if not found:
+            return
+        name, inside, answer = found[1], found[2], int(found[3])
+        if name == "lseek":
+            self.place = answer
+        elif name == "read":
+            self.place += answer
+        elif name == "write":
+            octets = octets_in(re.search(r'"(.*)"', inside)[1])[:answer]
+            assert self.place % SECTOR == 0 and answer == SECTOR, line
+            self.pending[self.place // SECTOR] = octets
+            self.place += answer
+        elif name in ("fsync", "fdatasync"):
+            whole = bytearray(self.durable)
+            for at, octets in self.pending.items():
+                whole[at * SECTOR : (at + 1) * SECTOR] = octets
+            self.durable, self.pending = bytes(whole), {}
+        elif name == "ftruncate":
+            length = int(inside.split(",")[1], 0)
+            assert length >= len(self.durable), "a disk file is never cut"
+            self.durable += bytes(length - len(self.durable))
+
+    def contents(self, at):
+        """The six contents that may be left in a sector."""
+        before = self.durable[at * SECTOR : (at + 1) * SECTOR].ljust(SECTOR, b"\0")
+        last = self.pending[at]
+        half = SECTOR // 2
+        return [before, last, bytes(SECTOR), b"\xff" * SECTOR, OPEN, last[:half] + before[half:]]
+
+    def images(self):
+        """What a power loss may leave: for each way the octets of each pending sector."""
+        places = sorted(self.pending)
+        if not places:
+            return [{}]
+        each = [self.contents(at) for at in places]
+        if len(places) == 2:
+            return [dict(zip(places, pair)) for pair in ((one, other) for one in each[0] for other in each[1])]
+        return [dict(zip(places, same)) for same in zip(*each)]
+
+
+def kill_at_each(folder, name, start, words, judge):
+    """A run that begins with the disk file `start`, or none, is killed at each of its calls on the disk file."""
+    disk = os.path.join(folder, "disk")
+
+    def begin():
+        for left in (disk, os.path.join(folder, "out")):
+            if os.path.exists(left):
+                os.remove(left)
+        if start:
+            shutil.copyfile(start, disk)
+
+    begin()
+    done, lines = traced(disk, words(disk))
+    assert done.returncode == 0, done
+    counts, kills, losses = {}, 0, 0
+    for line in lines:
+        call = re.match(r"\w+", line)[0]
+        counts[call] = counts.get(call, 0) + 1
+        begin()
+        sectors = Sectors(disk)
+        killed, made = traced(disk, words(disk), ["-e", f"inject={call}:signal=KILL:when={counts[call]}"])
+        assert killed.returncode == -9 or killed.returncode == 137, (line, killed)
+        for each in made:
+            sectors.follow(each)
+        kills += 1
+        whole = sectors.durable
+        for image in sectors.images():
+            octets = bytearray(whole)
+            for at, left in image.items():
+                octets[at * SECTOR : (at + 1) * SECTOR] = left
+            if octets or os.path.exists(disk):
+                open(disk, "wb").write(octets)
+            losses += 1
+            judge(disk, killed.stdout.decode())
+    print(f"{name}: killed at {kills} system calls, {losses} power losses", flush=True)
+    return kills, losses
+
+
+def show(macsecd, disk):
+    return subprocess.run([macsecd, "show", disk], capture_output=True, text=True)
+
+
+def configuration(text):
+    """What `show` tells but for packet numbers, which an opening may raise."""
+    return re.sub(r"(next|lowest) \d+", "", text)
+
+
+def main():
+    macsecd = program()
+    folder = tempfile.mkdtemp(dir=sys.argv[1] if len(sys.argv) > 1 else None)
+    at = lambda name: os.path.join(folder, name)
+    run = lambda *words: subprocess.run([macsecd, *words], check=True, capture_output=True, text=True)
+    try:
+        open(at("commands"), "w").write(COMMANDS)
+        run("format", at("new"), SCI, BLOCK, BLOCK)
+        formatted = show(macsecd, at("new")).stdout
+
+        # The configurations after each number of commands.
+        parts = COMMANDS.split("\n[[command]]")[1:]
+        after = [configuration(formatted)]
+        for count in range(1, len(parts) + 1):
+            shutil.copyfile(at("new"), at("some"))
+            open(at("few"), "w").write("".join("\n[[command]]" + part for part in parts[:count]))
+            run("apply", at("some"), at("few"))
+            after.append(configuration(show(macsecd, at("some")).stdout))
+
+        def judge_format(disk, _printed):
+            found = show(macsecd, disk)
+            if found.returncode == 0:
+                assert found.stdout == formatted, found
+            else:
+                assert found.returncode == 4, found
+                assert found.stderr.strip() in ("macsecd: not formatted", "macsecd: too small", "macsecd: disk file", "macsecd: disk length"), found
+
+        def judge_apply(disk, printed):
+            acknowledged = len(printed.splitlines())
+            found = configuration(show(macsecd, disk).stdout)
+            assert found in after[acknowledged : acknowledged + 2], (printed, found)
+
+        header = struct.pack("<IHHIIII", 0xA1B2C3D4, 2, 4, 0, 0, 262144, 1)
+        frame = bytes(12) + b"\x08\x00" + bytes(1486)
+        most = []
+        record = lambda i: struct.pack("<IIII", i, 0, len(frame), len(frame)) + frame
+        open(at("frames"), "wb").write(header + b"".join(record(i) for i in range(FRAMES)))
+        shutil.copyfile(at("new"), at("ready"))
+        run("apply", at("ready"), at("commands"))
+
+        def judge_protect(disk, _printed):
+            found = show(macsecd, disk)
+            assert configuration(found.stdout) == after[-1], found
+            following = int(re.search(r"^tx 0 .* next (\d+)", found.stdout, re.M)[1])
+            sent = numbers_in(at("out"))
+            most.append(len(sent))
+            assert sent == sorted(set(sent)) and all(number < following for number in sent), (sent, following)
+        kill_at_each(folder, "format", None, lambda disk: [macsecd, "format", disk, SCI, BLOCK, BLOCK], judge_format)
+        kill_at_each(folder, "apply", at("new"), lambda disk: [macsecd, "apply", disk, at("commands")], judge_apply)
+        kill_at_each(folder, "protect", at("ready"), lambda disk: [macsecd, "protect", disk, at("frames"), at("out")], judge_protect)
+        print(f"protect: up to {max(most)} frames had gone out")
+    finally:
+        shutil.rmtree(folder)
+
+
+def numbers_in(path):
+    """The packet numbers of the frames in a capture, as far as it goes."""
+    if not os.path.exists(path):
+        return []
+    octets = open(path, "rb").read()
+    place, numbers = 24, []
+    while place + 16 <= len(octets):
+        kept = struct.unpack_from("<I", octets, place + 8)[0]
+        frame = octets[place + 16 : place + 16 + kept]
+        if len(frame) < kept:
+            break
+        numbers.append(struct.unpack_from(">I", frame, 16)[0])
+        place += 16 + kept
+    return numbers
+
+
+main()
