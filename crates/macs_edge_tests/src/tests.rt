@@ -5,6 +5,7 @@ mod datagrams;
 mod fault_wires;
 mod faults;
 mod hostile_files;
+mod hostile_texts;
 mod memory;
 mod reading;
 mod relaying;

@@ -84,18 +84,35 @@ fn the_script_has_so_many_device_calls(rt: HostRuntime) {
     assert!(rt; !is_cut);
 }
 
-/// Nothing is pending at the first four calls, one body at the fifth, two at the 257 behind it, nothing when the head gate
-/// is written, and that gate at the last sync. Where a write fills its sector, that is one more.
+/// Half of the calls of a format.
+const HALF_FORMAT: u64 = 134;
+
+/// Nothing is pending at the first four calls, one body at the fifth, and two at the 129 behind it. Where a write fills
+/// its sector, that is one more.
 #[test]
-fn a_format_is_stopped_at_each_call(rt: HostRuntime) {
-    let dead = 4 + 6 + 257 * 36 + 1 + 6;
-    let filled = 3 + 6 + 36 + 257 * 36 + 6 + 6;
+fn the_first_half_of_a_format_is_stopped_at_each_call(rt: HostRuntime) {
+    let dead = 4 + 6 + 129 * 36;
+    let filled = 3 + 6 + 36 + 129 * 36;
     let totals = Totals {
-        stops: 2 * FORMAT,
+        stops: 2 * HALF_FORMAT,
         losses: dead + filled,
         openings: 0,
     };
-    expect(&rt, rt.alloc(), [0, FORMAT], Loses, totals);
+    expect(&rt, rt.alloc(), [0, HALF_FORMAT], Loses, totals);
+}
+
+/// Two bodies are pending at the first 128 calls, nothing when the head gate is written, and that gate at the last sync.
+#[test]
+fn the_second_half_of_a_format_is_stopped_at_each_call(rt: HostRuntime) {
+    let dead = 128 * 36 + 1 + 6;
+    let filled = 128 * 36 + 6 + 6;
+    let stops = 2 * (FORMAT - HALF_FORMAT);
+    let totals = Totals {
+        stops,
+        losses: dead + filled,
+        openings: 0,
+    };
+    expect(&rt, rt.alloc(), [HALF_FORMAT, FORMAT], Loses, totals);
 }
 
 /// Nothing is pending.
