@@ -1,11 +1,11 @@
 #!/usr/bin/env python3
 """Measures `macsecd protect` beside sealing alone: time, peak memory, and the calls of the system.
 
-    python3 bench/protect.py [FOLDER] [FRAMES]
+    python3 bench/protect.py [FOLDER] [FRAMES] [ROUNDS]
 
 FOLDER, where the captures and the disk file are made, should be on a real disk; it is the system's folder for temporary files unless
-one is named. FRAMES is 100,000. Frames have 1,500 octets, blocks 65,536 packet numbers. Both programs are built for one level of
-processors, x86-64-v3 unless MACSECD_CPU names another, and run in turn, ten times; times are of the processor (user and system), and the ratio is that of the two least times.
+one is named. FRAMES is 100,000, ROUNDS 10: more of them where other work on the machine disturbs. Frames have 1,500 octets, blocks 65,536 packet numbers. Both programs are built for one level of
+processors, x86-64-v3 unless MACSECD_CPU names another, and run in turn in each round; times are of the processor (user and system), and the ratio is that of the two least times.
 Each run writes a new file: to give back the pages of an old one would be counted too. strace, where there is one, counts the calls of one more run.
 """
 
@@ -92,14 +92,14 @@ def main():
         protect = lambda name: [PROGRAM, "protect", at("disk"), at(name), at("out")]
         print(f"for {CPU}; {frames} frames")
         rounds = []
-        for _ in range(ROUNDS):
+        for _ in range(int(sys.argv[3]) if len(sys.argv) > 3 else ROUNDS):
             sealing, _ = measured([*seal, str(frames)])
             whole, _ = measured(protect("many"))
             os.remove(at("out"))
             rounds.append((sealing, whole))
-            print(f"sealing {sealing:.2f} s, protect {whole:.2f} s")
+            print(f"sealing {sealing:.3f} s, protect {whole:.3f} s")
         sealing, whole = map(min, zip(*rounds))
-        print(f"the least: sealing {sealing:.2f} s, protect {whole:.2f} s, ratio {whole / sealing:.3f}")
+        print(f"the least: sealing {sealing:.3f} s, protect {whole:.3f} s, ratio {whole / sealing:.3f}")
         _, few = measured(protect("few"))
         _, many = measured(protect("many"))
         print(f"peak memory: {few:.1f} MiB with 1,000 frames, {many:.1f} MiB with {frames}")
