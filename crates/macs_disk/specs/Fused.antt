@@ -102,7 +102,7 @@ fused_disk disk at missed added =
       worn = disk.worn || (missed == 2 ^ 64 - 1);
     }
 
--- what a fuse is, where this is what the disk behind it is. No moment at which it failed a call is above that disk's clock: `min`
--- says so of every value, also of one that is no fuse's.
+-- what a fuse is, where this is what the disk behind it is. `when` is never above the clock of the disk behind; `min` makes that so for
+-- values that no fuse has.
 abbrev pub disk_of_fuse : {D : Type 0} → (D → Disk) → FuseValue D → Disk
 disk_of_fuse disk fuse = fused_disk (disk fuse.inner) (min (disk fuse.when).clock (disk fuse.inner).clock) fuse.missed fuse.added

@@ -23,8 +23,8 @@ pub(crate) enum Blow {
 }
 
 /// A disk in front of another: it passes some calls on, and then fails each, or one. A call that it
-/// fails does not reach the disk behind it, but for a write that `once` fails. It counts the failed calls
-/// that the disk behind it missed, and the failures that it added.
+/// fails does not reach the disk behind it, but for a write that `once` fails. A failed call that did not
+/// reach the disk behind is counted as missed and as added; a failed write that this disk took is added alone.
 #[derive(Drop)]
 pub struct Fuse<D: SectorDisk> {
     disk: D,
@@ -170,6 +170,7 @@ impl<D: SectorDisk> SectorDisk for Fuse<D> {
             → IsErr result × (self.new ≡ fuse_after_stopped_call self.old) }
         ensures blown { (fill : List ℕ) → self.old.left ≡ 0 → self.old.blow ≡ OneCall fill
             → IsErr result × (self.new ≡ fuse_after_blown_call self.old) }
+        ensures unread { ¬ IsPassing self.old → into.new ≡ into.old }
     {
         // A read that fails reads nothing.
         self.pass()?;

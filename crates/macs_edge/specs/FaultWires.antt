@@ -7,7 +7,7 @@ pub record CallsValue : Type 0 where
   pub fails_at : ℕ
   pub asked : ℕ
 
--- the next call is the one that is to fail. Behind 2^64 - 1 calls none is: no number that is told to fail is greater
+-- The next call is the one that fails. After 2^64 - 1 calls none fails any more.
 abbrev pub FailsNext : CallsValue → Type 0
 FailsNext calls = calls.asked + 1 ≡ calls.fails_at
 

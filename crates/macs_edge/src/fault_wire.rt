@@ -43,9 +43,9 @@ impl Calls {
     }
 }
 
-/// A wire in front of another: it fails one receive and one send, each of a number that is told at first,
-/// and passes all other calls on as they are. A call that it fails does not reach the wire behind it, and is
-/// counted beside the failed calls of that wire.
+/// A wire in front of another. It fails the receive and the send of the numbers that `new` is told, and hands
+/// each other call to the wire behind it. A call that it fails does not reach that wire, and is counted beside
+/// that wire's failed calls.
 #[derive(Drop)]
 pub struct FaultWire<W> {
     wire: W,

@@ -27,8 +27,8 @@ IsLimited old (Receives frame) (Received (Ok HeldBack) out) new =
 IsLimited old call reply new = Unit {0}
 
 -- Frames, commands that are to wait, work that is refused before it begins and a stopped endpoint leave the store as it was, and with it the
--- disk and its clock. Where no work is in hand so do a command that the journal has no room for, and a refill where no ceiling is needed or
--- the journal cannot begin anew.
+-- disk and its clock. Where no work is in hand so do a command that is answered GenerationsSpent, and a refill where no ceiling is needed or no
+-- change is kept any more.
 abbrev pub IsStill : {D : Type 0} → EndpointValue D → Call → Reply → EndpointValue D → Type 0
 IsStill old (Commands command) (Ran (Err (ran.Refused refusal))) new = new.store ≡ old.store
 IsStill old (Commands command) (Ran (Err ran.Busy)) new = new.store ≡ old.store

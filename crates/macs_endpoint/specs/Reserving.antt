@@ -47,7 +47,7 @@ pub record Reserves {D : Type 0} (disk_of : D → Disk) (old : EndpointValue D) 
   pub rx_counters : rxsc.counters_of new.rx ≡ rxsc.counters_of old.rx
   pub channel_counters : rxsc.channel_counters_of new.rx ≡ rxsc.channel_counters_of old.rx
 
--- This ceiling is raised, by one change, or none. Refused as GenerationsSpent exactly where the journal cannot begin anew, and nothing changes.
+-- This ceiling is raised, by one change, or none. Refused as GenerationsSpent exactly where no change is kept any more, and nothing changes.
 pub record Raised {D : Type 0} (disk_of : D → Disk) (old : EndpointValue D) (raise : Raise) (result : Result (Unit {0}) RefillFault) (new : EndpointValue D) : Type 0 where
   pub reserves : Reserves disk_of old result new
   pub done : OnOk result (standing_in new.store ≡ standing_with_raise (standing_in old.store) raise)
@@ -70,15 +70,15 @@ pub record ReservationEnds {D : Type 0} (disk_of : D → Disk) (old : EndpointVa
   pub generation : OnOk result (generation new.store ≡ generation_then old.store)
   pub most : (disk_in disk_of new).clock ≤ (disk_in disk_of old).clock + calls_left old.store
 
--- Every ceiling that is needed is raised, or one is left. Where no work is in hand, and none is needed or the journal cannot begin anew, the
--- store stays as it is.
+-- Every ceiling that is needed is raised, or one is left. Where no work is in hand, and none is needed or no change is kept any more,
+-- the store stays as it is.
 pub record ReservesAll {D : Type 0} (disk_of : D → Disk) (old : EndpointValue D) (result : Result (Unit {0}) RefillFault) (new : EndpointValue D) : Type 0 where
   pub reserves : Reserves disk_of old result new
   pub ceilings : StandsRefilled (tx_side (state_of old no_logs)) (rx_side (state_of old no_logs)) (standing_in old.store) old.reserving result (standing_in new.store)
   pub still : IsIdle old.store → (raise_in old ≡ None) ⊎ IsSpent old.store → new.store ≡ old.store
   pub spends : Spends disk_of old result new.store
 
--- It is taken in hand that this ceiling is raised, and no device call is made; or the journal cannot begin anew, and nothing changes.
+-- It is taken in hand that this ceiling is raised, and no device call is made; or no change is kept any more, and nothing changes.
 pub record StartsRaise {D : Type 0} (disk_of : D → Disk) (old : EndpointValue D) (raise : Raise) (result : Result (Unit {0}) JournalFault) (new : EndpointValue D) : Type 0 where
   pub refused : OnErr result (IsErrOf result journal.GenerationsSpent × (new ≡ old) × IsSpent old.store)
   pub room : OnOk result (¬ IsSpent old.store)

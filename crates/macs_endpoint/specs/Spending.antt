@@ -52,7 +52,7 @@ pub record HasRaised {D : Type 0} (disk_of : D → Disk) (old : EndpointValue D)
   pub most : (disk_in disk_of new).clock ≤ (disk_in disk_of old.store).clock + most_behind old raises
   pub still : IsIdle old.store → raises ≡ [] → new ≡ old.store
 
--- a device call of the reservation in hand failed, which was not made then
+-- A device call of the reservation in hand failed. That reservation is not made: what stands is as it was.
 pub record FailsInHand {D : Type 0} (disk_of : D → Disk) (old : EndpointValue D) (new : StoreValue D) : Type 0 where
   pub raise : Raise
   pub reserving : old.reserving ≡ Some raise

@@ -80,7 +80,7 @@ IsAppending other = ⊥
 -- A step of a store: one device call of the work in hand. Stopped exactly where a device call failed before, and Idle exactly where nothing
 -- is in hand: then no call is made and nothing changes. Disk exactly where the call failed, which stops the store and leaves nothing in hand.
 -- Else the work goes on, or is finished: what stands changes then, and at no other time. At each moment a power loss leaves what stood, or
--- what stands once the work is done; and what stands alone, once it is finished.
+-- what stands once the work is done; and once it is finished, only what stands then.
 pub record Steps {D : Type 0} (disk_of : D → disk.Disk) (old : StoreValue D) (result : Result JournalStep JournalFault) (new : StoreValue D) : Type 0 where
   -- what is answered, and what becomes of the store in memory
   pub stopped : IsErrOf result journal.Stopped ↔ (is_stopped old ≡ true)

@@ -21,9 +21,9 @@ pub(super) struct Stop {
 /// What comes of a stop.
 #[derive(Clone, Copy)]
 pub(super) enum Kind {
-    /// Neither the call nor any behind it reaches the disk.
+    /// This call and all later ones do not reach the disk.
     Dead,
-    /// The call alone fails: a write has filled its sector with ones.
+    /// The call alone fails: a write has filled its sector with octets ff.
     Filled,
 }
 
@@ -47,6 +47,7 @@ fn identity(rt: &impl Abort) -> Identity {
     Identity::new(OWN, BLOCK, BLOCK).expect(rt, "identity")
 }
 
+/// The one call of a long contract.
 fn format_fused(disk: &mut Fuse<MemDisk>, identity: &Identity) -> Result<(), JournalFault> {
     format(disk, identity)
 }

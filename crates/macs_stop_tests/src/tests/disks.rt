@@ -7,12 +7,25 @@ use macs_record::SECTOR;
 use std::alloc::Global;
 use std::process::Abort;
 
-/// A disk of zeros.
-pub(super) fn blank(rt: &impl Abort, alloc: Global) -> MemDisk {
+/// A sector that no endpoint has written.
+const UNWRITTEN: [u8; SECTOR] = [0x55; SECTOR];
+
+fn zeros(rt: &impl Abort, alloc: Global) -> MemDisk {
     match MemDisk::new(alloc, SECTORS) {
         Ok(disk) => disk,
         Err(_) => panic!(rt; "no disk"),
     }
+}
+
+/// A disk of octets 55: what is durable differs from zeros, and half of a write from the whole.
+pub(super) fn blank(rt: &impl Abort, alloc: Global) -> MemDisk {
+    let mut disk = zeros(rt, alloc);
+    for at in 0..SECTORS {
+        put(rt, &mut disk, at, &UNWRITTEN);
+    }
+    assert!(rt; disk.sync().is_ok());
+    disk.crash();
+    disk
 }
 
 /// The octets that are durable in a sector.
@@ -46,7 +59,7 @@ pub(super) fn copy(
     let mut copy = blank(rt, alloc);
     for at in 0..SECTORS {
         let octets = durable(rt, disk, at);
-        if octets != [0; SECTOR] {
+        if octets != UNWRITTEN {
             put(rt, &mut copy, at, &octets);
         }
     }
