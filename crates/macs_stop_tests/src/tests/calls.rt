@@ -185,20 +185,40 @@ fn openings_behind_a_cut_command_are_stopped_at_each_call(rt: HostRuntime) {
     );
 }
 
-/// An opening reads all 256 slots, gates and bodies, and takes 515 calls; 261 where the new head gate is open.
+/// An opening of a full area reads all 256 slots, gates and bodies, and takes 515 calls.
 #[test]
-fn openings_behind_a_cut_compaction_are_stopped_at_each_call(rt: HostRuntime) {
-    let before = 36 + 4 * 6 + 6 + 5 * 6 + 6 + 1 + 5 + 3 + 3;
-    let after = 1 + 3 + 3;
+fn openings_behind_cut_bodies_are_stopped_at_each_call(rt: HostRuntime) {
+    let losses = 36 + 3 * 6 + 4 * 6;
     let totals = Totals {
-        stops: 16,
-        losses: before + after,
-        openings: 2 * (before * 515 + after * 261),
+        stops: 8,
+        losses,
+        openings: 2 * losses * 515,
     };
     expect(
         &rt,
         rt.alloc(),
-        [COMPACTED - 8, COMPACTED],
+        [COMPACTED - 8, COMPACTED - 4],
+        StopsOpenings,
+        totals,
+    );
+}
+
+/// An opening takes 515 calls, or 261 where the new head gate is open: in one of six contents where a write filled it, and
+/// in three of six at either sync of it.
+#[test]
+fn openings_behind_a_cut_head_gate_are_stopped_at_each_call(rt: HostRuntime) {
+    let before = 6 + 6 + 1 + 6 + 6 + 5 + 3 + 3;
+    let after = 1 + 3 + 3;
+    let openings = 2 * (before * 515 + after * 261);
+    let totals = Totals {
+        stops: 8,
+        losses: before + after,
+        openings,
+    };
+    expect(
+        &rt,
+        rt.alloc(),
+        [COMPACTED - 4, COMPACTED],
         StopsOpenings,
         totals,
     );
