@@ -595,26 +595,38 @@ fn nested(
     text
 }
 
-/// Arrays and tables in one another, 1,000 deep, with the file closed behind them. The reader of TOML takes 80
-/// and refuses what is deeper; seventy are read, and refused for where they stand.
+/// A number inside arrays or tables: 1,000 of them are more than the reader of TOML takes, which is 80, though
+/// all are closed; seventy are read, and refused for where they stand.
+fn refuse_deep(
+    rt: &impl Abort,
+    alloc: Global,
+    head: &str,
+    opening: &str,
+    closing: &str,
+    tail: &str,
+    wanted: ConfigFault,
+) {
+    let text = nested(rt, alloc, head, opening, 1_000, closing, tail);
+    is_no_toml(rt, alloc, &text);
+    let text = nested(rt, alloc, head, opening, 70, closing, tail);
+    is_refused(rt, alloc, &text, wanted);
+}
+
+/// Arrays and tables in one another.
 #[test]
 fn a_deep_file_is_refused(rt: HostRuntime) {
+    let alloc = rt.alloc();
     let word = ConfigFault::Word { at: 1 };
     let key = ConfigFault::Key {
         at: 1,
         name: KeyName::An,
     };
-    for (head, opening, closing, tail, wanted) in [
-        ("command=", "[", "]", "", ConfigFault::Shape),
-        ("command=", "{x=", "}", "", ConfigFault::Shape),
-        ("command=[{do=", "[", "]", "}]", word),
-        ("command=[{an=0,do=", "{do=", "}", "}]", word),
-        ("command=[{do=\"tx-use\",an=", "[", "]", "}]", key),
-        ("command=[{do=\"tx-use\",an=", "{an=", "}", "}]", key),
-    ] {
-        let text = nested(&rt, rt.alloc(), head, opening, 1_000, closing, tail);
-        is_no_toml(&rt, rt.alloc(), &text);
-        let text = nested(&rt, rt.alloc(), head, opening, 70, closing, tail);
-        is_refused(&rt, rt.alloc(), &text, wanted);
+    refuse_deep(&rt, alloc, "command=", "[", "]", "", ConfigFault::Shape);
+    refuse_deep(&rt, alloc, "command=", "{x=", "}", "", ConfigFault::Shape);
+    refuse_deep(&rt, alloc, "command=[{do=", "[", "]", "}]", word);
+    refuse_deep(&rt, alloc, "command=[{an=0,do=", "{do=", "}", "}]", word);
+    for (opening, closing) in [("[", "]"), ("{an=", "}")] {
+        let head = "command=[{do=\"tx-use\",an=";
+        refuse_deep(&rt, alloc, head, opening, closing, "}]", key);
     }
 }

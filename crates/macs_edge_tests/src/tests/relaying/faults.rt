@@ -72,6 +72,12 @@ fn has_plain_but<A: Allocator + Copy>(wire: &MemWire<A>, lost: u64) -> bool {
     wire.sent().len() == place
 }
 
+/// What is to hold of a case.
+fn holds(rt: &impl Abort, case: [u64; 6], is_so: bool) {
+    let [from_receive, to_receive, to_send, ..] = case;
+    assert!(rt; is_so, "{from_receive} {to_receive} {to_send}");
+}
+
 /// Six plain frames wait.
 fn with_six(rt: &impl Abort, alloc: Global) -> MemWire<Global> {
     let mut wire = MemWire::new(alloc);
@@ -83,21 +89,17 @@ fn with_six(rt: &impl Abort, alloc: Global) -> MemWire<Global> {
 /// the common wire are 1, 2, 4, 5 and 6.
 #[test]
 fn a_call_fails_while_frames_are_protected(rt: HostRuntime) {
-    for [from_receive, to_receive, to_send, passed, lost, faults] in CASES {
+    for case in CASES {
+        let [from_receive, to_receive, to_send, passed, lost, faults] = case;
         let mut endpoint = sending(&rt, formatted(&rt, rt.alloc(), LEFT, 65_536));
         let mut controlled = failing(with_six(&rt, rt.alloc()), from_receive, 0);
         let mut common = failing(MemWire::new(rt.alloc()), to_receive, to_send);
         let answer = relayed(&mut endpoint, &mut controlled, &mut common, TURNS);
-        assert!(rt;
-            answer == counted(passed, 0, 0, faults),
-            "{from_receive} {to_receive} {to_send}"
-        );
-        assert!(rt;
-            has_numbers_but(behind(&common), lost),
-            "{from_receive} {to_receive} {to_send}"
-        );
-        assert!(rt; endpoint.next_number(number_of(&rt, 0)) == Some(7));
-        assert!(rt; behind(&controlled).sent().is_empty());
+        holds(&rt, case, answer == counted(passed, 0, 0, faults));
+        holds(&rt, case, has_numbers_but(behind(&common), lost));
+        let next = endpoint.next_number(number_of(&rt, 0));
+        holds(&rt, case, next == Some(7));
+        holds(&rt, case, behind(&controlled).sent().is_empty());
     }
 }
 
@@ -138,24 +140,19 @@ fn delivering(rt: &impl Abort, alloc: Global, sealed: &MemWire<Global>) -> Endpo
 #[test]
 fn a_call_fails_while_frames_are_delivered(rt: HostRuntime) {
     let sealed = seven_sealed(&rt, rt.alloc());
-    for [from_receive, to_receive, to_send, passed, lost, faults] in CASES {
+    for case in CASES {
+        let [from_receive, to_receive, to_send, passed, lost, faults] = case;
         let mut endpoint = delivering(&rt, rt.alloc(), &sealed);
         let mut common = failing(with_six_of(&rt, rt.alloc(), &sealed), from_receive, 0);
         let mut controlled = failing(MemWire::new(rt.alloc()), to_receive, to_send);
         let answer = relayed(&mut endpoint, &mut controlled, &mut common, TURNS);
-        assert!(rt;
-            answer == counted(0, passed, 0, faults),
-            "{from_receive} {to_receive} {to_send}"
-        );
-        assert!(rt; behind(&common).sent().is_empty());
+        holds(&rt, case, answer == counted(0, passed, 0, faults));
+        holds(&rt, case, behind(&common).sent().is_empty());
         let mut controlled = taken_out(controlled);
         let mut again = with_six_of(&rt, rt.alloc(), &sealed);
         let answer = relayed(&mut endpoint, &mut controlled, &mut again, TURNS);
-        assert!(rt; answer == counted(0, 0, 6, 0));
-        assert!(rt;
-            has_plain_but(&controlled, lost),
-            "{from_receive} {to_receive} {to_send}"
-        );
+        holds(&rt, case, answer == counted(0, 0, 6, 0));
+        holds(&rt, case, has_plain_but(&controlled, lost));
     }
 }
 
