@@ -54,6 +54,26 @@ fn a_journal_begins_anew_in_the_other_area(rt: HostRuntime) -> Result<(), Fail> 
     begin_formatted(&rt, rt.alloc(), BEGUN)
 }
 
+/// The third compaction goes into the second area, whose head gate is open: 258 calls close it, a sync makes that
+/// durable, and the head's body is written. A recovery of two heads makes one call more.
+const CLOSED_FIRST: &[Step] = &[
+    Compact(SEVEN),
+    Compact(NEW),
+    CutCompact(RECOVERY + 1 + 258 + 1 + 1, SEVEN, Some(Disk)),
+    Pending(514, true),
+    Pending(515, false),
+];
+
+#[test]
+fn an_old_head_gate_is_closed_before_its_body_changes(rt: HostRuntime) -> Result<(), Fail> {
+    begin_formatted(&rt, rt.alloc(), CLOSED_FIRST)
+}
+
+#[test]
+fn a_compaction_that_is_answered_stands(rt: HostRuntime) -> Result<(), Fail> {
+    begin_formatted(&rt, rt.alloc(), &[Compact(SEVEN), Pending(515, false)])
+}
+
 /// The first area again: the gates of its old records are closed, that of slot 1 too, whose body is new.
 const TURNED: &[Step] = &[
     Append(NEW, 1, 3, false),
