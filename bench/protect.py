@@ -5,7 +5,8 @@
 
 FOLDER, where the captures and the disk file are made, should be on a real disk; it is the system's folder for temporary files unless
 one is named. FRAMES is 100,000, ROUNDS 10: more of them where other work on the machine disturbs. Frames have 1,500 octets, blocks 65,536 packet numbers. Both programs are built for one level of
-processors, x86-64-v3 unless MACSECD_CPU names another, and run in turn in each round; times are of the processor (user and system), and the ratio is that of the two least times.
+processors, x86-64-v3 unless MACSECD_CPU names another, and run in turn in each round; times are of the processor (user and system). The ratio is told three times: of the two least times, of the two
+tenths (a tenth of the runs took less), and as the median of the rounds' own ratios.
 Each run writes a new file: to give back the pages of an old one would be counted too. strace, where there is one, counts the calls of one more run.
 """
 
@@ -17,6 +18,7 @@ import subprocess
 import sys
 import tempfile
 from collections import Counter
+from statistics import median
 
 TOP = os.path.abspath(os.path.join(os.path.dirname(__file__), ".."))
 MACSECD = os.path.join(TOP, "macsecd")
@@ -98,8 +100,10 @@ def main():
             os.remove(at("out"))
             rounds.append((sealing, whole))
             print(f"sealing {sealing:.3f} s, protect {whole:.3f} s")
-        sealing, whole = map(min, zip(*rounds))
-        print(f"the least: sealing {sealing:.3f} s, protect {whole:.3f} s, ratio {whole / sealing:.3f}")
+        sealing, whole = map(sorted, zip(*rounds))
+        for name, at_rank in ("the least", 0), ("the tenths", len(rounds) // 10):
+            print(f"{name}: sealing {sealing[at_rank]:.3f} s, protect {whole[at_rank]:.3f} s, ratio {whole[at_rank] / sealing[at_rank]:.3f}")
+        print(f"the median of {len(rounds)} ratios: {median(whole / sealing for sealing, whole in rounds):.3f}")
         _, few = measured(protect("few"))
         _, many = measured(protect("many"))
         print(f"peak memory: {few:.1f} MiB with 1,000 frames, {many:.1f} MiB with {frames}")
