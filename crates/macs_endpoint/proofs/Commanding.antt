@@ -15,8 +15,8 @@ use Rattle.macs_txsc.specs.declared.channel.Tx.{Tx}
 use Rattle.macs_rxsc.specs.Receive.{Numbers}
 use Rattle.macs_rxsc.specs.Value as rxsc
 use Rattle.macs_store.specs.Found.{CommitLeaves}
-use Rattle.macs_store.specs.Keeps.{Commits, most_calls, most_with_change}
-use Rattle.macs_store.specs.Value.{IsIdle, slots_then, standing_in}
+use Rattle.macs_store.specs.Keeps.{Commits, generation_after, generation_with_change, most_calls, most_with_change, slots_after, slots_with_change}
+use Rattle.macs_store.specs.Value.{IsIdle, calls_left, generation_then, slots_then, standing_in}
 use Rattle.macs_store.specs.Value as store
 use Rattle.macs_store.specs.Standing.{Standing, accept, ceilings_after, standing_or_refusal}
 use Rattle.macs_store.specs.Table.{standing_of}
@@ -92,16 +92,26 @@ module _ {D : Type 0} (disk_of : D → disk.Disk) (e : EndpointValue D) (command
   quick : (disk_in disk_of e).clock ≤ (disk_in disk_of e).clock + most_in_command e
   quick = omega arith
 
+  -- no device call is made
+  no_call : (disk_in disk_of e).clock ≤ (disk_in disk_of e).clock + calls_left e.store
+  no_call = omega arith
+
   pub stopped-command : is_stopped e ≡ true → KeepsCommand disk_of e command (Err Stopped) e
   stopped-command stopped = record {
     call = unmoved Stopped e refl refl (λ logs. inl (stopped, tt, refl)) refl refl tt refl tt refl (λ backed. backed);
+    slots = tt;
+    generation = tt;
     most = quick;
+    spent = λ is. no_call;
   }
 
   pub busy-command : is_stopped e ≡ false → ¬ (e.waiting ≡ []) → KeepsCommand disk_of e command (Err Busy) e
   busy-command running waits = record {
     call = unmoved Busy e refl refl (λ logs. inr (running, (waits, refl))) refl refl tt refl tt refl (λ backed. backed);
+    slots = tt;
+    generation = tt;
     most = quick;
+    spent = λ is. no_call;
   }
 
   turned_backed : IsBacked disk_of e → IsBacked disk_of (record e { turn = turn.Reservation })
@@ -112,7 +122,10 @@ module _ {D : Type 0} (disk_of : D → disk.Disk) (e : EndpointValue D) (command
       → KeepsCommand disk_of e command (Err (Refused refusal)) (record e { turn = turn.Reservation })
   refused-command refusal running none refused = record {
     call = unmoved (Refused refusal) (record e { turn = turn.Reservation }) refl refl (λ logs. inr (running, (none, refused, refl))) refl refl tt refl tt refl turned_backed;
+    slots = tt;
+    generation = tt;
     most = quick;
+    spent = λ is. no_call;
   }
 
 -- ---- a command that is accepted
@@ -138,6 +151,13 @@ module _ {D : Type 0} (disk_of : D → disk.Disk) (e : EndpointValue D) (kept : 
       λ i. most_with_change (store.slots_with e.store (idle i)) (standing_with_reserved (standing_in e.store) (free i)) in
       omega (arith, within, same)
 
+  -- no work is in hand, so a change leaves what it leaves of the store as it stands
+  same_slots : slots_after e.store ≡ slots_with_change (slots_then e.store) (reserved_in e)
+  same_slots = λ i. slots_with_change (store.slots_with e.store (sym idle i)) (standing_with_reserved (standing_in e.store) (sym free i))
+
+  same_generation : generation_after e.store ≡ generation_with_change (slots_then e.store) (generation_then e.store)
+  same_generation = λ i. generation_with_change (store.slots_with e.store (sym idle i)) (store.generation_with e.store (sym idle i))
+
   stands_ran : (result : Result (Unit {0}) CommandFault) (s : Standing) → StandsRan (standing_in e.store) None command result s
       → StandsRan (standing_in e.store) e.reserving command result s
   stands_ran result s stands = subst (λ (o : Option Raise). StandsRan (standing_in e.store) o command result s) (sym free) stands
@@ -156,7 +176,10 @@ module _ {D : Type 0} (disk_of : D → disk.Disk) (e : EndpointValue D) (kept : 
         call = unmoved disk_of e command ranges GenerationsSpent (record e { turn = turn.Reservation }) refl refl
             (λ logs. inr (running, (none, accepts, refl))) refl (stands_ran (Err GenerationsSpent) (standing_in e.store) refl) spent (λ rests. refl) idle refl
             (turned_backed disk_of e command ranges);
+        slots = tt;
+        generation = tt;
         most = quick disk_of e command ranges;
+        spent = λ is. no_call disk_of e command ranges;
       })
 
   moments : (new : disk.Disk) (later : State) (logs : Logs) → IsBacked disk_of e → Leaves (disk_in disk_of e) new (CommitLeaves (standing_in e.store) command)
@@ -234,7 +257,10 @@ module _ {D : Type 0} (disk_of : D → disk.Disk) (e : EndpointValue D) (kept : 
           backed = cut_backed honest backed;
         };
       };
+      slots = tt;
+      generation = tt;
       most = few_calls (disk_in disk_of e).clock (disk_in disk_of cut).clock commits.most;
+      spent = λ is. absurd cc;
     }
 
   -- ---- the command was kept
@@ -322,7 +348,10 @@ module _ {D : Type 0} (disk_of : D → disk.Disk) (e : EndpointValue D) (kept : 
                   (commits.stored honest (backed.stored running));
             };
           };
+          slots = commits.slots ∙ same_slots;
+          generation = commits.generation ∙ same_generation;
           most = few_calls (disk_in disk_of e).clock (disk_in disk_of done).clock commits.most;
+          spent = λ is. absurd cc;
         }
 
   -- no other refusal is left

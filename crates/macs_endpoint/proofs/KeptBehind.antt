@@ -1,5 +1,5 @@
 -- A command behind a reservation that was in hand.
-use Rattle.std.proofs.Common.{◌≡◌, ◌≤◌, ◌+◌, ◌⊎◌, [], inl, inr, ℕ, true, false, Option, Some, None, Result, Ok, Err, is_err, IsErrOf, IsOk, refl, sym, ◌∙◌, ap, subst, arith}
+use Rattle.std.proofs.Common.{◌≡◌, ◌≤◌, ◌+◌, ◌⊎◌, [], inl, inr, ℕ, true, false, Some, None, Result, Ok, Err, is_err, IsErrOf, IsOk, OnOk, refl, sym, ◌∙◌, ap, subst, arith}
 use Rattle.macs_config.specs.Apply.{IsCommand, apply}
 use Rattle.macs_config.specs.Config.{Config, this_edition}
 use Rattle.macs_config.specs.declared.command.Command.{Command}
@@ -7,14 +7,12 @@ use Rattle.macs_config.specs.declared.refusal.Refusal.{Refusal}
 use Rattle.macs_disk.specs.Disk.{IsHonest}
 use Rattle.macs_disk.specs.Disk as disk
 use Rattle.macs_disk.proofs.Moments.{FailsOnce-before, Leaves-join, Leaves-weaker, Works-on}
-use Rattle.macs_store.specs.Keeps.{most_with_change}
+use Rattle.macs_store.specs.Keeps.{generation_with_change, most_with_change, slots_with_change}
 use Rattle.macs_store.specs.Standing.{Standing, accept, standing_or_refusal}
-use Rattle.macs_store.specs.Value.{calls_left, slots_then, standing_in}
-use Rattle.macs_store.specs.Value as store
-use Rattle.macs_store.specs.declared.hand.Hand.{Hand}
+use Rattle.macs_store.specs.Value.{calls_left, generation, generation_then, slots_then, standing_in, used_slots}
 use Rattle.macs_endpoint.specs.Advancing.{turn_after}
 use Rattle.macs_endpoint.specs.Calls.{Fails}
-use Rattle.macs_endpoint.specs.Ceilings.{Raise, StandsRan, standing_with_reserved}
+use Rattle.macs_endpoint.specs.Ceilings.{StandsRan}
 use Rattle.macs_endpoint.specs.Counting.{channel_counters_after}
 use Rattle.macs_endpoint.specs.Keeping.{KeepsCommand, most_in_command}
 use Rattle.macs_endpoint.specs.Limits.{IsLimited, IsStill}
@@ -32,6 +30,7 @@ use Rattle.macs_endpoint.specs.declared.turn.Turn.TheVariants as turn
 use Rattle.macs_endpoint.proofs.Commanding.{by_accepted, ok_not_err}
 use Rattle.macs_endpoint.proofs.Ended.{not_stopped}
 use Rattle.macs_endpoint.proofs.Fitting.{fits-commanding, fits-holding}
+use Rattle.macs_endpoint.proofs.Spending.{behind-generation, behind-left, behind-reserved, behind-slots}
 
 -- ---- a few words on answers
 
@@ -124,7 +123,10 @@ module _ {D : Type 0} (disk_of : D → disk.Disk) (e : EndpointValue D) (command
               backed = backed_so (reserves.backed honest backed);
             };
           };
+          slots = tt;
+          generation = tt;
           most = let most = ends.most in omega (arith, most);
+          spent = λ is. absurd cc;
         }
 
   module _ (mid : EndpointValue D) (ends : ReservationEnds disk_of e (Ok tt) mid) where
@@ -150,25 +152,37 @@ module _ {D : Type 0} (disk_of : D → disk.Disk) (e : EndpointValue D) (command
         let after = standing_in mid.store in
         ok_standing after command (apply this_edition after.identity after.config command) behind_applies
 
-    -- what stands then
-    behind_stands : reserved_in mid ≡ reserved_in e
-    behind_stands = ap (λ (o : Option Raise). standing_with_reserved (standing_in mid.store) o) ends.free ∙ ends.done
+    -- what stands then, how many slots are used and in which generation
+    stands : reserved_in mid ≡ reserved_in e
+    stands = behind-reserved disk_of e mid ends
+
+    used : slots_then mid.store ≡ slots_then e.store
+    used = behind-slots disk_of e mid ends
+
+    number : generation_then mid.store ≡ generation_then e.store
+    number = behind-generation disk_of e mid ends
 
     few_calls : (late : ℕ) → late ≤ (disk_in disk_of mid).clock + most_in_command mid → late ≤ (disk_in disk_of e).clock + most_in_command e
     few_calls late within =
         let most = ends.most in
-        let idle : calls_left mid.store ≡ 0 = ap (λ (h : Hand). store.calls_with mid.store h) ends.reserves.idle in
-        let free : slots_then mid.store ≡ slots_then e.store = ap (λ (h : Hand). store.slots_with mid.store h) ends.reserves.idle ∙ ends.slots in
+        let left = behind-left disk_of e mid ends in
         let same : most_with_change (slots_then mid.store) (reserved_in mid) ≡ most_with_change (slots_then e.store) (reserved_in e) =
-        λ i. most_with_change (free i) (behind_stands i) in
-        omega (arith, within, most, idle, same)
+        λ i. most_with_change (used i) (stands i) in
+        omega (arith, within, most, left, same)
+
+    -- where no change is kept any more
+    no_more_calls : (late : ℕ) → late ≤ (disk_in disk_of mid).clock + calls_left mid.store → late ≤ (disk_in disk_of e).clock + calls_left e.store
+    no_more_calls late within =
+        let most = ends.most in
+        let left = behind-left disk_of e mid ends in
+        omega (arith, within, most, left)
 
     behind_by : (result : Result (Unit {0}) CommandFault) (new : EndpointValue D) → KeepsCommand disk_of mid command result new
         → StandsRan (standing_in e.store) e.reserving command result (standing_in new.store)
         → IsLimited e (Commands command) (Ran result) new → IsStill e (Commands command) (Ran result) new
         → new.turn ≡ turn_after e (Commands command) (Ran result) → Fails (disk_in disk_of e) (disk_in disk_of new) (Ran result)
         → KeepsCommand disk_of e command result new
-    behind_by result new keeps stands limited still whose fails =
+    behind_by result new keeps ran_so limited still whose fails =
         let reserves = ends.reserves in
         let call = keeps.call in
         record {
@@ -178,7 +192,7 @@ module _ {D : Type 0} (disk_of : D → disk.Disk) (e : EndpointValue D) (command
               step = λ logs.
                   let step = call.behaves.step logs in
                   (step.0, subst (λ (s : State). Step s (Commands command) (Ran result) (state_of new step.0)) (behind_state logs) step.1);
-              ceilings = stands;
+              ceilings = ran_so;
               limited = limited;
               still = still;
               rests = call.behaves.rests;
@@ -209,7 +223,10 @@ module _ {D : Type 0} (disk_of : D → disk.Disk) (e : EndpointValue D) (command
                   backed = second.backed;
                 };
           };
+          slots = subst (λ (n : ℕ). OnOk result (used_slots new.store ≡ n)) (λ i. slots_with_change (used i) (stands i)) keeps.slots;
+          generation = subst (λ (n : ℕ). OnOk result (generation new.store ≡ n)) (λ i. generation_with_change (used i) (number i)) keeps.generation;
           most = few_calls (disk_in disk_of new).clock keeps.most;
+          spent = λ is. no_more_calls (disk_in disk_of new).clock (keeps.spent is);
         }
 
     -- a command is kept, or not, behind the reservation
@@ -217,16 +234,16 @@ module _ {D : Type 0} (disk_of : D → disk.Disk) (e : EndpointValue D) (command
         → KeepsCommand disk_of e command result new
     behind-keeps (Ok done) new keeps =
         behind_by (Ok done) new keeps
-        (subst (λ (x : Standing). accept x command ≡ Ok (standing_in new.store)) behind_stands keeps.call.behaves.ceilings) tt tt keeps.call.behaves.turn
+        (subst (λ (x : Standing). accept x command ≡ Ok (standing_in new.store)) stands keeps.call.behaves.ceilings) tt tt keeps.call.behaves.turn
         (keeps.call.device.fails ∙ ends.reserves.fails)
     behind-keeps (Err ran.GenerationsSpent) new keeps =
-        behind_by (Err ran.GenerationsSpent) new keeps (keeps.call.behaves.ceilings ∙ behind_stands) keeps.call.behaves.limited
+        behind_by (Err ran.GenerationsSpent) new keeps (keeps.call.behaves.ceilings ∙ stands) keeps.call.behaves.limited
         (λ idle. keeps.call.behaves.still ends.reserves.idle ∙ ap (λ (x : EndpointValue D). x.store) (ends.still idle)) keeps.call.behaves.turn
         (keeps.call.device.fails ∙ ends.reserves.fails)
     behind-keeps (Err ran.Disk) new keeps =
         behind_by (Err ran.Disk) new keeps (inr (elim keeps.call.behaves.ceilings [
           | inl is ↦ is ∙ ends.done
-          | inr is ↦ is ∙ behind_stands
+          | inr is ↦ is ∙ stands
         ])) tt tt keeps.call.behaves.turn
         (FailsOnce-before (disk_in disk_of e) (disk_in disk_of mid) (disk_in disk_of new) ends.reserves.fails keeps.call.device.fails)
     behind-keeps (Err ran.Stopped) new keeps =

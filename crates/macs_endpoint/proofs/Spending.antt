@@ -136,36 +136,39 @@ module _ {D : Type 0} (disk_of : D → Disk) where
     behind_state : state_of mid no_logs ≡ state_of old no_logs
     behind_state = ends.reserves.step no_logs
 
-    behind_reserved : reserved_in mid ≡ reserved_in old
-    behind_reserved = ap (λ (o : Option Raise). standing_with_reserved (standing_in mid.store) o) ends.free ∙ ends.done
+    pub behind-reserved : reserved_in mid ≡ reserved_in old
+    behind-reserved = ap (λ (o : Option Raise). standing_with_reserved (standing_in mid.store) o) ends.free ∙ ends.done
 
-    behind_slots : slots_then mid.store ≡ slots_then old.store
-    behind_slots = ap (λ (h : Hand). slots_with mid.store h) ends.reserves.idle ∙ ends.slots
+    pub behind-slots : slots_then mid.store ≡ slots_then old.store
+    behind-slots = ap (λ (h : Hand). slots_with mid.store h) ends.reserves.idle ∙ ends.slots
 
-    behind_generation : generation_then mid.store ≡ generation_then old.store
-    behind_generation = ap (λ (h : Hand). generation_with mid.store h) ends.reserves.idle ∙ ends.generation
+    pub behind-generation : generation_then mid.store ≡ generation_then old.store
+    behind-generation = ap (λ (h : Hand). generation_with mid.store h) ends.reserves.idle ∙ ends.generation
+
+    pub behind-left : calls_left mid.store ≡ 0
+    behind-left = ap (λ (h : Hand). calls_with mid.store h) ends.reserves.idle
 
     behind_most : (raises : List Raise) (late : ℕ) → late ≤ (store.disk_in disk_of mid.store).clock + most_behind mid raises
         → late ≤ (store.disk_in disk_of old.store).clock + most_behind old raises
     behind_most raises late within =
         let most = ends.most in
-        let none : calls_left mid.store ≡ 0 = ap (λ (h : Hand). calls_with mid.store h) ends.reserves.idle in
+        let none = behind-left in
         let same : most_in_raises (slots_then mid.store) (reserved_in mid) raises ≡ most_in_raises (slots_then old.store) (reserved_in old) raises =
-        λ i. most_in_raises (behind_slots i) (behind_reserved i) raises in
+        λ i. most_in_raises (behind-slots i) (behind-reserved i) raises in
         omega (arith, within, most, none, same)
 
     raises_behind : (raises : List Raise) (s : Standing) → RaisesBehind mid raises s → RaisesBehind old raises s
     raises_behind raises s raised =
         subst (λ (x : State). Raises (tx_side x) (rx_side x) (reserved_in old) raises s) behind_state
-        (subst (λ (r : Standing). Raises (tx_side (state_of mid no_logs)) (rx_side (state_of mid no_logs)) r raises s) behind_reserved raised)
+        (subst (λ (r : Standing). Raises (tx_side (state_of mid no_logs)) (rx_side (state_of mid no_logs)) r raises s) behind-reserved raised)
 
     raised_behind : (new : StoreValue D) → HaveRaised mid new → HaveRaised old new
     raised_behind new has = (
       has.0,
       record {
         raised = raises_behind has.0 (standing_in new) has.1.raised;
-        slots = has.1.slots ∙ (λ i. slots_in_raises (behind_slots i) (behind_reserved i) has.0);
-        generation = has.1.generation ∙ (λ i. generation_in_raises (behind_slots i) (behind_generation i) (behind_reserved i) has.0);
+        slots = has.1.slots ∙ (λ i. slots_in_raises (behind-slots i) (behind-reserved i) has.0);
+        generation = has.1.generation ∙ (λ i. generation_in_raises (behind-slots i) (behind-generation i) (behind-reserved i) has.0);
         most = behind_most has.0 (store.disk_in disk_of new).clock has.1.most;
         still = λ rests is. has.1.still ends.reserves.idle is ∙ ap (λ (e : EndpointValue D). e.store) (ends.still rests);
       },

@@ -13,6 +13,7 @@ pub mod Advancing
 pub mod Counting
 pub mod Calls
 pub mod Told
+pub mod Parts
 pub mod Spending
 pub mod Reserving
 pub mod Keeping

@@ -24,7 +24,7 @@ abbrev pub first_waiting : List Waiting → Option Waiting
 first_waiting [] = None
 first_waiting (first ∷ rest) = Some first
 
--- and without
+-- that command, without its ticket
 abbrev pub first_command : List Waiting → Option Command
 first_command waiting = option_map (λ (first : Waiting). first.command) (first_waiting waiting)
 

@@ -47,7 +47,7 @@ pub record Reserves {D : Type 0} (disk_of : D → Disk) (old : EndpointValue D) 
   pub rx_counters : rxsc.counters_of new.rx ≡ rxsc.counters_of old.rx
   pub channel_counters : rxsc.channel_counters_of new.rx ≡ rxsc.channel_counters_of old.rx
 
--- This ceiling is raised, by one change, or none. Refused as GenerationsSpent exactly where no change is kept any more, and nothing changes.
+-- This ceiling is raised by one change, or stays. Refused as GenerationsSpent exactly where no change is kept any more, and nothing changes.
 pub record Raised {D : Type 0} (disk_of : D → Disk) (old : EndpointValue D) (raise : Raise) (result : Result (Unit {0}) RefillFault) (new : EndpointValue D) : Type 0 where
   pub reserves : Reserves disk_of old result new
   pub done : OnOk result (standing_in new.store ≡ standing_with_raise (standing_in old.store) raise)

@@ -45,7 +45,7 @@ no_logs = record { used = []; given = [] }
 -- ---- a moment
 
 -- The edition of the program; next packet numbers of transmit associations by their numbers, numbers of receive associations by
--- SCI and number; the command whose work on the disk began and did not end, which after a device fault stays; the submitted commands that
+-- SCI and number; the command whose call or whose work on the disk began and did not end, which after a device fault stays; the submitted commands that
 -- wait, the one in hand first where it is one of them; and how many tickets were given
 pub record State : Type 0 where
   pub edition : Edition

@@ -21,7 +21,7 @@ use Rattle.macs_endpoint.specs.State.{Logs, State, rx_side_with, tx_side_with}
 use Rattle.macs_endpoint.specs.declared.queue.Waiting.{Waiting}
 use Rattle.macs_endpoint.specs.declared.turn.Turn.{Turn}
 
--- What an endpoint keeps: its store, its channels, the command whose work on the disk began and did not end, the ceiling whose work did, the
+-- What an endpoint keeps: its store, its channels, the command whose call or whose work on the disk began and did not end, the ceiling whose work did, the
 -- commands that wait, how many tickets were given, and whose turn it is where a ceiling is needed and a command waits
 pub record EndpointValue (D : Type 0) : Type 0 where
   pub store : StoreValue D

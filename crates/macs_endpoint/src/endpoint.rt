@@ -9,7 +9,7 @@ ghost use Rattle.macs_store.specs.Value.{IsIdle, standing_in};
 ghost use Rattle.macs_endpoint.specs.Calls.{IsCall};
 ghost use Rattle.macs_endpoint.specs.Opening.{Begins, IsOpening};
 ghost use Rattle.macs_endpoint.specs.Keeping.{KeepsCommand};
-ghost use Rattle.macs_endpoint.specs.Told.{raise_of};
+ghost use Rattle.macs_endpoint.specs.Parts.{endpoint_of};
 ghost use Rattle.macs_endpoint.specs.Value.{EndpointValue, IsSoundEndpoint, device_in, is_stopped, state_of};
 ghost use Rattle.macs_endpoint.specs.State.{Protects, Protected, Received, Receives, no_logs};
 
@@ -46,9 +46,9 @@ pub struct Endpoint<D: SectorDisk> {
 impl<D: SectorDisk> Model for Endpoint<D> {
     ghost Value = { EndpointValue D };
 
-    ghost view = { λ e. record { store = e.store; tx = e.channels.tx; rx = e.channels.rx; in_hand = e.in_hand; reserving = option_map raise_of e.reserving; waiting = e.queue.waiting; tickets = e.queue.given; turn = e.turn } };
+    ghost view = { λ e. endpoint_of e.store e.channels e.in_hand e.reserving e.queue e.turn };
 
-    ghost invariant = { λ e. IsSoundEndpoint (record { store = e.store; tx = e.channels.tx; rx = e.channels.rx; in_hand = e.in_hand; reserving = option_map raise_of e.reserving; waiting = e.queue.waiting; tickets = e.queue.given; turn = e.turn }) };
+    ghost invariant = { λ e. IsSoundEndpoint (endpoint_of e.store e.channels e.in_hand e.reserving e.queue e.turn) };
 }
 
 impl<D: SectorDisk> Endpoint<D> {
@@ -87,9 +87,10 @@ impl<D: SectorDisk> Endpoint<D> {
 
     /// Keeps a command and follows it. A reservation that is in hand is finished first, and no other begins. Refused
     /// as `Stopped`, then as `Busy` where a submitted command waits: nothing changes. Then as `Refused` with the first
-    /// refusal that holds: nothing changes but whose turn it is. Then as `GenerationsSpent`: nothing changes but that, and
-    /// by the reservation in hand, which was finished. `Disk` at the first device call that fails: the endpoint is stopped, and the next opening
-    /// finds it with the command or without.
+    /// refusal that holds: nothing changes but whose turn it is. Then as `GenerationsSpent`, where all 256 slots are used
+    /// and the generation is 2^64 - 1: nothing changes but whose turn it is, and the ceiling of a reservation that was in
+    /// hand. `Disk` at the first device call that fails: the endpoint is stopped, and the next opening finds it with the
+    /// command or without.
     pub fn command(&mut self, command: Command) -> Result<(), CommandFault>
         ensures { KeepsCommand D.disk self.old command result self.new }
     {
@@ -170,8 +171,9 @@ impl<D: SectorDisk> Endpoint<D> {
     }
 
     /// The verdict on a frame from the common side, of any number of octets. What is delivered is
-    /// written to `out`, which is empty unless the verdict is `Delivered`. No device call is made. On
-    /// `HeldBack` call `refill`, or `step` until it is settled, and hand the same frame in again.
+    /// written to `out`, which is empty unless the verdict is `Delivered`. Refused as `Stopped` where a device call
+    /// failed before; then `out` is empty. No device call is made. On `HeldBack` call `refill`, or `step` until it is
+    /// settled, and hand the same frame in again.
     pub fn receive(&mut self, frame: &[u8], out: &mut FrameBuf) -> Result<Verdict, Stopped>
         ensures call { IsCall D.disk self.old (Receives frame.now) (Received result out.new.items) self.new }
         ensures store { self.new.store ≡ self.old.store }

@@ -34,7 +34,8 @@ impl<D: SectorDisk> Endpoint<D> {
     /// Finishes a reservation that is in hand, and then makes every reservation of packet numbers that is needed: that
     /// of the transmit association that frames go out under, then those of receive associations by ascending SCI and
     /// number. Refused as `Stopped`, then as `Busy` where a submitted command waits; these change nothing. Then as
-    /// `GenerationsSpent`, and as `Disk` at the first device call that fails. What was reserved before a fault stays.
+    /// `GenerationsSpent`, where a ceiling is needed, all 256 slots are used and the generation is 2^64 - 1; and as `Disk`
+    /// at the first device call that fails. What was reserved before a fault stays.
     /// A reservation takes one slot of the journal and four device calls at most, and a compaction more where all slots
     /// are used.
     pub fn refill(&mut self) -> Result<(), RefillFault>

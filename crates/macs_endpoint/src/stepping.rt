@@ -32,8 +32,8 @@ pub enum Piece {
 
 impl<D: SectorDisk> Endpoint<D> {
     /// Takes a command that is to be kept when its turn comes, and answers the ticket by which `step` tells what
-    /// became of it. Whether it fits the configuration is judged then. Refused as `Stopped`, then as `QueueFull`,
-    /// then as `TicketsSpent`; these change nothing. No device call is made.
+    /// became of it. Whether it fits the configuration is judged then. Refused as `Stopped`, then as `QueueFull` where 16
+    /// commands wait, then as `TicketsSpent` where 2^64 - 1 tickets were given; these change nothing. No device call is made.
     pub fn submit(&mut self, command: Command) -> Result<Ticket, SubmitFault>
         ensures call { IsCall D.disk self.old (Submits command) (Submitted result) self.new }
     {

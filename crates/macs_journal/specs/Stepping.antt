@@ -134,7 +134,7 @@ pub record Advances {D : Type 0} (disk_of : D → disk.Disk) (old : JournalValue
   pub next : OnOk result (IsHonest (disk_in disk_of new) → (before after : Content) → HoldsWith (disk_in disk_of old) old.place old.hand snapshot before after
       → ComesTo (disk_in disk_of new) new.place new.hand before after)
 
--- A step of a journal: one device call of the work in hand. Stopped exactly where a device call failed before, and Idle exactly where
+-- A step of a journal: one device call of the work in hand. Stopped exactly where a device call failed before, else Idle exactly where
 -- nothing is in hand: then no call is made and nothing changes. Disk exactly where the call failed, which stops the journal and leaves
 -- nothing in hand. Else the work goes on, the same before and after, or is finished: then the content is the one after it. What is said of
 -- contents is said where the work in hand makes the one of the other with the records that are lent.

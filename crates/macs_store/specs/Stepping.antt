@@ -77,7 +77,7 @@ abbrev pub IsAppending : Hand → Type 0
 IsAppending (Appending r) = Unit {0}
 IsAppending other = ⊥
 
--- A step of a store: one device call of the work in hand. Stopped exactly where a device call failed before, and Idle exactly where nothing
+-- A step of a store: one device call of the work in hand. Stopped exactly where a device call failed before, else Idle exactly where nothing
 -- is in hand: then no call is made and nothing changes. Disk exactly where the call failed, which stops the store and leaves nothing in hand.
 -- Else the work goes on, or is finished: what stands changes then, and at no other time. At each moment a power loss leaves what stood, or
 -- what stands once the work is done; and once it is finished, only what stands then.

@@ -1,11 +1,10 @@
 use Rattle.std.proofs.Common.{◌≡◌, ◌∙◌, [], false, Err, sym, ap, subst}
-use Rattle.std.specs.Option.{option_map}
 use Rattle.macs_config.specs.Apply.{apply}
 use Rattle.macs_config.specs.Config.{this_edition}
 use Rattle.macs_config.specs.Value.{config_of}
 use Rattle.macs_store.specs.Value.{standing_in}
 use Rattle.macs_endpoint.specs.Keeping.{KeepsCommand}
-use Rattle.macs_endpoint.specs.Told.{raise_of}
+use Rattle.macs_endpoint.specs.Parts.{endpoint_of}
 use Rattle.macs_endpoint.specs.Value.{EndpointValue, is_stopped}
 use Rattle.macs_endpoint.specs.declared.fault.CommandFault.TheVariants.{Refused}
 use Rattle.macs_endpoint.specs.declared.turn.Turn.TheVariants.{Reservation}
@@ -26,16 +25,7 @@ returns-then-not-is_empty g c =
 pub returns-in-Err : goal.returns-in-Err
 returns-in-Err g c =
     let d = g.D.SectorDisk.disk in
-    let old : EndpointValue g.row.D.Denot = record {
-      store = c.self.inside.store;
-      tx = c.self.inside.channels.tx;
-      rx = c.self.inside.channels.rx;
-      in_hand = c.self.inside.in_hand;
-      reserving = option_map raise_of c.self.inside.reserving;
-      waiting = c.self.inside.queue.waiting;
-      tickets = c.self.inside.queue.given;
-      turn = c.self.inside.turn;
-    } in
+    let old : EndpointValue g.row.D.Denot = endpoint_of c.self.inside.store c.self.inside.channels c.self.inside.in_hand c.self.inside.reserving c.self.inside.queue c.self.inside.turn in
     let refusal = c.in-Err.refusal in
     let running : is_stopped old ≡ false =
     ap (λ (e : EndpointValue g.row.D.Denot). is_stopped e) c.self.view_is ∙ sym c.is_stopped.ensures ∙ c.if-is_stopped.false in

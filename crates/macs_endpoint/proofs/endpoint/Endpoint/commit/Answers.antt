@@ -1,11 +1,10 @@
 use Rattle.std.proofs.Common.{◌≡◌, ◌∙◌, [], false, Result, Ok, Err, IsOk, sym, ap, subst}
-use Rattle.std.specs.Option.{option_map}
 use Rattle.macs_store.specs.Keeps.{Commits}
 use Rattle.macs_store.specs.Standing.{accept}
 use Rattle.macs_store.specs.Value.{IsIdle, standing_in}
 use Rattle.macs_store.specs.declared.fault.CommitFault.{CommitFault}
 use Rattle.macs_store.specs.declared.fault.CommitFault.TheVariants as commit
-use Rattle.macs_endpoint.specs.Told.{raise_of}
+use Rattle.macs_endpoint.specs.Parts.{endpoint_of}
 use Rattle.macs_endpoint.specs.Value.{EndpointValue, is_stopped}
 use Rattle.macs_endpoint.proofs.Commanding.{cut-command, done-command, done-kept, spent-command, spent_only}
 use Rattle.macs_endpoint.proofs.endpoint.Endpoint.commit.Given.{Over}
@@ -14,16 +13,7 @@ use Rattle.macs_endpoint.proofs.endpoint.Endpoint.commit.Goals as goal
 
 module _ (g : Over) (c : After-commit g) where
   abbrev old : EndpointValue g.row.D.Denot
-  old = record {
-    store = c.self.inside.store;
-    tx = c.self.inside.channels.tx;
-    rx = c.self.inside.channels.rx;
-    in_hand = c.self.inside.in_hand;
-    reserving = option_map raise_of c.self.inside.reserving;
-    waiting = c.self.inside.queue.waiting;
-    tickets = c.self.inside.queue.given;
-    turn = c.self.inside.turn;
-  }
+  old = endpoint_of c.self.inside.store c.self.inside.channels c.self.inside.in_hand c.self.inside.reserving c.self.inside.queue c.self.inside.turn
 
   running : is_stopped old ≡ false
   running = rw (← c.self.view_is) at c.requires.running

@@ -5,6 +5,7 @@ use Rattle.macs_journal.specs.declared.fault.JournalFault.{JournalFault}
 use Rattle.macs_store.specs.Stepping.{Finishes}
 use Rattle.macs_store.specs.Value.{standing_in}
 use Rattle.macs_endpoint.specs.Faults.{refill_fault_of}
+use Rattle.macs_endpoint.specs.Parts.{endpoint_of}
 use Rattle.macs_endpoint.specs.Reserving.{ReservationEnds}
 use Rattle.macs_endpoint.specs.Told.{raise_of}
 use Rattle.macs_endpoint.specs.Value.{EndpointValue, IsAtRest, IsReserving, IsSoundEndpoint, is_stopped}
@@ -16,16 +17,7 @@ use Rattle.macs_endpoint.proofs.endpoint.Endpoint.finish_reservation.Goals as go
 
 module _ (g : Over) (c : After-take g) where
   abbrev old : EndpointValue g.row.D.Denot
-  old = record {
-    store = c.self.inside.store;
-    tx = c.self.inside.channels.tx;
-    rx = c.self.inside.channels.rx;
-    in_hand = c.self.inside.in_hand;
-    reserving = option_map raise_of c.self.inside.reserving;
-    waiting = c.self.inside.queue.waiting;
-    tickets = c.self.inside.queue.given;
-    turn = c.self.inside.turn;
-  }
+  old = endpoint_of c.self.inside.store c.self.inside.channels c.self.inside.in_hand c.self.inside.reserving c.self.inside.queue c.self.inside.turn
 
   running : is_stopped old ≡ false
   running = rw (← c.self.view_is) at c.requires.running
@@ -44,16 +36,7 @@ returns-in_default g c =
 
 module _ (g : Over) (c : After-finish g) where
   abbrev before : EndpointValue g.row.D.Denot
-  before = record {
-    store = c.self.inside.store;
-    tx = c.self.inside.channels.tx;
-    rx = c.self.inside.channels.rx;
-    in_hand = c.self.inside.in_hand;
-    reserving = option_map raise_of c.self.inside.reserving;
-    waiting = c.self.inside.queue.waiting;
-    tickets = c.self.inside.queue.given;
-    turn = c.self.inside.turn;
-  }
+  before = endpoint_of c.self.inside.store c.self.inside.channels c.self.inside.in_hand c.self.inside.reserving c.self.inside.queue c.self.inside.turn
 
   runs : is_stopped before ≡ false
   runs = rw (← c.self.view_is) at c.requires.running

@@ -1,5 +1,4 @@
 use Rattle.std.proofs.Common.{◌≡◌, ◌≤◌, ◌∙◌, ℕ, length, arith, inr, List, None, Result, Ok, Err, sym, ap, subst}
-use Rattle.std.specs.Option.{option_map}
 use Rattle.macs_journal.specs.declared.fault.JournalFault.{JournalFault}
 use Rattle.macs_journal.specs.declared.fault.JournalFault.TheVariants as fault
 use Rattle.macs_journal.specs.declared.work.JournalStep.{JournalStep}
@@ -7,8 +6,8 @@ use Rattle.macs_journal.specs.declared.work.JournalStep.TheVariants.{Finished, G
 use Rattle.macs_store.specs.Stepping.{Steps}
 use Rattle.macs_store.specs.Value.{standing_in}
 use Rattle.macs_endpoint.specs.Calls.{IsCall}
+use Rattle.macs_endpoint.specs.Parts.{endpoint_of}
 use Rattle.macs_endpoint.specs.State.{Advanced, Advances}
-use Rattle.macs_endpoint.specs.Told.{raise_of}
 use Rattle.macs_endpoint.specs.Value.{EndpointValue, IsKeeping, IsSoundEndpoint}
 use Rattle.macs_endpoint.specs.declared.progress.Step.TheVariants.{Done}
 use Rattle.macs_endpoint.specs.declared.queue.Waiting.{Waiting}
@@ -20,16 +19,7 @@ use Rattle.macs_endpoint.proofs.endpoint.Endpoint.go_on_keeping.Goals as goal
 
 module _ (g : Over) (c : After-step g) where
   abbrev old : EndpointValue g.row.D.Denot
-  old = record {
-    store = c.self.inside.store;
-    tx = c.self.inside.channels.tx;
-    rx = c.self.inside.channels.rx;
-    in_hand = c.self.inside.in_hand;
-    reserving = option_map raise_of c.self.inside.reserving;
-    waiting = c.self.inside.queue.waiting;
-    tickets = c.self.inside.queue.given;
-    turn = c.self.inside.turn;
-  }
+  old = endpoint_of c.self.inside.store c.self.inside.channels c.self.inside.in_hand c.self.inside.reserving c.self.inside.queue c.self.inside.turn
 
   work : IsKeeping old
   work = rw (← c.self.view_is) at c.requires

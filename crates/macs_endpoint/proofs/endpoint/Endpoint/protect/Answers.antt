@@ -1,8 +1,7 @@
 use Rattle.std.proofs.Common.{◌≡◌, false, sym, ◌∙◌, ap, subst}
 use Rattle.macs_txsc.specs.Value as txsc
-use Rattle.std.specs.Option.{option_map}
 use Rattle.macs_endpoint.specs.Calls.{IsCall}
-use Rattle.macs_endpoint.specs.Told.{raise_of}
+use Rattle.macs_endpoint.specs.Parts.{endpoint_of}
 use Rattle.macs_endpoint.specs.Value.{EndpointValue, is_stopped}
 use Rattle.macs_endpoint.specs.State.{Protects, Protected}
 use Rattle.macs_endpoint.proofs.Framing.{Sends, answered, protect-stopped, protected-call, protected-kept, with_tx}
@@ -18,16 +17,7 @@ returns-then-is_stopped-clause-call g c =
 
 module _ (g : Over) (c : After-protect g) where
   abbrev old : EndpointValue g.row.D.Denot
-  old = record {
-    store = c.self.inside.store;
-    tx = c.self.inside.channels.tx;
-    rx = c.self.inside.channels.rx;
-    in_hand = c.self.inside.in_hand;
-    reserving = option_map raise_of c.self.inside.reserving;
-    waiting = c.self.inside.queue.waiting;
-    tickets = c.self.inside.queue.given;
-    turn = c.self.inside.turn;
-  }
+  old = endpoint_of c.self.inside.store c.self.inside.channels c.self.inside.in_hand c.self.inside.reserving c.self.inside.queue c.self.inside.turn
 
   sends : Sends (txsc.tx_side_of old.tx) (txsc.tx_side_of c.protect.new.self) (txsc.ceilings_of old.tx) c.args.plain.now c.protect.result
       c.protect.new.out.items

@@ -1,7 +1,6 @@
 use Rattle.std.proofs.Common.{◌≡◌, false, Ok, sym, ◌∙◌, ap, subst}
-use Rattle.std.specs.Option.{option_map}
 use Rattle.macs_endpoint.specs.Calls.{IsCall}
-use Rattle.macs_endpoint.specs.Told.{raise_of}
+use Rattle.macs_endpoint.specs.Parts.{endpoint_of}
 use Rattle.macs_endpoint.specs.Value.{EndpointValue, is_stopped}
 use Rattle.macs_endpoint.specs.State.{Received, Receives}
 use Rattle.macs_endpoint.proofs.Framing.{receive-stopped, received-call, received-kept, with_rx}
@@ -16,16 +15,7 @@ returns-then-is_stopped-clause-call g c =
 
 module _ (g : Over) (c : After-receive g) where
   abbrev old : EndpointValue g.row.D.Denot
-  old = record {
-    store = c.self.inside.store;
-    tx = c.self.inside.channels.tx;
-    rx = c.self.inside.channels.rx;
-    in_hand = c.self.inside.in_hand;
-    reserving = option_map raise_of c.self.inside.reserving;
-    waiting = c.self.inside.queue.waiting;
-    tickets = c.self.inside.queue.given;
-    turn = c.self.inside.turn;
-  }
+  old = endpoint_of c.self.inside.store c.self.inside.channels c.self.inside.in_hand c.self.inside.reserving c.self.inside.queue c.self.inside.turn
 
 pub invariant_of-self : goal.invariant_of-self
 invariant_of-self g c =

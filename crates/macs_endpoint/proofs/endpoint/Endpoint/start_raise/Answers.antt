@@ -1,10 +1,10 @@
 use Rattle.std.proofs.Common.{◌≡◌, false, Some, Result, Ok, refl, sym, subst}
-use Rattle.std.specs.Option.{option_map}
 use Rattle.macs_journal.specs.declared.fault.JournalFault.{JournalFault}
 use Rattle.macs_store.specs.Stepping.{HasInHand, Starts}
 use Rattle.macs_store.specs.Value.{IsIdle, standing_in}
 use Rattle.macs_endpoint.specs.Ceilings.{standing_with_raise}
 use Rattle.macs_endpoint.specs.Needed.{raise_in}
+use Rattle.macs_endpoint.specs.Parts.{endpoint_of}
 use Rattle.macs_endpoint.specs.State.{no_logs, rx_side, tx_side}
 use Rattle.macs_endpoint.specs.Told.{raise_of}
 use Rattle.macs_endpoint.specs.Value.{EndpointValue, is_stopped, state_of}
@@ -16,16 +16,7 @@ use Rattle.macs_endpoint.proofs.endpoint.Endpoint.start_raise.Goals as goal
 
 module _ (g : Over) (c : After-self g) where
   abbrev old : EndpointValue g.row.D.Denot
-  old = record {
-    store = c.self.inside.store;
-    tx = c.self.inside.channels.tx;
-    rx = c.self.inside.channels.rx;
-    in_hand = c.self.inside.in_hand;
-    reserving = option_map raise_of c.self.inside.reserving;
-    waiting = c.self.inside.queue.waiting;
-    tickets = c.self.inside.queue.given;
-    turn = c.self.inside.turn;
-  }
+  old = endpoint_of c.self.inside.store c.self.inside.channels c.self.inside.in_hand c.self.inside.reserving c.self.inside.queue c.self.inside.turn
 
   running : is_stopped old ≡ false
   running = rw (← c.self.view_is) at c.requires.running

@@ -1,0 +1,24 @@
+-- An endpoint in memory, by the fields of its program.
+use Rattle.std.specs.Prelude.{Option}
+use Rattle.std.specs.Option.{option_map}
+use Rattle.macs_config.specs.declared.command.Command.{Command}
+use Rattle.macs_store.specs.Value.{StoreValue}
+use Rattle.macs_endpoint.specs.Queue.{QueueValue}
+use Rattle.macs_endpoint.specs.Told.{raise_of}
+use Rattle.macs_endpoint.specs.Value.{EndpointValue}
+use Rattle.macs_endpoint.specs.declared.channels.Channels.{Channels}
+use Rattle.macs_endpoint.specs.declared.refilling.Raise.{Raise}
+use Rattle.macs_endpoint.specs.declared.turn.Turn.{Turn}
+
+-- what an endpoint keeps that is made of these parts
+abbrev pub endpoint_of : {D : Type 0} → StoreValue D → Channels → Option Command → Option Raise → QueueValue → Turn → EndpointValue D
+endpoint_of store channels in_hand reserving queue turn = record {
+  store = store;
+  tx = channels.tx;
+  rx = channels.rx;
+  in_hand = in_hand;
+  reserving = option_map raise_of reserving;
+  waiting = queue.waiting;
+  tickets = queue.given;
+  turn = turn;
+}
