@@ -30,7 +30,8 @@ impl From<AllocError> for MemFault {
 }
 
 /// A disk in memory. It keeps a record of its writes and syncs since it was made or since its last
-/// power loss, so that its state at each moment is known.
+/// power loss, so that its state at each moment is known. A call of the device fails where the record cannot
+/// grow, which a read does not ask for, and where the disk is worn.
 #[derive(Drop)]
 pub struct MemDisk<A: Allocator = Global> {
     calls: CallRecord<A>,

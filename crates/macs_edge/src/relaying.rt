@@ -170,8 +170,8 @@ fn summed(to_common: &Lane, to_controlled: &Lane) -> RelaySummary
 ///
 /// Ends with the first turn whose step is refused, with the fault of the same name: the frames of that turn
 /// were handed in by then, and those that passed were sent. What a step tells of submitted commands is not
-/// kept. No call waits: where no frame comes a turn is soon over. Memory is taken for three frames and for
-/// nothing else.
+/// kept. No call waits: where no frame comes a turn is soon over. No memory of an allocator is taken: three
+/// frames stand in arrays.
 pub fn relay<D: SectorDisk, P: Wire, C: Wire>(
     endpoint: &mut Endpoint<D>,
     controlled: &mut P,
