@@ -5,7 +5,7 @@ ghost use Rattle.macs_edge.specs.Wires.{FillsBuffer, longest_frame};
 
 use crate::wire::{Got, Wire, WireFault};
 use macs_frame::{FrameBuf, MAX_FRAME};
-use std::alloc::{AllocError, Global};
+use std::alloc::{AllocError, Allocator};
 use std::io::ErrorKind;
 use std::net::{Net, SocketAddr, UdpSocket};
 
@@ -26,16 +26,16 @@ pub enum BindFault {
 /// is dropped and answered as `Nothing`. What a network delivers, and when, is not known: it tells its
 /// failures and no frames.
 #[derive(Drop)]
-pub struct UdpWire {
+pub struct UdpWire<A: Allocator> {
     socket: UdpSocket,
     peer: SocketAddr,
-    room: Vec<u8>,
+    room: Vec<u8, A>,
     failed_receives: u64,
     failed_sends: u64,
 }
 
 /// Room for the next datagram.
-fn room(alloc: Global) -> Result<Vec<u8>, AllocError> {
+fn room<A: Allocator>(alloc: A) -> Result<Vec<u8, A>, AllocError> {
     vec![in alloc; 0; ROOM]
 }
 
@@ -58,7 +58,7 @@ fn given(datagram: &[u8], from: SocketAddr, peer: SocketAddr, into: &mut FrameBu
     }
 }
 
-impl UdpWire {
+impl<A: Allocator> UdpWire<A> {
     ghost use Rattle.std.specs.Prelude.{◌≡◌, None, IfErr, IfOk};
     ghost use Rattle.macs_edge.specs.UdpWires.{peer_of};
     ghost use Rattle.macs_edge.specs.Wires.{FillsBuffer};
@@ -67,11 +67,11 @@ impl UdpWire {
     /// `Bind`. Memory is taken here and at no other call.
     pub fn bind<R: Net>(
         net: &R,
-        alloc: Global,
+        alloc: A,
         own: SocketAddr,
         peer: SocketAddr,
-    ) -> Result<UdpWire, BindFault>
-        ensures state { IfOk result (λ wire. ⟦<UdpWire as Wire>⟧.state wire
+    ) -> Result<UdpWire<A>, BindFault>
+        ensures state { IfOk result (λ wire. ⟦<UdpWire<A> as Wire>⟧.state wire
             ≡ record { waiting = None; sent = None; failed_receives = 0; failed_sends = 0 }) }
         ensures peer { IfOk result (λ wire. peer_of wire ≡ peer) }
     {
@@ -95,7 +95,7 @@ impl UdpWire {
 
     /// The next datagram of the peer, where there is one.
     fn take(&mut self, into: &mut FrameBuf) -> Result<Got, WireFault>
-        ensures same { ⟦<UdpWire as Wire>⟧.state self.new ≡ ⟦<UdpWire as Wire>⟧.state self.old }
+        ensures same { ⟦<UdpWire<A> as Wire>⟧.state self.new ≡ ⟦<UdpWire<A> as Wire>⟧.state self.old }
         ensures peer { peer_of self.new ≡ peer_of self.old }
         ensures fills { FillsBuffer result into.new.items }
         ensures fault { IfErr result (λ fault. fault ≡ WireFault.Receive) }
@@ -109,7 +109,7 @@ impl UdpWire {
     }
 }
 
-impl Wire for UdpWire {
+impl<A: Allocator> Wire for UdpWire<A> {
     ghost state = { λ wire. record {
       waiting = None;
       sent = None;

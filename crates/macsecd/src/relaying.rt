@@ -34,8 +34,8 @@ fn relay_line(summary: RelaySummary) -> Line
 }
 
 /// A wire that is bound.
-pub fn bind<N: Net>(net: &N, alloc: Global, wire: WireAddresses) -> Result<UdpWire, Failure>
-    ensures fresh { IfOk result (λ bound. ⟦<UdpWire as Wire>⟧.state bound ≡ new_wire) }
+pub fn bind<N: Net>(net: &N, alloc: Global, wire: WireAddresses) -> Result<UdpWire<Global>, Failure>
+    ensures fresh { IfOk result (λ bound. ⟦<UdpWire<Global> as Wire>⟧.state bound ≡ new_wire) }
     ensures peer { IfOk result (λ bound. peer_of bound ≡ wire.peer) }
     ensures failed { IfErr result (λ failure. (failure ≡ Failure.Memory) ⊎ (failure ≡ Failure.Wire)) }
 {

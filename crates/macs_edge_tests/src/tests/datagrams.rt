@@ -1,6 +1,7 @@
 //! The wire over UDP, on loopback, with a socket of the test's own at its other end.
 
 use super::wires::{FRAMES, filled, is_filled, receive, send};
+use linked_list_allocator::LocalHeap;
 use macs_edge::{BindFault, Got, UdpWire, WireFault};
 use macs_frame::FrameBuf;
 use std::alloc::Global;
@@ -10,7 +11,7 @@ use std::process::Abort;
 /// A wire, where it is bound, and the socket of its peer, which does not wait.
 #[derive(Drop)]
 struct Ends {
-    wire: UdpWire,
+    wire: UdpWire<Global>,
     at: SocketAddr,
     peer: UdpSocket,
 }
@@ -47,7 +48,7 @@ fn arrived(
 }
 
 /// Asks a wire at most 1,000 times.
-fn got(wire: &mut UdpWire, into: &mut FrameBuf) -> Result<Got, WireFault> {
+fn got(wire: &mut UdpWire<Global>, into: &mut FrameBuf) -> Result<Got, WireFault> {
     for _ in 0..1_000_u32 {
         let answer = receive(wire, into);
         if answer != Ok(Got::Nothing) {
@@ -161,4 +162,43 @@ fn an_address_is_bound_once(rt: HostRuntime) {
     };
     let again = UdpWire::bind(&rt, rt.alloc(), line.at, loopback());
     assert!(rt; matches!(again, Err(BindFault::Bind)));
+}
+
+/// Binds a wire in this heap and sends a frame from it. Why there is no wire, where there is none.
+fn refused(
+    rt: &(impl Abort + Net),
+    heap: &LocalHeap,
+    own: SocketAddr,
+    peer: SocketAddr,
+) -> Option<BindFault> {
+    match UdpWire::bind(rt, heap, own, peer) {
+        Ok(mut wire) => {
+            assert!(rt; send(&mut wire, &[8; 60]) == Ok(()));
+            None
+        }
+        Err(fault) => Some(fault),
+    }
+}
+
+/// Heaps with room for less than the longest frame and one octet, and one that suffices, each for a free
+/// address and for one that is bound: want of memory comes first.
+#[test]
+fn a_bind_without_memory_is_refused(rt: HostRuntime) {
+    let Some(line) = line(&rt, rt.alloc(), loopback()) else {
+        panic!(rt; "no line");
+    };
+    let mut room = [0; 64];
+    for (octets, free, bound) in [
+        (4_096, Some(BindFault::Memory), Some(BindFault::Memory)),
+        (9_216, Some(BindFault::Memory), Some(BindFault::Memory)),
+        (16_384, None, Some(BindFault::Bind)),
+    ] {
+        let Ok(heap) = LocalHeap::new(rt.alloc(), octets) else {
+            panic!(rt; "no heap of {octets} octets");
+        };
+        let peer = line.peer.local_addr().expect(&rt, "the address of the peer");
+        assert!(rt; refused(&rt, &heap, line.at, peer) == bound, "{octets} octets");
+        assert!(rt; refused(&rt, &heap, loopback(), peer) == free, "{octets} octets");
+    }
+    arrived(&rt, &line.peer, &mut room, 60, 8);
 }
