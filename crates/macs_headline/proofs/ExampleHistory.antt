@@ -138,8 +138,8 @@ receiving_steps = (
   ),
 )
 
--- The window is about to be widened, with a frame between.
-widening_steps : Steps s13 (part 21 4) first_end
+-- The window is about to be widened, up to its gate, with a frame between.
+widening_steps : Steps s13 (part 21 5) first_end
 widening_steps = (
   s14,
   inr (refl, (omega arith, omega arith, refl, refl)),
@@ -152,7 +152,11 @@ widening_steps = (
       (
         first_end,
         inr (refl, inl refl),
-        refl,
+        (
+          first_end,
+          inr (refl, inl refl),
+          refl,
+        ),
       ),
     ),
   ),
@@ -238,8 +242,8 @@ reserving_range = (tt, (plain_range, (tt, (plain_range, (tt, (plain_range, (tt, 
 adding_range : AreInRange (part 11 6)
 adding_range = (peer-range, (tt, (plain_range, (tt, (tt, (tt, tt))))))
 
-widening_range : AreInRange (part 21 4)
-widening_range = (omega arith, (tt, (plain_range, (tt, tt))))
+widening_range : AreInRange (part 21 5)
+widening_range = (omega arith, (tt, (plain_range, (tt, (tt, tt)))))
 
 module _ (peer : All (λ octet. octet < 2 ^ 8) (peer_frame 5)) where
   receiving_range : AreInRange (part 17 4)

@@ -20,6 +20,7 @@ pub mod Formats
 pub mod Living
 pub mod Chains
 pub mod Moments
+pub mod RefusedDays
 pub mod Built
 pub mod BuiltAnew
 pub mod ExampleRecords

@@ -1,51 +1,61 @@
 -- A day of an endpoint.
-use Rattle.std.specs.Prelude.{ℕ, Bool, List, [], ◌∷◌, None, Result}
+use Rattle.std.specs.Prelude.{◌≡◌, ℕ, is_ok, List, [], ◌∷◌, map, None, Result}
 use Rattle.macs_config.specs.Config.{this_edition}
 use Rattle.macs_config.specs.Identity.{Identity}
 use Rattle.macs_config.specs.declared.command.Command.{Command}
-use Rattle.macs_disk.specs.Disk.{Disk}
-use Rattle.macs_disk.specs.States.{Image}
-use Rattle.macs_endpoint.specs.State.{Advanced, Advances, Commands, Protects, Protected, Ran, Submits, Submitted}
+use Rattle.macs_disk.specs.Disk.{Disk, now}
+use Rattle.macs_journal.specs.declared.fault.JournalFault.{JournalFault}
+use Rattle.macs_journal.specs.declared.recovery.RecoverRefused.{RecoverRefused}
+use Rattle.macs_endpoint.specs.Lives.{Transition, exchange_of}
+use Rattle.macs_endpoint.specs.State.{Advanced, Advances, Call, Commands, Protects, Protected, Ran, Reply, Submits, Submitted}
 use Rattle.macs_endpoint.specs.Step.{Exchange}
-use Rattle.macs_endpoint.specs.declared.fault.CommandFault.{CommandFault}
-use Rattle.macs_endpoint.specs.declared.fault.ProtectFault.{ProtectFault}
-use Rattle.macs_endpoint.specs.declared.fault.StepFault.{StepFault}
-use Rattle.macs_endpoint.specs.declared.fault.SubmitFault.{SubmitFault}
-use Rattle.macs_endpoint.specs.declared.progress.Step.{Step as Progress}
+use Rattle.macs_endpoint.specs.Value.{EndpointValue}
 use Rattle.macs_headline.specs.Binding.{HasHistory}
-use Rattle.macs_headline.specs.History.{Formats, Serves}
+use Rattle.macs_headline.specs.Deeds.{Chain, Deed, Formatting, Link, Living, Refusing}
+use Rattle.macs_headline.specs.History.{Formats, Refuses, Serves}
+use Rattle.macs_headline.specs.declared.day.Day.{Day}
 
--- a command with its answer
-abbrev pub command_exchange : Command → Result (Unit {0}) CommandFault → Exchange
-command_exchange command answer = record { call = Commands command; reply = Ran answer }
+-- a call with its answer
+abbrev pub exchange_with : Call → Reply → Exchange
+exchange_with call reply = record { call = call; reply = reply }
 
--- a command that is to wait, with its ticket
-abbrev pub submit_exchange : Command → Result ℕ SubmitFault → Exchange
-submit_exchange command answer = record { call = Submits command; reply = Submitted answer }
+-- The calls of a day, with what they answered: for a command, for one that waits, and for a plain frame between two steps, with what stands in
+-- `out` then
+abbrev pub exchanges_of_day : {D : Type 0} → (install select : Command) → (plain out : List ℕ) → Day D → List Exchange
+exchanges_of_day install select plain out day =
+    exchange_with (Commands install) (Ran day.installed)
+    ∷ exchange_with (Submits select) (Submitted day.submitted)
+    ∷ exchange_with Advances (Advanced day.begun)
+    ∷ exchange_with (Protects plain) (Protected day.sent out)
+    ∷ exchange_with Advances (Advanced day.went_on)
+    ∷ []
 
--- a step, with what it came to
-abbrev pub step_exchange : Result Progress StepFault → Exchange
-step_exchange answer = record { call = Advances; reply = Advanced answer }
+-- a deed, and the disk after it
+abbrev pub link_of : {D : Type 0} → Deed D → D → Link D
+link_of deed after = record { deed = deed; after = after }
 
--- a plain frame with its answer, and the frame that went out or none
-abbrev pub frame_exchange : (plain : List ℕ) → Result ℕ ProtectFault → (out : List ℕ) → Exchange
-frame_exchange plain sent out = record { call = Protects plain; reply = Protected sent out }
+-- A disk was formatted and opened, and an endpoint, which began with what stood there, answered these calls and gave the disk back: all as their
+-- contracts say. That is the history of the disk.
+pub record IsDay {D : Type 0} (disk_of : D → Disk) (old : D) (identity : Identity) (install select : Command) (plain out : List ℕ) (day : Day D) : Type 0 where
+  pub between : D
+  pub first : EndpointValue D
+  pub turns : List (Transition D)
+  pub last : EndpointValue D
+  pub called : map exchange_of turns ≡ exchanges_of_day install select plain out day
+  pub chain : Chain disk_of old (link_of (Formatting identity day.formatted) between ∷ link_of (Living first turns last None) day.disk ∷ []) day.disk
+  pub history : HasHistory (disk_of day.disk) (
+      Formats this_edition identity (is_ok day.formatted)
+      ∷ Serves this_edition (now (disk_of between)).seen (exchanges_of_day install select plain out day) None
+      ∷ []
+      )
 
--- A disk was formatted and opened, the endpoint was asked for a command and for one that waits, and was given a plain frame between two steps,
--- for which it gave `out`: that is the history of the disk.
-pub record IsDay (identity : Identity) (install select : Command) (plain out : List ℕ) (disk : Disk) : Type 0 where
-  pub formatted : Bool
-  pub image : Image
-  pub installed : Result (Unit {0}) CommandFault
-  pub submitted : Result ℕ SubmitFault
-  pub begun : Result Progress StepFault
-  pub sent : Result ℕ ProtectFault
-  pub went_on : Result Progress StepFault
-  pub history : HasHistory disk (
-      Formats this_edition identity formatted
-      ∷ Serves this_edition image (
-      command_exchange install installed ∷ submit_exchange select submitted
-      ∷ step_exchange begun ∷ frame_exchange plain sent out ∷ step_exchange went_on ∷ []
-      ) None
+-- A disk was formatted, the opening was refused for this fault, and the disk was given back: all as their contracts say. That is its history.
+pub record IsRefusedDay {D : Type 0} (disk_of : D → Disk) (old : D) (identity : Identity) (refused : RecoverRefused D) : Type 0 where
+  pub formatted : Result (Unit {0}) JournalFault
+  pub between : D
+  pub chain : Chain disk_of old (link_of (Formatting identity formatted) between ∷ link_of (Refusing refused.fault) refused.disk ∷ []) refused.disk
+  pub history : HasHistory (disk_of refused.disk) (
+      Formats this_edition identity (is_ok formatted)
+      ∷ Refuses this_edition (now (disk_of between)).seen refused.fault
       ∷ []
       )

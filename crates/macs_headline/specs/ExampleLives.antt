@@ -68,14 +68,15 @@ received verdict out = answered (Receives (peer_frame 5)) (Received (Ok verdict)
 -- ---- the lives
 
 -- Frames go out between the steps of a reservation, until none has a number; and one between the steps of `add_peer`, which waited. A frame of the
--- peer is held back until its number is reserved. Then the power goes between two steps of `widen`.
+-- peer is held back until its number is reserved. Then the power goes between two steps of `widen`: its third device call wrote its gate, which is
+-- pending.
 abbrev pub first_exchanges : List Exchange
 first_exchanges =
     obeyed install_own ∷ obeyed use_own
     ∷ sent 1 ∷ sent 2 ∷ worked ∷ sent 3 ∷ worked ∷ sent 4 ∷ worked ∷ unsent (protect.Tx NoNumber) ∷ reserved
     ∷ submitted 1 add_peer ∷ worked ∷ sent 5 ∷ worked ∷ worked ∷ done 1
     ∷ obeyed install_peer ∷ received HeldBack [] ∷ refilled ∷ received (Delivered AsOk) example_plain
-    ∷ submitted 2 widen ∷ worked ∷ sent 6 ∷ worked
+    ∷ submitted 2 widen ∷ worked ∷ sent 6 ∷ worked ∷ worked
     ∷ []
 
 -- The next frame goes out with number 9; an association in use is not removed; the peer's frame is late; a command is given until the area

@@ -1,17 +1,33 @@
 //! A day of an endpoint, in Rust: it is a history.
 
-ghost use Rattle.std.specs.Prelude.{IfOk};
+ghost use Rattle.std.specs.Prelude.{◌≡◌, ◌<◌, ◌⊎◌, true, IfErr, IfOk};
 ghost use Rattle.macs_headline.specs.Binding.{IsNewDisk};
-ghost use Rattle.macs_headline.specs.Days.{IsDay};
+ghost use Rattle.macs_headline.specs.Days.{IsDay, IsRefusedDay};
 
 use macs_config::{Command, Identity};
 use macs_disk::SectorDisk;
-use macs_endpoint::{Endpoint, OpenRefused, format};
-use macs_frame::FrameBuf;
+use macs_endpoint::{
+    CommandFault, Endpoint, OpenRefused, ProtectFault, Step, StepFault, SubmitFault, Ticket, format,
+};
+use macs_frame::{FrameBuf, Pn};
+use macs_journal::JournalFault;
 
-/// Formats a new disk, opens it, asks for two commands, as that an association is installed and that frames
-/// go out under it, the second by steps, gives a plain frame between two steps, and gives the disk back: that
-/// is its history, whatever the calls answered. A disk that is not opened is given back with its fault.
+/// What the calls of a day answered, and the disk after them.
+#[derive(Drop)]
+pub struct Day<D: SectorDisk> {
+    pub formatted: Result<(), JournalFault>,
+    pub installed: Result<(), CommandFault>,
+    pub submitted: Result<Ticket, SubmitFault>,
+    pub begun: Result<Step, StepFault>,
+    pub sent: Result<Pn, ProtectFault>,
+    pub went_on: Result<Step, StepFault>,
+    pub disk: D,
+}
+
+/// Formats a new disk, opens it, asks for a command and submits another, as that an association is installed
+/// and that frames go out under it, makes a step, gives a plain frame, makes another step, and gives the disk
+/// back with what the calls answered: that is its history. A disk whose opening is refused is given back with
+/// the fault: then a failed device call was counted, or the disk is worn, and that is its history.
 pub fn a_day<D: SectorDisk>(
     mut disk: D,
     identity: &Identity,
@@ -19,21 +35,32 @@ pub fn a_day<D: SectorDisk>(
     select: Command,
     plain: &[u8],
     out: &mut FrameBuf,
-) -> Result<D, OpenRefused<D>>
+) -> Result<Day<D>, OpenRefused<D>>
     requires new { IsNewDisk (D.disk disk) }
-    ensures { IfOk result (λ it. IsDay identity.now install select plain.now out.new.items (D.disk it)) }
+    ensures opened { IfOk result (λ day. IsDay D.disk disk identity.now install select plain.now out.new.items day) }
+    // Refused only where a failed device call was counted, or the disk is worn.
+    ensures failed { IfErr result (λ refused. ((D.disk disk).failures < (D.disk refused.disk).failures) ⊎ ((D.disk refused.disk).worn ≡ true)) }
+    ensures refused { IfErr result (λ refused. IsRefusedDay D.disk disk identity.now refused) }
 {
-    let _formatted = format(&mut disk, identity);
+    let formatted = format(&mut disk, identity);
     let mut endpoint = Endpoint::open(disk)?;
     endpoint.facts();
-    let _installed = endpoint.command(install);
+    let installed = endpoint.command(install);
     endpoint.facts();
-    let _submitted = endpoint.submit(select);
+    let submitted = endpoint.submit(select);
     endpoint.facts();
-    let _begun = endpoint.step();
+    let begun = endpoint.step();
     endpoint.facts();
-    let _sent = endpoint.protect(plain, out);
+    let sent = endpoint.protect(plain, out);
     endpoint.facts();
-    let _went_on = endpoint.step();
-    Ok(endpoint.into_disk())
+    let went_on = endpoint.step();
+    Ok(Day {
+        formatted,
+        installed,
+        submitted,
+        begun,
+        sent,
+        went_on,
+        disk: endpoint.into_disk(),
+    })
 }

@@ -62,8 +62,8 @@ pub fn histories<D: SectorDisk>()
     ensures frames { FramesAreWrittenOnce D.disk }
 {}
 
-/// There are histories, over real images and frames: with power losses in `format`, in a command and in a
-/// compaction, a device's fault, refused openings, and frames of both sides.
+/// There are histories, over real images and frames: with power losses in `format`, between two steps of a
+/// command and in a compaction, a device's fault, refused openings, and frames of both sides.
 pub fn worked_history()
     ensures { IsWorkedHistory }
 {

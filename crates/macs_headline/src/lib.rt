@@ -6,4 +6,4 @@ mod day;
 mod example;
 pub mod laws;
 
-pub use day::a_day;
+pub use day::{Day, a_day};

@@ -1,14 +1,15 @@
 use Rattle.std.proofs.Common.{List, [], ◌∷◌, refl}
-use Rattle.std.specs.Prelude.{None, is_ok}
-use Rattle.macs_disk.specs.Disk.{now}
+use Rattle.std.proofs.lemmas.Result.{err_from_is_err_and}
+use Rattle.std.specs.Prelude.{None}
 use Rattle.macs_endpoint.specs.Lives.{Lives, Transition}
 use Rattle.macs_endpoint.specs.State.{Advanced, Advances, Commands, Protects, Protected, Ran, Submits, Submitted}
-use Rattle.macs_headline.specs.Deeds.{Formatting, Link, Living}
+use Rattle.macs_headline.specs.Deeds.{Chain, Formatting, Link, Living}
 use Rattle.macs_headline.proofs.Chains.{deeds-are-histories}
+use Rattle.macs_headline.proofs.RefusedDays.{day-failed, is-refused-day}
 use Rattle.macs_headline.proofs.day.a_day.Goals as goal
 
-pub returns : goal.returns
-returns g c =
+pub returns-clause-opened : goal.returns-clause-opened
+returns-clause-opened g c =
     let first = c.in_ok-endpoint.endpoint in
     let last = c.step-went_on.new.self in
     let turns : List (Transition g.row.D.Denot) =
@@ -37,14 +38,27 @@ returns g c =
         ),
       ),
     ) in
+    let chain : Chain g.D.SectorDisk.disk c.args.disk links c.into_disk.result =
+    (c.format-formatted.ensures, (((c.in_ok-endpoint.ensures, lived), c.into_disk.ensures), refl)) in
     record {
-      formatted = is_ok c.format-formatted.result;
-      image = (now (g.D.SectorDisk.disk c.format-formatted.new.disk)).seen;
-      installed = c.command-installed.result;
-      submitted = c.submit-submitted.result;
-      begun = c.step-begun.result;
-      sent = c.protect-sent.result;
-      went_on = c.step-went_on.result;
-      history = deeds-are-histories g.D.SectorDisk.disk g.met.D.SectorDisk.sound c.args.disk c.into_disk.result links c.requires.new
-          (c.format-formatted.ensures, (((c.in_ok-endpoint.ensures, lived), c.into_disk.ensures), refl));
+      between = c.format-formatted.new.disk;
+      first = first;
+      turns = turns;
+      last = last;
+      called = refl;
+      chain = chain;
+      history = deeds-are-histories g.D.SectorDisk.disk g.met.D.SectorDisk.sound c.args.disk c.into_disk.result links c.requires.new chain;
     }
+
+pub returns-in_err-endpoint-clause-failed : goal.returns-in_err-endpoint-clause-failed
+returns-in_err-endpoint-clause-failed g c =
+    let refused = c.in_err-endpoint.field-0.0 in
+    let risen = err_from_is_err_and c.from_residual.result c.from_residual.ensures.1 in
+    rw (risen.1, risen.2) (day-failed g.D.SectorDisk.disk g.met.D.SectorDisk.sound c.args.disk c.requires.new c.args.identity.now
+    c.format-formatted.new.disk refused.disk refused.fault c.in_err-endpoint.ensures c.format-formatted.result c.format-formatted.ensures)
+
+pub returns-in_err-endpoint-clause-refused : goal.returns-in_err-endpoint-clause-refused
+returns-in_err-endpoint-clause-refused g c =
+    let risen = err_from_is_err_and c.from_residual.result c.from_residual.ensures.1 in
+    rw (risen.1, risen.2) (is-refused-day g.D.SectorDisk.disk g.met.D.SectorDisk.sound c.args.disk c.args.identity.now c.format-formatted.result
+    c.format-formatted.new.disk c.in_err-endpoint.field-0.0 c.requires.new c.format-formatted.ensures c.in_err-endpoint.ensures)
