@@ -1,5 +1,5 @@
 -- Commands that were given to an endpoint, one after another.
-use Rattle.std.proofs.Common.{◌≡◌, ℕ, suc, ◌+◌, ◌<◌, Bool, true, if◌then◌else◌, List, [], ◌∷◌, ◌++◌, length, take, drop, get_or, Option, Some, None, is_some, append_assoc, ap, subst, sym, refl, ◌∙◌, arith}
+use Rattle.std.proofs.Common.{◌≡◌, ◌≢◌, ℕ, suc, ◌+◌, ◌<◌, Bool, true, if◌then◌else◌, List, [], ◌∷◌, ◌++◌, length, take, drop, get_or, Option, Some, None, is_some, append_assoc, ap, subst, sym, refl, ◌∙◌, arith}
 use Rattle.std.specs.List.{list_any}
 use Rattle.std.specs.Io.KnownBytes.{Appends}
 use Rattle.std.proofs.lemmas.List.{append-nil, length-take-le, take-append-drop, take_more}
@@ -12,9 +12,8 @@ use Rattle.macs_endpoint.specs.Calls.{IsCall}
 use Rattle.macs_endpoint.specs.State.{Commands, Ran}
 use Rattle.macs_endpoint.specs.Value.{EndpointValue}
 use Rattle.macsecd.specs.Applying.{Applies, AppliesAll, AppliesSome, EndsRun, answer_of, outcome_line, outcome_lines, outcomes_status}
-use Rattle.macsecd.specs.declared.failure.DiskFault.{DiskFault}
 use Rattle.macsecd.specs.declared.failure.Failure.{Failure}
-use Rattle.macsecd.specs.declared.failure.Failure.TheVariants.{Disk as DiskFailure}
+use Rattle.macsecd.specs.declared.failure.Failure.TheVariants.{Output}
 use Rattle.macsecd.specs.declared.status.Status.{Status}
 use Rattle.macsecd.specs.declared.status.Status.TheVariants.{Refused, Done}
 
@@ -115,7 +114,7 @@ one-applied disk_of old between new commands i d command before known after stat
 pub some-applied : {D : Type 0} (disk_of : D → Disk) (old between new : EndpointValue D) (commands : List Command) (i : ℕ) (d command : Command)
     (before known after : Option (List ℕ)) (status : Status) (failure : Failure) → i < length commands → command ≡ get_or commands i d
     → AppliesAll disk_of old (take i commands) before known status between → EndsRun disk_of between command failure new
-    → ((fault : DiskFault) → failure ≡ DiskFailure fault → after ≡ known)
+    → (failure ≢ Output → after ≡ known)
     → AppliesSome disk_of old commands before after failure new
 some-applied disk_of old between new commands i d command before known after status failure within next so_far ended silent = record {
   done = take i commands;
@@ -126,5 +125,5 @@ some-applied disk_of old between new commands i d command before known after sta
   between = between;
   applied = so_far.applied;
   ends = ended;
-  printed = λ fault is. subst (λ (k : Option (List ℕ)). Appends before k (outcome_lines 1 so_far.outcomes)) (sym (silent fault is)) so_far.printed;
+  printed = λ other. subst (λ (k : Option (List ℕ)). Appends before k (outcome_lines 1 so_far.outcomes)) (sym (silent other)) so_far.printed;
 }

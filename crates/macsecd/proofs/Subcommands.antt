@@ -24,20 +24,11 @@ use Rattle.macsecd.specs.declared.action.Action.{Action}
 use Rattle.macsecd.specs.declared.action.Action.TheVariants.{Open, Format, Apply, Show, Protect, Validate, Relay}
 use Rattle.macsecd.specs.declared.action.UsageFault.{UsageFault}
 use Rattle.macsecd.specs.declared.action.UsageFault.TheVariants.{Usage, Memory}
-use Rattle.macsecd.specs.Words.{FitsNumbers, HasNumber, IsClapCommand, IsFaultOf, Names, count_rule, macsecd, number_rule, value_rule}
+use Rattle.macsecd.specs.Words.{FitsNumbers, HasNumber, IsClapCommand, IsFaultOf, Names, bare_app, count_rule, macsecd, number_rule, value_rule}
 use Rattle.macsecd.proofs.Given.{AreValueRules, IsValueRule, given}
 use Rattle.macsecd.proofs.Taken.{is_bare_app, taken}
 
 -- ---- the words as they are built
-
--- the command before it has a subcommand
-abbrev pub bare_app : App
-bare_app = on_top (λ s. record s {
-  no_binary_name = true;
-  disable_help_flag = true;
-  disable_help_subcommand = true;
-  disable_version_flag = true;
-}) (new_app (codes "macsecd"))
 
 pub bare_words : (a b d e f : Command) → app_of a ≡ new_app (codes "macsecd") → fields_of b ≡ record (fields_of a) { no_binary_name = true }
     → fields_of d ≡ record (fields_of b) { disable_help_flag = true } → fields_of e ≡ record (fields_of d) { disable_help_subcommand = true }

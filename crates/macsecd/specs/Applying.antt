@@ -1,5 +1,5 @@
 -- What `apply` does with a command file, and the lines that it prints.
-use Rattle.std.specs.Prelude.{◌≡◌, ◌⊎◌, ◌≤◌, ◌+◌, ℕ, List, [], ◌∷◌, ◌++◌, length, codes, if◌then◌else◌, Option, Some, None, is_some, Result, Ok, Err}
+use Rattle.std.specs.Prelude.{◌≡◌, ◌≢◌, ◌⊎◌, ◌≤◌, ◌+◌, ℕ, List, [], ◌∷◌, ◌++◌, length, codes, if◌then◌else◌, Option, Some, None, is_some, Result, Ok, Err}
 use Rattle.std.specs.Fmt.{decimal}
 use Rattle.std.specs.Io.KnownBytes.{Appends}
 use Rattle.std.specs.List.{list_any}
@@ -109,8 +109,8 @@ pub record AppliesAll {D : Type 0} (disk_of : D → Disk) (old : EndpointValue D
   pub printed : Appends before after (outcome_lines 1 outcomes)
   pub status_is : status ≡ outcomes_status outcomes
 
--- Some of these commands are given to the endpoint, and the next one ends the run. Where that is a fault of the disk, a line is printed
--- for each before it and no other
+-- Some of these commands are given to the endpoint, and the next one ends the run. Unless it was its line that could not be written, a line
+-- is printed for each before it and no other
 pub record AppliesSome {D : Type 0} (disk_of : D → Disk) (old : EndpointValue D) (commands : List Command) (before after : Option (List ℕ)) (failure : Failure) (new : EndpointValue D) : Type 0 where
   pub done : List Command
   pub next : Command
@@ -120,4 +120,4 @@ pub record AppliesSome {D : Type 0} (disk_of : D → Disk) (old : EndpointValue 
   pub between : EndpointValue D
   pub applied : Applies disk_of old done outcomes between
   pub ends : EndsRun disk_of between next failure new
-  pub printed : (fault : DiskFault) → failure ≡ failures.Disk fault → Appends before after (outcome_lines 1 outcomes)
+  pub printed : failure ≢ failures.Output → Appends before after (outcome_lines 1 outcomes)

@@ -1,9 +1,9 @@
 -- The words that the program knows, the action that they name, and those that ask for help.
-use Rattle.std.specs.Prelude.{◌≡◌, ◌≢◌, ◌⊎◌, ◌<◌, ◌-◌, ◌^◌, ℕ, ⊤, map, true, false, List, [], ◌∷◌, Option, Some, None, codes, string_bytes}
+use Rattle.std.specs.Prelude.{◌≡◌, ◌≢◌, ◌⊎◌, ◌<◌, ◌-◌, ◌^◌, ℕ, ⊤, map, true, false, List, [], ◌∷◌, ◌++◌, Option, Some, None, codes, string_bytes}
 use Rattle.std.specs.Str.Parse.{IsNumeral, digits_value, without_leading_plus}
 use Rattle.std.specs.Borrow.{Bor}
-use Rattle.clap.specs.Simple.{new_shape}
-use Rattle.clap.specs.Words.{App, Row, Rule, Shape, Text, app_of, first_of, kind_of, new_rule}
+use Rattle.clap.specs.Simple.{new_shape, on_top}
+use Rattle.clap.specs.Words.{App, Row, Rule, Shape, Text, app_of, first_of, kind_of, new_app, new_rule, with_subcommand}
 use Rattle.clap.specs.declared.builder.action.ArgAction.TheVariants.{Set}
 use Rattle.clap.specs.declared.builder.value_parser.ValueParser.TheVariants as vp
 use Rattle.clap.specs.declared.builder.command.Command.{Command}
@@ -42,30 +42,43 @@ count_rule name = record (value_rule name) { long = Some name; parser = Some (vp
 abbrev pub subcommand_with : Text → List Rule → Shape
 subcommand_with name rules = record (new_shape name) { rules = rules }
 
--- the subcommands, each with its values; `open` has none
-abbrev pub subcommands : List Shape
-subcommands =
+-- the subcommands that have no frames but that of `open`, each with its values; `open` has none
+abbrev pub first_subcommands : List Shape
+first_subcommands =
     subcommand_with (codes "open") []
     ∷ subcommand_with (codes "format") (value_rule (codes "DISK") ∷ value_rule (codes "SCI") ∷ number_rule (codes "TX") ∷ number_rule (codes "RX") ∷ [])
     ∷ subcommand_with (codes "apply") (value_rule (codes "DISK") ∷ value_rule (codes "FILE") ∷ [])
     ∷ subcommand_with (codes "show") (value_rule (codes "DISK") ∷ [])
-    ∷ subcommand_with (codes "protect") (value_rule (codes "DISK") ∷ value_rule (codes "INPUT") ∷ value_rule (codes "OUTPUT") ∷ [])
+    ∷ []
+
+-- those that take frames through an endpoint
+abbrev pub frame_subcommands : List Shape
+frame_subcommands =
+    subcommand_with (codes "protect") (value_rule (codes "DISK") ∷ value_rule (codes "INPUT") ∷ value_rule (codes "OUTPUT") ∷ [])
     ∷ subcommand_with (codes "validate") (value_rule (codes "DISK") ∷ value_rule (codes "INPUT") ∷ value_rule (codes "OUTPUT") ∷ [])
     ∷ subcommand_with (codes "relay") (value_rule (codes "DISK") ∷ value_rule (codes "OWN1") ∷ value_rule (codes "PEER1")
     ∷ value_rule (codes "OWN2") ∷ value_rule (codes "PEER2") ∷ count_rule (codes "turns") ∷ [])
     ∷ []
 
+-- these subcommands more, one after another
+abbrev pub with_subcommands : App → List Shape → App
+with_subcommands app [] = app
+with_subcommands app (subcommand ∷ rest) = with_subcommands (with_subcommand app subcommand) rest
+
 -- the words begin after the program's name, and no flag and no subcommand of the library's asks for help or the version
+abbrev pub bare_app : App
+bare_app = on_top (λ s. record s {
+  no_binary_name = true;
+  disable_help_flag = true;
+  disable_help_subcommand = true;
+  disable_version_flag = true;
+}) (new_app (codes "macsecd"))
+
+-- the words that the program knows
 abbrev pub macsecd : App
 macsecd = record {
-  top = record (new_shape (codes "macsecd")) {
-    no_binary_name = true;
-    disable_help_flag = true;
-    disable_help_subcommand = true;
-    disable_version_flag = true;
-    is_leaf = false;
-  };
-  subs = subcommands;
+  top = record bare_app.top { is_leaf = false };
+  subs = first_subcommands ++ frame_subcommands;
 }
 
 -- ---- actions

@@ -3,7 +3,7 @@
 ghost use Rattle.std.specs.Prelude.{◌≡◌, ◌<◌, ◌^◌, ℕ, IfOk, IfErr, IfSome, IsSome, OnOk, Some, true, false, [], codes, option_map, string_bytes};
 ghost use Rattle.clap.specs.Words.{Text, app_of, fault_of, first_of, found_of, new_app, rows_of, rule_of, subcommand_of, subcommand_rows_of, takes, with_rule};
 ghost use Rattle.macsecd.specs.Controls.{IsPrintable};
-ghost use Rattle.macsecd.specs.Words.{FitsNumbers, HasNumber, HasPrintableCause, HasText, IsClapCommand, IsFaultOf, Names, count_rule, macsecd, number_rule, texts, value_rule};
+ghost use Rattle.macsecd.specs.Words.{FitsNumbers, HasNumber, HasPrintableCause, HasText, IsClapCommand, IsFaultOf, Names, bare_app, count_rule, first_subcommands, frame_subcommands, macsecd, number_rule, texts, value_rule, with_subcommands};
 
 use crate::plain_text::printable;
 use clap::builder::ValueParser;
@@ -174,22 +174,44 @@ fn relay_words<'a>(alloc: Global) -> Result<Command<'a>, AllocError>
         .arg(count(alloc, "turns"))
 }
 
-/// The words that the program knows.
-fn known_words<'a>(alloc: Global) -> Result<Command<'a>, AllocError>
-    ensures { IfOk result (λ command. app_of command ≡ macsecd) }
+/// The words before any subcommand: they begin after the program's name, and nothing of the library's own asks for
+/// help or the version.
+fn bare_words<'a>(alloc: Global) -> Command<'a>
+    ensures { app_of result ≡ bare_app }
 {
     Command::new(alloc, "macsecd")
         .no_binary_name(true)
         .disable_help_flag(true)
         .disable_help_subcommand(true)
         .disable_version_flag(true)
+}
+
+/// These words, and the subcommands that have no frames but that of `open`.
+fn with_first<'a>(alloc: Global, words: Command<'a>) -> Result<Command<'a>, AllocError>
+    ensures { IfOk result (λ command. app_of command ≡ with_subcommands (app_of words.entry) first_subcommands) }
+{
+    words
         .subcommand(open_words(alloc))?
         .subcommand(format_words(alloc)?)?
         .subcommand(apply_words(alloc)?)?
-        .subcommand(show_words(alloc)?)?
+        .subcommand(show_words(alloc)?)
+}
+
+/// These words, and the subcommands that take frames through an endpoint.
+fn with_frames<'a>(alloc: Global, words: Command<'a>) -> Result<Command<'a>, AllocError>
+    ensures { IfOk result (λ command. app_of command ≡ with_subcommands (app_of words.entry) frame_subcommands) }
+{
+    words
         .subcommand(capture_words(alloc, "protect")?)?
         .subcommand(capture_words(alloc, "validate")?)?
         .subcommand(relay_words(alloc)?)
+}
+
+/// The words that the program knows.
+fn known_words<'a>(alloc: Global) -> Result<Command<'a>, AllocError>
+    ensures { IfOk result (λ command. app_of command ≡ macsecd) }
+{
+    with_frames(alloc, with_first(alloc, bare_words(alloc))?)
 }
 
 /// What an error says first, in one line. It repeats the words, so control characters are replaced.
@@ -359,7 +381,8 @@ fn action_in<'a>(matches: &ArgMatches<'a>) -> Option<Action<'a>>
     }
 }
 
-/// The action that the words name, without the program's own name among them.
+/// The action that the words name, without the program's own name among them. Refused as `Usage` where clap
+/// refuses the words, else as `Memory` where memory is wanting.
 pub fn action_of<'a>(alloc: Global, words: &'a [&'a str]) -> Result<Action<'a>, UsageFault>
     // What is answered is what clap reads.
     ensures read { IfOk result (Names (subcommand_of macsecd (texts words.now))) }

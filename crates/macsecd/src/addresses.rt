@@ -58,7 +58,8 @@ fn address_of(text: &str) -> Option<SocketAddr>
     text.parse().ok()
 }
 
-/// The addresses that the words spell.
+/// The addresses that the words spell. Refused with the first of `Own1`, `Peer1`, `Own2` and `Peer2` whose
+/// text is no address and port.
 pub fn addresses_of(controlled: WireEnds, common: WireEnds) -> Result<Addresses, AddressFault>
     ensures controlled { IfOk result (λ addresses. SpellsEnds controlled.entry addresses.controlled) }
     ensures common { IfOk result (λ addresses. SpellsEnds common.entry addresses.common) }

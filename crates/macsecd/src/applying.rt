@@ -1,6 +1,6 @@
 //! `apply`: the commands of a file, one after another.
 
-ghost use Rattle.std.specs.Prelude.{◌≡◌, ◌≤◌, ◌+◌, ◌⊎◌, List, Option, length, is_some, if◌then◌else◌, IfErr, IfOk, OnOk, Ok, Err};
+ghost use Rattle.std.specs.Prelude.{◌≡◌, ◌≢◌, ◌≤◌, ◌+◌, ◌⊎◌, List, Option, length, is_some, if◌then◌else◌, IfErr, IfOk, OnOk, Ok, Err};
 ghost use Rattle.std.specs.Io.KnownBytes.{Appends};
 ghost use Rattle.toml.specs.Data.{Members};
 ghost use Rattle.toml.specs.Parse.{parse_document};
@@ -13,7 +13,6 @@ ghost use Rattle.macs_endpoint.specs.State.{Commands, Ran};
 ghost use Rattle.macs_endpoint.specs.declared.fault.CommandFault.{CommandFault};
 ghost use Rattle.macsecd.specs.Applying.{AppliesAll, AppliesSome, EndsRun, SaysCommands, answer_of, commit_fault};
 ghost use Rattle.macsecd.specs.Applying.{outcome_line, refusal_name};
-ghost use Rattle.macsecd.specs.declared.failure.DiskFault.{DiskFault};
 
 use crate::failure::{DiskFault, Failure};
 use crate::output::{Line, print_octets};
@@ -148,7 +147,7 @@ fn apply_command<D: SectorDisk, W: Write>(
         × IsCall D.disk endpoint.old (Commands command) (Ran (answer_of outcome)) endpoint.new
         × Appends (W.contents out.old) (W.contents out.new) (outcome_line at outcome)) }
     ensures ended { IfErr result (λ failure. EndsRun D.disk endpoint.old command failure endpoint.new) }
-    ensures silent { IfErr result (λ failure. (fault : DiskFault) → failure ≡ Failure.Disk fault → out.new ≡ out.old) }
+    ensures silent { IfErr result (λ failure. failure ≢ Failure.Output → out.new ≡ out.old) }
 {
     let outcome = settle(endpoint, command)?;
     let line = outcome_line(at, outcome);
@@ -165,7 +164,9 @@ fn status_after(status: Status, is_refused: bool) -> Status
 
 /// Gives these commands to the endpoint, one after another, and prints a line for each once it is
 /// answered: the line of a command that is kept is its acknowledgement. A refused one changes nothing, and
-/// the next one follows.
+/// the next one follows. It fails as `Disk` at the first command that is neither kept nor refused, with no
+/// line for it; and as `Output` at the first line that cannot be written and flushed, whose command was
+/// answered.
 pub fn apply_commands<D: SectorDisk, W: Write>(
     endpoint: &mut Endpoint<D>,
     commands: &[Command],

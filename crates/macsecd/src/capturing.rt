@@ -90,7 +90,9 @@ fn run_capture<D: SectorDisk, R: Source, W: Sink>(
 }
 
 /// Takes a whole capture through an endpoint, hands on all that was written, and prints what became of its
-/// frames.
+/// frames. It fails with the first fault of the run: as `Capture` or `Memory` at the header or a record, as
+/// `Disk` at a reservation; without one, as `Capture` where what was written cannot be handed on. Nothing is
+/// printed then. Else it fails as `Output` where the line cannot be written.
 pub fn pass_frames<D: SectorDisk, R: Source, S: Sink, W: Write>(
     alloc: Global,
     endpoint: &mut Endpoint<D>,

@@ -8,12 +8,13 @@ ghost use Rattle.macsecd.specs.declared.failure.DiskFault.{DiskFault};
 
 use crate::applying::{MAX_FILE, commands_in};
 use crate::failure::Failure;
+use crate::whole_writes::WholeWrites;
 use macs_config::{Command, Identity};
 use macs_disk::{DiskFile, FileDisk};
 use macs_endpoint::Endpoint;
 use macs_pcap::{ReaderSource, WriterSink};
 use std::alloc::Global;
-use std::io::{BufReader, BufWriter, Read};
+use std::io::{BufReader, BufWriter, Read, Write};
 use std::rt::Files;
 use std::{fs, io};
 
@@ -23,15 +24,15 @@ const SECTORS: u64 = 1_028;
 /// One octet more than the longest command file.
 const MAX_READ: usize = MAX_FILE + 1;
 
-/// How many octets of a capture are kept back: so each read and write of the system but the last is one of
-/// 65,536 octets at least, whatever frames there are.
+/// How many octets of a capture are kept back: so each read and write of the system but the last is one of so
+/// many, whatever frames there are.
 const CAPTURE_ROOM: usize = 131_072;
 
 /// A capture that is read.
 pub type CaptureSource<F> = ReaderSource<BufReader<F>>;
 
 /// A capture that is written.
-pub type CaptureSink<F> = WriterSink<BufWriter<F>>;
+pub type CaptureSink<F> = WriterSink<WholeWrites<F>>;
 
 /// The failure that an error of the system is: want of memory, or else this one.
 fn failure_of(error: io::Error, failure: Failure) -> Failure
@@ -44,7 +45,8 @@ fn failure_of(error: io::Error, failure: Failure) -> Failure
     failure
 }
 
-/// The endpoint on the disk in a file.
+/// The endpoint on the disk in a file. It fails as `Memory`, or as `Disk` with `File` or `Length`, where
+/// the file is no disk; then as `Disk` with the fault of the journal, where no endpoint is found on it.
 pub fn open_endpoint<T: Files>(rt: &T, path: &str) -> Result<Endpoint<FileDisk<T::File>>, Failure>
 where
     T::File: DiskFile,
@@ -58,7 +60,9 @@ where
     }
 }
 
-/// Makes the disk in a file that of a new endpoint. Where there is no file it is made.
+/// Makes the disk in a file that of a new endpoint. Where there is no file it is made, and a short one is
+/// lengthened. It fails as `Memory`, or as `Disk` with `File` or `Length`, where the file is no disk; then as
+/// `Disk` with the fault of the journal, `AlreadyFormatted` where it has an endpoint.
 pub fn format_disk<T: Files>(rt: &T, path: &str, identity: &Identity) -> Result<(), Failure>
 where
     T::File: DiskFile,
@@ -84,7 +88,8 @@ fn read_commands<R: Read>(alloc: Global, file: &mut R) -> Result<Vec<Command>, F
     }
 }
 
-/// The commands of a command file.
+/// The commands of a command file. It fails as `Memory` where memory is wanting, the system's or the
+/// program's, and else as `Commands`, where the file cannot be opened or read, or says no commands.
 pub fn commands_of_file<T: Files>(
     rt: &T,
     alloc: Global,
@@ -99,7 +104,28 @@ pub fn commands_of_file<T: Files>(
     }
 }
 
-/// A capture that is read from a file.
+/// A reader that keeps octets of a capture back. It fails as `Memory`.
+fn reader_of<F: Read + Drop>(alloc: Global, file: F) -> Result<BufReader<F>, Failure>
+    ensures { IfErr result (λ failure. failure ≡ Failure.Memory) }
+{
+    match BufReader::with_capacity(alloc, CAPTURE_ROOM, file) {
+        Ok(reader) => Ok(reader),
+        Err(error) => Err(failure_of(error, Failure::Capture)),
+    }
+}
+
+/// A writer that keeps octets of a capture back. It fails as `Memory`.
+fn writer_of<F: Write + Drop>(alloc: Global, file: F) -> Result<WholeWrites<F>, Failure>
+    ensures { IfErr result (λ failure. failure ≡ Failure.Memory) }
+{
+    match BufWriter::with_capacity(alloc, CAPTURE_ROOM, file) {
+        Ok(buffer) => Ok(WholeWrites::new(buffer)),
+        Err(error) => Err(failure_of(error, Failure::Capture)),
+    }
+}
+
+/// A capture that is read from a file. It fails as `Memory` where memory is wanting, the system's or the
+/// program's, and else as `Capture`, where the file cannot be opened. Nothing is read yet.
 pub fn open_capture<T: Files>(
     rt: &T,
     alloc: Global,
@@ -107,17 +133,14 @@ pub fn open_capture<T: Files>(
 ) -> Result<CaptureSource<T::File>, Failure>
     ensures { IfErr result (λ failure. (failure ≡ Failure.Memory) ⊎ (failure ≡ Failure.Capture)) }
 {
-    let reader = match fs::open(rt, path) {
-        Ok(file) => BufReader::with_capacity(alloc, CAPTURE_ROOM, file),
-        Err(error) => Err(error),
-    };
-    match reader {
-        Ok(reader) => Ok(ReaderSource::new(reader)),
+    match fs::open(rt, path) {
+        Ok(file) => Ok(ReaderSource::new(reader_of(alloc, file)?)),
         Err(error) => Err(failure_of(error, Failure::Capture)),
     }
 }
 
-/// A capture that is written to a file, which is made, or cut to nothing.
+/// A capture that is written to a file, which is made, or cut to nothing. It fails as `Memory` where memory
+/// is wanting, the system's or the program's, and else as `Capture`, where the file cannot be made.
 pub fn make_capture<T: Files>(
     rt: &T,
     alloc: Global,
@@ -125,12 +148,8 @@ pub fn make_capture<T: Files>(
 ) -> Result<CaptureSink<T::File>, Failure>
     ensures { IfErr result (λ failure. (failure ≡ Failure.Memory) ⊎ (failure ≡ Failure.Capture)) }
 {
-    let writer = match fs::create(rt, path) {
-        Ok(file) => BufWriter::with_capacity(alloc, CAPTURE_ROOM, file),
-        Err(error) => Err(error),
-    };
-    match writer {
-        Ok(writer) => Ok(WriterSink::new(writer)),
+    match fs::create(rt, path) {
+        Ok(file) => Ok(WriterSink::new(writer_of(alloc, file)?)),
         Err(error) => Err(failure_of(error, Failure::Capture)),
     }
 }

@@ -23,6 +23,7 @@ mod status;
 #[cfg(test)]
 mod tests;
 mod values;
+mod whole_writes;
 
 use crate::failure::Failure;
 use crate::run::{report, run};

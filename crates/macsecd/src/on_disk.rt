@@ -50,7 +50,7 @@ where
         × Appends (W.contents out.old) (W.contents out.new) (line (codes "formatted")) × (status ≡ Status.Done)) }
     ensures usage { IfErr result (λ failure. failure_status failure ≡ Status.Usage
         → ((fault : ValueFault) × ValueFaultHolds sci.now tx_block rx_block fault) × (out.new ≡ out.old)) }
-    ensures silent { IfErr result (λ failure. failure_status failure ≡ Status.Disk → out.new ≡ out.old) }
+    ensures silent { IfErr result (λ failure. failure ≢ Failure.Output → out.new ≡ out.old) }
 {
     let identity = identity_of(sci, tx_block, rx_block)?;
     format_disk(rt, disk, &identity)?;
@@ -72,7 +72,7 @@ where
         × Appends (W.contents out.old) (W.contents out.new) (outcome_lines 1 outcomes)
         × (status ≡ outcomes_status outcomes)) }
     ensures failed { IfErr result (λ failure. failure_status failure ≢ Status.Usage) }
-    ensures lines { IfErr result (λ failure. failure_status failure ≡ Status.Disk
+    ensures lines { IfErr result (λ failure. failure ≢ Failure.Output
         → (outcomes : List (Option Refusal)) × Appends (W.contents out.old) (W.contents out.new) (outcome_lines 1 outcomes)) }
 {
     let mut endpoint = open_endpoint(rt, disk)?;
@@ -92,7 +92,7 @@ where
     ensures printed { IfOk result (λ status. (s : State)
         × Appends (W.contents out.old) (W.contents out.new) (show_text s) × (status ≡ Status.Done)) }
     ensures failed { IfErr result (λ failure. failure_status failure ≢ Status.Usage) }
-    ensures silent { IfErr result (λ failure. failure_status failure ≡ Status.Disk → out.new ≡ out.old) }
+    ensures silent { IfErr result (λ failure. failure ≢ Failure.Output → out.new ≡ out.old) }
 {
     let endpoint = open_endpoint(rt, disk)?;
     let text = show_lines(alloc, &endpoint)?;

@@ -33,7 +33,8 @@ fn relay_line(summary: RelaySummary) -> Line
     line
 }
 
-/// A wire that is bound.
+/// A wire that is bound. It fails first as `Memory`, where there is none for a frame of the wire; then as
+/// `Wire`, where the own address cannot be bound.
 pub fn bind<N: Net>(net: &N, alloc: Global, wire: WireAddresses) -> Result<UdpWire<Global>, Failure>
     ensures fresh { IfOk result (λ bound. ⟦<UdpWire<Global> as Wire>⟧.state bound ≡ new_wire) }
     ensures peer { IfOk result (λ bound. peer_of bound ≡ wire.peer) }
@@ -43,7 +44,9 @@ pub fn bind<N: Net>(net: &N, alloc: Global, wire: WireAddresses) -> Result<UdpWi
     Ok(bound)
 }
 
-/// Relays frames between two wires, and prints what became of them.
+/// Relays frames between two wires, and prints what became of them. It fails as `Disk` at the first
+/// reservation of packet numbers that cannot be made, with nothing printed; and as `Output` behind the last
+/// turn, where the line cannot be written.
 pub fn relay_frames<D: SectorDisk, P: Wire, C: Wire, W: Write>(
     endpoint: &mut Endpoint<D>,
     controlled: &mut P,

@@ -3,20 +3,27 @@
 //! Python's `cryptography` (AESGCM with the octets in front of the offset in the additional data).
 
 mod applying;
+mod broken_streams;
 mod captures;
 mod disks;
+mod failing;
 mod help;
 mod help_text;
 mod input;
 mod link;
 mod link_files;
 mod opening;
+mod peers;
 mod relaying;
+mod shut;
+mod stand_in;
 mod stories;
 mod streams;
+mod wires;
 mod words;
 
 use crate::run::run;
+use macs_disk::DiskFile;
 use std::alloc::{AllocError, Global};
 use std::fs::File;
 use std::io::{Read, Write};
@@ -53,6 +60,8 @@ enum Outcome {
     Usage(&'static str),
     /// Status 4, and the line on standard error.
     Disk(&'static str),
+    /// Status 4, what was printed before, and the line on standard error.
+    DiskBehind(&'static str, &'static str),
     /// Status 5, and the line on standard error.
     Fault(&'static str),
 }
@@ -65,6 +74,7 @@ impl Outcome {
             Outcome::Refused(out) => (3, out, ""),
             Outcome::Usage(err) => (2, "", err),
             Outcome::Disk(err) => (4, "", err),
+            Outcome::DiskBehind(out, err) => (4, out, err),
             Outcome::Fault(err) => (5, "", err),
         }
     }
@@ -74,15 +84,39 @@ impl Outcome {
 const OPENED: Outcome = Outcome::Done(INTEGRITY_LINE);
 
 /// Runs the program. What is proved of a run stays behind: the tests look at what it does.
-fn status_of<R: Read, W: Write, E: Write>(
-    rt: &(impl Abort + Files<File = File> + Net),
+fn status_of<T: Files + Net, R: Read, W: Write, E: Write>(
+    system: &T,
     alloc: Global,
     words: &[&str],
     input: &mut R,
     out: &mut W,
     err: &mut E,
-) -> u8 {
-    run(rt, alloc, words, input, out, err)
+) -> u8
+where
+    T::File: DiskFile,
+{
+    run(system, alloc, words, input, out, err)
+}
+
+/// Runs the words over a system on what a reader gives, and asserts the whole outcome.
+fn expect_over<T: Files + Net, R: Read>(
+    rt: &impl Abort,
+    system: &T,
+    alloc: Global,
+    words: &[&str],
+    input: &mut R,
+    outcome: Outcome,
+)
+where
+    T::File: DiskFile,
+{
+    let mut out = Vec::new(alloc);
+    let mut err = Vec::new(alloc);
+    let status = status_of(system, alloc, words, input, &mut out, &mut err);
+    let (wanted, printed, complained) = outcome.parts();
+    assert_eq!(rt; out.as_slice(), printed.as_bytes());
+    assert_eq!(rt; err.as_slice(), complained.as_bytes());
+    assert_eq!(rt; status, wanted);
 }
 
 /// Runs the words on what a reader gives, and asserts the whole outcome.
@@ -93,13 +127,7 @@ fn expect_of<R: Read>(
     input: &mut R,
     outcome: Outcome,
 ) {
-    let mut out = Vec::new(alloc);
-    let mut err = Vec::new(alloc);
-    let status = status_of(rt, alloc, words, input, &mut out, &mut err);
-    let (wanted, printed, complained) = outcome.parts();
-    assert_eq!(rt; out.as_slice(), printed.as_bytes());
-    assert_eq!(rt; err.as_slice(), complained.as_bytes());
-    assert_eq!(rt; status, wanted);
+    expect_over(rt, rt, alloc, words, input, outcome);
 }
 
 /// Runs the words on an input, and asserts the whole outcome.

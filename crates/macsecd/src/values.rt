@@ -42,7 +42,8 @@ fn is_block(block: u32) -> bool
     (1..=65_536).contains(&block)
 }
 
-/// What an endpoint is formatted with, by the values that the words give.
+/// What an endpoint is formatted with, by the values that the words give. Refused first as `Sci`, where the
+/// text is not 16 hex digits; then as `TxBlock` and as `RxBlock`, where the number is not 1 to 65,536.
 pub fn identity_of(sci: &str, tx_block: u32, rx_block: u32) -> Result<Identity, ValueFault>
     ensures identity { IfOk result (SpellsIdentity sci.now tx_block rx_block) }
     ensures fault { (fault : ValueFault) → (result ≡ Err fault)

@@ -235,6 +235,13 @@ const CLAIMED: &[Step] = &[
     Open(Ok(2)),
     Create(2, Err(FileFault::Open)),
     Make(Read(1, 3)),
+    // The claim comes before the length, which is no longer one of whole sectors.
+    Zeros(1_000),
+    Open(Err(FileFault::Open)),
+    Create(2, Err(FileFault::Open)),
+    HasOctets(1_000),
+    Close,
+    Open(Err(FileFault::Length)),
 ];
 
 #[test]

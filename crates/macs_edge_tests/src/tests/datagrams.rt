@@ -180,25 +180,40 @@ fn refused(
     }
 }
 
-/// Heaps with room for less than the longest frame and one octet, and one that suffices, each for a free
-/// address and for one that is bound: want of memory comes first.
+/// In a heap of so many octets a bind is refused so at an address that is bound, and so at a free one.
+fn expect_refused(
+    rt: &(impl Abort + Net),
+    alloc: Global,
+    octets: usize,
+    line: &Ends,
+    [bound, free]: [Option<BindFault>; 2],
+) {
+    let Ok(heap) = LocalHeap::new(alloc, octets) else {
+        panic!(rt; "no heap of {octets} octets");
+    };
+    let peer = line.peer.local_addr().expect(rt, "the address of the peer");
+    assert!(rt;
+        refused(rt, &heap, line.at, peer) == bound,
+        "{octets} octets"
+    );
+    assert!(rt;
+        refused(rt, &heap, loopback(), peer) == free,
+        "{octets} octets"
+    );
+}
+
+/// Heaps with room for less than the longest frame and one octet, and one that suffices: want of memory comes
+/// first.
 #[test]
 fn a_bind_without_memory_is_refused(rt: HostRuntime) {
     let Some(line) = line(&rt, rt.alloc(), loopback()) else {
         panic!(rt; "no line");
     };
+    let memory = [Some(BindFault::Memory); 2];
+    expect_refused(&rt, rt.alloc(), 4_096, &line, memory);
+    expect_refused(&rt, rt.alloc(), 9_216, &line, memory);
+    let bound = [Some(BindFault::Bind), None];
+    expect_refused(&rt, rt.alloc(), 16_384, &line, bound);
     let mut room = [0; 64];
-    for (octets, free, bound) in [
-        (4_096, Some(BindFault::Memory), Some(BindFault::Memory)),
-        (9_216, Some(BindFault::Memory), Some(BindFault::Memory)),
-        (16_384, None, Some(BindFault::Bind)),
-    ] {
-        let Ok(heap) = LocalHeap::new(rt.alloc(), octets) else {
-            panic!(rt; "no heap of {octets} octets");
-        };
-        let peer = line.peer.local_addr().expect(&rt, "the address of the peer");
-        assert!(rt; refused(&rt, &heap, line.at, peer) == bound, "{octets} octets");
-        assert!(rt; refused(&rt, &heap, loopback(), peer) == free, "{octets} octets");
-    }
     arrived(&rt, &line.peer, &mut room, 60, 8);
 }

@@ -1,7 +1,8 @@
 //! A disk that is formatted, commands, and what is shown then.
 
 use super::Outcome;
-use super::stories::Step::{Filled, Folder, Run, Text};
+use super::captures::SENDER;
+use super::stories::Step::{Closing, Filled, Folder, Run, Text};
 use super::stories::{Step, play};
 use std::test::Fail;
 
@@ -69,6 +70,7 @@ const APPLIED: &[Step] = &[
         &["apply", "story-apply/disk", "story-apply/six.toml"],
         Outcome::Refused(SIX_LINES),
     ),
+    Run(&["show", "story-apply/disk"], Outcome::Done(SHOWN)),
     Run(&["show", "story-apply/disk"], Outcome::Done(SHOWN)),
 ];
 
@@ -166,6 +168,61 @@ const BOTH: &[Step] = &[
 #[test]
 fn both_sides_are_shown(rt: HostRuntime) -> Result<(), Fail> {
     play(&rt, rt.alloc(), "story-both", BOTH)
+}
+
+const FIRST_APPLIED: Outcome = Outcome::Done(
+    "sci 12153524c0895e81
+blocks tx 4 rx 4
+validate strict
+replay on window 0
+sci-mode explicit
+encoding none
+tx 0 confidential offset 0 next 5
+spent tx 1 rx 0
+",
+);
+
+const BOTH_APPLIED: Outcome = Outcome::Done(
+    "sci 12153524c0895e81
+blocks tx 4 rx 4
+validate strict
+replay on window 0
+sci-mode explicit
+encoding 0
+tx 0 confidential offset 0 next 5
+spent tx 1 rx 0
+",
+);
+
+/// Each line is written and flushed behind its command, and the first that cannot be ends the run.
+const LINES: &[Step] = &[
+    Text("story-lines/file", SENDER),
+    Run(
+        &["format", "story-lines/a", "12153524c0895e81", "4", "4"],
+        FORMATTED,
+    ),
+    Closing(9, 0, &["apply", "story-lines/a", "story-lines/file"]),
+    Run(&["show", "story-lines/a"], FIRST_APPLIED),
+    Run(
+        &["format", "story-lines/b", "12153524c0895e81", "4", "4"],
+        FORMATTED,
+    ),
+    Closing(0, 9, &["apply", "story-lines/b", "story-lines/file"]),
+    Run(&["show", "story-lines/b"], FIRST_APPLIED),
+    // The first command is refused now, and the line of the second one is not taken.
+    Closing(1, 9, &["apply", "story-lines/b", "story-lines/file"]),
+    Run(&["show", "story-lines/b"], BOTH_APPLIED),
+    // No number is reserved but with an association that is installed.
+    Run(
+        &["apply", "story-lines/b", "story-lines/file"],
+        Outcome::Refused("1 refused SlotTaken\n2 ok\n"),
+    ),
+    Run(&["show", "story-lines/b"], BOTH_APPLIED),
+];
+
+#[test]
+fn a_line_that_is_not_taken_ends_the_run(rt: HostRuntime) -> Result<(), Fail> {
+    play(&rt, rt.alloc(), "story-lines", LINES)
 }
 
 const COMMANDS_FAULT: Outcome = Outcome::Fault("macsecd: commands\n");

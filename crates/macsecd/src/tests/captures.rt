@@ -7,11 +7,11 @@ use super::stories::{Step, play};
 use std::test::Fail;
 
 /// Three plain frames, of 22, 60 and 74 octets.
-const PLAIN: &str =
+pub const PLAIN: &str =
     "d4c3b2a1020004000000000000000000ffff00000100000000f15365000000001600000016000000d609b1f056637a0d46df998d0800101112131415161701f15365e80300003c0000003c000000d609b1f056637a0d46df998d0800101112131415161718191a1b1c1d1e1f202122232425262728292a2b2c2d2e2f303132333435363738393a3b3c3d02f15365d00700004a0000004a000000d609b1f056637a0d46df998d0800101112131415161718191a1b1c1d1e1f202122232425262728292a2b2c2d2e2f303132333435363738393a3b3c3d3e3f404142434445464748494a4b";
 
 /// The three frames as they go out.
-const PROTECTED: &str =
+pub const PROTECTED: &str =
     "d4c3b2a1020004000000000000000000000004000100000000f15365000000003600000036000000d609b1f056637a0d46df998d88e52c0a0000000512153524c0895e8137f1a95160312fcf3e0ed2dce4357b7a4fdaf25f25642f5d36bb01f15365e80300005c0000005c000000d609b1f056637a0d46df998d88e52c000000000612153524c0895e81389f1c545914028d06fd03ad61b860bdc7febe61d2a1a2bb95ef1e5bb359c2b2618b3b682648a7475a4610d997f243b4e46d1348ef1269db33fd333626bf098002f15365d00700006a0000006a000000d609b1f056637a0d46df998d88e52c000000000712153524c0895e810668e960841994d149f4e33952d06e852fd5a31c0bd8666c7c6b7d76e3b907292f55e820e21a8f3086ef7e6a8dee0a77ae08a1b633bdf3f157262d8b717cce08b38c95f0aa1ff320202bce62a4ed";
 
 /// The three frames as they are delivered: as they were, in a capture with the header that is written.
@@ -19,7 +19,7 @@ const DELIVERED: &str =
     "d4c3b2a1020004000000000000000000000004000100000000f15365000000001600000016000000d609b1f056637a0d46df998d0800101112131415161701f15365e80300003c0000003c000000d609b1f056637a0d46df998d0800101112131415161718191a1b1c1d1e1f202122232425262728292a2b2c2d2e2f303132333435363738393a3b3c3d02f15365d00700004a0000004a000000d609b1f056637a0d46df998d0800101112131415161718191a1b1c1d1e1f202122232425262728292a2b2c2d2e2f303132333435363738393a3b3c3d3e3f404142434445464748494a4b";
 
 /// The side that sends.
-const SENDER: &str = "[[command]]
+pub const SENDER: &str = "[[command]]
 do = 'tx-install'
 an = 0
 key = 'ad7a2bd03eac835a6f620fdcb506b345'
@@ -33,7 +33,7 @@ an = 0
 ";
 
 /// The side that receives.
-const RECEIVER: &str = "[[command]]
+pub const RECEIVER: &str = "[[command]]
 do = 'rx-add'
 sci = '12153524c0895e81'
 
@@ -45,6 +45,33 @@ key = 'ad7a2bd03eac835a6f620fdcb506b345'
 start = 1
 offset = 0
 ";
+
+/// The blocks are of 4 numbers: the first frame had 5 to 8 reserved, and the next opening begins behind them.
+const SENDER_SHOWN: Outcome = Outcome::Done(
+    "sci 12153524c0895e81
+blocks tx 4 rx 4
+validate strict
+replay on window 0
+sci-mode explicit
+encoding 0
+tx 0 confidential offset 0 next 9
+spent tx 1 rx 0
+",
+);
+
+/// The first frame, of number 5, raised the ceiling to 9.
+const RECEIVER_SHOWN: Outcome = Outcome::Done(
+    "sci ffffffffffff0001
+blocks tx 4 rx 4
+validate strict
+replay on window 0
+sci-mode explicit
+encoding none
+channel 12153524c0895e81
+rx 12153524c0895e81 0 offset 0 next 9 lowest 9
+spent tx 0 rx 1
+",
+);
 
 const PASSED: &[Step] = &[
     Run(
@@ -76,6 +103,8 @@ const PASSED: &[Step] = &[
         Outcome::Done("protected 3 dropped 0\n"),
     ),
     Holds("story-pass/protected", PROTECTED),
+    Run(&["show", "story-pass/a"], SENDER_SHOWN),
+    Run(&["show", "story-pass/a"], SENDER_SHOWN),
     Run(
         &[
             "validate",
@@ -86,6 +115,8 @@ const PASSED: &[Step] = &[
         Outcome::Done("delivered 3 discarded 0\n"),
     ),
     Holds("story-pass/delivered", DELIVERED),
+    Run(&["show", "story-pass/b"], RECEIVER_SHOWN),
+    Run(&["show", "story-pass/b"], RECEIVER_SHOWN),
     // The same frames once more are replayed.
     Run(
         &[
@@ -103,7 +134,7 @@ fn three_frames_pass(rt: HostRuntime) -> Result<(), Fail> {
     play(&rt, rt.alloc(), "story-pass", PASSED)
 }
 
-const CAPTURE_FAULT: Outcome = Outcome::Fault("macsecd: capture\n");
+pub const CAPTURE_FAULT: Outcome = Outcome::Fault("macsecd: capture\n");
 
 /// Inputs that are not read, and what becomes of the output.
 const WRONG: &[Step] = &[

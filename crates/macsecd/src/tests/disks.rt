@@ -1,16 +1,9 @@
 //! Disk files and values that do not serve, and an output that fails.
 
-use super::stories::Step::{Filled, Folder, IsMissing, Run, Shut, Spoil};
+use super::Outcome;
+use super::stories::Step::{Closing, Filled, Folder, HasOctets, IsMissing, Run, Spoil};
 use super::stories::{Step, play};
-use super::{Outcome, status_of};
-use std::alloc::Global;
-use std::fs::File;
-use std::io::Write;
-use std::net::Net;
-use std::process::Abort;
-use std::rt::Files;
 use std::test::Fail;
-use std::{fs, io};
 
 const FORMATTED: Outcome = Outcome::Done("formatted\n");
 
@@ -18,6 +11,8 @@ const NO_FILE: Outcome = Outcome::Disk("macsecd: disk file\n");
 
 /// A disk that another subcommand than `format` opens.
 const SHOW: &[&str] = &["show", "story-disks/disk"];
+
+const FORMAT: &[&str] = &["format", "story-disks/disk", "12153524c0895e81", "1", "1"];
 
 const DISKS: &[Step] = &[
     Run(SHOW, NO_FILE),
@@ -50,18 +45,17 @@ const DISKS: &[Step] = &[
     ),
     Filled("story-disks/disk", 0, 526_337),
     Run(SHOW, Outcome::Disk("macsecd: disk length\n")),
-    Run(
-        &["format", "story-disks/disk", "12153524c0895e81", "1", "1"],
-        Outcome::Disk("macsecd: disk length\n"),
-    ),
+    Run(FORMAT, Outcome::Disk("macsecd: disk length\n")),
+    HasOctets("story-disks/disk", 526_337),
     Filled("story-disks/disk", 0, 512),
     Run(SHOW, Outcome::Disk("macsecd: too small\n")),
-    Filled("story-disks/disk", 0, 526_336),
+    // A short file is lengthened, and a longer one keeps its length.
+    Run(FORMAT, FORMATTED),
+    HasOctets("story-disks/disk", 526_336),
+    Filled("story-disks/disk", 0, 526_848),
     Run(SHOW, Outcome::Disk("macsecd: not formatted\n")),
-    Run(
-        &["format", "story-disks/disk", "12153524c0895e81", "1", "1"],
-        FORMATTED,
-    ),
+    Run(FORMAT, FORMATTED),
+    HasOctets("story-disks/disk", 526_848),
     Spoil("story-disks/disk"),
     Run(SHOW, Outcome::Disk("macsecd: bad journal\n")),
 ];
@@ -69,26 +63,6 @@ const DISKS: &[Step] = &[
 #[test]
 fn each_fault_of_a_disk_is_told(rt: HostRuntime) -> Result<(), Fail> {
     play(&rt, rt.alloc(), "story-disks", DISKS)
-}
-
-/// The file may not be read. Who is root may read it all the same: then this tells nothing.
-const SHUT: &[Step] = &[
-    Filled("story-shut/disk", 0, 526_336),
-    Shut("story-shut/disk"),
-    Run(&["show", "story-shut/disk"], NO_FILE),
-];
-
-/// Whether this process reads what nobody may read.
-fn reads_all(rt: &impl Files) -> bool {
-    fs::open(rt, "/etc/shadow").is_ok()
-}
-
-#[test]
-fn a_disk_without_leave_is_no_file(rt: HostRuntime) -> Result<(), Fail> {
-    if reads_all(&rt) {
-        return Ok(());
-    }
-    play(&rt, rt.alloc(), "story-shut", SHUT)
 }
 
 /// Values that are refused before the disk is looked at: the SCI, the transmit block, the receive block.
@@ -137,37 +111,18 @@ fn each_wrong_value_is_usage(rt: HostRuntime) -> Result<(), Fail> {
     play(&rt, rt.alloc(), "story-values", VALUES)
 }
 
-/// A writer that fails.
-#[derive(Drop)]
-struct Closed;
-
-impl Write for Closed {
-    fn write(&mut self, _buf: &[u8]) -> io::Result<usize> {
-        Err(io::Error::from(io::ErrorKind::BrokenPipe))
-    }
-
-    fn flush(&mut self) -> io::Result<()> {
-        Err(io::Error::from(io::ErrorKind::BrokenPipe))
-    }
-}
-
-/// Words over a writer that fails end with status 5 and the line that says so.
-fn expect_closed(rt: &(impl Abort + Files<File = File> + Net), alloc: Global, words: &[&str]) {
-    let mut err = Vec::new(alloc);
-    let status = status_of(rt, alloc, words, &mut b"".as_slice(), &mut Closed, &mut err);
-    assert_eq!(rt; status, 5);
-    assert_eq!(rt; err.as_slice(), b"macsecd: output\n".as_slice());
-}
+/// Standard output takes nothing, or is not flushed.
+const CLOSED: &[Step] = &[
+    Closing(
+        0,
+        0,
+        &["format", "story-closed/disk", "12153524c0895e81", "4", "4"],
+    ),
+    Closing(0, 0, &["show", "story-closed/disk"]),
+    Closing(9, 0, &["show", "story-closed/disk"]),
+];
 
 #[test]
 fn an_output_that_fails_is_output(rt: HostRuntime) -> Result<(), Fail> {
-    let _ = fs::remove_file(&rt, "closed-disk");
-    expect_closed(
-        &rt,
-        rt.alloc(),
-        &["format", "closed-disk", "12153524c0895e81", "4", "4"],
-    );
-    expect_closed(&rt, rt.alloc(), &["show", "closed-disk"]);
-    fs::remove_file(&rt, "closed-disk")?;
-    Ok(())
+    play(&rt, rt.alloc(), "story-closed", CLOSED)
 }

@@ -4,7 +4,7 @@ use super::help_text::{
     APPLY_TEXT, FORMAT_TEXT, HELP_TEXT, OPEN_TEXT, PROTECT_TEXT, RELAY_TEXT, SHOW_TEXT,
     VALIDATE_TEXT,
 };
-use super::{INPUT, OPENED, Outcome, expect};
+use super::{INPUT, OPENED, Outcome, expect, status_of};
 use std::alloc::Global;
 use std::fs::File;
 use std::net::Net;
@@ -33,15 +33,13 @@ fn prints_its_version(rt: HostRuntime) {
     expect(&rt, rt.alloc(), &["--version"], "", version);
 }
 
-/// Asks for help on a subcommand with both flags, and asserts that it begins with this usage.
+/// Asks for help on a subcommand with both flags.
 fn expect_help(
     rt: &(impl Abort + Files<File = File> + Net),
     alloc: Global,
     name: &str,
-    usage: &str,
     text: &'static str,
 ) {
-    assert!(rt; text.starts_with(usage), "{name}");
     for flag in FLAGS {
         expect(rt, alloc, &[name, *flag], "", Outcome::Done(text));
     }
@@ -49,37 +47,41 @@ fn expect_help(
 
 #[test]
 fn prints_help_on_frames_and_commands(rt: HostRuntime) {
-    let alloc = rt.alloc();
-    expect_help(&rt, alloc, "open", "usage: macsecd [open]\n", OPEN_TEXT);
-    expect_help(
-        &rt,
-        alloc,
-        "apply",
-        "usage: macsecd apply DISK FILE\n",
-        APPLY_TEXT,
-    );
+    expect_help(&rt, rt.alloc(), "open", OPEN_TEXT);
+    expect_help(&rt, rt.alloc(), "apply", APPLY_TEXT);
 }
 
 #[test]
 fn prints_help_on_disks(rt: HostRuntime) {
-    let alloc = rt.alloc();
-    expect_help(
-        &rt,
-        alloc,
-        "format",
-        "usage: macsecd format DISK SCI TX RX\n",
-        FORMAT_TEXT,
-    );
-    expect_help(&rt, alloc, "show", "usage: macsecd show DISK\n", SHOW_TEXT);
+    expect_help(&rt, rt.alloc(), "format", FORMAT_TEXT);
+    expect_help(&rt, rt.alloc(), "show", SHOW_TEXT);
 }
 
 #[test]
 fn prints_help_on_captures(rt: HostRuntime) {
-    let alloc = rt.alloc();
-    let protect = "usage: macsecd protect DISK INPUT OUTPUT\n";
-    expect_help(&rt, alloc, "protect", protect, PROTECT_TEXT);
-    let validate = "usage: macsecd validate DISK INPUT OUTPUT\n";
-    expect_help(&rt, alloc, "validate", validate, VALIDATE_TEXT);
+    expect_help(&rt, rt.alloc(), "protect", PROTECT_TEXT);
+    expect_help(&rt, rt.alloc(), "validate", VALIDATE_TEXT);
+}
+
+#[test]
+fn prints_help_on_relays(rt: HostRuntime) {
+    expect_help(&rt, rt.alloc(), "relay", RELAY_TEXT);
+}
+
+/// Asserts that what is printed for these words has this part.
+fn expect_part(
+    rt: &(impl Abort + Files<File = File> + Net),
+    alloc: Global,
+    words: &[&str],
+    part: &str,
+) {
+    let mut out = Vec::new(alloc);
+    let mut err = Vec::new(alloc);
+    status_of(rt, alloc, words, &mut b"".as_slice(), &mut out, &mut err);
+    let Ok(printed) = str::from_utf8(out.as_slice()) else {
+        panic!(rt; "no text");
+    };
+    assert!(rt; printed.contains(part), "{part}");
 }
 
 /// The subcommands with their values, as the help lists them.
@@ -90,12 +92,13 @@ const FORMS: &[&str] = &[
     "\n  show DISK   ",
     "\n  protect DISK INPUT OUTPUT   ",
     "\n  validate DISK INPUT OUTPUT   ",
+    "\n  relay DISK OWN1 PEER1 OWN2 PEER2 --turns n\n",
 ];
 
 #[test]
 fn lists_each_subcommand(rt: HostRuntime) {
     for form in FORMS {
-        assert!(rt; HELP_TEXT.contains(*form), "{form}");
+        expect_part(&rt, rt.alloc(), &["--help"], form);
     }
 }
 
@@ -127,7 +130,7 @@ const NAMED: &[(&str, &[&str], &str, Outcome)] = &[
 #[test]
 fn names_what_there_is(rt: HostRuntime) {
     for (name, words, input, outcome) in NAMED {
-        assert!(rt; HELP_TEXT.contains(*name), "{name}");
+        expect_part(&rt, rt.alloc(), &["--help"], name);
         expect(&rt, rt.alloc(), words, input, *outcome);
     }
 }
@@ -142,18 +145,7 @@ const NAMED_OF_OPEN: &[(&str, &str, Outcome)] = &[
 #[test]
 fn names_what_open_does(rt: HostRuntime) {
     for (name, input, outcome) in NAMED_OF_OPEN {
-        assert!(rt; OPEN_TEXT.contains(*name), "{name}");
+        expect_part(&rt, rt.alloc(), &["open", "--help"], name);
         expect(&rt, rt.alloc(), &["open"], input, *outcome);
     }
-}
-
-#[test]
-fn prints_help_on_relays(rt: HostRuntime) {
-    expect_help(
-        &rt,
-        rt.alloc(),
-        "relay",
-        "usage: macsecd relay DISK OWN1 PEER1 OWN2 PEER2 --turns n\n",
-        RELAY_TEXT,
-    );
 }

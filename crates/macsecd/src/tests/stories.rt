@@ -1,21 +1,40 @@
 //! Stories of runs over files in a folder of their own.
 
-use super::{Outcome, expect};
+use super::peers::{OWN1, OWN2, Peers};
+use super::stand_in::{Broken, StandIn};
+use super::{Outcome, expect, expect_over, status_of};
 use std::alloc::Global;
-use std::fs;
-use std::fs::{File, OpenOptions, Permissions};
-use std::io::{Read, Write};
+use std::fs::{File, OpenOptions};
+use std::io::{ErrorKind, Read, Write};
 use std::net::Net;
-use std::os::unix::fs::PermissionsExt;
 use std::process::Abort;
 use std::rt::Files;
 use std::test::Fail;
+use std::{fs, io};
+
+/// The frames of a relay, spelled in hex.
+#[derive(Clone, Copy)]
+pub struct Frames {
+    /// What the peer of the first wire sends, and what comes to that of the second for it.
+    pub plain: &'static str,
+    pub protected: &'static str,
+    /// What the peer of the second wire sends, and what comes to that of the first for it.
+    pub arrived: &'static str,
+    pub delivered: &'static str,
+}
 
 /// A step of a story. Files and folders are named by their paths.
 #[derive(Clone, Copy)]
 pub enum Step {
     /// Runs these words.
     Run(&'static [&'static str], Outcome),
+    /// Runs these words where the file of this path fails so.
+    Failing(&'static str, Broken, &'static [&'static str], Outcome),
+    /// Runs these words over a standard output that takes so many writes and so many flushes, and then
+    /// fails: that is `output`.
+    Closing(u32, u32, &'static [&'static str]),
+    /// Relays these frames on this disk.
+    Relay(&'static str, Frames, Outcome),
     /// Makes a file of this text.
     Text(&'static str, &'static str),
     /// Makes a file of octets that are spelled in hex.
@@ -26,10 +45,10 @@ pub enum Step {
     Folder(&'static str),
     /// Writes 0xff over the first octet of a file.
     Spoil(&'static str),
-    /// Nobody may read or write the file.
-    Shut(&'static str),
     /// The file holds these octets, spelled in hex.
     Holds(&'static str, &'static str),
+    /// The file has so many octets.
+    HasOctets(&'static str, u64),
     /// There is no such file.
     IsMissing(&'static str),
 }
@@ -76,6 +95,113 @@ fn spoil(rt: &(impl Abort + Files<File = File> + Net), path: &str) -> Result<(),
     Ok(())
 }
 
+/// Runs these words where the file of a path fails.
+fn expect_failing(
+    rt: &(impl Abort + Files<File = File> + Net),
+    alloc: Global,
+    path: &'static str,
+    broken: Broken,
+    words: &[&str],
+    outcome: Outcome,
+) {
+    let system = StandIn {
+        system: rt,
+        path,
+        broken,
+        peers: None,
+    };
+    expect_over(rt, &system, alloc, words, &mut b"".as_slice(), outcome);
+}
+
+/// A writer that takes so many writes and so many flushes, and then fails.
+#[derive(Drop)]
+struct Closing {
+    writes: u32,
+    flushes: u32,
+}
+
+/// One call less, where there is one left.
+fn counted_down(left: &mut u32) -> io::Result<()> {
+    if *left == 0 {
+        return Err(io::Error::from(ErrorKind::BrokenPipe));
+    }
+    *left -= 1;
+    Ok(())
+}
+
+impl Write for Closing {
+    fn write(&mut self, from: &[u8]) -> io::Result<usize> {
+        counted_down(&mut self.writes)?;
+        Ok(from.len())
+    }
+
+    fn flush(&mut self) -> io::Result<()> {
+        counted_down(&mut self.flushes)
+    }
+}
+
+/// Words over a writer that fails end with status 5 and the line that says so.
+fn expect_output(
+    rt: &(impl Abort + Files<File = File> + Net),
+    alloc: Global,
+    writes: u32,
+    flushes: u32,
+    words: &[&str],
+) {
+    let mut out = Closing { writes, flushes };
+    let mut err = Vec::new(alloc);
+    let status = status_of(rt, alloc, words, &mut b"".as_slice(), &mut out, &mut err);
+    assert_eq!(rt; err.as_slice(), b"macsecd: output\n".as_slice());
+    assert_eq!(rt; status, 5);
+}
+
+/// Relays over a system between the wires of two peers.
+fn expect_relay<'a>(
+    rt: &'a (impl Abort + Files<File = File> + Net),
+    alloc: Global,
+    disk: &'a str,
+    peers: &'a Peers,
+    peer1: &'a str,
+    peer2: &'a str,
+    outcome: Outcome,
+) {
+    let system = StandIn {
+        system: rt,
+        path: "",
+        broken: Broken::Nothing,
+        peers: Some(peers),
+    };
+    let words = ["relay", disk, OWN1, peer1, OWN2, peer2, "--turns", "1000"];
+    expect_over(rt, &system, alloc, &words, &mut b"".as_slice(), outcome);
+}
+
+/// Relays a frame each way, and looks at what comes to the peers.
+fn relay(
+    rt: &(impl Abort + Files<File = File> + Net),
+    alloc: Global,
+    disk: &str,
+    frames: Frames,
+    outcome: Outcome,
+) -> Result<(), Fail> {
+    let plain = octets_of(rt, alloc, frames.plain)?;
+    let arrived = octets_of(rt, alloc, frames.arrived)?;
+    let peers = Peers::new(rt, plain, arrived)?;
+    let (peer1, peer2) = peers.addresses(alloc)?;
+    expect_relay(
+        rt,
+        alloc,
+        disk,
+        &peers,
+        peer1.as_str(),
+        peer2.as_str(),
+        outcome,
+    );
+    let delivered = octets_of(rt, alloc, frames.delivered)?;
+    let protected = octets_of(rt, alloc, frames.protected)?;
+    assert!(rt; peers.have(&delivered, &protected));
+    Ok(())
+}
+
 /// Takes one step.
 fn take(
     rt: &(impl Abort + Files<File = File> + Net),
@@ -84,17 +210,22 @@ fn take(
 ) -> Result<(), Fail> {
     match step {
         Step::Run(words, outcome) => expect(rt, alloc, words, "", outcome),
+        Step::Failing(path, broken, words, outcome) => {
+            expect_failing(rt, alloc, path, broken, words, outcome);
+        }
+        Step::Closing(writes, flushes, words) => expect_output(rt, alloc, writes, flushes, words),
+        Step::Relay(disk, frames, outcome) => relay(rt, alloc, disk, frames, outcome)?,
         Step::Text(path, text) => make(rt, path, text.as_bytes())?,
         Step::Hex(path, text) => make(rt, path, octets_of(rt, alloc, text)?.as_slice())?,
         Step::Filled(path, octet, count) => fill(rt, alloc, path, octet, count)?,
         Step::Folder(path) => fs::create_dir(rt, path)?,
         Step::Spoil(path) => spoil(rt, path)?,
-        Step::Shut(path) => fs::set_permissions(rt, path, Permissions::from_mode(0))?,
         Step::Holds(path, text) => {
             let mut found = Vec::new(alloc);
             fs::open(rt, path)?.read_to_end(&mut found)?;
             assert_eq!(rt; found.as_slice(), octets_of(rt, alloc, text)?.as_slice());
         }
+        Step::HasOctets(path, count) => assert_eq!(rt; fs::metadata(rt, path)?.len(), count),
         Step::IsMissing(path) => assert!(rt; !fs::exists(rt, path)?),
     }
     Ok(())

@@ -17,4 +17,4 @@ returns-in_err-is_refused-clause-ended g c =
     rw (p.1, p.2) (some-applied g.D.SectorDisk.disk c.args.endpoint.now c.loop-i.endpoint c.apply_command.new.endpoint c.args.commands.now c.loop-i.i _
     c.index-commands-i.result (g.W.Write.contents c.args.out.now) (g.W.Write.contents c.loop-i.out) (g.W.Write.contents c.apply_command.new.out)
     c.loop-i.status c.in_err-is_refused.field-0.0 c.loop-i-test.true c.index-commands-i.is c.loop-i.invariant c.in_err-is_refused.ensures.ended
-    (λ fault is. ap g.W.Write.contents (c.in_err-is_refused.ensures.silent fault is)))
+    (λ other. ap g.W.Write.contents (c.in_err-is_refused.ensures.silent other)))

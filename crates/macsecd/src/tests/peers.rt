@@ -1,0 +1,92 @@
+//! The peers of two wires: a frame of theirs waits at each wire as soon as it is bound.
+
+use std::alloc::Global;
+use std::cell::Cell;
+use std::io;
+use std::io::ErrorKind;
+use std::net::{Net, SocketAddr, UdpSocket};
+use std::test::Fail;
+
+/// Where the first wire is bound, and where the second one: with any port.
+pub const OWN1: &str = "127.0.0.1:0";
+
+pub const OWN2: &str = "127.0.0.2:0";
+
+/// An address of loopback, with any port.
+fn at(octet: u8) -> SocketAddr {
+    SocketAddr::from(([127, 0, 0, octet], 0))
+}
+
+/// The peer of a wire, and the frame that it sends.
+#[derive(Drop)]
+struct Peer {
+    socket: UdpSocket,
+    frame: Vec<u8>,
+}
+
+impl Peer {
+    /// A peer that does not wait.
+    fn new(net: &impl Net, frame: Vec<u8>) -> io::Result<Peer> {
+        let socket = UdpSocket::bind(net, at(1))?;
+        socket.set_nonblocking(true)?;
+        Ok(Peer { socket, frame })
+    }
+
+    /// Whether this frame comes, where the peer is asked at most 1,000 times.
+    fn has(&self, frame: &[u8]) -> bool {
+        let mut room = [0; 2_048];
+        for _ in 0..1_000_u32 {
+            if let Ok((count, _)) = self.socket.recv_from(&mut room) {
+                return &room[..count] == frame;
+            }
+        }
+        false
+    }
+}
+
+/// The peers of both wires.
+#[derive(Drop)]
+pub struct Peers {
+    first: Peer,
+    second: Peer,
+    /// Whether the first wire is bound.
+    is_begun: Cell<bool>,
+}
+
+impl Peers {
+    pub fn new(net: &impl Net, first: Vec<u8>, second: Vec<u8>) -> Result<Peers, Fail> {
+        Ok(Peers {
+            first: Peer::new(net, first)?,
+            second: Peer::new(net, second)?,
+            is_begun: Cell::new(false),
+        })
+    }
+
+    /// Binds a wire, and has its peer's frame wait there. A wire that is bound out of its turn is refused.
+    pub fn bind(&self, net: &impl Net, own: SocketAddr) -> io::Result<UdpSocket> {
+        let is_first = own == at(1);
+        if is_first == self.is_begun.get() {
+            return Err(io::Error::from(ErrorKind::AddrNotAvailable));
+        }
+        self.is_begun.set(true);
+        let wire = net.bind_udp(own)?;
+        let peer = if is_first { &self.first } else { &self.second };
+        peer.socket.send_to(&peer.frame, wire.local_addr()?)?;
+        Ok(wire)
+    }
+
+    /// The addresses of the first peer and of the second, as texts.
+    pub fn addresses(&self, alloc: Global) -> Result<(String, String), Fail> {
+        let first = self.first.socket.local_addr()?;
+        let second = self.second.socket.local_addr()?;
+        Ok((
+            format!(in alloc; "{first}")?,
+            format!(in alloc; "{second}")?,
+        ))
+    }
+
+    /// Whether these frames have come to the first peer and to the second.
+    pub fn have(&self, first: &[u8], second: &[u8]) -> bool {
+        self.first.has(first) && self.second.has(second)
+    }
+}
