@@ -84,35 +84,54 @@ fn the_script_has_so_many_device_calls(rt: HostRuntime) {
     assert!(rt; !is_cut);
 }
 
-/// Half of the calls of a format.
-const HALF_FORMAT: u64 = 134;
-
-/// Nothing is pending at the first four calls, one body at the fifth, and two at the 129 behind it. Where a write fills
-/// its sector, that is one more.
-#[test]
-fn the_first_half_of_a_format_is_stopped_at_each_call(rt: HostRuntime) {
-    let dead = 4 + 6 + 129 * 36;
-    let filled = 3 + 6 + 36 + 129 * 36;
+/// So many calls of a format from one on are stopped, at which two bodies are pending: the reads of gates and the
+/// sync behind them.
+fn expect_bodies(rt: &impl Abort, alloc: Global, first: u64, calls: u64) {
+    assert!(rt; first < FORMAT);
+    assert!(rt; calls < FORMAT);
     let totals = Totals {
-        stops: 2 * HALF_FORMAT,
-        losses: dead + filled,
+        stops: 2 * calls,
+        losses: 2 * 36 * calls,
         openings: 0,
     };
-    expect(&rt, rt.alloc(), [0, HALF_FORMAT], Loses, totals);
+    expect(rt, alloc, [first, first + calls], Loses, totals);
 }
 
-/// Two bodies are pending at the first 128 calls, nothing when the head gate is written, and that gate at the last sync.
+/// Nothing is pending at the first four calls, one body at the fifth, and two at the 65 behind it. Where a write fills
+/// its sector, that is one more.
 #[test]
-fn the_second_half_of_a_format_is_stopped_at_each_call(rt: HostRuntime) {
-    let dead = 128 * 36 + 1 + 6;
-    let filled = 128 * 36 + 6 + 6;
-    let stops = 2 * (FORMAT - HALF_FORMAT);
+fn the_start_of_a_format_is_stopped_at_each_call(rt: HostRuntime) {
+    let dead = 4 + 6 + 65 * 36;
+    let filled = 3 + 6 + 36 + 65 * 36;
     let totals = Totals {
-        stops,
+        stops: 2 * 70,
         losses: dead + filled,
         openings: 0,
     };
-    expect(&rt, rt.alloc(), [HALF_FORMAT, FORMAT], Loses, totals);
+    expect(&rt, rt.alloc(), [0, 70], Loses, totals);
+}
+
+#[test]
+fn the_first_reads_of_a_format_are_stopped_at_each_call(rt: HostRuntime) {
+    expect_bodies(&rt, rt.alloc(), 70, 64);
+}
+
+#[test]
+fn further_reads_of_a_format_are_stopped_at_each_call(rt: HostRuntime) {
+    expect_bodies(&rt, rt.alloc(), 134, 66);
+}
+
+/// Two bodies are pending at the first 62 calls, nothing when the head gate is written, and that gate at the last sync.
+#[test]
+fn the_end_of_a_format_is_stopped_at_each_call(rt: HostRuntime) {
+    let dead = 62 * 36 + 1 + 6;
+    let filled = 62 * 36 + 6 + 6;
+    let totals = Totals {
+        stops: 2 * 64,
+        losses: dead + filled,
+        openings: 0,
+    };
+    expect(&rt, rt.alloc(), [200, FORMAT], Loses, totals);
 }
 
 /// Nothing is pending.
