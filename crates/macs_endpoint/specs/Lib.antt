@@ -11,6 +11,7 @@ pub mod Ceilings
 pub mod Limits
 pub mod Advancing
 pub mod Counting
+pub mod Following
 pub mod Calls
 pub mod Told
 pub mod Parts

@@ -8,11 +8,10 @@ ghost use Rattle.macs_rxsc.specs.Value as rxsc;
 ghost use Rattle.macs_rxsc.specs.Receive.{has_channel, put_numbers, first_numbers, numbers_under_window};
 ghost use Rattle.macs_store.specs.Value.{standing_in};
 ghost use Rattle.macs_store.specs.Standing.{Standing, accept};
-ghost use Rattle.macs_endpoint.specs.Counting.{channel_counters_after_command};
 ghost use Rattle.macs_endpoint.specs.Ceilings.{standing_with_raise};
+ghost use Rattle.macs_endpoint.specs.Following.{Follows, is_of_rx};
 ghost use Rattle.macs_endpoint.specs.Told.{raise_of};
 ghost use Rattle.macs_endpoint.specs.Value.{AreChannels, IsRaiseWithin};
-ghost use Rattle.macs_endpoint.specs.Step.{next_after, numbers_after};
 
 use crate::refilling::Raise;
 use macs_config::Command;
@@ -34,28 +33,38 @@ impl Channels {
     pub(crate) fn follow<D: SectorDisk>(&mut self, command: &Command, store: &Store<D>)
         requires { (before : Standing) × AreChannels self.old.tx self.old.rx before
             × (accept before command.now ≡ Ok (standing_in store.now)) }
-        ensures channels { AreChannels self.new.tx self.new.rx (standing_in store.now) }
-        ensures next { (txsc.tx_side_of self.new.tx).next ≡ next_after command.now (txsc.tx_side_of self.old.tx).next }
-        ensures numbers { (rxsc.rx_side_of self.new.rx).numbers ≡ numbers_after command.now (rxsc.rx_side_of self.old.rx).numbers }
-        ensures tx_counters { txsc.counters_of self.new.tx ≡ txsc.counters_of self.old.tx }
-        ensures rx_counters { rxsc.counters_of self.new.rx ≡ rxsc.counters_of self.old.rx }
-        ensures channel_counters { rxsc.channel_counters_of self.new.rx
-            ≡ channel_counters_after_command command.now (rxsc.channel_counters_of self.old.rx) }
+        ensures { Follows command.now (standing_in store.now) self.old.tx self.old.rx self.new.tx self.new.rx }
     {
-        match command {
+        match *command {
             Command::SetValidate(_) | Command::SetReplay { .. } => set_policy(&mut self.rx, store),
-            Command::SetSciMode(mode) => self.tx.set_mode(*mode),
+            Command::SetSciMode(mode) => self.tx.set_mode(mode),
             Command::TxInstall { an, start, .. } => {
-                install_tx(&mut self.tx, store, *an, u64::from(*start));
+                install_tx(&mut self.tx, store, an, u64::from(start));
             }
-            Command::TxUse { an } => self.tx.select(*an),
-            Command::TxRemove { an } => self.tx.remove(*an),
-            Command::RxAdd { sci } => self.rx.add(*sci),
-            Command::RxDrop { sci } => self.rx.drop_channel(*sci),
+            Command::TxUse { an } => self.tx.select(an),
+            Command::TxRemove { an } => self.tx.remove(an),
+            Command::RxAdd { .. }
+            | Command::RxDrop { .. }
+            | Command::RxInstall { .. }
+            | Command::RxRemove { .. } => self.follow_rx(command, store),
+        }
+    }
+
+    /// Follows a command of a receive channel or of an association of one, which the store keeps.
+    fn follow_rx<D: SectorDisk>(&mut self, command: &Command, store: &Store<D>)
+        requires received { is_of_rx command.now ≡ true }
+        requires kept { (before : Standing) × AreChannels self.old.tx self.old.rx before
+            × (accept before command.now ≡ Ok (standing_in store.now)) }
+        ensures { Follows command.now (standing_in store.now) self.old.tx self.old.rx self.new.tx self.new.rx }
+    {
+        match *command {
+            Command::RxAdd { sci } => self.rx.add(sci),
+            Command::RxDrop { sci } => self.rx.drop_channel(sci),
             Command::RxInstall { sci, an, start, .. } => {
-                install_rx(&mut self.rx, store, *sci, *an, u64::from(*start));
+                install_rx(&mut self.rx, store, sci, an, u64::from(start));
             }
-            Command::RxRemove { sci, an } => self.rx.remove(*sci, *an),
+            Command::RxRemove { sci, an } => self.rx.remove(sci, an),
+            _ => {} // No other command is.
         }
     }
 

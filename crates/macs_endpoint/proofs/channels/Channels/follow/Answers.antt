@@ -1,4 +1,4 @@
-use Rattle.std.proofs.Common.{◌≡◌, Ok, ap, subst, arith}
+use Rattle.std.proofs.Common.{◌≡◌, Ok, ap, subst, arith, rules}
 use Rattle.macs_config.specs.declared.command.Command.{Command}
 use Rattle.macs_rxsc.specs.Receive.{RxSide}
 use Rattle.macs_rxsc.specs.Value as rxsc
@@ -20,35 +20,29 @@ install_tx-requires-clause-ordered g c =
     tx-ordered c.requires.0 (standing_in c.args.store.now) c.args.self.now.tx c.args.self.now.rx c.requires.1 i.an i.key i.start i.confidential i.offset done
     c.from.result c.from.ensures (omega arith)
 
-pub install_rx-requires-clause-stands : goal.install_rx-requires-clause-stands
-install_rx-requires-clause-stands g c =
-    let i = c.in-RxInstall in
-    let done = subst (λ (x : Command). accept c.requires.0 x ≡ Ok (standing_in c.args.store.now)) i.is c.requires.2 in
-    rx-stands c.requires.0 (standing_in c.args.store.now) c.args.self.now.tx c.args.self.now.rx c.requires.1 i.sci i.an i.key i.start i.offset done
-
-pub install_rx-requires-clause-ordered : goal.install_rx-requires-clause-ordered
-install_rx-requires-clause-ordered g c =
-    let i = c.in-RxInstall in
-    let done = subst (λ (x : Command). accept c.requires.0 x ≡ Ok (standing_in c.args.store.now)) i.is c.requires.2 in
-    rx-ordered c.requires.0 (standing_in c.args.store.now) c.args.self.now.tx c.args.self.now.rx c.requires.1 i.sci i.an i.key i.start i.offset done
-    c.from-in-RxInstall.result c.from-in-RxInstall.ensures
-
-pub returns-in-TxInstall-clause-channels : goal.returns-in-TxInstall-clause-channels
-returns-in-TxInstall-clause-channels g c =
+pub returns-in-TxInstall : goal.returns-in-TxInstall
+returns-in-TxInstall g c =
     let i = c.in-TxInstall in
     let done = subst (λ (x : Command). accept c.requires.0 x ≡ Ok (standing_in c.args.store.now)) i.is c.requires.2 in
-    tx-installed c.requires.0 (standing_in c.args.store.now) c.args.self.now.tx c.args.self.now.rx c.requires.1 i.an i.key i.start i.confidential i.offset done
-    c.from.result c.install_tx.new.tx c.install_tx.ensures.side c.install_tx.ensures.ceilings
+    record {
+      channels = tx-installed c.requires.0 (standing_in c.args.store.now) c.args.self.now.tx c.args.self.now.rx c.requires.1 i.an i.key i.start i.confidential i.offset done
+          c.from.result c.install_tx.new.tx c.install_tx.ensures.side c.install_tx.ensures.ceilings;
+      next = search rules;
+      numbers = search rules;
+      tx_counters = search rules;
+      rx_counters = search rules;
+      channel_counters = search rules;
+    }
 
-pub returns-in-RxInstall-clause-channels : goal.returns-in-RxInstall-clause-channels
-returns-in-RxInstall-clause-channels g c =
-    let i = c.in-RxInstall in
-    let done = subst (λ (x : Command). accept c.requires.0 x ≡ Ok (standing_in c.args.store.now)) i.is c.requires.2 in
-    rx-installed c.requires.0 (standing_in c.args.store.now) c.args.self.now.tx c.args.self.now.rx c.requires.1 i.sci i.an i.key i.start i.offset done
-    c.from-in-RxInstall.result c.install_rx.new.rx c.install_rx.ensures.side c.install_rx.ensures.ceilings
-
-pub returns-in-SetValidate-clause-numbers : goal.returns-in-SetValidate-clause-numbers
-returns-in-SetValidate-clause-numbers g c =
-    numbers-after c.requires.0 (standing_in c.args.store.now) c.args.self.now.tx c.args.self.now.rx c.requires.1 c.args.command.now c.requires.2
-    (rxsc.rx_side_of c.set_policy.new.rx).numbers c.in-SetValidate.is (ap (λ (r : RxSide). r.numbers) c.set_policy.ensures.side)
-    c.set_policy.ensures.same_window
+pub returns-in-SetValidate : goal.returns-in-SetValidate
+returns-in-SetValidate g c =
+    record {
+      channels = search rules;
+      next = search rules;
+      numbers = numbers-after c.requires.0 (standing_in c.args.store.now) c.args.self.now.tx c.args.self.now.rx c.requires.1 c.args.command.now c.requires.2
+          (rxsc.rx_side_of c.set_policy.new.rx).numbers c.in-SetValidate.is (ap (λ (r : RxSide). r.numbers) c.set_policy.ensures.side)
+          c.set_policy.ensures.same_window;
+      tx_counters = search rules;
+      rx_counters = search rules;
+      channel_counters = search rules;
+    }

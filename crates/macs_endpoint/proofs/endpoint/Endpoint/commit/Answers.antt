@@ -6,7 +6,7 @@ use Rattle.macs_store.specs.declared.fault.CommitFault.{CommitFault}
 use Rattle.macs_store.specs.declared.fault.CommitFault.TheVariants as commit
 use Rattle.macs_endpoint.specs.Parts.{endpoint_of}
 use Rattle.macs_endpoint.specs.Value.{EndpointValue, is_stopped}
-use Rattle.macs_endpoint.proofs.Commanding.{cut-command, done-command, done-kept, spent-command, spent_only}
+use Rattle.macs_endpoint.proofs.Commanding.{cut-command, cut-kept, done-command, done-kept, spent-command, spent_only}
 use Rattle.macs_endpoint.proofs.endpoint.Endpoint.commit.Given.{Over}
 use Rattle.macs_endpoint.proofs.endpoint.Endpoint.commit.Goals.{After-commit}
 use Rattle.macs_endpoint.proofs.endpoint.Endpoint.commit.Goals as goal
@@ -38,6 +38,12 @@ invariant_of-self g c =
     let followed = c.follow.ensures in
     done-kept g.D.SectorDisk.disk (old g at) c.self.invariant c.args.command c.command_in_range.ensures (running g at) (idle g at) (none g at) (accepted g at)
     c.commit.new.self (commits g at (Ok tt) c.in-Ok.is) c.follow.new.self.tx c.follow.new.self.rx followed.channels followed.next followed.numbers
+
+pub invariant_of-self-in-Disk : goal.invariant_of-self-in-Disk
+invariant_of-self-in-Disk g c =
+    let at = (goal.at.invariant_of-self-in-Disk g c).After-commit in
+    cut-kept g.D.SectorDisk.disk (old g at) c.self.invariant c.args.command c.command_in_range.ensures (running g at) (idle g at) (none g at) (accepted g at)
+    c.commit.new.self (commits g at (Err commit.Disk) (c.in-Err.is ∙ ap Err c.in-Disk.is))
 
 pub returns-in-Ok : goal.returns-in-Ok
 returns-in-Ok g c =

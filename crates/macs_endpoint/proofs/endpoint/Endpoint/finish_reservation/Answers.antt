@@ -10,7 +10,7 @@ use Rattle.macs_endpoint.specs.Reserving.{ReservationEnds}
 use Rattle.macs_endpoint.specs.Told.{raise_of}
 use Rattle.macs_endpoint.specs.Value.{EndpointValue, IsAtRest, IsReserving, IsSoundEndpoint, is_stopped}
 use Rattle.macs_endpoint.specs.declared.refilling.Raise.{Raise}
-use Rattle.macs_endpoint.proofs.Ended.{IsDone, faulted-ends, finish-done, finished-ends, may-lift, none-ends, none-reserving, raised-kept, raised_to, which-reserving}
+use Rattle.macs_endpoint.proofs.Ended.{IsDone, faulted-ends, faulted-kept, finish-done, finished-ends, may-lift, none-ends, none-reserving, raised-kept, raised_to, which-reserving}
 use Rattle.macs_endpoint.proofs.endpoint.Endpoint.finish_reservation.Given.{Over}
 use Rattle.macs_endpoint.proofs.endpoint.Endpoint.finish_reservation.Goals.{After-finish, After-take}
 use Rattle.macs_endpoint.proofs.endpoint.Endpoint.finish_reservation.Goals as goal
@@ -59,6 +59,13 @@ raise-requires g c =
     let at = (goal.at.raise-requires g c).After-finish in
     may-lift (before g at) c.self.invariant (which g at).0 (raise_of c.in-Some.raise) (which g at).1 (standing_in c.finish.new.self)
     (done g at c.in_ok-finish.was).stands
+
+pub invariant_of-self-in_err-finish : goal.invariant_of-self-in_err-finish
+invariant_of-self-in_err-finish g c =
+    let at = (goal.at.invariant_of-self-in_err-finish g c).After-finish in
+    subst (λ (o : Option Raise). IsSoundEndpoint (record (before g at) { store = c.finish.new.self; reserving = option_map raise_of o })) (sym c.take.ensures.after)
+    (faulted-kept g.D.SectorDisk.disk (before g at) c.self.invariant (runs g at) (which g at).0 c.finish.new.self c.in_err-finish.field-0.0
+    (finishes g at (Err c.in_err-finish.field-0.0) c.in_err-finish.was))
 
 pub returns-in_err-finish : goal.returns-in_err-finish
 returns-in_err-finish g c =

@@ -12,7 +12,7 @@ use Rattle.macs_endpoint.specs.Value.{EndpointValue, IsKeeping, IsSoundEndpoint}
 use Rattle.macs_endpoint.specs.declared.progress.Step.TheVariants.{Done}
 use Rattle.macs_endpoint.specs.declared.queue.Waiting.{Waiting}
 use Rattle.macs_endpoint.specs.declared.turn.Turn.TheVariants as turn
-use Rattle.macs_endpoint.proofs.Stepped.{cut_short-call, followed-call, followed-kept, follows, gone_on-call, step_fault, still_going}
+use Rattle.macs_endpoint.proofs.Stepped.{cut_short-call, cut_short-kept, followed-call, followed-kept, follows, gone_on-call, gone_on-kept, step_fault, still_going}
 use Rattle.macs_endpoint.proofs.endpoint.Endpoint.go_on_keeping.Given.{Over}
 use Rattle.macs_endpoint.proofs.endpoint.Endpoint.go_on_keeping.Goals.{After-step}
 use Rattle.macs_endpoint.proofs.endpoint.Endpoint.go_on_keeping.Goals as goal
@@ -61,6 +61,17 @@ invariant_of-self g c =
     (followed-kept g.D.SectorDisk.disk (old g at) c.self.invariant (work g at) c.pop-done.result c.pop-done.new.self.waiting c.pop-done.ensures.waiting
     c.step.new.self (steps g at (Ok Finished) (c.in-Ok.is ∙ ap Ok c.in-Finished.is)) c.follow.new.self.tx c.follow.new.self.rx
     followed.channels followed.next followed.numbers)
+
+pub invariant_of-self-in_default : goal.invariant_of-self-in_default
+invariant_of-self-in_default g c =
+    let at = (goal.at.invariant_of-self-in_default g c).After-step in
+    gone_on-kept g.D.SectorDisk.disk (old g at) c.self.invariant (work g at).running c.step.new.self
+    (going g at c.in-Ok.progress c.in-Ok.is c.in_default.not-Finished) (inr (work g at))
+
+pub invariant_of-self-in-Err : goal.invariant_of-self-in-Err
+invariant_of-self-in-Err g c =
+    let at = (goal.at.invariant_of-self-in-Err g c).After-step in
+    cut_short-kept g.D.SectorDisk.disk (old g at) c.self.invariant (work g at) c.step.new.self (failed g at c.in-Err.field-0 c.in-Err.is)
 
 pub returns-in-Finished : goal.returns-in-Finished
 returns-in-Finished g c =

@@ -14,9 +14,9 @@ use Rattle.macs_endpoint.specs.Value.{EndpointValue, IsReserving, IsSoundEndpoin
 use Rattle.macs_endpoint.specs.declared.refilling.Raise.{Raise as Told}
 use Rattle.macs_endpoint.specs.declared.progress.Step.TheVariants.{Reserved}
 use Rattle.macs_endpoint.specs.declared.turn.Turn.TheVariants as turn
-use Rattle.macs_endpoint.proofs.Ended.{IsDone, may-lift, raised-kept, raised_to, step-done}
+use Rattle.macs_endpoint.proofs.Ended.{IsDone, given_up-kept, may-lift, raised-kept, raised_to, step-cut, step-done}
 use Rattle.macs_endpoint.proofs.InHand.{some_is}
-use Rattle.macs_endpoint.proofs.Stepped.{given_up-call, gone_on-call, reserved-call, step_fault, still_going}
+use Rattle.macs_endpoint.proofs.Stepped.{given_up-call, gone_on-call, gone_on-kept, reserved-call, step_fault, still_going}
 use Rattle.macs_endpoint.proofs.endpoint.Endpoint.go_on_reserving.Given.{Over}
 use Rattle.macs_endpoint.proofs.endpoint.Endpoint.go_on_reserving.Goals.{After-step}
 use Rattle.macs_endpoint.proofs.endpoint.Endpoint.go_on_reserving.Goals as goal
@@ -63,6 +63,19 @@ invariant_of-self g c =
     (sym c.take.ensures.after)
     (raised-kept g.D.SectorDisk.disk (old g at) c.self.invariant (work g at) c.step.new.self (done g at (c.in-Ok.is ∙ ap Ok c.in-Finished.is))
     c.raise.new.self.tx c.raise.new.self.rx turn.Command lifted.channels lifted.tx_side lifted.rx_side)
+
+pub invariant_of-self-in_default : goal.invariant_of-self-in_default
+invariant_of-self-in_default g c =
+    let at = (goal.at.invariant_of-self-in_default g c).After-step in
+    gone_on-kept g.D.SectorDisk.disk (old g at) c.self.invariant (work g at).running c.step.new.self
+    (going g at c.in-Ok.progress c.in-Ok.is c.in_default.not-Finished) (inl (work g at))
+
+pub invariant_of-self-in-Err : goal.invariant_of-self-in-Err
+invariant_of-self-in-Err g c =
+    let at = (goal.at.invariant_of-self-in-Err g c).After-step in
+    given_up-kept g.D.SectorDisk.disk (old g at) c.self.invariant (work g at) c.step.new.self
+    (step-cut g.D.SectorDisk.disk c.self.inside.store (raised_to g.D.SectorDisk.disk (old g at) c.self.invariant (work g at)) (work g at).leads c.step.new.self
+    (failed g at c.in-Err.field-0 c.in-Err.is))
 
 pub returns-in-Finished : goal.returns-in-Finished
 returns-in-Finished g c =

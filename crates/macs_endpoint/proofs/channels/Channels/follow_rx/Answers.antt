@@ -1,0 +1,35 @@
+use Rattle.std.proofs.Common.{◌≡◌, Ok, ap, subst, arith, rules}
+use Rattle.macs_config.specs.declared.command.Command.{Command}
+use Rattle.macs_rxsc.specs.Receive.{RxSide}
+use Rattle.macs_rxsc.specs.Value as rxsc
+use Rattle.macs_store.specs.Value.{standing_in}
+use Rattle.macs_store.specs.Standing.{accept}
+use Rattle.macs_endpoint.proofs.Following.{numbers-after, rx-installed, rx-ordered, rx-stands, tx-installed, tx-ordered, tx-stands}
+use Rattle.macs_endpoint.proofs.channels.Channels.follow_rx.Goals as goal
+
+pub install_rx-requires-clause-stands : goal.install_rx-requires-clause-stands
+install_rx-requires-clause-stands g c =
+    let i = c.in-RxInstall in
+    let done = subst (λ (x : Command). accept c.requires.kept.0 x ≡ Ok (standing_in c.args.store.now)) i.is c.requires.kept.2 in
+    rx-stands c.requires.kept.0 (standing_in c.args.store.now) c.args.self.now.tx c.args.self.now.rx c.requires.kept.1 i.sci i.an i.key i.start i.offset done
+
+pub install_rx-requires-clause-ordered : goal.install_rx-requires-clause-ordered
+install_rx-requires-clause-ordered g c =
+    let i = c.in-RxInstall in
+    let done = subst (λ (x : Command). accept c.requires.kept.0 x ≡ Ok (standing_in c.args.store.now)) i.is c.requires.kept.2 in
+    rx-ordered c.requires.kept.0 (standing_in c.args.store.now) c.args.self.now.tx c.args.self.now.rx c.requires.kept.1 i.sci i.an i.key i.start i.offset done
+    c.from.result c.from.ensures
+
+pub returns-in-RxInstall : goal.returns-in-RxInstall
+returns-in-RxInstall g c =
+    let i = c.in-RxInstall in
+    let done = subst (λ (x : Command). accept c.requires.kept.0 x ≡ Ok (standing_in c.args.store.now)) i.is c.requires.kept.2 in
+    record {
+      channels = rx-installed c.requires.kept.0 (standing_in c.args.store.now) c.args.self.now.tx c.args.self.now.rx c.requires.kept.1 i.sci i.an i.key i.start i.offset done
+          c.from.result c.install_rx.new.rx c.install_rx.ensures.side c.install_rx.ensures.ceilings;
+      next = search rules;
+      numbers = search rules;
+      tx_counters = search rules;
+      rx_counters = search rules;
+      channel_counters = search rules;
+    }
