@@ -66,6 +66,7 @@ pub record Run (D : Type 0) : Type 0 where
   pub source : SourceState
   pub sink : SinkState
 
+-- a run from its parts
 abbrev pub run_of : {D : Type 0} → EndpointValue D → SourceState → SinkState → Run D
 run_of endpoint source sink = record { endpoint = endpoint; source = source; sink = sink }
 

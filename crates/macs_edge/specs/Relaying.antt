@@ -22,12 +22,15 @@ use Rattle.macs_edge.specs.declared.wire.WireFault.{WireFault}
 
 -- ---- what is counted
 
+-- one frame more passed
 abbrev pub one_passed : Tally → Tally
 one_passed tally = record tally { passed = saturated (tally.passed + 1) }
 
+-- one frame more was dropped
 abbrev pub one_dropped : Tally → Tally
 one_dropped tally = record tally { dropped = saturated (tally.dropped + 1) }
 
+-- one failed call of a wire more
 abbrev pub one_fault : Tally → Tally
 one_fault tally = record tally { faults = saturated (tally.faults + 1) }
 
@@ -38,6 +41,7 @@ pub record LaneValue : Type 0 where
   pub slot : Option (List ℕ)
   pub tally : Tally
 
+-- what a way holds: a frame where it is full
 abbrev pub lane_value : Lane → LaneValue
 lane_value lane = record { slot = if lane.is_full then Some lane.frame.items else None; tally = lane.tally }
 
@@ -58,6 +62,7 @@ FillsSlot (Some frame) from lane from' lane' = (from' ≡ from) × (lane' ≡ la
 FillsSlot None from lane from' lane' =
     (answer : Result Got WireFault) × (frame : List ℕ) × Receives from answer frame from' × (lane' ≡ filled answer frame lane)
 
+-- the same of the slot of a way
 abbrev pub Fills : WireState → LaneValue → WireState → LaneValue → Type 0
 Fills from lane from' lane' = FillsSlot lane.slot from lane from' lane'
 
@@ -78,6 +83,7 @@ pub record Way (D : Type 0) : Type 0 where
   pub to : WireState
   pub lane : LaneValue
 
+-- a way from its parts
 abbrev pub way_of : {D : Type 0} → EndpointValue D → WireState → WireState → LaneValue → Way D
 way_of endpoint from to lane = record { endpoint = endpoint; from = from; to = to; lane = lane }
 
@@ -96,6 +102,7 @@ HandsSlot disk_of side (Some frame) old new =
     (reply : Reply) × IsSoundEndpoint old.endpoint × IsCall disk_of old.endpoint (call_on side frame) reply new.endpoint
     × (new.from ≡ old.from) × Becomes side frame reply old new
 
+-- the same of the slot of a way
 abbrev pub HandsOver : {D : Type 0} → (D → Disk) → Side → Way D → Way D → Type 0
 HandsOver disk_of side old new = HandsSlot disk_of side old.lane.slot old new
 
@@ -114,6 +121,7 @@ pub record Relay (D : Type 0) : Type 0 where
   pub to_common : LaneValue
   pub to_controlled : LaneValue
 
+-- the two ways from their parts
 abbrev pub relay_of : {D : Type 0} → EndpointValue D → WireState → WireState → LaneValue → LaneValue → Relay D
 relay_of endpoint controlled common to_common to_controlled =
     record { endpoint = endpoint; controlled = controlled; common = common; to_common = to_common; to_controlled = to_controlled }
@@ -138,6 +146,7 @@ TakesTurns {D} disk_of (suc turns) old new = (between : Relay D) × (progress : 
 
 -- ---- a run
 
+-- how many frames are left in a slot
 abbrev pub one_left : Option (List ℕ) → ℕ
 one_left None = 0
 one_left (Some frame) = 1

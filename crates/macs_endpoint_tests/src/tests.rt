@@ -6,6 +6,7 @@ mod compactions;
 mod counting;
 mod formatting;
 mod frames;
+mod orders;
 mod receiving;
 mod sending;
 mod serving;
@@ -17,15 +18,17 @@ mod steps;
 mod stops;
 mod torn;
 
-use frames::{PEER, PEER_KEY};
-use macs_config::{Command, Identity};
+use macs_config::Identity;
 use macs_disk::{Fuse, MemDisk, SectorDisk};
 use macs_endpoint::{Endpoint, format};
 use macs_frame::{An, Sci};
 use macs_rxsc::{Kind, Reason, Verdict};
+use orders::Channel;
+use orders::Order::{RxAdd, RxInstall, TxInstall, TxUse};
 use std::alloc::Global;
 use std::process::Abort;
-use steps::{Step, keeps, play};
+use steps::Step::{self, Keeps};
+use steps::{expect, play_last};
 
 /// How many sectors a disk needs.
 const SECTORS: u64 = 1_028;
@@ -43,9 +46,6 @@ const OWN: Sci = Sci([2, 0, 0, 0, 0, 1, 0, 1]);
 /// Another channel than the peer's.
 const OTHER: Sci = Sci([9; 8]);
 
-/// The command that adds the peer's channel.
-const ADD: Command = Command::RxAdd { sci: PEER };
-
 const OK: Verdict = Verdict::Delivered(Kind::Ok);
 
 const LATE: Verdict = Verdict::Discarded(Reason::Late);
@@ -56,37 +56,6 @@ const RUNT: Verdict = Verdict::Discarded(Reason::Runt);
 
 fn number_of(rt: &impl Abort, association: u8) -> An {
     An::new(association).expect(rt, "association number")
-}
-
-fn window(window: u32) -> Command {
-    Command::SetReplay { on: true, window }
-}
-
-/// A transmit association with confidentiality.
-fn tx_install(an: An, key: u128, start: u32) -> Command {
-    Command::TxInstall {
-        an,
-        key: key.to_be_bytes(),
-        start,
-        confidential: true,
-        offset: 0,
-    }
-}
-
-/// A receive association of the peer's channel.
-fn rx_install(an: An, start: u32) -> Command {
-    rx_install_of(PEER, an, start)
-}
-
-/// A receive association of a channel, under the peer's key.
-fn rx_install_of(sci: Sci, an: An, start: u32) -> Command {
-    Command::RxInstall {
-        sci,
-        an,
-        key: PEER_KEY.to_be_bytes(),
-        start,
-        offset: 0,
-    }
 }
 
 /// A disk in memory of so many sectors.
@@ -130,7 +99,7 @@ fn made_with(rt: &impl Abort, alloc: Global, sci: Sci, block: u32) -> Endpoint<M
 
 /// Takes these steps with a new endpoint.
 fn play_new(rt: &impl Abort, alloc: Global, sci: Sci, steps: &[Step]) {
-    play(rt, &mut made(rt, alloc, sci), steps);
+    play_last(rt, made(rt, alloc, sci), steps);
 }
 
 /// An endpoint whose frames go out under association 0, from a first packet number on.
@@ -149,25 +118,20 @@ fn wide_sender(rt: &impl Abort, alloc: Global, block: u32) -> Endpoint<MemDisk> 
 
 /// Has the frames of an endpoint go out under association 0, from a first packet number on.
 fn use_association(rt: &impl Abort, endpoint: &mut Endpoint<MemDisk>, start: u32) {
-    let an = number_of(rt, 0);
-    let steps = [
-        keeps(tx_install(an, 1, start)),
-        keeps(Command::TxUse { an }),
-    ];
-    play(rt, endpoint, &steps);
+    expect(rt, endpoint, Keeps(TxInstall(0, 1, start)));
+    expect(rt, endpoint, Keeps(TxUse(0)));
 }
 
 /// Gives an endpoint a channel and its association 2, from packet number 1 on.
-fn add_channel(rt: &impl Abort, endpoint: &mut Endpoint<MemDisk>, sci: Sci) {
-    let install = rx_install_of(sci, number_of(rt, 2), 1);
-    let steps = [keeps(Command::RxAdd { sci }), keeps(install)];
-    play(rt, endpoint, &steps);
+fn add_channel(rt: &impl Abort, endpoint: &mut Endpoint<MemDisk>, channel: Channel) {
+    expect(rt, endpoint, Keeps(RxAdd(channel)));
+    expect(rt, endpoint, Keeps(RxInstall(channel, 2, 1)));
 }
 
 /// An endpoint with the peer's channel and its association 2, from packet number 1 on.
 fn receiver(rt: &impl Abort, alloc: Global) -> Endpoint<MemDisk> {
     let mut endpoint = made(rt, alloc, OWN);
-    add_channel(rt, &mut endpoint, PEER);
+    add_channel(rt, &mut endpoint, Channel::Peer);
     endpoint
 }
 

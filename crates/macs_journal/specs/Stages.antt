@@ -44,6 +44,7 @@ IsCompactStage count (CloseGate k) = k < gates
 IsCompactStage count (Body slot) = slot < count
 IsCompactStage count stage = Unit {0}
 
+-- the same of the call that is next, if one is
 abbrev pub IsCompactNext : ℕ → Option CompactStage → Type 0
 IsCompactNext count (Some stage) = IsCompactStage count stage
 IsCompactNext count None = Unit {0}
@@ -59,6 +60,7 @@ compact_left count BodiesSync = 3
 compact_left count HeadGate = 2
 compact_left count HeadSync = 1
 
+-- and how many of those are left, with the call that is next, if one is
 abbrev pub compact_left_next : ℕ → Option CompactStage → ℕ
 compact_left_next count (Some stage) = compact_left count stage
 compact_left_next count None = 0

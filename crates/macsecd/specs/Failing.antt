@@ -30,50 +30,60 @@ use Rattle.macsecd.specs.declared.values.ValueFault.TheVariants as value
 
 -- ---- which failure a fault is
 
+-- words that are no right usage, or want of memory
 abbrev pub failure_of_words : UsageFault → Failure
 failure_of_words (usage.Usage cause) = failure.Usage cause
 failure_of_words usage.Memory = failure.Memory
 
+-- a disk file that does not open, whose length does not serve, or want of memory
 abbrev pub failure_of_file : FileFault → Failure
 failure_of_file file.Open = failure.Disk disk.File
 failure_of_file file.Length = failure.Disk disk.Length
 failure_of_file file.Memory = failure.Memory
 
+-- a fault of the journal on the disk
 abbrev pub failure_of_journal : JournalFault → Failure
 failure_of_journal fault = failure.Disk (disk.Journal fault)
 
+-- a command file that is wrong, or want of memory
 abbrev pub failure_of_commands : ConfigFault → Failure
 failure_of_commands config.Memory = failure.Memory
 failure_of_commands fault = failure.Commands
 
+-- packet numbers that are not reserved
 abbrev pub failure_of_refill : RefillFault → Failure
 failure_of_refill refill.Stopped = failure_of_journal journal.Stopped
 failure_of_refill refill.Busy = failure.Disk disk.Busy
 failure_of_refill refill.GenerationsSpent = failure_of_journal journal.GenerationsSpent
 failure_of_refill refill.Disk = failure_of_journal journal.Disk
 
+-- a capture that is wrong, want of memory, or a fault of the disk
 abbrev pub failure_of_run : RunFault → Failure
 failure_of_run (Pcap pcap.Memory) = failure.Memory
 failure_of_run (Pcap fault) = failure.Capture
 failure_of_run (Device fault) = failure_of_refill fault
 
+-- an address that cannot be bound, or want of memory
 abbrev pub failure_of_bind : BindFault → Failure
 failure_of_bind bind.Memory = failure.Memory
 failure_of_bind bind.Bind = failure.Wire
 
 -- ---- what the program says of it, in one line
 
+-- a value of a new endpoint
 abbrev pub value_fault_text : ValueFault → List ℕ
 value_fault_text value.Sci = codes "SCI is not 16 hex digits"
 value_fault_text value.TxBlock = codes "TX is not 1 to 65536"
 value_fault_text value.RxBlock = codes "RX is not 1 to 65536"
 
+-- an address of a wire
 abbrev pub address_fault_text : AddressFault → List ℕ
 address_fault_text address.Own1 = codes "OWN1 is not an address and a port"
 address_fault_text address.Peer1 = codes "PEER1 is not an address and a port"
 address_fault_text address.Own2 = codes "OWN2 is not an address and a port"
 address_fault_text address.Peer2 = codes "PEER2 is not an address and a port"
 
+-- what stands on the disk, or a device call that failed
 abbrev pub disk_fault_text : DiskFault → List ℕ
 disk_fault_text disk.File = codes "disk file"
 disk_fault_text disk.Length = codes "disk length"
@@ -86,6 +96,7 @@ disk_fault_text (disk.Journal journal.NotFormatted) = codes "not formatted"
 disk_fault_text (disk.Journal journal.BadJournal) = codes "bad journal"
 disk_fault_text (disk.Journal journal.GenerationsSpent) = codes "generations spent"
 
+-- a line of the input
 abbrev pub input_fault_text : InputFault → List ℕ
 input_fault_text input.Input = codes "input"
 input_fault_text input.Key = codes "key"
@@ -93,6 +104,7 @@ input_fault_text input.Sci = codes "sci"
 input_fault_text input.Offset = codes "offset"
 input_fault_text input.Frame = codes "frame"
 
+-- each failure
 abbrev pub failure_text : Failure → List ℕ
 failure_text (failure.Usage cause) = string_bytes cause
 failure_text (failure.Value fault) = value_fault_text fault

@@ -2,14 +2,21 @@
 
 use super::formatting::expect_sector;
 use super::frames::PEER;
-use super::steps::Step::{Commands, HasInHand, HasNext, HasWindow, IsStopped, Refills};
-use super::steps::{arrives, keeps, numbers, play, refills, refuses, sends, story, waits};
+use super::orders::ADD;
+use super::orders::Channel::Peer;
+use super::orders::Order::{RxInstall, RxRemove, TxInstall, TxRemove, TxUse, Window};
+use super::steps::Step::{
+    Arrives, Fails, HasInHand, HasNext, HasWindow, IsStopped, Keeps, Numbers, Refills, Refuses,
+    Sends,
+};
+use super::steps::{
+    REFILLS, Step, WAITS, expect, expect_last, fused_story, play, play_last, story,
+};
 use super::torn::{Left, WAYS, read, tear};
 use super::{
-    ADD, LATE, OK, OWN, SECTORS, blank, crashed, fuse, made, number_of, opened, receiver, reopened,
-    rx_install, sender, tx_install, unfused, window,
+    LATE, OK, OWN, SECTORS, blank, crashed, fuse, made, opened, receiver, reopened, sender, unfused,
 };
-use macs_config::{Command, Identity, Refusal};
+use macs_config::{Identity, Refusal};
 use macs_disk::{Fuse, MemDisk, SectorDisk};
 use macs_endpoint::{CommandFault, Endpoint, RefillFault};
 use macs_record::{Head, SECTOR, encode_head};
@@ -25,7 +32,7 @@ pub(super) fn set_windows(
     last: u32,
 ) {
     for size in first..=last {
-        play(rt, endpoint, &[keeps(window(size))]);
+        expect(rt, endpoint, Keeps(Window(size)));
     }
 }
 
@@ -71,13 +78,14 @@ const SECTORS_BEHIND: [(u64, &[u8]); 8] = [
 #[test]
 fn the_first_sectors_of_a_journal_that_began_anew(rt: HostRuntime) {
     let mut endpoint = opened(&rt, full(&rt, rt.alloc()));
-    play(&rt, &mut endpoint, &[keeps(window(256)), HasWindow(256)]);
+    expect(&rt, &mut endpoint, Keeps(Window(256)));
+    expect(&rt, &mut endpoint, HasWindow(256));
     let mut disk = endpoint.into_disk();
     disk.crash();
     for (at, octets) in SECTORS_BEHIND {
         expect_sector(&rt, &mut disk, at, octets);
     }
-    play(&rt, &mut opened(&rt, disk), &[HasWindow(256)]);
+    expect_last(&rt, opened(&rt, disk), HasWindow(256));
 }
 
 pub(super) fn write(rt: &impl Abort, disk: &mut MemDisk, at: u64, sector: &[u8; SECTOR]) {
@@ -106,15 +114,15 @@ const CALLS: u64 = CLEAR + 2 + 1 + 1 + 1 + 4;
 
 /// The 256th command on a full disk is stopped behind so many calls: the disk then.
 fn stopped(rt: &impl Abort, disk: MemDisk, calls: u64) -> MemDisk {
-    let steps = [
+    const STEPS: &[Step] = &[
         HasWindow(255),
-        Commands(window(256), Err(CommandFault::Disk)),
-        HasInHand(Some(window(256))),
+        Fails(Window(256), CommandFault::Disk),
+        HasInHand(Some(Window(256))),
         HasWindow(255),
         IsStopped(true),
     ];
     let mut endpoint = fused(rt, disk, calls);
-    play(rt, &mut endpoint, &steps);
+    play(rt, &mut endpoint, STEPS);
     unfused(endpoint)
 }
 
@@ -126,7 +134,7 @@ fn expect_none(rt: &impl Abort, alloc: Global, first: u64, last: u64) {
         assert!(rt; !tear(rt, &mut disk, Left::Last));
         disk.crash();
     }
-    play(rt, &mut opened(rt, disk), &[HasWindow(255)]);
+    expect_last(rt, opened(rt, disk), HasWindow(255));
 }
 
 #[test]
@@ -139,12 +147,18 @@ fn a_command_stopped_at_a_late_read_of_a_compaction_is_not_found(rt: HostRuntime
     expect_none(&rt, rt.alloc(), 129, CLEAR);
 }
 
+/// An endpoint has this window. Nothing is in hand, and no device call failed.
+pub(super) fn expect_window(rt: &impl Abort, endpoint: &mut Endpoint<MemDisk>, size: u32) {
+    expect(rt, endpoint, HasWindow(size));
+    expect(rt, endpoint, HasInHand(None));
+    expect(rt, endpoint, IsStopped(false));
+}
+
 /// A stop behind so many calls, what a power loss leaves then, and the window that is found.
-fn expect_window(rt: &impl Abort, disk: MemDisk, calls: u64, left: Left, size: u32) {
+fn expect_found(rt: &impl Abort, disk: MemDisk, calls: u64, left: Left, size: u32) {
     let mut disk = stopped(rt, disk, calls);
     tear(rt, &mut disk, left);
-    let found = [HasWindow(size), HasInHand(None), IsStopped(false)];
-    play(rt, &mut crashed(rt, disk), &found);
+    expect_window(rt, &mut crashed(rt, disk), size);
 }
 
 /// The last call makes the gate of the command's slot durable.
@@ -155,7 +169,7 @@ fn a_command_stopped_at_each_write_of_a_compaction_is_found_or_not(rt: HostRunti
         for (left, is_open) in WAYS {
             let copy = copied(&rt, rt.alloc(), &mut disk);
             let is_kept = is_open && calls == CALLS - 1;
-            expect_window(&rt, copy, calls, left, if is_kept { 256 } else { 255 });
+            expect_found(&rt, copy, calls, left, if is_kept { 256 } else { 255 });
         }
     }
 }
@@ -163,14 +177,14 @@ fn a_command_stopped_at_each_write_of_a_compaction_is_found_or_not(rt: HostRunti
 /// The fuse passes the last call of the command, and no further one.
 #[test]
 fn a_command_with_a_compaction_that_is_not_stopped_is_kept(rt: HostRuntime) {
-    let steps = [
-        keeps(window(256)),
+    const STEPS: &[Step] = &[
+        Keeps(Window(256)),
         HasWindow(256),
-        Commands(window(257), Err(CommandFault::Disk)),
+        Fails(Window(257), CommandFault::Disk),
     ];
-    let mut endpoint = fused(&rt, full(&rt, rt.alloc()), CALLS);
-    play(&rt, &mut endpoint, &steps);
-    play(&rt, &mut crashed(&rt, unfused(endpoint)), &[HasWindow(256)]);
+    const FOUND: &[Step] = &[HasWindow(256)];
+    let endpoint = fused(&rt, full(&rt, rt.alloc()), CALLS);
+    fused_story(&rt, endpoint, STEPS, FOUND);
 }
 
 /// The reservation is the first record behind the snapshot, which has the ceiling of before.
@@ -178,62 +192,58 @@ fn a_command_with_a_compaction_that_is_not_stopped_is_kept(rt: HostRuntime) {
 fn transmit_numbers_go_on_above_the_ceiling(rt: HostRuntime) {
     let mut endpoint = sender(&rt, rt.alloc(), 1);
     set_windows(&rt, &mut endpoint, 1, 253);
-    let steps = [
-        sends(1),
-        sends(2),
-        refills(),
-        sends(3),
+    const STEPS: &[Step] = &[
+        Sends(1),
+        Sends(2),
+        REFILLS,
+        Sends(3),
         HasNext(0, Some(4)),
         HasWindow(253),
     ];
-    let found = [HasNext(0, Some(9)), waits(), refills(), sends(9)];
-    story(&rt, endpoint, &steps, &found);
+    const FOUND: &[Step] = &[HasNext(0, Some(9)), WAITS, REFILLS, Sends(9)];
+    story(&rt, endpoint, STEPS, FOUND);
 }
 
 #[test]
 fn received_numbers_go_on_above_the_ceiling(rt: HostRuntime) {
     let mut endpoint = receiver(&rt, rt.alloc());
     set_windows(&rt, &mut endpoint, 1, 253);
-    let steps = [
-        arrives(5, Verdict::HeldBack),
-        refills(),
-        arrives(5, OK),
-        arrives(8, OK),
+    const STEPS: &[Step] = &[
+        Arrives(5, Verdict::HeldBack),
+        REFILLS,
+        Arrives(5, OK),
+        Arrives(8, OK),
     ];
-    let found = [
-        numbers(9, 9),
-        arrives(5, LATE),
-        arrives(9, Verdict::HeldBack),
-        refills(),
-        arrives(9, OK),
+    const FOUND: &[Step] = &[
+        Numbers(9, 9),
+        Arrives(5, LATE),
+        Arrives(9, Verdict::HeldBack),
+        REFILLS,
+        Arrives(9, OK),
     ];
-    story(&rt, endpoint, &steps, &found);
+    story(&rt, endpoint, STEPS, FOUND);
 }
 
 /// The associations are gone before the journal begins anew.
 #[test]
 fn a_key_stays_spent(rt: HostRuntime) {
-    let (first, other) = (number_of(&rt, 0), number_of(&rt, 1));
-    let steps = [
-        keeps(tx_install(first, 1, 1)),
-        keeps(Command::TxRemove { an: first }),
-        keeps(ADD),
-        keeps(rx_install(first, 1)),
-        keeps(Command::RxRemove {
-            sci: PEER,
-            an: first,
-        }),
+    const STEPS: &[Step] = &[
+        Keeps(TxInstall(0, 1, 1)),
+        Keeps(TxRemove(0)),
+        Keeps(ADD),
+        Keeps(RxInstall(Peer, 0, 1)),
+        Keeps(RxRemove(Peer, 0)),
     ];
-    let refused = [
-        refuses(tx_install(other, 1, 1), Refusal::KeySpent),
-        refuses(rx_install(other, 1), Refusal::KeySpent),
+    const REFUSED: &[Step] = &[
+        Refuses(TxInstall(1, 1, 1), Refusal::KeySpent),
+        Refuses(RxInstall(Peer, 1, 1), Refusal::KeySpent),
         HasWindow(251),
     ];
     let mut endpoint = made(&rt, rt.alloc(), OWN);
-    play(&rt, &mut endpoint, &steps);
+    play(&rt, &mut endpoint, STEPS);
     set_windows(&rt, &mut endpoint, 1, 251);
-    play(&rt, &mut endpoint, &refused);
-    play(&rt, &mut reopened(&rt, endpoint), &refused);
+    play(&rt, &mut endpoint, REFUSED);
+    play_last(&rt, reopened(&rt, endpoint), REFUSED);
 }
 
 /// The disk of an endpoint that sends. All slots are used, and the generation is the last.
@@ -251,19 +261,17 @@ pub(super) fn spent(rt: &impl Abort, alloc: Global) -> MemDisk {
 /// The fuse passes no call behind the opening: each of these would stop the endpoint.
 #[test]
 fn the_last_generation_takes_no_further_record(rt: HostRuntime) {
-    let other = number_of(&rt, 1);
-    let steps = [
-        Commands(window(9), Err(CommandFault::GenerationsSpent)),
-        refuses(Command::TxUse { an: other }, Refusal::SlotEmpty),
-        waits(),
+    const STEPS: &[Step] = &[
+        Fails(Window(9), CommandFault::GenerationsSpent),
+        Refuses(TxUse(1), Refusal::SlotEmpty),
+        WAITS,
         Refills(Err(RefillFault::GenerationsSpent)),
         IsStopped(false),
         HasInHand(None),
         HasWindow(253),
         HasNext(0, Some(5)),
     ];
-    let mut endpoint = fused(&rt, spent(&rt, rt.alloc()), 0);
-    play(&rt, &mut endpoint, &steps);
-    let found = [HasWindow(253), HasNext(0, Some(5))];
-    play(&rt, &mut crashed(&rt, unfused(endpoint)), &found);
+    const FOUND: &[Step] = &[HasWindow(253), HasNext(0, Some(5))];
+    let endpoint = fused(&rt, spent(&rt, rt.alloc()), 0);
+    fused_story(&rt, endpoint, STEPS, FOUND);
 }

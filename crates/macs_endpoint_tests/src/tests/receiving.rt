@@ -1,12 +1,15 @@
 //! Frames from the peer.
 
-use super::frames::{CONFIDENTIALITY, Frame, INTEGRITY, PEER, Published};
+use super::frames::{CONFIDENTIALITY, Frame, INTEGRITY, Published};
+use super::orders::ADD;
+use super::orders::Channel::Peer;
+use super::orders::Order::{NoReplay, RxDrop, RxRemove, SetValidate, Window};
 use super::steps::Step::{
-    Commands, Counts, HasChannel, HasNumbers, HeldBack, Receives, ReceivesUntagged,
+    Arrives, Counts, HasChannel, HasNumbers, HeldBack, Keeps, Numbers, Receives, ReceivesUntagged,
 };
-use super::steps::{Step, arrives, keeps, numbers, play, receive, refills, story};
-use super::{ADD, LATE, NO_TAG, OK, OWN, RUNT, number_of, play_new, receiver, window};
-use macs_config::{Command, Validate};
+use super::steps::{REFILLS, Step, expect, play, play_last, receive, story};
+use super::{LATE, NO_TAG, OK, OWN, RUNT, play_new, receiver, reopened};
+use macs_config::Validate;
 use macs_disk::MemDisk;
 use macs_endpoint::Endpoint;
 use macs_rxsc::{Kind, Reason, Verdict};
@@ -28,9 +31,10 @@ fn expect_verdict(
 fn expect_published(rt: &impl Abort, alloc: Global, published: &Published) {
     let mut endpoint = receiver(rt, alloc);
     expect_verdict(rt, &mut endpoint, published, Verdict::HeldBack);
-    play(rt, &mut endpoint, &[numbers(1, 1), refills()]);
+    expect(rt, &mut endpoint, Numbers(1, 1));
+    expect(rt, &mut endpoint, REFILLS);
     expect_verdict(rt, &mut endpoint, published, OK);
-    play(rt, &mut endpoint, &[numbers(0xb2c2_8466, 0xb2c2_8466)]);
+    expect(rt, &mut endpoint, Numbers(0xb2c2_8466, 0xb2c2_8466));
 }
 
 #[test]
@@ -39,80 +43,80 @@ fn receives_published_frames(rt: HostRuntime) {
     expect_published(&rt, rt.alloc(), &CONFIDENTIALITY);
 }
 
+/// Number 5 is held back and delivered, and later ones come; and after a power loss number 9 is, as these steps have it.
+pub(super) fn expect_below(rt: &impl Abort, endpoint: Endpoint<MemDisk>, fifth: Step, ninth: Step) {
+    const STEPS: &[Step] = &[
+        Numbers(6, 6),
+        Arrives(5, LATE),
+        Arrives(4, LATE),
+        Arrives(7, OK),
+        Numbers(8, 8),
+    ];
+    const FOUND: &[Step] = &[Numbers(9, 9), Arrives(7, LATE), Arrives(8, LATE)];
+    let mut endpoint = endpoint;
+    expect(rt, &mut endpoint, fifth);
+    play(rt, &mut endpoint, STEPS);
+    let mut found = reopened(rt, endpoint);
+    play(rt, &mut found, FOUND);
+    expect(rt, &mut found, ninth);
+    expect(rt, &mut found, Numbers(10, 10));
+}
+
 #[test]
 fn numbers_are_taken_below_the_ceiling(rt: HostRuntime) {
-    let steps = [
-        HeldBack(5),
-        numbers(6, 6),
-        arrives(5, LATE),
-        arrives(4, LATE),
-        arrives(7, OK),
-        numbers(8, 8),
-    ];
-    let found = [
-        numbers(9, 9),
-        arrives(7, LATE),
-        arrives(8, LATE),
-        HeldBack(9),
-        numbers(10, 10),
-    ];
-    story(&rt, receiver(&rt, rt.alloc()), &steps, &found);
+    expect_below(&rt, receiver(&rt, rt.alloc()), HeldBack(5), HeldBack(9));
 }
 
 /// An endpoint with a window of 5, to which 10 came, and 8 twice.
 fn windowed(rt: &impl Abort, alloc: Global) -> Endpoint<MemDisk> {
-    let steps = [
-        keeps(window(5)),
+    const STEPS: &[Step] = &[
+        Keeps(Window(5)),
         HeldBack(10),
-        numbers(11, 6),
-        arrives(8, OK),
-        arrives(8, OK),
-        numbers(11, 6),
+        Numbers(11, 6),
+        Arrives(8, OK),
+        Arrives(8, OK),
+        Numbers(11, 6),
     ];
     let mut endpoint = receiver(rt, alloc);
-    play(rt, &mut endpoint, &steps);
+    play(rt, &mut endpoint, STEPS);
     endpoint
 }
 
 /// The lowest acceptable number never falls.
 #[test]
 fn a_window_changes(rt: HostRuntime) {
-    let steps = [
-        keeps(window(0)),
-        numbers(11, 11),
-        arrives(8, LATE),
-        keeps(window(100)),
-        numbers(11, 11),
-        arrives(8, LATE),
+    const STEPS: &[Step] = &[
+        Keeps(Window(0)),
+        Numbers(11, 11),
+        Arrives(8, LATE),
+        Keeps(Window(100)),
+        Numbers(11, 11),
+        Arrives(8, LATE),
     ];
-    play(&rt, &mut windowed(&rt, rt.alloc()), &steps);
+    play_last(&rt, windowed(&rt, rt.alloc()), STEPS);
 }
 
 #[test]
 fn a_window_is_empty_after_an_opening(rt: HostRuntime) {
-    let found = [
-        numbers(14, 14),
-        arrives(10, LATE),
+    const FOUND: &[Step] = &[
+        Numbers(14, 14),
+        Arrives(10, LATE),
         HeldBack(14),
-        numbers(15, 14),
+        Numbers(15, 14),
     ];
-    story(&rt, windowed(&rt, rt.alloc()), &[], &found);
+    story(&rt, windowed(&rt, rt.alloc()), &[], FOUND);
 }
 
 #[test]
 fn late_frames_are_delayed_without_replay_protection(rt: HostRuntime) {
-    let off = Command::SetReplay {
-        on: false,
-        window: 0,
-    };
-    let steps = [
-        keeps(off),
+    const STEPS: &[Step] = &[
+        Keeps(NoReplay),
         HeldBack(5),
-        numbers(6, 6),
-        arrives(5, Verdict::Delivered(Kind::Delayed)),
-        numbers(6, 6),
+        Numbers(6, 6),
+        Arrives(5, Verdict::Delivered(Kind::Delayed)),
+        Numbers(6, 6),
     ];
-    play(&rt, &mut receiver(&rt, rt.alloc()), &steps);
+    play_last(&rt, receiver(&rt, rt.alloc()), STEPS);
 }
 
 /// A frame has one verdict under strict validation and another one where validation only checks, each
@@ -124,16 +128,13 @@ fn expect_verdicts(
     strict: Verdict,
     checked: Verdict,
 ) {
-    let steps = [
-        Receives(frame, Ok(strict)),
-        Receives(frame, Ok(strict)),
-        keeps(Command::SetValidate(Validate::Check)),
-        Receives(frame, Ok(checked)),
-        Receives(frame, Ok(checked)),
-        numbers(1, 1),
-        refills(),
-    ];
-    story(rt, receiver(rt, alloc), &steps, &[numbers(1, 1)]);
+    let mut endpoint = receiver(rt, alloc);
+    expect(rt, &mut endpoint, Receives(frame, Ok(strict)));
+    expect(rt, &mut endpoint, Receives(frame, Ok(strict)));
+    expect(rt, &mut endpoint, Keeps(SetValidate(Validate::Check)));
+    expect(rt, &mut endpoint, Receives(frame, Ok(checked)));
+    expect(rt, &mut endpoint, Receives(frame, Ok(checked)));
+    story(rt, endpoint, &[Numbers(1, 1), REFILLS], &[Numbers(1, 1)]);
 }
 
 #[test]
@@ -145,7 +146,7 @@ fn untagged_frames(rt: HostRuntime) {
 const OVERSIZE: Verdict = Verdict::Discarded(Reason::Oversize);
 
 /// The shortest and the longest frames, and those beyond them.
-const LENGTHS: [Step; 7] = [
+const LENGTHS: &[Step] = &[
     ReceivesUntagged(13, RUNT),
     ReceivesUntagged(14, NO_TAG),
     ReceivesUntagged(9_216, NO_TAG),
@@ -157,7 +158,7 @@ const LENGTHS: [Step; 7] = [
 
 #[test]
 fn frames_have_14_to_9_216_octets(rt: HostRuntime) {
-    play_new(&rt, rt.alloc(), OWN, &LENGTHS);
+    play_new(&rt, rt.alloc(), OWN, LENGTHS);
 }
 
 const NOT_VALID: Verdict = Verdict::Discarded(Reason::NotValid);
@@ -219,13 +220,13 @@ const UNUSED_SA: Verdict = Verdict::Delivered(Kind::UnusedSa);
 
 /// Published frames where validation only checks: with no channel, and then with the peer's and no
 /// association of it.
-const WITHOUT_ASSOCIATION: [Step; 10] = [
-    Commands(Command::SetValidate(Validate::Check), Ok(())),
+const WITHOUT_ASSOCIATION: &[Step] = &[
+    Keeps(SetValidate(Validate::Check)),
     Receives(Frame::Integrity, Ok(UNKNOWN_SCI)),
     Receives(Frame::Confidentiality, Ok(NO_SCI)),
     Counts(UNKNOWN_SCI, 1, None),
     Counts(NO_SCI, 1, None),
-    Commands(ADD, Ok(())),
+    Keeps(ADD),
     Receives(Frame::Integrity, Ok(UNUSED_SA)),
     Receives(Frame::Confidentiality, Ok(NOT_USING)),
     Counts(UNUSED_SA, 1, Some(1)),
@@ -234,25 +235,24 @@ const WITHOUT_ASSOCIATION: [Step; 10] = [
 
 #[test]
 fn published_frames_come_without_an_association(rt: HostRuntime) {
-    play_new(&rt, rt.alloc(), OWN, &WITHOUT_ASSOCIATION);
+    play_new(&rt, rt.alloc(), OWN, WITHOUT_ASSOCIATION);
 }
 
 /// An association of a channel that went and came back begins anew.
 #[test]
 fn associations_that_go_leave_nothing(rt: HostRuntime) {
-    let an = number_of(&rt, 2);
-    let steps = [
+    const STEPS: &[Step] = &[
         HeldBack(5),
-        keeps(Command::RxRemove { sci: PEER, an }),
+        Keeps(RxRemove(Peer, 2)),
         HasNumbers(2, None),
-        arrives(6, NOT_USING),
-        keeps(Command::RxDrop { sci: PEER }),
-        arrives(6, NO_SCI),
+        Arrives(6, NOT_USING),
+        Keeps(RxDrop(Peer)),
+        Arrives(6, NO_SCI),
     ];
-    let found = [
+    const FOUND: &[Step] = &[
         HasNumbers(2, None),
         HasNumbers(0, None),
-        HasChannel(PEER, false),
+        HasChannel(Peer, false),
     ];
-    story(&rt, receiver(&rt, rt.alloc()), &steps, &found);
+    story(&rt, receiver(&rt, rt.alloc()), STEPS, FOUND);
 }

@@ -3,10 +3,10 @@
 ghost use Rattle.std.specs.Prelude.{true};
 
 use super::frames::{PLAIN, copied};
-use super::steps::Step::{Commands, HasInHand};
-use super::steps::{Came, play, told_of};
-use super::{NO_TAG, OWN, formatted, fuse, made, number_of, opened, tx_install, window};
-use macs_config::Command;
+use super::orders::Order::{TxInstall, TxUse, Window};
+use super::steps::Step::{Fails, HasInHand};
+use super::steps::{Came, expect, told_of};
+use super::{NO_TAG, OWN, formatted, fuse, made, opened};
 use macs_disk::SectorDisk;
 use macs_endpoint::{
     Answer, AnswerSink, CommandFault, Endpoint, Event, EventSource, ProtectFault, RefillFault,
@@ -85,10 +85,13 @@ const WORKED: Told = Told::Stepped(Ok(Came::Worked));
 /// An install and its use, which are kept; a frame that goes out, one that comes and has no SecTAG, and
 /// work.
 fn some_events(rt: &impl Abort, alloc: Global) -> Script {
-    let an = number_of(rt, 0);
     let mut events = VecDeque::new(alloc);
-    add(rt, &mut events, Event::Operator(tx_install(an, 1, 1)));
-    add(rt, &mut events, Event::Operator(Command::TxUse { an }));
+    add(
+        rt,
+        &mut events,
+        Event::Operator(TxInstall(0, 1, 1).command(rt)),
+    );
+    add(rt, &mut events, Event::Operator(TxUse(0).command(rt)));
     for _ in 0..8 {
         add(rt, &mut events, Event::Work);
     }
@@ -185,15 +188,13 @@ fn turns_are_spent(rt: HostRuntime) {
 
 /// The second device call of the second command fails, on the last turn too.
 fn expect_halt(rt: &impl Abort, alloc: Global, turns: u64) {
-    let an = number_of(rt, 0);
     let mut expected = EXPECTED;
     expected[7] = Told::Stepped(Err(StepFault::Disk));
     let expected = first_told(rt, &expected, 8);
     let mut endpoint = opened(rt, fuse(formatted(rt, alloc, OWN), 5));
     let end = ServeEnd::Halted;
     expect_served(rt, alloc, &mut endpoint, turns, expected, end, 8);
-    let in_hand = HasInHand(Some(Command::TxUse { an }));
-    play(rt, &mut endpoint, &[in_hand]);
+    expect(rt, &mut endpoint, HasInHand(Some(TxUse(0))));
 }
 
 #[test]
@@ -206,7 +207,7 @@ fn a_device_fault_halts(rt: HostRuntime) {
 /// One event of each kind.
 fn each_event(rt: &impl Abort, alloc: Global) -> Script {
     let mut events = VecDeque::new(alloc);
-    add(rt, &mut events, Event::Operator(window(3)));
+    add(rt, &mut events, Event::Operator(Window(3).command(rt)));
     add(rt, &mut events, Event::Controlled(copied(rt, PLAIN)));
     add(rt, &mut events, Event::Common(copied(rt, PLAIN)));
     add(rt, &mut events, Event::Work);
@@ -237,7 +238,6 @@ fn expect_halts<D: SectorDisk>(rt: &impl Abort, alloc: Global, endpoint: &mut En
 #[test]
 fn a_stopped_endpoint_halts(rt: HostRuntime) {
     let mut endpoint = opened(&rt, fuse(formatted(&rt, rt.alloc(), OWN), 0));
-    let steps = [Commands(window(3), Err(CommandFault::Disk))];
-    play(&rt, &mut endpoint, &steps);
+    expect(&rt, &mut endpoint, Fails(Window(3), CommandFault::Disk));
     expect_halts(&rt, rt.alloc(), &mut endpoint);
 }

@@ -1,14 +1,15 @@
 //! Endpoints whose work is cut into steps answer as where it is not.
 
-use super::steps::Step::{HasNext, HeldBackFor, Rests};
-use super::steps::{
-    arrives, keeps_by_steps, numbers, play, refuses_at_a_step, reserves, sends, story, submits,
-    waits, works,
+use super::orders::ADD;
+use super::orders::Channel::Peer;
+use super::orders::Order::{RxInstall, TxInstall, TxRemove, Window};
+use super::receiving::expect_below;
+use super::steps::Step::{
+    Arrives, HasNext, HeldBackFor, KeepsBySteps, Numbers, RefusesAtAStep, Rests, Sends, Submits,
 };
-use super::{
-    ADD, LATE, OK, OWN, SECTORS, crashed, made, number_of, rx_install, sender, tx_install, window,
-};
-use macs_config::{Command, Refusal};
+use super::steps::{RESERVES, Step, WAITS, WORKS, expect, play, play_last, story};
+use super::{LATE, OK, OWN, SECTORS, crashed, made, sender};
+use macs_config::Refusal;
 use macs_disk::{MemDisk, SectorDisk};
 use macs_endpoint::Endpoint;
 use macs_record::{SECTOR, open_gate};
@@ -17,20 +18,23 @@ use std::process::Abort;
 
 #[test]
 fn numbers_wait_for_steps(rt: HostRuntime) {
-    let steps = [sends(1), sends(2), sends(3)];
-    let found = [
+    const STEPS: &[Step] = &[Sends(1), Sends(2), Sends(3)];
+    const FOUND: &[Step] = &[
         HasNext(0, Some(5)),
-        waits(),
-        works(),
-        works(),
-        works(),
-        waits(),
-        reserves(),
-        sends(5),
-        sends(6),
+        WAITS,
+        WORKS,
+        WORKS,
+        WORKS,
+        WAITS,
+        RESERVES,
+        Sends(5),
+        Sends(6),
     ];
-    story(&rt, sender(&rt, rt.alloc(), 1), &steps, &found);
+    story(&rt, sender(&rt, rt.alloc(), 1), STEPS, FOUND);
 }
+
+/// The place of a frame among four, and how many steps are made after it.
+const FOUR: [(u32, u64); 4] = [(1, 0), (2, 4), (3, 0), (4, 0)];
 
 /// A reservation of four steps is made after the second of each four frames.
 #[test]
@@ -38,31 +42,21 @@ fn a_thousand_frames_need_not_wait(rt: HostRuntime) {
     let mut endpoint = sender(&rt, rt.alloc(), 1);
     for four in 0..250 {
         let first = four * 4;
-        let steps = [
-            sends(first + 1),
-            Rests(0),
-            sends(first + 2),
-            Rests(4),
-            sends(first + 3),
-            Rests(0),
-            sends(first + 4),
-            Rests(0),
-        ];
-        play(&rt, &mut endpoint, &steps);
+        for (place, steps) in FOUR {
+            expect(&rt, &mut endpoint, Sends(first + place));
+            expect(&rt, &mut endpoint, Rests(steps));
+        }
     }
-    let steps = [HasNext(0, Some(1_001))];
-    story(&rt, endpoint, &steps, &[HasNext(0, Some(1_005))]);
+    const STEPS: &[Step] = &[HasNext(0, Some(1_001))];
+    const FOUND: &[Step] = &[HasNext(0, Some(1_005))];
+    story(&rt, endpoint, STEPS, FOUND);
 }
 
 /// An endpoint after the third step of an install, whose gate is then pending and is torn to these octets.
 fn torn(rt: &impl Abort, alloc: Global, gate: &[u8; SECTOR]) -> Endpoint<MemDisk> {
-    let install = tx_install(number_of(rt, 0), 1, 1);
+    const STEPS: &[Step] = &[Submits(TxInstall(0, 1, 1), 1), WORKS, WORKS, WORKS];
     let mut endpoint = made(rt, alloc, OWN);
-    play(
-        rt,
-        &mut endpoint,
-        &[submits(install, 1), works(), works(), works()],
-    );
+    play(rt, &mut endpoint, STEPS);
     let mut disk = endpoint.into_disk();
     assert!(rt; disk.sectors() == SECTORS);
     assert!(rt; disk.tear(5, gate));
@@ -71,88 +65,71 @@ fn torn(rt: &impl Abort, alloc: Global, gate: &[u8; SECTOR]) -> Endpoint<MemDisk
 
 #[test]
 fn a_gate_torn_open_keeps_the_command(rt: HostRuntime) {
-    let (first, other) = (number_of(&rt, 0), number_of(&rt, 1));
-    let steps = [
+    const STEPS: &[Step] = &[
         HasNext(0, Some(5)),
-        refuses_at_a_step(tx_install(first, 1, 1), Refusal::SlotTaken),
-        refuses_at_a_step(tx_install(other, 1, 1), Refusal::KeySpent),
+        RefusesAtAStep(TxInstall(0, 1, 1), Refusal::SlotTaken),
+        RefusesAtAStep(TxInstall(1, 1, 1), Refusal::KeySpent),
     ];
-    play(&rt, &mut torn(&rt, rt.alloc(), &open_gate()), &steps);
+    play_last(&rt, torn(&rt, rt.alloc(), &open_gate()), STEPS);
 }
 
 #[test]
 fn a_gate_torn_closed_takes_the_command_back(rt: HostRuntime) {
-    let steps = [
+    const STEPS: &[Step] = &[
         HasNext(0, None),
-        keeps_by_steps(tx_install(number_of(&rt, 0), 1, 1)),
+        KeepsBySteps(TxInstall(0, 1, 1)),
         HasNext(0, Some(1)),
     ];
-    play(&rt, &mut torn(&rt, rt.alloc(), &[0; SECTOR]), &steps);
+    play_last(&rt, torn(&rt, rt.alloc(), &[0; SECTOR]), STEPS);
 }
 
 #[test]
 fn a_key_stays_spent(rt: HostRuntime) {
-    let (first, other) = (number_of(&rt, 0), number_of(&rt, 1));
-    let steps = [
-        keeps_by_steps(tx_install(first, 1, 1)),
-        keeps_by_steps(Command::TxRemove { an: first }),
-        refuses_at_a_step(tx_install(other, 1, 1), Refusal::KeySpent),
+    const STEPS: &[Step] = &[
+        KeepsBySteps(TxInstall(0, 1, 1)),
+        KeepsBySteps(TxRemove(0)),
+        RefusesAtAStep(TxInstall(1, 1, 1), Refusal::KeySpent),
     ];
-    let found = [refuses_at_a_step(tx_install(other, 1, 1), Refusal::KeySpent)];
-    story(&rt, made(&rt, rt.alloc(), OWN), &steps, &found);
+    const FOUND: &[Step] = &[RefusesAtAStep(TxInstall(1, 1, 1), Refusal::KeySpent)];
+    story(&rt, made(&rt, rt.alloc(), OWN), STEPS, FOUND);
 }
 
 /// An endpoint with the peer's channel and its association 2, made by steps.
 fn receiver(rt: &impl Abort, alloc: Global) -> Endpoint<MemDisk> {
-    let install = rx_install(number_of(rt, 2), 1);
+    const STEPS: &[Step] = &[KeepsBySteps(ADD), KeepsBySteps(RxInstall(Peer, 2, 1))];
     let mut endpoint = made(rt, alloc, OWN);
-    let steps = [keeps_by_steps(ADD), keeps_by_steps(install)];
-    play(rt, &mut endpoint, &steps);
+    play(rt, &mut endpoint, STEPS);
     endpoint
 }
 
 #[test]
 fn numbers_are_taken_below_the_ceiling(rt: HostRuntime) {
-    let steps = [
-        HeldBackFor(5, 4),
-        numbers(6, 6),
-        arrives(5, LATE),
-        arrives(4, LATE),
-        arrives(7, OK),
-        numbers(8, 8),
-    ];
-    let found = [
-        numbers(9, 9),
-        arrives(7, LATE),
-        arrives(8, LATE),
-        HeldBackFor(9, 4),
-        numbers(10, 10),
-    ];
-    story(&rt, receiver(&rt, rt.alloc()), &steps, &found);
+    let endpoint = receiver(&rt, rt.alloc());
+    expect_below(&rt, endpoint, HeldBackFor(5, 4), HeldBackFor(9, 4));
 }
 
 /// An endpoint with a window of 5, to which 10 came, and 8 twice.
 fn windowed(rt: &impl Abort, alloc: Global) -> Endpoint<MemDisk> {
-    let steps = [
-        keeps_by_steps(window(5)),
+    const STEPS: &[Step] = &[
+        KeepsBySteps(Window(5)),
         HeldBackFor(10, 4),
-        numbers(11, 6),
-        arrives(8, OK),
-        arrives(8, OK),
+        Numbers(11, 6),
+        Arrives(8, OK),
+        Arrives(8, OK),
     ];
     let mut endpoint = receiver(rt, alloc);
-    play(rt, &mut endpoint, &steps);
+    play(rt, &mut endpoint, STEPS);
     endpoint
 }
 
 #[test]
 fn a_window_changes(rt: HostRuntime) {
-    let steps = [keeps_by_steps(window(0)), numbers(11, 11), arrives(8, LATE)];
-    play(&rt, &mut windowed(&rt, rt.alloc()), &steps);
+    const STEPS: &[Step] = &[KeepsBySteps(Window(0)), Numbers(11, 11), Arrives(8, LATE)];
+    play_last(&rt, windowed(&rt, rt.alloc()), STEPS);
 }
 
 #[test]
 fn a_window_is_empty_after_an_opening(rt: HostRuntime) {
-    let found = [numbers(14, 14), arrives(10, LATE)];
-    story(&rt, windowed(&rt, rt.alloc()), &[], &found);
+    const FOUND: &[Step] = &[Numbers(14, 14), Arrives(10, LATE)];
+    story(&rt, windowed(&rt, rt.alloc()), &[], FOUND);
 }

@@ -1,12 +1,16 @@
 //! Endpoints whose journal begins anew while frames go on.
 
-use super::compactions::{copied, full, fused, set_windows, spent, write};
-use super::frames::PEER;
-use super::steps::Step::{Advances, HasInHand, HasNext, HasWindow, IsStopped, Keeps, Rests};
-use super::steps::{Came, Step, ends, numbers, play, sends, submits, waits, works};
+use super::compactions::{copied, expect_window, full, fused, set_windows, spent, write};
+use super::orders::Channel::Peer;
+use super::orders::Order::{TxUse, Window};
+use super::steps::Step::{
+    Advances, Ends, Finishes, HasInHand, HasNext, HasWindow, IsStopped, Numbers, Rests, Sends,
+    Submits,
+};
+use super::steps::{Came, Step, WAITS, WORKS, expect, expect_last, fused_story, play_last, story};
 use super::torn::{Left, WAYS, tear};
-use super::{add_channel, crashed, number_of, opened, reopened, unfused, wide_sender, window};
-use macs_config::{Command, Refusal};
+use super::{add_channel, crashed, opened, reopened, wide_sender};
+use macs_config::Refusal;
 use macs_disk::{Fuse, MemDisk, SectorDisk};
 use macs_endpoint::{CommandFault, Endpoint, StepFault};
 use macs_record::open_gate;
@@ -37,23 +41,18 @@ const EVERY_OPEN: u64 = NONE_OPEN + GATES;
 /// its 256 other gates are open.
 fn full_again(rt: &impl Abort, alloc: Global, block: u32) -> Endpoint<MemDisk> {
     let mut endpoint = wide_sender(rt, alloc, block);
-    add_channel(rt, &mut endpoint, PEER);
+    add_channel(rt, &mut endpoint, Peer);
     set_windows(rt, &mut endpoint, 1, 251);
-    play(rt, &mut endpoint, &[Keeps(window(252), NONE_OPEN, Ok(()))]);
+    expect(rt, &mut endpoint, Finishes(Window(252), NONE_OPEN, Ok(())));
     set_windows(rt, &mut endpoint, 253, 501);
     endpoint
 }
 
 #[test]
 fn a_compaction_is_counted(rt: HostRuntime) {
-    let mut endpoint = full_again(&rt, rt.alloc(), 4);
-    play(
-        &rt,
-        &mut endpoint,
-        &[Keeps(window(502), EVERY_OPEN - 1, Ok(()))],
-    );
-    let found = [HasWindow(502), HasNext(0, Some(5)), numbers(1, 1)];
-    play(&rt, &mut reopened(&rt, endpoint), &found);
+    const STEPS: &[Step] = &[Finishes(Window(502), EVERY_OPEN - 1, Ok(()))];
+    const FOUND: &[Step] = &[HasWindow(502), HasNext(0, Some(5)), Numbers(1, 1)];
+    story(&rt, full_again(&rt, rt.alloc(), 4), STEPS, FOUND);
 }
 
 /// The disk of such an endpoint with the last gate of the first area open, too: nobody looks at it there.
@@ -72,17 +71,16 @@ const WORST_OPENING: u64 = 1 + 2 + 2 + 250 + 256;
 /// passes no further one.
 #[test]
 fn a_worst_compaction_is_counted(rt: HostRuntime) {
-    let disk = worst(&rt, rt.alloc());
-    let mut endpoint = opened(&rt, Fuse::new(disk, WORST_OPENING + EVERY_OPEN));
-    let steps = [
+    const STEPS: &[Step] = &[
         Rests(EVERY_OPEN),
-        sends(5),
-        submits(window(503), 1),
+        Sends(5),
+        Submits(Window(503), 1),
         Advances(Err(StepFault::Disk)),
     ];
-    play(&rt, &mut endpoint, &steps);
-    let found = [HasWindow(501), HasNext(0, Some(9)), numbers(1, 1)];
-    play(&rt, &mut crashed(&rt, unfused(endpoint)), &found);
+    const FOUND: &[Step] = &[HasWindow(501), HasNext(0, Some(9)), Numbers(1, 1)];
+    let disk = worst(&rt, rt.alloc());
+    let endpoint = opened(&rt, Fuse::new(disk, WORST_OPENING + EVERY_OPEN));
+    fused_story(&rt, endpoint, STEPS, FOUND);
 }
 
 /// Behind so many steps of the 256th command, whose snapshot is one record, its own gate is written: all
@@ -93,14 +91,13 @@ const GATE: u64 = GATES + 1 + 2 + 1 + 1 + 1 + 3;
 /// The power goes behind so many steps of the 256th command: the window that is found.
 fn expect_found(rt: &impl Abort, disk: MemDisk, steps: u64, left: Left, size: u32) {
     let mut endpoint = opened(rt, disk);
-    play(rt, &mut endpoint, &[submits(window(256), 1)]);
+    expect(rt, &mut endpoint, Submits(Window(256), 1));
     for _ in 0..steps {
-        play(rt, &mut endpoint, &[works()]);
+        expect(rt, &mut endpoint, WORKS);
     }
     let mut disk = endpoint.into_disk();
     tear(rt, &mut disk, left);
-    let found = [HasWindow(size), HasInHand(None), IsStopped(false)];
-    play(rt, &mut crashed(rt, disk), &found);
+    expect_window(rt, &mut crashed(rt, disk), size);
 }
 
 #[test]
@@ -134,7 +131,8 @@ fn expect_sent(
     came: Came,
 ) {
     for number in first..=last {
-        play(rt, endpoint, &[sends(number), Advances(Ok(came))]);
+        expect(rt, endpoint, Sends(number));
+        expect(rt, endpoint, Advances(Ok(came)));
     }
 }
 
@@ -146,11 +144,8 @@ fn frames_go_out_while_the_journal_begins_anew(rt: HostRuntime) {
     expect_sent(&rt, &mut endpoint, 650, 1_176, Came::Worked);
     expect_sent(&rt, &mut endpoint, 1_177, 1_177, Came::Reserved);
     expect_sent(&rt, &mut endpoint, 1_178, 1_400, Came::Idle);
-    play(
-        &rt,
-        &mut reopened(&rt, endpoint),
-        &[HasNext(0, Some(2_601))],
-    );
+    let found = HasNext(0, Some(2_601));
+    expect_last(&rt, reopened(&rt, endpoint), found);
 }
 
 /// A reservation is refused, since the journal cannot begin anew.
@@ -159,23 +154,20 @@ const SPENT: Step = Advances(Err(StepFault::GenerationsSpent));
 /// The fuse passes no call behind the opening. A reservation that the spent journal refuses uses its turn.
 #[test]
 fn the_last_generation_refuses_by_turns(rt: HostRuntime) {
-    let other = number_of(&rt, 1);
-    let refused = Err(CommandFault::Refused(Refusal::SlotEmpty));
-    let steps = [
-        submits(window(9), 1),
-        submits(Command::TxUse { an: other }, 2),
+    const STEPS: &[Step] = &[
+        Submits(Window(9), 1),
+        Submits(TxUse(1), 2),
         SPENT,
-        ends(1, Err(CommandFault::GenerationsSpent)),
+        Ends(1, Err(CommandFault::GenerationsSpent)),
         SPENT,
-        ends(2, refused),
+        Ends(2, Err(CommandFault::Refused(Refusal::SlotEmpty))),
         SPENT,
         SPENT,
-        waits(),
+        WAITS,
         HasInHand(None),
         IsStopped(false),
         HasWindow(253),
         HasNext(0, Some(5)),
     ];
-    let mut endpoint = fused(&rt, spent(&rt, rt.alloc()), 0);
-    play(&rt, &mut endpoint, &steps);
+    play_last(&rt, fused(&rt, spent(&rt, rt.alloc()), 0), STEPS);
 }

@@ -1,20 +1,22 @@
 //! Stops at each step, and power losses behind each: what is found is what stood before, or that and the
 //! one thing in hand.
 
-use super::frames::{Frame, PEER, PLAIN};
+use super::frames::{Frame, PLAIN};
+use super::orders::Channel::Peer;
+use super::orders::Order::Window;
+use super::orders::{ADD, Order};
 use super::steps::Step::{
-    Advances, Commands, HasInHand, HasNext, HasWindow, IsStopped, Protects, Receives, Refills,
-    Submits,
+    Advances, CannotSubmit, Ends, Fails, HasInHand, HasNext, HasWindow, IsStopped, Protects,
+    Receives, Refills, Sends, Submits,
 };
 use super::steps::{
-    advance, ends, play, protect, receive_frame, reserves, sends, submit, submits, works,
+    RESERVES, Step, WORKS, advance, expect, expect_last, fused_story, play, protect, receive_frame,
+    submit,
 };
 use super::torn::{Left, tear};
 use super::{
-    ADD, OK, OWN, add_channel, crashed, formatted, fuse, made_with, opened, sender, unfused,
-    wide_sender, window,
+    OK, OWN, add_channel, crashed, formatted, fuse, made_with, opened, sender, unfused, wide_sender,
 };
-use macs_config::Command;
 use macs_disk::{Fuse, MemDisk};
 use macs_endpoint::{
     CommandFault, Endpoint, ProtectFault, RefillFault, StepFault, Stopped, SubmitFault,
@@ -28,23 +30,23 @@ fn expect_stopped(
     rt: &impl Abort,
     endpoint: &mut Endpoint<Fuse<MemDisk>>,
     calls: u64,
-    in_hand: Option<Command>,
+    in_hand: Option<Order>,
 ) {
     for _ in 0..calls {
-        play(rt, endpoint, &[works()]);
+        expect(rt, endpoint, WORKS);
     }
-    let steps = [
+    const STEPS: &[Step] = &[
         Advances(Err(StepFault::Disk)),
         IsStopped(true),
-        HasInHand(in_hand),
         Advances(Err(StepFault::Stopped)),
-        Submits(ADD, Err(SubmitFault::Stopped)),
-        Commands(ADD, Err(CommandFault::Stopped)),
+        CannotSubmit(ADD, SubmitFault::Stopped),
+        Fails(ADD, CommandFault::Stopped),
         Refills(Err(RefillFault::Stopped)),
         Protects(62, Err(ProtectFault::Stopped)),
         Receives(Frame::Peers { number: 1 }, Err(Stopped)),
     ];
-    play(rt, endpoint, &steps);
+    play(rt, endpoint, STEPS);
+    expect(rt, endpoint, HasInHand(in_hand));
 }
 
 /// How many calls of the disk pass in the steps of a command, and the window after a power loss: the last
@@ -54,10 +56,10 @@ const WINDOWS: [(u64, u32); 4] = [(0, 0), (1, 0), (2, 0), (3, 3)];
 /// A command is stopped behind so many calls, and this window is found.
 fn expect_window(rt: &impl Abort, alloc: Global, calls: u64, size: u32) {
     let mut endpoint = opened(rt, fuse(formatted(rt, alloc, OWN), calls));
-    play(rt, &mut endpoint, &[submits(window(3), 1)]);
-    expect_stopped(rt, &mut endpoint, calls, Some(window(3)));
-    play(rt, &mut endpoint, &[HasWindow(0)]);
-    play(rt, &mut crashed(rt, unfused(endpoint)), &[HasWindow(size)]);
+    expect(rt, &mut endpoint, Submits(Window(3), 1));
+    expect_stopped(rt, &mut endpoint, calls, Some(Window(3)));
+    expect(rt, &mut endpoint, HasWindow(0));
+    expect_last(rt, crashed(rt, unfused(endpoint)), HasWindow(size));
 }
 
 #[test]
@@ -81,11 +83,12 @@ fn fused(rt: &impl Abort, alloc: Global, calls: u64) -> Endpoint<Fuse<MemDisk>> 
 /// not in hand.
 fn expect_next(rt: &impl Abort, alloc: Global, calls: u64, next: u64) {
     let mut endpoint = fused(rt, alloc, calls);
-    play(rt, &mut endpoint, &[submits(window(3), 1)]);
+    expect(rt, &mut endpoint, Submits(Window(3), 1));
     expect_stopped(rt, &mut endpoint, calls, None);
-    play(rt, &mut endpoint, &[HasNext(0, Some(5))]);
-    let found = [HasNext(0, Some(next)), HasWindow(0)];
-    play(rt, &mut crashed(rt, unfused(endpoint)), &found);
+    expect(rt, &mut endpoint, HasNext(0, Some(5)));
+    let mut endpoint = crashed(rt, unfused(endpoint));
+    expect(rt, &mut endpoint, HasNext(0, Some(next)));
+    expect(rt, &mut endpoint, HasWindow(0));
 }
 
 #[test]
@@ -98,24 +101,22 @@ fn a_reservation_stopped_at_each_step_is_found_or_not(rt: HostRuntime) {
 /// The fuse passes the calls of a reservation and of a command, and no further one.
 #[test]
 fn a_step_is_one_device_call(rt: HostRuntime) {
-    let steps = [
-        submits(window(3), 1),
-        works(),
-        works(),
-        works(),
-        reserves(),
-        works(),
-        works(),
-        works(),
-        ends(1, Ok(())),
-        sends(5),
-        sends(6),
+    const STEPS: &[Step] = &[
+        Submits(Window(3), 1),
+        WORKS,
+        WORKS,
+        WORKS,
+        RESERVES,
+        WORKS,
+        WORKS,
+        WORKS,
+        Ends(1, Ok(())),
+        Sends(5),
+        Sends(6),
         Advances(Err(StepFault::Disk)),
     ];
-    let mut endpoint = fused(&rt, rt.alloc(), 8);
-    play(&rt, &mut endpoint, &steps);
-    let found = [HasNext(0, Some(9)), HasWindow(3)];
-    play(&rt, &mut crashed(&rt, unfused(endpoint)), &found);
+    const FOUND: &[Step] = &[HasNext(0, Some(9)), HasWindow(3)];
+    fused_story(&rt, fused(&rt, rt.alloc(), 8), STEPS, FOUND);
 }
 
 /// A plain frame is handed in behind each of so many steps, while commands wait. The last number that
@@ -123,7 +124,7 @@ fn a_step_is_one_device_call(rt: HostRuntime) {
 fn send_between(rt: &impl Abort, endpoint: &mut Endpoint<MemDisk>, steps: u64, last: u32) -> u32 {
     let mut last = last;
     for _ in 0..steps {
-        let _ = submit(endpoint, window(3));
+        let _ = submit(rt, endpoint, Window(3));
         assert!(rt; advance(endpoint).is_ok());
         if let Ok(number) = protect(rt, endpoint, PLAIN) {
             assert!(rt; last < number);
@@ -170,7 +171,7 @@ fn receive_between(
 ) -> u32 {
     let mut last = last;
     for number in 1..=steps {
-        let _ = submit(endpoint, window(0));
+        let _ = submit(rt, endpoint, Window(0));
         assert!(rt; advance(endpoint).is_ok());
         if receive_frame(rt, endpoint, Frame::Peers { number }) == Ok(OK) {
             assert!(rt; last < number);
@@ -183,7 +184,7 @@ fn receive_between(
 /// The power goes behind so many steps: no frame that was delivered is delivered again, and later ones are.
 fn expect_later(rt: &impl Abort, alloc: Global, steps: u32, left: Left) {
     let mut endpoint = made_with(rt, alloc, OWN, 16);
-    add_channel(rt, &mut endpoint, PEER);
+    add_channel(rt, &mut endpoint, Peer);
     let last = receive_between(rt, &mut endpoint, steps, 0);
     let mut endpoint = found(rt, endpoint, left);
     assert!(rt; last < receive_between(rt, &mut endpoint, 40, last));
