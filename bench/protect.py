@@ -68,7 +68,7 @@ def measured(command):
 def traced(folder, command):
     """How often each call came, and the sizes of reads and writes of at least 4 KiB."""
     trace = os.path.join(folder, "trace")
-    calls = "read,write,fsync,fdatasync,lseek,brk,mmap"
+    calls = "read,write,pread64,pwrite64,fsync,fdatasync,fadvise64,lseek,brk,mmap"
     subprocess.run(["strace", "-f", "-o", trace, "-e", "trace=" + calls, *command], check=True, stdout=subprocess.DEVNULL)
     counts, sizes = Counter(), {"read": Counter(), "write": Counter()}
     for line in open(trace):

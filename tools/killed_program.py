@@ -30,7 +30,7 @@ TOP = os.path.abspath(os.path.join(os.path.dirname(__file__), ".."))
 MACSECD = os.path.join(TOP, "macsecd")
 SECTOR = 512
 OPEN = b"MSECOPEN" + bytes(504)
-CALLS = ["openat", "lseek", "read", "write", "fsync", "fdatasync", "ftruncate", "fallocate", "flock", "fcntl", "close"]
+CALLS = ["openat", "pread64", "pwrite64", "fsync", "fdatasync", "fadvise64", "ftruncate", "fallocate", "flock", "fcntl", "close"]
 SCI = "0200000000010001"
 FRAMES = 400
 BLOCK = "32"
@@ -73,7 +73,7 @@ def program():
 def traced(disk, words, extra=()):
     """Runs the program under strace: its output, and its system calls on the disk file."""
     trace = disk + ".trace"
-    command = ["strace", "-o", trace, "-xx", "-s", "600", "-e", "trace=" + ",".join(CALLS), "-P", disk, *extra, *words]
+    command = ["strace", "-o", trace, "-xx", "-s", "5000", "-e", "trace=" + ",".join(CALLS), "-P", disk, *extra, *words]
     done = subprocess.run(command, capture_output=True)
     lines = [line for line in open(trace) if not line.startswith(("+++", "---"))]
     return done, lines
@@ -89,31 +89,25 @@ class Sectors:
     def __init__(self, path):
         self.durable = open(path, "rb").read() if os.path.exists(path) else b""
         self.pending = {}
-        self.place = 0
 
     def follow(self, line):
         found = re.match(r"(\w+)\((.*)\) += (-?\d+)", line)
         if not found:
             return
         name, inside, answer = found[1], found[2], int(found[3])
-        if name == "lseek":
-            self.place = answer
-        elif name == "read":
-            self.place += answer
-        elif name == "write":
+        assert name != "ftruncate" and name != "fallocate", "the size of a disk file grows by what is written"
+        if name == "pwrite64":
             octets = octets_in(re.search(r'"(.*)"', inside)[1])[:answer]
-            assert self.place % SECTOR == 0 and answer == SECTOR, line
-            self.pending[self.place // SECTOR] = octets
-            self.place += answer
+            place = int(inside.split(",")[-1], 0)
+            assert place % SECTOR == 0 and answer % SECTOR == 0, line
+            for at in range(answer // SECTOR):
+                self.pending[place // SECTOR + at] = octets[at * SECTOR : (at + 1) * SECTOR]
         elif name in ("fsync", "fdatasync"):
-            whole = bytearray(self.durable)
+            size = max([len(self.durable)] + [(at + 1) * SECTOR for at in self.pending])
+            whole = bytearray(self.durable.ljust(size, b"\0"))
             for at, octets in self.pending.items():
                 whole[at * SECTOR : (at + 1) * SECTOR] = octets
             self.durable, self.pending = bytes(whole), {}
-        elif name == "ftruncate":
-            length = int(inside.split(",")[1], 0)
-            assert length >= len(self.durable), "a disk file is never cut"
-            self.durable += bytes(length - len(self.durable))
 
     def contents(self, at):
         """The six contents that may be left in a sector."""
@@ -160,7 +154,8 @@ def kill_at_each(folder, name, start, words, judge):
         kills += 1
         whole = sectors.durable
         for image in sectors.images():
-            octets = bytearray(whole)
+            size = max([len(whole)] + [(at + 1) * SECTOR for at in image])
+            octets = bytearray(whole.ljust(size, b"\0"))
             for at, left in image.items():
                 octets[at * SECTOR : (at + 1) * SECTOR] = left
             if octets or os.path.exists(disk):
@@ -205,7 +200,7 @@ def main():
                 assert found.stdout == formatted, found
             else:
                 assert found.returncode == 4, found
-                assert found.stderr.strip() in ("macsecd: not formatted", "macsecd: too small", "macsecd: disk file", "macsecd: disk length"), found
+                assert found.stderr.strip() in ("macsecd: not formatted", "macsecd: too small", "macsecd: disk file", "macsecd: disk length", "macsecd: bad journal"), found
 
         def judge_apply(disk, printed):
             acknowledged = len(printed.splitlines())

@@ -5,3 +5,9 @@ mod BlownWrites
 mod Kept
 mod RecordedCalls
 mod Blank
+mod Walks
+pub mod FileWrites
+pub mod FileReads
+mod FileCalls
+pub mod FileSectors
+mod FileOpenings

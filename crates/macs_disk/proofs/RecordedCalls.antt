@@ -12,13 +12,13 @@ abbrev most : ℕ
 most = 2 ^ 64 - 1
 
 -- a full clock, and one that is not
-test_full : (clock : ℕ) → (clock == most) ≡ true → clock ≡ most
+pub test_full : (clock : ℕ) → (clock == most) ≡ true → clock ≡ most
 test_full clock is = elim (cases_eq clock most) [
   | inl same ↦ same
   | inr other ↦ absurd (let no : (clock == most) ≡ false = grind (arith, nat_tests) in cc)
 ]
 
-test_fresh : (clock : ℕ) → clock ≤ most → (clock == most) ≡ false → clock < most
+pub test_fresh : (clock : ℕ) → clock ≤ most → (clock == most) ≡ false → clock < most
 test_fresh clock fits is = elim (cases_eq clock most) [
   | inl same ↦ absurd (let yes = eq-eqb clock most same in cc)
   | inr other ↦ omega (arith, fits, other)

@@ -1,25 +1,124 @@
 -- What a `FileDisk` is.
-use Rattle.std.specs.Prelude.{◌≡◌, ◌-◌, ◌^◌, ◌==◌, false}
-use Rattle.macs_disk.specs.States.{settled_state, zero_sector}
-use Rattle.macs_disk.specs.Disk.{Disk}
+use Rattle.std.specs.Prelude.{◌≡◌, ◌≤◌, ◌<◌, ◌-◌, ◌/◌, ◌%◌, ◌^◌, ◌==◌, ◌&&◌, ◌⊎◌, ℕ, Bool, true, false, max, nat_le, get_or, replicate}
+use Rattle.macs_disk.specs.States.{DiskState, Image, zero_sector}
+use Rattle.macs_disk.specs.Disk.{Disk, IsHonest, now}
+use Rattle.macs_disk.specs.Files.{FileState, IsSure, Settles, file_after_sync, file_after_write, values_from}
+use Rattle.macs_disk.specs.Layouts.{layout_in, mark, place, sectors_in, suits}
 use Rattle.macs_disk.specs.declared.file.FileDisk.{FileDisk}
+use Rattle.macs_disk.specs.declared.layout.Layout.{Layout}
+use Rattle.macs_disk.specs.declared.layout.Layout.TheVariants.{Packed, Spaced}
 
--- a disk in a file, by its counts: it is worn once its clock is full. It claims no honesty, so that
--- the states that stand here for its past say nothing of the file.
-abbrev pub disk_in_file : {F : Type 0} → FileDisk F → Disk
-disk_in_file it =
+-- a file by its sectors: each is the 512 octets at its place, and pending where the block of the device that holds them is
+unfoldable pub state_in_file : Layout → FileState → DiskState
+state_in_file layout file =
+    record {
+      seen = λ i. values_from file.seen (place layout i) 512;
+      durable = λ i. values_from file.durable (place layout i) 512;
+      pending = λ i. file.pending (place layout i / file.block);
+    }
+
+-- the octets of a file by its sectors
+abbrev pub image_in_file : Layout → (ℕ → ℕ) → Image
+image_in_file layout octets i = values_from octets (place layout i) 512
+
+-- a file is one that a disk may be kept in: it behaves, shows what the next sync makes durable, and has no block of the device
+-- with two sectors
+abbrev pub keeps_disk : Layout → FileState → Bool
+keeps_disk layout file = file.behaves && file.is_sure && suits layout file.block
+
+-- a file is ready for the first call of a disk: nothing is pending, and a power loss leaves it no shorter than so many sectors
+abbrev pub is_ready : Layout → ℕ → FileState → Bool
+is_ready layout sectors file = file.is_clean && file.is_size_durable && nat_le (place layout sectors) file.size
+
+-- a disk in a file, where this is what the file is. It is honest where the file keeps it, and was ready before its first
+-- call. It is worn once its clock is full.
+abbrev pub disk_in_file : {F : Type 0} → (F → FileState) → FileDisk F → Disk
+disk_in_file file it =
     record {
       sectors = it.sectors;
-      past = λ _. settled_state (λ _. zero_sector);
+      past = λ k. state_in_file it.layout (file (get_or it.past.items k it.shown).value);
       clock = it.clock;
       failures = it.failures;
-      honest = false;
+      honest = keeps_disk it.layout (file it.shown.value) && is_ready it.layout it.sectors (file (get_or it.past.items 0 it.shown).value);
       worn = it.clock == 2 ^ 64 - 1;
     }
 
--- a disk of which no call was made yet, and which claims no honesty
+-- the file that a disk was handed, how it is now, how the disk shows it, and how its sectors lie in it
+abbrev pub file_given : {F : Type 0} → FileDisk F → F
+file_given it = it.given.value
+
+abbrev pub file_left : {F : Type 0} → FileDisk F → F
+file_left it = it.file
+
+abbrev pub file_shown : {F : Type 0} → FileDisk F → F
+file_shown it = it.shown.value
+
+abbrev pub layout_of : {F : Type 0} → FileDisk F → Layout
+layout_of it = it.layout
+
+-- the file made so long with zeros, durably
+abbrev pub file_lengthened : FileState → ℕ → FileState
+file_lengthened file size = file_after_sync (file_after_write file file.size (replicate (size - file.size) 0))
+
+-- a disk that was opened over a file which behaves. The file was settled first, and then made longer where it had fewer
+-- sectors than were asked for: the disk's are those of the file then, all of them durable. It is honest where the
+-- device's blocks suit the layout.
+pub record IsOpened (file : FileState) (least : ℕ) (layout : Layout) (disk : Disk) : Type 0 where
+  pub whole : file.size % 512 ≡ 0
+  pub settled : FileState
+  pub settles : Settles file settled
+  pub found : layout ≡ layout_in settled
+  pub sectors : disk.sectors ≡ max (sectors_in layout settled.size) least
+  pub honest : suits layout file.block ≡ true → IsHonest disk
+  pub state : now disk ≡ state_in_file layout (file_lengthened settled (place layout least))
+
+-- a file of so many octets was made ready for a disk: it was settled, its layout found, and made longer where it had
+-- fewer sectors than were asked for
+pub record IsExtent (old new : FileState) (least : ℕ) (layout : Layout) (sectors : ℕ) : Type 0 where
+  pub settled : FileState
+  pub settles : Settles old settled
+  pub found : layout ≡ layout_in settled
+  pub count : sectors ≡ max (sectors_in layout settled.size) least
+  pub file : new ≡ file_lengthened settled (place layout least)
+
+-- by the mark a file is found to be of this layout: a spaced one has it in the block behind its sectors, and a packed one ends
+-- before that block or begins it with zeros
+abbrev pub HasMark : Layout → FileState → Type 0
+HasMark Packed file = (file.size ≤ place Spaced 1028) ⊎ (values_from file.seen (place Spaced 1028) 512 ≡ zero_sector)
+HasMark Spaced file = (place Spaced 1029 ≤ file.size) × (values_from file.seen (place Spaced 1028) 512 ≡ mark)
+
+-- a file after the mark of this layout was written
+pub record IsMarkedAs (old new : FileState) (layout : Layout) : Type 0 where
+  pub block : new.block ≡ old.block
+  pub longer : old.size ≤ new.size
+  pub is_sure : IsSure new
+  pub has : HasMark layout new
+
+-- a file after the mark of this layout and zeros in the place of 1,028 sectors were written, all of it durable
+pub record IsCleared (old new : FileState) (layout : Layout) : Type 0 where
+  pub block : new.block ≡ old.block
+  pub long : place layout 1028 ≤ new.size
+  pub longer : old.size ≤ new.size
+  pub is_size_durable : new.is_size_durable ≡ true
+  pub is_clean : new.is_clean ≡ true
+  pub is_sure : IsSure new
+  pub durable : new.durable ≡ new.seen
+  pub clean : (n : ℕ) → new.pending n ≡ false
+  pub zeros : (i : ℕ) → i < 1028 → values_from new.seen (place layout i) 512 ≡ zero_sector
+  pub found : layout_in new ≡ layout
+
+-- a new disk of this layout in a file: its first 1,028 sectors are zeros, all of them are durable, and nothing is pending.
+-- It is honest where the device's blocks suit the layout, and the layout is found when the file is opened again.
+pub record IsBlank (file : FileState) (layout : Layout) (disk : Disk) : Type 0 where
+  pub honest : suits layout file.block ≡ true → IsHonest disk
+  pub enough : 1028 ≤ disk.sectors
+  pub zeros : (i : ℕ) → i < 1028 → (now disk).seen i ≡ zero_sector
+  pub durable : (i : ℕ) → (now disk).durable i ≡ (now disk).seen i
+  pub clean : (i : ℕ) → (now disk).pending i ≡ false
+  pub found : layout_in file ≡ layout
+
+-- a disk of which no call was made yet
 pub record IsFresh (disk : Disk) : Type 0 where
   pub clock : disk.clock ≡ 0
   pub failures : disk.failures ≡ 0
   pub worn : disk.worn ≡ false
-  pub honest : disk.honest ≡ false

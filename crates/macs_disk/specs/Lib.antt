@@ -5,5 +5,8 @@ pub mod Fused
 pub mod Recorded
 pub mod Memory
 pub mod MemDisks
+pub mod Files
+pub mod Layouts
 pub mod FileDisks
+pub mod FileEvidence
 pub mod Evidence

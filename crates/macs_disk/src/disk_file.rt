@@ -1,66 +1,106 @@
 //! What a disk in a file asks of the file.
 
-ghost use Rattle.std.specs.Prelude.{◌≡◌, ◌≤◌, ℕ, Option, Some, None, IfOk, IfSome, OnOk};
+ghost use Rattle.std.specs.Prelude.{◌≡◌, ◌≤◌, length, IfErr, IfOk};
+ghost use Rattle.std.specs.IoError.{error_kind};
+ghost use Rattle.std.specs.declared.io.ErrorKind.TheVariants.{Interrupted};
+ghost use Rattle.macs_disk.specs.Files.{Behaves, FileState, IsSoundFile, ReadsFile, RereadsFile, SyncsFile, WritesFile};
+ghost use Rattle.macs_disk.specs.Files.{unknown_file};
 
+use libc::{POSIX_FADV_DONTNEED, posix_fadvise};
 use std::fs::File;
 use std::io;
-use std::io::{Read, Seek, Write};
+use std::os::fd::AsRawFd;
+use std::os::unix::fs::FileExt;
 
-/// An open file, as a disk uses it: octets are read and written at the position that `seek` sets, and
-/// the calls below claim, measure, lengthen and sync it. Tests put files in its place whose calls fail.
+/// An open file, as a disk uses it. Tests put files in its place whose calls fail.
 ///
-/// Of a file of the operating system nothing is known, not even its length. Of a file that tells its
-/// length it is proved that no call makes it shorter.
-pub trait DiskFile: Read + Write + Seek + Drop {
-    /// How many octets the file has, where that is known.
-    ghost octets: { Self → Option ℕ } = { λ _. None };
+/// What is said here is said of a file that behaves. Whether a file behaves never changes. Of a file of
+/// the operating system that is not claimed, and nothing is known of it.
+pub trait DiskFile: Drop {
+    /// What the file is at this moment: what its cache shows, what the device has, what a power loss may
+    /// leave.
+    ghost file: { Self → FileState } = { λ _. unknown_file };
 
     /// Claims the file until it is closed. An error where another open of the file has claimed it. The
     /// claim is advisory: it stops only those who ask for one.
     fn claim(&mut self) -> io::Result<()>
-        ensures { octets self.new ≡ octets self.old };
+        ensures steady { (file self.new).behaves ≡ (file self.old).behaves }
+        ensures effect { Behaves (file self.old) → file self.new ≡ file self.old };
 
     /// How many octets the file has.
-    fn length(&mut self) -> io::Result<u64>
-        ensures length { IfOk result (λ n. IfSome (octets self.old) (λ known. n ≡ known)) }
-        ensures same { octets self.new ≡ octets self.old };
+    fn size(&mut self) -> io::Result<u64>
+        ensures steady { (file self.new).behaves ≡ (file self.old).behaves }
+        ensures effect { Behaves (file self.old) → file self.new ≡ file self.old }
+        ensures size { Behaves (file self.old) → IfOk result (λ size. size ≡ (file self.old).size) };
 
-    /// Makes the file so many octets long, which is no fewer than it has. The new ones are zeros.
-    fn lengthen(&mut self, length: u64) -> io::Result<()>
-        requires { IfSome (octets self.old) (λ known. known ≤ length) }
-        ensures { OnOk result (IfSome (octets self.old) (λ _. octets self.new ≡ Some length)) };
+    /// Reads octets from octet `at` on, maybe fewer than there is room for. It answers how many: none
+    /// where the file has none there.
+    fn read_at(&mut self, at: u64, into: &mut [u8]) -> io::Result<usize>
+        ensures bound { IfOk result (λ count. count ≤ length into.new) }
+        ensures steady { (file self.new).behaves ≡ (file self.old).behaves }
+        ensures effect { Behaves (file self.old)
+            → ReadsFile (file self.old) (file self.new) at into.new result };
 
-    /// Makes the file's length and its octets durable on the device.
-    fn sync_length(&mut self) -> io::Result<()>
-        ensures { octets self.new ≡ octets self.old };
+    /// Writes octets from octet `at` on, maybe fewer than are given. It answers how many. Where the file
+    /// ends before, it is made longer. A write that is interrupted wrote none.
+    fn write_at(&mut self, at: u64, from: &[u8]) -> io::Result<usize>
+        ensures bound { IfOk result (λ count. count ≤ length from.now) }
+        ensures steady { (file self.new).behaves ≡ (file self.old).behaves }
+        ensures effect { Behaves (file self.old)
+            → WritesFile (file self.old) (file self.new) at from.now result }
+        ensures interrupted { Behaves (file self.old)
+            → IfErr result (λ error. error_kind error ≡ Interrupted → file self.new ≡ file self.old) };
 
-    /// Makes the file's octets durable on the device, and of the rest what a read of them needs.
-    fn sync_octets(&mut self) -> io::Result<()>
-        ensures { octets self.new ≡ octets self.old };
+    /// Makes the file's octets durable on the device, and how many it has.
+    fn sync(&mut self) -> io::Result<()>
+        ensures steady { (file self.new).behaves ≡ (file self.old).behaves }
+        ensures effect { Behaves (file self.old) → SyncsFile (file self.old) (file self.new) result };
+
+    /// Forgets what the cache shows of a file of which nothing is pending, so that later reads come
+    /// from the device.
+    fn reread(&mut self) -> io::Result<()>
+        ensures steady { (file self.new).behaves ≡ (file self.old).behaves }
+        ensures effect { Behaves (file self.old) → RereadsFile (file self.old) (file self.new) result };
+
+    /// A file that behaves has octets, and shows what is durable where nothing is pending.
+    ghost sound: { (it : Self) → Behaves (file it) → IsSoundFile (file it) };
 }
 
 impl DiskFile for File {
+    ghost use Rattle.macs_disk.specs.Evidence.{no-claim};
+
     fn claim(&mut self) -> io::Result<()> {
         self.try_lock()?;
         Ok(())
     }
 
-    fn length(&mut self) -> io::Result<u64> {
+    fn size(&mut self) -> io::Result<u64> {
         let about = self.metadata()?;
         Ok(about.len())
     }
 
-    fn lengthen(&mut self, length: u64) -> io::Result<()> {
-        self.set_len(length)
+    fn read_at(&mut self, at: u64, into: &mut [u8]) -> io::Result<usize> {
+        FileExt::read_at(self, into, at)
     }
 
-    // fsync: the length and all else that is kept about the file.
-    fn sync_length(&mut self) -> io::Result<()> {
-        self.sync_all()
+    fn write_at(&mut self, at: u64, from: &[u8]) -> io::Result<usize> {
+        FileExt::write_at(self, from, at)
     }
 
-    // fdatasync: a disk never changes its file's length, and the file's times are no part of the disk.
-    fn sync_octets(&mut self) -> io::Result<()> {
+    // fdatasync: the octets, and of what is kept about the file its size and all else that a read of them
+    // needs. Its times are no part of a disk.
+    fn sync(&mut self) -> io::Result<()> {
         self.sync_data()
     }
+
+    // The kernel drops the file's pages that are neither dirty nor under way to the device, from octet 0
+    // to the end.
+    fn reread(&mut self) -> io::Result<()> {
+        match posix_fadvise(self.as_raw_fd(), 0, 0, POSIX_FADV_DONTNEED) {
+            0 => Ok(()),
+            error => Err(io::Error::from_raw_os_error(error)),
+        }
+    }
+
+    ghost sound = { λ _ behaves. no-claim behaves };
 }

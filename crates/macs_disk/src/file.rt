@@ -1,82 +1,122 @@
 //! A disk in a file.
 
-ghost use Rattle.std.specs.Prelude.{◌≡◌, ◌<◌, ◌≤◌, ◌+◌, ◌-◌, ◌^◌, ◌↔◌, IsErr, OnErr, OnOk};
+ghost use Rattle.std.specs.Prelude.{◌≡◌, ◌<◌, ◌≤◌, ◌+◌, ◌-◌, ◌^◌, ◌↔◌, true, false, [], ◌∷◌, ◌++◌, length, IsErr, OnErr, OnOk};
+ghost use Rattle.macs_disk.specs.Layouts.{place};
 
 use crate::disk::{DeviceFault, SectorDisk};
 use crate::disk_file::DiskFile;
+use crate::file_calls::{read_sector, write_all};
+use crate::layout::Layout;
+use crate::log::Log;
 use std::fs::File;
 use std::io;
-use std::io::SeekFrom;
+use std::snapshot::Snapshot;
 
-/// How many octets a sector has.
-pub(crate) const SECTOR_OCTETS: u64 = 512;
-
-/// A disk in a file of whole sectors: sector `at` is the 512 octets from octet `512 * at` on.
+/// A disk in a file of whole sectors, which lie in it as its layout says.
 ///
-/// It claims no honesty: whether reads give what was written, and what a power loss leaves, is the
-/// operating system's and the device's. What is said of every disk is proved of it. One disk at a time
-/// is to use a file, since what another program does to the file goes by unseen.
+/// It is an honest disk where its file behaves, has no other user, and lies on a device whose blocks suit the
+/// layout. Of a file of the operating system that is not claimed: whether reads give what was written, and
+/// what a power loss leaves, is the system's and the device's. One disk at a time is to use a file, since
+/// what another program does to the file goes by unseen.
 ///
 /// A read or a write that moves fewer octets goes on to the sector's end, and an interrupted one is
 /// tried again. Every other error of the file is a `DeviceFault`; so is a read of a sector that the file
-/// no longer has. What a failed read leaves in `into` is no sector. A sync that fails is not tried again.
+/// no longer has. What a failed read leaves in `into` is no sector.
+///
+/// After a sync that failed a file may show octets that the device does not have, and later syncs may leave
+/// them out. So a disk one of whose calls failed fails each later call, and `reopen` makes a new disk of its
+/// file.
 #[derive(Drop)]
 pub struct FileDisk<F = File> {
     file: F,
+    /// The file as it was handed over. It takes no memory: proofs alone read it.
+    given: Snapshot<F>,
+    /// The file as the disk shows it at this moment: as it is, until a sync has failed. Proofs alone read it.
+    shown: Snapshot<F>,
+    /// The same at each moment before this one. Proofs alone read it.
+    past: Log<Snapshot<F>>,
+    layout: Layout,
     sectors: u64,
     clock: u64,
     failures: u64,
-    ghost fits: { sectors < 2 ^ 55 },
+    /// A call has failed.
+    is_failed: bool,
+    ghost fits: { place layout sectors < 2 ^ 64 },
     ghost few: { failures ≤ clock },
-}
-
-fn read_sector<F: DiskFile>(file: &mut F, at: u64, into: &mut [u8; 512]) -> io::Result<()>
-    requires { at < 2 ^ 55 }
-{
-    file.seek(SeekFrom::Start(at * SECTOR_OCTETS))?;
-    file.read_exact(into)
-}
-
-fn write_sector<F: DiskFile>(file: &mut F, at: u64, from: &[u8; 512]) -> io::Result<()>
-    requires { at < 2 ^ 55 }
-{
-    file.seek(SeekFrom::Start(at * SECTOR_OCTETS))?;
-    file.write_all(from)
+    ghost kept: { length past.items ≡ clock },
+    ghost current: { is_failed ≡ false → shown.value ≡ file },
 }
 
 impl<F: DiskFile> FileDisk<F> {
     ghost use Rattle.macs_disk.specs.FileDisks.{IsFresh, disk_in_file};
 
-    // A disk of so many sectors in an open file that has them.
-    pub(crate) fn new(file: F, sectors: u64) -> Self
-        requires { sectors < 2 ^ 55 }
-        ensures sectors { (disk_in_file result).sectors ≡ sectors }
-        ensures fresh { IsFresh (disk_in_file result) }
+    // A disk in a file that was settled and has its sectors, and as what it was handed over.
+    pub(crate) fn new(file: F, given: Snapshot<F>, layout: Layout, sectors: u64) -> Self
+        requires { place layout sectors < 2 ^ 64 }
+        ensures sectors { result.sectors ≡ sectors }
+        ensures layout { result.layout ≡ layout }
+        ensures shown { result.shown.value ≡ file }
+        ensures given { result.given.value ≡ given.value }
+        ensures past { result.past.items ≡ [] }
+        ensures clock { result.clock ≡ 0 }
+        ensures failures { result.failures ≡ 0 }
+        ensures fresh { IsFresh (disk_in_file F.file result) }
     {
+        let shown = Snapshot::of(&file);
         FileDisk {
             file,
+            given,
+            shown,
+            past: Log::new(),
+            layout,
             sectors,
             clock: 0,
             failures: 0,
+            is_failed: false,
         }
     }
 
-    // Lets a moment pass, unless the disk is worn.
-    fn pass(&mut self) -> Result<(), DeviceFault>
+    // The file of the disk, as it is.
+    pub(crate) fn into_file(self) -> F
+        ensures { result ≡ self.file }
+    {
+        self.file
+    }
+
+    // Lets a moment pass, and lets a call go on to the file. It does not where the disk is worn, and is a
+    // failure, and counted, where an earlier call failed.
+    fn begin(&mut self) -> Result<(), DeviceFault>
         ensures ok { OnOk result ((self.old.clock < 2 ^ 64 - 1) × (self.new.clock ≡ self.old.clock + 1)) }
+        ensures live { OnOk result ((self.old.is_failed ≡ false) × (self.new.is_failed ≡ false)) }
         ensures room { OnOk result (self.new.failures < self.new.clock) }
-        ensures err { OnErr result ((self.old.clock ≡ 2 ^ 64 - 1) × (self.new.clock ≡ self.old.clock)) }
-        ensures failures { self.new.failures ≡ self.old.failures }
+        ensures steady { OnOk result (self.new.failures ≡ self.old.failures) }
+        ensures past { OnOk result (self.new.past.items ≡ self.old.past.items ++ self.old.shown ∷ []) }
+        ensures worn { OnErr result (self.old.clock ≡ 2 ^ 64 - 1
+            → (self.new.clock ≡ self.old.clock) × (self.new.failures ≡ self.old.failures)
+            × (self.new.past.items ≡ self.old.past.items)) }
+        ensures refused { OnErr result (self.old.clock < 2 ^ 64 - 1
+            → (self.new.clock ≡ self.old.clock + 1) × (self.new.failures ≡ self.old.failures + 1)
+            × (self.new.past.items ≡ self.old.past.items ++ self.old.shown ∷ [])) }
+        ensures fits { OnErr result (self.old.clock < 2 ^ 64) }
+        ensures shown { self.new.shown ≡ self.old.shown }
+        ensures file { self.new.file ≡ self.old.file }
+        ensures layout { self.new.layout ≡ self.old.layout }
         ensures sectors { self.new.sectors ≡ self.old.sectors }
     {
         if self.clock == u64::MAX {
             return Err(DeviceFault);
         }
+        self.past = self.past.and(&self.shown);
         self.clock += 1;
+        if self.is_failed {
+            self.failures += 1;
+            return Err(DeviceFault);
+        }
         Ok(())
     }
 
-    // What the file answered, as the disk answers it: an error is a failure and counted.
+    // What the file answered, as the disk answers it: an error is a failure and counted, and the last that
+    // the file is asked for.
     fn count(&mut self, answer: io::Result<()>) -> Result<(), DeviceFault>
         requires { self.old.failures < self.old.clock }
         ensures alike { IsErr result ↔ IsErr answer }
@@ -84,11 +124,16 @@ impl<F: DiskFile> FileDisk<F> {
         ensures err { OnErr result (self.new.failures ≡ self.old.failures + 1) }
         ensures clock { self.new.clock ≡ self.old.clock }
         ensures sectors { self.new.sectors ≡ self.old.sectors }
+        ensures layout { self.new.layout ≡ self.old.layout }
+        ensures shown { self.new.shown ≡ self.old.shown }
+        ensures file { self.new.file ≡ self.old.file }
+        ensures past { self.new.past.items ≡ self.old.past.items }
     {
         match answer {
             Ok(()) => Ok(()),
             Err(_) => {
                 self.failures += 1;
+                self.is_failed = true;
                 Err(DeviceFault)
             }
         }
@@ -96,12 +141,17 @@ impl<F: DiskFile> FileDisk<F> {
 }
 
 impl<F: DiskFile> SectorDisk for FileDisk<F> {
-    ghost use Rattle.macs_disk.specs.Evidence.{full-clock, no-claim};
-    ghost use Rattle.macs_disk.specs.FileDisks.{disk_in_file};
+    ghost use Rattle.std.specs.Prelude.{◌≡◌, ◌<◌, ◌⊎◌, OnErr};
+    ghost use Rattle.macs_disk.specs.Disk.{IsDeviceCall, IsHonest, Reads, Syncs, Writes, now};
+    ghost use Rattle.macs_disk.specs.Evidence.{full-clock};
+    ghost use Rattle.macs_disk.specs.FileDisks.{disk_in_file, file_left, layout_of};
+    ghost use Rattle.macs_disk.specs.FileEvidence.{file-sound};
+    ghost use Rattle.macs_disk.specs.Files.{Behaves, WritesAll, file_in_doubt};
+    ghost use Rattle.macs_disk.specs.Layouts.{place};
 
-    ghost disk = { disk_in_file };
+    ghost disk = { disk_in_file F.file };
 
-    ghost sound = { λ _ honest. no-claim honest };
+    ghost sound = { λ it honest. file-sound F.file F.sound it.layout it.shown it.past.items it.clock it.sectors it.kept honest };
 
     ghost wear = { λ it. full-clock it.clock };
 
@@ -109,21 +159,55 @@ impl<F: DiskFile> SectorDisk for FileDisk<F> {
         self.sectors
     }
 
-    fn read(&mut self, at: u64, into: &mut [u8; 512]) -> Result<(), DeviceFault> {
-        self.pass()?;
-        let answer = read_sector(&mut self.file, at, into);
+    fn read(&mut self, at: u64, into: &mut [u8; 512]) -> Result<(), DeviceFault>
+        requires { at < (disk_in_file F.file self.old).sectors }
+        ensures call { IsDeviceCall (disk_in_file F.file self.old) (disk_in_file F.file self.new) result }
+        ensures effect { IsHonest (disk_in_file F.file self.new)
+            → Reads (now (disk_in_file F.file self.old)) (now (disk_in_file F.file self.new)) at into.new result }
+        ensures file { Behaves (F.file (file_left self.old))
+            → F.file (file_left self.new) ≡ F.file (file_left self.old) }
+    {
+        self.begin()?;
+        let answer = read_sector(&mut self.file, self.layout, at, into);
+        self.shown = Snapshot::of(&self.file);
         self.count(answer)
     }
 
-    fn write(&mut self, at: u64, from: &[u8; 512]) -> Result<(), DeviceFault> {
-        self.pass()?;
-        let answer = write_sector(&mut self.file, at, from);
+    fn write(&mut self, at: u64, from: &[u8; 512]) -> Result<(), DeviceFault>
+        requires { at < (disk_in_file F.file self.old).sectors }
+        ensures call { IsDeviceCall (disk_in_file F.file self.old) (disk_in_file F.file self.new) result }
+        ensures effect { IsHonest (disk_in_file F.file self.new)
+            → Writes (now (disk_in_file F.file self.old)) (now (disk_in_file F.file self.new)) at from.now result }
+        ensures file { Behaves (F.file (file_left self.old)) → WritesAll (F.file (file_left self.old))
+            (F.file (file_left self.new)) (place (layout_of self.old) at) from.now result }
+    {
+        self.begin()?;
+        let answer = write_all(&mut self.file, self.layout.place(at), from);
+        self.shown = Snapshot::of(&self.file);
         self.count(answer)
     }
 
-    fn sync(&mut self) -> Result<(), DeviceFault> {
-        self.pass()?;
-        let answer = self.file.sync_octets();
-        self.count(answer)
+    /// The first call of a disk, where it is a sync, leaves the file alone: opening synced it. Where a sync
+    /// fails, the file is in doubt, and neither synced nor written any more.
+    fn sync(&mut self) -> Result<(), DeviceFault>
+        ensures call { IsDeviceCall (disk_in_file F.file self.old) (disk_in_file F.file self.new) result }
+        ensures effect { IsHonest (disk_in_file F.file self.new)
+            → Syncs (now (disk_in_file F.file self.old)) (now (disk_in_file F.file self.new)) result }
+        ensures file { Behaves (F.file (file_left self.old)) → OnErr result
+            ((F.file (file_left self.new) ≡ F.file (file_left self.old))
+            ⊎ (F.file (file_left self.new) ≡ file_in_doubt (F.file (file_left self.old)))) }
+    {
+        self.begin()?;
+        if self.clock == 1 {
+            return Ok(());
+        }
+        let Ok(()) = self.file.sync() else {
+            // The disk goes on to show the file as it was: a failed sync changes nothing.
+            self.failures += 1;
+            self.is_failed = true;
+            return Err(DeviceFault);
+        };
+        self.shown = Snapshot::of(&self.file);
+        Ok(())
     }
 }

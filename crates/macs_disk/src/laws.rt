@@ -9,9 +9,17 @@ ghost use Rattle.macs_disk.specs.Runs.{Leaves, LeavesNothingNew};
 ghost use Rattle.macs_disk.specs.Fused.{FuseValue, disk_of_fuse};
 ghost use Rattle.macs_disk.specs.MemDisks.{disk_of};
 ghost use Rattle.macs_disk.specs.declared.memory.MemDisk.{MemDisk};
+ghost use Rattle.macs_disk.specs.Files.{FileState, IsFileImage, WritesSome, file_in_doubt};
+ghost use Rattle.macs_disk.specs.FileDisks.{IsOpened, disk_in_file, image_in_file, state_in_file};
+ghost use Rattle.macs_disk.specs.Layouts.{place, suits};
+ghost use Rattle.macs_disk.specs.declared.file.FileDisk.{FileDisk};
+ghost use Rattle.macs_disk.specs.declared.layout.Layout.{Layout};
+ghost use Rattle.std.specs.declared.fs.File.{File as SystemFile};
 
 use crate::disk::SectorDisk;
+use crate::disk_file::DiskFile;
 use std::alloc::Allocator;
+use std::fs::File;
 
 /// A property of what a power loss leaves.
 pub trait Property {
@@ -168,4 +176,42 @@ pub fn memory_is_honest<A: Allocator>()
 /// A fuse in front of an honest disk is an honest disk.
 pub fn fuses_are_honest<D: SectorDisk>()
     ensures { (fuse : FuseValue D) → IsHonest (D.disk fuse.inner) → IsHonest (disk_of_fuse D.disk fuse) }
+{}
+
+/// A disk that was opened in a file which behaves is an honest disk, where the blocks of the device suit the
+/// layout. At its first moment a power loss leaves nothing that it might not have left of the file, but
+/// for zeros that made the file longer.
+pub fn files_that_behave_are_honest()
+    ensures { (file : FileState) (least : ℕ) (layout : Layout) (disk : Disk) → IsOpened file least layout disk
+        → suits layout file.block ≡ true → IsHonest disk }
+{}
+
+/// What a power loss may leave of a file, it may leave of the disk in the file.
+pub fn a_file_leaves_what_its_disk_may()
+    ensures { (layout : Layout) (file : FileState) (image : ℕ → ℕ) → suits layout file.block ≡ true
+        → IsFileImage file image → IsImage (state_in_file layout file) (image_in_file layout image) }
+{}
+
+/// What a power loss may leave of a file when some octets of a sector are written, it may leave of the
+/// disk after the write.
+pub fn inside_a_write_a_file_leaves_what_its_disk_may()
+    ensures { (layout : Layout) (old mid : FileState) (at : ℕ) (octets : List ℕ) (image : ℕ → ℕ)
+        → suits layout old.block ≡ true → WritesSome old mid (place layout at) 512 → IsFileImage mid image
+        → IsImage (state_after_write (state_in_file layout old) at octets) (image_in_file layout image) }
+{}
+
+/// What a power loss may leave of a file after a sync that failed, it could leave before.
+pub fn a_failed_sync_of_a_file_leaves_nothing_new()
+    ensures { (file : FileState) (image : ℕ → ℕ) → IsFileImage (file_in_doubt file) image → IsFileImage file image }
+{}
+
+/// No octet of a file, and no block of a device that suits its layout, is in two sectors.
+pub fn sectors_do_not_overlap()
+    ensures { (layout : Layout) (block first second : ℕ) → suits layout block ≡ true → first ≢ second
+        → (place layout first + block ≤ place layout second) ⊎ (place layout second + block ≤ place layout first) }
+{}
+
+/// A disk in a file of the operating system claims no honesty.
+pub fn a_file_of_the_system_claims_nothing()
+    ensures { (it : FileDisk SystemFile) → (disk_in_file ⟦<File as DiskFile>⟧.file it).honest ≡ false }
 {}

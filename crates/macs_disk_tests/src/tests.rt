@@ -1,9 +1,11 @@
 //! Stories of calls, choices and power losses, with what is to be found worked out by hand.
 
+mod behaving_files;
 mod failing_files;
 mod files;
 mod forgetful;
 mod fuses;
+mod kernel_files;
 mod memory;
 mod promises;
 mod shut_files;

@@ -29,3 +29,4 @@ pub mod ExampleFrames
 pub mod ExampleStates
 pub mod ExampleFits
 pub mod ExampleHistory
+mod DiskFiles

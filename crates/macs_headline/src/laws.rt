@@ -1,9 +1,13 @@
 //! The laws, and that what a program does is what they speak of.
 
-ghost use Rattle.std.specs.Prelude.{◌≤◌, ℕ};
-ghost use Rattle.macs_disk.specs.Disk.{Disk, LeftSince, disk_after_loss};
+ghost use Rattle.std.specs.Prelude.{◌≡◌, ◌≤◌, ℕ, true};
+ghost use Rattle.macs_disk.specs.Disk.{Disk, LeftSince, MayLeave, disk_after_loss};
+ghost use Rattle.macs_disk.specs.FileDisks.{IsBlank, IsOpened, state_in_file};
+ghost use Rattle.macs_disk.specs.Files.{FileState};
+ghost use Rattle.macs_disk.specs.Layouts.{suits};
 ghost use Rattle.macs_disk.specs.Memory.{blank_memory};
-ghost use Rattle.macs_disk.specs.States.{Image};
+ghost use Rattle.macs_disk.specs.States.{Image, IsImage};
+ghost use Rattle.macs_disk.specs.declared.layout.Layout.{Layout};
 ghost use Rattle.macs_journal.specs.Areas.{least_sectors};
 ghost use Rattle.macs_headline.specs.Binding.{DeedsAreHistories, FramesAreWrittenOnce, IsNewDisk, LivesAreMoments};
 ghost use Rattle.macs_headline.specs.Binding.{LivesKeepCommands, LossesAreCuts};
@@ -79,4 +83,16 @@ pub fn new_disks()
 pub fn power_losses()
     ensures { (disk : Disk) (since : ℕ) (image : Image) → LeftSince disk since image
         → LosesPower disk since (disk_after_loss disk image) }
+{}
+
+/// A disk in a file that behaves is one that histories are of, where the blocks of its device suit the layout.
+pub fn files()
+    // A new one is a new disk.
+    ensures new { (file : FileState) (layout : Layout) (disk : Disk) → IsBlank file layout disk
+        → suits layout file.block ≡ true → IsNewDisk disk }
+    // To open its file again, after a power loss, a failed sync or an end of the program, is to it what a
+    // power loss is: the new disk has one of the images that the file might have been left with.
+    ensures opened_again { (file : FileState) (layout : Layout) (old new : Disk) → IsOpened file 0 layout new
+        → suits layout file.block ≡ true → ((image : Image) → IsImage (state_in_file layout file) image → MayLeave old image)
+        → new.sectors ≡ old.sectors → new.honest ≡ old.honest → LosesPower old old.clock new }
 {}

@@ -5,8 +5,10 @@
 mod calls;
 mod cutting;
 mod disks;
+mod failed_syncs;
 mod frames;
 mod judging;
+mod kernel_files;
 mod known;
 mod life;
 mod script;

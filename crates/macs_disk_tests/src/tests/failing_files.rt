@@ -1,7 +1,5 @@
 //! Disks in a file each of whose calls fails in turn, or that moves few octets at a time.
 
-ghost use Rattle.std.specs.Prelude.{Some};
-
 use super::Call::Fill;
 use super::{make, seen};
 use macs_disk::{DiskFile, FileDisk, FileFault, SectorDisk};
@@ -39,62 +37,47 @@ pub(super) struct FailingFile {
     octets: Cursor<[u8; 2_048]>,
 }
 
-impl Read for FailingFile {
-    fn read(&mut self, into: &mut [u8]) -> io::Result<usize> {
-        self.calls.make()?;
-        let count = into.len().min(self.most);
-        self.octets.read(&mut into[..count])
-    }
-}
-
-impl Write for FailingFile {
-    fn write(&mut self, from: &[u8]) -> io::Result<usize> {
-        self.calls.make()?;
-        let count = from.len().min(self.most);
-        self.octets.write(&from[..count])
-    }
-
-    fn flush(&mut self) -> io::Result<()> {
-        Ok(())
-    }
-}
-
-impl Seek for FailingFile {
-    fn seek(&mut self, to: SeekFrom) -> io::Result<u64> {
-        self.calls.make()?;
-        self.octets.seek(to)
-    }
-}
-
 impl DiskFile for FailingFile {
-    ghost octets = { λ it. Some it.length };
+    ghost use Rattle.macs_disk.specs.Evidence.{no-claim};
 
     fn claim(&mut self) -> io::Result<()> {
         self.calls.make()
     }
 
-    fn length(&mut self) -> io::Result<u64> {
+    fn size(&mut self) -> io::Result<u64> {
         self.calls.make()?;
         Ok(self.length)
     }
 
-    fn lengthen(&mut self, length: u64) -> io::Result<()> {
+    fn read_at(&mut self, at: u64, into: &mut [u8]) -> io::Result<usize> {
         self.calls.make()?;
-        self.length = length;
-        Ok(())
+        let count = into.len().min(self.most);
+        self.octets.seek(SeekFrom::Start(at))?;
+        self.octets.read(&mut into[..count])
     }
 
-    fn sync_length(&mut self) -> io::Result<()> {
+    fn write_at(&mut self, at: u64, from: &[u8]) -> io::Result<usize> {
+        self.calls.make()?;
+        let count = from.len().min(self.most);
+        self.octets.seek(SeekFrom::Start(at))?;
+        let count = self.octets.write(&from[..count])?;
+        self.length = self.length.max(at.saturating_add(count as u64));
+        Ok(count)
+    }
+
+    fn sync(&mut self) -> io::Result<()> {
         self.calls.make()
     }
 
-    fn sync_octets(&mut self) -> io::Result<()> {
+    fn reread(&mut self) -> io::Result<()> {
         self.calls.make()
     }
+
+    ghost sound = { λ _ behaves. no-claim behaves };
 }
 
-/// A file of 2 sectors of zeros.
-fn file(most: usize, failing: u64, kind: ErrorKind) -> FailingFile {
+/// A file of so many octets of zeros.
+fn file(length: u64, most: usize, failing: u64, kind: ErrorKind) -> FailingFile {
     FailingFile {
         calls: Calls {
             made: 0,
@@ -102,7 +85,7 @@ fn file(most: usize, failing: u64, kind: ErrorKind) -> FailingFile {
             kind,
         },
         most,
-        length: 1_024,
+        length,
         octets: Cursor::new([0; 2_048]),
     }
 }
@@ -124,17 +107,20 @@ const DONE: Life = Ok((true, Some(7), true));
 
 const REFUSED: Life = Err(FileFault::Open);
 
+const NO_DEVICE: Life = Err(FileFault::Device);
+
 const NO_MEMORY: Life = Err(FileFault::Memory);
 
-const NOT_WRITTEN: Life = Ok((false, Some(0), true));
+const NOT_WRITTEN: Life = Ok((false, None, false));
 
-const NOT_READ: Life = Ok((true, None, true));
+const NOT_READ: Life = Ok((true, None, false));
 
 const NOT_SYNCED: Life = Ok((true, Some(7), false));
 
-/// What is answered where no call fails, and where this one does: the claim, the length, the lengthening,
-/// its sync; a seek and the write; a seek and the read; the sync. Want of memory is told where there is
-/// no disk yet, and an interrupted write or read is tried again.
+/// What is answered where no call fails, and where this one does: the claim, the size, the sync, the reading
+/// anew, the write of zeros and its sync; the write, the read and the sync. Want of memory is told where
+/// there is no disk yet, but for the calls that find out what the device has. An interrupted write or read
+/// is tried again. Each call behind one that failed fails.
 const LIVES: [(ErrorKind, [Life; 10]); 3] = [
     (
         ErrorKind::Other,
@@ -142,11 +128,11 @@ const LIVES: [(ErrorKind, [Life; 10]); 3] = [
             DONE,
             REFUSED,
             REFUSED,
+            NO_DEVICE,
+            NO_DEVICE,
             REFUSED,
             REFUSED,
             NOT_WRITTEN,
-            NOT_WRITTEN,
-            NOT_READ,
             NOT_READ,
             NOT_SYNCED,
         ],
@@ -157,11 +143,11 @@ const LIVES: [(ErrorKind, [Life; 10]); 3] = [
             DONE,
             NO_MEMORY,
             NO_MEMORY,
+            NO_DEVICE,
+            NO_DEVICE,
             NO_MEMORY,
             NO_MEMORY,
             NOT_WRITTEN,
-            NOT_WRITTEN,
-            NOT_READ,
             NOT_READ,
             NOT_SYNCED,
         ],
@@ -169,16 +155,7 @@ const LIVES: [(ErrorKind, [Life; 10]); 3] = [
     (
         ErrorKind::Interrupted,
         [
-            DONE,
-            REFUSED,
-            REFUSED,
-            REFUSED,
-            REFUSED,
-            NOT_WRITTEN,
-            DONE,
-            NOT_READ,
-            DONE,
-            NOT_SYNCED,
+            DONE, REFUSED, REFUSED, NO_DEVICE, NO_DEVICE, DONE, REFUSED, DONE, DONE, NOT_SYNCED,
         ],
     ),
 ];
@@ -187,27 +164,30 @@ const LIVES: [(ErrorKind, [Life; 10]); 3] = [
 fn each_call_that_fails_is_answered(rt: HostRuntime) {
     for (kind, lives) in LIVES {
         for (failing, life) in lives.into_iter().enumerate() {
-            let file = file(512, failing as u64, kind);
+            let file = file(1_024, 2_048, failing as u64, kind);
             assert!(rt; live(&rt, file) == life, "call {failing}");
         }
     }
 }
 
-/// How many octets a call moves at most, which call fails, and the life: short moves are finished, and
-/// one that moves nothing fails. The last two fail at the second of two reads, and are interrupted there.
-const SHORT: [(usize, u64, ErrorKind, Life); 6] = [
-    (1, 0, ErrorKind::Other, DONE),
-    (100, 0, ErrorKind::Other, DONE),
-    (511, 0, ErrorKind::Other, DONE),
-    (0, 0, ErrorKind::Other, Ok((false, None, true))),
-    (256, 10, ErrorKind::Other, NOT_READ),
-    (256, 10, ErrorKind::Interrupted, DONE),
+/// How many octets the file has at first and a call moves at most, which call fails, and the life: short moves are
+/// finished, and one that moves nothing fails. The last two fail at the second of two reads, and are
+/// interrupted there.
+const SHORT: [(u64, usize, u64, ErrorKind, Life); 8] = [
+    (1_024, 1, 0, ErrorKind::Other, DONE),
+    (1_024, 100, 0, ErrorKind::Other, DONE),
+    (1_024, 511, 0, ErrorKind::Other, DONE),
+    (1_024, 0, 0, ErrorKind::Other, REFUSED),
+    (2_048, 1, 0, ErrorKind::Other, DONE),
+    (2_048, 0, 0, ErrorKind::Other, NOT_WRITTEN),
+    (2_048, 256, 8, ErrorKind::Other, NOT_READ),
+    (2_048, 256, 8, ErrorKind::Interrupted, DONE),
 ];
 
 #[test]
 fn short_moves_are_finished(rt: HostRuntime) {
-    for (most, failing, kind, life) in SHORT {
-        let file = file(most, failing, kind);
-        assert!(rt; live(&rt, file) == life, "{most} octets");
+    for (length, most, failing, kind, life) in SHORT {
+        let file = file(length, most, failing, kind);
+        assert!(rt; live(&rt, file) == life, "{length} and {most} octets");
     }
 }

@@ -249,15 +249,28 @@ fn a_file_has_one_disk_at_a_time(rt: HostRuntime) -> Result<(), Fail> {
     begin(&rt, "disk-claimed", CLAIMED)
 }
 
-/// A sector that the file no longer has whole is not read.
+/// A sector that the file no longer has whole is not read. Each later call of that disk fails, and a new one
+/// is opened.
 const CUT: &[Step] = &[
     Create(3, Ok(3)),
     Make(Fill(1, 5)),
     Zeros(1_000),
     Make(Read(0, 0)),
     Fails(Read(1, 5)),
+    Fails(Read(0, 0)),
+    Fails(Fill(0, 1)),
+    Fails(Sync),
+    Close,
+    Zeros(1_536),
+    Open(Ok(3)),
+    Make(Fill(0, 4)),
+    Zeros(1_000),
     Fails(Read(2, 0)),
-    Make(Sync),
+    Fails(Sync),
+    HasOctets(1_000),
+    Close,
+    Zeros(512),
+    Open(Ok(1)),
     Zeros(0),
     Fails(Read(0, 0)),
 ];
@@ -280,13 +293,11 @@ fn what_cannot_be_opened_is_refused(rt: HostRuntime) -> Result<(), Fail> {
     Ok(())
 }
 
-/// A pipe has no octets to be measured, and the system neither lengthens nor syncs it: so these calls
-/// reach the system.
+/// The system neither syncs a pipe nor reads it anew, nor writes at a place of it. Its octets cannot be counted.
 const PIPE: &[Step] = &[
-    Create(1, Err(FileFault::Open)),
-    Open(Ok(0)),
-    Fails(Sync),
-    Fails(Sync),
+    Open(Err(FileFault::Device)),
+    Create(0, Err(FileFault::Device)),
+    Create(1, Err(FileFault::Device)),
 ];
 
 #[test]

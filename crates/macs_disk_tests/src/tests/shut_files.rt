@@ -5,11 +5,33 @@ use macs_disk::{FileDisk, FileFault};
 use std::alloc::Allocator;
 use std::fs::{Metadata, OpenFile, OpenOptions};
 use std::io;
-use std::io::{Empty, ErrorKind};
+use std::io::{Empty, ErrorKind, Read, Seek, SeekFrom, Write};
 use std::process::Abort;
 use std::rt::Files;
 
-/// What a system asks of its files, and no disk does.
+/// What a system asks of its files, and no disk does: this, and what follows.
+impl Read for FailingFile {
+    fn read(&mut self, _into: &mut [u8]) -> io::Result<usize> {
+        Err(io::Error::from(ErrorKind::Unsupported))
+    }
+}
+
+impl Write for FailingFile {
+    fn write(&mut self, _from: &[u8]) -> io::Result<usize> {
+        Err(io::Error::from(ErrorKind::Unsupported))
+    }
+
+    fn flush(&mut self) -> io::Result<()> {
+        Err(io::Error::from(ErrorKind::Unsupported))
+    }
+}
+
+impl Seek for FailingFile {
+    fn seek(&mut self, _to: SeekFrom) -> io::Result<u64> {
+        Err(io::Error::from(ErrorKind::Unsupported))
+    }
+}
+
 impl OpenFile for FailingFile {
     fn metadata(&self) -> io::Result<Metadata> {
         Err(io::Error::from(ErrorKind::Unsupported))

@@ -43,7 +43,7 @@ fn fused(rt: &impl Abort, alloc: Global, stop: Stop) -> Fuse<MemDisk> {
     }
 }
 
-fn identity(rt: &impl Abort) -> Identity {
+pub(super) fn identity(rt: &impl Abort) -> Identity {
     Identity::new(OWN, BLOCK, BLOCK).expect(rt, "identity")
 }
 

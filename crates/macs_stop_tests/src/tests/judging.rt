@@ -4,7 +4,7 @@ use super::cutting::{Cut, format_again};
 use super::known::{Known, Passed};
 use super::life::{protect, receive};
 use super::tearing::pending;
-use macs_disk::{Fuse, MemDisk};
+use macs_disk::{Fuse, MemDisk, SectorDisk};
 use macs_endpoint::{Endpoint, OpenRefused};
 use macs_journal::JournalFault;
 use std::process::Abort;
@@ -17,7 +17,7 @@ const MOST_CALLS: u64 = 600;
 
 /// What an opening finds is what was known, and goes on above it. Where a format was cut short, the disk may
 /// be none of an endpoint yet.
-pub(super) fn judge(rt: &impl Abort, disk: MemDisk, known: &Known) {
+pub(super) fn judge<D: SectorDisk + Drop>(rt: &impl Abort, disk: D, known: &Known) {
     match Endpoint::open(disk) {
         Ok(mut endpoint) => {
             assert!(rt; known.allows(endpoint.config()));
@@ -33,7 +33,7 @@ pub(super) fn judge(rt: &impl Abort, disk: MemDisk, known: &Known) {
 
 /// Plain frames go out under packet numbers above all before, and no frame that was delivered is delivered
 /// as Ok again.
-fn go_on(rt: &impl Abort, endpoint: &mut Endpoint<MemDisk>, passed: Passed) {
+fn go_on<D: SectorDisk>(rt: &impl Abort, endpoint: &mut Endpoint<D>, passed: Passed) {
     let mut passed = passed;
     assert!(rt; endpoint.refill().is_ok());
     if endpoint.config().encoding().is_some() {

@@ -46,6 +46,20 @@ impl Known {
         }
     }
 
+    /// An endpoint was opened again: it has what was acknowledged, and goes on above what passed. Nothing is in
+    /// hand, and the peer's frames below the next that is taken are lost.
+    pub(super) fn catch_up<D: SectorDisk>(&mut self, rt: &impl Abort, endpoint: &Endpoint<D>) {
+        assert!(rt; self.allows(endpoint.config()));
+        assert!(rt; self.passed.is_behind(rt, endpoint));
+        self.is_in_hand = false;
+        self.passed.catch_up(rt, endpoint);
+    }
+
+    /// Whether a configuration is that of before the command in hand.
+    pub(super) fn is_before(&self, found: &Config) -> bool {
+        is_same(found, &self.before)
+    }
+
     /// Whether a configuration is that of before the command in hand or after it.
     pub(super) fn allows(&self, found: &Config) -> bool {
         is_same(found, &self.before) || (self.is_in_hand && is_same(found, &self.after))
@@ -59,6 +73,15 @@ impl Passed {
         assert!(rt; place < self.sent.len());
         assert!(rt; self.sent[place] < number);
         self.sent[place] = number;
+    }
+
+    /// The peer's frames below the next that is taken are lost.
+    fn catch_up<D: SectorDisk>(&mut self, rt: &impl Abort, endpoint: &Endpoint<D>) {
+        let an = An::new(PEER_NUMBER).expect(rt, "association number");
+        if let Some(numbers) = endpoint.numbers(PEER, an) {
+            assert!(rt; 0 < numbers.lowest && numbers.lowest <= 1 << 32);
+            self.delivered = (numbers.lowest - 1) as u32;
+        }
     }
 
     /// Whether all packet numbers of an endpoint are above those that passed.

@@ -30,7 +30,8 @@ pub(super) fn play<D: SectorDisk>(
     Ok(())
 }
 
-fn take<D: SectorDisk>(
+/// Plays one part of a script.
+pub(super) fn take<D: SectorDisk>(
     rt: &impl Abort,
     endpoint: &mut Endpoint<D>,
     known: &mut Known,
@@ -46,7 +47,10 @@ fn take<D: SectorDisk>(
 }
 
 /// One step.
-fn step<D: SectorDisk>(rt: &impl Abort, endpoint: &mut Endpoint<D>) -> Result<Step, Stopped> {
+pub(super) fn step<D: SectorDisk>(
+    rt: &impl Abort,
+    endpoint: &mut Endpoint<D>,
+) -> Result<Step, Stopped> {
     match endpoint.step() {
         Ok(step) => Ok(step),
         Err(fault) => {
@@ -57,7 +61,7 @@ fn step<D: SectorDisk>(rt: &impl Abort, endpoint: &mut Endpoint<D>) -> Result<St
 }
 
 /// Submits a command and steps until it is done with: what became of it.
-fn command<D: SectorDisk>(
+pub(super) fn command<D: SectorDisk>(
     rt: &impl Abort,
     endpoint: &mut Endpoint<D>,
     command: Command,

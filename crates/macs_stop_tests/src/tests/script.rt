@@ -38,6 +38,8 @@ pub(super) enum Asked {
     Installs(u8, usize),
     Uses(u8),
     Removes(u8),
+    /// `SetReplay` with a window of so many packet numbers.
+    Replays(u32),
 }
 
 /// The parts, in their order. All 256 slots of the first area are used behind the 239th `SetReplay`, so that
@@ -93,6 +95,7 @@ pub(super) fn command_of(rt: &impl Abort, asked: Asked) -> Command {
         Asked::Removes(association) => Command::TxRemove {
             an: number_of(rt, association),
         },
+        Asked::Replays(window) => window_of(window),
     }
 }
 

@@ -1,0 +1,264 @@
+-- A file is settled, its layout found, and made ready for a disk.
+use Rattle.std.proofs.Common.{◌≡◌, ◌≤◌, ◌<◌, ◌+◌, ◌-◌, ◌*◌, ◌/◌, ◌%◌, ◌&&◌, ◌⊎◌, inl, inr, ℕ, if◌then◌else◌, max, Bool, true, false, List, [], length, nat_le, replicate, refl, ap, ◌∙◌, arith, subst, sym}
+use Rattle.std.proofs.lemmas.Bool.{cases_lt, le-leb, lt-leb}
+use Rattle.std.proofs.lemmas.List.{get_or-replicate, length-replicate}
+use Rattle.std.specs.declared.snapshot.Snapshot.{Snapshot}
+use Rattle.macs_disk.specs.Disk.{IsHonest}
+use Rattle.macs_disk.specs.Files.{Behaves, FileState, IsSure, file_after_sync, file_after_write, put_from, values_from}
+use Rattle.macs_disk.specs.FileDisks.{HasMark, IsBlank, IsCleared, IsExtent, IsMarkedAs, IsOpened, file_lengthened, is_ready, keeps_disk, state_in_file}
+use Rattle.macs_disk.specs.FileEvidence.{values-same}
+use Rattle.macs_disk.specs.Layouts.{is_marked, layout_in, mark, place, sectors_in, suits}
+use Rattle.macs_disk.specs.States.{zero_sector}
+use Rattle.macs_disk.specs.declared.layout.Layout.{Layout}
+use Rattle.macs_disk.specs.declared.layout.Layout.TheVariants.{Packed, Spaced}
+use Rattle.macs_disk.proofs.FileCalls.{disk_by}
+use Rattle.macs_disk.proofs.FileSectors.{values-written}
+use Rattle.macs_disk.proofs.FileWrites.{put-at, put-before, put-behind, write-behaves, write-block, write-seen, write-size, write-sure}
+
+-- ---- the mark
+
+-- a file that is too short for a spaced one
+pub too-short : (file : FileState) → file.size < place Spaced 1029 → Packed ≡ layout_in file
+unfolding layout_in
+too-short file short = let no = lt-leb (place Spaced 1029) file.size short in rw no refl
+
+-- one that is long enough is spaced where the mark is read
+pub by-mark : (file : FileState) (sector : List ℕ) (marked : Bool) (layout : Layout) → place Spaced 1029 ≤ file.size → sector ≡ values_from file.seen (place Spaced 1028) 512
+    → is_marked sector ≡ marked → layout ≡ (if marked then Spaced else Packed) → layout ≡ layout_in file
+unfolding layout_in
+by-mark file sector marked layout long read is found =
+    let yes = le-leb (place Spaced 1029) file.size long in
+    let known : is_marked (values_from file.seen (place Spaced 1028) 512) ≡ marked = sym (ap is_marked read) ∙ is in
+    found ∙ rw (yes, known) refl
+
+zeros-are : zero_sector ≡ replicate 512 0
+unfolding zero_sector
+zeros-are = refl
+
+unmarked : is_marked zero_sector ≡ false
+unfolding zero_sector
+unmarked = refl
+
+-- what is read of a sector that was written, and of one elsewhere
+read-written : (old new : FileState) (at : ℕ) (xs : List ℕ) → new ≡ file_after_write old at xs → length xs ≡ 512 → values_from new.seen at 512 ≡ xs
+read-written old new at xs is size =
+    ap (λ (f : FileState). values_from f.seen at 512) is
+    ∙ values-same (file_after_write old at xs).seen (put_from old.seen at xs) at 512 (λ k lt. write-seen old at xs (at + k)) ∙ values-written old.seen at xs size
+
+read-elsewhere : (old new : FileState) (at there : ℕ) (xs : List ℕ) → new ≡ file_after_write old there xs → (at + 512 ≤ there) ⊎ (there + length xs ≤ at)
+    → values_from new.seen at 512 ≡ values_from old.seen at 512
+read-elsewhere old new at there xs is (inl before) =
+    ap (λ (f : FileState). values_from f.seen at 512) is
+    ∙ values-same (file_after_write old there xs).seen old.seen at 512 (λ k lt. write-seen old there xs (at + k) ∙ put-before old.seen there (at + k) xs (omega (arith, before, lt)))
+read-elsewhere old new at there xs is (inr behind) =
+    ap (λ (f : FileState). values_from f.seen at 512) is
+    ∙ values-same (file_after_write old there xs).seen old.seen at 512 (λ k lt. write-seen old there xs (at + k) ∙ put-behind old.seen there (at + k) xs (omega (arith, behind)))
+
+-- the size of a file that was written
+size-written : (old new : FileState) (at : ℕ) (xs : List ℕ) → new ≡ file_after_write old at xs → 0 < length xs → new.size ≡ max old.size (at + length xs)
+size-written old new at xs is some = ap (λ (f : FileState). f.size) is ∙ write-size old at xs some
+
+block-written : (old new : FileState) (at : ℕ) (xs : List ℕ) → new ≡ file_after_write old at xs → new.block ≡ old.block
+block-written old new at xs is = ap (λ (f : FileState). f.block) is ∙ write-block old at xs
+
+pub sure-written : (old new : FileState) (at : ℕ) (xs : List ℕ) → new ≡ file_after_write old at xs → IsSure old → IsSure new
+sure-written old new at xs is sure = ap (λ (f : FileState). f.is_sure) is ∙ write-sure old at xs ∙ sure
+
+pub erased : (old new : FileState) → IsSure old → new ≡ file_after_write old (place Spaced 1028) (replicate 512 0) → IsMarkedAs old new Packed
+erased old new sure is =
+    let some : length (replicate {A = ℕ} 512 0) ≡ 512 = length-replicate {A = ℕ} 512 0 in
+    let size = size-written old new (place Spaced 1028) (replicate 512 0) is (omega (arith, some)) in
+    record {
+      block = block-written old new (place Spaced 1028) (replicate 512 0) is;
+      longer = omega (arith, size);
+      is_sure = sure-written old new (place Spaced 1028) (replicate 512 0) is sure;
+      has = inr (read-written old new (place Spaced 1028) (replicate 512 0) is some ∙ sym zeros-are);
+    }
+
+pub not-reached : (old new : FileState) → IsSure old → new ≡ old → old.size ≤ place Spaced 1028 → IsMarkedAs old new Packed
+not-reached old new sure same short =
+    let size : new.size ≡ old.size = ap (λ (f : FileState). f.size) same in
+    record {
+      block = ap (λ (f : FileState). f.block) same;
+      longer = omega (arith, size);
+      is_sure = ap (λ (f : FileState). f.is_sure) same ∙ sure;
+      has = inl (omega (arith, size, short));
+    }
+
+pub marked : (old mid new : FileState) → IsSure old → mid ≡ file_after_write old (place Spaced 1028) mark
+    → new ≡ file_after_write mid (place Spaced 1028 + 512) (replicate 3584 0) → IsMarkedAs old new Spaced
+marked old mid new sure first second =
+    let long : length mark ≡ 512 = refl in
+    let some : length (replicate {A = ℕ} 3584 0) ≡ 3584 = length-replicate {A = ℕ} 3584 0 in
+    let size = size-written old mid (place Spaced 1028) mark first (omega (arith, long)) in
+    let more = size-written mid new (place Spaced 1028 + 512) (replicate 3584 0) second (omega (arith, some)) in
+    record {
+      block = block-written mid new (place Spaced 1028 + 512) (replicate 3584 0) second ∙ block-written old mid (place Spaced 1028) mark first;
+      longer = omega (arith, size, more);
+      is_sure = sure-written mid new (place Spaced 1028 + 512) (replicate 3584 0) second (sure-written old mid (place Spaced 1028) mark first sure);
+      has = (
+        omega (arith, more, some),
+        read-elsewhere mid new (place Spaced 1028) (place Spaced 1028 + 512) (replicate 3584 0) second (inl (omega arith))
+            ∙ read-written old mid (place Spaced 1028) mark first long,
+      );
+    }
+
+-- ---- a file with zeros in the place of the sectors
+
+zero-at : (f : ℕ → ℕ) (count p : ℕ) → p < count → put_from f 0 (replicate count 0) p ≡ 0
+zero-at f count p lt = put-at f 0 p (replicate count 0) (omega arith) ∙ get_or-replicate count (p - 0) 0 (f p) (omega (arith, lt))
+
+all-zeros : (at : ℕ) → values_from (λ _. 0) at 512 ≡ zero_sector
+unfolding values_from zero_sector
+all-zeros at = refl
+
+zeros-read : (f : ℕ → ℕ) (at : ℕ) → ((k : ℕ) → k < 512 → f (at + k) ≡ 0) → values_from f at 512 ≡ zero_sector
+zeros-read f at zero = values-same f (λ _. 0) at 512 zero ∙ all-zeros at
+
+inside : (layout : Layout) (i : ℕ) → i < 1028 → place layout i + 512 ≤ place layout 1028
+inside Packed i lt = omega (arith, lt)
+inside Spaced i lt = omega (arith, lt)
+
+some-room : (layout : Layout) → 0 < place layout 1028
+some-room Packed = omega arith
+some-room Spaced = omega arith
+
+-- the layout is found again behind what was written over the sectors
+found-again : (layout : Layout) (before new : FileState) (xs : List ℕ) → HasMark layout before → new ≡ file_after_write before 0 xs → length xs ≡ place layout 1028
+    → new.size ≡ max before.size (0 + length xs) → layout_in new ≡ layout
+found-again Packed before new xs (inl short) is long size = sym (too-short new (omega (arith, short, size, long)))
+found-again Packed before new xs (inr zeros) is long size = elim (cases_lt new.size (place Spaced 1029)) [
+  | inl short ↦ sym (too-short new short)
+  | inr enough ↦
+      let same = read-elsewhere before new (place Spaced 1028) 0 xs is (inr (omega (arith, long))) in
+      sym (by-mark new zero_sector false Packed enough (sym (same ∙ zeros)) unmarked refl)
+]
+found-again Spaced before new xs (enough, has) is long size =
+    let same = read-elsewhere before new (place Spaced 1028) 0 xs is (inr (omega (arith, long))) in
+    sym (by-mark new mark true Spaced (omega (arith, size, enough)) (sym (same ∙ has)) refl refl)
+
+layout-synced : (file : FileState) → layout_in (file_after_sync file) ≡ layout_in file
+unfolding layout_in
+layout-synced file = refl
+
+mark-synced : (layout : Layout) (file : FileState) → HasMark layout file → HasMark layout (file_after_sync file)
+mark-synced Packed file has = has
+mark-synced Spaced file has = has
+
+pub cleared : (old before synced over new : FileState) (layout : Layout) (count : ℕ) → IsMarkedAs old before layout → synced ≡ file_after_sync before
+    → over ≡ file_after_write synced 0 (replicate count 0) → count ≡ place layout 1028 → new ≡ file_after_sync over → IsCleared old new layout
+cleared old before synced over new layout count was first second many third =
+    let long : length (replicate {A = ℕ} count 0) ≡ count = length-replicate {A = ℕ} count 0 in
+    let room = some-room layout in
+    let size : over.size ≡ max synced.size (0 + length (replicate {A = ℕ} count 0)) = size-written synced over 0 (replicate count 0) second (omega (arith, long, many, room)) in
+    let old_size : synced.size ≡ before.size = ap (λ (f : FileState). f.size) first in
+    let new_size : new.size ≡ over.size = ap (λ (f : FileState). f.size) third in
+    let longer = was.longer in
+    let has : HasMark layout synced = subst (HasMark layout) (sym first) (mark-synced layout before was.has) in
+    record {
+      block = ap (λ (f : FileState). f.block) third ∙ block-written synced over 0 (replicate count 0) second ∙ ap (λ (f : FileState). f.block) first ∙ was.block;
+      long = omega (arith, new_size, size, long, many);
+      longer = omega (arith, new_size, size, old_size, longer);
+      is_size_durable = ap (λ (f : FileState). f.is_size_durable) third;
+      is_clean = ap (λ (f : FileState). f.is_clean) third;
+      is_sure = ap (λ (f : FileState). f.is_sure) third
+          ∙ sure-written synced over 0 (replicate count 0) second (ap (λ (f : FileState). f.is_sure) first ∙ was.is_sure);
+      durable = ap (λ (f : FileState). f.durable) third ∙ sym (ap (λ (f : FileState). f.seen) third);
+      clean = λ n. ap (λ (f : FileState). f.pending n) third;
+      zeros = λ i lt.
+          let within = inside layout i lt in
+          ap (λ (f : FileState). values_from f.seen (place layout i) 512) third
+          ∙ zeros-read over.seen (place layout i) (λ k small.
+          ap (λ (f : FileState). f.seen (place layout i + k)) second ∙ write-seen synced 0 (replicate count 0) (place layout i + k)
+          ∙ zero-at synced.seen count (place layout i + k) (omega (arith, within, many, small)));
+      found = ap layout_in third ∙ layout-synced over ∙ found-again layout synced over (replicate count 0) has second (long ∙ many) size;
+    }
+
+-- ---- a disk over a file that was made ready
+
+honest-when : (layout : Layout) (sectors : ℕ) (shown first : FileState) → shown.behaves ≡ true → IsSure shown → suits layout shown.block ≡ true → first.is_clean ≡ true
+    → first.is_size_durable ≡ true → place layout sectors ≤ first.size → (keeps_disk layout shown && is_ready layout sectors first) ≡ true
+honest-when layout sectors shown first behaves sure suited clean durable long =
+    let enough = le-leb (place layout sectors) first.size long in
+    rw (behaves, sure, suited, clean, durable, enough) refl
+
+-- a spaced file has its sectors and the block of the mark
+spaced-room : (file : FileState) → layout_in file ≡ Spaced → place Spaced 1029 ≤ file.size
+spaced-room file is = elim (cases_lt file.size (place Spaced 1029)) [
+  | inl short ↦ absurd (let no : Packed ≡ Spaced = too-short file short ∙ is in cc)
+  | inr long ↦ long
+]
+
+size-lengthened : (file : FileState) (size : ℕ) → (file_lengthened file size).size ≡ max file.size size
+size-lengthened file size = elim (cases_lt file.size size) [
+  | inl longer ↦
+      let long : length (replicate {A = ℕ} (size - file.size) 0) ≡ size - file.size = length-replicate {A = ℕ} (size - file.size) 0 in
+      let is = write-size file file.size (replicate (size - file.size) 0) (omega (arith, long, longer)) in
+      omega (arith, is, long, longer)
+  | inr enough ↦
+      let none : size - file.size ≡ 0 = omega (arith, enough) in
+      ap (λ (n : ℕ). (file_after_write file file.size (replicate n 0)).size) none ∙ (omega (arith, enough))
+]
+
+-- so a file that was made ready has all sectors
+long-enough : (layout : Layout) (settled : FileState) (least : ℕ) → layout ≡ layout_in settled
+    → place layout (max (sectors_in layout settled.size) least) ≤ (file_lengthened settled (place layout least)).size
+long-enough Packed settled least found = let size = size-lengthened settled (place Packed least) in omega (arith, size)
+long-enough Spaced settled least found =
+    let size = size-lengthened settled (place Spaced least) in
+    let room = spaced-room settled (sym found) in
+    omega (arith, size, room)
+
+all-there : (layout : Layout) (sectors old new : ℕ) → sectors ≡ max (sectors_in layout old) 1028 → place layout 1028 ≤ new → old ≤ new → place layout sectors ≤ new
+all-there Packed sectors old new all long longer = omega (arith, all, long, longer)
+all-there Spaced sectors old new all long longer = omega (arith, all, long)
+
+module _ {F : Type 0} (file : F → FileState) where
+  -- a disk over a file that was settled and made longer
+  pub opened : (given ready : F) (layout : Layout) (past : List (Snapshot F)) (shown : Snapshot F) (least count sectors clock failures : ℕ)
+      → IsExtent (file given) (file ready) least layout count → (file given).size % 512 ≡ 0 → Behaves (file given) → shown.value ≡ ready → past ≡ []
+      → sectors ≡ count → clock ≡ 0 → IsOpened (file given) least layout (disk_by file layout past shown sectors clock failures)
+  opened given ready layout past shown least count sectors clock failures extent whole behaves is none all start =
+      let settled = extent.settled in
+      let made : file shown.value ≡ file_lengthened settled (place layout least) = ap file is ∙ extent.file in
+      let how = extent.settles.3 in
+      let zeros : List ℕ = replicate (place layout least - settled.size) 0 in
+      let block : (file shown.value).block ≡ (file given).block =
+      ap (λ (f : FileState). f.block) made ∙ write-block settled settled.size zeros ∙ ap (λ (f : FileState). f.block) how in
+      let long : place layout sectors ≤ (file shown.value).size =
+      subst (λ (n : ℕ). place layout n ≤ (file shown.value).size) (sym (all ∙ extent.count))
+      (subst (λ (f : FileState). place layout (max (sectors_in layout settled.size) least) ≤ f.size) (sym made) (long-enough layout settled least extent.found)) in
+      record {
+        whole = whole;
+        settled = settled;
+        settles = extent.settles;
+        found = extent.found;
+        sectors = all ∙ extent.count;
+        honest = λ suited. rw none (honest-when layout sectors (file shown.value) (file shown.value)
+            (ap (λ (f : FileState). f.behaves) made ∙ write-behaves settled settled.size zeros ∙ ap (λ (f : FileState). f.behaves) how ∙ behaves)
+            (ap (λ (f : FileState). f.is_sure) made ∙ write-sure settled settled.size zeros ∙ ap (λ (f : FileState). f.is_sure) how)
+            (ap (suits layout) block ∙ suited)
+            (ap (λ (f : FileState). f.is_clean) made)
+            (ap (λ (f : FileState). f.is_size_durable) made)
+            long);
+        state = rw none (ap (state_in_file layout) made);
+      }
+
+  -- a new disk over a file that was cleared
+  pub blank : (settled ready : F) (layout : Layout) (past : List (Snapshot F)) (shown : Snapshot F) (sectors clock failures : ℕ)
+      → IsCleared (file settled) (file ready) layout → (file ready).behaves ≡ true → sectors ≡ max (sectors_in layout (file settled).size) 1028
+      → shown.value ≡ ready → past ≡ [] → IsBlank (file shown.value) layout (disk_by file layout past shown sectors clock failures)
+  unfolding state_in_file
+  blank settled ready layout past shown sectors clock failures cleared behaves all is none =
+      let was : IsCleared (file settled) (file shown.value) layout = subst (λ (f : F). IsCleared (file settled) (file f) layout) (sym is) cleared in
+      let long = was.long in
+      let longer = was.longer in
+      record {
+        honest = λ suited. rw none (honest-when layout sectors (file shown.value) (file shown.value) (ap (λ (f : F). (file f).behaves) is ∙ behaves) was.is_sure suited
+            was.is_clean was.is_size_durable (all-there layout sectors (file settled).size (file shown.value).size all long longer));
+        enough = omega (arith, all);
+        zeros = λ i lt. rw none (was.zeros i lt);
+        durable = λ i. rw none (ap (λ (f : ℕ → ℕ). values_from f (place layout i) 512) was.durable);
+        clean = λ i. rw none (was.clean (place layout i / (file shown.value).block));
+        found = was.found;
+      }

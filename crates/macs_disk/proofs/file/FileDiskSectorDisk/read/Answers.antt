@@ -1,0 +1,47 @@
+use Rattle.std.proofs.Common.{◌≡◌, ap, ◌∙◌, sym, subst, OnOk}
+use Rattle.std.specs.declared.snapshot.Snapshot.{Snapshot}
+use Rattle.macs_disk.specs.Disk.{Reads}
+use Rattle.macs_disk.specs.Layouts.{place}
+use Rattle.macs_disk.specs.declared.layout.Layout.{Layout}
+use Rattle.macs_disk.specs.Files.{values_from}
+use Rattle.macs_disk.proofs.FileSectors.{keeps-same, reads-sector}
+use Rattle.macs_disk.proofs.FileCalls.{effect, file-call, fit-before, fit-through, on-ok, one-more, same-count, through}
+use Rattle.macs_disk.proofs.file.FileDiskSectorDisk.read.Goals as goal
+
+pub returns-clause-call : goal.returns-clause-call
+returns-clause-call g c =
+    let file = g.F.DiskFile.file in
+    let old = c.args.self.now in
+    let new = c.count.new.self in
+    let lent = c.begin.new.self.file in
+    let back = c.read_sector-answer.new.file in
+    let went : lent ≡ old.shown.value = c.begin.ensures.file ∙ sym (old.current c.in_ok-begin.ensures.live.0) in
+    let came : new.shown.value ≡ back = ap (λ (s : Snapshot _). s.value) c.count.ensures.shown ∙ c.of.ensures in
+    let fit = keeps-same old.layout (file lent) (file back) c.read_sector-answer.ensures.steady c.read_sector-answer.ensures.same in
+    let lay = c.count.ensures.layout ∙ c.begin.ensures.layout in
+    file-call file old.layout new.layout old.past.items new.past.items old.shown new.shown old.sectors new.sectors old.clock new.clock old.failures new.failures c.count.result
+    old.kept lay (c.count.ensures.past ∙ c.in_ok-begin.ensures.past) c.in_ok-begin.ensures.ok.0 (c.count.ensures.clock ∙ c.in_ok-begin.ensures.ok.1)
+    (c.count.ensures.sectors ∙ c.begin.ensures.sectors)
+    (same-count c.count.result new.failures c.begin.new.self.failures old.failures c.count.ensures.ok c.in_ok-begin.ensures.steady)
+    (one-more c.count.result new.failures c.begin.new.self.failures old.failures c.count.ensures.err c.in_ok-begin.ensures.steady)
+    (fit-through file old.layout lent back old.shown new.shown went came fit)
+
+pub returns-clause-effect : goal.returns-clause-effect
+returns-clause-effect g c honest =
+    let file = g.F.DiskFile.file in
+    let old = c.args.self.now in
+    let new = c.count.new.self in
+    let lent = c.begin.new.self.file in
+    let back = c.read_sector-answer.new.file in
+    let went : lent ≡ old.shown.value = c.begin.ensures.file ∙ sym (old.current c.in_ok-begin.ensures.live.0) in
+    let came : new.shown.value ≡ back = ap (λ (s : Snapshot _). s.value) c.count.ensures.shown ∙ c.of.ensures in
+    let fit = keeps-same old.layout (file lent) (file back) c.read_sector-answer.ensures.steady c.read_sector-answer.ensures.same in
+    let lay = c.count.ensures.layout ∙ c.begin.ensures.layout in
+    let into = c.read_sector-answer.new.into in
+    let before = fit-before file old.layout new.layout lent back new.shown _ lay came fit honest in
+    let octets = subst (λ (l : Layout). OnOk c.read_sector-answer.result (into ≡ values_from (file lent).seen (place l c.args.at) 512)) c.begin.ensures.layout
+    (c.read_sector-answer.ensures.octets before.behaves before.sure) in
+    effect file (λ s t. Reads s t c.args.at into c.count.result) old.layout new.layout old.past.items new.past.items old.shown new.shown old.clock new.clock old.kept new.kept lay
+    (through file (λ s t. Reads s t c.args.at into c.count.result) old.layout lent back old.shown new.shown went came
+    (reads-sector old.layout (file lent) (file back) c.args.at into c.count.result (c.read_sector-answer.ensures.same before.behaves)
+    (on-ok c.read_sector-answer.result c.count.result _ c.count.ensures.alike octets)))

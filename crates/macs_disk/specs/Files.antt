@@ -1,0 +1,164 @@
+-- A file at one moment, and what each call of a file that behaves does to it. A file behaves as one of a kernel's does that keeps
+-- its promises: octets are written to a cache and read from there; a sync makes them durable on the device; where a sync
+-- fails, the cache may show octets that the device does not have, until a sync succeeds and the file is read anew.
+use Rattle.std.specs.Prelude.{◌≡◌, ◌≤◌, ◌<◌, ◌+◌, ◌-◌, ◌*◌, ◌^◌, ◌&&◌, ◌||◌, ℕ, if◌then◌else◌, max, nat_le, nat_lt, Bool, true, false, List, [], ◌∷◌, length, map, take, get_or, Result, IfOk, OnOk, OnErr}
+use Rattle.std.specs.List.{range_with_len}
+
+-- a file at one moment, by the places of its octets and by the numbers of the device's blocks
+pub record FileState : Type 0 where
+  -- its calls do what is said here
+  pub behaves : Bool
+  -- how many octets the device writes at a time: a power loss in a write of one may spoil its whole block
+  pub block : ℕ
+  -- how many octets the file has, and whether a power loss leaves so many
+  pub size : ℕ
+  pub is_size_durable : Bool
+  -- what the cache shows, which reads give
+  pub seen : ℕ → ℕ
+  -- what the device durably has
+  pub durable : ℕ → ℕ
+  -- the blocks that were written since the last sync that succeeded, and whether there are none
+  pub pending : ℕ → Bool
+  pub is_clean : Bool
+  -- no sync failed since the file was last read anew
+  pub is_sure : Bool
+
+-- the file behaves
+abbrev pub Behaves : FileState → Type 0
+Behaves file = file.behaves ≡ true
+
+-- what the cache shows is what the next sync that succeeds makes durable
+abbrev pub IsSure : FileState → Type 0
+IsSure file = file.is_sure ≡ true
+
+-- a file of which nothing is known
+abbrev pub unknown_file : FileState
+unknown_file =
+    record {
+      behaves = false;
+      block = 512;
+      size = 0;
+      is_size_durable = false;
+      seen = λ _. 0;
+      durable = λ _. 0;
+      pending = λ _. true;
+      is_clean = false;
+      is_sure = false;
+    }
+
+-- a block has octets, octets are below 256, nothing is pending in a clean file, and a file that is sure shows what is durable
+-- where nothing is pending
+pub record IsSoundFile (file : FileState) : Type 0 where
+  pub wide : 0 < file.block
+  pub seen : (p : ℕ) → file.seen p < 2 ^ 8
+  pub durable : (p : ℕ) → file.durable p < 2 ^ 8
+  pub clean : file.is_clean ≡ true → (n : ℕ) → file.pending n ≡ false
+  pub sure : IsSure file → (n k : ℕ) → file.pending n ≡ false → k < file.block → file.seen (file.block * n + k) ≡ file.durable (file.block * n + k)
+
+-- a power loss may leave these octets: the durable ones in a block that is not pending, and any others elsewhere. Where
+-- the size is not durable nothing is said of what it leaves.
+pub record IsFileImage (file : FileState) (image : ℕ → ℕ) : Type 0 where
+  pub kept : (n k : ℕ) → file.pending n ≡ false → k < file.block → image (file.block * n + k) ≡ file.durable (file.block * n + k)
+  pub octets : (p : ℕ) → image p < 2 ^ 8
+
+-- f, but these values from one place on
+abbrev pub put_from : {X : Type 0} → (ℕ → X) → ℕ → List X → ℕ → X
+put_from f at xs p = if nat_le at p then get_or xs (p - at) (f p) else f p
+
+-- so many values of f from one place on
+unfoldable pub values_from : (ℕ → ℕ) → ℕ → ℕ → List ℕ
+values_from f at count = map f (range_with_len at count)
+
+-- block n, of so many octets, has one of the octets from `from` up to before `to`
+abbrev pub has_some : ℕ → ℕ → ℕ → ℕ → Bool
+has_some block from to n = nat_lt (block * n) to && nat_lt from (block * n + block)
+
+-- the file after these octets were written from one place on. Where that made it longer its size is not durable.
+abbrev pub file_after_write : FileState → ℕ → List ℕ → FileState
+file_after_write file at [] = file
+file_after_write file at (x ∷ xs) =
+    record {
+      behaves = file.behaves;
+      block = file.block;
+      size = max file.size (at + length (x ∷ xs));
+      is_size_durable = file.is_size_durable && nat_le (at + length (x ∷ xs)) file.size;
+      seen = put_from file.seen at (x ∷ xs);
+      durable = file.durable;
+      pending = λ n. has_some file.block at (at + length (x ∷ xs)) n || file.pending n;
+      is_clean = false;
+      is_sure = file.is_sure;
+    }
+
+-- the file with these octets durable, and its size
+abbrev pub file_synced : FileState → (ℕ → ℕ) → FileState
+file_synced file octets =
+    record {
+      behaves = file.behaves;
+      block = file.block;
+      size = file.size;
+      is_size_durable = true;
+      seen = file.seen;
+      durable = octets;
+      pending = λ _. false;
+      is_clean = true;
+      is_sure = file.is_sure;
+    }
+
+-- the file after a sync
+abbrev pub file_after_sync : FileState → FileState
+file_after_sync file = file_synced file file.seen
+
+-- the file after a sync that failed: no octet of it is durable that was not, and what it shows is in doubt
+abbrev pub file_in_doubt : FileState → FileState
+file_in_doubt file = record file { is_sure = false }
+
+-- the file that shows what is durable
+abbrev pub file_reread : FileState → FileState
+file_reread file = record file { seen = file.durable; is_sure = true }
+
+-- the file with these octets, which it shows and which are durable, and nothing pending
+abbrev pub file_settled : FileState → (ℕ → ℕ) → FileState
+file_settled file octets = file_reread (file_synced file octets)
+
+-- octets are below 256
+abbrev pub AreOctets : List ℕ → Type 0
+AreOctets octets = (i : ℕ) → get_or octets i 0 < 2 ^ 8
+
+-- what a read does: it changes nothing, and gives the octets from its place on, as many as it answers
+pub record ReadsFile {E : Type 0} (old new : FileState) (at : ℕ) (into : List ℕ) (result : Result ℕ E) : Type 0 where
+  pub same : new ≡ old
+  pub octets : IsSure old → IfOk result (λ count. take count into ≡ values_from old.seen at count)
+
+-- some octets were written from a place on, no more than so many
+abbrev pub WritesSome : FileState → FileState → ℕ → ℕ → Type 0
+WritesSome old new at most = (other : List ℕ) × (length other ≤ most) × AreOctets other × (new ≡ file_after_write old at other)
+
+-- what a write does: it writes the first of the octets at its place, as many as it answers. Where it fails it wrote some
+-- octets there, maybe none. Of a file in doubt it is only known that it stays in doubt.
+pub record WritesFile {E : Type 0} (old new : FileState) (at : ℕ) (octets : List ℕ) (result : Result ℕ E) : Type 0 where
+  pub ok : IsSure old → IfOk result (λ count. new ≡ file_after_write old at (take count octets))
+  pub err : IsSure old → OnErr result (WritesSome old new at (length octets))
+  pub doubt : old.is_sure ≡ false → new.is_sure ≡ false
+
+-- what a write of all of these octets does: where it fails it wrote some octets there, no more than so many, maybe none
+pub record WritesAll {T E : Type 0} (old new : FileState) (at : ℕ) (octets : List ℕ) (result : Result T E) : Type 0 where
+  pub ok : IsSure old → OnOk result (new ≡ file_after_write old at octets)
+  pub err : IsSure old → OnErr result (WritesSome old new at (length octets))
+  pub doubt : old.is_sure ≡ false → new.is_sure ≡ false
+
+-- what a sync does: what a file that is sure shows is durable then, and so is its size. Of one in doubt some image of it is
+-- durable, and it stays in doubt. Where it fails nothing is durable that was not, and the file is in doubt.
+pub record SyncsFile {T E : Type 0} (old new : FileState) (result : Result T E) : Type 0 where
+  pub ok : IsSure old → OnOk result (new ≡ file_after_sync old)
+  pub doubt : old.is_sure ≡ false → OnOk result ((image : ℕ → ℕ) × IsFileImage old image × (new ≡ file_synced old image))
+  pub err : OnErr result (new ≡ file_in_doubt old)
+
+-- what reading anew does: a clean file shows what is durable, and is sure. Of a file with octets that are pending nothing
+-- is said, since their pages stay in the cache.
+pub record RereadsFile {T E : Type 0} (old new : FileState) (result : Result T E) : Type 0 where
+  pub ok : old.is_clean ≡ true → OnOk result (new ≡ file_reread old)
+
+-- what is done to a file before it is used: it shows one of its images, all of it is durable, and its size is. Where the
+-- file was sure it is what was shown.
+abbrev pub Settles : FileState → FileState → Type 0
+Settles old new = (image : ℕ → ℕ) × IsFileImage old image × (IsSure old → image ≡ old.seen) × (new ≡ file_settled old image)

@@ -1,0 +1,112 @@
+//! Whole moves of octets to and from a file, and what makes it fit for a disk.
+
+ghost use Rattle.std.specs.Prelude.{◌≡◌, ◌<◌, ◌≤◌, ◌+◌, ◌-◌, ◌^◌, length, replicate, OnOk};
+ghost use Rattle.macs_disk.specs.Files.{Behaves, IsSure, Settles, SyncsFile, WritesAll, file_after_write, values_from};
+ghost use Rattle.macs_disk.specs.Layouts.{place};
+
+use crate::disk::DeviceFault;
+use crate::disk_file::DiskFile;
+use crate::layout::Layout;
+use std::io;
+
+/// How many zeros are written at a time.
+const ZEROS: usize = 4_096;
+
+// Reads 512 octets.
+fn read_whole<F: DiskFile>(file: &mut F, from: u64, into: &mut [u8; 512]) -> io::Result<()>
+    requires { from + 512 < 2 ^ 64 }
+    ensures steady { (F.file file.new).behaves ≡ (F.file file.old).behaves }
+    ensures same { Behaves (F.file file.old) → F.file file.new ≡ F.file file.old }
+    ensures octets { Behaves (F.file file.old) → IsSure (F.file file.old)
+        → OnOk result (into.new ≡ values_from (F.file file.old).seen from 512) }
+{
+    let mut done = 0;
+    for _ in 0..u64::MAX {
+        if done >= 512 {
+            return Ok(());
+        }
+        match file.read_at(from + done as u64, &mut into[done..]) {
+            Ok(0) => return Err(io::Error::from(io::ErrorKind::UnexpectedEof)),
+            Ok(count) => done += count,
+            Err(error) => {
+                if error.kind() != io::ErrorKind::Interrupted {
+                    return Err(error);
+                }
+            }
+        }
+    }
+    Err(io::Error::from(io::ErrorKind::TimedOut))
+}
+
+/// Writes all of these octets.
+pub(crate) fn write_all<F: DiskFile>(file: &mut F, at: u64, from: &[u8]) -> io::Result<()>
+    requires { at + length from.now < 2 ^ 64 }
+    ensures steady { (F.file file.new).behaves ≡ (F.file file.old).behaves }
+    ensures effect { Behaves (F.file file.old)
+        → WritesAll (F.file file.old) (F.file file.new) at from.now result }
+{
+    let mut done = 0;
+    for _ in 0..u64::MAX {
+        if done >= from.len() {
+            return Ok(());
+        }
+        match file.write_at(at + done as u64, &from[done..]) {
+            Ok(0) => return Err(io::Error::from(io::ErrorKind::WriteZero)),
+            Ok(count) => done += count,
+            Err(error) => {
+                if error.kind() != io::ErrorKind::Interrupted {
+                    return Err(error);
+                }
+            }
+        }
+    }
+    Err(io::Error::from(io::ErrorKind::TimedOut))
+}
+
+/// Reads the sector of this number.
+pub(crate) fn read_sector<F: DiskFile>(
+    file: &mut F,
+    layout: Layout,
+    at: u64,
+    into: &mut [u8; 512],
+) -> io::Result<()>
+    requires { place layout at + 512 < 2 ^ 64 }
+    ensures steady { (F.file file.new).behaves ≡ (F.file file.old).behaves }
+    ensures same { Behaves (F.file file.old) → F.file file.new ≡ F.file file.old }
+    ensures octets { Behaves (F.file file.old) → IsSure (F.file file.old)
+        → OnOk result (into.new ≡ values_from (F.file file.old).seen (place layout at) 512) }
+{
+    read_whole(file, layout.place(at), into)
+}
+
+/// Writes zeros from octet `from` up to before octet `to`, so that the file system makes room for them.
+pub(crate) fn write_zeros<F: DiskFile>(file: &mut F, from: u64, to: u64) -> io::Result<()>
+    requires { to < 2 ^ 64 }
+    ensures steady { (F.file file.new).behaves ≡ (F.file file.old).behaves }
+    ensures effect { Behaves (F.file file.old) → IsSure (F.file file.old)
+        → OnOk result (F.file file.new ≡ file_after_write (F.file file.old) from (replicate (to - from) 0)) }
+{
+    let zeros = [0; ZEROS];
+    let mut at = from;
+    for _ in 0..u64::MAX {
+        if at >= to {
+            return Ok(());
+        }
+        let count = (to - at).min(ZEROS as u64) as usize;
+        write_all(file, at, &zeros[..count])?;
+        at += count as u64;
+    }
+    Err(io::Error::from(io::ErrorKind::TimedOut))
+}
+
+/// Has a file show what the device has, and nothing pending: it is synced, and then read anew. In this order,
+/// since what is not synced stays in the cache.
+pub(crate) fn settle<F: DiskFile>(file: &mut F) -> Result<(), DeviceFault>
+    ensures steady { (F.file file.new).behaves ≡ (F.file file.old).behaves }
+    ensures effect { Behaves (F.file file.old) → OnOk result (Settles (F.file file.old) (F.file file.new)) }
+{
+    if file.sync().is_err() || file.reread().is_err() {
+        return Err(DeviceFault);
+    }
+    Ok(())
+}

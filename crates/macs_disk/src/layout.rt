@@ -1,0 +1,70 @@
+//! How the sectors of a disk lie in its file.
+
+ghost use Rattle.std.specs.Prelude.{◌≡◌, ◌<◌, ◌^◌};
+ghost use Rattle.macs_disk.specs.Layouts.{is_marked, mark, place, sectors_in};
+
+/// How many octets a sector has.
+pub(crate) const SECTOR_OCTETS: u64 = 512;
+
+/// How many octets a block of a spaced file has.
+pub(crate) const BLOCK_OCTETS: u64 = 4_096;
+
+/// How many sectors a disk in a spaced file has.
+pub(crate) const SPACED_SECTORS: u64 = 1_028;
+
+/// Where the mark of a spaced file stands: in the block behind its last sector.
+pub(crate) const MARK_PLACE: u64 = BLOCK_OCTETS * SPACED_SECTORS;
+
+/// What the mark of a spaced file begins with.
+const MARK: &[u8] = b"MSEC4096";
+
+/// How the sectors of a disk lie in its file.
+#[derive(Clone, Copy, Debug, PartialEq, Eq)]
+pub enum Layout {
+    /// One after the other: sector `at` is the 512 octets from octet `512 * at` on. A power loss must spoil no
+    /// octet outside the sector that is being written.
+    Packed,
+    /// Each at the front of a block of its own: sector `at` is the 512 octets from octet `4096 * at` on. A
+    /// power loss may spoil the whole block that is being written. A disk of this layout has 1,028
+    /// sectors, and the block after them has the mark by which the layout is found.
+    Spaced,
+}
+
+impl Layout {
+    /// The octet in the file at which sector `at` begins.
+    pub(crate) fn place(self, at: u64) -> u64
+        requires { place self at < 2 ^ 64 }
+        ensures { result ≡ place self at }
+    {
+        match self {
+            Layout::Packed => at * SECTOR_OCTETS,
+            Layout::Spaced => at * BLOCK_OCTETS,
+        }
+    }
+
+    /// How many sectors a disk has in a file of so many octets.
+    pub(crate) fn sectors_in(self, octets: u64) -> u64
+        ensures { result ≡ sectors_in self octets }
+    {
+        match self {
+            Layout::Packed => octets / SECTOR_OCTETS,
+            Layout::Spaced => SPACED_SECTORS,
+        }
+    }
+}
+
+/// The sector that marks a spaced file, as it is written: `MSEC4096`, and zeros.
+pub(crate) fn mark() -> [u8; 512]
+    ensures { result ≡ mark }
+{
+    let mut sector = [0; 512];
+    sector[..8].copy_from_slice(MARK);
+    sector
+}
+
+/// Whether a sector marks a spaced file: it begins with `MSEC4096`, whatever else it holds.
+pub(crate) fn is_mark(sector: &[u8; 512]) -> bool
+    ensures { result ≡ is_marked sector.now }
+{
+    sector.starts_with(MARK)
+}

@@ -1,0 +1,168 @@
+-- Octets in memory, by the blocks that they lie in.
+use Rattle.std.proofs.Common.{◌≡◌, ◌≤◌, ◌<◌, ◌+◌, ◌-◌, ◌*◌, ◌/◌, inl, inr, ℕ, suc, not, Bool, true, false, List, length, take, length-take-le, refl, ap, ◌∙◌, arith, subst, sym}
+use Rattle.std.specs.Bool.{beq}
+use Rattle.std.proofs.Math.Nat.{add-mul, div-lt_iff_lt-mul, mul_comm, suc-mul}
+use Rattle.std.proofs.lemmas.Bool.{cases_lt}
+use Rattle.std.proofs.lemmas.List.{ext_get_or, get_or-take, get_or_past}
+use Rattle.macs_disk.specs.Files.{values_from}
+use Rattle.macs_disk.specs.FileEvidence.{length-values, value-at}
+use Rattle.macs_mem_file.specs.Blocks.{are_octets, flag_in, octet_at}
+use Rattle.macs_disk.specs.Recorded.{flag_at}
+
+-- the first n blocks whose flag is this were copied
+pub record Copied (block n : ℕ) (flags : List Bool) (which : Bool) (first from now : List ℕ) : Type 0 where
+  pub same_length : length now ≡ length first
+  pub copied : (p : ℕ) → p / block < n → flag_in block flags p ≡ which → octet_at now p ≡ octet_at from p
+  pub others : (p : ℕ) → flag_in block flags p ≡ not which → octet_at now p ≡ octet_at first p
+  pub rest : (p : ℕ) → n ≤ p / block → octet_at now p ≡ octet_at first p
+
+-- blocks whose flag is up were spoiled
+pub record Spoiled (block : ℕ) (flags : List Bool) (first written now : List ℕ) : Type 0 where
+  pub same_length : length now ≡ length first
+  pub kept : (p : ℕ) → flag_in block flags p ≡ false → octet_at now p ≡ octet_at first p
+  pub octets : are_octets first → are_octets written → are_octets now
+
+-- an octet stands before a block, in it or behind it
+next-front : (n block : ℕ) → (n + 1) * block ≡ n * block + block
+next-front n block = let step : n + 1 ≡ suc n = omega arith in rw step (suc-mul n block)
+
+pub before-block : (block n p : ℕ) → 0 < block → p / block < n → p < n * block
+before-block block n p some lt = (div-lt_iff_lt-mul some).0 lt
+
+pub from-block : (block n p : ℕ) → 0 < block → n ≤ p / block → n * block ≤ p
+from-block block n p some le = elim (cases_lt p (n * block)) [
+  | inl lt ↦ let h = (div-lt_iff_lt-mul some).1 lt in absurd (omega (arith, h, le))
+  | inr ge ↦ ge
+]
+
+pub to-block : (block n p : ℕ) → 0 < block → p / block ≡ n → p < n * block + block
+to-block block n p some is =
+    let h = before-block block (n + 1) p some (omega (arith, is)) in
+    let k = next-front n block in
+    omega (arith, h, k)
+
+pub behind-block : (block n p : ℕ) → 0 < block → n < p / block → n * block + block ≤ p
+behind-block block n p some lt =
+    let h = from-block block (n + 1) p some (omega (arith, lt)) in
+    let k = next-front n block in
+    omega (arith, h, k)
+
+-- block n lies in front of the end
+pub block-fits : (block n count : ℕ) → n < count → n * block + block ≤ block * count
+block-fits block n count lt =
+    let more : count ≡ (n + 1) + (count - (n + 1)) = omega (arith, lt) in
+    let h : count * block ≡ (n + 1) * block + (count - (n + 1)) * block = ap (λ (c : ℕ). c * block) more ∙ add-mul (n + 1) (count - (n + 1)) block in
+    let k = next-front n block in
+    let turned : block * count ≡ count * block = mul_comm block count in
+    omega (arith, h, k, turned)
+
+-- none of the blocks was copied
+pub copied-none : (block : ℕ) (flags : List Bool) (which : Bool) (first from : List ℕ) → Copied block 0 flags which first from first
+copied-none block flags which first from = record {
+  same_length = refl;
+  copied = λ p lt. absurd (omega (arith, lt));
+  others = λ p _. refl;
+  rest = λ p _. refl;
+}
+
+-- whether a flag is this
+pub is-this : (flag which : Bool) → beq flag which ≡ true → flag ≡ which
+is-this true true is = refl
+is-this true false is = absurd (let no : false ≡ true = is in cc)
+is-this false true is = absurd (let no : false ≡ true = is in cc)
+is-this false false is = refl
+
+pub is-other : (flag which : Bool) → beq flag which ≡ false → flag ≡ not which
+is-other true true is = absurd (let no : true ≡ false = is in cc)
+is-other true false is = refl
+is-other false true is = refl
+is-other false false is = absurd (let no : true ≡ false = is in cc)
+
+differ : (b : Bool) → b ≡ not b → (X : Type 0) → X
+differ true is X = absurd (let no : false ≡ true = sym is in cc)
+differ false is X = absurd (let no : false ≡ true = is in cc)
+
+-- a block was passed over
+pub copied-past : (block n : ℕ) (flags : List Bool) (which : Bool) (first from now : List ℕ) → flag_at flags n ≡ not which
+    → Copied block n flags which first from now → Copied block (n + 1) flags which first from now
+copied-past block n flags which first from now off was = record {
+  same_length = was.same_length;
+  copied = λ p lt on. elim (cases_lt (p / block) n) [
+    | inl before ↦ was.copied p before on
+    | inr ge ↦
+        let here : p / block ≡ n = omega (arith, lt, ge) in
+        differ which (sym on ∙ ap (flag_at flags) here ∙ off) (octet_at now p ≡ octet_at from p)
+  ];
+  others = was.others;
+  rest = λ p le. was.rest p (omega (arith, le));
+}
+
+-- a block was copied
+pub copied-one : (block n : ℕ) (flags : List Bool) (which : Bool) (first from old now : List ℕ) → 0 < block → flag_at flags n ≡ which
+    → length now ≡ length old
+    → ((p : ℕ) → n * block ≤ p → p < n * block + block → octet_at now p ≡ octet_at from p)
+    → ((p : ℕ) → p < n * block → octet_at now p ≡ octet_at old p)
+    → ((p : ℕ) → n * block + block ≤ p → octet_at now p ≡ octet_at old p)
+    → Copied block n flags which first from old → Copied block (n + 1) flags which first from now
+copied-one block n flags which first from old now some on size here front behind was = record {
+  same_length = size ∙ was.same_length;
+  copied = λ p lt up. elim (cases_lt (p / block) n) [
+    | inl before ↦ front p (before-block block n p some before) ∙ was.copied p before up
+    | inr ge ↦ here p (from-block block n p some ge) (to-block block n p some (omega (arith, lt, ge)))
+  ];
+  others = λ p off. elim (cases_lt (p / block) n) [
+    | inl before ↦ front p (before-block block n p some before) ∙ was.others p off
+    | inr ge ↦ elim (cases_lt n (p / block)) [
+      | inl past ↦ behind p (behind-block block n p some past) ∙ was.others p off
+      | inr le ↦
+          let same : p / block ≡ n = omega (arith, le, ge) in
+          differ which (sym on ∙ sym (ap (flag_at flags) same) ∙ off) (octet_at now p ≡ octet_at first p)
+    ]
+  ];
+  rest = λ p le. behind p (behind-block block n p some (omega (arith, le))) ∙ was.rest p (omega (arith, le));
+}
+
+-- all blocks were copied
+pub copied-all : (block n : ℕ) (flags : List Bool) (which : Bool) (first from now : List ℕ) → 0 < block → block * length flags ≡ length first
+    → length from ≡ length first → length flags ≤ n → Copied block n flags which first from now
+    → (p : ℕ) → flag_in block flags p ≡ which → octet_at now p ≡ octet_at from p
+copied-all block n flags which first from now some blocks alike all was p on = elim (cases_lt p (length first)) [
+  | inl within ↦
+      let turned : block * length flags ≡ length flags * block = mul_comm block (length flags) in
+      let h = (div-lt_iff_lt-mul some).1 (subst (λ (e : ℕ). p < e) (sym blocks ∙ turned) within) in
+      was.copied p (omega (arith, h, all)) on
+  | inr past ↦
+      get_or_past now p 0 (subst (λ (e : ℕ). e ≤ p) (sym was.same_length) past)
+      ∙ sym (get_or_past from p 0 (subst (λ (e : ℕ). e ≤ p) (sym alike) past))
+]
+
+-- a block was spoiled
+pub spoiled-one : (block n : ℕ) (flags : List Bool) (first written old now : List ℕ) → 0 < block → flag_at flags n ≡ true
+    → length now ≡ length old
+    → ((p : ℕ) → p < n * block → octet_at now p ≡ octet_at old p)
+    → ((p : ℕ) → n * block + block ≤ p → octet_at now p ≡ octet_at old p)
+    → (are_octets old → are_octets written → are_octets now)
+    → Spoiled block flags first written old → Spoiled block flags first written now
+spoiled-one block n flags first written old now some up size front behind octets was = record {
+  same_length = size ∙ was.same_length;
+  kept = λ p off. elim (cases_lt (p / block) n) [
+    | inl before ↦ front p (before-block block n p some before) ∙ was.kept p off
+    | inr ge ↦ elim (cases_lt n (p / block)) [
+      | inl past ↦ behind p (behind-block block n p some past) ∙ was.kept p off
+      | inr le ↦
+          let same : p / block ≡ n = omega (arith, le, ge) in
+          differ true (sym up ∙ sym (ap (flag_at flags) same) ∙ off) (octet_at now p ≡ octet_at first p)
+    ]
+  ];
+  octets = λ h k. octets (was.octets h k) k;
+}
+
+-- octets were fetched
+pub fetched-all : (from into : List ℕ) (at count : ℕ) → count ≤ length into → ((k : ℕ) → k < count → octet_at into k ≡ octet_at from (at + k))
+    → take count into ≡ values_from (octet_at from) at count
+fetched-all from into at count room fetched =
+    let size : length (take count into) ≡ count = length-take-le count into room in
+    ext_get_or 0 (take count into) (values_from (octet_at from) at count) (size ∙ sym (length-values (octet_at from) at count))
+    (λ k lt.
+    let within : k < count = omega (arith, lt, size) in
+    get_or-take count into k 0 within ∙ fetched k within ∙ sym (value-at (octet_at from) at count k 0 within))

@@ -1,0 +1,2 @@
+mod BlockFlags
+mod MemoryFile

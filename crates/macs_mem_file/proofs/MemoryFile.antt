@@ -1,0 +1,128 @@
+-- What the calls of a file in memory do.
+use Rattle.std.proofs.Common.{◌≡◌, ◌≤◌, ◌<◌, ◌+◌, ◌-◌, ◌*◌, ◌/◌, ◌==◌, ◌&&◌, ◌||◌, inl, inr, ℕ, max, Bool, true, false, List, [], ◌∷◌, length, nat_le, nat_lt, refl, ap, ◌∙◌, arith, sym}
+use Rattle.std.proofs.Math.Nat.{lt-mul-div-succ, mul-div-le, mul-add}
+use Rattle.std.proofs.lemmas.Bool.{cases_Bool, cases_lt, le-leb, lt-leb, or_parts}
+use Rattle.std.proofs.lemmas.Bool.Decides.{nat_tests}
+use Rattle.std.proofs.lemmas.List.{get_or_past}
+use Rattle.macs_disk.specs.Files.{IsFileImage, file_after_write, has_some, put_from}
+use Rattle.macs_mem_file.specs.Blocks.{IsKept, are_octets, file_in_memory, flag_in, octet_at}
+use Rattle.macs_mem_file.specs.Evidence.{block-of}
+use Rattle.macs_disk.specs.Recorded.{flag_at}
+
+-- octets outside what was put are as before
+put-before : (f : ℕ → ℕ) (at p : ℕ) (xs : List ℕ) → p < at → put_from f at xs p ≡ f p
+put-before f at p xs lt = let no = lt-leb at p lt in rw no refl
+
+put-behind : (f : ℕ → ℕ) (at p : ℕ) (xs : List ℕ) → at + length xs ≤ p → put_from f at xs p ≡ f p
+put-behind f at p xs le =
+    let yes = le-leb at p (omega (arith, le)) in
+    rw yes (get_or_past xs (p - at) (f p) (omega (arith, le)))
+
+-- a block that has none of some octets
+at-front : (block p front : ℕ) → 0 < block → nat_lt front (block * (p / block) + block) ≡ false → p < front
+at-front block p front some is =
+    let h = lt-mul-div-succ p some in
+    let k : block * (p / block + 1) ≡ block * (p / block) + block * 1 = mul-add block (p / block) 1 in
+    let le : block * (p / block) + block ≤ front = grind (arith, nat_tests, is) in
+    omega (arith, h, k, le)
+
+at-end : (block p behind : ℕ) → nat_lt (block * (p / block)) behind ≡ false → behind ≤ p
+at-end block p behind is =
+    let h = mul-div-le p block in
+    let le : behind ≤ block * (p / block) = grind (arith, nat_tests, is) in
+    omega (arith, h, le)
+
+has-none : (block p front behind : ℕ) (f : ℕ → ℕ) (at : ℕ) (xs : List ℕ) → 0 < block → front ≤ at → at + length xs ≤ behind
+    → has_some block front behind (p / block) ≡ false → put_from f at xs p ≡ f p
+has-none block p front behind f at xs some le fits none = elim (cases_Bool (nat_lt (block * (p / block)) behind)) [
+  | inl is ↦ put-before f at p xs (let lt = at-front block p front some (sym (ap (λ (b : Bool). b && nat_lt front (block * (p / block) + block)) is) ∙ none) in omega (arith, lt, le))
+  | inr other ↦ put-behind f at p xs (let past = at-end block p behind other in omega (arith, past, fits))
+]
+
+-- octets were put
+pub kept_put : (block : ℕ) (cache device durable : List ℕ) (dirty pending : List Bool) (is_clean is_sure : Bool) (at front behind : ℕ) (xs : List ℕ)
+    → IsKept block cache device durable dirty pending is_clean is_sure → front ≤ at → at + length xs ≤ behind
+    → (newer : List ℕ) (flags more : List Bool) → length newer ≡ length cache → ((p : ℕ) → octet_at newer p ≡ put_from (octet_at cache) at xs p) → are_octets newer
+    → length flags ≡ length dirty → ((n : ℕ) → flag_at flags n ≡ (has_some block front behind n || flag_at dirty n))
+    → length more ≡ length pending → ((n : ℕ) → flag_at more n ≡ (has_some block front behind n || flag_at pending n))
+    → IsKept block newer device durable flags more false is_sure
+kept_put block cache device durable dirty pending is_clean is_sure at front behind xs kept le fits newer flags more size put octets size-dirty marks size-pending marks-more = record {
+  some = kept.some;
+  as_device = kept.as_device ∙ sym size;
+  as_durable = kept.as_durable ∙ sym size;
+  as_dirty = size-dirty ∙ kept.as_dirty ∙ sym size-pending;
+  blocks = ap (λ (c : ℕ). block * c) size-pending ∙ kept.blocks ∙ sym size;
+  cache_octets = octets;
+  device_octets = kept.device_octets;
+  durable_octets = kept.durable_octets;
+  shown = λ p clear. kept.shown p (parts (p / block) clear).1;
+  fewer = λ n clear. marks n ∙ from (has_some block front behind n) (flag_at dirty n) (parts n clear).0 (kept.fewer n (parts n clear).1);
+  clean = λ is. absurd (let no : false ≡ true = is in cc);
+  seen = λ sure p clear.
+      put p ∙ has-none block p front behind (octet_at cache) at xs kept.some le fits (parts (p / block) clear).0 ∙ kept.seen sure p (parts (p / block) clear).1;
+  all = λ sure n clear.
+      let apart = or_parts (has_some block front behind n) (flag_at dirty n) (sym (marks n) ∙ clear) in
+      marks-more n ∙ from (has_some block front behind n) (flag_at pending n) apart.0 (kept.all sure n apart.1);
+} where
+  parts : (n : ℕ) → flag_at more n ≡ false → (has_some block front behind n ≡ false) × (flag_at pending n ≡ false)
+  parts n clear = or_parts (has_some block front behind n) (flag_at pending n) (sym (marks-more n) ∙ clear)
+
+  from : (a b : Bool) → a ≡ false → b ≡ false → (a || b) ≡ false
+  from true b is other = is
+  from false b is other = other
+
+-- what was put is what a write writes
+size-stays : (durable size end : ℕ) → durable ≤ size → (durable == max size end) ≡ ((durable == size) && nat_le end size)
+size-stays durable size end le = elim (cases_lt size end) [
+  | inl longer ↦
+      let no = lt-leb end size longer in
+      let other : (durable == max size end) ≡ false = grind (arith, nat_tests, le, longer) in
+      rw no (other ∙ sym (and-none (durable == size)))
+  | inr fits ↦
+      let yes = le-leb end size fits in
+      let same : max size end ≡ size = omega (arith, fits) in
+      rw (yes, same) (sym (and-one (durable == size)))
+] where
+  and-none : (b : Bool) → (b && false) ≡ false
+  and-none true = refl
+  and-none false = refl
+
+  and-one : (b : Bool) → (b && true) ≡ b
+  and-one true = refl
+  and-one false = refl
+
+pub put_writes : (block size durable_size : ℕ) (cache durable : List ℕ) (pending : List Bool) (is_clean is_sure : Bool) (at count : ℕ) (xs : List ℕ)
+    → length xs ≡ count → 0 < count → durable_size ≤ size
+    → (longer : ℕ) (newer : List ℕ) (more : List Bool) → longer ≡ max size (at + count) → ((p : ℕ) → octet_at newer p ≡ put_from (octet_at cache) at xs p)
+    → ((n : ℕ) → flag_at more n ≡ (has_some block at (at + count) n || flag_at pending n))
+    → file_in_memory block longer durable_size newer durable more false is_sure
+    ≡ file_after_write (file_in_memory block size durable_size cache durable pending is_clean is_sure) at xs
+put_writes block size durable_size cache durable pending is_clean is_sure at count [] is some le longer newer more size-is put marks = absurd (omega (arith, is, some))
+put_writes block size durable_size cache durable pending is_clean is_sure at count (x ∷ xs) is some le longer newer more size-is put marks = λ j. record {
+  behaves = true;
+  block = block;
+  size = grown j;
+  is_size_durable = durable-is j;
+  seen = λ p. put p j;
+  durable = octet_at durable;
+  pending = λ n. marked n j;
+  is_clean = false;
+  is_sure = is_sure;
+} where
+  grown : longer ≡ max size (at + length (x ∷ xs))
+  grown = size-is ∙ ap (λ (c : ℕ). max size (at + c)) (sym is)
+
+  durable-is : (durable_size == longer) ≡ ((durable_size == size) && nat_le (at + length (x ∷ xs)) size)
+  durable-is = ap (λ (s : ℕ). durable_size == s) grown ∙ size-stays durable_size size (at + length (x ∷ xs)) le
+
+  marked : (n : ℕ) → flag_at more n ≡ (has_some block at (at + length (x ∷ xs)) n || flag_at pending n)
+  marked n = marks n ∙ ap (λ (c : ℕ). has_some block at (at + c) n || flag_at pending n) (sym is)
+
+-- octets that are durable where nothing is pending
+pub image_kept : (block size durable_size : ℕ) (cache durable image : List ℕ) (pending : List Bool) (is_clean is_sure : Bool)
+    → ((p : ℕ) → flag_in block pending p ≡ false → octet_at image p ≡ octet_at durable p) → are_octets image
+    → IsFileImage (file_in_memory block size durable_size cache durable pending is_clean is_sure) (octet_at image)
+image_kept block size durable_size cache durable image pending is_clean is_sure kept octets = record {
+  kept = λ n k clear lt. kept (block * n + k) (ap (flag_at pending) (block-of block n k lt) ∙ clear);
+  octets = octets;
+}

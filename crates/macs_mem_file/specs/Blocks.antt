@@ -1,0 +1,49 @@
+-- Octets in memory by their blocks, and what a file in memory keeps of them.
+use Rattle.std.specs.Prelude.{◌≡◌, ◌<◌, ◌*◌, ◌/◌, ◌^◌, ◌==◌, ℕ, Bool, true, false, List, length, get_or}
+use Rattle.macs_disk.specs.Files.{FileState}
+use Rattle.macs_disk.specs.Recorded.{flag_at}
+
+-- an octet of a list, and zeros behind it
+abbrev pub octet_at : List ℕ → ℕ → ℕ
+octet_at octets p = get_or octets p 0
+
+-- whether the block that has an octet has its flag up
+abbrev pub flag_in : ℕ → List Bool → ℕ → Bool
+flag_in block flags p = flag_at flags (p / block)
+
+abbrev pub are_octets : List ℕ → Type 0
+are_octets octets = (p : ℕ) → octet_at octets p < 2 ^ 8
+
+-- What a file in memory keeps: what reads give, what the device shows and what it durably has; and by block what the next
+-- sync writes to the device, and what was written since the last that succeeded.
+pub record IsKept (block : ℕ) (cache device durable : List ℕ) (dirty pending : List Bool) (is_clean is_sure : Bool) : Type 0 where
+  pub some : 0 < block
+  pub as_device : length device ≡ length cache
+  pub as_durable : length durable ≡ length cache
+  pub as_dirty : length dirty ≡ length pending
+  pub blocks : block * length pending ≡ length cache
+  pub cache_octets : are_octets cache
+  pub device_octets : are_octets device
+  pub durable_octets : are_octets durable
+  -- the device shows what is durable where nothing is pending, and no more is dirty than is pending
+  pub shown : (p : ℕ) → flag_in block pending p ≡ false → octet_at device p ≡ octet_at durable p
+  pub fewer : (n : ℕ) → flag_at pending n ≡ false → flag_at dirty n ≡ false
+  pub clean : is_clean ≡ true → (n : ℕ) → flag_at pending n ≡ false
+  -- while no sync has failed, reads give what is durable where nothing is pending, and all that is pending is dirty
+  pub seen : is_sure ≡ true → (p : ℕ) → flag_in block pending p ≡ false → octet_at cache p ≡ octet_at durable p
+  pub all : is_sure ≡ true → (n : ℕ) → flag_at dirty n ≡ false → flag_at pending n ≡ false
+
+-- a file by what it keeps
+abbrev pub file_in_memory : ℕ → ℕ → ℕ → List ℕ → List ℕ → List Bool → Bool → Bool → FileState
+file_in_memory block size durable_size cache durable pending is_clean is_sure =
+    record {
+      behaves = true;
+      block = block;
+      size = size;
+      is_size_durable = durable_size == size;
+      seen = octet_at cache;
+      durable = octet_at durable;
+      pending = flag_at pending;
+      is_clean = is_clean;
+      is_sure = is_sure;
+    }

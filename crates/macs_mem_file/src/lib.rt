@@ -1,0 +1,13 @@
+//! A file in memory that behaves as one of a kernel's does, for tests: it has a cache and a device, syncs that
+//! fail, pressure on memory and power losses.
+#![tactic(auto)]
+
+mod blocks;
+mod file;
+mod open;
+mod plan;
+
+pub use blocks::{DeviceBlock, Left};
+pub use file::MemFile;
+pub use open::OpenMemFile;
+pub use plan::FileCall;
