@@ -43,16 +43,19 @@ disk_in_file file it =
       worn = it.clock == 2 ^ 64 - 1;
     }
 
--- the file that a disk was handed, how it is now, how the disk shows it, and how its sectors lie in it
+-- the file that a disk was handed
 abbrev pub file_given : {F : Type 0} → FileDisk F → F
 file_given it = it.given.value
 
+-- its file as it is now
 abbrev pub file_left : {F : Type 0} → FileDisk F → F
 file_left it = it.file
 
+-- its file as the disk shows it: where a sync failed, as it was before
 abbrev pub file_shown : {F : Type 0} → FileDisk F → F
 file_shown it = it.shown.value
 
+-- how its sectors lie in the file
 abbrev pub layout_of : {F : Type 0} → FileDisk F → Layout
 layout_of it = it.layout
 

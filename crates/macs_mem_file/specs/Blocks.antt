@@ -11,6 +11,7 @@ octet_at octets p = get_or octets p 0
 abbrev pub flag_in : ℕ → List Bool → ℕ → Bool
 flag_in block flags p = flag_at flags (p / block)
 
+-- each is below 256
 abbrev pub are_octets : List ℕ → Type 0
 are_octets octets = (p : ℕ) → octet_at octets p < 2 ^ 8
 

@@ -6,6 +6,7 @@ use Rattle.macs_mem_file.specs.declared.blocks.DeviceBlock.{DeviceBlock}
 use Rattle.macs_mem_file.specs.declared.blocks.DeviceBlock.TheVariants.{Octets512, Octets4096}
 use Rattle.macs_mem_file.specs.declared.file.MemFile.{MemFile}
 
+-- a file in memory, as a file
 abbrev pub file_of : {A : Type 0} → MemFile A → FileState
 file_of it = file_in_memory it.block it.size it.durable_size it.cache.items it.durable.items it.pending.items it.is_clean it.is_sure
 

@@ -1,6 +1,11 @@
 -- First faults.
-use Rattle.std.proofs.Common.{◌≡◌, ◌↔◌, Result, Err, List, [], ◌∷◌, inl, inr, refl, subst, sym}
+use Rattle.std.proofs.Common.{◌≡◌, ◌↔◌, ℕ, Option, Result, Err, List, [], ◌∷◌, inl, inr, refl, subst, sym}
+use Rattle.macs_config.specs.Identity.{Identity}
+use Rattle.macs_disk.specs.declared.layout.Layout.{Layout}
 use Rattle.macs_frame.specs.First.{IsFirst, NoneHolds}
+use Rattle.macsecd.specs.Values.{SpellsIdentity, SpellsLayout, ValueFaultHolds}
+use Rattle.macsecd.specs.declared.values.ValueFault.{ValueFault}
+use Rattle.macsecd.specs.declared.values.ValueFault.TheVariants as value
 
 -- where nothing is the first that holds, none holds
 pub nothing_first : {R : Type 0} (Holds : R → Type 0) (order : List R) → ((fault : R) → ¬ IsFirst Holds order fault) → NoneHolds Holds order
@@ -23,3 +28,12 @@ pub first-holds : {R : Type 0} (Holds : R → Type 0) (order : List R) (fault : 
 first-holds Holds [] fault first = absurd first
 first-holds Holds (r ∷ rs) fault (inl (held, same)) = subst Holds (sym same) held
 first-holds Holds (r ∷ rs) fault (inr (out, later)) = first-holds Holds rs fault later
+
+-- what is taken has none of the faults of a value
+pub value-taken : (sci : List ℕ) (tx_block rx_block : ℕ) (block : Option (List ℕ)) (identity : Identity) (layout : Layout)
+    → SpellsIdentity sci tx_block rx_block identity → SpellsLayout block layout → (fault : ValueFault)
+    → ¬ ValueFaultHolds sci tx_block rx_block block fault
+value-taken sci tx_block rx_block block identity layout spelled lies value.Sci held = held identity.sci spelled.sci_is
+value-taken sci tx_block rx_block block identity layout spelled lies value.TxBlock held = held spelled.tx_fits
+value-taken sci tx_block rx_block block identity layout spelled lies value.RxBlock held = held spelled.rx_fits
+value-taken sci tx_block rx_block block identity layout spelled lies value.DeviceBlock held = held layout lies

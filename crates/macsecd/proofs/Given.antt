@@ -1,5 +1,5 @@
 -- Where clap takes words for values that have to be given, each of them is there and passes its parser.
-use Rattle.std.proofs.Common.{◌≡◌, ◌∙◌, ◌++◌, ℕ, zero, suc, Bool, true, false, not, ◌&&◌, ◌||◌, List, [], ◌∷◌, length, Option, Some, None, is_some, if◌then◌else◌, refl, ap, sym, subst}
+use Rattle.std.proofs.Common.{◌≡◌, ◌∙◌, ◌++◌, ◌⊎◌, inl, inr, ℕ, zero, suc, Bool, true, false, not, ◌&&◌, ◌||◌, List, [], ◌∷◌, length, Option, Some, None, is_some, if◌then◌else◌, refl, ap, sym, subst}
 use Rattle.std.specs.Prelude.{find, fold, nat_le, slice_get, unwrap_or}
 use Rattle.std.specs.List.{AllByRecursion, list_all, list_any}
 use Rattle.std.specs.Option.{option_map_or}
@@ -8,20 +8,31 @@ use Rattle.std.proofs.lemmas.List.Folds.{list_all-append}
 use Rattle.std.proofs.lemmas.Slice.Eq.{bytes_eq-Decides}
 use Rattle.clap.specs.Facts.{explicit_source, unwrap_or_range}
 use Rattle.clap.specs.Lexer.{long_of, short_of}
-use Rattle.clap.specs.Takes.{action_passes, flag_word_passes, is_given, is_valid, level_passes, long_passes, option_passes, other_passes, positional_passes, react_passes, settle_passes, step_passes, turn_passes, use_passes, value_passes, walk_passes, word_passes}
+use Rattle.clap.specs.Takes.{action_passes, flag_word_passes, is_given, is_valid, level_passes, long_passes, option_passes, other_passes, positional_passes, react_passes, settle_passes, step_passes, turn_passes, use_passes, value_passes, values_pass, walk_passes, word_passes}
 use Rattle.clap.specs.Simple.{Shape}
-use Rattle.clap.specs.Walk.{Held, Names, Outcome, Row, Rule, Step, Text, Waiting, Walk, action_of, after_flag, after_step, arg_by_id, arg_by_index, arg_by_long, arg_by_short, at_row, bundle, bundle_met, bundle_step, default_rows, done, finished, first_of, flag_met, has_long, has_row, has_short, idle, is_pending, long_met, long_or_other, more_values, next, nothing_held, option, option_met, option_word, plain, plain_word, positional, reacted, reading_by, refused, rows_after, settled, settled_rows, short_or_plain, subcommand, subcommand_met, subcommand_or_other, takes_several, takes_values, to_positional, trailing, used, used_by_id, value, waits, walk, walk_from, walked, with_default, with_values, without, word_met}
-use Rattle.clap.specs.declared.builder.action.ArgAction.TheVariants.{Set}
-use Rattle.clap.specs.declared.parser.matches.ValueSource.TheVariants.{CommandLine}
+use Rattle.clap.specs.Walk.{Held, Names, Outcome, Row, Rule, Step, Text, Waiting, Walk, action_of, after_flag, after_step, arg_by_id, arg_by_index, arg_by_long, arg_by_short, at_row, bundle, bundle_met, bundle_step, default_rows, done, finished, first_of, flag_met, has_long, has_row, has_short, idle, is_pending, long_met, long_or_other, more_values, next, nothing_held, option, option_met, option_word, plain, plain_word, positional, reacted, reading_by, refused, rows_after, settled, settled_rows, short_or_plain, subcommand, subcommand_met, subcommand_or_other, takes_several, takes_values, to_positional, trailing, used, used_as, used_by_id, value, waits, walk, walk_from, walked, with_default, with_values, without, word_met}
+use Rattle.clap.specs.declared.builder.action.ArgAction.{ArgAction}
+use Rattle.clap.specs.declared.builder.action.ArgAction.TheVariants.{Set, SetTrue}
+use Rattle.clap.specs.declared.parser.matches.ValueSource.{ValueSource}
+use Rattle.clap.specs.declared.parser.matches.ValueSource.TheVariants.{CommandLine, DefaultValue}
 use Rattle.clap.specs.declared.builder.value_parser.Reading.{Reading}
 use Rattle.clap.proofs.WalkLemmas.{both}
 
--- ---- arguments of one value, each at a place or behind a long name
+-- ---- arguments of one value, each at a place or behind a long name, and options without a value
 
+-- the first value passes
+abbrev pub first_passes : Rule → List Text → Bool
+first_passes a values = option_map_or (value_passes a) (slice_get values 0) false
+
+-- the action sets the values of the last use
+abbrev pub Sets : ArgAction → Type 0
+Sets x = (x ≡ Set) ⊎ (x ≡ SetTrue)
+
+-- A use has a value, or what stands for it passes; and so does a default, if there is one
 pub record IsValueRule (a : Rule) : Type 0 where
-  pub action : a.action ≡ Some Set
-  pub least : (unwrap_or_range a.range).start_inclusive ≡ 1
-  pub defaults : a.defaults ≡ []
+  pub action : Sets (action_of a)
+  pub missing : ((unwrap_or_range a.range).start_inclusive ≡ 1) ⊎ (first_passes a a.missing ≡ true)
+  pub defaults : (a.defaults ≡ []) ⊎ (first_passes a a.defaults ≡ true)
   pub no_short : (x : ℕ) → has_short a x ≡ false
 
 -- the argument is the first of its id
@@ -77,10 +88,6 @@ own-id c id a found =
 
 -- ---- rows
 
--- the first value passes
-abbrev first_passes : Rule → List Text → Bool
-first_passes a values = option_map_or (value_passes a) (slice_get values 0) false
-
 -- the first value of the row passes the parser of its argument
 abbrev is_good : List Rule → Row → Bool
 is_good c row = option_map_or (λ a. first_passes a row.values) (arg_by_id c row.id) true
@@ -113,26 +120,47 @@ first-stays None values more is = refl
 first-stays (Some a) [] more is = cc
 first-stays (Some a) (v ∷ vs) more is = is
 
-good-with_values : (c : List Rule) (a : Rule) (how : Reading) (values : List Text) (rows : List Row) → arg_by_id c a.id ≡ Some a
-    → first_passes a values ≡ true → are_good c rows ≡ true → are_good c (with_values a.id how CommandLine values rows) ≡ true
-good-with_values c a how values rows own passes good =
-    good-at_row c a.id (more_values CommandLine values) _ rows
+good-with_values : (c : List Rule) (a : Rule) (how : Reading) (source : ValueSource) (values : List Text) (rows : List Row)
+    → arg_by_id c a.id ≡ Some a → first_passes a values ≡ true → are_good c rows ≡ true
+    → are_good c (with_values a.id how source values rows) ≡ true
+good-with_values c a how source values rows own passes good =
+    good-at_row c a.id (more_values source values) _ rows
     (λ r is. rw (first-stays (arg_by_id c r.id) r.values values is) refl)
     (rw (own, passes) refl) good
+
+-- a use that sets values
+sets-pass : (x : ArgAction) (again : Bool) (a : Rule) (values : List Text) (rows : List Row) → Sets x
+    → action_passes x again a values rows ≡ true → values_pass a values ≡ true
+sets-pass x again a values rows (inl is) passes =
+    let set : action_passes Set again a values rows ≡ true = rw is at passes in
+    (both _ _ set).1
+sets-pass x again a values rows (inr is) passes =
+    let set : action_passes SetTrue again a values rows ≡ true = rw is at passes in
+    (both _ _ set).1
+
+good-sets : (c : List Rule) (x : ArgAction) (a : Rule) (values : List Text) (rows : List Row) → Sets x → arg_by_id c a.id ≡ Some a
+    → first_passes a values ≡ true → are_good c rows ≡ true → are_good c (used_as x a.id (reading_by a) values rows) ≡ true
+good-sets c x a values rows (inl is) own first good =
+    rw is (good-with_values c a (reading_by a) CommandLine values (without a.id rows) own first (good-without c a.id rows good))
+good-sets c x a values rows (inr is) own first good =
+    rw is (good-with_values c a (reading_by a) CommandLine values (without a.id rows) own first (good-without c a.id rows good))
 
 -- a use of an argument, with a value that passes
 good-used : (c : List Rule) (again : Bool) (a : Rule) (values : List Text) (rows : List Row) → IsValueRule a → arg_by_id c a.id ≡ Some a
     → use_passes again a values rows ≡ true → are_good c rows ≡ true → are_good c (used a values rows) ≡ true
-good-used c again a [] rows rule own passes good =
-    let wanted : nat_le (unwrap_or_range a.range).start_inclusive 0 ≡ true = (both _ _ passes).0 in
-    let none : nat_le 1 0 ≡ true = rw rule.least at wanted in
-    cc
+good-used c again a [] rows rule own passes good = go rule.missing (both _ _ passes).0
+  where
+    go : ((unwrap_or_range a.range).start_inclusive ≡ 1) ⊎ (first_passes a a.missing ≡ true)
+        → nat_le (unwrap_or_range a.range).start_inclusive 0 ≡ true → are_good c (used a [] rows) ≡ true
+    go (inl one) wanted =
+        let none : nat_le 1 0 ≡ true = rw one at wanted in
+        cc
+    go (inr first) wanted = good-sets c (action_of a) a a.missing rows rule.action own first good
 good-used c again a (v ∷ vs) rows rule own passes good =
     let rest : action_passes (action_of a) again a (v ∷ vs) rows ≡ true = (both _ _ (both _ _ passes).1).1 in
-    let is_set : action_of a ≡ Set = rw rule.action refl in
-    let set : action_passes Set again a (v ∷ vs) rows ≡ true = rw is_set at rest in
-    let first : value_passes a v ≡ true = (both _ _ (both _ _ set).1).0 in
-    rw is_set (good-with_values c a (reading_by a) (v ∷ vs) (without a.id rows) own first (good-without c a.id rows good))
+    let all : values_pass a (v ∷ vs) ≡ true = sets-pass (action_of a) again a (v ∷ vs) rows rule.action rest in
+    let first : value_passes a v ≡ true = (both _ _ all).0 in
+    good-sets c (action_of a) a (v ∷ vs) rows rule.action own first good
 
 -- ---- the walk
 
@@ -284,17 +312,28 @@ good-walk s names w (word ∷ rest) rules passes good =
 
 -- ---- a level
 
--- where nothing has a default, none is added
-no-default : (c : List Rule) (rows : List Row) → AllByRecursion IsValueRule c → fold with_default rows c ≡ rows
-no-default [] rows rules = refl
-no-default (a ∷ rest) rows rules = ap (λ (before : List Row). fold with_default before rest) one ∙ no-default rest rows rules.1
+-- what a default adds passes
+good-default : (c : List Rule) (a : Rule) (rows : List Row) → IsValueRule a → IsOwn c a → are_good c rows ≡ true
+    → are_good c (with_default rows a) ≡ true
+good-default c a rows rule own good = go (has_row a.id rows)
   where
-    go : (has : Bool) → (if has then rows else default_rows a.id (reading_by a) [] rows) ≡ rows
-    go true = refl
-    go false = refl
+    added : (values : List Text) → first_passes a values ≡ true → are_good c (default_rows a.id (reading_by a) values rows) ≡ true
+    added [] passes = cc
+    added (v ∷ vs) passes = good-with_values c a (reading_by a) DefaultValue (v ∷ vs) rows own passes good
 
-    one : with_default rows a ≡ rows
-    one = rw rules.0.defaults (go (has_row a.id rows))
+    by : (a.defaults ≡ []) ⊎ (first_passes a a.defaults ≡ true) → are_good c (default_rows a.id (reading_by a) a.defaults rows) ≡ true
+    by (inl none) = rw none good
+    by (inr passes) = added a.defaults passes
+
+    go : (has : Bool) → are_good c (if has then rows else default_rows a.id (reading_by a) a.defaults rows) ≡ true
+    go true = good
+    go false = by rule.defaults
+
+good-defaults : (c rules : List Rule) (rows : List Row) → AllByRecursion IsValueRule rules → AllByRecursion (IsOwn c) rules
+    → are_good c rows ≡ true → are_good c (fold with_default rows rules) ≡ true
+good-defaults c [] rows each own good = good
+good-defaults c (a ∷ rest) rows each own good =
+    good-defaults c rest (with_default rows a) each.1 own.1 (good-default c a rows each.0 own.0 good)
 
 -- a row that is given has a first value that passes
 given-first : (c : List Rule) (a : Rule) (rows : List Row) → arg_by_id c a.id ≡ Some a → is_given a.id rows ≡ true → are_good c rows ≡ true
@@ -337,9 +376,9 @@ given s words a rules negates passes own required =
     let end = (walk s.rules [] nothing_held words).held in
     let parts = both _ _ passes in
     let ending = both _ _ parts.1 in
-    let rows_are : finished s.rules end ≡ (settled s.rules end).rows = no-default s.rules (settled s.rules end).rows rules.each in
     let good : are_good s.rules (finished s.rules end) ≡ true =
-    rw rows_are (good-settled s.rules s.args_override_self end rules ending.0 (good-walk s [] (walk_from nothing_held) words rules parts.0 refl)) in
+    good-defaults s.rules s.rules (settled s.rules end).rows rules.each rules.own
+    (good-settled s.rules s.args_override_self end rules ending.0 (good-walk s [] (walk_from nothing_held) words rules parts.0 refl)) in
     let valid : is_valid s (finished s.rules end) false ≡ true = (both _ _ ending.1).1 in
     let all = all-given s (finished s.rules end) negates valid in
     let one : (not a.required || is_given a.id (finished s.rules end)) ≡ true =

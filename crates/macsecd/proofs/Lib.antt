@@ -7,6 +7,7 @@ pub mod Failed
 pub mod FirstFault
 pub mod Given
 pub mod HexDigits
+pub mod Looks
 pub mod Opened
 pub mod Printing
 pub mod Relayed

@@ -1,6 +1,7 @@
 -- What a relay comes to, between two wires that are new; and how it is refused for an address.
 use Rattle.std.proofs.Common.{◌≡◌, ◌↔◌, ℕ, List, Result, Ok, Err, subst}
 use Rattle.macs_disk.specs.FileDisks.{disk_in_file}
+use Rattle.macs_disk.specs.Files.{FileState}
 use Rattle.macs_disk.specs.declared.file.FileDisk.{FileDisk}
 use Rattle.macs_edge.specs.Relaying.{IsRelayed, empty_lane, relay_of}
 use Rattle.macs_edge.specs.Wires.{WireState}
@@ -12,17 +13,17 @@ use Rattle.macsecd.specs.declared.addresses.AddressFault.{AddressFault}
 use Rattle.macsecd.specs.declared.failure.Failure.{Failure}
 use Rattle.macsecd.specs.declared.failure.Failure.TheVariants.{Address}
 
-pub comes-to : {F : Type 0} (turns : ℕ) (summary : RelaySummary) (old new : EndpointValue (FileDisk F)) (first second controlled common : WireState)
+pub comes-to : {F : Type 0} (file : F → FileState) (turns : ℕ) (summary : RelaySummary) (old new : EndpointValue (FileDisk F)) (first second controlled common : WireState)
     → first ≡ new_wire → second ≡ new_wire
-    → IsRelayed disk_in_file turns (relay_of old first second empty_lane empty_lane) (Ok summary) new controlled common
-    → ComesTo F turns summary
-comes-to {F} turns summary old new first second controlled common one other relayed = record {
+    → IsRelayed (disk_in_file file) turns (relay_of old first second empty_lane empty_lane) (Ok summary) new controlled common
+    → ComesTo file turns summary
+comes-to {F} file turns summary old new first second controlled common one other relayed = record {
   old = old;
   new = new;
   controlled = controlled;
   common = common;
-  relayed = subst (λ (w : WireState). IsRelayed disk_in_file turns (relay_of old w new_wire empty_lane empty_lane) (Ok summary) new controlled common) one
-      (subst (λ (w : WireState). IsRelayed disk_in_file turns (relay_of old first w empty_lane empty_lane) (Ok summary) new controlled common) other relayed);
+  relayed = subst (λ (w : WireState). IsRelayed (disk_in_file file) turns (relay_of old w new_wire empty_lane empty_lane) (Ok summary) new controlled common) one
+      (subst (λ (w : WireState). IsRelayed (disk_in_file file) turns (relay_of old first w empty_lane empty_lane) (Ok summary) new controlled common) other relayed);
 }
 
 -- the fault of an address that is handed on in a failure

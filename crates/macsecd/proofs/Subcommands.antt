@@ -1,15 +1,17 @@
 -- The subcommands of the program: how their words are built, and what each of them is given.
-use Rattle.std.proofs.Common.{◌≡◌, ◌∙◌, ◌<◌, ◌^◌, ◌-◌, ℕ, Bool, true, false, ◌&&◌, ◌||◌, List, [], ◌∷◌, Option, Some, None, codes, refl, ap, ap₂, arith, option_map, if◌then◌else◌}
-use Rattle.std.specs.Prelude.{find, slice_index}
+use Rattle.std.proofs.Common.{◌≡◌, ◌∙◌, ◌↔◌, ◌<◌, ◌^◌, ◌-◌, inl, inr, ℕ, Bool, true, false, ◌&&◌, ◌||◌, List, [], ◌∷◌, Option, Some, None, codes, refl, ap, ap₂, arith, option_map, if◌then◌else◌}
+use Rattle.std.specs.Prelude.{find, slice_index, unwrap_or}
 use Rattle.std.specs.List.{AllByRecursion, slice_index_or}
 use Rattle.std.specs.Option.{option_map_or}
 use Rattle.std.specs.Borrow.{Bor}
+use Rattle.std.specs.Str.{bytes_eq}
+use Rattle.std.proofs.lemmas.Slice.Eq.{bytes_eq-Decides}
 use Rattle.std.specs.Str.Parse.{digits_value, without_leading_plus}
 use Rattle.clap.specs.Built.{AddsArg, AddsSubcommand}
 use Rattle.clap.specs.Simple.{Shape, app_of_fields, argument_words, built, entered, filled, label_of, names_of, on_top, rows_at, with_index}
 use Rattle.clap.specs.Takes.{entered_passes, level_passes, takes, value_passes}
 use Rattle.clap.specs.Values.{IsUnsignedIn}
-use Rattle.clap.specs.Walk.{answers_to, nothing_held, stop_after}
+use Rattle.clap.specs.Walk.{answers_to, first_of, nothing_held, rows_after, stop_after}
 use Rattle.clap.specs.Words.{App, Row, Rule, Text, app_of, fault_of, is_simple, is_simple_and_free, kind_of, new_app, rule_of, subcommand_of, with_rule, with_subcommand}
 use Rattle.clap.specs.declared.builder.arg.Arg.{Arg}
 use Rattle.clap.specs.declared.builder.command.Command.{Command}
@@ -24,7 +26,7 @@ use Rattle.macsecd.specs.declared.action.Action.{Action}
 use Rattle.macsecd.specs.declared.action.Action.TheVariants.{Open, Format, Apply, Show, Protect, Validate, Relay}
 use Rattle.macsecd.specs.declared.action.UsageFault.{UsageFault}
 use Rattle.macsecd.specs.declared.action.UsageFault.TheVariants.{Usage, Memory}
-use Rattle.macsecd.specs.Words.{FitsNumbers, HasNumber, IsClapCommand, IsFaultOf, Names, bare_app, count_rule, macsecd, number_rule, value_rule}
+use Rattle.macsecd.specs.Words.{FitsNumbers, HasNumber, IsClapCommand, IsFaultOf, Names, IsFlagged, bare_app, count_rule, flag_rule, macsecd, number_rule, option_rule, value_rule}
 use Rattle.macsecd.proofs.Given.{AreValueRules, IsValueRule, given}
 use Rattle.macsecd.proofs.Taken.{is_bare_app, taken}
 
@@ -69,7 +71,7 @@ pub blocks : (rows : List Row) (action : Action) → Names (Some (codes "format"
     → (tx_block : ℕ) × (rx_block : ℕ) × HasNumber rows (codes "TX") tx_block × (tx_block < 2 ^ 32)
     × HasNumber rows (codes "RX") rx_block × (rx_block < 2 ^ 32)
 blocks rows Open named fits = cc
-blocks rows (Format disk sci tx_block rx_block) named fits = (tx_block, rx_block, named.3, fits.0, named.4, fits.1)
+blocks rows (Format disk sci tx_block rx_block block is_over) named fits = (tx_block, rx_block, named.3, fits.0, named.4, fits.1)
 blocks rows (Apply disk file) named fits = absurd (omega (arith, ap (λ (t : Text). slice_index t 0) named.0))
 blocks rows (Show disk) named fits = absurd (omega (arith, ap (λ (t : Text). slice_index t 0) named.0))
 blocks rows (Protect disk input output) named fits = absurd (omega (arith, ap (λ (t : Text). slice_index t 0) named.0))
@@ -82,7 +84,7 @@ blocks rows (Relay disk controlled common turns) named fits = absurd (omega (ari
 pub turns_of : (rows : List Row) (action : Action) → Names (Some (codes "relay", rows)) action → FitsNumbers action
     → (turns : ℕ) × HasNumber rows (codes "turns") turns × (turns < 2 ^ 64)
 turns_of rows Open named fits = cc
-turns_of rows (Format disk sci tx_block rx_block) named fits = absurd (omega (arith, ap (λ (t : Text). slice_index t 0) named.0))
+turns_of rows (Format disk sci tx_block rx_block block is_over) named fits = absurd (omega (arith, ap (λ (t : Text). slice_index t 0) named.0))
 turns_of rows (Apply disk file) named fits = absurd (omega (arith, ap (λ (t : Text). slice_index t 0) named.0))
 turns_of rows (Show disk) named fits = absurd (omega (arith, ap (λ (t : Text). slice_index t 0) named.0))
 turns_of rows (Protect disk input output) named fits = absurd (omega (arith, ap (λ (t : Text). slice_index t 0) named.0))
@@ -95,6 +97,10 @@ turns_of rows (Relay disk controlled common turns) named fits = (turns, named.6,
 abbrev text_of : Text → Bor Text
 text_of text = record { ref_ptr = (0, 0); now = text }
 
+texts-back : (text : Option Text) → option_map (λ (t : Bor Text). t.now) (option_map text_of text) ≡ text
+texts-back None = refl
+texts-back (Some text) = refl
+
 -- the subcommand that these shapes have, behind their settings
 abbrev shape_at : ℕ → Shape
 shape_at i = slice_index_or (built macsecd).subs i (built macsecd).top
@@ -105,13 +111,34 @@ IsNamed s = (words : List Text) → level_passes s [] nothing_held words false �
     → (action : Action) × Names (Some (rows_at s words)) action × FitsNumbers action
 
 value-is : (place : ℕ) (name : Text) → IsValueRule (with_index place (filled (value_rule name)))
-value-is place name = record { action = refl; least = refl; defaults = refl; no_short = λ x. refl }
+value-is place name = record { action = inl refl; missing = inl refl; defaults = inl refl; no_short = λ x. refl }
 
 number-is : (place : ℕ) (name : Text) → IsValueRule (with_index place (filled (number_rule name)))
-number-is place name = record { action = refl; least = refl; defaults = refl; no_short = λ x. refl }
+number-is place name = record { action = inl refl; missing = inl refl; defaults = inl refl; no_short = λ x. refl }
 
 count-is : (name : Text) → IsValueRule (filled (count_rule name))
-count-is name = record { action = refl; least = refl; defaults = refl; no_short = λ x. refl }
+count-is name = record { action = inl refl; missing = inl refl; defaults = inl refl; no_short = λ x. refl }
+
+option-is : (name : Text) → IsValueRule (filled (option_rule name))
+option-is name = record { action = inl refl; missing = inl refl; defaults = inl refl; no_short = λ x. refl }
+
+flag-is : (name : Text) → IsValueRule (filled (flag_rule name))
+unfolding clap_on_literals
+flag-is name = record { action = inr refl; missing = inr refl; defaults = inr refl; no_short = λ x. refl }
+
+-- whether an option without a value is used can be told
+abbrev is_flagged : List Row → Text → Bool
+is_flagged rows name = option_map_or (λ text. bytes_eq text (codes "true")) (first_of name rows) false
+
+flagged : (rows : List Row) (name : Text) → IsFlagged rows name (is_flagged rows name)
+flagged rows name = go (first_of name rows)
+  where
+    go : (found : Option Text) → (option_map_or (λ text. bytes_eq text (codes "true")) found false ≡ true) ↔ (found ≡ Some (codes "true"))
+    go None = (λ is. cc, λ is. cc)
+    go (Some text) = (
+      λ is. ap (λ (t : Text). Some t) ((bytes_eq-Decides text (codes "true")).0 is),
+      λ is. (bytes_eq-Decides text (codes "true")).1 (ap (λ (o : Option Text). unwrap_or o text) is),
+    )
 
 -- a value that passed as a number is one
 number-read : (place : ℕ) (name : Text) (text : Text) → value_passes (with_index place (filled (number_rule name))) text ≡ true
@@ -128,8 +155,17 @@ format-named : IsNamed (shape_at 1)
 unfolding clap_on_literals
 format-named words passes =
     let rules : AreValueRules (shape_at 1).rules = record {
-      each = (value-is 1 (codes "DISK"), (value-is 2 (codes "SCI"), (number-is 3 (codes "TX"), (number-is 4 (codes "RX"), tt))));
-      own = (refl, (refl, (refl, (refl, tt))));
+      each = (
+        value-is 1 (codes "DISK"),
+        (
+          value-is 2 (codes "SCI"),
+          (
+            number-is 3 (codes "TX"),
+            (number-is 4 (codes "RX"), (option-is (codes "block"), (flag-is (codes "over"), tt))),
+          ),
+        ),
+      );
+      own = (refl, (refl, (refl, (refl, (refl, (refl, tt))))));
     } in
     let disk = given (shape_at 1) words (with_index 1 (filled (value_rule (codes "DISK")))) rules refl passes refl refl in
     let sci = given (shape_at 1) words (with_index 2 (filled (value_rule (codes "SCI")))) rules refl passes refl refl in
@@ -140,9 +176,18 @@ format-named words passes =
     let tx_block = digits_value 10 (without_leading_plus tx.0) in
     let rx_block = digits_value 10 (without_leading_plus rx.0) in
     let tx_fits : tx_block < 2 ^ 32 = omega (arith, tx_in.3) in
-    let rx_fits : rx_block < 2 ^ 32 = omega (arith, rx_in.3) in (
-      Format (text_of disk.0) (text_of sci.0) tx_block rx_block,
-      (refl, disk.1, sci.1, (tx.0, tx.1, tx_in.0, refl), (rx.0, rx.1, rx_in.0, refl)),
+    let rx_fits : rx_block < 2 ^ 32 = omega (arith, rx_in.3) in
+    let rows = rows_after (shape_at 1).rules [] words in (
+      Format (text_of disk.0) (text_of sci.0) tx_block rx_block (option_map text_of (first_of (codes "block") rows)) (is_flagged rows (codes "over")),
+      (
+        refl,
+        disk.1,
+        sci.1,
+        (tx.0, tx.1, tx_in.0, refl),
+        (rx.0, rx.1, rx_in.0, refl),
+        texts-back (first_of (codes "block") rows),
+        flagged rows (codes "over"),
+      ),
       (tx_fits, rx_fits),
     )
 

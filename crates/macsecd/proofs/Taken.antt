@@ -1,13 +1,13 @@
--- Words in which clap finds no fault are taken, where no argument has a default or a rule on another one.
-use Rattle.std.proofs.Common.{◌≡◌, ◌∙◌, ℕ, zero, suc, Bool, true, false, not, ◌&&◌, ◌||◌, List, [], ◌∷◌, length, codes, Option, Some, None, is_some, if◌then◌else◌, refl, ap, arith}
+-- Words in which clap finds no fault are taken, where each default passes and no argument has a rule on another one.
+use Rattle.std.proofs.Common.{◌≡◌, ◌∙◌, ℕ, zero, suc, Bool, true, false, not, ◌&&◌, ◌||◌, List, [], ◌∷◌, length, codes, Option, Some, None, is_some, if◌then◌else◌, refl, ap, sym, arith}
 use Rattle.std.specs.Prelude.{drop, encode_utf8, find, nat_le, slice_get}
 use Rattle.std.specs.List.{list_all, list_any}
 use Rattle.std.specs.Option.{option_map_or}
 use Rattle.std.specs.Str.{bytes_eq, chars}
 use Rattle.clap.specs.Facts.{explicit_source, parser_of_value, unwrap_or_range}
 use Rattle.clap.specs.Lexer.{long_of, short_of}
-use Rattle.clap.specs.Kinds.{Kinds, check_kinds, or_else, range_kinds, value_kinds}
-use Rattle.clap.specs.Values.{refused_kind}
+use Rattle.clap.specs.Kinds.{Kinds, check_kinds, or_else, range_kinds, request_kinds, value_kinds}
+use Rattle.clap.specs.Values.{is_request, refused_kind}
 use Rattle.clap.specs.Faults.{action_fault, bundle_fault, bundle_step_fault, check_fault, count_fault, default_fault, defaults_fault, entered_fault, fault_of, flag_word_fault, flags_fault, given_default_fault, level_fault, long_fault, option_fault, other_fault, positional_fault, react_fault, set_fault, settle_fault, short_fault, step_fault, stray_fault, turn_fault, use_fault, values_fault, walk_fault, word_fault}
 use Rattle.clap.specs.Takes.{action_passes, bundle_passes, bundle_step_passes, count_passes, default_passes, entered_passes, flag_word_passes, flags_pass, is_given, is_valid, level_passes, long_passes, option_passes, other_passes, positional_passes, react_passes, set_passes, settle_passes, short_passes, step_passes, takes, turn_passes, use_passes, value_passes, values_pass, walk_passes, word_passes}
 use Rattle.clap.specs.Simple.{App, Shape, argument_words, built, entered, is_simple, label_of, names_of}
@@ -226,16 +226,37 @@ same-walk s names w (word ∷ rest) = both-none _ _ _ _ (same-turn s names w wor
 
 -- ---- a level
 
--- an argument without a default and without a rule on another one
+-- an argument whose default passes, if it has one, and that has no rule on another one
 abbrev is_bare : Rule → Bool
-is_bare a = is_empty a.defaults && a.is_free
+is_bare a = default_passes a && a.is_free
 
-no-default : (rows : List Row) (a : Rule) → is_empty a.defaults ≡ true → default_fault rows a ≡ []
-no-default rows a empty = rw empty (go (has_row a.id rows))
+none-empty : (ks : Kinds) → none ks ≡ true → ks ≡ []
+none-empty [] is = refl
+none-empty (k ∷ ks) is = cc
+
+no-request : (x : ArgAction) → not (is_request x) ≡ true → request_kinds x ≡ []
+no-request action.Set is = refl
+no-request action.Append is = refl
+no-request action.SetTrue is = refl
+no-request action.SetFalse is = refl
+no-request action.Count is = refl
+no-request action.Help is = cc
+no-request action.HelpShort is = cc
+no-request action.HelpLong is = cc
+no-request action.Version is = cc
+
+no-default : (rows : List Row) (a : Rule) → default_passes a ≡ true → default_fault rows a ≡ []
+no-default rows a passes = go (has_row a.id rows) (is_empty a.defaults) passes
   where
-    go : (has : Bool) → (if has || true then [] else given_default_fault a a.defaults) ≡ []
-    go true = refl
-    go false = refl
+    go : (has empty : Bool) → (empty || (not (is_request (action_of a)) && values_pass a a.defaults)) ≡ true
+        → (if has || empty then [] else given_default_fault a a.defaults) ≡ []
+    go true empty passes = refl
+    go false true passes = refl
+    go false false passes =
+        let parts = both _ _ passes in
+        let request = no-request (action_of a) parts.0 in
+        let values = none-empty (values_fault a a.defaults) (sym (same-values a a.defaults) ∙ parts.1) in
+        rw (request, values) refl
 
 no-defaults : (rows : List Row) (rules : List Rule) → list_all is_bare rules ≡ true → defaults_fault rows rules ≡ []
 unfolding defaults_fault
@@ -249,9 +270,9 @@ defaults-pass : (rules : List Rule) → list_all is_bare rules ≡ true → list
 defaults-pass [] bare = refl
 defaults-pass (a ∷ rest) bare =
     let parts = both _ _ bare in
-    let empty : is_empty a.defaults ≡ true = (both _ _ parts.0).0 in
+    let here : default_passes a ≡ true = (both _ _ parts.0).0 in
     let others : list_all default_passes rest ≡ true = defaults-pass rest parts.1 in
-    rw (empty, others) refl
+    rw (here, others) refl
 
 rules-free : (rules : List Rule) → list_all is_bare rules ≡ true → list_all (λ a. a.is_free) rules ≡ true
 rules-free [] bare = refl
@@ -305,7 +326,7 @@ same-level s names h words has below bare =
 abbrev has_bare_rules : Shape → Bool
 has_bare_rules s = list_all is_bare s.rules
 
--- no argument of the commands has a default or a rule on another one
+-- each default of the commands passes, and no argument has a rule on another one
 abbrev pub is_bare_app : App → Bool
 is_bare_app a = has_bare_rules a.top && list_all has_bare_rules a.subs
 

@@ -35,15 +35,16 @@ abbrev pub failure_of_words : UsageFault → Failure
 failure_of_words (usage.Usage cause) = failure.Usage cause
 failure_of_words usage.Memory = failure.Memory
 
--- a disk file that does not open, whose length does not serve, or want of memory
-abbrev pub failure_of_file : FileFault → Failure
-failure_of_file file.Open = failure.Disk disk.File
-failure_of_file file.Length = failure.Disk disk.Length
-failure_of_file file.Memory = failure.Memory
-
 -- a fault of the journal on the disk
 abbrev pub failure_of_journal : JournalFault → Failure
 failure_of_journal fault = failure.Disk (disk.Journal fault)
+
+-- a disk file that does not open, whose length does not serve, that the device fails, or want of memory
+abbrev pub failure_of_file : FileFault → Failure
+failure_of_file file.Open = failure.Disk disk.File
+failure_of_file file.Length = failure.Disk disk.Length
+failure_of_file file.Device = failure_of_journal journal.Disk
+failure_of_file file.Memory = failure.Memory
 
 -- a command file that is wrong, or want of memory
 abbrev pub failure_of_commands : ConfigFault → Failure
@@ -75,6 +76,7 @@ abbrev pub value_fault_text : ValueFault → List ℕ
 value_fault_text value.Sci = codes "SCI is not 16 hex digits"
 value_fault_text value.TxBlock = codes "TX is not 1 to 65536"
 value_fault_text value.RxBlock = codes "RX is not 1 to 65536"
+value_fault_text value.DeviceBlock = codes "--block is not 512 or 4096"
 
 -- an address of a wire
 abbrev pub address_fault_text : AddressFault → List ℕ

@@ -6,7 +6,9 @@ pub mod Request
 pub mod Answer
 pub mod Values
 pub mod Addresses
+pub mod Contents
 pub mod Failing
+pub mod NewDisks
 pub mod Showing
 pub mod Applying
 pub mod Summing

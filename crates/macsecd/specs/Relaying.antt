@@ -2,6 +2,7 @@
 use Rattle.std.specs.Prelude.{◌≡◌, ◌⊎◌, ⊤, ℕ, None, Ok, Err}
 use Rattle.macs_disk.specs.Disk.{Disk}
 use Rattle.macs_disk.specs.FileDisks.{disk_in_file}
+use Rattle.macs_disk.specs.Files.{FileState}
 use Rattle.macs_disk.specs.declared.file.FileDisk.{FileDisk}
 use Rattle.macs_edge.specs.Relaying.{IsRelayed, Relay, empty_lane, relay_of}
 use Rattle.macs_edge.specs.Wires.{WireState}
@@ -16,13 +17,14 @@ use Rattle.macsecd.specs.declared.failure.Failure.TheVariants as failures
 abbrev pub new_wire : WireState
 new_wire = record { waiting = None; sent = None; failed_receives = 0; failed_sends = 0 }
 
--- a relay in so many turns comes to this summary: of an endpoint on a disk in a file, between two new wires
-pub record ComesTo (F : Type 0) (turns : ℕ) (summary : RelaySummary) : Type 0 where
+-- a relay in so many turns comes to this summary: of an endpoint on a disk in a file, where this is what a file is, between two new
+-- wires
+pub record ComesTo {F : Type 0} (file : F → FileState) (turns : ℕ) (summary : RelaySummary) : Type 0 where
   pub old : EndpointValue (FileDisk F)
   pub new : EndpointValue (FileDisk F)
   pub controlled : WireState
   pub common : WireState
-  pub relayed : IsRelayed disk_in_file turns (relay_of old new_wire new_wire empty_lane empty_lane) (Ok summary) new controlled common
+  pub relayed : IsRelayed (disk_in_file file) turns (relay_of old new_wire new_wire empty_lane empty_lane) (Ok summary) new controlled common
 
 -- how a relay fails: with the fault that has the name of a step's; or all turns are taken, and its line cannot be written
 abbrev pub EndsRelay : {D : Type 0} → (D → Disk) → ℕ → Relay D → Failure → EndpointValue D → WireState → WireState → Type 0

@@ -1,10 +1,10 @@
 -- The words that the program knows, the action that they name, and those that ask for help.
-use Rattle.std.specs.Prelude.{◌≡◌, ◌≢◌, ◌⊎◌, ◌<◌, ◌-◌, ◌^◌, ℕ, ⊤, map, true, false, List, [], ◌∷◌, ◌++◌, Option, Some, None, codes, string_bytes}
+use Rattle.std.specs.Prelude.{◌≡◌, ◌≢◌, ◌↔◌, ◌⊎◌, ◌<◌, ◌-◌, ◌^◌, ℕ, ⊤, map, Bool, true, false, List, [], ◌∷◌, ◌++◌, Option, Some, None, codes, option_map, string_bytes}
 use Rattle.std.specs.Str.Parse.{IsNumeral, digits_value, without_leading_plus}
 use Rattle.std.specs.Borrow.{Bor}
 use Rattle.clap.specs.Simple.{new_shape, on_top}
 use Rattle.clap.specs.Words.{App, Row, Rule, Shape, Text, app_of, first_of, kind_of, new_app, new_rule, with_subcommand}
-use Rattle.clap.specs.declared.builder.action.ArgAction.TheVariants.{Set}
+use Rattle.clap.specs.declared.builder.action.ArgAction.TheVariants.{Set, SetTrue}
 use Rattle.clap.specs.declared.builder.value_parser.ValueParser.TheVariants as vp
 use Rattle.clap.specs.declared.builder.command.Command.{Command}
 use Rattle.clap.specs.declared.builder.command.Command.TheViews.{out-Command as fields_of}
@@ -38,6 +38,14 @@ number_rule name = record (value_rule name) { parser = Some (vp.Unsigned 0 (2 ^ 
 abbrev pub count_rule : Text → Rule
 count_rule name = record (value_rule name) { long = Some name; parser = Some (vp.Unsigned 0 (2 ^ 64 - 1)) }
 
+-- an option of this name that need not be given: a text
+abbrev pub option_rule : Text → Rule
+option_rule name = record (new_rule name) { long = Some name; action = Some Set }
+
+-- an option of this name without a value
+abbrev pub flag_rule : Text → Rule
+flag_rule name = record (new_rule name) { long = Some name; action = Some SetTrue }
+
 -- a subcommand with the values that it takes, in their order
 abbrev pub subcommand_with : Text → List Rule → Shape
 subcommand_with name rules = record (new_shape name) { rules = rules }
@@ -46,7 +54,8 @@ subcommand_with name rules = record (new_shape name) { rules = rules }
 abbrev pub first_subcommands : List Shape
 first_subcommands =
     subcommand_with (codes "open") []
-    ∷ subcommand_with (codes "format") (value_rule (codes "DISK") ∷ value_rule (codes "SCI") ∷ number_rule (codes "TX") ∷ number_rule (codes "RX") ∷ [])
+    ∷ subcommand_with (codes "format") (value_rule (codes "DISK") ∷ value_rule (codes "SCI") ∷ number_rule (codes "TX") ∷ number_rule (codes "RX")
+    ∷ option_rule (codes "block") ∷ flag_rule (codes "over") ∷ [])
     ∷ subcommand_with (codes "apply") (value_rule (codes "DISK") ∷ value_rule (codes "FILE") ∷ [])
     ∷ subcommand_with (codes "show") (value_rule (codes "DISK") ∷ [])
     ∷ []
@@ -93,13 +102,22 @@ HasNumber values name number =
     (text : Text) × (first_of name values ≡ Some text)
     × IsNumeral 10 (without_leading_plus text) × (number ≡ digits_value 10 (without_leading_plus text))
 
+-- the value of this name is this text, where it is given
+abbrev pub MayHaveText : List Row → Text → Option (Bor Text) → Type 0
+MayHaveText values name text = option_map (λ t. t.now) text ≡ first_of name values
+
+-- the option without a value is used
+abbrev pub IsFlagged : List Row → Text → Bool → Type 0
+IsFlagged values name is = (is ≡ true) ↔ HasText values name (codes "true")
+
 -- the subcommand with its values names the action; no subcommand is `open`
 abbrev pub Names : Option (Text × List Row) → Action → Type 0
 Names None action = action ≡ Open
 Names (Some found) Open = found.0 ≡ codes "open"
-Names (Some found) (Format disk sci tx_block rx_block) =
+Names (Some found) (Format disk sci tx_block rx_block block is_over) =
     (found.0 ≡ codes "format") × HasText found.1 (codes "DISK") disk.now × HasText found.1 (codes "SCI") sci.now
     × HasNumber found.1 (codes "TX") tx_block × HasNumber found.1 (codes "RX") rx_block
+    × MayHaveText found.1 (codes "block") block × IsFlagged found.1 (codes "over") is_over
 Names (Some found) (Apply disk file) =
     (found.0 ≡ codes "apply") × HasText found.1 (codes "DISK") disk.now × HasText found.1 (codes "FILE") file.now
 Names (Some found) (Show disk) = (found.0 ≡ codes "show") × HasText found.1 (codes "DISK") disk.now
@@ -117,7 +135,7 @@ Names (Some found) (Relay disk controlled common turns) =
 
 -- the numbers of the action, if it has any, have so many bits
 abbrev pub FitsNumbers : Action → Type 0
-FitsNumbers (Format disk sci tx_block rx_block) = (tx_block < 2 ^ 32) × (rx_block < 2 ^ 32)
+FitsNumbers (Format disk sci tx_block rx_block block is_over) = (tx_block < 2 ^ 32) × (rx_block < 2 ^ 32)
 FitsNumbers (Relay disk controlled common turns) = turns < 2 ^ 64
 FitsNumbers action = ⊤
 

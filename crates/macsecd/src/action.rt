@@ -1,9 +1,10 @@
 //! What the program's words ask for.
 
-ghost use Rattle.std.specs.Prelude.{◌≡◌, ◌<◌, ◌^◌, ℕ, IfOk, IfErr, IfSome, IsSome, OnOk, Some, true, false, [], codes, option_map, string_bytes};
+ghost use Rattle.std.specs.Prelude.{◌≡◌, ◌↔◌, ◌<◌, ◌^◌, ℕ, IfOk, IfErr, IfSome, IsSome, IsTrue, OnOk, Some, true, false, [], codes, option_map, string_bytes};
 ghost use Rattle.clap.specs.Words.{Text, app_of, fault_of, first_of, found_of, new_app, rows_of, rule_of, subcommand_of, subcommand_rows_of, takes, with_rule};
 ghost use Rattle.macsecd.specs.Controls.{IsPrintable};
 ghost use Rattle.macsecd.specs.Words.{FitsNumbers, HasNumber, HasPrintableCause, HasText, IsClapCommand, IsFaultOf, Names, bare_app, count_rule, first_subcommands, frame_subcommands, macsecd, number_rule, texts, value_rule, with_subcommands};
+ghost use Rattle.macsecd.specs.Words.{flag_rule, option_rule};
 
 use crate::plain_text::printable;
 use clap::builder::ValueParser;
@@ -16,12 +17,17 @@ use std::alloc::{AllocError, Global};
 pub enum Action<'a> {
     /// Opens one protected frame: `open`, or no word.
     Open,
-    /// Makes a disk file for an endpoint: `format DISK SCI TX RX`. The blocks are 0 to 2^32 - 1 here.
+    /// Makes a disk file for an endpoint: `format DISK SCI TX RX`, and `--block` and `--over` where
+    /// they are given. The blocks of packet numbers are 0 to 2^32 - 1 here.
     Format {
         disk: &'a str,
         sci: &'a str,
         tx_block: u32,
         rx_block: u32,
+        /// The block of the device, in octets, where it is given.
+        block: Option<&'a str>,
+        /// Whether what else the file holds may be lost.
+        is_over: bool,
     },
     /// Applies the commands of a file: `apply DISK FILE`.
     Apply {
@@ -98,6 +104,22 @@ fn number<'a>(alloc: Global, name: &'a str) -> Arg<'a>
     value(alloc, name).value_parser(ValueParser::unsigned(0, 4_294_967_295))
 }
 
+/// A value that may be given behind its name.
+fn option<'a>(alloc: Global, name: &'a str) -> Arg<'a>
+    ensures rule { rule_of result ≡ option_rule name.entry.now }
+    ensures local { result.global ≡ false }
+{
+    Arg::new(alloc, name).long(name).action(ArgAction::Set)
+}
+
+/// An option without a value.
+fn flag<'a>(alloc: Global, name: &'a str) -> Arg<'a>
+    ensures rule { rule_of result ≡ flag_rule name.entry.now }
+    ensures local { result.global ≡ false }
+{
+    Arg::new(alloc, name).long(name).action(ArgAction::SetTrue)
+}
+
 /// The words of `open`: none of its own.
 fn open_words<'a>(alloc: Global) -> Command<'a>
     ensures { IsClapCommand result (new_app (codes "open")) }
@@ -107,15 +129,17 @@ fn open_words<'a>(alloc: Global) -> Command<'a>
 
 /// The words of `format`.
 fn format_words<'a>(alloc: Global) -> Result<Command<'a>, AllocError>
-    ensures { IfOk result (λ command. IsClapCommand command (with_rule (with_rule (with_rule (with_rule
-        (new_app (codes "format")) (value_rule (codes "DISK"))) (value_rule (codes "SCI")))
-        (number_rule (codes "TX"))) (number_rule (codes "RX")))) }
+    ensures { IfOk result (λ command. IsClapCommand command (with_rule (with_rule (with_rule (with_rule (with_rule
+        (with_rule (new_app (codes "format")) (value_rule (codes "DISK"))) (value_rule (codes "SCI")))
+        (number_rule (codes "TX"))) (number_rule (codes "RX"))) (option_rule (codes "block"))) (flag_rule (codes "over")))) }
 {
     Command::new(alloc, "format")
         .arg(value(alloc, "DISK"))?
         .arg(value(alloc, "SCI"))?
         .arg(number(alloc, "TX"))?
-        .arg(number(alloc, "RX"))
+        .arg(number(alloc, "RX"))?
+        .arg(option(alloc, "block"))?
+        .arg(flag(alloc, "over"))
 }
 
 /// The words of `apply`.
@@ -259,6 +283,13 @@ fn count_in(values: &ArgMatches, name: &str) -> Option<u64>
     text_in(values, name)?.parse().ok()
 }
 
+/// Whether an option without a value is among the words.
+fn is_flagged(values: &ArgMatches, name: &str) -> bool
+    ensures { IsTrue result ↔ HasText (rows_of (found_of values.now)) name.now (codes "true") }
+{
+    text_in(values, name) == Some("true")
+}
+
 /// `format` with its values.
 fn format_in<'a>(values: &ArgMatches<'a>) -> Option<Action<'a>>
     ensures read { IfSome result (λ action. Names (Some (codes "format", rows_of (found_of values.now))) action) }
@@ -274,6 +305,8 @@ fn format_in<'a>(values: &ArgMatches<'a>) -> Option<Action<'a>>
         sci,
         tx_block,
         rx_block,
+        block: text_in(values, "block"),
+        is_over: is_flagged(values, "over"),
     })
 }
 

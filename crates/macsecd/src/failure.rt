@@ -15,7 +15,8 @@ use std::alloc::AllocError;
 /// What is wrong with a disk file.
 #[derive(Clone, Copy, Debug, PartialEq, Eq)]
 pub enum DiskFault {
-    /// It cannot be opened, made, lengthened or synced, or another program has claimed it.
+    /// It cannot be opened or made, another program has claimed it, or it has no room; or its name
+    /// cannot be made durable; or a new endpoint would be written over something else.
     File,
     /// It is not a whole number of sectors of 512 octets.
     Length,
@@ -191,6 +192,7 @@ impl From<FileFault> for Failure {
         match fault {
             FileFault::Open => Failure::Disk(DiskFault::File),
             FileFault::Length => Failure::Disk(DiskFault::Length),
+            FileFault::Device => JournalFault::Disk.into(),
             FileFault::Memory => Failure::Memory,
         }
     }

@@ -1,25 +1,25 @@
 //! The files that the words name.
 
-ghost use Rattle.std.specs.Prelude.{◌≡◌, ◌≢◌, ◌⊎◌, ℕ, List, IfErr, IfOk, IfSome};
+ghost use Rattle.std.specs.Prelude.{◌≡◌, ◌≢◌, ◌⊎◌, false, true, ℕ, List, IfErr, IfOk, IfSome};
 ghost use Rattle.std.specs.IoError.{error_kind};
 ghost use Rattle.std.specs.declared.io.ErrorKind.TheVariants.{OutOfMemory};
 ghost use Rattle.macsecd.specs.Applying.{SaysCommands};
 ghost use Rattle.macsecd.specs.declared.failure.DiskFault.{DiskFault};
 
 use crate::applying::{MAX_FILE, commands_in};
+use crate::capture_file::CaptureFile;
+use crate::contents::holds_endpoint;
 use crate::failure::Failure;
 use crate::whole_writes::WholeWrites;
-use macs_config::{Command, Identity};
+use macs_config::Command;
 use macs_disk::{DiskFile, FileDisk};
 use macs_endpoint::Endpoint;
 use macs_pcap::{ReaderSource, WriterSink};
 use std::alloc::Global;
+use std::fs::{OpenFile, OpenOptions};
 use std::io::{BufReader, BufWriter, Read, Write};
 use std::rt::Files;
 use std::{fs, io};
-
-/// How many sectors the disk of a new endpoint has at least.
-const SECTORS: u64 = 1_028;
 
 /// One octet more than the longest command file.
 const MAX_READ: usize = MAX_FILE + 1;
@@ -35,7 +35,7 @@ pub type CaptureSource<F> = ReaderSource<BufReader<F>>;
 pub type CaptureSink<F> = WriterSink<WholeWrites<F>>;
 
 /// The failure that an error of the system is: want of memory, or else this one.
-fn failure_of(error: io::Error, failure: Failure) -> Failure
+pub fn failure_of(error: io::Error, failure: Failure) -> Failure
     ensures memory { error_kind error ≡ OutOfMemory → result ≡ Failure.Memory }
     ensures other { error_kind error ≢ OutOfMemory → result ≡ failure }
 {
@@ -58,20 +58,6 @@ where
         Ok(endpoint) => Ok(endpoint),
         Err(refused) => Err(Failure::from(refused.fault)),
     }
-}
-
-/// Makes the disk in a file that of a new endpoint. Where there is no file it is made, and a short one is
-/// lengthened. It fails as `Memory`, or as `Disk` with `File` or `Length`, where the file is no disk; then as
-/// `Disk` with the fault of the journal, `AlreadyFormatted` where it has an endpoint.
-pub fn format_disk<T: Files>(rt: &T, path: &str, identity: &Identity) -> Result<(), Failure>
-where
-    T::File: DiskFile,
-    ensures { IfErr result (λ failure. (failure ≡ Failure.Memory)
-        ⊎ ((fault : DiskFault) × (failure ≡ Failure.Disk fault))) }
-{
-    let mut disk = FileDisk::create(rt, path, SECTORS)?;
-    macs_endpoint::format(&mut disk, identity)?;
-    Ok(())
 }
 
 /// The commands of a file that is open, of which no more is read than can be of use.
@@ -124,31 +110,97 @@ fn writer_of<F: Write + Drop>(alloc: Global, file: F) -> Result<WholeWrites<F>, 
     }
 }
 
-/// A capture that is read from a file. It fails as `Memory` where memory is wanting, the system's or the
-/// program's, and else as `Capture`, where the file cannot be opened. Nothing is read yet.
+/// Opens a file to read it as a capture. A regular file is claimed beside other readers, so that it
+/// is no output.
+fn open_source<T: Files>(rt: &T, path: &str) -> io::Result<T::File>
+where
+    T::File: CaptureFile,
+{
+    let mut file = fs::open(rt, path)?;
+    if file.metadata()?.is_file() {
+        file.share()?;
+    }
+    Ok(file)
+}
+
+/// How a capture is opened to be written. What the file holds stays.
+fn how_to_write() -> OpenOptions
+    ensures keeps { result.truncate ≡ false }
+    ensures made { result.create ≡ true }
+    ensures written { (result.read ≡ false) × (result.write ≡ true) × (result.append ≡ false) }
+{
+    let mut options = OpenOptions::new();
+    options
+        .read(false)
+        .write(true)
+        .create(true)
+        .append(false)
+        .truncate(false);
+    options
+}
+
+/// Whether the file at a path holds an endpoint. One that may be written and not read is taken for
+/// none.
+fn is_endpoint<T: Files>(rt: &T, path: &str) -> io::Result<bool>
+where
+    T::File: CaptureFile,
+{
+    match fs::open(rt, path) {
+        Ok(mut file) => holds_endpoint(&mut file),
+        Err(error) if error.kind() == io::ErrorKind::PermissionDenied => Ok(false),
+        Err(error) => Err(error),
+    }
+}
+
+/// Opens a file to write it as a capture, or makes it. A regular file is claimed and looked at
+/// before it is cut to nothing: where another open has claimed it, or it holds an endpoint, that is
+/// an error, and no octet is changed.
+fn open_sink<T: Files>(rt: &T, path: &str) -> io::Result<T::File>
+where
+    T::File: CaptureFile,
+{
+    let mut file = how_to_write().open(rt, path)?;
+    if file.metadata()?.is_file() {
+        file.claim()?;
+        if is_endpoint(rt, path)? {
+            return Err(io::Error::from(io::ErrorKind::AlreadyExists));
+        }
+        file.set_len(0)?;
+    }
+    Ok(file)
+}
+
+/// A capture that is read from a file. It fails as `Memory` where memory is wanting, the system's
+/// or the program's, and else as `Capture`, where the file cannot be opened, or is claimed by who
+/// writes it: so where it is the disk file. Nothing is read yet.
 pub fn open_capture<T: Files>(
     rt: &T,
     alloc: Global,
     path: &str,
 ) -> Result<CaptureSource<T::File>, Failure>
+where
+    T::File: CaptureFile,
     ensures { IfErr result (λ failure. (failure ≡ Failure.Memory) ⊎ (failure ≡ Failure.Capture)) }
 {
-    match fs::open(rt, path) {
+    match open_source(rt, path) {
         Ok(file) => Ok(ReaderSource::new(reader_of(alloc, file)?)),
         Err(error) => Err(failure_of(error, Failure::Capture)),
     }
 }
 
-/// A capture that is written to a file, which is made, or cut to nothing. It fails as `Memory` where memory
-/// is wanting, the system's or the program's, and else as `Capture`, where the file cannot be made.
+/// A capture that is written to a file, which is made, or cut to nothing. It fails as `Memory`
+/// where memory is wanting, the system's or the program's, and else as `Capture`, where the file
+/// cannot be made, is another file of the run, or holds an endpoint: then it is left as it is.
 pub fn make_capture<T: Files>(
     rt: &T,
     alloc: Global,
     path: &str,
 ) -> Result<CaptureSink<T::File>, Failure>
+where
+    T::File: CaptureFile,
     ensures { IfErr result (λ failure. (failure ≡ Failure.Memory) ⊎ (failure ≡ Failure.Capture)) }
 {
-    match fs::create(rt, path) {
+    match open_sink(rt, path) {
         Ok(file) => Ok(WriterSink::new(writer_of(alloc, file)?)),
         Err(error) => Err(failure_of(error, Failure::Capture)),
     }

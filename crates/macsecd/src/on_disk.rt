@@ -1,8 +1,9 @@
 //! What each subcommand does that has a disk file.
 
-ghost use Rattle.std.specs.Prelude.{◌≡◌, ◌≢◌, ◌⊎◌, ◌↔◌, List, Option, codes, Err, IfErr, IfOk};
+ghost use Rattle.std.specs.Prelude.{◌≡◌, ◌≢◌, ◌⊎◌, ◌↔◌, List, Option, codes, option_map, Err, IfErr, IfOk};
 ghost use Rattle.std.specs.Io.KnownBytes.{Appends};
 ghost use Rattle.macs_config.specs.Identity.{Identity};
+ghost use Rattle.macs_disk.specs.declared.layout.Layout.{Layout};
 ghost use Rattle.macs_config.specs.declared.refusal.Refusal.{Refusal};
 ghost use Rattle.macs_edge.specs.declared.passing.Summary.{Summary};
 ghost use Rattle.macs_edge.specs.declared.relaying.RelaySummary.{RelaySummary};
@@ -14,21 +15,23 @@ ghost use Rattle.macsecd.specs.Failing.{failure_status};
 ghost use Rattle.macsecd.specs.Relaying.{ComesTo, IsOfRelay};
 ghost use Rattle.macsecd.specs.Showing.{line, show_text};
 ghost use Rattle.macsecd.specs.Summing.{relay_line, summary_line};
-ghost use Rattle.macsecd.specs.Values.{SpellsIdentity, ValueFaultHolds};
+ghost use Rattle.macsecd.specs.Values.{SpellsIdentity, SpellsLayout, ValueFaultHolds};
 ghost use Rattle.macsecd.specs.declared.addresses.AddressFault.{AddressFault};
 ghost use Rattle.macsecd.specs.declared.values.ValueFault.{ValueFault};
 
 use crate::action::WireEnds;
 use crate::addresses::addresses_of;
 use crate::applying::apply_commands;
+use crate::capture_file::CaptureFile;
 use crate::capturing::{Direction, pass_frames};
 use crate::failure::Failure;
-use crate::files::{commands_of_file, format_disk, make_capture, open_capture, open_endpoint};
+use crate::files::{commands_of_file, make_capture, open_capture, open_endpoint};
+use crate::new_disk::{NewFile, format_disk};
 use crate::output::print;
 use crate::relaying::{bind, relay_frames};
 use crate::showing::show_lines;
 use crate::status::Status;
-use crate::values::identity_of;
+use crate::values::given_by;
 use macs_disk::DiskFile;
 use std::alloc::Global;
 use std::io::Write;
@@ -38,22 +41,30 @@ use std::rt::Files;
 /// `format`: makes a disk file for an endpoint.
 pub fn format<T: Files, W: Write>(
     rt: &T,
+    alloc: Global,
     disk: &str,
     sci: &str,
     tx_block: u32,
     rx_block: u32,
+    block: Option<&str>,
+    is_over: bool,
     out: &mut W,
 ) -> Result<Status, Failure>
 where
     T::File: DiskFile,
     ensures printed { IfOk result (λ status. (identity : Identity) × SpellsIdentity sci.now tx_block rx_block identity
+        × (layout : Layout) × SpellsLayout (option_map (λ text. text.now) block.entry) layout
         × Appends (W.contents out.old) (W.contents out.new) (line (codes "formatted")) × (status ≡ Status.Done)) }
-    ensures usage { IfErr result (λ failure. failure_status failure ≡ Status.Usage
-        → ((fault : ValueFault) × ValueFaultHolds sci.now tx_block rx_block fault) × (out.new ≡ out.old)) }
+    ensures usage { IfErr result (λ failure. failure_status failure ≡ Status.Usage → ((fault : ValueFault)
+        × ValueFaultHolds sci.now tx_block rx_block (option_map (λ text. text.now) block.entry) fault) × (out.new ≡ out.old)) }
     ensures silent { IfErr result (λ failure. failure ≢ Failure.Output → out.new ≡ out.old) }
 {
-    let identity = identity_of(sci, tx_block, rx_block)?;
-    format_disk(rt, disk, &identity)?;
+    let given = given_by(sci, tx_block, rx_block, block)?;
+    let how = NewFile {
+        layout: given.layout,
+        is_over,
+    };
+    format_disk(rt, alloc, disk, how, &given.identity)?;
     print(out, "formatted\n")?;
     Ok(Status::Done)
 }
@@ -111,7 +122,7 @@ pub fn pass<T: Files, W: Write>(
     out: &mut W,
 ) -> Result<Status, Failure>
 where
-    T::File: DiskFile,
+    T::File: CaptureFile,
     ensures printed { IfOk result (λ status. (summary : Summary)
         × Appends (W.contents out.old) (W.contents out.new) (summary_line direction summary) × (status ≡ Status.Done)) }
     ensures failed { IfErr result (λ failure. failure_status failure ≢ Status.Usage) }
@@ -135,7 +146,7 @@ pub fn relay<T: Files + Net, W: Write>(
 ) -> Result<Status, Failure>
 where
     T::File: DiskFile,
-    ensures printed { IfOk result (λ status. (summary : RelaySummary) × ComesTo T.File turns summary
+    ensures printed { IfOk result (λ status. (summary : RelaySummary) × ComesTo T.File.file turns summary
         × SpellsBoth controlled.entry common.entry
         × Appends (W.contents out.old) (W.contents out.new) (relay_line summary) × (status ≡ Status.Done)) }
     ensures address { (fault : AddressFault) → (result ≡ Err (Failure.Address fault))

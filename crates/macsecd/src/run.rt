@@ -12,6 +12,7 @@ ghost use Rattle.macsecd.specs.declared.status.Status.{Status};
 
 use crate::action::{Action, action_of};
 use crate::answer::{Answer, answer_of};
+use crate::capture_file::CaptureFile;
 use crate::capturing::Direction;
 use crate::failure::Failure;
 use crate::help::topic_of;
@@ -20,7 +21,6 @@ use crate::output::print;
 use crate::request::InputFault;
 use crate::status::Status;
 use arrayvec::ArrayVec;
-use macs_disk::DiskFile;
 use std::alloc::{AllocError, Allocator, Global};
 use std::io;
 use std::io::{Read, Write};
@@ -79,8 +79,8 @@ fn perform<T: Files + Net, R: Read, W: Write>(
     out: &mut W,
 ) -> Result<Status, Failure>
 where
-    T::File: DiskFile,
-    ensures does { IfOk result (Does T.File action.entry (R.remaining input.old) (W.contents out.old) (W.contents out.new)) }
+    T::File: CaptureFile,
+    ensures does { IfOk result (Does T.File.file action.entry (R.remaining input.old) (W.contents out.old) (W.contents out.new)) }
     ensures status { IfOk result (λ status. (status ≡ Status.Done) ⊎ (status ≡ Status.Refused)) }
     ensures usage { IfErr result (λ failure. failure_status failure ≡ Status.Usage
         → WrongValues action.entry × (out.new ≡ out.old)) }
@@ -95,7 +95,11 @@ where
             sci,
             tx_block,
             rx_block,
-        } => format(rt, disk, sci, tx_block, rx_block, out),
+            block,
+            is_over,
+        } => format(
+            rt, alloc, disk, sci, tx_block, rx_block, block, is_over, out,
+        ),
         Action::Apply { disk, file } => apply(rt, alloc, disk, file, out),
         Action::Show { disk } => show(rt, alloc, disk, out),
         Action::Protect {
@@ -126,8 +130,8 @@ fn act<T: Files + Net, R: Read, W: Write>(
     out: &mut W,
 ) -> Result<Status, Failure>
 where
-    T::File: DiskFile,
-    ensures replied { IfOk result (Replies T.File (texts words.now) (R.remaining input.old)
+    T::File: CaptureFile,
+    ensures replied { IfOk result (Replies T.File.file (texts words.now) (R.remaining input.old)
         (W.contents out.old) (W.contents out.new)) }
     ensures status { IfOk result (λ status. (status ≡ Status.Done) ⊎ (status ≡ Status.Refused)) }
     ensures usage { IfErr result (λ failure. failure_status failure ≡ Status.Usage
@@ -170,13 +174,13 @@ pub fn run<T: Files + Net, R: Read, W: Write, E: Write>(
     err: &mut E,
 ) -> u8
 where
-    T::File: DiskFile,
+    T::File: CaptureFile,
     // The status is one of 0, 2, 3, 4 and 5.
     ensures status { (status : Status) × (result ≡ code_of status) }
     // At 0 and 3 the words ask for help or are taken, and the help or what the action prints is written to
     // standard output.
     ensures replied { (result ≡ 0) ⊎ (result ≡ 3) → (status : Status) × (result ≡ code_of status)
-        × Replies T.File (texts words.now) (R.remaining input.old)
+        × Replies T.File.file (texts words.now) (R.remaining input.old)
         (W.contents out.old) (W.contents out.new) status }
     // And nothing on standard error.
     ensures quiet { (result ≡ 0) ⊎ (result ≡ 3) → err.new ≡ err.old }

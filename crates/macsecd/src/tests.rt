@@ -3,6 +3,7 @@
 //! Python's `cryptography` (AESGCM with the octets in front of the offset in the additional data).
 
 mod applying;
+mod blank_files;
 mod broken_streams;
 mod captures;
 mod disks;
@@ -16,14 +17,16 @@ mod opening;
 mod peers;
 mod relaying;
 mod shut;
+mod slips;
+mod spaced_files;
 mod stand_in;
 mod stories;
 mod streams;
 mod wires;
 mod words;
 
+use crate::capture_file::CaptureFile;
 use crate::run::run;
-use macs_disk::DiskFile;
 use std::alloc::{AllocError, Global};
 use std::fs::File;
 use std::io::{Read, Write};
@@ -93,7 +96,7 @@ fn status_of<T: Files + Net, R: Read, W: Write, E: Write>(
     err: &mut E,
 ) -> u8
 where
-    T::File: DiskFile,
+    T::File: CaptureFile,
 {
     run(system, alloc, words, input, out, err)
 }
@@ -108,7 +111,7 @@ fn expect_over<T: Files + Net, R: Read>(
     outcome: Outcome,
 )
 where
-    T::File: DiskFile,
+    T::File: CaptureFile,
 {
     let mut out = Vec::new(alloc);
     let mut err = Vec::new(alloc);

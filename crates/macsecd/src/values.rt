@@ -1,12 +1,13 @@
 //! The values of `format`: what an endpoint is formatted with.
 
-ghost use Rattle.std.specs.Prelude.{◌≡◌, ◌↔◌, IfOk, IsTrue, Err};
+ghost use Rattle.std.specs.Prelude.{◌≡◌, ◌↔◌, IfOk, IsTrue, Err, Some, option_map};
 ghost use Rattle.macs_config.specs.Identity.{IsBlock};
 ghost use Rattle.macs_frame.specs.First.{IsFirst};
-ghost use Rattle.macsecd.specs.Values.{SpellsIdentity, ValueFaultHolds, value_faults};
+ghost use Rattle.macsecd.specs.Values.{SpellsIdentity, SpellsLayout, ValueFaultHolds, value_faults};
 
 use crate::request::sci_of;
 use macs_config::Identity;
+use macs_disk::Layout;
 
 /// Why the values are none of an endpoint, in the order in which the faults are looked for.
 #[derive(Clone, Copy, Debug, PartialEq, Eq)]
@@ -17,6 +18,8 @@ pub enum ValueFault {
     TxBlock,
     /// The receive block is not 1 to 65,536.
     RxBlock,
+    /// The block of the device is not `512` or `4096`.
+    DeviceBlock,
 }
 
 impl ValueFault {
@@ -31,6 +34,7 @@ impl ValueFault {
             ValueFault::Sci => "SCI is not 16 hex digits",
             ValueFault::TxBlock => "TX is not 1 to 65536",
             ValueFault::RxBlock => "RX is not 1 to 65536",
+            ValueFault::DeviceBlock => "--block is not 512 or 4096",
         }
     }
 }
@@ -42,12 +46,38 @@ fn is_block(block: u32) -> bool
     (1..=65_536).contains(&block)
 }
 
-/// What an endpoint is formatted with, by the values that the words give. Refused first as `Sci`, where the
-/// text is not 16 hex digits; then as `TxBlock` and as `RxBlock`, where the number is not 1 to 65,536.
-pub fn identity_of(sci: &str, tx_block: u32, rx_block: u32) -> Result<Identity, ValueFault>
-    ensures identity { IfOk result (SpellsIdentity sci.now tx_block rx_block) }
+/// The layout of a file for the block of the device that is named, in octets: that for 512 where
+/// none is. `None` for any other block.
+fn layout_of(block: Option<&str>) -> Option<Layout>
+    ensures { (layout : Layout) → (result ≡ Some layout) ↔ SpellsLayout (option_map (λ text. text.now) block.entry) layout }
+{
+    match block {
+        None | Some("512") => Some(Layout::Packed),
+        Some("4096") => Some(Layout::Spaced),
+        Some(_) => None,
+    }
+}
+
+/// What `format` is given: what the endpoint is formatted with, and how its file is laid out.
+#[derive(Clone, Copy)]
+pub struct Given {
+    pub identity: Identity,
+    pub layout: Layout,
+}
+
+/// What `format` is given by the values of the words. Refused first as `Sci`, where the text is not
+/// 16 hex digits; then as `TxBlock` and as `RxBlock`, where the number is not 1 to 65,536; then as
+/// `DeviceBlock`, where a block of the device is named that is not `512` or `4096`.
+pub fn given_by(
+    sci: &str,
+    tx_block: u32,
+    rx_block: u32,
+    block: Option<&str>,
+) -> Result<Given, ValueFault>
+    ensures identity { IfOk result (λ given. SpellsIdentity sci.now tx_block rx_block given.identity) }
+    ensures layout { IfOk result (λ given. SpellsLayout (option_map (λ text. text.now) block.entry) given.layout) }
     ensures fault { (fault : ValueFault) → (result ≡ Err fault)
-        ↔ IsFirst (ValueFaultHolds sci.now tx_block rx_block) value_faults fault }
+        ↔ IsFirst (ValueFaultHolds sci.now tx_block rx_block (option_map (λ text. text.now) block.entry)) value_faults fault }
 {
     let Some(sci) = sci_of(sci.as_bytes()) else {
         return Err(ValueFault::Sci);
@@ -55,8 +85,11 @@ pub fn identity_of(sci: &str, tx_block: u32, rx_block: u32) -> Result<Identity, 
     if !is_block(tx_block) {
         return Err(ValueFault::TxBlock);
     }
-    match Identity::new(sci, tx_block, rx_block) {
-        Some(identity) => Ok(identity),
-        None => Err(ValueFault::RxBlock),
+    let Some(identity) = Identity::new(sci, tx_block, rx_block) else {
+        return Err(ValueFault::RxBlock);
+    };
+    match layout_of(block) {
+        Some(layout) => Ok(Given { identity, layout }),
+        None => Err(ValueFault::DeviceBlock),
     }
 }

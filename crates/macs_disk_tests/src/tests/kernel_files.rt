@@ -7,7 +7,6 @@ use macs_mem_file::{DeviceBlock, FileCall, Left, MemFile, OpenMemFile};
 use std::alloc::Global;
 use std::cell::{RefCell, RefMut};
 use std::process::Abort;
-use std::test::Fail;
 
 /// The file of a kernel.
 type Kernel = RefCell<MemFile>;
@@ -22,24 +21,29 @@ struct Ground {
     block: DeviceBlock,
     /// How many pages the file has room for.
     pages: u16,
+    /// How many octets a call moves at most.
+    most: usize,
 }
 
 const PACKED: Ground = Ground {
     layout: Layout::Packed,
     block: DeviceBlock::Octets512,
     pages: 129,
+    most: 300,
 };
 
 const SPACED: Ground = Ground {
     layout: Layout::Spaced,
     block: DeviceBlock::Octets4096,
     pages: 1_029,
+    most: 4_096,
 };
 
 const SPACED_512: Ground = Ground {
     layout: Layout::Spaced,
     block: DeviceBlock::Octets512,
     pages: 1_029,
+    most: 4_096,
 };
 
 /// The layout that a device of 4,096 octets breaks.
@@ -47,6 +51,7 @@ const UNSUITED: Ground = Ground {
     layout: Layout::Packed,
     block: DeviceBlock::Octets4096,
     pages: 129,
+    most: 4_096,
 };
 
 /// How a program goes on behind a call that failed.
@@ -87,7 +92,7 @@ const BLANK_SYNCS: u64 = 3;
 type Known = [u8; SECTORS];
 
 fn kernel(rt: &impl Abort, alloc: Global, ground: Ground) -> Kernel {
-    match MemFile::new(alloc, ground.pages, ground.block, 4_096) {
+    match MemFile::new(alloc, ground.pages, ground.block, ground.most) {
         Ok(file) => RefCell::new(file),
         Err(_) => panic!(rt; "no memory"),
     }

@@ -65,7 +65,10 @@ fn each_fault_of_a_disk_is_told(rt: HostRuntime) -> Result<(), Fail> {
     play(&rt, rt.alloc(), "story-disks", DISKS)
 }
 
-/// Values that are refused before the disk is looked at: the SCI, the transmit block, the receive block.
+const NO_BLOCK: Outcome = Outcome::Usage("macsecd: --block is not 512 or 4096\n");
+
+/// Values that are refused before the disk is looked at: the SCI, the transmit block, the receive
+/// block, the block of the device.
 const VALUES: &[Step] = &[
     Run(
         &["format", "story-values/disk", "12153524c0895e8", "0", "0"],
@@ -102,6 +105,65 @@ const VALUES: &[Step] = &[
             "65537",
         ],
         Outcome::Usage("macsecd: RX is not 1 to 65536\n"),
+    ),
+    Run(
+        &[
+            "format",
+            "story-values/disk",
+            "zz",
+            "4",
+            "4",
+            "--block",
+            "1",
+        ],
+        Outcome::Usage("macsecd: SCI is not 16 hex digits\n"),
+    ),
+    Run(
+        &[
+            "format",
+            "story-values/disk",
+            "12153524c0895e81",
+            "4",
+            "0",
+            "--block",
+            "1",
+        ],
+        Outcome::Usage("macsecd: RX is not 1 to 65536\n"),
+    ),
+    Run(
+        &[
+            "format",
+            "story-values/disk",
+            "12153524c0895e81",
+            "4",
+            "4",
+            "--block",
+            "1024",
+        ],
+        NO_BLOCK,
+    ),
+    Run(
+        &[
+            "format",
+            "--block=0512",
+            "story-values/disk",
+            "12153524c0895e81",
+            "4",
+            "4",
+        ],
+        NO_BLOCK,
+    ),
+    Run(
+        &[
+            "format",
+            "--block=",
+            "story-values/disk",
+            "12153524c0895e81",
+            "4",
+            "4",
+            "--over",
+        ],
+        NO_BLOCK,
     ),
     IsMissing("story-values/disk"),
 ];

@@ -3,13 +3,15 @@
 use super::Outcome;
 use super::captures::{PLAIN, SENDER};
 use super::stand_in::Broken;
-use super::stand_in::Broken::{Read, Sync, Write};
+use super::stand_in::Broken::{Read, Reread, Sync, Write};
 use super::stories::Step::{Failing, Hex, Run, Text};
 use super::stories::{Step, play};
 use std::io::ErrorKind;
 use std::test::Fail;
 
 const DISK_FAULT: Outcome = Outcome::Disk("macsecd: disk\n");
+
+const NO_FILE: Outcome = Outcome::Disk("macsecd: disk file\n");
 
 /// The first read fails.
 const NOT_READ: Broken = Read(1, ErrorKind::Other);
@@ -54,14 +56,21 @@ spent tx 1 rx 0
 ",
 );
 
-/// An opening syncs once and reads; each command writes twice and syncs behind each write.
+/// A format syncs and reads anew before it looks, and writes its zeros before the journal: 129
+/// times, and as much in the file of a cut one. An opening syncs once, reads anew and reads; each
+/// command writes twice and syncs behind each write.
 const DISKS: &[Step] = &[
     Failing(DISK, NOT_READ, FORMAT, DISK_FAULT),
-    Failing(DISK, Write(1), FORMAT, DISK_FAULT),
+    Failing(DISK, NOT_READ, FORMAT, DISK_FAULT),
+    Failing(DISK, Write(1), FORMAT, NO_FILE),
+    Failing(DISK, Write(129), FORMAT, NO_FILE),
+    Failing(DISK, Write(130), FORMAT, DISK_FAULT),
     Failing(DISK, Sync(1), FORMAT, DISK_FAULT),
+    Failing(DISK, Reread, FORMAT, DISK_FAULT),
     Run(FORMAT, Outcome::Done("formatted\n")),
     Failing(DISK, NOT_READ, SHOW, DISK_FAULT),
     Failing(DISK, Sync(1), SHOW, DISK_FAULT),
+    Failing(DISK, Reread, SHOW, DISK_FAULT),
     Text(FILE, SENDER),
     Failing(DISK, NOT_READ, APPLY, DISK_FAULT),
     Failing(DISK, Sync(1), APPLY, DISK_FAULT),

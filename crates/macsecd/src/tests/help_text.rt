@@ -32,7 +32,7 @@ example: macsecd open < examples/annex-c.txt
 status: 0 valid, 2 usage, 3 frame refused, 5 input, output or memory
 ";
 
-pub const FORMAT_TEXT: &str = "usage: macsecd format DISK SCI TX RX
+pub const FORMAT_TEXT: &str = "usage: macsecd format DISK SCI TX RX [--block n] [--over]
 
 Makes a disk file for an endpoint, with the default configuration, and prints
 'formatted'.
@@ -41,7 +41,11 @@ Makes a disk file for an endpoint, with the default configuration, and prints
   SCI    the endpoint's own SCI: 16 hex digits, MAC address and port number
   TX     packet numbers that are reserved at a time to transmit: 1 to 65536
   RX     and to receive: 1 to 65536
-A file that has an endpoint is refused: 'already formatted'.
+  --block n   how many octets of the device a power loss may spoil at a time:
+              512, or 4096, for which the file has 4,214,784 octets
+  --over      takes a file that holds something else, which is lost then
+A file that has an endpoint is refused: 'already formatted'. So is one that holds
+something else, without --over: 'disk file'.
 
 example: macsecd format left.disk 0200000000010001 1024 16
 status: 0 done, 2 usage, 4 disk, 5 output or memory
@@ -87,7 +91,7 @@ capture of the frames that go out, and prints 'protected 3 dropped 0'.
   DISK     a disk file that was formatted
   INPUT    a classic capture (pcap) of Ethernet frames, whole and without FCS
   OUTPUT   the capture that is made; a file of that name is written over
-DISK, INPUT and OUTPUT are three files.
+DISK, INPUT and OUTPUT are three files, and no disk file is taken for OUTPUT.
 
 example: macsecd protect left.disk examples/plain.pcap protected.pcap
 status: 0 done, 2 usage, 4 disk, 5 capture, output or memory
@@ -100,7 +104,7 @@ delivered, and prints 'delivered 3 discarded 1'.
   DISK     a disk file that was formatted
   INPUT    a classic capture (pcap) of Ethernet frames, whole and without FCS
   OUTPUT   the capture that is made; a file of that name is written over
-DISK, INPUT and OUTPUT are three files.
+DISK, INPUT and OUTPUT are three files, and no disk file is taken for OUTPUT.
 
 example: macsecd validate right.disk protected.pcap plain.pcap
 status: 0 done, 2 usage, 4 disk, 5 capture, output or memory

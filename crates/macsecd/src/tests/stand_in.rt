@@ -2,12 +2,14 @@
 //! path, of which something fails, and for wires at which a frame waits.
 
 use super::peers::Peers;
+use crate::capture_file::CaptureFile;
 use macs_disk::DiskFile;
 use std::alloc::Allocator;
 use std::fs::{File, Metadata, OpenFile, OpenOptions};
 use std::io;
 use std::io::{ErrorKind, Read, Seek, SeekFrom, Write};
 use std::net::{Net, SocketAddr, UdpSocket};
+use std::path::PathBuf;
 use std::rt::Files;
 
 /// What fails of a file. Calls of a kind are counted from 1.
@@ -24,6 +26,10 @@ pub enum Broken {
     Flush,
     /// This sync of its octets.
     Sync(u32),
+    /// Each reading anew.
+    Reread,
+    /// Each sync of the folder that it is.
+    Folder,
 }
 
 /// How many octets a read gives at most where a later one fails.
@@ -47,26 +53,37 @@ impl BrokenFile {
         }
         Ok(())
     }
+
+    /// Counts a read, and answers how many of so many octets it may give.
+    fn count_read(&mut self, room: usize) -> io::Result<usize> {
+        match self.broken {
+            Broken::Read(failing, kind) => {
+                self.count(failing, kind)?;
+                Ok(room.min(SHORT_READ))
+            }
+            _ => Ok(room),
+        }
+    }
+
+    /// Counts a write.
+    fn count_write(&mut self) -> io::Result<()> {
+        match self.broken {
+            Broken::Write(failing) => self.count(failing, ErrorKind::Other),
+            _ => Ok(()),
+        }
+    }
 }
 
 impl Read for BrokenFile {
     fn read(&mut self, into: &mut [u8]) -> io::Result<usize> {
-        match self.broken {
-            Broken::Read(failing, kind) => {
-                self.count(failing, kind)?;
-                let most = into.len().min(SHORT_READ);
-                self.file.read(&mut into[..most])
-            }
-            _ => self.file.read(into),
-        }
+        let most = self.count_read(into.len())?;
+        self.file.read(&mut into[..most])
     }
 }
 
 impl Write for BrokenFile {
     fn write(&mut self, from: &[u8]) -> io::Result<usize> {
-        if let Broken::Write(failing) = self.broken {
-            self.count(failing, ErrorKind::Other)?;
-        }
+        self.count_write()?;
         self.file.write(from)
     }
 
@@ -94,7 +111,10 @@ impl OpenFile for BrokenFile {
     }
 
     fn sync_all(&self) -> io::Result<()> {
-        self.file.sync_all()
+        match self.broken {
+            Broken::Folder => Err(io::Error::from(ErrorKind::Other)),
+            _ => self.file.sync_all(),
+        }
     }
 
     fn sync_data(&self) -> io::Result<()> {
@@ -103,27 +123,46 @@ impl OpenFile for BrokenFile {
 }
 
 impl DiskFile for BrokenFile {
+    ghost use Rattle.macs_disk.specs.Evidence.{no-claim};
+
     fn claim(&mut self) -> io::Result<()> {
         self.file.claim()
     }
 
-    fn length(&mut self) -> io::Result<u64> {
-        self.file.length()
+    fn size(&mut self) -> io::Result<u64> {
+        self.file.size()
     }
 
-    fn lengthen(&mut self, length: u64) -> io::Result<()> {
-        self.file.lengthen(length)
+    fn read_at(&mut self, at: u64, into: &mut [u8]) -> io::Result<usize> {
+        let most = self.count_read(into.len())?;
+        self.file.read_at(at, &mut into[..most])
     }
 
-    fn sync_length(&mut self) -> io::Result<()> {
-        self.file.sync_length()
+    fn write_at(&mut self, at: u64, from: &[u8]) -> io::Result<usize> {
+        self.count_write()?;
+        self.file.write_at(at, from)
     }
 
-    fn sync_octets(&mut self) -> io::Result<()> {
+    fn sync(&mut self) -> io::Result<()> {
         if let Broken::Sync(failing) = self.broken {
             self.count(failing, ErrorKind::Other)?;
         }
-        self.file.sync_octets()
+        self.file.sync()
+    }
+
+    fn reread(&mut self) -> io::Result<()> {
+        match self.broken {
+            Broken::Reread => Err(io::Error::from(ErrorKind::Other)),
+            _ => self.file.reread(),
+        }
+    }
+
+    ghost sound = { λ _ behaves. no-claim behaves };
+}
+
+impl CaptureFile for BrokenFile {
+    fn share(&mut self) -> io::Result<()> {
+        self.file.share()
     }
 }
 
@@ -142,7 +181,8 @@ impl<R: Files<File = File>> Files for StandIn<'_, R> {
     type Dir = R::Dir;
 
     fn open_file(&self, how: &OpenOptions, path: &str) -> io::Result<BrokenFile> {
-        let broken = if path == self.path {
+        // A path that was resolved has the folders in front of it too.
+        let broken = if path.ends_with(self.path) {
             self.broken
         } else {
             Broken::Nothing
@@ -192,6 +232,10 @@ impl<R: Files<File = File>> Files for StandIn<'_, R> {
 
     fn remove_dir_all<B: Allocator>(&self, alloc: B, path: &str) -> io::Result<()> {
         self.system.remove_dir_all(alloc, path)
+    }
+
+    fn canonicalize<B: Allocator>(&self, alloc: B, path: &str) -> io::Result<PathBuf<B>> {
+        self.system.canonicalize(alloc, path)
     }
 }
 

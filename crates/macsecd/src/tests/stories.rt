@@ -4,8 +4,8 @@ use super::peers::{OWN1, OWN2, Peers};
 use super::stand_in::{Broken, StandIn};
 use super::{Outcome, expect, expect_over, status_of};
 use std::alloc::Global;
-use std::fs::{File, OpenOptions};
-use std::io::{ErrorKind, Read, Write};
+use std::fs::{File, OpenFile, OpenOptions};
+use std::io::{ErrorKind, Read, Seek, SeekFrom, Write};
 use std::net::Net;
 use std::process::Abort;
 use std::rt::Files;
@@ -41,8 +41,21 @@ pub enum Step {
     Hex(&'static str, &'static str),
     /// Makes a file of one octet, so many times.
     Filled(&'static str, u8, usize),
+    /// Makes a file of so many zeros.
+    Zeros(&'static str, u64),
+    /// Runs these words while another open of the file of this path has claimed it: for itself
+    /// alone, or beside other readers.
+    Claimed(&'static str, &'static [&'static str], Outcome),
+    Shared(&'static str, &'static [&'static str], Outcome),
+    /// Runs these words, and these files hold what they held before.
+    Keeping(&'static [&'static str], &'static [&'static str], Outcome),
     /// Makes a folder.
     Folder(&'static str),
+    /// Makes a second name for a file, and one that is a symbolic link with this text.
+    Link(&'static str, &'static str),
+    Symbolic(&'static str, &'static str),
+    /// Writes octets that are spelled in hex from this octet of a file on.
+    Patch(&'static str, u64, &'static str),
     /// Writes 0xff over the first octet of a file.
     Spoil(&'static str),
     /// The file holds these octets, spelled in hex.
@@ -93,6 +106,69 @@ fn spoil(rt: &(impl Abort + Files<File = File> + Net), path: &str) -> Result<(),
     let mut file = OpenOptions::new().write(true).open(rt, path)?;
     file.write_all(&[0xff])?;
     Ok(())
+}
+
+/// Writes octets from this octet of a file on.
+fn patch(
+    rt: &(impl Abort + Files<File = File> + Net),
+    path: &str,
+    at: u64,
+    octets: &[u8],
+) -> Result<(), Fail> {
+    let mut file = OpenOptions::new().write(true).open(rt, path)?;
+    file.seek(SeekFrom::Start(at))?;
+    file.write_all(octets)?;
+    Ok(())
+}
+
+/// The octets of a file.
+fn octets_in(
+    rt: &(impl Abort + Files<File = File> + Net),
+    alloc: Global,
+    path: &str,
+) -> Result<Vec<u8>, Fail> {
+    let mut found = Vec::new(alloc);
+    fs::open(rt, path)?.read_to_end(&mut found)?;
+    Ok(found)
+}
+
+/// Runs these words, and looks whether these files hold what they held before.
+fn expect_keeping(
+    rt: &(impl Abort + Files<File = File> + Net),
+    alloc: Global,
+    files: &[&str],
+    words: &[&str],
+    outcome: Outcome,
+) -> Result<(), Fail> {
+    let mut before = Vec::new(alloc);
+    for path in files {
+        before.push(octets_in(rt, alloc, path)?)?;
+    }
+    expect(rt, alloc, words, "", outcome);
+    for i in 0..files.len() {
+        let now = octets_in(rt, alloc, files[i])?;
+        assert!(rt; now.as_slice() == before[i].as_slice(), "{}", files[i]);
+    }
+    Ok(())
+}
+
+/// Runs these words while the file of a path is claimed, beside other readers or not.
+fn expect_claimed(
+    rt: &(impl Abort + Files<File = File> + Net),
+    alloc: Global,
+    path: &str,
+    is_shared: bool,
+    words: &[&str],
+    outcome: Outcome,
+) -> Result<(), Fail> {
+    let file = OpenOptions::new().read(true).write(true).open(rt, path)?;
+    let claimed = if is_shared {
+        file.try_lock_shared()
+    } else {
+        file.try_lock()
+    };
+    assert!(rt; claimed.is_ok());
+    expect_keeping(rt, alloc, &[path], words, outcome)
 }
 
 /// Runs these words where the file of a path fails.
@@ -218,11 +294,21 @@ fn take(
         Step::Text(path, text) => make(rt, path, text.as_bytes())?,
         Step::Hex(path, text) => make(rt, path, octets_of(rt, alloc, text)?.as_slice())?,
         Step::Filled(path, octet, count) => fill(rt, alloc, path, octet, count)?,
+        Step::Zeros(path, count) => fs::create(rt, path)?.set_len(count)?,
+        Step::Claimed(path, words, outcome) => {
+            expect_claimed(rt, alloc, path, false, words, outcome)?;
+        }
+        Step::Shared(path, words, outcome) => {
+            expect_claimed(rt, alloc, path, true, words, outcome)?;
+        }
+        Step::Keeping(files, words, outcome) => expect_keeping(rt, alloc, files, words, outcome)?,
         Step::Folder(path) => fs::create_dir(rt, path)?,
+        Step::Link(original, link) => rt.hard_link(original, link)?,
+        Step::Symbolic(text, link) => rt.symlink(text, link)?,
+        Step::Patch(path, at, text) => patch(rt, path, at, octets_of(rt, alloc, text)?.as_slice())?,
         Step::Spoil(path) => spoil(rt, path)?,
         Step::Holds(path, text) => {
-            let mut found = Vec::new(alloc);
-            fs::open(rt, path)?.read_to_end(&mut found)?;
+            let found = octets_in(rt, alloc, path)?;
             assert_eq!(rt; found.as_slice(), octets_of(rt, alloc, text)?.as_slice());
         }
         Step::HasOctets(path, count) => assert_eq!(rt; fs::metadata(rt, path)?.len(), count),

@@ -163,6 +163,30 @@ const WORDS_WITH_OPTIONS: &[(&[&str], Outcome)] = &[
         Outcome::Usage("macsecd: unexpected argument '--frob' found\n"),
     ),
     (
+        &["format", "d", "s", "1", "1", "--over=1"],
+        Outcome::Usage("macsecd: unexpected value '1' for '--over' found; no more were expected\n"),
+    ),
+    (
+        &["format", "d", "s", "1", "1", "--over", "--over"],
+        Outcome::Usage("macsecd: the argument '--over' cannot be used multiple times\n"),
+    ),
+    (
+        &["format", "d", "s", "1", "1", "--block"],
+        Outcome::Usage(
+            "macsecd: a value is required for '--block <block>' but none was supplied\n",
+        ),
+    ),
+    (
+        &[
+            "format", "d", "s", "1", "1", "--block", "512", "--block", "512",
+        ],
+        Outcome::Usage("macsecd: the argument '--block <block>' cannot be used multiple times\n"),
+    ),
+    (
+        &["show", "left.disk", "--over"],
+        Outcome::Usage("macsecd: unexpected argument '--over' found\n"),
+    ),
+    (
         &["apply", "--frob=1", "left.disk", "left.toml"],
         Outcome::Usage("macsecd: unexpected argument '--frob' found\n"),
     ),
@@ -217,7 +241,8 @@ const WORDS_WITH_OPTIONS: &[(&[&str], Outcome)] = &[
     ),
 ];
 
-/// No subcommand has an option, and help is asked for right behind its name alone.
+/// No subcommand has another option than its own, and help is asked for right behind its name
+/// alone.
 #[test]
 fn refuses_options(rt: HostRuntime) {
     for (words, outcome) in WORDS_WITH_OPTIONS {
@@ -343,6 +368,14 @@ const TAKEN: &[(&[&str], Parts<'static>)] = &[
         ),
     ),
     (
+        &["format", "--block", "4096", "d", "s", "1", "2", "--over"],
+        ("format", ["d", "s", "4096", "over", ""], [1, 2]),
+    ),
+    (
+        &["format", "d", "s", "1", "--over", "2", "--block=none"],
+        ("format", ["d", "s", "none", "over", ""], [1, 2]),
+    ),
+    (
         &["format", "d", "s", "4294967295", "0"],
         ("format", ["d", "s", "", "", ""], [4_294_967_295, 0]),
     ),
@@ -423,9 +456,17 @@ fn parts<'a>(action: Action<'a>) -> Parts<'a> {
             sci,
             tx_block,
             rx_block,
+            block,
+            is_over,
         } => (
             "format",
-            [disk, sci, "", "", ""],
+            [
+                disk,
+                sci,
+                block.unwrap_or(""),
+                if is_over { "over" } else { "" },
+                "",
+            ],
             [u64::from(tx_block), u64::from(rx_block)],
         ),
         Action::Apply { disk, file } => ("apply", [disk, file, "", "", ""], [0, 0]),

@@ -11,5 +11,9 @@ returns c =
     c.value-2.ensures.rule c.value-2.ensures.local c.in_ok-arg-2.ensures in
     let with-3 = one_value _ c.in_ok-arg-3.field-0 c.number.result _ _ with-2
     c.number.ensures.rule c.number.ensures.local c.in_ok-arg-3.ensures in
-    IfOk-weaker c.arg-4.result _ _ (λ command added. one_value _ command c.number-2.result _ _ with-3
-    c.number-2.ensures.rule c.number-2.ensures.local added) c.arg-4.ensures
+    let with-4 = one_value _ c.in_ok-arg-4.field-0 c.number-2.result _ _ with-3
+    c.number-2.ensures.rule c.number-2.ensures.local c.in_ok-arg-4.ensures in
+    let with-5 = one_value _ c.in_ok-arg-5.field-0 c.option.result _ _ with-4
+    c.option.ensures.rule c.option.ensures.local c.in_ok-arg-5.ensures in
+    IfOk-weaker c.arg-6.result _ _ (λ command added. one_value _ command c.flag.result _ _ with-5
+    c.flag.ensures.rule c.flag.ensures.local added) c.arg-6.ensures

@@ -24,7 +24,7 @@ returns-clause-printed g c =
     let words = c.in_ok-addresses in
     IfOk-weaker c.relay_frames.result _ _ (λ status done. let (summary, relays, printed, is) = done in (
       summary,
-      comes-to c.args.turns summary _ _ _ _ _ _ c.in_ok-controlled.ensures.fresh c.in_ok-common.ensures.fresh relays,
+      comes-to _ c.args.turns summary _ _ _ _ _ _ c.in_ok-controlled.ensures.fresh c.in_ok-common.ensures.fresh relays,
       (words.addresses.controlled, words.addresses.common, words.ensures.controlled, words.ensures.common),
       printed,
       is,

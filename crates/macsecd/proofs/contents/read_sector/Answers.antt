@@ -1,0 +1,34 @@
+use Rattle.std.proofs.Common.{◌≡◌, ◌+◌, ◌-◌, ◌*◌, arith, ap, sym, subst, ◌∙◌, refl}
+use Rattle.macs_disk.specs.Files.{Behaves, FileState, IsSure, values_from}
+use Rattle.macs_disk.proofs.FileReads.{values-none, read-more, read-none, length-filled, room-fits}
+use Rattle.macsecd.proofs.contents.read_sector.Goals as goal
+use Rattle.macsecd.proofs.contents.read_sector.Goals.{in-Ok, in-Err+else-ne}
+
+pub loop-init : goal.loop-init
+loop-init g c = (c.told-sector, omega arith, refl, λ _. refl, λ _ _. sym (values-none _ _))
+
+pub loop-preserved : goal.loop-preserved
+loop-preserved g c =
+    let inv = c.loop.invariant in
+    let file = g.F.DiskFile.file in
+    elim c.match-read_at.branch [
+      | in-Ok w ↦
+          let effect = λ (behaves : Behaves (file c.args.file.now)). w.in-Ok.ensures.effect (inv.2 ∙ behaves) in
+          let sure = λ (behaves : Behaves (file c.args.file.now)) (is : IsSure (file c.args.file.now)). subst IsSure (sym (inv.3 behaves)) is in
+          rw w.done-is (
+            length-filled c.loop.done (512 - c.loop.done) c.loop.sector c.read_at.new.into inv.0 c.read_at.auto.into,
+            room-fits w.in-Ok.count c.loop.done c.loop.sector c.read_at.new.into inv.1 w.in-Ok.ensures.bound c.read_at.auto.into,
+            c.read_at.ensures.steady ∙ inv.2,
+            λ behaves. (effect behaves).same ∙ inv.3 behaves,
+            λ behaves is. read-more _ (512 * c.args.number) (512 * c.args.number + c.loop.done) _ _ _ _ _ refl (omega (arith, inv.0, inv.1)) w.in-Ok.ensures.bound (inv.4 behaves is)
+                ((effect behaves).octets (sure behaves is) ∙ ap (λ (f : FileState). values_from f.seen (512 * c.args.number + c.loop.done) w.in-Ok.count) (inv.3 behaves)),
+          )
+      | in-Err+else-ne w ↦
+          rw w.done-is (
+            length-filled c.loop.done (512 - c.loop.done) c.loop.sector c.read_at.new.into inv.0 c.read_at.auto.into,
+            inv.1,
+            c.read_at.ensures.steady ∙ inv.2,
+            λ behaves. (w.in-Err.ensures.effect (inv.2 ∙ behaves)).same ∙ inv.3 behaves,
+            λ behaves is. read-none _ _ _ _ _ _ (omega (arith, inv.0, inv.1)) (inv.4 behaves is),
+          )
+    ]

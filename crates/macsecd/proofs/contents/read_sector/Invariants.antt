@@ -1,0 +1,11 @@
+-- What is in the sector so far are the file's octets, and the file is as it was.
+use Rattle.std.proofs.Common.{◌≡◌, ◌≤◌, ◌*◌, length, take}
+use Rattle.macs_disk.specs.Files.{Behaves, IsSure, values_from}
+use Rattle.macsecd.proofs.contents.read_sector.Given as goal
+
+abbrev pub invariant-loop : goal.invariant-loop
+invariant-loop g l = (length l.sector ≡ 512) × (l.done ≤ 512)
+    × ((g.F.DiskFile.file l.file).behaves ≡ (g.F.DiskFile.file l.initial.file).behaves)
+    × (Behaves (g.F.DiskFile.file l.initial.file) → g.F.DiskFile.file l.file ≡ g.F.DiskFile.file l.initial.file)
+    × (Behaves (g.F.DiskFile.file l.initial.file) → IsSure (g.F.DiskFile.file l.initial.file)
+    → take l.done l.sector ≡ values_from (g.F.DiskFile.file l.initial.file).seen (512 * l.initial.number) l.done)
