@@ -6,11 +6,14 @@ ghost use Rattle.std.specs.declared.io.ErrorKind.TheVariants.{Interrupted};
 ghost use Rattle.macs_disk.specs.Files.{Behaves, FileState, IsSoundFile, ReadsFile, RereadsFile, SyncsFile, WritesFile};
 ghost use Rattle.macs_disk.specs.Files.{unknown_file};
 
-use libc::{POSIX_FADV_DONTNEED, posix_fadvise};
+use libc::{POSIX_FADV_DONTNEED, POSIX_FADV_WILLNEED, posix_fadvise};
 use std::fs::File;
 use std::io;
 use std::os::fd::AsRawFd;
 use std::os::unix::fs::FileExt;
+
+/// How many octets the longest disk of a journal has in its file: 1,029 blocks of 4,096.
+const LONGEST_DISK: i64 = 4_214_784;
 
 /// An open file, as a disk uses it. Tests put files in its place whose calls fail.
 ///
@@ -94,10 +97,15 @@ impl DiskFile for File {
     }
 
     // The kernel drops the file's pages that are neither dirty nor under way to the device, from octet 0
-    // to the end.
+    // to the end. Then it is asked for as many as a disk of a journal has, since an opening reads most of
+    // them, a sector at a time; where it does not read ahead, the opening only takes longer.
     fn reread(&mut self) -> io::Result<()> {
-        match posix_fadvise(self.as_raw_fd(), 0, 0, POSIX_FADV_DONTNEED) {
-            0 => Ok(()),
+        let file = self.as_raw_fd();
+        match posix_fadvise(file, 0, 0, POSIX_FADV_DONTNEED) {
+            0 => {
+                let _ = posix_fadvise(file, 0, LONGEST_DISK, POSIX_FADV_WILLNEED);
+                Ok(())
+            }
             error => Err(io::Error::from_raw_os_error(error)),
         }
     }

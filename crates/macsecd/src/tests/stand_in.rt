@@ -76,7 +76,7 @@ impl BrokenFile {
 
 impl Read for BrokenFile {
     fn read(&mut self, into: &mut [u8]) -> io::Result<usize> {
-        let most = self.count_read(into.len())?;
+        let most = self.count_read(into.len())?.min(into.len());
         self.file.read(&mut into[..most])
     }
 }
@@ -134,7 +134,7 @@ impl DiskFile for BrokenFile {
     }
 
     fn read_at(&mut self, at: u64, into: &mut [u8]) -> io::Result<usize> {
-        let most = self.count_read(into.len())?;
+        let most = self.count_read(into.len())?.min(into.len());
         self.file.read_at(at, &mut into[..most])
     }
 

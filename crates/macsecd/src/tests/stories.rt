@@ -147,6 +147,7 @@ fn expect_keeping(
     expect(rt, alloc, words, "", outcome);
     for i in 0..files.len() {
         let now = octets_in(rt, alloc, files[i])?;
+        assert!(rt; i < before.len());
         assert!(rt; now.as_slice() == before[i].as_slice(), "{}", files[i]);
     }
     Ok(())
