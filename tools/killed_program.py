@@ -161,7 +161,7 @@ def kill_at_each(folder, name, start, words, judge):
             if octets or os.path.exists(disk):
                 open(disk, "wb").write(octets)
             losses += 1
-            judge(disk, killed.stdout.decode())
+            judge(disk, killed.stdout.decode(), image)
     print(f"{name}: killed at {kills} system calls, {losses} power losses", flush=True)
     return kills, losses
 
@@ -194,15 +194,19 @@ def main():
             run("apply", at("some"), at("few"))
             after.append(configuration(show(macsecd, at("some")).stdout))
 
-        def judge_format(disk, _printed):
+        def judge_format(disk, _printed, image):
             found = show(macsecd, disk)
             if found.returncode == 0:
                 assert found.stdout == formatted, found
             else:
                 assert found.returncode == 4, found
                 assert found.stderr.strip() in ("macsecd: not formatted", "macsecd: too small", "macsecd: disk file", "macsecd: disk length", "macsecd: bad journal"), found
+            # It is made again without `--over`, unless a sector was left that no `format` wrote.
+            again = subprocess.run([macsecd, "format", disk, SCI, BLOCK, BLOCK], capture_output=True, text=True)
+            if again.returncode != 0 and again.stderr != "macsecd: already formatted\n":
+                assert any(octets in (b"\xff" * SECTOR, OPEN) for octets in image.values()), (again, sorted(image))
 
-        def judge_apply(disk, printed):
+        def judge_apply(disk, printed, _image):
             acknowledged = len(printed.splitlines())
             found = configuration(show(macsecd, disk).stdout)
             assert found in after[acknowledged : acknowledged + 2], (printed, found)
@@ -215,7 +219,7 @@ def main():
         shutil.copyfile(at("new"), at("ready"))
         run("apply", at("ready"), at("commands"))
 
-        def judge_protect(disk, _printed):
+        def judge_protect(disk, _printed, _image):
             found = show(macsecd, disk)
             assert configuration(found.stdout) == after[-1], found
             following = int(re.search(r"^tx 0 .* next (\d+)", found.stdout, re.M)[1])

@@ -52,12 +52,15 @@ class Room:
         self.program = program
         self.folder = folder
 
-    def run(self, words, given=None):
-        """Runs the program, and answers its status and what it printed last."""
-        with open(os.path.join(self.folder, given) if given else os.devnull, "rb") as stdin:
-            done = subprocess.run(self.program + words, cwd=self.folder, stdin=stdin, capture_output=True,
+    def run(self, words, given=None, printed=None):
+        """Runs the program, and answers its status and what it printed last. Its standard output may be a file, at the end of
+        which it is written."""
+        with open(os.path.join(self.folder, given) if given else os.devnull, "rb") as stdin, \
+                open(os.path.join(self.folder, printed) if printed else os.devnull, "ab") as stdout:
+            done = subprocess.run(self.program + words, cwd=self.folder, stdin=stdin,
+                                  stdout=stdout if printed else subprocess.PIPE, stderr=subprocess.PIPE,
                                   timeout=PATIENCE, check=False)
-        lines = (done.stdout + done.stderr).decode(errors="replace").strip().splitlines()
+        lines = ((done.stdout or b"") + done.stderr).decode(errors="replace").strip().splitlines()
         return done.returncode, lines[-1] if lines else ""
 
     def must(self, *words):
@@ -116,27 +119,39 @@ def packet_numbers(path):
 
 
 def slips():
-    """Each slip: its words, the file that is its standard input, and the name that is its own output."""
+    """Each slip: its words, the file that is its standard input, the name that is its own output, and the file that is its
+    standard output."""
     for name in EACH:
         if name not in (MISSING, FOLDER):
-            yield ["open"], name, None
-        yield ["format", name, SCI, BLOCK, BLOCK], None, name
-        yield ["format", name, SCI, BLOCK, BLOCK, "--over"], None, name
-        yield ["format", name, SCI, BLOCK, BLOCK, "--block", "4096"], None, name
-        yield ["apply", name, COMMANDS], None, name
-        yield ["apply", DISK, name], None, DISK
-        yield ["show", name], None, None
+            yield ["open"], name, None, None
+        yield ["format", name, SCI, BLOCK, BLOCK], None, name, None
+        yield ["format", name, SCI, BLOCK, BLOCK, "--over"], None, name, None
+        yield ["format", name, SCI, BLOCK, BLOCK, "--block", "4096"], None, name, None
+        yield ["apply", name, COMMANDS], None, name, None
+        yield ["apply", DISK, name], None, DISK, None
+        yield ["show", name], None, None, None
         for direction in ("protect", "validate"):
-            yield [direction, name, CAPTURE, "out"], None, name
-            yield [direction, DISK, name, "out"], None, DISK
-            yield [direction, DISK, CAPTURE, name], None, name
-            yield [direction, SPACED, CAPTURE, name], None, name
-        yield ["relay", name, *WIRES], None, name
+            yield [direction, name, CAPTURE, "out"], None, name, None
+            yield [direction, DISK, name, "out"], None, DISK, None
+            yield [direction, DISK, CAPTURE, name], None, name, None
+            yield [direction, SPACED, CAPTURE, name], None, name, None
+        yield ["relay", name, *WIRES], None, name, None
+    for name in OWN:
+        for printed in OWN:
+            yield ["apply", name, COMMANDS], None, None, printed
+            yield ["show", name], None, None, printed
+            yield ["protect", name, CAPTURE, "out"], None, None, printed
+            yield ["validate", name, CAPTURE, "out"], None, None, printed
+            yield ["relay", name, *WIRES], None, None, printed
+    yield ["format", EMPTY, SCI, BLOCK, BLOCK], None, None, EMPTY
 
 
-def may_change(words, own):
-    """The names that a run may change: its own disk where it works on one, and its own output."""
+def may_change(words, own, printed):
+    """The names that a run may change: its own disk where it works on one, and its own output. Where it prints to its disk it
+    changes nothing but makes an output."""
     names = {"out"}
+    if printed:
+        return names
     if words[0] in ("protect", "validate"):
         names.add(words[1])
         # OUTPUT may be a file that is no endpoint and no other file of the run.
@@ -157,22 +172,22 @@ def changed(before, after):
     return [name for name in sorted(before.keys() | after.keys()) if before.get(name) != after.get(name)]
 
 
-def try_slip(room, words, given, own):
+def try_slip(room, words, given, own, printed):
     """Runs a slip, and tells what it did and what is wrong with that."""
     used = room.numbers()
     before = room.look()
     with open(os.path.join(room.folder, IN_USE), "rb") as held:
         fcntl.flock(held, fcntl.LOCK_EX)
-        status, line = room.run(words, given)
+        status, line = room.run(words, given, printed)
     after = room.look()
     differs = changed(before, after)
-    faults = [f"{name} is another" for name in differs if name not in may_change(words, own)]
+    faults = [f"{name} is another" for name in differs if name not in may_change(words, own, printed)]
     if os.path.exists(os.path.join(room.folder, "out")) and words[0] == "protect" and status == 0:
         used += packet_numbers(os.path.join(room.folder, "out"))
     again = room.numbers()
     if set(again) & set(used):
         faults.append("a packet number comes twice")
-    spelled = " ".join(words) + (f" < {given}" if given else "")
+    spelled = " ".join(words) + (f" < {given}" if given else "") + (f" >> {printed}" if printed else "")
     print(f"{spelled}: {status} {line!r}; changed: {', '.join(differs) or 'nothing'}")
     for fault in faults:
         print(f"    WRONG: {fault}")
@@ -188,12 +203,12 @@ def main():
         model = os.path.join(top, "model")
         os.mkdir(model)
         Room(program, model).fill()
-        for words, given, own in slips():
+        for words, given, own, printed in slips():
             folder = os.path.join(top, "room")
             # `cp -a` keeps the two names of one file.
             subprocess.run(["cp", "-a", model, folder], check=True)
             tried += 1
-            wrong += not try_slip(Room(program, folder), words, given, own)
+            wrong += not try_slip(Room(program, folder), words, given, own, printed)
             shutil.rmtree(folder)
     print(f"{tried} slips, {wrong} wrong")
     sys.exit(1 if wrong else 0)

@@ -1,11 +1,11 @@
 -- A call of a disk in a file is a call of a disk.
-use Rattle.std.proofs.Common.{◌≡◌, ◌≤◌, ◌<◌, ◌+◌, ◌-◌, ◌^◌, ◌&&◌, ◌==◌, inl, inr, ℕ, zero, suc, Bool, true, false, List, [], ◌∷◌, ◌++◌, length, get_or, nat_le, refl, ap, ◌∙◌, arith, subst, sym, Result, Ok, Err, OnOk, OnErr, IsErr, ◌↔◌}
+use Rattle.std.proofs.Common.{◌≡◌, ◌≤◌, ◌<◌, ◌+◌, ◌-◌, ◌^◌, ◌&&◌, ◌==◌, ◌⊎◌, inl, inr, ℕ, zero, suc, Bool, true, false, List, [], ◌∷◌, ◌++◌, length, get_or, nat_le, refl, ap, ◌∙◌, arith, subst, sym, Result, Ok, Err, OnOk, OnErr, IsErr, ◌↔◌}
 use Rattle.std.proofs.lemmas.Bool.{cases_lt, and_parts}
 use Rattle.std.proofs.lemmas.List.{get_or_past}
 use Rattle.std.specs.declared.snapshot.Snapshot.{Snapshot}
 use Rattle.macs_disk.specs.States.{DiskState}
 use Rattle.macs_disk.specs.Disk.{Disk, IsDeviceCall}
-use Rattle.macs_disk.specs.Files.{FileState, WritesAll}
+use Rattle.macs_disk.specs.Files.{FileState, WritesAll, file_in_doubt}
 use Rattle.macs_disk.specs.FileDisks.{is_ready, keeps_disk, state_in_file}
 use Rattle.macs_disk.specs.FileEvidence.{KeepsDisk, keeps}
 use Rattle.macs_disk.specs.Layouts.{place}
@@ -57,6 +57,14 @@ module _ {F : Type 0} (file : F → FileState) where
   pub now-is : (layout : Layout) (past : List (Snapshot F)) (shown : Snapshot F) (clock : ℕ) → length past ≡ clock
       → state_in_file layout (file (get_or past clock shown).value) ≡ state_in_file layout (file shown.value)
   now-is layout past shown clock kept = ap (λ (s : Snapshot F). state_in_file layout (file s.value)) (get_or_past past clock shown (omega (arith, kept)))
+
+  -- and that of its file as it is left, which is the one that it shows, or that one in doubt
+  pub left-as : (layout : Layout) (past : List (Snapshot F)) (shown : Snapshot F) (left : F) (clock : ℕ) → length past ≡ clock
+      → (file left ≡ file shown.value) ⊎ (file left ≡ file_in_doubt (file shown.value))
+      → state_in_file layout (file left) ≡ state_in_file layout (file (get_or past clock shown).value)
+  unfolding state_in_file
+  left-as layout past shown left clock kept (inl same) = ap (state_in_file layout) same ∙ sym (now-is layout past shown clock kept)
+  left-as layout past shown left clock kept (inr doubt) = ap (state_in_file layout) doubt ∙ sym (now-is layout past shown clock kept)
 
   past-same : (past : List (Snapshot F)) (shown new : Snapshot F) (k : ℕ) → k ≤ length past → get_or (past ++ shown ∷ []) k new ≡ get_or past k shown
   past-same past shown new k le = elim (cases_lt k (length past)) [

@@ -1,11 +1,10 @@
 -- A file is settled, its layout found, and made ready for a disk.
-use Rattle.std.proofs.Common.{◌≡◌, ◌≤◌, ◌<◌, ◌+◌, ◌-◌, ◌*◌, ◌/◌, ◌%◌, ◌&&◌, ◌⊎◌, inl, inr, ℕ, if◌then◌else◌, max, Bool, true, false, List, [], length, nat_le, replicate, refl, ap, ◌∙◌, arith, subst, sym}
+use Rattle.std.proofs.Common.{◌≡◌, ◌≤◌, ◌<◌, ◌+◌, ◌-◌, ◌/◌, ◌%◌, ◌&&◌, ◌⊎◌, inl, inr, ℕ, if◌then◌else◌, max, Bool, true, false, List, [], length, replicate, refl, ap, ◌∙◌, arith, subst, sym}
 use Rattle.std.proofs.lemmas.Bool.{cases_lt, le-leb, lt-leb}
 use Rattle.std.proofs.lemmas.List.{get_or-replicate, length-replicate}
 use Rattle.std.specs.declared.snapshot.Snapshot.{Snapshot}
-use Rattle.macs_disk.specs.Disk.{IsHonest}
-use Rattle.macs_disk.specs.Files.{Behaves, FileState, IsSure, file_after_sync, file_after_write, put_from, values_from}
-use Rattle.macs_disk.specs.FileDisks.{HasMark, IsBlank, IsCleared, IsExtent, IsMarkedAs, IsOpened, file_lengthened, is_ready, keeps_disk, state_in_file}
+use Rattle.macs_disk.specs.Files.{FileState, IsSure, Settles, file_after_sync, file_after_write, put_from, values_from}
+use Rattle.macs_disk.specs.FileDisks.{HasMark, IsBlank, IsCleared, IsExtent, IsMarkedAs, IsOpened, IsStill, file_lengthened, is_ready, keeps_disk, state_in_file}
 use Rattle.macs_disk.specs.FileEvidence.{values-same}
 use Rattle.macs_disk.specs.Layouts.{is_marked, layout_in, mark, place, sectors_in, suits}
 use Rattle.macs_disk.specs.States.{zero_sector}
@@ -18,16 +17,16 @@ use Rattle.macs_disk.proofs.FileWrites.{put-at, put-before, put-behind, write-be
 -- ---- the mark
 
 -- a file that is too short for a spaced one
-pub too-short : (file : FileState) → file.size < place Spaced 1029 → Packed ≡ layout_in file
+pub too-short : (file : FileState) → file.size < place Spaced 1028 + 512 → Packed ≡ layout_in file
 unfolding layout_in
-too-short file short = let no = lt-leb (place Spaced 1029) file.size short in rw no refl
+too-short file short = let no = lt-leb (place Spaced 1028 + 512) file.size short in rw no refl
 
 -- one that is long enough is spaced where the mark is read
-pub by-mark : (file : FileState) (sector : List ℕ) (marked : Bool) (layout : Layout) → place Spaced 1029 ≤ file.size → sector ≡ values_from file.seen (place Spaced 1028) 512
+pub by-mark : (file : FileState) (sector : List ℕ) (marked : Bool) (layout : Layout) → place Spaced 1028 + 512 ≤ file.size → sector ≡ values_from file.seen (place Spaced 1028) 512
     → is_marked sector ≡ marked → layout ≡ (if marked then Spaced else Packed) → layout ≡ layout_in file
 unfolding layout_in
 by-mark file sector marked layout long read is found =
-    let yes = le-leb (place Spaced 1029) file.size long in
+    let yes = le-leb (place Spaced 1028 + 512) file.size long in
     let known : is_marked (values_from file.seen (place Spaced 1028) 512) ≡ marked = sym (ap is_marked read) ∙ is in
     found ∙ rw (yes, known) refl
 
@@ -105,8 +104,8 @@ marked old mid new sure first second =
 
 -- ---- a file with zeros in the place of the sectors
 
-zero-at : (f : ℕ → ℕ) (count p : ℕ) → p < count → put_from f 0 (replicate count 0) p ≡ 0
-zero-at f count p lt = put-at f 0 p (replicate count 0) (omega arith) ∙ get_or-replicate count (p - 0) 0 (f p) (omega (arith, lt))
+zero-at : (f : ℕ → ℕ) (at count p : ℕ) → at ≤ p → p < at + count → put_from f at (replicate count 0) p ≡ 0
+zero-at f at count p le lt = put-at f at p (replicate count 0) le ∙ get_or-replicate count (p - at) 0 (f p) (omega (arith, le, lt))
 
 all-zeros : (at : ℕ) → values_from (λ _. 0) at 512 ≡ zero_sector
 unfolding values_from zero_sector
@@ -127,7 +126,7 @@ some-room Spaced = omega arith
 found-again : (layout : Layout) (before new : FileState) (xs : List ℕ) → HasMark layout before → new ≡ file_after_write before 0 xs → length xs ≡ place layout 1028
     → new.size ≡ max before.size (0 + length xs) → layout_in new ≡ layout
 found-again Packed before new xs (inl short) is long size = sym (too-short new (omega (arith, short, size, long)))
-found-again Packed before new xs (inr zeros) is long size = elim (cases_lt new.size (place Spaced 1029)) [
+found-again Packed before new xs (inr zeros) is long size = elim (cases_lt new.size (place Spaced 1028 + 512)) [
   | inl short ↦ sym (too-short new short)
   | inr enough ↦
       let same = read-elsewhere before new (place Spaced 1028) 0 xs is (inr (omega (arith, long))) in
@@ -170,7 +169,7 @@ cleared old before synced over new layout count was first second many third =
           ap (λ (f : FileState). values_from f.seen (place layout i) 512) third
           ∙ zeros-read over.seen (place layout i) (λ k small.
           ap (λ (f : FileState). f.seen (place layout i + k)) second ∙ write-seen synced 0 (replicate count 0) (place layout i + k)
-          ∙ zero-at synced.seen count (place layout i + k) (omega (arith, within, many, small)));
+          ∙ zero-at synced.seen 0 count (place layout i + k) (omega arith) (omega (arith, within, many, small)));
       found = ap layout_in third ∙ layout-synced over ∙ found-again layout synced over (replicate count 0) has second (long ∙ many) size;
     }
 
@@ -182,9 +181,9 @@ honest-when layout sectors shown first behaves sure suited clean durable long =
     let enough = le-leb (place layout sectors) first.size long in
     rw (behaves, sure, suited, clean, durable, enough) refl
 
--- a spaced file has its sectors and the block of the mark
-spaced-room : (file : FileState) → layout_in file ≡ Spaced → place Spaced 1029 ≤ file.size
-spaced-room file is = elim (cases_lt file.size (place Spaced 1029)) [
+-- a spaced file has its sectors and the mark
+spaced-room : (file : FileState) → layout_in file ≡ Spaced → place Spaced 1028 + 512 ≤ file.size
+spaced-room file is = elim (cases_lt file.size (place Spaced 1028 + 512)) [
   | inl short ↦ absurd (let no : Packed ≡ Spaced = too-short file short ∙ is in cc)
   | inr long ↦ long
 ]
@@ -200,6 +199,12 @@ size-lengthened file size = elim (cases_lt file.size size) [
       ap (λ (n : ℕ). (file_after_write file file.size (replicate n 0)).size) none ∙ (omega (arith, enough))
 ]
 
+-- one with so many sectors is as long as they are
+long-already : (layout : Layout) (least : ℕ) (file : FileState) (count : ℕ) → layout ≡ layout_in file → count ≡ sectors_in layout file.size → least ≤ count
+    → place layout least - file.size ≡ 0
+long-already Packed least file count found is le = omega (arith, is, le)
+long-already Spaced least file count found is le = let room = spaced-room file (sym found) in omega (arith, is, le, room)
+
 -- so a file that was made ready has all sectors
 long-enough : (layout : Layout) (settled : FileState) (least : ℕ) → layout ≡ layout_in settled
     → place layout (max (sectors_in layout settled.size) least) ≤ (file_lengthened settled (place layout least)).size
@@ -209,19 +214,64 @@ long-enough Spaced settled least found =
     let room = spaced-room settled (sym found) in
     omega (arith, size, room)
 
+-- Its layout is found again: what made a packed file longer are zeros, also in the place of a mark.
+same-layout : (old new : FileState) → place Spaced 1028 + 512 ≤ old.size → old.size ≤ new.size
+    → values_from new.seen (place Spaced 1028) 512 ≡ values_from old.seen (place Spaced 1028) 512 → layout_in new ≡ layout_in old
+unfolding layout_in
+same-layout old new long longer same =
+    let was = le-leb (place Spaced 1028 + 512) old.size long in
+    let is = le-leb (place Spaced 1028 + 512) new.size (omega (arith, long, longer)) in
+    rw (was, is, same) refl
+
+packed-still : (file : FileState) (size : ℕ) → file.size ≤ place Spaced 1028 → Packed ≡ layout_in (file_lengthened file size)
+packed-still file size short =
+    let is = size-lengthened file size in
+    elim (cases_lt (file_lengthened file size).size (place Spaced 1028 + 512)) [
+      | inl still ↦ too-short (file_lengthened file size) still
+      | inr long ↦ by-mark (file_lengthened file size) zero_sector false Packed long
+          (sym (zeros-read (file_lengthened file size).seen (place Spaced 1028) (λ k lt. write-seen file file.size (replicate (size - file.size) 0) (place Spaced 1028 + k)
+          ∙ zero-at file.seen file.size (size - file.size) (place Spaced 1028 + k) (omega (arith, short)) (omega (arith, is, long, short, lt))))) unmarked refl
+    ]
+
+found-longer : (layout : Layout) (file : FileState) (size : ℕ) → file.size % 512 ≡ 0 → layout ≡ layout_in file → layout ≡ layout_in (file_lengthened file size)
+found-longer layout file size whole found = elim (cases_lt file.size (place Spaced 1028 + 512)) [
+  | inl short ↦ found ∙ sym (too-short file short) ∙ packed-still file size (omega (arith, short, whole))
+  | inr long ↦
+      let zeros : List ℕ = replicate (size - file.size) 0 in
+      let is = size-lengthened file size in
+      found ∙ sym (layout-synced (file_after_write file file.size zeros)
+      ∙ same-layout file (file_after_write file file.size zeros) long (omega (arith, is))
+      (read-elsewhere file (file_after_write file file.size zeros) (place Spaced 1028) file.size zeros refl (inl long)))
+]
+
 all-there : (layout : Layout) (sectors old new : ℕ) → sectors ≡ max (sectors_in layout old) 1028 → place layout 1028 ≤ new → old ≤ new → place layout sectors ≤ new
 all-there Packed sectors old new all long longer = omega (arith, all, long, longer)
 all-there Spaced sectors old new all long longer = omega (arith, all, long)
 
+-- a settled file is still, and one that is long enough stays as it is
+pub still : (old new : FileState) → Settles old new → IsStill new
+still old new (image, is_image, shown, is) = (ap (λ (f : FileState). f.is_sure) is, subst (λ (f : FileState). file_after_sync f ≡ f) (sym is) refl)
+
+pub enough : (file new : FileState) (least octets count : ℕ) (layout : Layout) → IsStill file → octets ≡ file.size → new ≡ file → layout ≡ layout_in file
+    → count ≡ sectors_in layout octets → least ≤ count → IsExtent file new least layout count
+enough file new least octets count layout still size same found is le =
+    let all : count ≡ sectors_in layout file.size = is ∙ ap (sectors_in layout) size in
+    let none : place layout least - file.size ≡ 0 = long-already layout least file count found all le in
+    record {
+      found = found;
+      count = omega (arith, all, le);
+      file = same ∙ sym still.1 ∙ ap (λ (n : ℕ). file_after_sync (file_after_write file file.size (replicate n 0))) (sym none);
+    }
+
 module _ {F : Type 0} (file : F → FileState) where
   -- a disk over a file that was settled and made longer
-  pub opened : (given ready : F) (layout : Layout) (past : List (Snapshot F)) (shown : Snapshot F) (least count sectors clock failures : ℕ)
-      → IsExtent (file given) (file ready) least layout count → (file given).size % 512 ≡ 0 → Behaves (file given) → shown.value ≡ ready → past ≡ []
-      → sectors ≡ count → clock ≡ 0 → IsOpened (file given) least layout (disk_by file layout past shown sectors clock failures)
-  opened given ready layout past shown least count sectors clock failures extent whole behaves is none all start =
-      let settled = extent.settled in
+  pub opened : (given ready : F) (settled : FileState) (layout : Layout) (past : List (Snapshot F)) (shown : Snapshot F) (least count sectors clock failures : ℕ)
+      → IsExtent settled (file ready) least layout count → Settles (file given) settled → settled.size % 512 ≡ 0 → settled.behaves ≡ true
+      → shown.value ≡ ready → past ≡ [] → sectors ≡ count
+      → IsOpened (file given) least layout (disk_by file layout past shown sectors clock failures)
+  opened given ready settled layout past shown least count sectors clock failures extent settles whole behaves is none all =
       let made : file shown.value ≡ file_lengthened settled (place layout least) = ap file is ∙ extent.file in
-      let how = extent.settles.3 in
+      let how = settles.3 in
       let zeros : List ℕ = replicate (place layout least - settled.size) 0 in
       let block : (file shown.value).block ≡ (file given).block =
       ap (λ (f : FileState). f.block) made ∙ write-block settled settled.size zeros ∙ ap (λ (f : FileState). f.block) how in
@@ -229,13 +279,14 @@ module _ {F : Type 0} (file : F → FileState) where
       subst (λ (n : ℕ). place layout n ≤ (file shown.value).size) (sym (all ∙ extent.count))
       (subst (λ (f : FileState). place layout (max (sectors_in layout settled.size) least) ≤ f.size) (sym made) (long-enough layout settled least extent.found)) in
       record {
-        whole = whole;
+        whole = ap (λ (f : FileState). f.size % 512) (sym how) ∙ whole;
         settled = settled;
-        settles = extent.settles;
+        settles = settles;
         found = extent.found;
+        again = found-longer layout settled (place layout least) whole extent.found;
         sectors = all ∙ extent.count;
         honest = λ suited. rw none (honest-when layout sectors (file shown.value) (file shown.value)
-            (ap (λ (f : FileState). f.behaves) made ∙ write-behaves settled settled.size zeros ∙ ap (λ (f : FileState). f.behaves) how ∙ behaves)
+            (ap (λ (f : FileState). f.behaves) made ∙ write-behaves settled settled.size zeros ∙ behaves)
             (ap (λ (f : FileState). f.is_sure) made ∙ write-sure settled settled.size zeros ∙ ap (λ (f : FileState). f.is_sure) how)
             (ap (suits layout) block ∙ suited)
             (ap (λ (f : FileState). f.is_clean) made)
@@ -245,20 +296,24 @@ module _ {F : Type 0} (file : F → FileState) where
       }
 
   -- a new disk over a file that was cleared
-  pub blank : (settled ready : F) (layout : Layout) (past : List (Snapshot F)) (shown : Snapshot F) (sectors clock failures : ℕ)
-      → IsCleared (file settled) (file ready) layout → (file ready).behaves ≡ true → sectors ≡ max (sectors_in layout (file settled).size) 1028
-      → shown.value ≡ ready → past ≡ [] → IsBlank (file shown.value) layout (disk_by file layout past shown sectors clock failures)
+  pub blank : (old : FileState) (settled ready : F) (layout : Layout) (past : List (Snapshot F)) (shown : Snapshot F) (sectors clock failures : ℕ)
+      → Settles old (file settled) → IsCleared (file settled) (file ready) layout → (file ready).behaves ≡ true → sectors ≡ max (sectors_in layout (file settled).size) 1028
+      → shown.value ≡ ready → past ≡ [] → IsBlank old (file ready) layout (disk_by file layout past shown sectors clock failures)
   unfolding state_in_file
-  blank settled ready layout past shown sectors clock failures cleared behaves all is none =
-      let was : IsCleared (file settled) (file shown.value) layout = subst (λ (f : F). IsCleared (file settled) (file f) layout) (sym is) cleared in
+  blank old settled ready layout past shown sectors clock failures settles was behaves all is none =
       let long = was.long in
       let longer = was.longer in
+      let how = settles.3 in
+      let block : (file ready).block ≡ old.block = was.block ∙ ap (λ (f : FileState). f.block) how in
+      let shows : file shown.value ≡ file ready = ap file is in
       record {
-        honest = λ suited. rw none (honest-when layout sectors (file shown.value) (file shown.value) (ap (λ (f : F). (file f).behaves) is ∙ behaves) was.is_sure suited
-            was.is_clean was.is_size_durable (all-there layout sectors (file settled).size (file shown.value).size all long longer));
-        enough = omega (arith, all);
-        zeros = λ i lt. rw none (was.zeros i lt);
-        durable = λ i. rw none (ap (λ (f : ℕ → ℕ). values_from f (place layout i) 512) was.durable);
-        clean = λ i. rw none (was.clean (place layout i / (file shown.value).block));
+        block = block;
+        honest = λ suited. rw (none, shows) (honest-when layout sectors (file ready) (file ready) behaves was.is_sure (ap (suits layout) block ∙ suited)
+            was.is_clean was.is_size_durable (all-there layout sectors (file settled).size (file ready).size all long longer));
+        sectors = all ∙ ap (λ (f : FileState). max (sectors_in layout f.size) 1028) how;
+        state = rw none (ap (state_in_file layout) shows);
+        zeros = λ i lt. rw (none, shows) (was.zeros i lt);
+        durable = λ i. rw (none, shows) (ap (λ (f : ℕ → ℕ). values_from f (place layout i) 512) was.durable);
+        clean = λ i. rw (none, shows) (was.clean (place layout i / (file ready).block));
         found = was.found;
       }

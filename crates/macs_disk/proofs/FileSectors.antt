@@ -1,13 +1,13 @@
 -- What the calls of a file do, sector by sector.
-use Rattle.std.proofs.Common.{◌≡◌, ◌≢◌, ◌≤◌, ◌<◌, ◌+◌, ◌-◌, ◌*◌, ◌/◌, ◌&&◌, ◌||◌, ◌==◌, ◌⊎◌, inl, inr, ℕ, zero, suc, max, Bool, true, false, List, [], ◌∷◌, ◌++◌, length, get_or, nat_le, nat_lt, refl, ap, ◌∙◌, arith, subst, sym, Result, Ok, Err, OnOk}
-use Rattle.std.proofs.lemmas.Bool.{cases_lt, cases_eq, le-leb, lt-leb, lt-ltb, le-ltb}
+use Rattle.std.proofs.Common.{◌≡◌, ◌≢◌, ◌≤◌, ◌<◌, ◌+◌, ◌-◌, ◌*◌, ◌/◌, ◌&&◌, ◌||◌, ◌==◌, ◌⊎◌, inl, inr, ℕ, Bool, true, false, List, [], ◌∷◌, ◌++◌, length, get_or, nat_lt, refl, ap, ◌∙◌, arith, subst, sym, Result, Ok, Err, OnOk}
+use Rattle.std.proofs.lemmas.Bool.{cases_lt, cases_eq, lt-ltb, le-ltb}
 use Rattle.std.proofs.lemmas.List.{ext_get_or}
 use Rattle.std.proofs.lemmas.Grind.{get_or_default_zero}
 use Rattle.macs_disk.specs.States.{IsImage, IsSector, put_sector, state_after_write, state_after_sync}
 use Rattle.macs_disk.specs.Disk.{Reads, Writes, Syncs}
 use Rattle.macs_disk.specs.Files.{FileState, Behaves, IsSure, IsFileImage, IsSoundFile, SyncsFile, WritesSome, WritesAll, put_from, has_some, values_from, file_after_write, file_after_sync}
 use Rattle.macs_disk.specs.FileDisks.{image_in_file, keeps_disk, state_in_file}
-use Rattle.macs_disk.specs.FileEvidence.{StandsAt, is_same, length-values, stands-at, value-at, values-same, values-sector}
+use Rattle.macs_disk.specs.FileEvidence.{is_same, length-values, stands-at, value-at, values-same, values-sector}
 use Rattle.macs_disk.specs.Layouts.{place, suits}
 use Rattle.macs_disk.specs.declared.layout.Layout.{Layout}
 use Rattle.macs_disk.specs.declared.layout.Layout.TheVariants.{Packed, Spaced}

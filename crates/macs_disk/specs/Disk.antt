@@ -1,5 +1,5 @@
 -- A disk through time, and what one call of it does.
-use Rattle.std.specs.Prelude.{◌≡◌, ◌≤◌, ◌<◌, ◌+◌, ◌⊎◌, ℕ, Bool, true, false, List, Result, IsErr, OnOk, OnErr}
+use Rattle.std.specs.Prelude.{◌≡◌, ◌≤◌, ◌+◌, ◌⊎◌, ℕ, Bool, true, false, List, Result, IsErr, OnOk, OnErr}
 use Rattle.macs_disk.specs.States.{IsSector, Image, DiskState, IsImage, settled_state, state_after_write, state_after_sync}
 
 -- a disk through time. `past k` is its state at moment k, for each k up to the clock. A worn disk

@@ -2,9 +2,10 @@
 use Rattle.std.specs.Prelude.{◌≡◌, ◌≤◌, ◌<◌, ◌-◌, ◌/◌, ◌%◌, ◌^◌, ◌==◌, ◌&&◌, ◌⊎◌, ℕ, Bool, true, false, max, nat_le, get_or, replicate}
 use Rattle.macs_disk.specs.States.{DiskState, Image, zero_sector}
 use Rattle.macs_disk.specs.Disk.{Disk, IsHonest, now}
-use Rattle.macs_disk.specs.Files.{FileState, IsSure, Settles, file_after_sync, file_after_write, values_from}
+use Rattle.macs_disk.specs.Files.{Behaves, FileState, IsSure, Settles, file_after_sync, file_after_write, file_in_doubt, values_from}
 use Rattle.macs_disk.specs.Layouts.{layout_in, mark, place, sectors_in, suits}
 use Rattle.macs_disk.specs.declared.file.FileDisk.{FileDisk}
+use Rattle.macs_disk.specs.declared.settled_file.SettledFile.{SettledFile}
 use Rattle.macs_disk.specs.declared.layout.Layout.{Layout}
 use Rattle.macs_disk.specs.declared.layout.Layout.TheVariants.{Packed, Spaced}
 
@@ -55,6 +56,15 @@ file_left it = it.file
 abbrev pub file_shown : {F : Type 0} → FileDisk F → F
 file_shown it = it.shown.value
 
+-- its file is left as the disk shows it, or in doubt, after a sync that failed
+abbrev pub IsLeftAsShown : {F : Type 0} → (F → FileState) → FileDisk F → Type 0
+IsLeftAsShown file it = Behaves (file (file_left it))
+    → (file (file_left it) ≡ file (file_shown it)) ⊎ (file (file_left it) ≡ file_in_doubt (file (file_shown it)))
+
+-- a call of it failed, so that each later one fails
+abbrev pub is_stopped : {F : Type 0} → FileDisk F → Bool
+is_stopped it = it.is_failed
+
 -- how its sectors lie in the file
 abbrev pub layout_of : {F : Type 0} → FileDisk F → Layout
 layout_of it = it.layout
@@ -63,28 +73,43 @@ layout_of it = it.layout
 abbrev pub file_lengthened : FileState → ℕ → FileState
 file_lengthened file size = file_after_sync (file_after_write file file.size (replicate (size - file.size) 0))
 
+-- the file that was settled, as it was handed over
+abbrev pub file_before : {F : Type 0} → SettledFile F → F
+file_before it = it.given.value
+
+-- how many octets were measured
+abbrev pub octets_of : {F : Type 0} → SettledFile F → ℕ
+octets_of it = it.octets
+
+-- a file is settled, and was measured to be whole sectors
+abbrev pub IsSettled : {F : Type 0} → (F → FileState) → SettledFile F → Type 0
+IsSettled file it = Settles (file (file_before it)) (file it.file) × (octets_of it ≡ (file it.file).size) × (octets_of it % 512 ≡ 0)
+
 -- a disk that was opened over a file which behaves. The file was settled first, and then made longer where it had fewer
 -- sectors than were asked for: the disk's are those of the file then, all of them durable. It is honest where the
--- device's blocks suit the layout.
+-- device's blocks suit the layout, which is found again.
 pub record IsOpened (file : FileState) (least : ℕ) (layout : Layout) (disk : Disk) : Type 0 where
   pub whole : file.size % 512 ≡ 0
   pub settled : FileState
   pub settles : Settles file settled
   pub found : layout ≡ layout_in settled
+  pub again : layout ≡ layout_in (file_lengthened settled (place layout least))
   pub sectors : disk.sectors ≡ max (sectors_in layout settled.size) least
   pub honest : suits layout file.block ≡ true → IsHonest disk
   pub state : now disk ≡ state_in_file layout (file_lengthened settled (place layout least))
 
--- a file of so many octets was made ready for a disk: it was settled, its layout found, and made longer where it had
--- fewer sectors than were asked for
-pub record IsExtent (old new : FileState) (least : ℕ) (layout : Layout) (sectors : ℕ) : Type 0 where
-  pub settled : FileState
-  pub settles : Settles old settled
+-- a sync would change nothing of the file, which shows what is durable
+abbrev pub IsStill : FileState → Type 0
+IsStill file = IsSure file × (file_after_sync file ≡ file)
+
+-- a settled file was made ready for a disk: its layout was found, and it was made longer where it had fewer sectors than
+-- were asked for
+pub record IsExtent (settled new : FileState) (least : ℕ) (layout : Layout) (sectors : ℕ) : Type 0 where
   pub found : layout ≡ layout_in settled
   pub count : sectors ≡ max (sectors_in layout settled.size) least
   pub file : new ≡ file_lengthened settled (place layout least)
 
--- by the mark a file is found to be of this layout: a spaced one has it in the block behind its sectors, and a packed one ends
+-- by the mark a file is found to be of this layout: a spaced one has it in the block after its sectors, and a packed one ends
 -- before that block or begins it with zeros
 abbrev pub HasMark : Layout → FileState → Type 0
 HasMark Packed file = (file.size ≤ place Spaced 1028) ⊎ (values_from file.seen (place Spaced 1028) 512 ≡ zero_sector)
@@ -110,15 +135,18 @@ pub record IsCleared (old new : FileState) (layout : Layout) : Type 0 where
   pub zeros : (i : ℕ) → i < 1028 → values_from new.seen (place layout i) 512 ≡ zero_sector
   pub found : layout_in new ≡ layout
 
--- a new disk of this layout in a file: its first 1,028 sectors are zeros, all of them are durable, and nothing is pending.
--- It is honest where the device's blocks suit the layout, and the layout is found when the file is opened again.
-pub record IsBlank (file : FileState) (layout : Layout) (disk : Disk) : Type 0 where
-  pub honest : suits layout file.block ≡ true → IsHonest disk
-  pub enough : 1028 ≤ disk.sectors
+-- a new disk of this layout in a file that was `old` and is `new`: its first 1,028 sectors are zeros, all of them are durable,
+-- and nothing is pending. It has the sectors that the file had, where these were more. It is honest where the device's blocks
+-- suit the layout, and the layout is found when the file is opened again.
+pub record IsBlank (old new : FileState) (layout : Layout) (disk : Disk) : Type 0 where
+  pub block : new.block ≡ old.block
+  pub honest : suits layout old.block ≡ true → IsHonest disk
+  pub sectors : disk.sectors ≡ max (sectors_in layout old.size) 1028
+  pub state : now disk ≡ state_in_file layout new
   pub zeros : (i : ℕ) → i < 1028 → (now disk).seen i ≡ zero_sector
   pub durable : (i : ℕ) → (now disk).durable i ≡ (now disk).seen i
   pub clean : (i : ℕ) → (now disk).pending i ≡ false
-  pub found : layout_in file ≡ layout
+  pub found : layout_in new ≡ layout
 
 -- a disk of which no call was made yet
 pub record IsFresh (disk : Disk) : Type 0 where

@@ -26,10 +26,10 @@ mark = spaced_mark ++ replicate 504 0
 abbrev pub is_marked : List ℕ → Bool
 is_marked octets = starts_with nat_eq octets spaced_mark
 
--- the layout of a file, by what it shows: it is spaced where the block after the sectors of one has the mark
+-- the layout of a file, by what it shows: it is spaced where the block after the sectors of one begins with the mark
 unfoldable pub layout_in : FileState → Layout
 layout_in file =
-    if nat_le (place Spaced (spaced_sectors + 1)) file.size && is_marked (values_from file.seen (place Spaced spaced_sectors) 512)
+    if nat_le (place Spaced spaced_sectors + 512) file.size && is_marked (values_from file.seen (place Spaced spaced_sectors) 512)
     then Spaced else Packed
 
 -- how many sectors a file of so many octets has

@@ -1,6 +1,6 @@
 //! A disk in a file.
 
-ghost use Rattle.std.specs.Prelude.{◌≡◌, ◌<◌, ◌≤◌, ◌+◌, ◌-◌, ◌^◌, ◌↔◌, true, false, [], ◌∷◌, ◌++◌, length, IsErr, OnErr, OnOk};
+ghost use Rattle.std.specs.Prelude.{◌≡◌, ◌<◌, ◌≤◌, ◌+◌, ◌-◌, ◌^◌, ◌↔◌, ◌⊎◌, true, false, [], ◌∷◌, ◌++◌, length, IsErr, OnErr, OnOk};
 ghost use Rattle.macs_disk.specs.Layouts.{place};
 
 use crate::disk::{DeviceFault, SectorDisk};
@@ -55,6 +55,7 @@ impl<F: DiskFile> FileDisk<F> {
         requires { place layout sectors < 2 ^ 64 }
         ensures sectors { result.sectors ≡ sectors }
         ensures layout { result.layout ≡ layout }
+        ensures file { result.file ≡ file }
         ensures shown { result.shown.value ≡ file }
         ensures given { result.given.value ≡ given.value }
         ensures past { result.past.items ≡ [] }
@@ -98,6 +99,8 @@ impl<F: DiskFile> FileDisk<F> {
             → (self.new.clock ≡ self.old.clock + 1) × (self.new.failures ≡ self.old.failures + 1)
             × (self.new.past.items ≡ self.old.past.items ++ self.old.shown ∷ [])) }
         ensures fits { OnErr result (self.old.clock < 2 ^ 64) }
+        ensures stopped { OnErr result ((self.old.is_failed ≡ true) ⊎ (self.old.clock ≡ 2 ^ 64 - 1)) }
+        ensures same { self.new.is_failed ≡ self.old.is_failed }
         ensures shown { self.new.shown ≡ self.old.shown }
         ensures file { self.new.file ≡ self.old.file }
         ensures layout { self.new.layout ≡ self.old.layout }
@@ -122,6 +125,7 @@ impl<F: DiskFile> FileDisk<F> {
         ensures alike { IsErr result ↔ IsErr answer }
         ensures ok { OnOk result (self.new.failures ≡ self.old.failures) }
         ensures err { OnErr result (self.new.failures ≡ self.old.failures + 1) }
+        ensures stopped { OnErr result (self.new.is_failed ≡ true) }
         ensures clock { self.new.clock ≡ self.old.clock }
         ensures sectors { self.new.sectors ≡ self.old.sectors }
         ensures layout { self.new.layout ≡ self.old.layout }
@@ -141,10 +145,10 @@ impl<F: DiskFile> FileDisk<F> {
 }
 
 impl<F: DiskFile> SectorDisk for FileDisk<F> {
-    ghost use Rattle.std.specs.Prelude.{◌≡◌, ◌<◌, ◌⊎◌, OnErr};
+    ghost use Rattle.std.specs.Prelude.{◌≡◌, ◌<◌, ◌⊎◌, IsErr, OnErr, true};
     ghost use Rattle.macs_disk.specs.Disk.{IsDeviceCall, IsHonest, Reads, Syncs, Writes, now};
     ghost use Rattle.macs_disk.specs.Evidence.{full-clock};
-    ghost use Rattle.macs_disk.specs.FileDisks.{disk_in_file, file_left, layout_of};
+    ghost use Rattle.macs_disk.specs.FileDisks.{IsLeftAsShown, disk_in_file, file_left, is_stopped, layout_of};
     ghost use Rattle.macs_disk.specs.FileEvidence.{file-sound};
     ghost use Rattle.macs_disk.specs.Files.{Behaves, WritesAll, file_in_doubt};
     ghost use Rattle.macs_disk.specs.Layouts.{place};
@@ -166,6 +170,9 @@ impl<F: DiskFile> SectorDisk for FileDisk<F> {
             → Reads (now (disk_in_file F.file self.old)) (now (disk_in_file F.file self.new)) at into.new result }
         ensures file { Behaves (F.file (file_left self.old))
             → F.file (file_left self.new) ≡ F.file (file_left self.old) }
+        ensures stops { is_stopped self.old ≡ true → IsErr result }
+        ensures stopped { OnErr result ((is_stopped self.new ≡ true) ⊎ ((disk_in_file F.file self.new).worn ≡ true)) }
+        ensures left { IsLeftAsShown F.file self.old → IsLeftAsShown F.file self.new }
     {
         self.begin()?;
         let answer = read_sector(&mut self.file, self.layout, at, into);
@@ -180,6 +187,9 @@ impl<F: DiskFile> SectorDisk for FileDisk<F> {
             → Writes (now (disk_in_file F.file self.old)) (now (disk_in_file F.file self.new)) at from.now result }
         ensures file { Behaves (F.file (file_left self.old)) → WritesAll (F.file (file_left self.old))
             (F.file (file_left self.new)) (place (layout_of self.old) at) from.now result }
+        ensures stops { is_stopped self.old ≡ true → IsErr result }
+        ensures stopped { OnErr result ((is_stopped self.new ≡ true) ⊎ ((disk_in_file F.file self.new).worn ≡ true)) }
+        ensures left { IsLeftAsShown F.file self.old → IsLeftAsShown F.file self.new }
     {
         self.begin()?;
         let answer = write_all(&mut self.file, self.layout.place(at), from);
@@ -196,6 +206,9 @@ impl<F: DiskFile> SectorDisk for FileDisk<F> {
         ensures file { Behaves (F.file (file_left self.old)) → OnErr result
             ((F.file (file_left self.new) ≡ F.file (file_left self.old))
             ⊎ (F.file (file_left self.new) ≡ file_in_doubt (F.file (file_left self.old)))) }
+        ensures stops { is_stopped self.old ≡ true → IsErr result }
+        ensures stopped { OnErr result ((is_stopped self.new ≡ true) ⊎ ((disk_in_file F.file self.new).worn ≡ true)) }
+        ensures left { IsLeftAsShown F.file self.old → IsLeftAsShown F.file self.new }
     {
         self.begin()?;
         if self.clock == 1 {

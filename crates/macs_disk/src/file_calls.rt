@@ -38,6 +38,20 @@ fn read_whole<F: DiskFile>(file: &mut F, from: u64, into: &mut [u8; 512]) -> io:
     Err(io::Error::from(io::ErrorKind::TimedOut))
 }
 
+/// Reads the 512 octets from octet `from` on. It is `UnexpectedEof` where the file ends before. An
+/// interrupted read is tried again.
+pub fn read_exact_at<F: DiskFile>(file: &mut F, from: u64, into: &mut [u8; 512]) -> io::Result<()>
+    ensures steady { (F.file file.new).behaves ≡ (F.file file.old).behaves }
+    ensures same { Behaves (F.file file.old) → F.file file.new ≡ F.file file.old }
+    ensures octets { Behaves (F.file file.old) → IsSure (F.file file.old)
+        → OnOk result (into.new ≡ values_from (F.file file.old).seen from 512) }
+{
+    if from >= u64::MAX - 512 {
+        return Err(io::Error::from(io::ErrorKind::UnexpectedEof));
+    }
+    read_whole(file, from, into)
+}
+
 /// Writes all of these octets.
 pub(crate) fn write_all<F: DiskFile>(file: &mut F, at: u64, from: &[u8]) -> io::Result<()>
     requires { at + length from.now < 2 ^ 64 }

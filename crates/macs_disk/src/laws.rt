@@ -9,8 +9,8 @@ ghost use Rattle.macs_disk.specs.Runs.{Leaves, LeavesNothingNew};
 ghost use Rattle.macs_disk.specs.Fused.{FuseValue, disk_of_fuse};
 ghost use Rattle.macs_disk.specs.MemDisks.{disk_of};
 ghost use Rattle.macs_disk.specs.declared.memory.MemDisk.{MemDisk};
-ghost use Rattle.macs_disk.specs.Files.{FileState, IsFileImage, WritesSome, file_in_doubt};
-ghost use Rattle.macs_disk.specs.FileDisks.{IsOpened, disk_in_file, image_in_file, state_in_file};
+ghost use Rattle.macs_disk.specs.Files.{Behaves, FileState, IsFileImage, WritesSome, file_in_doubt};
+ghost use Rattle.macs_disk.specs.FileDisks.{IsLeftAsShown, IsOpened, disk_in_file, file_left, image_in_file, layout_of, state_in_file};
 ghost use Rattle.macs_disk.specs.Layouts.{place, suits};
 ghost use Rattle.macs_disk.specs.declared.file.FileDisk.{FileDisk};
 ghost use Rattle.macs_disk.specs.declared.layout.Layout.{Layout};
@@ -203,6 +203,13 @@ pub fn inside_a_write_a_file_leaves_what_its_disk_may()
 /// What a power loss may leave of a file after a sync that failed, it could leave before.
 pub fn a_failed_sync_of_a_file_leaves_nothing_new()
     ensures { (file : FileState) (image : ℕ → ℕ) → IsFileImage (file_in_doubt file) image → IsFileImage file image }
+{}
+
+/// What a power loss may leave of the file of a disk, one of whose calls may have failed, it may leave of
+/// the disk.
+pub fn a_file_is_left_as_its_disk<F: DiskFile>()
+    ensures { (it : FileDisk F) (image : Image) → IsLeftAsShown F.file it → Behaves (F.file (file_left it))
+        → IsImage (state_in_file (layout_of it) (F.file (file_left it))) image → MayLeave (disk_in_file F.file it) image }
 {}
 
 /// No octet of a file, and no block of a device that suits its layout, is in two sectors.

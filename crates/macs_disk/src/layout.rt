@@ -12,7 +12,7 @@ pub(crate) const BLOCK_OCTETS: u64 = 4_096;
 /// How many sectors a disk in a spaced file has.
 pub(crate) const SPACED_SECTORS: u64 = 1_028;
 
-/// Where the mark of a spaced file stands: in the block behind its last sector.
+/// Where the mark of a spaced file stands: in the block after its last sector.
 pub(crate) const MARK_PLACE: u64 = BLOCK_OCTETS * SPACED_SECTORS;
 
 /// What the mark of a spaced file begins with.
@@ -54,7 +54,7 @@ impl Layout {
 }
 
 /// The sector that marks a spaced file, as it is written: `MSEC4096`, and zeros.
-pub(crate) fn mark() -> [u8; 512]
+pub fn spaced_mark() -> [u8; 512]
     ensures { result ≡ mark }
 {
     let mut sector = [0; 512];

@@ -1,10 +1,12 @@
 //! Disks of sectors, and what a power loss at any moment may leave on them.
 #![tactic(auto)]
 
+mod clearing;
 mod disk;
 mod disk_file;
 mod file;
 mod file_calls;
+mod file_fault;
 mod file_opening;
 mod fuse;
 pub mod laws;
@@ -12,11 +14,15 @@ mod layout;
 mod log;
 mod memory;
 mod record;
+mod settled_file;
 
 pub use disk::{DeviceFault, SectorDisk};
 pub use disk_file::DiskFile;
 pub use file::FileDisk;
-pub use file_opening::{FileFault, make_file, sync_folder};
+pub use file_calls::read_exact_at;
+pub use file_fault::FileFault;
+pub use file_opening::{make_file, sync_folder};
 pub use fuse::Fuse;
-pub use layout::Layout;
+pub use layout::{Layout, spaced_mark};
 pub use memory::{MemDisk, MemFault};
+pub use settled_file::SettledFile;

@@ -1,6 +1,6 @@
 -- Disks in files, as histories have them.
-use Rattle.std.proofs.Common.{◌≡◌, ◌<◌, ◌-◌, ℕ, false, true, replicate, refl, ap, ◌∙◌, arith, le_refl}
-use Rattle.macs_disk.specs.Disk.{Disk, MayLeave, now}
+use Rattle.std.proofs.Common.{◌≡◌, ◌<◌, ◌-◌, ℕ, true, replicate, refl, ap, ◌∙◌, arith, le_refl}
+use Rattle.macs_disk.specs.Disk.{Disk, MayLeave}
 use Rattle.macs_disk.specs.FileDisks.{IsBlank, IsOpened, file_lengthened, image_in_file, state_in_file}
 use Rattle.macs_disk.specs.Files.{FileState, file_after_sync, file_after_write, file_settled}
 use Rattle.macs_disk.specs.Layouts.{place, suits}
@@ -12,10 +12,10 @@ use Rattle.macs_headline.specs.Binding.{IsNewDisk}
 use Rattle.macs_headline.specs.Deeds.{LosesPower}
 use Rattle.macs_headline.proofs.Built.{closed-gate}
 
-pub blank-file-is-new : (file : FileState) (layout : Layout) (disk : Disk) → IsBlank file layout disk → suits layout file.block ≡ true → IsNewDisk disk
-blank-file-is-new file layout disk blank suited = record {
+pub blank-file-is-new : (old new : FileState) (layout : Layout) (disk : Disk) → IsBlank old new layout disk → suits layout old.block ≡ true → IsNewDisk disk
+blank-file-is-new old new layout disk blank suited = record {
   honest = blank.honest suited;
-  large = blank.enough;
+  large = let all = blank.sectors in omega (arith, all);
   closed = λ image left. (closed-gate image 0 0 (zero image left 1 (omega arith)), closed-gate image 1 0 (zero image left 515 (omega arith)));
 } where
   zero : (image : Image) → MayLeave disk image → (i : ℕ) → i < 1028 → image i ≡ zero_sector

@@ -2,11 +2,12 @@
 
 ghost use Rattle.std.specs.Prelude.{◌≡◌, ◌≤◌, ℕ, true};
 ghost use Rattle.macs_disk.specs.Disk.{Disk, LeftSince, MayLeave, disk_after_loss};
-ghost use Rattle.macs_disk.specs.FileDisks.{IsBlank, IsOpened, state_in_file};
-ghost use Rattle.macs_disk.specs.Files.{FileState};
+ghost use Rattle.macs_disk.specs.FileDisks.{IsBlank, IsLeftAsShown, IsOpened, disk_in_file, file_left, layout_of, state_in_file};
+ghost use Rattle.macs_disk.specs.Files.{Behaves, FileState};
 ghost use Rattle.macs_disk.specs.Layouts.{suits};
 ghost use Rattle.macs_disk.specs.Memory.{blank_memory};
 ghost use Rattle.macs_disk.specs.States.{Image, IsImage};
+ghost use Rattle.macs_disk.specs.declared.file.FileDisk.{FileDisk};
 ghost use Rattle.macs_disk.specs.declared.layout.Layout.{Layout};
 ghost use Rattle.macs_journal.specs.Areas.{least_sectors};
 ghost use Rattle.macs_headline.specs.Binding.{DeedsAreHistories, FramesAreWrittenOnce, IsNewDisk, LivesAreMoments};
@@ -20,7 +21,8 @@ ghost use Rattle.macs_headline.specs.Numbers.{UsedOnce, UsedOnceAtEnd};
 ghost use Rattle.macs_headline.specs.Openings.{RefusedForDisk, RefusedForDiskOrBlank};
 
 use crate::example::peer_frame_in_range;
-use macs_disk::SectorDisk;
+use macs_disk::laws::a_file_is_left_as_its_disk;
+use macs_disk::{DiskFile, SectorDisk};
 
 /// Over every history: opening finds the configuration after a prefix of the accepted commands that
 /// holds every acknowledged one; each frame that is written is the standard's, no two carry the same
@@ -86,13 +88,20 @@ pub fn power_losses()
 {}
 
 /// A disk in a file that behaves is one that histories are of, where the blocks of its device suit the layout.
-pub fn files()
+pub fn files<F: DiskFile>()
     // A new one is a new disk.
-    ensures new { (file : FileState) (layout : Layout) (disk : Disk) → IsBlank file layout disk
-        → suits layout file.block ≡ true → IsNewDisk disk }
-    // To open its file again, after a power loss, a failed sync or an end of the program, is to it what a
-    // power loss is: the new disk has one of the images that the file might have been left with.
+    ensures new { (old new : FileState) (layout : Layout) (disk : Disk) → IsBlank old new layout disk
+        → suits layout old.block ≡ true → IsNewDisk disk }
+    // To open its file again, after a power loss or an end of the program, is to it what a power loss is:
+    // the new disk has one of the images that the file might have been left with.
     ensures opened_again { (file : FileState) (layout : Layout) (old new : Disk) → IsOpened file 0 layout new
         → suits layout file.block ≡ true → ((image : Image) → IsImage (state_in_file layout file) image → MayLeave old image)
         → new.sectors ≡ old.sectors → new.honest ≡ old.honest → LosesPower old old.clock new }
-{}
+    // So it is to open the file that a disk left, be it after a call that failed.
+    ensures reopened { (it : FileDisk F) (new : Disk) → IsLeftAsShown F.file it → Behaves (F.file (file_left it))
+        → suits (layout_of it) (F.file (file_left it)).block ≡ true → IsOpened (F.file (file_left it)) 0 (layout_of it) new
+        → new.sectors ≡ (disk_in_file F.file it).sectors → new.honest ≡ (disk_in_file F.file it).honest
+        → LosesPower (disk_in_file F.file it) (disk_in_file F.file it).clock new }
+{
+    a_file_is_left_as_its_disk::<F>();
+}

@@ -1,7 +1,7 @@
 -- What ends a run before its answer: what the program says of it, and its status.
 use Rattle.std.specs.Prelude.{ℕ, List, codes, string_bytes}
-use Rattle.macs_disk.specs.declared.file_opening.FileFault.{FileFault}
-use Rattle.macs_disk.specs.declared.file_opening.FileFault.TheVariants as file
+use Rattle.macs_disk.specs.declared.file_fault.FileFault.{FileFault}
+use Rattle.macs_disk.specs.declared.file_fault.FileFault.TheVariants as file
 use Rattle.macs_edge.specs.declared.config_fault.ConfigFault.{ConfigFault}
 use Rattle.macs_edge.specs.declared.config_fault.ConfigFault.TheVariants as config
 use Rattle.macs_edge.specs.declared.udp_wire.BindFault.{BindFault}

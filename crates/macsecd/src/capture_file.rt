@@ -1,5 +1,8 @@
 //! What captures ask of a file, besides what a disk does.
 
+ghost use Rattle.std.specs.Prelude.{◌≡◌, OnErr};
+ghost use Rattle.macs_disk.specs.Files.{Behaves};
+
 use macs_disk::DiskFile;
 use std::fs::File;
 use std::io;
@@ -8,12 +11,23 @@ use std::io;
 pub trait CaptureFile: DiskFile {
     /// Claims the file until it is closed, beside other readers. An error where another open of the
     /// file has claimed it for itself alone.
-    fn share(&mut self) -> io::Result<()>;
+    fn share(&mut self) -> io::Result<()>
+        ensures steady { (Self.file self.new).behaves ≡ (Self.file self.old).behaves }
+        ensures effect { Behaves (Self.file self.old) → Self.file self.new ≡ Self.file self.old };
+
+    /// Cuts the file to nothing.
+    fn cut(&mut self) -> io::Result<()>
+        ensures steady { (Self.file self.new).behaves ≡ (Self.file self.old).behaves }
+        ensures err { Behaves (Self.file self.old) → OnErr result (Self.file self.new ≡ Self.file self.old) };
 }
 
 impl CaptureFile for File {
     fn share(&mut self) -> io::Result<()> {
         self.try_lock_shared()?;
         Ok(())
+    }
+
+    fn cut(&mut self) -> io::Result<()> {
+        self.set_len(0)
     }
 }

@@ -2,17 +2,15 @@
 
 ghost use Rattle.std.specs.Prelude.{◌≡◌, ◌↔◌, ◌<◌, ◌+◌, ◌*◌, ◌/◌, ◌^◌, IfOk, IsTrue, OnOk};
 ghost use Rattle.macs_disk.specs.Files.{Behaves, IsSure};
-ghost use Rattle.macs_disk.specs.Layouts.{mark};
 ghost use Rattle.macs_journal.specs.Areas.{least_sectors};
 ghost use Rattle.macs_record.specs.Heads.{Head, IsHeadOf};
 ghost use Rattle.macs_record.specs.Sectors.{Begins};
 ghost use Rattle.macsecd.specs.Contents.{ContentsAre, HasFront, HasFrontInEither, HasHeadMark, HasOpenGate, HoldsEndpoint};
 ghost use Rattle.macsecd.specs.Contents.{IsBlankFile, IsPartOf, IsUnused, leftover, sector_in};
 
-use macs_disk::DiskFile;
+use macs_disk::{DiskFile, read_exact_at, spaced_mark};
 use macs_record::{CLOSED_GATE, Record, SECTOR, decode_head, encode, open_gate};
 use std::io;
-use std::io::ErrorKind;
 
 /// How many sectors of 512 octets a block of a spaced file has.
 const BLOCK_SECTORS: u64 = 8;
@@ -27,10 +25,7 @@ const HEAD_MARK: &[u8; 8] = b"MSECHEAD";
 
 const OPEN_MARK: &[u8; 8] = b"MSECOPEN";
 
-/// What the last block of a spaced file begins with, and its first sector: 1,028 blocks are in
-/// front of it.
-const SPACED_MARK: &[u8; 8] = b"MSEC4096";
-
+/// The sector that has the mark of a spaced file: 1,028 blocks are in front of it.
 const SPACED_MARK_SECTOR: u64 = 8_224;
 
 /// What stands in a file that is to become the disk of an endpoint.
@@ -52,23 +47,7 @@ fn read_sector<F: DiskFile>(file: &mut F, number: u64, sector: &mut [u8; SECTOR]
     ensures octets { Behaves (F.file file.old) → IsSure (F.file file.old)
         → OnOk result (sector.new ≡ sector_in (F.file file.old) number) }
 {
-    let from = SECTOR as u64 * number;
-    let mut done = 0;
-    for _ in 0..u64::MAX {
-        if done >= SECTOR {
-            return Ok(());
-        }
-        match file.read_at(from + done as u64, &mut sector[done..]) {
-            Ok(0) => return Err(io::Error::from(ErrorKind::UnexpectedEof)),
-            Ok(count) => done += count,
-            Err(error) => {
-                if error.kind() != ErrorKind::Interrupted {
-                    return Err(error);
-                }
-            }
-        }
-    }
-    Err(io::Error::from(ErrorKind::TimedOut))
+    read_exact_at(file, SECTOR as u64 * number, sector)
 }
 
 /// Whether a sector begins so.
@@ -141,16 +120,7 @@ fn has_head_mark<F: DiskFile>(file: &mut F, sectors: u64) -> io::Result<bool>
     Ok(is_first || is_second)
 }
 
-/// The sector of the mark of a spaced file: the mark, and zeros.
-fn spaced_mark() -> [u8; SECTOR]
-    ensures { result ≡ mark }
-{
-    let mut sector = CLOSED_GATE;
-    sector[..8].copy_from_slice(SPACED_MARK);
-    sector
-}
-
-/// What a `format` that was cut short may have left in the sector of this number, behind the first:
+/// What a `format` that was cut short may have left in the sector of this number, after the first:
 /// the gate of the head and the first record, packed or spaced, and the mark of a spaced file.
 /// Elsewhere it leaves zeros.
 fn leftover(number: u64) -> [u8; SECTOR]

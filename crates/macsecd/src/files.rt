@@ -1,15 +1,17 @@
 //! The files that the words name.
 
-ghost use Rattle.std.specs.Prelude.{◌≡◌, ◌≢◌, ◌⊎◌, false, true, ℕ, List, IfErr, IfOk, IfSome};
+ghost use Rattle.std.specs.Prelude.{◌≡◌, ◌≢◌, ◌⊎◌, ◌/◌, false, true, ℕ, List, IfErr, IfOk, IfSome, OnErr, OnOk};
+ghost use Rattle.macs_disk.specs.Files.{Behaves, IsSure};
 ghost use Rattle.std.specs.IoError.{error_kind};
 ghost use Rattle.std.specs.declared.io.ErrorKind.TheVariants.{OutOfMemory};
 ghost use Rattle.macsecd.specs.Applying.{SaysCommands};
+ghost use Rattle.macsecd.specs.Contents.{HoldsEndpoint};
 ghost use Rattle.macsecd.specs.declared.failure.DiskFault.{DiskFault};
 
 use crate::applying::{MAX_FILE, commands_in};
 use crate::capture_file::CaptureFile;
 use crate::contents::holds_endpoint;
-use crate::failure::Failure;
+use crate::failure::{DiskFault, Failure};
 use crate::whole_writes::WholeWrites;
 use macs_config::Command;
 use macs_disk::{DiskFile, FileDisk};
@@ -18,6 +20,7 @@ use macs_pcap::{ReaderSource, WriterSink};
 use std::alloc::Global;
 use std::fs::{OpenFile, OpenOptions};
 use std::io::{BufReader, BufWriter, Read, Write};
+use std::os::unix::fs::MetadataExt;
 use std::rt::Files;
 use std::{fs, io};
 
@@ -45,14 +48,30 @@ pub fn failure_of(error: io::Error, failure: Failure) -> Failure
     failure
 }
 
+/// Where the name of standard output is.
+const STANDARD_OUTPUT: &str = "/dev/stdout";
+
+/// Whether standard output goes to the file at a path, where what is printed would be written over its
+/// sectors.
+pub fn is_printed_to<T: Files>(rt: &T, path: &str) -> bool {
+    match (rt.metadata(path), rt.metadata(STANDARD_OUTPUT)) {
+        (Ok(file), Ok(output)) => file.dev() == output.dev() && file.ino() == output.ino(),
+        _ => false,
+    }
+}
+
 /// The endpoint on the disk in a file. It fails as `Memory`, or as `Disk` with `File` or `Length`, where
-/// the file is no disk; then as `Disk` with the fault of the journal, where no endpoint is found on it.
+/// the file is no disk, or standard output goes there; then as `Disk` with the fault of the journal, where no
+/// endpoint is found on it.
 pub fn open_endpoint<T: Files>(rt: &T, path: &str) -> Result<Endpoint<FileDisk<T::File>>, Failure>
 where
     T::File: DiskFile,
     ensures { IfErr result (λ failure. (failure ≡ Failure.Memory)
         ⊎ ((fault : DiskFault) × (failure ≡ Failure.Disk fault))) }
 {
+    if is_printed_to(rt, path) {
+        return Err(Failure::Disk(DiskFault::File));
+    }
     let disk = FileDisk::open(rt, path)?;
     match Endpoint::open(disk) {
         Ok(endpoint) => Ok(endpoint),
@@ -123,15 +142,15 @@ where
     Ok(file)
 }
 
-/// How a capture is opened to be written. What the file holds stays.
-fn how_to_write() -> OpenOptions
+/// How a capture is opened to be written, and maybe read. What the file holds stays.
+fn how_to_write(is_read: bool) -> OpenOptions
     ensures keeps { result.truncate ≡ false }
     ensures made { result.create ≡ true }
-    ensures written { (result.read ≡ false) × (result.write ≡ true) × (result.append ≡ false) }
+    ensures written { (result.read ≡ is_read) × (result.write ≡ true) × (result.append ≡ false) }
 {
     let mut options = OpenOptions::new();
     options
-        .read(false)
+        .read(is_read)
         .write(true)
         .create(true)
         .append(false)
@@ -139,33 +158,52 @@ fn how_to_write() -> OpenOptions
     options
 }
 
-/// Whether the file at a path holds an endpoint. One that may be written and not read is taken for
-/// none.
-fn is_endpoint<T: Files>(rt: &T, path: &str) -> io::Result<bool>
-where
-    T::File: CaptureFile,
-{
-    match fs::open(rt, path) {
-        Ok(mut file) => holds_endpoint(&mut file),
-        Err(error) if error.kind() == io::ErrorKind::PermissionDenied => Ok(false),
-        Err(error) => Err(error),
+/// Whether a device, a pipe or a socket is at a path.
+fn is_special<T: Files>(rt: &T, path: &str) -> bool {
+    match rt.metadata(path) {
+        Ok(about) => !about.is_file() && !about.is_dir(),
+        Err(_) => false,
     }
 }
 
+/// Opens a file to write it, or makes it: and to read it too, so that it can be looked at, where that
+/// is allowed. A pipe is not opened to read, since it would then wait for no reader.
+fn open_output<T: Files>(rt: &T, path: &str) -> io::Result<T::File> {
+    if is_special(rt, path) {
+        return how_to_write(false).open(rt, path);
+    }
+    match how_to_write(true).open(rt, path) {
+        Err(error) if error.kind() == io::ErrorKind::PermissionDenied => {
+            how_to_write(false).open(rt, path)
+        }
+        opened => opened,
+    }
+}
+
+/// Cuts a file to nothing. An error where another open has claimed it, or where it holds an
+/// endpoint or cannot be looked at: then no octet of it is changed.
+fn cut_output<F: CaptureFile>(file: &mut F) -> io::Result<()>
+    ensures steady { (F.file file.new).behaves ≡ (F.file file.old).behaves }
+    ensures same { Behaves (F.file file.old) → OnErr result (F.file file.new ≡ F.file file.old) }
+    ensures free { Behaves (F.file file.old) → IsSure (F.file file.old)
+        → OnOk result (¬ HoldsEndpoint (F.file file.old) ((F.file file.old).size / 512)) }
+{
+    file.claim()?;
+    if holds_endpoint(file)? {
+        return Err(io::Error::from(io::ErrorKind::AlreadyExists));
+    }
+    file.cut()
+}
+
 /// Opens a file to write it as a capture, or makes it. A regular file is claimed and looked at
-/// before it is cut to nothing: where another open has claimed it, or it holds an endpoint, that is
-/// an error, and no octet is changed.
+/// before it is cut to nothing.
 fn open_sink<T: Files>(rt: &T, path: &str) -> io::Result<T::File>
 where
     T::File: CaptureFile,
 {
-    let mut file = how_to_write().open(rt, path)?;
+    let mut file = open_output(rt, path)?;
     if file.metadata()?.is_file() {
-        file.claim()?;
-        if is_endpoint(rt, path)? {
-            return Err(io::Error::from(io::ErrorKind::AlreadyExists));
-        }
-        file.set_len(0)?;
+        cut_output(&mut file)?;
     }
     Ok(file)
 }
@@ -190,7 +228,8 @@ where
 
 /// A capture that is written to a file, which is made, or cut to nothing. It fails as `Memory`
 /// where memory is wanting, the system's or the program's, and else as `Capture`, where the file
-/// cannot be made, is another file of the run, or holds an endpoint: then it is left as it is.
+/// cannot be made, is another file of the run, holds an endpoint, or has octets and cannot be read:
+/// then it is left as it is.
 pub fn make_capture<T: Files>(
     rt: &T,
     alloc: Global,

@@ -1,21 +1,19 @@
 //! How the file of a new endpoint is made.
 
-ghost use Rattle.std.specs.Prelude.{◌≡◌, ◌≢◌, ◌⊎◌, ◌<◌, ◌*◌, ◌/◌, ◌%◌, ◌^◌, IfErr, IfOk, IsErrOf, OnOk};
-ghost use Rattle.macs_disk.specs.FileDisks.{IsBlank, disk_in_file, file_shown};
-ghost use Rattle.macs_disk.specs.Files.{Behaves, Settles};
-ghost use Rattle.macs_journal.specs.declared.fault.JournalFault.TheVariants.{AlreadyFormatted};
-ghost use Rattle.macsecd.specs.Contents.{ContentsAre};
-ghost use Rattle.macsecd.specs.Failing.{failure_of_journal};
-ghost use Rattle.macsecd.specs.NewDisks.{IsFree, IsTaken, refusal_of};
+ghost use Rattle.std.specs.Prelude.{◌≡◌, ◌⊎◌, ◌<◌, ◌*◌, ◌^◌, None, Some, IfErr, IfOk, IsErrOf, OnOk};
+ghost use Rattle.macs_disk.specs.FileDisks.{IsBlank, disk_in_file, file_left};
+ghost use Rattle.macs_disk.specs.Files.{Behaves, IsSure};
+ghost use Rattle.macs_journal.specs.declared.fault.JournalFault.TheVariants as journal;
+ghost use Rattle.macsecd.specs.NewDisks.{IsFree, Permits, refusal_of};
 ghost use Rattle.macsecd.specs.declared.failure.DiskFault.{DiskFault};
+ghost use Rattle.macsecd.specs.declared.failure.DiskFault.TheVariants as disk;
 
 use crate::contents::{Contents, contents_of};
 use crate::failure::{DiskFault, Failure};
-use crate::files::failure_of;
+use crate::files::{failure_of, is_printed_to};
 use macs_config::Identity;
-use macs_disk::{DiskFile, FileDisk, FileFault, Layout, make_file, sync_folder};
+use macs_disk::{DiskFile, FileDisk, FileFault, Layout, SettledFile, make_file, sync_folder};
 use macs_journal::JournalFault;
-use macs_record::SECTOR;
 use std::alloc::Global;
 use std::fs::OpenFile;
 use std::io;
@@ -30,57 +28,17 @@ pub struct NewFile {
     pub is_over: bool,
 }
 
-/// Opens the file at a path to read and write it, or makes it. An error where it is no regular
-/// file: nothing tells what else stands on a device.
+/// Opens the file at a path to read and write it, or makes it. An error where it is no regular file,
+/// since nothing tells what else is on a device, or where standard output goes there.
 fn open_file<T: Files>(rt: &T, path: &str) -> io::Result<T::File> {
+    if is_printed_to(rt, path) {
+        return Err(io::Error::from(io::ErrorKind::AlreadyExists));
+    }
     let file = make_file(rt, path)?;
     if file.metadata()?.is_file() {
         return Ok(file);
     }
     Err(io::Error::from(io::ErrorKind::InvalidInput))
-}
-
-/// Claims a file, and answers how many sectors it has.
-fn measure<F: DiskFile>(file: &mut F) -> Result<u64, FileFault>
-    ensures steady { (F.file file.new).behaves ≡ (F.file file.old).behaves }
-    ensures same { Behaves (F.file file.old) → F.file file.new ≡ F.file file.old }
-    ensures fits { IfOk result (λ sectors. 512 * sectors < 2 ^ 64) }
-    ensures size { Behaves (F.file file.old) → IfOk result (λ sectors. sectors ≡ (F.file file.old).size / 512) }
-    ensures length { IsErrOf result FileFault.Length → Behaves (F.file file.old) → (F.file file.old).size % 512 ≢ 0 }
-{
-    file.claim()?;
-    let octets = file.size()?;
-    if octets % SECTOR as u64 != 0 {
-        return Err(FileFault::Length);
-    }
-    Ok(octets / SECTOR as u64)
-}
-
-/// Has a file show what the device has, and nothing pending.
-fn settle<F: DiskFile>(file: &mut F) -> Result<(), FileFault>
-    ensures steady { (F.file file.new).behaves ≡ (F.file file.old).behaves }
-    ensures settles { Behaves (F.file file.old) → OnOk result (Settles (F.file file.old) (F.file file.new)) }
-    ensures device { IfErr result (λ fault. fault ≡ FileFault.Device) }
-{
-    if file.sync().is_err() || file.reread().is_err() {
-        return Err(FileFault::Device);
-    }
-    Ok(())
-}
-
-/// What stands in a file of so many sectors, as the device has it.
-fn look<F: DiskFile>(file: &mut F, sectors: u64) -> Result<Contents, FileFault>
-    requires { 512 * sectors < 2 ^ 64 }
-    ensures steady { (F.file file.new).behaves ≡ (F.file file.old).behaves }
-    ensures settles { Behaves (F.file file.old) → OnOk result (Settles (F.file file.old) (F.file file.new)) }
-    ensures are { Behaves (F.file file.old) → IfOk result (ContentsAre (F.file file.new) sectors) }
-    ensures device { IfErr result (λ fault. fault ≡ FileFault.Device) }
-{
-    settle(file)?;
-    match contents_of(file, sectors) {
-        Ok(contents) => Ok(contents),
-        Err(_) => Err(FileFault::Device),
-    }
 }
 
 /// Why a file that holds this is not written over, if it is not.
@@ -95,26 +53,43 @@ fn refusal_of(contents: Contents, is_over: bool) -> Option<DiskFault>
     }
 }
 
+/// Looks at a settled file of so many sectors, and refuses it where it has an endpoint (`Journal` with
+/// `AlreadyFormatted`), or something else that may not be lost (`File`). Nothing of it is changed.
+fn admit<F: DiskFile>(file: &mut F, sectors: u64, is_over: bool) -> Result<(), Failure>
+    requires { 512 * sectors < 2 ^ 64 }
+    ensures steady { (F.file file.new).behaves ≡ (F.file file.old).behaves }
+    ensures same { Behaves (F.file file.old) → F.file file.new ≡ F.file file.old }
+    ensures free { Behaves (F.file file.old) → IsSure (F.file file.old)
+        → OnOk result (Permits is_over (F.file file.old) sectors None) }
+    ensures refused { Behaves (F.file file.old) → IsSure (F.file file.old) → (fault : DiskFault)
+        → IsErrOf result (Failure.Disk fault) → (fault ≡ disk.Journal journal.Disk)
+        ⊎ Permits is_over (F.file file.old) sectors (Some fault) }
+    ensures failed { IfErr result (λ failure. (fault : DiskFault) × (failure ≡ Failure.Disk fault)) }
+{
+    let Ok(contents) = contents_of(file, sectors) else {
+        return Err(Failure::from(FileFault::Device));
+    };
+    match refusal_of(contents, is_over) {
+        None => Ok(()),
+        Some(fault) => Err(Failure::Disk(fault)),
+    }
+}
+
 /// A blank disk in a file that is open to read and write. The first of these that holds is the
 /// fault, and leaves the file as it is: it is claimed or cannot be measured (`File`), it is not
-/// whole sectors (`Length`), the device fails (`Journal` with `Disk`), it has an endpoint
-/// (`Journal` with `AlreadyFormatted`), it holds something else that may not be lost (`File`). Then
+/// whole sectors (`Length`), the device fails (`Journal` with `Disk`), it is not admitted. Then
 /// it fails as `File` where there is no room. Want of the system's memory is `Memory`.
-fn blank_disk<F: DiskFile>(mut file: F, how: NewFile) -> Result<FileDisk<F>, Failure>
+fn blank_disk<F: DiskFile>(file: F, how: NewFile) -> Result<FileDisk<F>, Failure>
     ensures free { Behaves (F.file file) → OnOk result (IsFree how.is_over (F.file file)) }
     ensures blank { Behaves (F.file file) → IfOk result (λ it.
-        IsBlank (F.file (file_shown it)) how.layout (disk_in_file F.file it)) }
-    ensures taken { IsErrOf result (failure_of_journal AlreadyFormatted) → Behaves (F.file file)
-        → IsTaken (F.file file) }
+        IsBlank (F.file file) (F.file (file_left it)) how.layout (disk_in_file F.file it)) }
     ensures failed { IfErr result (λ failure. (failure ≡ Failure.Memory)
         ⊎ ((fault : DiskFault) × (failure ≡ Failure.Disk fault))) }
 {
-    let sectors = measure(&mut file)?;
-    let contents = look(&mut file, sectors)?;
-    if let Some(fault) = refusal_of(contents, how.is_over) {
-        return Err(Failure::Disk(fault));
-    }
-    Ok(FileDisk::blank(file, how.layout)?)
+    let mut settled = SettledFile::of(file)?;
+    let sectors = settled.sectors();
+    admit(&mut settled.file, sectors, how.is_over)?;
+    Ok(settled.into_blank_disk(how.layout)?)
 }
 
 /// Makes the name of a file durable, in the folder that holds it.
@@ -125,7 +100,7 @@ fn sync_name<T: Files>(rt: &T, alloc: Global, path: &str) -> io::Result<()> {
 
 /// Makes the disk in a file that of a new endpoint. Where there is no file it is made, and a short
 /// one is lengthened; its name is made durable before the journal is written. It fails as `Memory`,
-/// or as `Disk` with the first fault: `File` where there is no regular file; then as a blank disk
+/// or as `Disk` with the first fault: `File` where there is no regular file, or standard output goes there; then as a blank disk
 /// is not to be had; `File` where the folder that holds the file cannot be synced; then the fault
 /// of the journal.
 pub fn format_disk<T: Files>(

@@ -164,6 +164,10 @@ impl CaptureFile for BrokenFile {
     fn share(&mut self) -> io::Result<()> {
         self.file.share()
     }
+
+    fn cut(&mut self) -> io::Result<()> {
+        self.file.cut()
+    }
 }
 
 /// The system, but for the file of one path, and with peers of the wires where there are any.

@@ -1,4 +1,4 @@
-use Rattle.std.proofs.Common.{◌≡◌, ◌+◌, ◌-◌, arith, ap, sym, subst, ◌∙◌, refl}
+use Rattle.std.proofs.Common.{◌+◌, ◌-◌, arith, ap, sym, subst, ◌∙◌, refl}
 use Rattle.macs_disk.specs.Files.{Behaves, FileState, IsSure, values_from}
 use Rattle.macs_disk.proofs.FileReads.{values-none, read-more, read-none, length-filled, room-fits}
 use Rattle.macs_disk.proofs.file_calls.read_whole.Goals as goal

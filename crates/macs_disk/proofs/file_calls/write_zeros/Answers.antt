@@ -1,4 +1,4 @@
-use Rattle.std.proofs.Common.{◌≡◌, ◌≤◌, ◌+◌, inl, arith, ap, ◌∙◌}
+use Rattle.std.proofs.Common.{◌≤◌, inl, arith, ap, ◌∙◌}
 use Rattle.std.proofs.lemmas.List.{take-replicate}
 use Rattle.macs_disk.specs.Files.{FileState, IsSure}
 use Rattle.macs_disk.proofs.FileWrites.{write-sure, zeros-more}

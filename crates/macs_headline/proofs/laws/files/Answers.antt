@@ -2,7 +2,12 @@ use Rattle.macs_headline.proofs.DiskFiles.{blank-file-is-new, opened-again}
 use Rattle.macs_headline.proofs.laws.files.Goals as goal
 
 pub returns-clause-new : goal.returns-clause-new
-returns-clause-new c = blank-file-is-new
+returns-clause-new g c = blank-file-is-new
 
 pub returns-clause-opened_again : goal.returns-clause-opened_again
-returns-clause-opened_again c = opened-again
+returns-clause-opened_again g c = opened-again
+
+pub returns-clause-reopened : goal.returns-clause-reopened
+returns-clause-reopened g c it new left behaves suited opened =
+    opened-again (g.F.DiskFile.file it.file) it.layout _ new opened suited
+    (λ image is. c.a_file_is_left_as_its_disk.ensures it image left behaves is)

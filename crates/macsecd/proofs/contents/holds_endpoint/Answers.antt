@@ -1,4 +1,4 @@
-use Rattle.std.proofs.Common.{◌≡◌, ◌↔◌, ◌∙◌, ◌/◌, IsTrue, ℕ, inl, subst}
+use Rattle.std.proofs.Common.{◌↔◌, ◌∙◌, ◌/◌, IsTrue, ℕ, inl, subst}
 use Rattle.macs_disk.specs.Files.{FileState}
 use Rattle.macsecd.specs.Contents.{HasHeadMark, HasOpenGate}
 use Rattle.macsecd.proofs.Looks.{carried, either_holds}

@@ -1,10 +1,21 @@
-use Rattle.std.proofs.Common.{◌∙◌, sym}
-use Rattle.macsecd.proofs.Looks.{is-free}
+use Rattle.std.proofs.Common.{◌≡◌, ◌∙◌, ◌/◌, ap, subst, None, ℕ}
+use Rattle.macs_disk.specs.Files.{Behaves, FileState, Settles}
+use Rattle.macsecd.specs.NewDisks.{Permits}
 use Rattle.macsecd.proofs.new_disk.blank_disk.Goals as goal
 
 pub returns-clause-free : goal.returns-clause-free
-returns-clause-free g c = λ behaves.
-    let still = c.in_ok-sectors.ensures.steady ∙ behaves in
-    is-free c.in_ok-contents.contents c.args.how.is_over _ _ _ c.in_ok-sectors.sectors (c.in_ok-sectors.ensures.same behaves)
-    (c.in_ok-sectors.ensures.size behaves) (c.in_ok-contents.ensures.settles still) (c.in_ok-contents.ensures.are still)
-    (sym c.refusal_of.ensures ∙ c.in_default.is)
+returns-clause-free g c behaves =
+    let file = g.F.DiskFile.file in
+    let settled = c.in_ok-settled.ensures.settled behaves in
+    let now = file c.in_ok-settled.settled.file in
+    let given = ap file c.in_ok-settled.ensures.given in
+    let settles : Settles (file c.args.file) now = subst (λ (f : FileState). Settles f now) given settled.0 in
+    let still : Behaves now = ap (λ (f : FileState). f.behaves) settles.3 ∙ behaves in
+    let sure = ap (λ (f : FileState). f.is_sure) settles.3 in
+    let count : c.sectors-sectors.result ≡ (file c.args.file).size / 512 =
+    c.sectors-sectors.ensures.count ∙ ap (λ (n : ℕ). n / 512) (settled.1 ∙ ap (λ (f : FileState). f.size) settles.3) in
+    record {
+      settled = now;
+      settles = settles;
+      permits = subst (λ (n : ℕ). Permits c.args.how.is_over now n None) count (c.in_ok-admit.ensures.free still sure);
+    }

@@ -1,11 +1,8 @@
-use Rattle.std.proofs.Common.{◌≡◌, ◌&&◌, ap, ◌∙◌, sym, subst, arith, get_or, ℕ, Ok, List, true}
-use Rattle.std.proofs.lemmas.Bool.{and_parts}
+use Rattle.std.proofs.Common.{◌≡◌, ◌&&◌, ap, ◌∙◌, sym, subst, arith, get_or, Ok, List, true}
 use Rattle.std.specs.declared.snapshot.Snapshot.{Snapshot}
 use Rattle.macs_disk.specs.Disk.{Syncs}
 use Rattle.macs_disk.specs.FileDisks.{is_ready, keeps_disk, state_in_file}
-use Rattle.macs_disk.specs.FileEvidence.{keeps}
 use Rattle.macs_disk.specs.declared.disk.DeviceFault.{DeviceFault}
-use Rattle.macs_disk.specs.declared.layout.Layout.{Layout}
 use Rattle.macs_disk.proofs.FileSectors.{keeps-after-sync, state-clean, syncs-file}
 use Rattle.macs_disk.proofs.FileCalls.{clean-first, effect, fit-before, through}
 use Rattle.macs_disk.proofs.file.FileDiskSectorDisk.sync.Goals as goal

@@ -1,8 +1,7 @@
-use Rattle.std.proofs.Common.{◌≡◌, ◌≤◌, ◌∙◌, sym, arith, refl, true, false}
-use Rattle.macs_disk.specs.Layouts.{place}
+use Rattle.std.proofs.Common.{◌∙◌, sym, arith, refl, true, false}
 use Rattle.macs_disk.specs.declared.layout.Layout.TheVariants.{Packed, Spaced}
 use Rattle.macs_disk.proofs.FileOpenings.{by-mark, too-short}
-use Rattle.macs_disk.proofs.file_opening.find_layout.Goals as goal
+use Rattle.macs_disk.proofs.settled_file.find_layout.Goals as goal
 
 pub returns-then-octets-clause-found : goal.returns-then-octets-clause-found
 returns-then-octets-clause-found g c behaves sure size =

@@ -1,5 +1,5 @@
 use Rattle.macs_disk.proofs.FileOpenings.{erased}
-use Rattle.macs_disk.proofs.file_opening.erase_mark.Goals as goal
+use Rattle.macs_disk.proofs.clearing.erase_mark.Goals as goal
 
 pub returns-clause-marked : goal.returns-clause-marked
 returns-clause-marked g c behaves sure size =

@@ -1,8 +1,8 @@
 use Rattle.std.proofs.Common.{◌≡◌, ◌-◌, ap, ◌∙◌, arith}
-use Rattle.macs_disk.specs.Files.{Behaves, FileState, IsSure, file_after_sync}
+use Rattle.macs_disk.specs.Files.{Behaves, FileState, IsSure}
 use Rattle.macs_disk.specs.Layouts.{place}
 use Rattle.macs_disk.proofs.FileOpenings.{cleared, sure-written}
-use Rattle.macs_disk.proofs.file_opening.clear.Goals as goal
+use Rattle.macs_disk.proofs.clearing.clear.Goals as goal
 
 pub returns-clause-cleared : goal.returns-clause-cleared
 returns-clause-cleared g c behaves sure size =

@@ -1,0 +1,19 @@
+use Rattle.std.proofs.Common.{◌%◌, ap, ◌∙◌, inl, sym, subst}
+use Rattle.macs_disk.specs.FileDisks.{IsOpened}
+use Rattle.macs_disk.specs.declared.layout.Layout.{Layout}
+use Rattle.macs_disk.proofs.FileCalls.{disk_by}
+use Rattle.macs_disk.proofs.FileOpenings.{opened, still}
+use Rattle.macs_disk.proofs.settled_file.SettledFile.into_disk.Goals as goal
+
+pub returns-clause-known : goal.returns-clause-known
+returns-clause-known g c behaves settled =
+    let file = g.F.DiskFile.file in
+    let given = c.args.self.given.value in
+    let new = c.new.result in
+    let whole = ap (λ n. n % 512) (sym settled.1) ∙ settled.2 in
+    subst (λ (l : Layout). IsOpened (file given) c.args.least l (disk_by file l new.past.items new.shown new.sectors new.clock new.failures)) (sym c.new.ensures.layout)
+    (opened file given c.prepare.new.file (file c.args.self.file) c.in_ok-extent.extent.layout new.past.items new.shown c.args.least c.in_ok-extent.extent.sectors new.sectors
+    new.clock new.failures (c.in_ok-extent.ensures.known behaves (still (file given) (file c.args.self.file) settled.0) settled.1) settled.0 whole behaves c.new.ensures.shown c.new.ensures.past c.new.ensures.sectors)
+
+pub returns-clause-left : goal.returns-clause-left
+returns-clause-left g c _ = inl (ap g.F.DiskFile.file (c.new.ensures.file ∙ sym c.new.ensures.shown))

@@ -1,0 +1,63 @@
+//! How a file is cleared for a new disk: its mark is written, and zeros.
+
+ghost use Rattle.std.specs.Prelude.{◌≡◌, ◌≢◌, IfErr, OnOk};
+ghost use Rattle.macs_disk.specs.Files.{Behaves, IsSure};
+ghost use Rattle.macs_disk.specs.FileDisks.{IsCleared, IsMarkedAs};
+
+use crate::disk_file::DiskFile;
+use crate::file_calls::{write_all, write_zeros};
+use crate::file_fault::FileFault;
+use crate::layout::{BLOCK_OCTETS, Layout, MARK_PLACE, SECTOR_OCTETS, SPACED_SECTORS, spaced_mark};
+
+// Writes zeros in the place of the mark of a spaced file, where a file of so many octets reaches there.
+fn erase_mark<F: DiskFile>(file: &mut F, octets: u64) -> Result<(), FileFault>
+    ensures steady { (F.file file.new).behaves ≡ (F.file file.old).behaves }
+    ensures marked { Behaves (F.file file.old) → IsSure (F.file file.old) → octets ≡ (F.file file.old).size
+        → OnOk result (IsMarkedAs (F.file file.old) (F.file file.new) Layout.Packed) }
+    ensures err { IfErr result (λ fault. fault ≢ FileFault.Length) }
+{
+    if octets <= MARK_PLACE {
+        return Ok(());
+    }
+    write_zeros(file, MARK_PLACE, MARK_PLACE + SECTOR_OCTETS)?;
+    Ok(())
+}
+
+// Writes the block with the mark of a spaced file.
+fn put_mark<F: DiskFile>(file: &mut F) -> Result<(), FileFault>
+    ensures steady { (F.file file.new).behaves ≡ (F.file file.old).behaves }
+    ensures marked { Behaves (F.file file.old) → IsSure (F.file file.old)
+        → OnOk result (IsMarkedAs (F.file file.old) (F.file file.new) Layout.Spaced) }
+    ensures err { IfErr result (λ fault. fault ≢ FileFault.Length) }
+{
+    write_all(file, MARK_PLACE, &spaced_mark())?;
+    write_zeros(file, MARK_PLACE + SECTOR_OCTETS, MARK_PLACE + BLOCK_OCTETS)?;
+    Ok(())
+}
+
+// Sees to it that a file of so many octets is found to be of this layout.
+fn mark_as<F: DiskFile>(file: &mut F, octets: u64, layout: Layout) -> Result<(), FileFault>
+    ensures steady { (F.file file.new).behaves ≡ (F.file file.old).behaves }
+    ensures marked { Behaves (F.file file.old) → IsSure (F.file file.old) → octets ≡ (F.file file.old).size
+        → OnOk result (IsMarkedAs (F.file file.old) (F.file file.new) layout) }
+    ensures err { IfErr result (λ fault. fault ≢ FileFault.Length) }
+{
+    match layout {
+        Layout::Packed => erase_mark(file, octets),
+        Layout::Spaced => put_mark(file),
+    }
+}
+
+/// Writes the mark of a layout, and zeros in the place of the first 1,028 sectors, durably. The mark comes first.
+pub(crate) fn clear<F: DiskFile>(file: &mut F, octets: u64, layout: Layout) -> Result<(), FileFault>
+    ensures steady { (F.file file.new).behaves ≡ (F.file file.old).behaves }
+    ensures cleared { Behaves (F.file file.old) → IsSure (F.file file.old) → octets ≡ (F.file file.old).size
+        → OnOk result (IsCleared (F.file file.old) (F.file file.new) layout) }
+    ensures err { IfErr result (λ fault. fault ≢ FileFault.Length) }
+{
+    mark_as(file, octets, layout)?;
+    file.sync()?;
+    write_zeros(file, 0, layout.place(SPACED_SECTORS))?;
+    file.sync()?;
+    Ok(())
+}
