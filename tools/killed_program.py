@@ -12,7 +12,7 @@ with one of six contents: the octets of the last sync, the last write, zeros, on
 sync behind it. The same is left in each such sector; where there are two, each pair.
 
 What is asserted of what `show` finds then:
-  format   an endpoint as it was asked for, or none;
+  format   an endpoint as it was asked for, or none; then `format` makes one without `--over`, unless a sector was left that no `format` wrote;
   apply    the configuration after the commands of which a line was printed, or after those and one more;
   protect  the configuration as it was, and a next packet number above all that went out.
 It prints how many kills and how many power losses there were.
