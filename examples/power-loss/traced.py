@@ -48,6 +48,8 @@ def become_traced(octets):
 
 def can_trace():
     """Whether this system lets a program be traced."""
+    if os.uname().machine != "x86_64":
+        return False
     child = os.fork()
     if child == 0:
         os._exit(0 if become_traced(filter_of_calls()) else 1)
