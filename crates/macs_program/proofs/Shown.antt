@@ -4,6 +4,9 @@ use Rattle.std.specs.List.{concat}
 use Rattle.std.specs.Option.{option_map}
 use Rattle.std.proofs.lemmas.List.{append-nil, take_more}
 use Rattle.macs_config.specs.Config.{Config}
+use Rattle.macs_config.specs.declared.command.Replay.{Replay}
+use Rattle.macs_config.specs.declared.command.SciMode.{SciMode}
+use Rattle.macs_config.specs.declared.command.Validate.{Validate}
 use Rattle.macs_config.specs.Identity.{Identity}
 use Rattle.macs_config.specs.declared.association.RxSa.{RxSa}
 use Rattle.macs_config.specs.declared.association.TxSa.{TxSa}
@@ -72,23 +75,19 @@ regroup s b v r m e t c p = simp append_assoc
 abbrev setting_text : Config → List ℕ
 setting_text k = validate_line k.validate ++ (replay_line k.replay ++ (mode_line k.mode ++ encoding_line k.encoding))
 
--- the parts of the text, one after another
-pub shown-whole : (s : State) (i : Identity) (k : Config) (first second third fourth fifth settings txs channels spent : List ℕ) → i ≡ s.identity → k ≡ s.config
-    → first ≡ sci_line i ++ blocks_line i → second ≡ first ++ settings → settings ≡ setting_text k
-    → third ≡ second ++ txs → txs ≡ concat (map (tx_text s) association_numbers)
-    → fourth ≡ third ++ channels → channels ≡ concat (map (channel_text s) s.config.channels)
-    → fifth ≡ fourth ++ spent → spent ≡ spent_line k → fifth ≡ show_text s
-shown-whole s i k first second third fourth fifth settings txs channels spent whose which one two set three tx four chans five last =
-    let one_is : first ≡ sci_line s.identity ++ blocks_line s.identity = subst (λ (j : Identity). first ≡ sci_line j ++ blocks_line j) whose one in
-    let set_is : settings ≡ setting_text s.config = subst (λ (c : Config). settings ≡ setting_text c) which set in
-    let last_is : spent ≡ spent_line s.config = subst (λ (c : Config). spent ≡ spent_line c) which last in
-    joined first second third fourth fifth settings txs channels spent (sci_line s.identity) (blocks_line s.identity)
-    (validate_line s.config.validate) (replay_line s.config.replay) (mode_line s.config.mode) (encoding_line s.config.encoding)
-    (concat (map (tx_text s) association_numbers)) (concat (map (channel_text s) s.config.channels)) (spent_line s.config)
-    one_is two set_is three tx four chans five last_is
-  where
-    joined : (first second third fourth fifth settings txs channels spent s b v r m e t c p : List ℕ) → first ≡ s ++ b → second ≡ first ++ settings
-        → settings ≡ v ++ (r ++ (m ++ e)) → third ≡ second ++ txs → txs ≡ t → fourth ≡ third ++ channels → channels ≡ c → fifth ≡ fourth ++ spent
-        → spent ≡ p → fifth ≡ s ++ (b ++ (v ++ (r ++ (m ++ (e ++ (t ++ (c ++ p)))))))
-    joined first second third fourth fifth settings txs channels spent s b v r m e t c p h1 h2 h3 h4 h5 h6 h7 h8 h9 =
-        rw (h8, h6, h4, h2, h1, h3, h5, h7, h9) (regroup s b v r m e t c p)
+-- the settings, joined
+pub setting-parts : (k : Config) (v : Validate) (r : Replay) (m : SciMode) (e : Option ℕ) (text : List ℕ) → v ≡ k.validate → r ≡ k.replay → m ≡ k.mode
+    → e ≡ k.encoding → text ≡ validate_line v ++ (replay_line r ++ (mode_line m ++ encoding_line e)) → text ≡ setting_text k
+setting-parts k v r m e text one two three four is = rw (← one, ← two, ← three, ← four) is
+
+-- the parts of the text, joined
+pub shown-parts : (s : State) (i : Identity) (k : Config) (text : List ℕ) → i ≡ s.identity → k ≡ s.config
+    → text ≡ sci_line i ++ blocks_line i ++ setting_text k ++ concat (map (tx_text s) association_numbers)
+    ++ concat (map (channel_text s) s.config.channels) ++ spent_line k → text ≡ show_text s
+shown-parts s i k text whose which is =
+    let one = subst (λ (j : Identity). text ≡ sci_line j ++ blocks_line j ++ setting_text k ++ concat (map (tx_text s) association_numbers)
+    ++ concat (map (channel_text s) s.config.channels) ++ spent_line k) whose is in
+    let two = subst (λ (c : Config). text ≡ sci_line s.identity ++ blocks_line s.identity ++ setting_text c ++ concat (map (tx_text s) association_numbers)
+    ++ concat (map (channel_text s) s.config.channels) ++ spent_line c) which one in
+    two ∙ regroup (sci_line s.identity) (blocks_line s.identity) (validate_line s.config.validate) (replay_line s.config.replay) (mode_line s.config.mode)
+    (encoding_line s.config.encoding) (concat (map (tx_text s) association_numbers)) (concat (map (channel_text s) s.config.channels)) (spent_line s.config)

@@ -41,3 +41,17 @@ IsOfRelay failures.Wire = ⊤
 IsOfRelay failures.Memory = ⊤
 IsOfRelay failures.Output = ⊤
 IsOfRelay other = ⊥
+
+-- the failures after the addresses: of the disk, a wire, memory and standard output
+abbrev pub IsAfterAddresses : Failure → Type 0
+IsAfterAddresses (failures.Disk fault) = ⊤
+IsAfterAddresses failures.Wire = ⊤
+IsAfterAddresses failures.Memory = ⊤
+IsAfterAddresses failures.Output = ⊤
+IsAfterAddresses other = ⊥
+
+-- from this endpoint a relay between two wires that are new comes to this
+pub record Relays {D : Type 0} (disk_of : D → Disk) (turns : ℕ) (old : EndpointValue D) (summary : RelaySummary) (new : EndpointValue D) : Type 0 where
+  pub controlled : WireState
+  pub common : WireState
+  pub relayed : IsRelayed disk_of turns (relay_of old new_wire new_wire empty_lane empty_lane) (Ok summary) new controlled common

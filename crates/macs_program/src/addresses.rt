@@ -9,7 +9,7 @@ use macs_words::WireEnds;
 use std::net::SocketAddr;
 
 /// Which word is no address, in the order in which they are looked at.
-#[derive(Clone, Copy, Debug, PartialEq, Eq)]
+#[derive(Clone, Copy)]
 pub enum AddressFault {
     Own1,
     Peer1,

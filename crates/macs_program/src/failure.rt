@@ -13,7 +13,7 @@ use macs_words::UsageFault;
 use std::alloc::AllocError;
 
 /// What is wrong with a disk file.
-#[derive(Clone, Copy, Debug, PartialEq, Eq)]
+#[derive(Clone, Copy)]
 pub enum DiskFault {
     /// It cannot be opened or made, another program has claimed it, or it has no room; or its name
     /// cannot be made durable; or a new endpoint would be written over something else.

@@ -41,6 +41,7 @@ pub type CaptureSink<F> = WriterSink<WholeWrites<F>>;
 pub fn failure_of(error: io::Error, failure: Failure) -> Failure
     ensures memory { error_kind error ≡ OutOfMemory → result ≡ Failure.Memory }
     ensures other { error_kind error ≢ OutOfMemory → result ≡ failure }
+    ensures either { (result ≡ Failure.Memory) ⊎ (result ≡ failure) }
 {
     if error.kind() == io::ErrorKind::OutOfMemory {
         return Failure::Memory;

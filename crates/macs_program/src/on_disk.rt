@@ -12,14 +12,14 @@ ghost use Rattle.macs_frame.specs.First.{IsFirst};
 ghost use Rattle.macs_program.specs.Addresses.{AddressFaultHolds, SpellsBoth, address_faults};
 ghost use Rattle.macs_program.specs.Applying.{outcome_lines, outcomes_status};
 ghost use Rattle.macs_program.specs.Failing.{failure_status};
-ghost use Rattle.macs_program.specs.Relaying.{ComesTo, IsOfRelay};
+ghost use Rattle.macs_program.specs.Relaying.{ComesTo, IsAfterAddresses, IsOfRelay, Relays};
 ghost use Rattle.macs_program.specs.Showing.{line, show_text};
 ghost use Rattle.macs_program.specs.Summing.{relay_line, summary_line};
 ghost use Rattle.macs_program.specs.Values.{SpellsIdentity, SpellsLayout, ValueFaultHolds};
 ghost use Rattle.macs_program.specs.declared.addresses.AddressFault.{AddressFault};
 ghost use Rattle.macs_program.specs.declared.values.ValueFault.{ValueFault};
 
-use crate::addresses::addresses_of;
+use crate::addresses::{Addresses, addresses_of};
 use crate::applying::apply_commands;
 use crate::capture_file::CaptureFile;
 use crate::capturing::{Direction, pass_frames};
@@ -31,7 +31,8 @@ use crate::relaying::{bind, relay_frames};
 use crate::showing::show_lines;
 use crate::status::Status;
 use crate::values::given_by;
-use macs_disk::DiskFile;
+use macs_disk::{DiskFile, SectorDisk};
+use macs_endpoint::Endpoint;
 use macs_words::WireEnds;
 use std::alloc::Global;
 use std::io::Write;
@@ -91,6 +92,22 @@ where
     apply_commands(&mut endpoint, commands.as_slice(), out)
 }
 
+/// Prints the configuration and the packet numbers of an endpoint.
+fn show_endpoint<D: SectorDisk, W: Write>(
+    alloc: Global,
+    endpoint: &Endpoint<D>,
+    out: &mut W,
+) -> Result<Status, Failure>
+    ensures printed { IfOk result (λ status. (s : State)
+        × Appends (W.contents out.old) (W.contents out.new) (show_text s) × (status ≡ Status.Done)) }
+    ensures failed { IfErr result (λ failure. failure_status failure ≢ Status.Usage) }
+    ensures silent { IfErr result (λ failure. failure ≢ Failure.Output → out.new ≡ out.old) }
+{
+    let text = show_lines(alloc, endpoint)?;
+    print(out, text.as_str())?;
+    Ok(Status::Done)
+}
+
 /// `show`: prints the configuration and the packet numbers.
 pub fn show<T: Files, W: Write>(
     rt: &T,
@@ -106,9 +123,7 @@ where
     ensures silent { IfErr result (λ failure. failure ≢ Failure.Output → out.new ≡ out.old) }
 {
     let endpoint = open_endpoint(rt, disk)?;
-    let text = show_lines(alloc, &endpoint)?;
-    print(out, text.as_str())?;
-    Ok(Status::Done)
+    show_endpoint(alloc, &endpoint, out)
 }
 
 /// `protect` and `validate`: takes a capture through an endpoint.
@@ -134,6 +149,45 @@ where
     pass_frames(alloc, &mut endpoint, direction, &mut source, &mut sink, out)
 }
 
+/// Relays frames through an endpoint between two wires, which are bound from left to right.
+fn relay_wires<N: Net, D: SectorDisk, W: Write>(
+    net: &N,
+    alloc: Global,
+    endpoint: &mut Endpoint<D>,
+    addresses: Addresses,
+    turns: u64,
+    out: &mut W,
+) -> Result<Status, Failure>
+    ensures printed { IfOk result (λ status. (summary : RelaySummary) × Relays D.disk turns endpoint.old summary endpoint.new
+        × Appends (W.contents out.old) (W.contents out.new) (relay_line summary) × (status ≡ Status.Done)) }
+    ensures failed { IfErr result IsAfterAddresses }
+    ensures silent { IfErr result (λ failure. failure ≢ Failure.Output → out.new ≡ out.old) }
+{
+    let mut controlled = bind(net, alloc, addresses.controlled)?;
+    let mut common = bind(net, alloc, addresses.common)?;
+    relay_frames(endpoint, &mut controlled, &mut common, turns, out)
+}
+
+/// Relays frames through the endpoint on a disk between two wires.
+fn relay_over<T: Files + Net, W: Write>(
+    rt: &T,
+    alloc: Global,
+    disk: &str,
+    addresses: Addresses,
+    turns: u64,
+    out: &mut W,
+) -> Result<Status, Failure>
+where
+    T::File: DiskFile,
+    ensures printed { IfOk result (λ status. (summary : RelaySummary) × ComesTo T.File.file turns summary
+        × Appends (W.contents out.old) (W.contents out.new) (relay_line summary) × (status ≡ Status.Done)) }
+    ensures failed { IfErr result IsAfterAddresses }
+    ensures silent { IfErr result (λ failure. failure ≢ Failure.Output → out.new ≡ out.old) }
+{
+    let mut endpoint = open_endpoint(rt, disk)?;
+    relay_wires(rt, alloc, &mut endpoint, addresses, turns, out)
+}
+
 /// `relay`: relays frames between two wires, the first of which is the controlled side.
 pub fn relay<T: Files + Net, W: Write>(
     rt: &T,
@@ -157,8 +211,5 @@ where
     ensures silent { IfErr result (λ failure. failure ≢ Failure.Output → out.new ≡ out.old) }
 {
     let addresses = addresses_of(controlled, common)?;
-    let mut endpoint = open_endpoint(rt, disk)?;
-    let mut controlled = bind(rt, alloc, addresses.controlled)?;
-    let mut common = bind(rt, alloc, addresses.common)?;
-    relay_frames(&mut endpoint, &mut controlled, &mut common, turns, out)
+    relay_over(rt, alloc, disk, addresses, turns, out)
 }

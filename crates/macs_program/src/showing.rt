@@ -1,6 +1,6 @@
 //! `show`: the configuration of an endpoint and its packet numbers, as text.
 
-ghost use Rattle.std.specs.Prelude.{◌≡◌, ◌++◌, if◌then◌else◌, map, codes, IfOk, string_bytes};
+ghost use Rattle.std.specs.Prelude.{◌≡◌, ℕ, List, ◌++◌, if◌then◌else◌, map, codes, IfOk, string_bytes};
 ghost use Rattle.std.specs.List.{concat};
 ghost use Rattle.macs_config.specs.Value.{config_of};
 ghost use Rattle.macs_rxsc.specs.Receive.{Numbers};
@@ -234,13 +234,24 @@ fn channel_texts<D: SectorDisk>(alloc: Global, endpoint: &Endpoint<D>) -> Result
     Ok(text)
 }
 
+/// One text behind another, where there are both.
+fn joined(
+    text: Result<String, AllocError>,
+    more: Result<String, AllocError>,
+) -> Result<String, AllocError>
+    ensures { (front back : List ℕ) → IfOk text (λ first. string_bytes first ≡ front)
+        → IfOk more (λ second. string_bytes second ≡ back) → IfOk result (λ whole. string_bytes whole ≡ front ++ back) }
+{
+    let mut text = text?;
+    text.push_str(more?.as_str())?;
+    Ok(text)
+}
+
 /// What was formatted: the SCI and the blocks.
 fn identity_lines(alloc: Global, identity: &Identity) -> Result<String, AllocError>
     ensures { IfOk result (λ text. string_bytes text ≡ sci_line identity.now ++ blocks_line identity.now) }
 {
-    let mut text = sci_line(alloc, identity)?;
-    text.push_str(blocks_line(alloc, identity)?.as_str())?;
-    Ok(text)
+    joined(sci_line(alloc, identity), blocks_line(alloc, identity))
 }
 
 /// The settings.
@@ -249,11 +260,10 @@ fn setting_lines(alloc: Global, config: &Config) -> Result<String, AllocError>
         ≡ validate_line (config_of config.now).validate ++ (replay_line (config_of config.now).replay
         ++ (mode_line (config_of config.now).mode ++ encoding_line (config_of config.now).encoding))) }
 {
-    let mut text = validate_line(alloc, config.validate())?;
-    text.push_str(replay_line(alloc, config.replay())?.as_str())?;
-    text.push_str(mode_line(alloc, config.sci_mode())?.as_str())?;
-    text.push_str(encoding_line(alloc, config.encoding())?.as_str())?;
-    Ok(text)
+    let text = encoding_line(alloc, config.encoding());
+    let text = joined(mode_line(alloc, config.sci_mode()), text);
+    let text = joined(replay_line(alloc, config.replay()), text);
+    joined(validate_line(alloc, config.validate()), text)
 }
 
 /// The lines that `show` prints of an endpoint. It fails for want of memory alone.
@@ -264,10 +274,11 @@ pub fn show_lines<D: SectorDisk>(
     ensures { IfOk result (λ text. string_bytes text ≡ show_text (state_of endpoint.now no_logs)) }
 {
     let config = endpoint.config();
-    let mut text = identity_lines(alloc, &endpoint.identity())?;
-    text.push_str(setting_lines(alloc, config)?.as_str())?;
-    text.push_str(tx_texts(alloc, endpoint)?.as_str())?;
-    text.push_str(channel_texts(alloc, endpoint)?.as_str())?;
-    text.push_str(spent_line(alloc, config)?.as_str())?;
-    Ok(text)
+    let text = joined(
+        identity_lines(alloc, &endpoint.identity()),
+        setting_lines(alloc, config),
+    );
+    let text = joined(text, tx_texts(alloc, endpoint));
+    let text = joined(text, channel_texts(alloc, endpoint));
+    joined(text, spent_line(alloc, config))
 }

@@ -10,7 +10,7 @@ use macs_config::Identity;
 use macs_disk::Layout;
 
 /// Why the values are none of an endpoint, in the order in which the faults are looked for.
-#[derive(Clone, Copy, Debug, PartialEq, Eq)]
+#[derive(Clone, Copy)]
 pub enum ValueFault {
     /// The SCI is not 16 hex digits.
     Sci,

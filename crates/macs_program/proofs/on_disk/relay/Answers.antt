@@ -1,7 +1,7 @@
 use Rattle.std.proofs.Common.{refl}
-use Rattle.std.proofs.lemmas.Result.{IfOk-weaker, err_from_is_err_and}
+use Rattle.std.proofs.lemmas.Result.{IfErr-weaker, IfOk-weaker, err_from_is_err_and}
 use Rattle.macs_program.proofs.FirstFault.{first-holds}
-use Rattle.macs_program.proofs.Relayed.{address-handed, comes-to}
+use Rattle.macs_program.proofs.Relayed.{address-handed, behind-no-usage, behind-of-relay, no-address}
 use Rattle.macs_program.specs.Addresses.{AddressFaultHolds, address_faults}
 use Rattle.macs_program.proofs.on_disk.relay.Goals as goal
 
@@ -22,10 +22,22 @@ returns-in_err-addresses-clause-address g c =
 pub returns-clause-printed : goal.returns-clause-printed
 returns-clause-printed g c =
     let words = c.in_ok-addresses in
-    IfOk-weaker c.relay_frames.result _ _ (λ status done. let (summary, relays, printed, is) = done in (
+    IfOk-weaker c.relay_over.result _ _ (λ status done. let (summary, comes, printed, is) = done in (
       summary,
-      comes-to _ c.args.turns summary _ _ _ _ _ _ c.in_ok-controlled.ensures.fresh c.in_ok-common.ensures.fresh relays,
+      comes,
       (words.addresses.controlled, words.addresses.common, words.ensures.controlled, words.ensures.common),
       printed,
       is,
-    )) c.relay_frames.ensures.printed
+    )) c.relay_over.ensures.printed
+
+pub returns-clause-address : goal.returns-clause-address
+returns-clause-address g c =
+    no-address (AddressFaultHolds c.args.controlled c.args.common) address_faults c.addresses_of.result c.in_ok-addresses.addresses
+    c.relay_over.result c.in_ok-addresses.was c.relay_over.ensures.failed c.addresses_of.ensures.fault
+
+pub returns-clause-usage : goal.returns-clause-usage
+returns-clause-usage g c =
+    IfErr-weaker c.relay_over.result _ _ (λ failure behind usage. absurd (behind-no-usage failure behind usage)) c.relay_over.ensures.failed
+
+pub returns-clause-names : goal.returns-clause-names
+returns-clause-names g c = IfErr-weaker c.relay_over.result _ _ behind-of-relay c.relay_over.ensures.failed
