@@ -44,7 +44,7 @@ source_sum() (
 
 # Whether the program in a folder was built from sources with this checksum.
 is_of() { # FOLDER SUM
-    [ -x "$1/macsecd" ] && [ "$(cat "$1/sources" 2>/dev/null)" = "$2" ]
+    [ -x "$1/macsecd" ] && [ -n "$2" ] && [ "$(cat "$1/sources" 2>/dev/null)" = "$2" ]
 }
 
 # Puts a program that was built from sources with this checksum into a folder, if the sources are the same still. It takes the
