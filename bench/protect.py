@@ -21,9 +21,9 @@ from collections import Counter
 from statistics import median
 
 TOP = os.path.abspath(os.path.join(os.path.dirname(__file__), ".."))
-MACSECD = os.path.join(TOP, "macsecd")
+PROVE = os.path.join(TOP, "tools/prove")
 CPU = os.environ.get("MACSECD_CPU", "x86-64-v3")
-PROGRAM = os.path.join(TOP, "crates/macsecd/out", CPU, "macsecd")
+PROGRAM = os.path.join(TOP, "out", CPU, "macsecd")
 ROUNDS = 10
 COMMANDS = """
 [[command]]
@@ -42,7 +42,7 @@ an = 0
 
 def build():
     """Builds both programs. The words of the one that seals alone."""
-    subprocess.run([MACSECD, "--version"], check=True, env={**os.environ, "MACSECD_CPU": CPU}, stdout=subprocess.DEVNULL)
+    subprocess.run([PROVE, CPU], check=True, stdout=subprocess.DEVNULL)
     tree = subprocess.run([os.path.join(TOP, "tools/tree_for"), CPU], check=True, capture_output=True, text=True).stdout.strip()
     crate = os.path.join(tree, "crates/frame_times")
     subprocess.run(["rt", "run", "--cpu", CPU], cwd=crate, check=True, stdout=subprocess.DEVNULL, stderr=subprocess.DEVNULL)

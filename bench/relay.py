@@ -14,9 +14,9 @@ import sys
 import tempfile
 
 TOP = os.path.abspath(os.path.join(os.path.dirname(__file__), ".."))
-MACSECD = os.path.join(TOP, "macsecd")
+PROVE = os.path.join(TOP, "tools/prove")
 CPU = os.environ.get("MACSECD_CPU", "x86-64-v3")
-PROGRAM = os.path.join(TOP, "crates/macsecd/out", CPU, "macsecd")
+PROGRAM = os.path.join(TOP, "out", CPU, "macsecd")
 ROUNDS = 5
 SIZES = (64, 1400)
 # The host's port and the relay's on the controlled side, then the relay's and the host's on the common side.
@@ -52,7 +52,7 @@ def measured(relay, tool, octets, frames):
 
 def main():
     frames = int(sys.argv[1]) if len(sys.argv) > 1 else 20_000
-    subprocess.run([MACSECD, "--version"], check=True, env={**os.environ, "MACSECD_CPU": CPU}, stdout=subprocess.DEVNULL)
+    subprocess.run([PROVE, CPU], check=True, stdout=subprocess.DEVNULL)
     with tempfile.TemporaryDirectory() as folder:
         tool, disk, commands = (os.path.join(folder, it) for it in ("relay", "disk", "commands"))
         subprocess.run(["cc", "-O2", "-o", tool, os.path.join(TOP, "bench/relay.c")], check=True)

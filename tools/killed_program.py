@@ -3,7 +3,7 @@
 
     python3 tools/killed_program.py
 
-It takes `./macsecd`, strace (Debian's package) and a folder for temporary files on a real disk. Three runs of the program are killed: `format`, `apply` of
+It takes the proved program (`tools/prove`), strace (Debian's package) and a folder for temporary files on a real disk. Three runs of the program are killed: `format`, `apply` of
 four commands, and `protect` of a capture of 400 frames of 1,500 octets at blocks of 32, which reserves packet numbers between frames that go out. A run is first traced
 whole: which system calls it makes on its disk file, and the octets that it writes. Then it is made again for each of these calls, and killed as that call begins.
 
@@ -27,7 +27,7 @@ import sys
 import tempfile
 
 TOP = os.path.abspath(os.path.join(os.path.dirname(__file__), ".."))
-MACSECD = os.path.join(TOP, "macsecd")
+PROVE = os.path.join(TOP, "tools/prove")
 SECTOR = 512
 OPEN = b"MSECOPEN" + bytes(504)
 CALLS = ["openat", "pread64", "pwrite64", "fsync", "fdatasync", "fadvise64", "ftruncate", "fallocate", "flock", "fcntl", "close"]
@@ -59,15 +59,10 @@ window = 7
 
 
 def program():
-    """The built program's path: the script that builds it starts it, so it is asked for its version first."""
-    subprocess.run([MACSECD, "--version"], check=True, stdout=subprocess.DEVNULL)
+    """The proved program's path, of which the script that builds it tells behind its sum."""
     cpu = os.environ.get("MACSECD_CPU")
-    folders = [cpu] if cpu else ["x86-64-v3", "x86-64-v2"]
-    for folder in folders:
-        path = os.path.join(TOP, "crates/macsecd/out", folder, "macsecd")
-        if os.path.exists(path):
-            return path
-    sys.exit("macsecd is not built")
+    told = subprocess.run([PROVE, *([cpu] if cpu else [])], check=True, stdout=subprocess.PIPE, text=True).stdout
+    return os.path.join(TOP, told.split()[-1])
 
 
 def traced(disk, words, extra=()):

@@ -1,10 +1,10 @@
 #!/usr/bin/env python3
-"""Prints crates/macsecd/src/tests/link_files.rt: the example link's files, and its protected capture by Python's `cryptography`.
+"""Prints crates/macsecd_tests/src/tests/link_files.rt: the example link's files, and its protected capture by Python's `cryptography`.
 
 The left end of the link is formatted with transmit blocks of 1,024 packet numbers, and protects in its second life: the numbers begin
 at 1,025. Run:
 
-    python3 tools/link_vectors.py > crates/macsecd/src/tests/link_files.rt
+    python3 tools/link_vectors.py > crates/macsecd_tests/src/tests/link_files.rt
 """
 
 import os

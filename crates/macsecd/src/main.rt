@@ -1,35 +1,8 @@
 //! A MACsec endpoint on the command line (IEEE Std 802.1AE-2018).
 #![tactic(auto)]
 
-mod action;
-mod addresses;
-mod answer;
-mod applying;
-mod capture_file;
-mod capturing;
-mod contents;
-mod failure;
-mod files;
-mod help;
-mod help_texts;
-mod hex_text;
-mod lines;
-mod new_disk;
-mod on_disk;
-mod output;
-mod plain_text;
-mod relaying;
-mod request;
-mod run;
-mod showing;
-mod status;
-#[cfg(test)]
-mod tests;
-mod values;
-mod whole_writes;
-
-use crate::failure::Failure;
-use crate::run::{report, run};
+use macs_program::Failure;
+use macs_program::run::{report, run};
 use std::env;
 use std::fs::File;
 use std::io::ErrorKind;

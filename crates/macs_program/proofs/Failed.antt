@@ -1,0 +1,41 @@
+-- The status of a run that failed, and what it tells of the words.
+use Rattle.std.proofs.Common.{◌≡◌, ◌≢◌, ◌⊎◌, inl, inr, ap, sym, ◌∙◌, Result, Err, IfErr, subst}
+use Rattle.macs_edge.specs.declared.passing.RunFault.{RunFault}
+use Rattle.macs_edge.specs.declared.passing.RunFault.TheVariants.{Device, Pcap}
+use Rattle.macs_endpoint.specs.declared.fault.RefillFault.TheVariants as refill
+use Rattle.macs_pcap.specs.declared.fault.PcapFault.TheVariants as pcap
+use Rattle.macs_program.specs.Failing.{failure_of_run, failure_of_words, failure_status}
+use Rattle.macs_words.specs.declared.action.UsageFault.{UsageFault}
+use Rattle.macs_words.specs.declared.action.UsageFault.TheVariants as words
+use Rattle.macs_program.specs.declared.failure.Failure.{Failure}
+use Rattle.macs_program.specs.declared.failure.Failure.TheVariants.{Capture}
+use Rattle.macs_program.specs.declared.status.Status.TheVariants.{Usage}
+
+fault-status : (fault : RunFault) → failure_status (failure_of_run fault) ≢ Usage
+fault-status (Pcap pcap.Read) is = cc
+fault-status (Pcap pcap.BadMagic) is = cc
+fault-status (Pcap pcap.BadVersion) is = cc
+fault-status (Pcap pcap.NotEthernet) is = cc
+fault-status (Pcap pcap.CutFile) is = cc
+fault-status (Pcap pcap.CutRecord) is = cc
+fault-status (Pcap pcap.RecordTooLong) is = cc
+fault-status (Pcap pcap.Write) is = cc
+fault-status (Pcap pcap.Memory) is = cc
+fault-status (Pcap pcap.TooManyRecords) is = cc
+fault-status (Device refill.Stopped) is = cc
+fault-status (Device refill.Busy) is = cc
+fault-status (Device refill.GenerationsSpent) is = cc
+fault-status (Device refill.Disk) is = cc
+
+-- a run over a capture does not fail for its words
+pub run-status : (failure : Failure) → ((fault : RunFault) × (failure ≡ failure_of_run fault)) ⊎ (failure ≡ Capture) → failure_status failure ≢ Usage
+run-status failure (inl (fault, same)) is = fault-status fault (ap failure_status (sym same) ∙ is)
+run-status failure (inr same) is = let e = ap failure_status (sym same) ∙ is in cc
+
+-- words that are taken are no wrong usage, where they are refused for memory alone
+pub not-taken : {A : Type 0} (result : Result A UsageFault) (fault : UsageFault) (taken : Type 0) → result ≡ Err fault
+    → (taken → IfErr result (λ f. f ≡ words.Memory)) → failure_status (failure_of_words fault) ≡ Usage → ¬ taken
+not-taken {A} result (words.Usage cause) taken is only usage = λ known.
+    let memory = subst (λ (r : Result A UsageFault). IfErr r (λ f. f ≡ words.Memory)) is (only known) in
+    cc
+not-taken result words.Memory taken is only usage = absurd cc

@@ -1,0 +1,14 @@
+pub mod Applied
+pub mod Captured
+pub mod Codes
+pub mod Commanded
+pub mod Failed
+pub mod FirstFault
+pub mod HexDigits
+pub mod Looks
+pub mod Opened
+pub mod Printing
+pub mod Relayed
+pub mod Shown
+pub mod Spelling
+pub mod TextLines

@@ -1,0 +1,42 @@
+-- What a run reads and prints, where the octets are known.
+use Rattle.std.proofs.Common.{◌≡◌, ℕ, ◌++◌, List, [], ◌∷◌, length, take, Option, Some, None, IfSome, option_map, length-take, ap, subst, ◌∙◌, ◌⊎◌, inl, inr, arith}
+use Rattle.std.proofs.lemmas.List.{take_all}
+use Rattle.std.specs.Io.KnownBytes.{Appends}
+use Rattle.macs_program.specs.Answer.{Answers, answer_status, answer_text}
+use Rattle.macs_program.specs.Run.{Prints}
+use Rattle.macs_program.specs.declared.answer.Answer.{Answer}
+use Rattle.macs_program.specs.declared.answer.Answer.TheVariants as answers
+use Rattle.macs_program.specs.declared.status.Status.{Status}
+use Rattle.macs_program.specs.declared.status.Status.TheVariants.{Done, Refused}
+
+-- what was appended to nothing is what was read
+pub appended-read : (remaining : Option (List ℕ)) (limit : ℕ) (text : List ℕ)
+    → IfSome (option_map (take limit) remaining) (λ octets. Appends (Some []) (Some text) octets)
+    → IfSome remaining (λ octets. text ≡ take limit octets)
+appended-read None limit text h = tt
+appended-read (Some octets) limit text h = h
+
+-- an input that spells a request was read whole
+read-whole : (input octets : List ℕ) (answer : Answer) → input ≡ take 20001 octets → Answers input answer → Answers octets answer
+read-whole input octets answer read answers =
+    let short = answers.spelled.four.0 in
+    let count = length-take 20001 octets in
+    let whole = take_all 20001 octets (omega (arith, ap length read)) in
+    subst (λ (x : List ℕ). Answers x answer) (read ∙ whole) answers
+
+-- a text that was printed is an equal one
+pub prints-text : (before after : Option (List ℕ)) (text other : List ℕ) → text ≡ other → Appends before after text → Appends before after other
+prints-text before after text other same printed = subst (λ (x : List ℕ). Appends before after x) same printed
+
+-- the answer to what was read is printed
+pub prints : (remaining before after : Option (List ℕ)) (input line : List ℕ) (answer : Answer) (status : Status)
+    → IfSome remaining (λ octets. input ≡ take 20001 octets) → Answers input answer → line ≡ answer_text answer ++ 10 ∷ []
+    → Appends before after line → status ≡ answer_status answer → IfSome remaining (λ octets. Prints octets before after status)
+prints None before after input line answer status read answers text printed end = tt
+prints (Some octets) before after input line answer status read answers text printed end =
+    (answer, read-whole input octets answer read answers, prints-text before after line _ text printed, end)
+
+-- an answer ends the run as done or refused
+pub answered : (answer : Answer) (status : Status) → status ≡ answer_status answer → (status ≡ Done) ⊎ (status ≡ Refused)
+answered (answers.Valid an pn plain) status is = inl is
+answered (answers.Refused fault) status is = inr is

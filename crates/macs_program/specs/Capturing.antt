@@ -1,0 +1,51 @@
+-- What a run over a capture does that hands on all that was written.
+use Rattle.std.specs.Prelude.{◌≡◌, ◌⊎◌, true, Result, Ok, Err}
+use Rattle.std.specs.Io.KnownBytes.{Keeps}
+use Rattle.macs_disk.specs.Disk.{Disk}
+use Rattle.macs_edge.specs.Passing.{Run, RunsOver, run_of}
+use Rattle.macs_edge.specs.declared.passing.RunFault.{RunFault}
+use Rattle.macs_edge.specs.declared.passing.Summary.{Summary}
+use Rattle.macs_edge.specs.declared.settling.Side.{Side}
+use Rattle.macs_edge.specs.declared.settling.Side.TheVariants.{Common, Controlled}
+use Rattle.macs_pcap.specs.States.{SinkState}
+use Rattle.macs_program.specs.Failing.{failure_of_run}
+use Rattle.macs_program.specs.declared.capturing.Direction.{Direction}
+use Rattle.macs_program.specs.declared.capturing.Direction.TheVariants as direction
+use Rattle.macs_program.specs.declared.failure.Failure.{Failure}
+use Rattle.macs_program.specs.declared.failure.Failure.TheVariants as failures
+
+-- the side that the frames of a capture come from
+abbrev pub side_of : Direction → Side
+side_of direction.Protect = Controlled
+side_of direction.Validate = Common
+
+-- all that a sink took is handed on, and nothing else of it changes
+pub record IsFlushed (before after : SinkState) : Type 0 where
+  pub held : Keeps before.held after.held
+  pub writes : after.failed ≡ before.failed
+  pub flushed : after.flushed ≡ true
+
+-- a flush of a sink failed
+pub record FailsToFlush (before after : SinkState) : Type 0 where
+  pub held : Keeps before.held after.held
+  pub fails : after.failed ≡ true
+
+-- how a run fails: with the fault of its answer, whether the sink could be flushed then or not; or with a flush that failed
+abbrev pub EndsWith : Result Summary RunFault → Failure → SinkState → SinkState → Type 0
+EndsWith (Err fault) failure before after = (failure ≡ failure_of_run fault) × (IsFlushed before after ⊎ FailsToFlush before after)
+EndsWith (Ok summary) failure before after = (failure ≡ failures.Capture) × FailsToFlush before after
+
+-- The run goes over the capture, and then all that was written is handed on, after a fault too. A fault of the run is the failure; without
+-- one it is a flush that failed
+abbrev pub PassesCapture : {D : Type 0} → (D → Disk) → Side → Run D → Result Summary Failure → Run D → Type 0
+PassesCapture disk_of side old (Ok summary) new =
+    (sink : SinkState) × RunsOver disk_of side old (Ok summary) (run_of new.endpoint new.source sink) × IsFlushed sink new.sink
+PassesCapture disk_of side old (Err failure) new =
+    (sink : SinkState) × (answer : Result Summary RunFault) × RunsOver disk_of side old answer (run_of new.endpoint new.source sink)
+    × EndsWith answer failure sink new.sink
+
+-- How a run with its line fails: as the run does; or the run does not, and its line cannot be written
+abbrev pub EndsPass : {D : Type 0} → (D → Disk) → Side → Run D → Failure → Run D → Type 0
+EndsPass disk_of side old failure new =
+    PassesCapture disk_of side old (Err failure) new
+    ⊎ ((failure ≡ failures.Output) × (summary : Summary) × PassesCapture disk_of side old (Ok summary) new)

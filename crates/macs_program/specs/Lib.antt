@@ -1,0 +1,14 @@
+pub mod Lines
+pub mod Request
+pub mod Answer
+pub mod Values
+pub mod Addresses
+pub mod Contents
+pub mod Failing
+pub mod NewDisks
+pub mod Showing
+pub mod Applying
+pub mod Summing
+pub mod Capturing
+pub mod Relaying
+pub mod Run

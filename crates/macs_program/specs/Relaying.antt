@@ -1,0 +1,57 @@
+-- What a relay of the program comes to, and how it ends.
+use Rattle.std.specs.Prelude.{◌≡◌, ◌⊎◌, ⊤, ℕ, None, Ok, Err}
+use Rattle.macs_disk.specs.Disk.{Disk}
+use Rattle.macs_disk.specs.FileDisks.{disk_in_file}
+use Rattle.macs_disk.specs.Files.{FileState}
+use Rattle.macs_disk.specs.declared.file.FileDisk.{FileDisk}
+use Rattle.macs_edge.specs.Relaying.{IsRelayed, Relay, empty_lane, relay_of}
+use Rattle.macs_edge.specs.Wires.{WireState}
+use Rattle.macs_edge.specs.declared.relaying.RelaySummary.{RelaySummary}
+use Rattle.macs_endpoint.specs.Value.{EndpointValue}
+use Rattle.macs_endpoint.specs.declared.fault.RefillFault.{RefillFault}
+use Rattle.macs_program.specs.Failing.{failure_of_refill}
+use Rattle.macs_program.specs.declared.failure.Failure.{Failure}
+use Rattle.macs_program.specs.declared.failure.Failure.TheVariants as failures
+
+-- what a wire over UDP tells at first: no call of it failed, and its frames are not known
+abbrev pub new_wire : WireState
+new_wire = record { waiting = None; sent = None; failed_receives = 0; failed_sends = 0 }
+
+-- a relay in so many turns comes to this summary: of an endpoint on a disk in a file, where this is what a file is, between two new
+-- wires
+pub record ComesTo {F : Type 0} (file : F → FileState) (turns : ℕ) (summary : RelaySummary) : Type 0 where
+  pub old : EndpointValue (FileDisk F)
+  pub new : EndpointValue (FileDisk F)
+  pub controlled : WireState
+  pub common : WireState
+  pub relayed : IsRelayed (disk_in_file file) turns (relay_of old new_wire new_wire empty_lane empty_lane) (Ok summary) new controlled common
+
+-- how a relay fails: with the fault that has the name of a step's; or all turns are taken, and its line cannot be written
+abbrev pub EndsRelay : {D : Type 0} → (D → Disk) → ℕ → Relay D → Failure → EndpointValue D → WireState → WireState → Type 0
+EndsRelay disk_of turns old failure endpoint controlled common =
+    ((fault : RefillFault) × (failure ≡ failure_of_refill fault) × IsRelayed disk_of turns old (Err fault) endpoint controlled common)
+    ⊎ ((failure ≡ failures.Output)
+    × (summary : RelaySummary) × IsRelayed disk_of turns old (Ok summary) endpoint controlled common)
+
+-- the failures that `relay` ends with: an address, the disk, a wire, memory and standard output, and no capture, command file or input
+abbrev pub IsOfRelay : Failure → Type 0
+IsOfRelay (failures.Address fault) = ⊤
+IsOfRelay (failures.Disk fault) = ⊤
+IsOfRelay failures.Wire = ⊤
+IsOfRelay failures.Memory = ⊤
+IsOfRelay failures.Output = ⊤
+IsOfRelay other = ⊥
+
+-- the failures after the addresses: of the disk, a wire, memory and standard output
+abbrev pub IsAfterAddresses : Failure → Type 0
+IsAfterAddresses (failures.Disk fault) = ⊤
+IsAfterAddresses failures.Wire = ⊤
+IsAfterAddresses failures.Memory = ⊤
+IsAfterAddresses failures.Output = ⊤
+IsAfterAddresses other = ⊥
+
+-- from this endpoint a relay between two wires that are new comes to this
+pub record Relays {D : Type 0} (disk_of : D → Disk) (turns : ℕ) (old : EndpointValue D) (summary : RelaySummary) (new : EndpointValue D) : Type 0 where
+  pub controlled : WireState
+  pub common : WireState
+  pub relayed : IsRelayed disk_of turns (relay_of old new_wire new_wire empty_lane empty_lane) (Ok summary) new controlled common

@@ -1,0 +1,186 @@
+//! `apply`: the commands of a file, one after another.
+
+ghost use Rattle.std.specs.Prelude.{◌≡◌, ◌≢◌, ◌≤◌, ◌+◌, ◌⊎◌, List, Option, length, is_some, if◌then◌else◌, IfErr, IfOk, OnOk, Ok, Err};
+ghost use Rattle.std.specs.Io.KnownBytes.{Appends};
+ghost use Rattle.toml.specs.Data.{Members};
+ghost use Rattle.toml.specs.Parse.{parse_document};
+ghost use Rattle.toml.specs.View.{table_view};
+ghost use Rattle.macs_config.specs.declared.command.Command.{Command};
+ghost use Rattle.macs_config.specs.declared.refusal.Refusal.{Refusal};
+ghost use Rattle.macs_edge.specs.CommandFiles.{file_commands};
+ghost use Rattle.macs_endpoint.specs.Calls.{IsCall};
+ghost use Rattle.macs_endpoint.specs.State.{Commands, Ran};
+ghost use Rattle.macs_endpoint.specs.declared.fault.CommandFault.{CommandFault};
+ghost use Rattle.macs_program.specs.Applying.{AppliesAll, AppliesSome, EndsRun, SaysCommands, answer_of, commit_fault};
+ghost use Rattle.macs_program.specs.Applying.{outcome_line, refusal_name};
+
+use crate::failure::{DiskFault, Failure};
+use crate::output::{Line, print_octets};
+use crate::status::Status;
+use itoa::Buffer;
+use macs_config::{Command, Refusal};
+use macs_disk::SectorDisk;
+use macs_edge::commands_of;
+use macs_endpoint::{CommandFault, Endpoint};
+use macs_journal::JournalFault;
+use std::alloc::Global;
+use std::io::Write;
+use toml::Table;
+
+/// The longest command file, in octets.
+pub const MAX_FILE: usize = 1_048_576;
+
+/// The table of a TOML text.
+fn table_of(alloc: Global, text: &str) -> Result<Table, Failure>
+    ensures parsed { IfOk result (λ table. parse_document text.now ≡ Some (table_view table)) }
+    ensures fault { IfErr result (λ failure. (failure ≡ Failure.Memory)
+        ⊎ ((failure ≡ Failure.Commands) × (parse_document text.now ≡ None))) }
+{
+    match toml::table_from_str(alloc, text) {
+        Ok(table) => Ok(table),
+        Err(error) if error.is_memory() => Err(Failure::Memory),
+        Err(_) => Err(Failure::Commands),
+    }
+}
+
+/// The commands of a table.
+fn commands_told(alloc: Global, table: &Table) -> Result<Vec<Command>, Failure>
+    ensures said { IfOk result (λ commands. file_commands (table_view table.now) ≡ Ok commands.items) }
+    ensures fault { IfErr result (λ failure. (failure ≡ Failure.Memory)
+        ⊎ ((failure ≡ Failure.Commands)
+        × ((commands : List Command) → ¬ (file_commands (table_view table.now) ≡ Ok commands)))) }
+{
+    let commands = commands_of(alloc, table)?;
+    Ok(commands)
+}
+
+/// The commands that a file says. It fails as `Memory`, or as `Commands` where it says none: it is too
+/// long, no text, no TOML, or has a fault of its own.
+pub fn commands_in(alloc: Global, octets: &[u8]) -> Result<Vec<Command>, Failure>
+    ensures said { IfOk result (λ commands. SaysCommands octets.now commands.items) }
+    ensures fault { IfErr result (λ failure. (failure ≡ Failure.Memory)
+        ⊎ ((failure ≡ Failure.Commands) × ((commands : List Command) → ¬ SaysCommands octets.now commands))) }
+{
+    if octets.len() > MAX_FILE {
+        return Err(Failure::Commands);
+    }
+    let Ok(text) = str::from_utf8(octets) else {
+        return Err(Failure::Commands);
+    };
+    let table = table_of(alloc, text)?;
+    commands_told(alloc, &table)
+}
+
+/// How a refusal is named.
+fn refusal_name(refusal: Refusal) -> &'static str
+    ensures name { result.now ≡ refusal_name refusal }
+    ensures short { length result.now ≤ 13 }
+{
+    match refusal {
+        Refusal::StartRange => "StartRange",
+        Refusal::OffsetChoice => "OffsetChoice",
+        Refusal::OwnSci => "OwnSci",
+        Refusal::EndStationSci => "EndStationSci",
+        Refusal::NoChannel => "NoChannel",
+        Refusal::ChannelTaken => "ChannelTaken",
+        Refusal::ChannelsFull => "ChannelsFull",
+        Refusal::SlotTaken => "SlotTaken",
+        Refusal::SlotEmpty => "SlotEmpty",
+        Refusal::InUse => "InUse",
+        Refusal::KeySpent => "KeySpent",
+        Refusal::SpentFull => "SpentFull",
+    }
+}
+
+/// The line of a command by its number, which was kept or refused.
+fn outcome_line(at: usize, outcome: Option<Refusal>) -> Line
+    ensures { result.items ≡ outcome_line at outcome }
+{
+    let mut line = Line::new();
+    let mut number = Buffer::new();
+    line.try_extend_from_slice(number.format(at).as_bytes())
+        .unwrap();
+    match outcome {
+        None => line.try_extend_from_slice(b" ok").unwrap(),
+        Some(refusal) => {
+            line.try_extend_from_slice(b" refused ").unwrap();
+            line.try_extend_from_slice(refusal_name(refusal).as_bytes())
+                .unwrap();
+        }
+    }
+    line.push(b'\n');
+    line
+}
+
+/// Gives a command to the endpoint, which keeps or refuses it.
+fn settle<D: SectorDisk>(
+    endpoint: &mut Endpoint<D>,
+    command: Command,
+) -> Result<Option<Refusal>, DiskFault>
+    ensures settled { IfOk result (λ outcome.
+        IsCall D.disk endpoint.old (Commands command) (Ran (answer_of outcome)) endpoint.new) }
+    ensures failed { IfErr result (λ fault. (answer : CommandFault) × commit_fault fault answer
+        × IsCall D.disk endpoint.old (Commands command) (Ran (Err answer)) endpoint.new) }
+{
+    match endpoint.command(command) {
+        Ok(()) => Ok(None),
+        Err(fault) => match fault {
+            CommandFault::Refused(refusal) => Ok(Some(refusal)),
+            CommandFault::Stopped => Err(DiskFault::Journal(JournalFault::Stopped)),
+            CommandFault::Busy => Err(DiskFault::Busy), // Never: no command is submitted.
+            CommandFault::GenerationsSpent => {
+                Err(DiskFault::Journal(JournalFault::GenerationsSpent))
+            }
+            CommandFault::Disk => Err(DiskFault::Journal(JournalFault::Disk)),
+        },
+    }
+}
+
+/// Gives a command to the endpoint, prints its line, and answers whether it was refused.
+fn apply_command<D: SectorDisk, W: Write>(
+    endpoint: &mut Endpoint<D>,
+    at: usize,
+    command: Command,
+    out: &mut W,
+) -> Result<bool, Failure>
+    ensures applied { IfOk result (λ refused. (outcome : Option Refusal) × (refused ≡ is_some outcome)
+        × IsCall D.disk endpoint.old (Commands command) (Ran (answer_of outcome)) endpoint.new
+        × Appends (W.contents out.old) (W.contents out.new) (outcome_line at outcome)) }
+    ensures ended { IfErr result (λ failure. EndsRun D.disk endpoint.old command failure endpoint.new) }
+    ensures silent { IfErr result (λ failure. failure ≢ Failure.Output → out.new ≡ out.old) }
+{
+    let outcome = settle(endpoint, command)?;
+    let line = outcome_line(at, outcome);
+    print_octets(out, line.as_slice())?;
+    Ok(outcome.is_some())
+}
+
+/// How a run ends after one more command.
+fn status_after(status: Status, is_refused: bool) -> Status
+    ensures { result ≡ (if is_refused then Status.Refused else status) }
+{
+    if is_refused { Status::Refused } else { status }
+}
+
+/// Gives these commands to the endpoint, one after another, and prints a line for each once it is
+/// answered: the line of a command that is kept is its acknowledgement. A refused one changes nothing, and
+/// the next one follows. It fails as `Disk` at the first command that is neither kept nor refused, with no
+/// line for it; and as `Output` at the first line that cannot be written and flushed, whose command was
+/// answered.
+pub fn apply_commands<D: SectorDisk, W: Write>(
+    endpoint: &mut Endpoint<D>,
+    commands: &[Command],
+    out: &mut W,
+) -> Result<Status, Failure>
+    ensures applied { IfOk result (λ status. AppliesAll D.disk endpoint.old commands.now
+        (W.contents out.old) (W.contents out.new) status endpoint.new) }
+    ensures ended { IfErr result (λ failure. AppliesSome D.disk endpoint.old commands.now
+        (W.contents out.old) (W.contents out.new) failure endpoint.new) }
+{
+    let mut status = Status::Done;
+    for i in 0..commands.len() {
+        let is_refused = apply_command(endpoint, i + 1, commands[i], out)?;
+        status = status_after(status, is_refused);
+    }
+    Ok(status)
+}

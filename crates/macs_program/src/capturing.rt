@@ -1,0 +1,117 @@
+//! `protect` and `validate`: a capture through an endpoint.
+
+ghost use Rattle.std.specs.Prelude.{◌≡◌, ◌≢◌, ◌⊎◌, IfErr, IfOk, Ok};
+ghost use Rattle.std.specs.Io.KnownBytes.{Appends};
+ghost use Rattle.macs_edge.specs.Passing.{RunsOver, run_of};
+ghost use Rattle.macs_edge.specs.declared.passing.RunFault.{RunFault};
+ghost use Rattle.macs_edge.specs.declared.passing.Summary.{Summary};
+ghost use Rattle.macs_program.specs.Capturing.{EndsPass, PassesCapture, side_of};
+ghost use Rattle.macs_program.specs.Failing.{failure_of_run, failure_status};
+ghost use Rattle.macs_program.specs.Summing.{summary_line};
+
+use crate::failure::Failure;
+use crate::output::{Line, append_count, print_octets};
+use crate::status::Status;
+use macs_disk::SectorDisk;
+use macs_edge::{RunFault, Summary, run_protect, run_validate};
+use macs_endpoint::Endpoint;
+use macs_pcap::{Sink, Source};
+use std::alloc::Global;
+use std::io::Write;
+
+/// Which way a capture goes.
+#[derive(Clone, Copy)]
+pub enum Direction {
+    /// Plain frames are protected.
+    Protect,
+    /// Protected frames are validated.
+    Validate,
+}
+
+/// The line that a run ends with.
+fn summary_line(direction: Direction, summary: Summary) -> Line
+    ensures { result.items ≡ summary_line direction summary }
+{
+    let mut line = Line::new();
+    match direction {
+        Direction::Protect => {
+            append_count(&mut line, "protected ", summary.passed);
+            append_count(&mut line, " dropped ", summary.dropped);
+        }
+        Direction::Validate => {
+            append_count(&mut line, "delivered ", summary.passed);
+            append_count(&mut line, " discarded ", summary.dropped);
+        }
+    }
+    line.push(b'\n');
+    line
+}
+
+/// Takes a whole capture through an endpoint. Nothing is flushed.
+fn run_side<D: SectorDisk, R: Source, W: Sink>(
+    alloc: Global,
+    endpoint: &mut Endpoint<D>,
+    direction: Direction,
+    source: &mut R,
+    sink: &mut W,
+) -> Result<Summary, RunFault>
+    ensures { RunsOver D.disk (side_of direction)
+        (run_of endpoint.old (R.state source.old) (W.state sink.old)) result
+        (run_of endpoint.new (R.state source.new) (W.state sink.new)) }
+{
+    match direction {
+        Direction::Protect => run_protect(alloc, endpoint, source, sink),
+        Direction::Validate => run_validate(alloc, endpoint, source, sink),
+    }
+}
+
+/// Takes a whole capture through an endpoint, and hands on all that was written, where a fault ended
+/// the run too.
+fn run_capture<D: SectorDisk, R: Source, W: Sink>(
+    alloc: Global,
+    endpoint: &mut Endpoint<D>,
+    direction: Direction,
+    source: &mut R,
+    sink: &mut W,
+) -> Result<Summary, Failure>
+    ensures runs { PassesCapture D.disk (side_of direction)
+        (run_of endpoint.old (R.state source.old) (W.state sink.old)) result
+        (run_of endpoint.new (R.state source.new) (W.state sink.new)) }
+    ensures failed { IfErr result (λ failure. ((fault : RunFault) × (failure ≡ failure_of_run fault))
+        ⊎ (failure ≡ Failure.Capture)) }
+{
+    let answer = run_side(alloc, endpoint, direction, source, sink);
+    let flushed = sink.flush();
+    let summary = answer?;
+    match flushed {
+        Ok(()) => Ok(summary),
+        Err(_) => Err(Failure::Capture),
+    }
+}
+
+/// Takes a whole capture through an endpoint, hands on all that was written, and prints what became of its
+/// frames. It fails with the first fault of the run: as `Capture` or `Memory` at the header or a record, as
+/// `Disk` at a reservation; without one, as `Capture` where what was written cannot be handed on. Nothing is
+/// printed then. Else it fails as `Output` where the line cannot be written.
+pub fn pass_frames<D: SectorDisk, R: Source, S: Sink, W: Write>(
+    alloc: Global,
+    endpoint: &mut Endpoint<D>,
+    direction: Direction,
+    source: &mut R,
+    sink: &mut S,
+    out: &mut W,
+) -> Result<Status, Failure>
+    ensures printed { IfOk result (λ status. (summary : Summary) × PassesCapture D.disk (side_of direction)
+        (run_of endpoint.old (R.state source.old) (S.state sink.old)) (Ok summary)
+        (run_of endpoint.new (R.state source.new) (S.state sink.new))
+        × Appends (W.contents out.old) (W.contents out.new) (summary_line direction summary) × (status ≡ Status.Done)) }
+    ensures failed { IfErr result (λ failure. failure_status failure ≢ Status.Usage) }
+    ensures ended { IfErr result (λ failure. EndsPass D.disk (side_of direction)
+        (run_of endpoint.old (R.state source.old) (S.state sink.old)) failure
+        (run_of endpoint.new (R.state source.new) (S.state sink.new))) }
+    ensures silent { IfErr result (λ failure. failure ≢ Failure.Output → out.new ≡ out.old) }
+{
+    let summary = run_capture(alloc, endpoint, direction, source, sink)?;
+    print_octets(out, summary_line(direction, summary).as_slice())?;
+    Ok(Status::Done)
+}

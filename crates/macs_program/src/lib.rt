@@ -1,0 +1,32 @@
+//! The program over its words, a reader and two writers.
+#![tactic(auto)]
+
+mod addresses;
+mod answer;
+mod applying;
+mod capture_file;
+mod capturing;
+mod contents;
+mod failure;
+mod files;
+mod hex_text;
+mod lines;
+mod new_disk;
+mod on_disk;
+mod output;
+mod relaying;
+mod request;
+pub mod run;
+mod showing;
+mod status;
+mod values;
+mod whole_writes;
+
+pub use addresses::{AddressFault, Addresses, WireAddresses};
+pub use answer::{Answer, answer_of};
+pub use capture_file::CaptureFile;
+pub use capturing::Direction;
+pub use failure::{DiskFault, Failure};
+pub use request::{InputFault, Request};
+pub use status::Status;
+pub use values::ValueFault;

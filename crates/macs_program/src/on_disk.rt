@@ -1,0 +1,215 @@
+//! What each subcommand does that has a disk file.
+
+ghost use Rattle.std.specs.Prelude.{◌≡◌, ◌≢◌, ◌⊎◌, ◌↔◌, List, Option, codes, option_map, Err, IfErr, IfOk};
+ghost use Rattle.std.specs.Io.KnownBytes.{Appends};
+ghost use Rattle.macs_config.specs.Identity.{Identity};
+ghost use Rattle.macs_disk.specs.declared.layout.Layout.{Layout};
+ghost use Rattle.macs_config.specs.declared.refusal.Refusal.{Refusal};
+ghost use Rattle.macs_edge.specs.declared.passing.Summary.{Summary};
+ghost use Rattle.macs_edge.specs.declared.relaying.RelaySummary.{RelaySummary};
+ghost use Rattle.macs_endpoint.specs.State.{State};
+ghost use Rattle.macs_frame.specs.First.{IsFirst};
+ghost use Rattle.macs_program.specs.Addresses.{AddressFaultHolds, SpellsBoth, address_faults};
+ghost use Rattle.macs_program.specs.Applying.{outcome_lines, outcomes_status};
+ghost use Rattle.macs_program.specs.Failing.{failure_status};
+ghost use Rattle.macs_program.specs.Relaying.{ComesTo, IsAfterAddresses, IsOfRelay, Relays};
+ghost use Rattle.macs_program.specs.Showing.{line, show_text};
+ghost use Rattle.macs_program.specs.Summing.{relay_line, summary_line};
+ghost use Rattle.macs_program.specs.Values.{SpellsIdentity, SpellsLayout, ValueFaultHolds};
+ghost use Rattle.macs_program.specs.declared.addresses.AddressFault.{AddressFault};
+ghost use Rattle.macs_program.specs.declared.values.ValueFault.{ValueFault};
+
+use crate::addresses::{Addresses, addresses_of};
+use crate::applying::apply_commands;
+use crate::capture_file::CaptureFile;
+use crate::capturing::{Direction, pass_frames};
+use crate::failure::Failure;
+use crate::files::{commands_of_file, make_capture, open_capture, open_endpoint};
+use crate::new_disk::{NewFile, format_disk};
+use crate::output::print;
+use crate::relaying::{bind, relay_frames};
+use crate::showing::show_lines;
+use crate::status::Status;
+use crate::values::given_by;
+use macs_disk::{DiskFile, SectorDisk};
+use macs_endpoint::Endpoint;
+use macs_words::WireEnds;
+use std::alloc::Global;
+use std::io::Write;
+use std::net::Net;
+use std::rt::Files;
+
+/// `format`: makes a disk file for an endpoint.
+pub fn format<T: Files, W: Write>(
+    rt: &T,
+    alloc: Global,
+    disk: &str,
+    sci: &str,
+    tx_block: u32,
+    rx_block: u32,
+    block: Option<&str>,
+    is_over: bool,
+    out: &mut W,
+) -> Result<Status, Failure>
+where
+    T::File: DiskFile,
+    ensures printed { IfOk result (λ status. (identity : Identity) × SpellsIdentity sci.now tx_block rx_block identity
+        × (layout : Layout) × SpellsLayout (option_map (λ text. text.now) block.entry) layout
+        × Appends (W.contents out.old) (W.contents out.new) (line (codes "formatted")) × (status ≡ Status.Done)) }
+    ensures usage { IfErr result (λ failure. failure_status failure ≡ Status.Usage → ((fault : ValueFault)
+        × ValueFaultHolds sci.now tx_block rx_block (option_map (λ text. text.now) block.entry) fault) × (out.new ≡ out.old)) }
+    ensures silent { IfErr result (λ failure. failure ≢ Failure.Output → out.new ≡ out.old) }
+{
+    let given = given_by(sci, tx_block, rx_block, block)?;
+    let how = NewFile {
+        layout: given.layout,
+        is_over,
+    };
+    format_disk(rt, alloc, disk, how, &given.identity)?;
+    print(out, "formatted\n")?;
+    Ok(Status::Done)
+}
+
+/// `apply`: applies the commands of a file.
+pub fn apply<T: Files, W: Write>(
+    rt: &T,
+    alloc: Global,
+    disk: &str,
+    file: &str,
+    out: &mut W,
+) -> Result<Status, Failure>
+where
+    T::File: DiskFile,
+    ensures printed { IfOk result (λ status. (outcomes : List (Option Refusal))
+        × Appends (W.contents out.old) (W.contents out.new) (outcome_lines 1 outcomes)
+        × (status ≡ outcomes_status outcomes)) }
+    ensures failed { IfErr result (λ failure. failure_status failure ≢ Status.Usage) }
+    ensures lines { IfErr result (λ failure. failure ≢ Failure.Output
+        → (outcomes : List (Option Refusal)) × Appends (W.contents out.old) (W.contents out.new) (outcome_lines 1 outcomes)) }
+{
+    let mut endpoint = open_endpoint(rt, disk)?;
+    let commands = commands_of_file(rt, alloc, file)?;
+    apply_commands(&mut endpoint, commands.as_slice(), out)
+}
+
+/// Prints the configuration and the packet numbers of an endpoint.
+fn show_endpoint<D: SectorDisk, W: Write>(
+    alloc: Global,
+    endpoint: &Endpoint<D>,
+    out: &mut W,
+) -> Result<Status, Failure>
+    ensures printed { IfOk result (λ status. (s : State)
+        × Appends (W.contents out.old) (W.contents out.new) (show_text s) × (status ≡ Status.Done)) }
+    ensures failed { IfErr result (λ failure. failure_status failure ≢ Status.Usage) }
+    ensures silent { IfErr result (λ failure. failure ≢ Failure.Output → out.new ≡ out.old) }
+{
+    let text = show_lines(alloc, endpoint)?;
+    print(out, text.as_str())?;
+    Ok(Status::Done)
+}
+
+/// `show`: prints the configuration and the packet numbers.
+pub fn show<T: Files, W: Write>(
+    rt: &T,
+    alloc: Global,
+    disk: &str,
+    out: &mut W,
+) -> Result<Status, Failure>
+where
+    T::File: DiskFile,
+    ensures printed { IfOk result (λ status. (s : State)
+        × Appends (W.contents out.old) (W.contents out.new) (show_text s) × (status ≡ Status.Done)) }
+    ensures failed { IfErr result (λ failure. failure_status failure ≢ Status.Usage) }
+    ensures silent { IfErr result (λ failure. failure ≢ Failure.Output → out.new ≡ out.old) }
+{
+    let endpoint = open_endpoint(rt, disk)?;
+    show_endpoint(alloc, &endpoint, out)
+}
+
+/// `protect` and `validate`: takes a capture through an endpoint.
+pub fn pass<T: Files, W: Write>(
+    rt: &T,
+    alloc: Global,
+    direction: Direction,
+    disk: &str,
+    from: &str,
+    to: &str,
+    out: &mut W,
+) -> Result<Status, Failure>
+where
+    T::File: CaptureFile,
+    ensures printed { IfOk result (λ status. (summary : Summary)
+        × Appends (W.contents out.old) (W.contents out.new) (summary_line direction summary) × (status ≡ Status.Done)) }
+    ensures failed { IfErr result (λ failure. failure_status failure ≢ Status.Usage) }
+    ensures silent { IfErr result (λ failure. failure ≢ Failure.Output → out.new ≡ out.old) }
+{
+    let mut endpoint = open_endpoint(rt, disk)?;
+    let mut source = open_capture(rt, alloc, from)?;
+    let mut sink = make_capture(rt, alloc, to)?;
+    pass_frames(alloc, &mut endpoint, direction, &mut source, &mut sink, out)
+}
+
+/// Relays frames through an endpoint between two wires, which are bound from left to right.
+fn relay_wires<N: Net, D: SectorDisk, W: Write>(
+    net: &N,
+    alloc: Global,
+    endpoint: &mut Endpoint<D>,
+    addresses: Addresses,
+    turns: u64,
+    out: &mut W,
+) -> Result<Status, Failure>
+    ensures printed { IfOk result (λ status. (summary : RelaySummary) × Relays D.disk turns endpoint.old summary endpoint.new
+        × Appends (W.contents out.old) (W.contents out.new) (relay_line summary) × (status ≡ Status.Done)) }
+    ensures failed { IfErr result IsAfterAddresses }
+    ensures silent { IfErr result (λ failure. failure ≢ Failure.Output → out.new ≡ out.old) }
+{
+    let mut controlled = bind(net, alloc, addresses.controlled)?;
+    let mut common = bind(net, alloc, addresses.common)?;
+    relay_frames(endpoint, &mut controlled, &mut common, turns, out)
+}
+
+/// Relays frames through the endpoint on a disk between two wires.
+fn relay_over<T: Files + Net, W: Write>(
+    rt: &T,
+    alloc: Global,
+    disk: &str,
+    addresses: Addresses,
+    turns: u64,
+    out: &mut W,
+) -> Result<Status, Failure>
+where
+    T::File: DiskFile,
+    ensures printed { IfOk result (λ status. (summary : RelaySummary) × ComesTo T.File.file turns summary
+        × Appends (W.contents out.old) (W.contents out.new) (relay_line summary) × (status ≡ Status.Done)) }
+    ensures failed { IfErr result IsAfterAddresses }
+    ensures silent { IfErr result (λ failure. failure ≢ Failure.Output → out.new ≡ out.old) }
+{
+    let mut endpoint = open_endpoint(rt, disk)?;
+    relay_wires(rt, alloc, &mut endpoint, addresses, turns, out)
+}
+
+/// `relay`: relays frames between two wires, the first of which is the controlled side.
+pub fn relay<T: Files + Net, W: Write>(
+    rt: &T,
+    alloc: Global,
+    disk: &str,
+    controlled: WireEnds,
+    common: WireEnds,
+    turns: u64,
+    out: &mut W,
+) -> Result<Status, Failure>
+where
+    T::File: DiskFile,
+    ensures printed { IfOk result (λ status. (summary : RelaySummary) × ComesTo T.File.file turns summary
+        × SpellsBoth controlled.entry common.entry
+        × Appends (W.contents out.old) (W.contents out.new) (relay_line summary) × (status ≡ Status.Done)) }
+    ensures address { (fault : AddressFault) → (result ≡ Err (Failure.Address fault))
+        ↔ IsFirst (AddressFaultHolds controlled.entry common.entry) address_faults fault }
+    ensures usage { IfErr result (λ failure. failure_status failure ≡ Status.Usage
+        → ((fault : AddressFault) × AddressFaultHolds controlled.entry common.entry fault) × (out.new ≡ out.old)) }
+    ensures names { IfErr result IsOfRelay }
+    ensures silent { IfErr result (λ failure. failure ≢ Failure.Output → out.new ≡ out.old) }
+{
+    let addresses = addresses_of(controlled, common)?;
+    relay_over(rt, alloc, disk, addresses, turns, out)
+}

@@ -1,0 +1,57 @@
+//! Lines of text, and text to standard output.
+
+ghost use Rattle.std.specs.Prelude.{◌≡◌, ◌≤◌, ◌+◌, ◌++◌, length, IfErr, IfOk, OnOk, string_bytes};
+ghost use Rattle.std.specs.Fmt.{decimal};
+ghost use Rattle.std.specs.Io.KnownBytes.{Appends};
+ghost use Rattle.macs_program.specs.Showing.{line};
+
+use crate::failure::Failure;
+use arrayvec::ArrayVec;
+use itoa::Buffer;
+use std::alloc::AllocError;
+use std::io::Write;
+
+/// The longest line that takes no memory.
+pub const MAX_LINE: usize = 128;
+
+/// A line that takes no memory: so none is wanting once that is done of which it tells.
+pub type Line = ArrayVec<u8, MAX_LINE>;
+
+/// Appends a name and a number in decimal digits, 20 at most.
+pub fn append_count(line: &mut Line, name: &str, count: u64)
+    requires { length line.old.items + length name.now + 20 ≤ MAX_LINE }
+    ensures appended { line.new.items ≡ line.old.items ++ (name.now ++ decimal count) }
+    ensures fits { length line.new.items ≤ length line.old.items + length name.now + 20 }
+{
+    let mut digits = Buffer::new();
+    line.try_extend_from_slice(name.as_bytes()).unwrap();
+    line.try_extend_from_slice(digits.format(count).as_bytes())
+        .unwrap();
+}
+
+/// A text with its line feed.
+pub fn ended(mut text: String) -> Result<String, AllocError>
+    ensures { IfOk result (λ ended. string_bytes ended ≡ line (string_bytes text)) }
+{
+    text.push('\n')?;
+    Ok(text)
+}
+
+/// Writes octets to standard output, whole.
+pub fn print_octets<W: Write>(out: &mut W, octets: &[u8]) -> Result<(), Failure>
+    ensures printed { OnOk result (Appends (W.contents out.old) (W.contents out.new) octets.now) }
+    ensures failed { IfErr result (λ failure. failure ≡ Failure.Output) }
+{
+    if out.write_all(octets).is_err() || out.flush().is_err() {
+        return Err(Failure::Output);
+    }
+    Ok(())
+}
+
+/// Writes a text to standard output, whole.
+pub fn print<W: Write>(out: &mut W, text: &str) -> Result<(), Failure>
+    ensures printed { OnOk result (Appends (W.contents out.old) (W.contents out.new) text.now) }
+    ensures failed { IfErr result (λ failure. failure ≡ Failure.Output) }
+{
+    print_octets(out, text.as_bytes())
+}

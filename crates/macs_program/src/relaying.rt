@@ -1,0 +1,70 @@
+//! `relay`: frames between two wires through an endpoint.
+
+ghost use Rattle.std.specs.Prelude.{◌≡◌, ◌≢◌, ◌⊎◌, IfErr, IfOk, Ok};
+ghost use Rattle.std.specs.Io.KnownBytes.{Appends};
+ghost use Rattle.macs_edge.specs.Relaying.{IsRelayed, empty_lane, relay_of};
+ghost use Rattle.macs_edge.specs.UdpWires.{peer_of};
+ghost use Rattle.macs_edge.specs.declared.relaying.RelaySummary.{RelaySummary};
+ghost use Rattle.macs_program.specs.Failing.{failure_status};
+ghost use Rattle.macs_program.specs.Relaying.{EndsRelay, new_wire};
+ghost use Rattle.macs_program.specs.Summing.{relay_line};
+
+use crate::addresses::WireAddresses;
+use crate::failure::Failure;
+use crate::output::{Line, append_count, print_octets};
+use crate::status::Status;
+use macs_disk::SectorDisk;
+use macs_edge::{RelaySummary, UdpWire, Wire, relay};
+use macs_endpoint::Endpoint;
+use std::alloc::Global;
+use std::io::Write;
+use std::net::Net;
+
+/// The line that a relay ends with.
+fn relay_line(summary: RelaySummary) -> Line
+    ensures { result.items ≡ relay_line summary }
+{
+    let mut line = Line::new();
+    append_count(&mut line, "sent ", summary.sent);
+    append_count(&mut line, " delivered ", summary.delivered);
+    append_count(&mut line, " dropped ", summary.dropped);
+    append_count(&mut line, " faults ", summary.faults);
+    line.push(b'\n');
+    line
+}
+
+/// A wire that is bound. It fails first as `Memory`, where there is none for a frame of the wire; then as
+/// `Wire`, where the own address cannot be bound.
+pub fn bind<N: Net>(net: &N, alloc: Global, wire: WireAddresses) -> Result<UdpWire<Global>, Failure>
+    ensures fresh { IfOk result (λ bound. ⟦<UdpWire<Global> as Wire>⟧.state bound ≡ new_wire) }
+    ensures peer { IfOk result (λ bound. peer_of bound ≡ wire.peer) }
+    ensures failed { IfErr result (λ failure. (failure ≡ Failure.Memory) ⊎ (failure ≡ Failure.Wire)) }
+{
+    let bound = UdpWire::bind(net, alloc, wire.own, wire.peer)?;
+    Ok(bound)
+}
+
+/// Relays frames between two wires, and prints what became of them. It fails as `Disk` at the first
+/// reservation of packet numbers that cannot be made, with nothing printed; and as `Output` behind the last
+/// turn, where the line cannot be written.
+pub fn relay_frames<D: SectorDisk, P: Wire, C: Wire, W: Write>(
+    endpoint: &mut Endpoint<D>,
+    controlled: &mut P,
+    common: &mut C,
+    turns: u64,
+    out: &mut W,
+) -> Result<Status, Failure>
+    ensures printed { IfOk result (λ status. (summary : RelaySummary) × IsRelayed D.disk turns
+        (relay_of endpoint.old (P.state controlled.old) (C.state common.old) empty_lane empty_lane) (Ok summary)
+        endpoint.new (P.state controlled.new) (C.state common.new)
+        × Appends (W.contents out.old) (W.contents out.new) (relay_line summary) × (status ≡ Status.Done)) }
+    ensures failed { IfErr result (λ failure. failure_status failure ≢ Status.Usage) }
+    ensures ended { IfErr result (λ failure. EndsRelay D.disk turns
+        (relay_of endpoint.old (P.state controlled.old) (C.state common.old) empty_lane empty_lane) failure
+        endpoint.new (P.state controlled.new) (C.state common.new)) }
+    ensures silent { IfErr result (λ failure. failure ≢ Failure.Output → out.new ≡ out.old) }
+{
+    let summary = relay(endpoint, controlled, common, turns)?;
+    print_octets(out, relay_line(summary).as_slice())?;
+    Ok(Status::Done)
+}

@@ -1,0 +1,205 @@
+//! The program over its words, a reader and two writers.
+
+ghost use Rattle.std.specs.Prelude.{◌≡◌, ◌≢◌, ◌⊎◌, ◌++◌, ◌∷◌, ℕ, List, [], true, take, IfErr, IfOk, IfSome, OnOk, string_bytes};
+ghost use Rattle.std.specs.Io.KnownBytes.{Appends};
+ghost use Rattle.clap.specs.Words.{subcommand_of, takes};
+ghost use Rattle.macs_program.specs.Answer.{answer_text};
+ghost use Rattle.macs_program.specs.Failing.{failure_status};
+ghost use Rattle.macs_program.specs.Run.{Does, HasPrinted, HasWrongValues, Prints, Replies, WrongValues, code_of};
+ghost use Rattle.macs_words.specs.Words.{AsksForNothing, Names, macsecd, texts};
+ghost use Rattle.macs_words.specs.declared.action.Action.{Action};
+ghost use Rattle.macs_program.specs.declared.status.Status.{Status};
+
+use crate::answer::{Answer, answer_of};
+use crate::capture_file::CaptureFile;
+use crate::capturing::Direction;
+use crate::failure::Failure;
+use crate::on_disk::{apply, format, pass, relay, show};
+use crate::output::print;
+use crate::request::InputFault;
+use crate::status::Status;
+use arrayvec::ArrayVec;
+use macs_words::{Action, action_of, topic_of};
+use std::alloc::{AllocError, Allocator, Global};
+use std::io;
+use std::io::{Read, Write};
+use std::net::Net;
+use std::rt::Files;
+
+/// One octet more than the longest input that is taken.
+const MAX_READ: usize = 20_001;
+
+/// An input as it was read, to its end or to one octet more than it may have.
+type InputText = ArrayVec<u8, MAX_READ>;
+
+/// Reads an input, as far as it can be of use.
+fn read_input<R: Read>(input: &mut R) -> Result<InputText, Failure>
+    ensures read { IfOk result (λ text. IfSome (R.remaining input.old)
+        (λ octets. text.items ≡ take MAX_READ octets)) }
+    ensures failed { IfErr result (λ failure. failure ≡ Failure.Input InputFault.Input) }
+{
+    let mut text = InputText::new();
+    match io::copy(&mut input.take(MAX_READ as u64), &mut text) {
+        Ok(_) => Ok(text),
+        Err(_) => Err(Failure::Input(InputFault::Input)),
+    }
+}
+
+/// The line that `open` prints, with its line feed.
+pub fn line_of<A: Allocator>(alloc: A, answer: &Answer) -> Result<String<A>, AllocError>
+    ensures { IfOk result (λ line. string_bytes line ≡ answer_text answer.now ++ 10 ∷ []) }
+{
+    format!(in alloc; "{answer}\n")
+}
+
+/// `open`: reads an input, and prints the answer to it.
+fn open_input<R: Read, W: Write>(
+    alloc: Global,
+    input: &mut R,
+    out: &mut W,
+) -> Result<Status, Failure>
+    ensures printed { IfOk result (λ status. IfSome (R.remaining input.old)
+        (λ octets. Prints octets (W.contents out.old) (W.contents out.new) status)) }
+    ensures status { IfOk result (λ status. (status ≡ Status.Done) ⊎ (status ≡ Status.Refused)) }
+    ensures failed { IfErr result (λ failure. failure_status failure ≡ Status.Fault) }
+{
+    let text = read_input(input)?;
+    let answer = answer_of(text.as_slice())?;
+    print(out, line_of(alloc, &answer)?.as_str())?;
+    Ok(answer.status())
+}
+
+/// Does what an action asks for.
+fn perform<T: Files + Net, R: Read, W: Write>(
+    rt: &T,
+    alloc: Global,
+    action: Action,
+    input: &mut R,
+    out: &mut W,
+) -> Result<Status, Failure>
+where
+    T::File: CaptureFile,
+    ensures does { IfOk result (Does T.File.file action.entry (R.remaining input.old) (W.contents out.old) (W.contents out.new)) }
+    ensures status { IfOk result (λ status. (status ≡ Status.Done) ⊎ (status ≡ Status.Refused)) }
+    ensures usage { IfErr result (λ failure. failure_status failure ≡ Status.Usage
+        → WrongValues action.entry × (out.new ≡ out.old)) }
+    ensures disk { IfErr result (λ failure. failure_status failure ≡ Status.Disk → (action.entry ≢ Action.Open)
+        × HasPrinted action.entry (W.contents out.old) (W.contents out.new)) }
+    ensures unread { action.entry ≢ Action.Open → input.new ≡ input.old }
+{
+    match action {
+        Action::Open => open_input(alloc, input, out),
+        Action::Format {
+            disk,
+            sci,
+            tx_block,
+            rx_block,
+            block,
+            is_over,
+        } => format(
+            rt, alloc, disk, sci, tx_block, rx_block, block, is_over, out,
+        ),
+        Action::Apply { disk, file } => apply(rt, alloc, disk, file, out),
+        Action::Show { disk } => show(rt, alloc, disk, out),
+        Action::Protect {
+            disk,
+            input: from,
+            output: to,
+        } => pass(rt, alloc, Direction::Protect, disk, from, to, out),
+        Action::Validate {
+            disk,
+            input: from,
+            output: to,
+        } => pass(rt, alloc, Direction::Validate, disk, from, to, out),
+        Action::Relay {
+            disk,
+            controlled,
+            common,
+            turns,
+        } => relay(rt, alloc, disk, controlled, common, turns, out),
+    }
+}
+
+/// Does what the words ask for.
+fn act<T: Files + Net, R: Read, W: Write>(
+    rt: &T,
+    alloc: Global,
+    words: &[&str],
+    input: &mut R,
+    out: &mut W,
+) -> Result<Status, Failure>
+where
+    T::File: CaptureFile,
+    ensures replied { IfOk result (Replies T.File.file (texts words.now) (R.remaining input.old)
+        (W.contents out.old) (W.contents out.new)) }
+    ensures status { IfOk result (λ status. (status ≡ Status.Done) ⊎ (status ≡ Status.Refused)) }
+    ensures usage { IfErr result (λ failure. failure_status failure ≡ Status.Usage
+        → ((takes macsecd (texts words.now) ≢ true) ⊎ HasWrongValues (texts words.now)) × (out.new ≡ out.old)) }
+    ensures help { IfErr result (λ failure. failure_status failure ≡ Status.Usage
+        → AsksForNothing (texts words.now)) }
+    ensures disk { IfErr result (λ failure. failure_status failure ≡ Status.Disk
+        → (takes macsecd (texts words.now) ≡ true)
+        × (action : Action) × Names (subcommand_of macsecd (texts words.now)) action × (action ≢ Action.Open)
+        × HasPrinted action (W.contents out.old) (W.contents out.new)) }
+    ensures unread { ((takes macsecd (texts words.now) ≡ true)
+        × Names (subcommand_of macsecd (texts words.now)) Action.Open → ⊥) → input.new ≡ input.old }
+{
+    if let Some(topic) = topic_of(words) {
+        print(out, topic.text())?;
+        return Ok(Status::Done);
+    }
+    let action = action_of(alloc, words)?;
+    perform(rt, alloc, action, input, out)
+}
+
+/// Writes what ends a run to standard error as one line, and answers the status of the process.
+pub fn report<E: Write>(failure: &Failure, err: &mut E) -> u8
+    ensures { result ≡ code_of (failure_status failure.now) }
+{
+    let _ = writeln!(err, "macsecd: {}", failure.text());
+    failure.status().code()
+}
+
+/// Runs the program: the words without the program's own name, standard input, standard output and
+/// standard error. It answers the status of the process. Faults are found in this order: the words;
+/// the SCI, the blocks and the addresses; the disk file and its opening; the other files or the binds from
+/// left to right; that the order among files is this one is tested.
+pub fn run<T: Files + Net, R: Read, W: Write, E: Write>(
+    rt: &T,
+    alloc: Global,
+    words: &[&str],
+    input: &mut R,
+    out: &mut W,
+    err: &mut E,
+) -> u8
+where
+    T::File: CaptureFile,
+    // The status is one of 0, 2, 3, 4 and 5.
+    ensures status { (status : Status) × (result ≡ code_of status) }
+    // At 0 and 3 the words ask for help or are taken, and the help or what the action prints is written to
+    // standard output.
+    ensures replied { (result ≡ 0) ⊎ (result ≡ 3) → (status : Status) × (result ≡ code_of status)
+        × Replies T.File.file (texts words.now) (R.remaining input.old)
+        (W.contents out.old) (W.contents out.new) status }
+    // And nothing on standard error.
+    ensures quiet { (result ≡ 0) ⊎ (result ≡ 3) → err.new ≡ err.old }
+    // At 2 the words ask for no help.
+    ensures help { result ≡ 2 → AsksForNothing (texts words.now) }
+    // And they are none that are taken, or a value among them is none, and nothing is printed.
+    ensures usage { result ≡ 2 → ((takes macsecd (texts words.now) ≢ true) ⊎ HasWrongValues (texts words.now))
+        × (out.new ≡ out.old) }
+    // At 4 the words are taken and name another action than `open`, and nothing was printed but, of `apply`,
+    // the lines of the commands before the fault.
+    ensures disk { result ≡ 4 → (takes macsecd (texts words.now) ≡ true)
+        × (action : Action) × Names (subcommand_of macsecd (texts words.now)) action × (action ≢ Action.Open)
+        × HasPrinted action (W.contents out.old) (W.contents out.new) }
+    // Where the words are none that are taken, as those that ask for help, or name another action than
+    // `open`, the input is left unread.
+    ensures unread { ((takes macsecd (texts words.now) ≡ true)
+        × Names (subcommand_of macsecd (texts words.now)) Action.Open → ⊥) → input.new ≡ input.old }
+{
+    match act(rt, alloc, words, input, out) {
+        Ok(status) => status.code(),
+        Err(failure) => report(&failure, err),
+    }
+}

@@ -1,0 +1,34 @@
+//! How the program ends.
+
+/// How a run ends, and the status of the process.
+#[derive(Clone, Copy)]
+pub enum Status {
+    /// It is done: 0.
+    Done,
+    /// The words are none that the program knows, or a value among them is none that it takes: 2.
+    Usage,
+    /// The frame or a command is refused: 3.
+    Refused,
+    /// The disk file failed, or what stands on it does not serve: 4.
+    Disk,
+    /// The input, the output or memory failed: 5.
+    Fault,
+}
+
+impl Status {
+    ghost use Rattle.std.specs.Prelude.{◌≡◌};
+    ghost use Rattle.macs_program.specs.Run.{code_of};
+
+    /// The status of the process.
+    pub fn code(self) -> u8
+        ensures { result ≡ code_of self }
+    {
+        match self {
+            Status::Done => 0,
+            Status::Usage => 2,
+            Status::Refused => 3,
+            Status::Disk => 4,
+            Status::Fault => 5,
+        }
+    }
+}

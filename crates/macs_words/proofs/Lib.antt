@@ -1,0 +1,4 @@
+pub mod Controls
+pub mod Given
+pub mod Subcommands
+pub mod Taken

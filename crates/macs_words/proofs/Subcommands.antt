@@ -1,0 +1,324 @@
+-- The subcommands of the program: how their words are built, and what each of them is given.
+use Rattle.std.proofs.Common.{◌≡◌, ◌∙◌, ◌↔◌, ◌<◌, ◌^◌, ◌-◌, inl, inr, ℕ, Bool, true, false, ◌&&◌, ◌||◌, List, [], ◌∷◌, Option, Some, None, codes, refl, ap, ap₂, arith, option_map, if◌then◌else◌}
+use Rattle.std.specs.Prelude.{find, slice_index, unwrap_or}
+use Rattle.std.specs.List.{AllByRecursion, slice_index_or}
+use Rattle.std.specs.Option.{option_map_or}
+use Rattle.std.specs.Borrow.{Bor}
+use Rattle.std.specs.Str.{bytes_eq}
+use Rattle.std.proofs.lemmas.Slice.Eq.{bytes_eq-Decides}
+use Rattle.std.specs.Str.Parse.{digits_value, without_leading_plus}
+use Rattle.clap.specs.Built.{AddsArg, AddsSubcommand}
+use Rattle.clap.specs.Simple.{Shape, app_of_fields, argument_words, built, entered, filled, label_of, names_of, on_top, rows_at, with_index}
+use Rattle.clap.specs.Takes.{entered_passes, level_passes, takes, value_passes}
+use Rattle.clap.specs.Values.{IsUnsignedIn}
+use Rattle.clap.specs.Walk.{answers_to, first_of, nothing_held, rows_after, stop_after}
+use Rattle.clap.specs.Words.{App, Row, Rule, Text, app_of, fault_of, is_simple, is_simple_and_free, kind_of, new_app, rule_of, subcommand_of, with_rule, with_subcommand}
+use Rattle.clap.specs.declared.builder.arg.Arg.{Arg}
+use Rattle.clap.specs.declared.builder.command.Command.{Command}
+use Rattle.clap.specs.declared.builder.command.Command.TheOpen.{Command-F}
+use Rattle.clap.specs.declared.builder.command.Command.TheViews.{out-Command as fields_of}
+use Rattle.clap.specs.declared.builder.value_parser.ValueParser.TheVariants as vp
+use Rattle.clap.specs.declared.error.Error.{Error}
+use Rattle.clap.specs.declared.error.kind.ErrorKind.TheVariants.{OutOfMemory}
+use Rattle.clap.proofs.OnLiterals.{clap_on_literals}
+use Rattle.clap.proofs.ValueTestLemmas.{accepts-Accepts}
+use Rattle.macs_words.specs.declared.action.Action.{Action}
+use Rattle.macs_words.specs.declared.action.Action.TheVariants.{Open, Format, Apply, Show, Protect, Validate, Relay}
+use Rattle.macs_words.specs.declared.action.UsageFault.{UsageFault}
+use Rattle.macs_words.specs.declared.action.UsageFault.TheVariants.{Usage, Memory}
+use Rattle.macs_words.specs.Words.{FitsNumbers, HasNumber, IsClapCommand, IsFaultOf, Names, IsFlagged, bare_app, count_rule, flag_rule, macsecd, number_rule, option_rule, value_rule}
+use Rattle.macs_words.proofs.Given.{AreValueRules, IsValueRule, given}
+use Rattle.macs_words.proofs.Taken.{is_bare_app, taken}
+
+-- ---- the words as they are built
+
+pub bare_words : (a b d e f : Command) → app_of a ≡ new_app (codes "macsecd") → fields_of b ≡ record (fields_of a) { no_binary_name = true }
+    → fields_of d ≡ record (fields_of b) { disable_help_flag = true } → fields_of e ≡ record (fields_of d) { disable_help_subcommand = true }
+    → fields_of f ≡ record (fields_of e) { disable_version_flag = true } → app_of f ≡ bare_app
+bare_words a b d e f is one two three four =
+    ap app_of_fields (four ∙ ap (λ (x : Command-F Command). record x { disable_version_flag = true })
+    (three ∙ ap (λ (x : Command-F Command). record x { disable_help_subcommand = true })
+    (two ∙ ap (λ (x : Command-F Command). record x { disable_help_flag = true }) one)))
+    ∙ ap (on_top (λ s. record s {
+      no_binary_name = true;
+      disable_help_flag = true;
+      disable_help_subcommand = true;
+      disable_version_flag = true;
+    })) is
+
+-- one value more
+pub one_value : (old new : Command) (a : Arg) (app : App) (r : Rule) → IsClapCommand old app → rule_of a ≡ r → a.global ≡ false → AddsArg old a new
+    → IsClapCommand new (with_rule app r)
+one_value old new a app r its is local added = record {
+  app_is = added.shape local ∙ ap₂ with_rule its.app_is is;
+  local = added.globals ∙ ap (λ (b : Bool). b || a.global) its.local ∙ ap (λ (b : Bool). false || b) local;
+}
+
+-- a new subcommand
+pub no_values : (new : Command) (name : Text) → app_of new ≡ new_app name → (fields_of new).has_globals ≡ false → IsClapCommand new (new_app name)
+no_values new name is local = record { app_is = is; local = local }
+
+-- one subcommand more
+pub one_more : (old sub new : Command) (a b : App) → app_of old ≡ a → IsClapCommand sub b → AddsSubcommand old sub new
+    → app_of new ≡ with_subcommand a b.top
+one_more old sub new a b known its added =
+    added.shape its.local ∙ ap₂ with_subcommand known (ap (λ (x : App). x.top) its.app_is)
+
+-- ---- what `format` is given
+
+-- its numbers are there
+pub blocks : (rows : List Row) (action : Action) → Names (Some (codes "format", rows)) action → FitsNumbers action
+    → (tx_block : ℕ) × (rx_block : ℕ) × HasNumber rows (codes "TX") tx_block × (tx_block < 2 ^ 32)
+    × HasNumber rows (codes "RX") rx_block × (rx_block < 2 ^ 32)
+blocks rows Open named fits = cc
+blocks rows (Format disk sci tx_block rx_block block is_over) named fits = (tx_block, rx_block, named.3, fits.0, named.4, fits.1)
+blocks rows (Apply disk file) named fits = absurd (omega (arith, ap (λ (t : Text). slice_index t 0) named.0))
+blocks rows (Show disk) named fits = absurd (omega (arith, ap (λ (t : Text). slice_index t 0) named.0))
+blocks rows (Protect disk input output) named fits = absurd (omega (arith, ap (λ (t : Text). slice_index t 0) named.0))
+blocks rows (Validate disk input output) named fits = absurd (omega (arith, ap (λ (t : Text). slice_index t 0) named.0))
+blocks rows (Relay disk controlled common turns) named fits = absurd (omega (arith, ap (λ (t : Text). slice_index t 0) named.0))
+
+-- ---- what `relay` is given
+
+-- its turns are there
+pub turns_of : (rows : List Row) (action : Action) → Names (Some (codes "relay", rows)) action → FitsNumbers action
+    → (turns : ℕ) × HasNumber rows (codes "turns") turns × (turns < 2 ^ 64)
+turns_of rows Open named fits = cc
+turns_of rows (Format disk sci tx_block rx_block block is_over) named fits = absurd (omega (arith, ap (λ (t : Text). slice_index t 0) named.0))
+turns_of rows (Apply disk file) named fits = absurd (omega (arith, ap (λ (t : Text). slice_index t 0) named.0))
+turns_of rows (Show disk) named fits = absurd (omega (arith, ap (λ (t : Text). slice_index t 0) named.0))
+turns_of rows (Protect disk input output) named fits = absurd (omega (arith, ap (λ (t : Text). slice_index t 0) named.0))
+turns_of rows (Validate disk input output) named fits = absurd (omega (arith, ap (λ (t : Text). slice_index t 0) named.0))
+turns_of rows (Relay disk controlled common turns) named fits = (turns, named.6, fits)
+
+-- ---- what each subcommand is given
+
+-- a text that is borrowed
+abbrev text_of : Text → Bor Text
+text_of text = record { ref_ptr = (0, 0); now = text }
+
+texts-back : (text : Option Text) → option_map (λ (t : Bor Text). t.now) (option_map text_of text) ≡ text
+texts-back None = refl
+texts-back (Some text) = refl
+
+-- the subcommand that these shapes have, behind their settings
+abbrev shape_at : ℕ → Shape
+shape_at i = slice_index_or (built macsecd).subs i (built macsecd).top
+
+-- where the subcommand takes the words, they name an action
+abbrev IsNamed : Shape → Type 0
+IsNamed s = (words : List Text) → level_passes s [] nothing_held words false ≡ true
+    → (action : Action) × Names (Some (rows_at s words)) action × FitsNumbers action
+
+value-is : (place : ℕ) (name : Text) → IsValueRule (with_index place (filled (value_rule name)))
+value-is place name = record { action = inl refl; missing = inl refl; defaults = inl refl; no_short = λ x. refl }
+
+number-is : (place : ℕ) (name : Text) → IsValueRule (with_index place (filled (number_rule name)))
+number-is place name = record { action = inl refl; missing = inl refl; defaults = inl refl; no_short = λ x. refl }
+
+count-is : (name : Text) → IsValueRule (filled (count_rule name))
+count-is name = record { action = inl refl; missing = inl refl; defaults = inl refl; no_short = λ x. refl }
+
+option-is : (name : Text) → IsValueRule (filled (option_rule name))
+option-is name = record { action = inl refl; missing = inl refl; defaults = inl refl; no_short = λ x. refl }
+
+flag-is : (name : Text) → IsValueRule (filled (flag_rule name))
+unfolding clap_on_literals
+flag-is name = record { action = inr refl; missing = inr refl; defaults = inr refl; no_short = λ x. refl }
+
+-- whether an option without a value is used can be told
+abbrev is_flagged : List Row → Text → Bool
+is_flagged rows name = option_map_or (λ text. bytes_eq text (codes "true")) (first_of name rows) false
+
+flagged : (rows : List Row) (name : Text) → IsFlagged rows name (is_flagged rows name)
+flagged rows name = go (first_of name rows)
+  where
+    go : (found : Option Text) → (option_map_or (λ text. bytes_eq text (codes "true")) found false ≡ true) ↔ (found ≡ Some (codes "true"))
+    go None = (λ is. cc, λ is. cc)
+    go (Some text) = (
+      λ is. ap (λ (t : Text). Some t) ((bytes_eq-Decides text (codes "true")).0 is),
+      λ is. (bytes_eq-Decides text (codes "true")).1 (ap (λ (o : Option Text). unwrap_or o text) is),
+    )
+
+-- a value that passed as a number is one
+number-read : (place : ℕ) (name : Text) (text : Text) → value_passes (with_index place (filled (number_rule name))) text ≡ true
+    → IsUnsignedIn 0 (2 ^ 32 - 1) text
+number-read place name text passes = accepts-Accepts false (vp.Unsigned 0 (2 ^ 32 - 1)) text passes
+
+count-read : (name : Text) (text : Text) → value_passes (filled (count_rule name)) text ≡ true → IsUnsignedIn 0 (2 ^ 64 - 1) text
+count-read name text passes = accepts-Accepts false (vp.Unsigned 0 (2 ^ 64 - 1)) text passes
+
+open-named : IsNamed (shape_at 0)
+open-named words passes = (Open, refl, tt)
+
+format-named : IsNamed (shape_at 1)
+unfolding clap_on_literals
+format-named words passes =
+    let rules : AreValueRules (shape_at 1).rules = record {
+      each = (
+        value-is 1 (codes "DISK"),
+        (
+          value-is 2 (codes "SCI"),
+          (
+            number-is 3 (codes "TX"),
+            (number-is 4 (codes "RX"), (option-is (codes "block"), (flag-is (codes "over"), tt))),
+          ),
+        ),
+      );
+      own = (refl, (refl, (refl, (refl, (refl, (refl, tt))))));
+    } in
+    let disk = given (shape_at 1) words (with_index 1 (filled (value_rule (codes "DISK")))) rules refl passes refl refl in
+    let sci = given (shape_at 1) words (with_index 2 (filled (value_rule (codes "SCI")))) rules refl passes refl refl in
+    let tx = given (shape_at 1) words (with_index 3 (filled (number_rule (codes "TX")))) rules refl passes refl refl in
+    let rx = given (shape_at 1) words (with_index 4 (filled (number_rule (codes "RX")))) rules refl passes refl refl in
+    let tx_in = number-read 3 (codes "TX") tx.0 tx.2 in
+    let rx_in = number-read 4 (codes "RX") rx.0 rx.2 in
+    let tx_block = digits_value 10 (without_leading_plus tx.0) in
+    let rx_block = digits_value 10 (without_leading_plus rx.0) in
+    let tx_fits : tx_block < 2 ^ 32 = omega (arith, tx_in.3) in
+    let rx_fits : rx_block < 2 ^ 32 = omega (arith, rx_in.3) in
+    let rows = rows_after (shape_at 1).rules [] words in (
+      Format (text_of disk.0) (text_of sci.0) tx_block rx_block (option_map text_of (first_of (codes "block") rows)) (is_flagged rows (codes "over")),
+      (
+        refl,
+        disk.1,
+        sci.1,
+        (tx.0, tx.1, tx_in.0, refl),
+        (rx.0, rx.1, rx_in.0, refl),
+        texts-back (first_of (codes "block") rows),
+        flagged rows (codes "over"),
+      ),
+      (tx_fits, rx_fits),
+    )
+
+apply-named : IsNamed (shape_at 2)
+unfolding clap_on_literals
+apply-named words passes =
+    let rules : AreValueRules (shape_at 2).rules = record {
+      each = (value-is 1 (codes "DISK"), (value-is 2 (codes "FILE"), tt));
+      own = (refl, (refl, tt));
+    } in
+    let disk = given (shape_at 2) words (with_index 1 (filled (value_rule (codes "DISK")))) rules refl passes refl refl in
+    let file = given (shape_at 2) words (with_index 2 (filled (value_rule (codes "FILE")))) rules refl passes refl refl in
+    (Apply (text_of disk.0) (text_of file.0), (refl, disk.1, file.1), tt)
+
+show-named : IsNamed (shape_at 3)
+unfolding clap_on_literals
+show-named words passes =
+    let rules : AreValueRules (shape_at 3).rules = record {
+      each = (value-is 1 (codes "DISK"), tt);
+      own = (refl, tt);
+    } in
+    let disk = given (shape_at 3) words (with_index 1 (filled (value_rule (codes "DISK")))) rules refl passes refl refl in
+    (Show (text_of disk.0), (refl, disk.1), tt)
+
+protect-named : IsNamed (shape_at 4)
+unfolding clap_on_literals
+protect-named words passes =
+    let rules : AreValueRules (shape_at 4).rules = record {
+      each = (value-is 1 (codes "DISK"), (value-is 2 (codes "INPUT"), (value-is 3 (codes "OUTPUT"), tt)));
+      own = (refl, (refl, (refl, tt)));
+    } in
+    let disk = given (shape_at 4) words (with_index 1 (filled (value_rule (codes "DISK")))) rules refl passes refl refl in
+    let input = given (shape_at 4) words (with_index 2 (filled (value_rule (codes "INPUT")))) rules refl passes refl refl in
+    let output = given (shape_at 4) words (with_index 3 (filled (value_rule (codes "OUTPUT")))) rules refl passes refl refl in
+    (Protect (text_of disk.0) (text_of input.0) (text_of output.0), (refl, disk.1, input.1, output.1), tt)
+
+validate-named : IsNamed (shape_at 5)
+unfolding clap_on_literals
+validate-named words passes =
+    let rules : AreValueRules (shape_at 5).rules = record {
+      each = (value-is 1 (codes "DISK"), (value-is 2 (codes "INPUT"), (value-is 3 (codes "OUTPUT"), tt)));
+      own = (refl, (refl, (refl, tt)));
+    } in
+    let disk = given (shape_at 5) words (with_index 1 (filled (value_rule (codes "DISK")))) rules refl passes refl refl in
+    let input = given (shape_at 5) words (with_index 2 (filled (value_rule (codes "INPUT")))) rules refl passes refl refl in
+    let output = given (shape_at 5) words (with_index 3 (filled (value_rule (codes "OUTPUT")))) rules refl passes refl refl in
+    (Validate (text_of disk.0) (text_of input.0) (text_of output.0), (refl, disk.1, input.1, output.1), tt)
+
+relay-named : IsNamed (shape_at 6)
+unfolding clap_on_literals
+relay-named words passes =
+    let rules : AreValueRules (shape_at 6).rules = record {
+      each = (
+        value-is 1 (codes "DISK"),
+        (
+          value-is 2 (codes "OWN1"),
+          (
+            value-is 3 (codes "PEER1"),
+            (value-is 4 (codes "OWN2"), (value-is 5 (codes "PEER2"), (count-is (codes "turns"), tt))),
+          ),
+        ),
+      );
+      own = (refl, (refl, (refl, (refl, (refl, (refl, tt))))));
+    } in
+    let disk = given (shape_at 6) words (with_index 1 (filled (value_rule (codes "DISK")))) rules refl passes refl refl in
+    let own_1 = given (shape_at 6) words (with_index 2 (filled (value_rule (codes "OWN1")))) rules refl passes refl refl in
+    let peer_1 = given (shape_at 6) words (with_index 3 (filled (value_rule (codes "PEER1")))) rules refl passes refl refl in
+    let own_2 = given (shape_at 6) words (with_index 4 (filled (value_rule (codes "OWN2")))) rules refl passes refl refl in
+    let peer_2 = given (shape_at 6) words (with_index 5 (filled (value_rule (codes "PEER2")))) rules refl passes refl refl in
+    let turns = given (shape_at 6) words (filled (count_rule (codes "turns"))) rules refl passes refl refl in
+    let turns_in = count-read (codes "turns") turns.0 turns.2 in
+    let count = digits_value 10 (without_leading_plus turns.0) in
+    let fits : count < 2 ^ 64 = omega (arith, turns_in.3) in (
+      Relay (text_of disk.0) (record { own = text_of own_1.0; peer = text_of peer_1.0 })
+          (record { own = text_of own_2.0; peer = text_of peer_2.0 }) count,
+      (refl, disk.1, own_1.1, peer_1.1, own_2.1, peer_2.1, (turns.0, turns.1, turns_in.0, refl)),
+      fits,
+    )
+
+-- ---- the words of a whole command line
+
+-- the first of the subcommands that answers to a name
+named-first : (shapes : List Shape) (answers : Shape → Bool) (words : List Text) → AllByRecursion IsNamed shapes
+    → option_map_or (λ s. level_passes s [] nothing_held words false) (find answers shapes) true ≡ true
+    → (action : Action) × Names (option_map (λ s. rows_at s words) (find answers shapes)) action × FitsNumbers action
+named-first [] answers words all passes = (Open, refl, tt)
+named-first (s ∷ rest) answers words all passes = go (answers s) passes (λ later. named-first rest answers words all.1 later)
+  where
+    go : (is : Bool)
+        → option_map_or (λ s. level_passes s [] nothing_held words false) (if is then Some s else find answers rest) true ≡ true
+        → (option_map_or (λ s. level_passes s [] nothing_held words false) (find answers rest) true ≡ true
+        → (action : Action) × Names (option_map (λ s. rows_at s words) (find answers rest)) action × FitsNumbers action)
+        → (action : Action) × Names (option_map (λ s. rows_at s words) (if is then Some s else find answers rest)) action × FitsNumbers action
+    go true passes below = all.0 words passes
+    go false passes below = below passes
+
+named-entered : (a : App) (stop : Option (Text × List Text)) → AllByRecursion IsNamed a.subs → entered_passes a stop ≡ true
+    → (action : Action) × Names (entered a stop) action × FitsNumbers action
+named-entered a None all passes = (Open, refl, tt)
+named-entered a (Some p) all passes = named-first a.subs (λ s. answers_to p.0 (label_of s)) p.1 all passes
+
+first-of-three : (a b d : Bool) → (a && (b && d)) ≡ true → b ≡ true
+first-of-three true true d is = refl
+first-of-three true false d is = cc
+first-of-three false b d is = cc
+
+all-named : AllByRecursion IsNamed (built macsecd).subs
+all-named = (open-named, (format-named, (apply-named, (show-named, (protect-named, (validate-named, (relay-named, tt)))))))
+
+-- each command line that the program takes names an action
+pub named : (words : List Text) → takes macsecd words ≡ true → (action : Action) × Names (subcommand_of macsecd words) action × FitsNumbers action
+named words taken =
+    named-entered (built macsecd) (stop_after (built macsecd).top.rules (names_of (built macsecd)) (argument_words macsecd words)) all-named
+    (first-of-three (is_simple macsecd) _ _ taken)
+
+-- ---- the commands are ones of which clap tells all
+
+pub simple : is_simple macsecd ≡ true
+simple = refl
+
+pub free : is_simple_and_free macsecd ≡ true
+free = refl
+
+bare : is_bare_app (built macsecd) ≡ true
+bare = refl
+
+-- words in which it finds no fault are taken
+pub taken_without_fault : (words : List Text) → fault_of macsecd words ≡ [] → takes macsecd words ≡ true
+taken_without_fault words faultless = taken macsecd words simple bare faultless
+
+-- a fault for want of memory
+pub wants_memory : (error : Error) (fault : UsageFault) → IsFaultOf error fault → kind_of error ≡ OutOfMemory → fault ≡ Memory
+wants_memory error (Usage cause) is memory = absurd (is memory)
+wants_memory error Memory is memory = refl

@@ -1,0 +1,11 @@
+use Rattle.macs_words.proofs.action.known_words.Goals as goal
+
+pub returns : goal.returns
+returns c =
+    let with-1 = c.with_words-words.ensures _ _ c.bare_words.ensures c.open_words.ensures in
+    let with-2 = c.with_words-words-2.ensures _ _ with-1 c.format_words.ensures in
+    let with-3 = c.with_words-words-3.ensures _ _ with-2 c.apply_words.ensures in
+    let with-4 = c.with_words-words-4.ensures _ _ with-3 c.show_words.ensures in
+    let with-5 = c.with_words-words-5.ensures _ _ with-4 c.capture_words.ensures in
+    let with-6 = c.with_words-words-6.ensures _ _ with-5 c.capture_words-2.ensures in
+    c.with_words.ensures _ _ with-6 c.relay_words.ensures

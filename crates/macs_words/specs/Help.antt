@@ -1,0 +1,23 @@
+-- What is printed where help is asked for.
+use Rattle.std.specs.Prelude.{ℕ, List}
+use Rattle.macs_words.specs.declared.help.Subcommand.{Subcommand}
+use Rattle.macs_words.specs.declared.help.Subcommand.TheVariants as subcommand
+use Rattle.macs_words.specs.declared.help.Topic.{Topic}
+use Rattle.macs_words.specs.declared.help.Topic.TheVariants.{Help, HelpOn, Version}
+use Rattle.macs_words.specs.declared.help_texts.TheConstants.{APPLY, FORMAT, HELP, OPEN, PROTECT, RELAY, SHOW, VALIDATE, VERSION}
+
+-- what is printed on a subcommand
+abbrev pub subcommand_text : Subcommand → List ℕ
+subcommand_text subcommand.Open = OPEN.now
+subcommand_text subcommand.Format = FORMAT.now
+subcommand_text subcommand.Apply = APPLY.now
+subcommand_text subcommand.Show = SHOW.now
+subcommand_text subcommand.Protect = PROTECT.now
+subcommand_text subcommand.Validate = VALIDATE.now
+subcommand_text subcommand.Relay = RELAY.now
+
+-- what is printed for a topic, in whole lines
+abbrev pub topic_text : Topic → List ℕ
+topic_text Help = HELP.now
+topic_text (HelpOn which) = subcommand_text which
+topic_text Version = VERSION.now

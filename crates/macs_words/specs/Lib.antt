@@ -1,0 +1,3 @@
+pub mod Controls
+pub mod Words
+pub mod Help

@@ -1,0 +1,181 @@
+-- The words that the program knows, the action that they name, and those that ask for help.
+use Rattle.std.specs.Prelude.{◌≡◌, ◌≢◌, ◌↔◌, ◌⊎◌, ◌<◌, ◌-◌, ◌^◌, ℕ, ⊤, map, Bool, true, false, List, [], ◌∷◌, ◌++◌, Option, Some, None, codes, option_map, string_bytes}
+use Rattle.std.specs.Str.Parse.{IsNumeral, digits_value, without_leading_plus}
+use Rattle.std.specs.Borrow.{Bor}
+use Rattle.clap.specs.Simple.{new_shape, on_top}
+use Rattle.clap.specs.Words.{App, Row, Rule, Shape, Text, app_of, first_of, kind_of, new_app, new_rule, with_subcommand}
+use Rattle.clap.specs.declared.builder.action.ArgAction.TheVariants.{Set, SetTrue}
+use Rattle.clap.specs.declared.builder.value_parser.ValueParser.TheVariants as vp
+use Rattle.clap.specs.declared.builder.command.Command.{Command}
+use Rattle.clap.specs.declared.builder.command.Command.TheViews.{out-Command as fields_of}
+use Rattle.clap.specs.declared.error.Error.{Error}
+use Rattle.clap.specs.declared.error.kind.ErrorKind.TheVariants.{OutOfMemory}
+use Rattle.macs_words.specs.Controls.{IsPrintable}
+use Rattle.macs_words.specs.declared.action.UsageFault.{UsageFault}
+use Rattle.macs_words.specs.declared.action.UsageFault.TheVariants.{Usage, Memory}
+use Rattle.macs_words.specs.declared.action.Action.{Action}
+use Rattle.macs_words.specs.declared.action.Action.TheVariants.{Open, Format, Apply, Show, Protect, Validate, Relay}
+use Rattle.macs_words.specs.declared.help.Topic.{Topic}
+use Rattle.macs_words.specs.declared.help.Topic.TheVariants.{Help, HelpOn, Version}
+use Rattle.macs_words.specs.declared.help.Subcommand.{Subcommand}
+use Rattle.macs_words.specs.declared.help.Subcommand.TheVariants as subcommand
+
+-- what borrowed words say
+abbrev pub texts : List (Bor Text) → List Text
+texts = map (λ word. word.now)
+
+-- ---- the words that are known
+
+-- a value that has to be given
+abbrev pub value_rule : Text → Rule
+value_rule name = record (new_rule name) { action = Some Set; required = true }
+
+-- a number that has to be given: 0 to 2^32 - 1, in decimal digits
+abbrev pub number_rule : Text → Rule
+number_rule name = record (value_rule name) { parser = Some (vp.Unsigned 0 (2 ^ 32 - 1)) }
+
+-- an option of this name that has to be given: a number of 0 to 2^64 - 1, in decimal digits
+abbrev pub count_rule : Text → Rule
+count_rule name = record (value_rule name) { long = Some name; parser = Some (vp.Unsigned 0 (2 ^ 64 - 1)) }
+
+-- an option of this name that need not be given: a text
+abbrev pub option_rule : Text → Rule
+option_rule name = record (new_rule name) { long = Some name; action = Some Set }
+
+-- an option of this name without a value
+abbrev pub flag_rule : Text → Rule
+flag_rule name = record (new_rule name) { long = Some name; action = Some SetTrue }
+
+-- a subcommand with the values that it takes, in their order
+abbrev pub subcommand_with : Text → List Rule → Shape
+subcommand_with name rules = record (new_shape name) { rules = rules }
+
+-- the subcommands that have no frames but that of `open`, each with its values; `open` has none
+abbrev pub first_subcommands : List Shape
+first_subcommands =
+    subcommand_with (codes "open") []
+    ∷ subcommand_with (codes "format") (value_rule (codes "DISK") ∷ value_rule (codes "SCI") ∷ number_rule (codes "TX") ∷ number_rule (codes "RX")
+    ∷ option_rule (codes "block") ∷ flag_rule (codes "over") ∷ [])
+    ∷ subcommand_with (codes "apply") (value_rule (codes "DISK") ∷ value_rule (codes "FILE") ∷ [])
+    ∷ subcommand_with (codes "show") (value_rule (codes "DISK") ∷ [])
+    ∷ []
+
+-- those that take frames through an endpoint
+abbrev pub frame_subcommands : List Shape
+frame_subcommands =
+    subcommand_with (codes "protect") (value_rule (codes "DISK") ∷ value_rule (codes "INPUT") ∷ value_rule (codes "OUTPUT") ∷ [])
+    ∷ subcommand_with (codes "validate") (value_rule (codes "DISK") ∷ value_rule (codes "INPUT") ∷ value_rule (codes "OUTPUT") ∷ [])
+    ∷ subcommand_with (codes "relay") (value_rule (codes "DISK") ∷ value_rule (codes "OWN1") ∷ value_rule (codes "PEER1")
+    ∷ value_rule (codes "OWN2") ∷ value_rule (codes "PEER2") ∷ count_rule (codes "turns") ∷ [])
+    ∷ []
+
+-- the words begin after the program's name, and no flag and no subcommand of the library's asks for help or the version
+abbrev pub bare_app : App
+bare_app = on_top (λ s. record s {
+  no_binary_name = true;
+  disable_help_flag = true;
+  disable_help_subcommand = true;
+  disable_version_flag = true;
+}) (new_app (codes "macsecd"))
+
+-- the words that the program knows
+abbrev pub macsecd : App
+macsecd = record {
+  top = record bare_app.top { is_leaf = false };
+  subs = first_subcommands ++ frame_subcommands;
+}
+
+-- ---- actions
+
+-- the value of this name is this text
+abbrev pub HasText : List Row → Text → Text → Type 0
+HasText values name text = first_of name values ≡ Some text
+
+-- the value of this name is this number in decimal digits, which a plus may lead
+abbrev pub HasNumber : List Row → Text → ℕ → Type 0
+HasNumber values name number =
+    (text : Text) × (first_of name values ≡ Some text)
+    × IsNumeral 10 (without_leading_plus text) × (number ≡ digits_value 10 (without_leading_plus text))
+
+-- the value of this name is this text, where it is given
+abbrev pub MayHaveText : List Row → Text → Option (Bor Text) → Type 0
+MayHaveText values name text = option_map (λ t. t.now) text ≡ first_of name values
+
+-- the option without a value is used
+abbrev pub IsFlagged : List Row → Text → Bool → Type 0
+IsFlagged values name is = (is ≡ true) ↔ HasText values name (codes "true")
+
+-- the subcommand with its values names the action; no subcommand is `open`
+abbrev pub Names : Option (Text × List Row) → Action → Type 0
+Names None action = action ≡ Open
+Names (Some found) Open = found.0 ≡ codes "open"
+Names (Some found) (Format disk sci tx_block rx_block block is_over) =
+    (found.0 ≡ codes "format") × HasText found.1 (codes "DISK") disk.now × HasText found.1 (codes "SCI") sci.now
+    × HasNumber found.1 (codes "TX") tx_block × HasNumber found.1 (codes "RX") rx_block
+    × MayHaveText found.1 (codes "block") block × IsFlagged found.1 (codes "over") is_over
+Names (Some found) (Apply disk file) =
+    (found.0 ≡ codes "apply") × HasText found.1 (codes "DISK") disk.now × HasText found.1 (codes "FILE") file.now
+Names (Some found) (Show disk) = (found.0 ≡ codes "show") × HasText found.1 (codes "DISK") disk.now
+Names (Some found) (Protect disk input output) =
+    (found.0 ≡ codes "protect") × HasText found.1 (codes "DISK") disk.now
+    × HasText found.1 (codes "INPUT") input.now × HasText found.1 (codes "OUTPUT") output.now
+Names (Some found) (Validate disk input output) =
+    (found.0 ≡ codes "validate") × HasText found.1 (codes "DISK") disk.now
+    × HasText found.1 (codes "INPUT") input.now × HasText found.1 (codes "OUTPUT") output.now
+Names (Some found) (Relay disk controlled common turns) =
+    (found.0 ≡ codes "relay") × HasText found.1 (codes "DISK") disk.now
+    × HasText found.1 (codes "OWN1") controlled.own.now × HasText found.1 (codes "PEER1") controlled.peer.now
+    × HasText found.1 (codes "OWN2") common.own.now × HasText found.1 (codes "PEER2") common.peer.now
+    × HasNumber found.1 (codes "turns") turns
+
+-- the numbers of the action, if it has any, have so many bits
+abbrev pub FitsNumbers : Action → Type 0
+FitsNumbers (Format disk sci tx_block rx_block block is_over) = (tx_block < 2 ^ 32) × (rx_block < 2 ^ 32)
+FitsNumbers (Relay disk controlled common turns) = turns < 2 ^ 64
+FitsNumbers action = ⊤
+
+-- the command is this one, and has no global argument
+pub record IsClapCommand (command : Command) (app : App) : Type 0 where
+  pub app_is : app_of command ≡ app
+  pub local : (fields_of command).has_globals ≡ false
+
+-- want of memory is one, and every other refusal is wrong usage
+abbrev pub IsFaultOf : Error → UsageFault → Type 0
+IsFaultOf error Memory = kind_of error ≡ OutOfMemory
+IsFaultOf error (Usage cause) = kind_of error ≢ OutOfMemory
+
+-- the cause, where the fault has one, is without control characters
+abbrev pub HasPrintableCause : UsageFault → Type 0
+HasPrintableCause (Usage cause) = IsPrintable (string_bytes cause)
+HasPrintableCause Memory = ⊤
+
+-- ---- help
+
+-- the word that asks for help, long or short
+abbrev pub IsHelpFlag : Text → Type 0
+IsHelpFlag word = (word ≡ codes "--help") ⊎ (word ≡ codes "-h")
+
+-- the word that asks which program it is
+abbrev pub IsVersionFlag : Text → Type 0
+IsVersionFlag word = word ≡ codes "--version"
+
+-- the name of a subcommand
+abbrev pub name_of : Subcommand → Text
+name_of subcommand.Open = codes "open"
+name_of subcommand.Format = codes "format"
+name_of subcommand.Apply = codes "apply"
+name_of subcommand.Show = codes "show"
+name_of subcommand.Protect = codes "protect"
+name_of subcommand.Validate = codes "validate"
+name_of subcommand.Relay = codes "relay"
+
+-- The words ask for the topic: a help flag alone, the name of a subcommand and a help flag behind it, or the version flag alone
+abbrev pub AsksFor : List Text → Topic → Type 0
+AsksFor (word ∷ []) Help = IsHelpFlag word
+AsksFor (name ∷ word ∷ []) (HelpOn which) = (name ≡ name_of which) × IsHelpFlag word
+AsksFor (word ∷ []) Version = IsVersionFlag word
+AsksFor words topic = ⊥
+
+-- the words ask for no help
+abbrev pub AsksForNothing : List Text → Type 0
+AsksForNothing words = (topic : Topic) → ¬ AsksFor words topic

@@ -1,0 +1,440 @@
+//! What the program's words ask for.
+
+ghost use Rattle.std.specs.Prelude.{◌≡◌, ◌↔◌, ◌<◌, ◌^◌, ℕ, IfOk, IfErr, IfSome, IsSome, IsTrue, OnOk, Some, true, false, [], codes, option_map, string_bytes};
+ghost use Rattle.clap.specs.Words.{App, Rule, Text, app_of, fault_of, first_of, found_of, new_app, rows_of, rule_of, subcommand_of, subcommand_rows_of, takes, with_rule, with_subcommand};
+ghost use Rattle.macs_words.specs.Controls.{IsPrintable};
+ghost use Rattle.macs_words.specs.Words.{FitsNumbers, HasNumber, HasPrintableCause, HasText, IsClapCommand, IsFaultOf, Names, bare_app, count_rule, macsecd, number_rule, texts, value_rule};
+ghost use Rattle.macs_words.specs.Words.{flag_rule, option_rule};
+
+use crate::plain_text::printable;
+use clap::builder::ValueParser;
+use clap::error::ErrorKind;
+use clap::{Arg, ArgAction, ArgMatches, Command};
+use std::alloc::{AllocError, Global};
+
+/// What the program is to do, with the values that the words give.
+#[derive(Clone, Copy)]
+pub enum Action<'a> {
+    /// Opens one protected frame: `open`, or no word.
+    Open,
+    /// Makes a disk file for an endpoint: `format DISK SCI TX RX`, and `--block` and `--over` where
+    /// they are given. The blocks of packet numbers are 0 to 2^32 - 1 here.
+    Format {
+        disk: &'a str,
+        sci: &'a str,
+        tx_block: u32,
+        rx_block: u32,
+        /// The block of the device, in octets, where it is given.
+        block: Option<&'a str>,
+        /// Whether what else the file holds may be lost.
+        is_over: bool,
+    },
+    /// Applies the commands of a file: `apply DISK FILE`.
+    Apply {
+        disk: &'a str,
+        file: &'a str,
+    },
+    /// Prints the configuration and the packet numbers: `show DISK`.
+    Show {
+        disk: &'a str,
+    },
+    /// Protects the frames of a capture: `protect DISK INPUT OUTPUT`.
+    Protect {
+        disk: &'a str,
+        input: &'a str,
+        output: &'a str,
+    },
+    /// Validates the frames of a capture: `validate DISK INPUT OUTPUT`.
+    Validate {
+        disk: &'a str,
+        input: &'a str,
+        output: &'a str,
+    },
+    /// Relays frames between two wires: `relay DISK OWN1 PEER1 OWN2 PEER2 --turns n`.
+    Relay {
+        disk: &'a str,
+        controlled: WireEnds<'a>,
+        common: WireEnds<'a>,
+        turns: u64,
+    },
+}
+
+/// The addresses of a wire as they are spelled: `127.0.0.1:4000`, `[::1]:4000`.
+#[derive(Clone, Copy)]
+pub struct WireEnds<'a> {
+    /// Where it is bound.
+    pub own: &'a str,
+    /// Where its datagrams go to, and where those come from that it takes.
+    pub peer: &'a str,
+}
+
+/// Why the words name no action.
+#[derive(Drop)]
+pub enum UsageFault {
+    /// They are none that the program knows, for this cause.
+    Usage(String),
+    /// Memory is wanting.
+    Memory,
+}
+
+impl From<AllocError> for UsageFault {
+    ghost use Rattle.macs_words.specs.declared.action.UsageFault.TheVariants.{Memory};
+
+    ghost from_gives = { λ _ fault. fault ≡ Memory };
+
+    fn from(_error: AllocError) -> UsageFault {
+        UsageFault::Memory
+    }
+}
+
+/// A value that has to be given.
+fn value<'a>(alloc: Global, name: &'a str) -> Arg<'a>
+    ensures rule { rule_of result ≡ value_rule name.entry.now }
+    ensures local { result.global ≡ false }
+{
+    Arg::new(alloc, name).required(true).action(ArgAction::Set)
+}
+
+/// A number of 32 bits that has to be given.
+fn number<'a>(alloc: Global, name: &'a str) -> Arg<'a>
+    ensures rule { rule_of result ≡ number_rule name.entry.now }
+    ensures local { result.global ≡ false }
+{
+    // `value_parser!(u32)` would take `-0` too, and read it as 0.
+    value(alloc, name).value_parser(ValueParser::unsigned(0, 4_294_967_295))
+}
+
+/// A value that may be given behind its name.
+fn option<'a>(alloc: Global, name: &'a str) -> Arg<'a>
+    ensures rule { rule_of result ≡ option_rule name.entry.now }
+    ensures local { result.global ≡ false }
+{
+    Arg::new(alloc, name).long(name).action(ArgAction::Set)
+}
+
+/// An option without a value.
+fn flag<'a>(alloc: Global, name: &'a str) -> Arg<'a>
+    ensures rule { rule_of result ≡ flag_rule name.entry.now }
+    ensures local { result.global ≡ false }
+{
+    Arg::new(alloc, name).long(name).action(ArgAction::SetTrue)
+}
+
+/// These words with one value more.
+fn with_value<'a>(
+    words: Result<Command<'a>, AllocError>,
+    value: Arg<'a>,
+) -> Result<Command<'a>, AllocError>
+    ensures { (app : App) (rule : Rule) → IfOk words.entry (λ command. IsClapCommand command app)
+        → rule_of value.entry ≡ rule → value.entry.global ≡ false
+        → IfOk result (λ command. IsClapCommand command (with_rule app rule)) }
+{
+    words?.arg(value)
+}
+
+/// The words of `open`: none of its own.
+fn open_words<'a>(alloc: Global) -> Command<'a>
+    ensures { IsClapCommand result (new_app (codes "open")) }
+{
+    Command::new(alloc, "open")
+}
+
+/// The words of `format`.
+fn format_words<'a>(alloc: Global) -> Result<Command<'a>, AllocError>
+    ensures { IfOk result (λ command. IsClapCommand command (with_rule (with_rule (with_rule (with_rule (with_rule
+        (with_rule (new_app (codes "format")) (value_rule (codes "DISK"))) (value_rule (codes "SCI")))
+        (number_rule (codes "TX"))) (number_rule (codes "RX"))) (option_rule (codes "block"))) (flag_rule (codes "over")))) }
+{
+    let words = with_value(Ok(Command::new(alloc, "format")), value(alloc, "DISK"));
+    let words = with_value(words, value(alloc, "SCI"));
+    let words = with_value(words, number(alloc, "TX"));
+    let words = with_value(words, number(alloc, "RX"));
+    let words = with_value(words, option(alloc, "block"));
+    with_value(words, flag(alloc, "over"))
+}
+
+/// The words of `apply`.
+fn apply_words<'a>(alloc: Global) -> Result<Command<'a>, AllocError>
+    ensures { IfOk result (λ command. IsClapCommand command (with_rule (with_rule
+        (new_app (codes "apply")) (value_rule (codes "DISK"))) (value_rule (codes "FILE")))) }
+{
+    let words = with_value(Ok(Command::new(alloc, "apply")), value(alloc, "DISK"));
+    with_value(words, value(alloc, "FILE"))
+}
+
+/// The words of `show`.
+fn show_words<'a>(alloc: Global) -> Result<Command<'a>, AllocError>
+    ensures { IfOk result (λ command. IsClapCommand command (with_rule
+        (new_app (codes "show")) (value_rule (codes "DISK")))) }
+{
+    with_value(Ok(Command::new(alloc, "show")), value(alloc, "DISK"))
+}
+
+/// The words of a subcommand over a disk and two captures.
+fn capture_words<'a>(alloc: Global, name: &'a str) -> Result<Command<'a>, AllocError>
+    ensures { IfOk result (λ command. IsClapCommand command (with_rule (with_rule (with_rule
+        (new_app name.entry.now) (value_rule (codes "DISK"))) (value_rule (codes "INPUT")))
+        (value_rule (codes "OUTPUT")))) }
+{
+    let words = with_value(Ok(Command::new(alloc, name)), value(alloc, "DISK"));
+    let words = with_value(words, value(alloc, "INPUT"));
+    with_value(words, value(alloc, "OUTPUT"))
+}
+
+/// A number of 64 bits that has to be given behind its name.
+fn count<'a>(alloc: Global, name: &'a str) -> Arg<'a>
+    ensures rule { rule_of result ≡ count_rule name.entry.now }
+    ensures local { result.global ≡ false }
+{
+    value(alloc, name)
+        .long(name)
+        .value_parser(ValueParser::unsigned(0, u64::MAX))
+}
+
+/// The words of `relay`.
+fn relay_words<'a>(alloc: Global) -> Result<Command<'a>, AllocError>
+    ensures { IfOk result (λ command. IsClapCommand command (with_rule (with_rule (with_rule (with_rule (with_rule
+        (with_rule (new_app (codes "relay")) (value_rule (codes "DISK"))) (value_rule (codes "OWN1")))
+        (value_rule (codes "PEER1"))) (value_rule (codes "OWN2"))) (value_rule (codes "PEER2")))
+        (count_rule (codes "turns")))) }
+{
+    let words = with_value(Ok(Command::new(alloc, "relay")), value(alloc, "DISK"));
+    let words = with_value(words, value(alloc, "OWN1"));
+    let words = with_value(words, value(alloc, "PEER1"));
+    let words = with_value(words, value(alloc, "OWN2"));
+    let words = with_value(words, value(alloc, "PEER2"));
+    with_value(words, count(alloc, "turns"))
+}
+
+/// The words before any subcommand: they begin after the program's name, and nothing of the library's own asks for
+/// help or the version.
+fn bare_words<'a>(alloc: Global) -> Command<'a>
+    ensures { app_of result ≡ bare_app }
+{
+    Command::new(alloc, "macsecd")
+        .no_binary_name(true)
+        .disable_help_flag(true)
+        .disable_help_subcommand(true)
+        .disable_version_flag(true)
+}
+
+/// These words with one subcommand more.
+fn with_words<'a>(
+    words: Result<Command<'a>, AllocError>,
+    subcommand: Result<Command<'a>, AllocError>,
+) -> Result<Command<'a>, AllocError>
+    ensures { (app its : App) → IfOk words.entry (λ command. app_of command ≡ app)
+        → IfOk subcommand.entry (λ command. IsClapCommand command its)
+        → IfOk result (λ command. app_of command ≡ with_subcommand app its.top) }
+{
+    let subcommand = subcommand?;
+    words?.subcommand(subcommand)
+}
+
+/// The words that the program knows.
+fn known_words<'a>(alloc: Global) -> Result<Command<'a>, AllocError>
+    ensures { IfOk result (λ command. app_of command ≡ macsecd) }
+{
+    let words = with_words(Ok(bare_words(alloc)), Ok(open_words(alloc)));
+    let words = with_words(words, format_words(alloc));
+    let words = with_words(words, apply_words(alloc));
+    let words = with_words(words, show_words(alloc));
+    let words = with_words(words, capture_words(alloc, "protect"));
+    let words = with_words(words, capture_words(alloc, "validate"));
+    with_words(words, relay_words(alloc))
+}
+
+/// What an error says first, in one line. It repeats the words, so control characters are replaced.
+fn cause_of(alloc: Global, error: &clap::Error) -> Result<String, AllocError>
+    ensures { IfOk result (λ cause. IsPrintable (string_bytes cause)) }
+{
+    let text = error.to_string(alloc)?;
+    let line = text.lines().next().unwrap_or("");
+    printable(alloc, line.strip_prefix("error: ").unwrap_or(line))
+}
+
+/// The fault that an error of the library is.
+fn usage_fault_of(alloc: Global, error: &clap::Error) -> Result<UsageFault, AllocError>
+    ensures kind { IfOk result (IsFaultOf error.now) }
+    ensures printable { IfOk result HasPrintableCause }
+{
+    match error.kind() {
+        ErrorKind::OutOfMemory => Ok(UsageFault::Memory),
+        _ => Ok(UsageFault::Usage(cause_of(alloc, error)?)),
+    }
+}
+
+/// The text of a value.
+fn text_in<'a>(values: &ArgMatches<'a>, name: &str) -> Option<&'a str>
+    ensures { option_map (λ text. text.now) result ≡ first_of name.now (rows_of (found_of values.now)) }
+{
+    values.get_str(name)
+}
+
+/// The number that a value is in decimal digits.
+fn number_in(values: &ArgMatches, name: &str) -> Option<u32>
+    ensures read { IfSome result (HasNumber (rows_of (found_of values.now)) name.now) }
+    ensures found { (number : ℕ) → HasNumber (rows_of (found_of values.now)) name.now number
+        → number < 2 ^ 32 → IsSome result }
+{
+    text_in(values, name)?.parse().ok()
+}
+
+/// The number of 64 bits that a value is in decimal digits.
+fn count_in(values: &ArgMatches, name: &str) -> Option<u64>
+    ensures read { IfSome result (HasNumber (rows_of (found_of values.now)) name.now) }
+    ensures found { (number : ℕ) → HasNumber (rows_of (found_of values.now)) name.now number
+        → number < 2 ^ 64 → IsSome result }
+{
+    text_in(values, name)?.parse().ok()
+}
+
+/// Whether an option without a value is among the words.
+fn is_flagged(values: &ArgMatches, name: &str) -> bool
+    ensures { IsTrue result ↔ HasText (rows_of (found_of values.now)) name.now (codes "true") }
+{
+    text_in(values, name) == Some("true")
+}
+
+/// `format` with its values.
+fn format_in<'a>(values: &ArgMatches<'a>) -> Option<Action<'a>>
+    ensures read { IfSome result (λ action. Names (Some (codes "format", rows_of (found_of values.now))) action) }
+    ensures found { (action : Action) → Names (Some (codes "format", rows_of (found_of values.now))) action
+        → FitsNumbers action → IsSome result }
+{
+    let disk = text_in(values, "DISK")?;
+    let sci = text_in(values, "SCI")?;
+    let tx_block = number_in(values, "TX")?;
+    let rx_block = number_in(values, "RX")?;
+    Some(Action::Format {
+        disk,
+        sci,
+        tx_block,
+        rx_block,
+        block: text_in(values, "block"),
+        is_over: is_flagged(values, "over"),
+    })
+}
+
+/// `apply` with its values.
+fn apply_in<'a>(values: &ArgMatches<'a>) -> Option<Action<'a>>
+    ensures read { IfSome result (λ action. Names (Some (codes "apply", rows_of (found_of values.now))) action) }
+    ensures found { (action : Action) → Names (Some (codes "apply", rows_of (found_of values.now))) action
+        → IsSome result }
+{
+    let disk = text_in(values, "DISK")?;
+    let file = text_in(values, "FILE")?;
+    Some(Action::Apply { disk, file })
+}
+
+/// `show` with its value.
+fn show_in<'a>(values: &ArgMatches<'a>) -> Option<Action<'a>>
+    ensures read { IfSome result (λ action. Names (Some (codes "show", rows_of (found_of values.now))) action) }
+    ensures found { (action : Action) → Names (Some (codes "show", rows_of (found_of values.now))) action
+        → IsSome result }
+{
+    let disk = text_in(values, "DISK")?;
+    Some(Action::Show { disk })
+}
+
+/// `protect` with its values.
+fn protect_in<'a>(values: &ArgMatches<'a>) -> Option<Action<'a>>
+    ensures read { IfSome result (λ action. Names (Some (codes "protect", rows_of (found_of values.now))) action) }
+    ensures found { (action : Action) → Names (Some (codes "protect", rows_of (found_of values.now))) action
+        → IsSome result }
+{
+    let disk = text_in(values, "DISK")?;
+    let input = text_in(values, "INPUT")?;
+    let output = text_in(values, "OUTPUT")?;
+    Some(Action::Protect {
+        disk,
+        input,
+        output,
+    })
+}
+
+/// `validate` with its values.
+fn validate_in<'a>(values: &ArgMatches<'a>) -> Option<Action<'a>>
+    ensures read { IfSome result (λ action. Names (Some (codes "validate", rows_of (found_of values.now))) action) }
+    ensures found { (action : Action) → Names (Some (codes "validate", rows_of (found_of values.now))) action
+        → IsSome result }
+{
+    let disk = text_in(values, "DISK")?;
+    let input = text_in(values, "INPUT")?;
+    let output = text_in(values, "OUTPUT")?;
+    Some(Action::Validate {
+        disk,
+        input,
+        output,
+    })
+}
+
+/// The two addresses of a wire.
+fn ends_in<'a>(values: &ArgMatches<'a>, own: &str, peer: &str) -> Option<WireEnds<'a>>
+    ensures read { IfSome result (λ ends. HasText (rows_of (found_of values.now)) own.now ends.own.now
+        × HasText (rows_of (found_of values.now)) peer.now ends.peer.now) }
+    ensures found { (at there : Text) → HasText (rows_of (found_of values.now)) own.now at
+        → HasText (rows_of (found_of values.now)) peer.now there → IsSome result }
+{
+    let own = text_in(values, own)?;
+    let peer = text_in(values, peer)?;
+    Some(WireEnds { own, peer })
+}
+
+/// `relay` with its values.
+fn relay_in<'a>(values: &ArgMatches<'a>) -> Option<Action<'a>>
+    ensures read { IfSome result (λ action. Names (Some (codes "relay", rows_of (found_of values.now))) action) }
+    ensures found { (action : Action) → Names (Some (codes "relay", rows_of (found_of values.now))) action
+        → FitsNumbers action → IsSome result }
+{
+    let disk = text_in(values, "DISK")?;
+    let controlled = ends_in(values, "OWN1", "PEER1")?;
+    let common = ends_in(values, "OWN2", "PEER2")?;
+    let turns = count_in(values, "turns")?;
+    Some(Action::Relay {
+        disk,
+        controlled,
+        common,
+        turns,
+    })
+}
+
+/// The action of the subcommand that was used with its values, `open` where there was none.
+fn action_in<'a>(matches: &ArgMatches<'a>) -> Option<Action<'a>>
+    ensures read { IfSome result (Names (subcommand_rows_of matches.now)) }
+    ensures found { (action : Action) → Names (subcommand_rows_of matches.now) action
+        → FitsNumbers action → IsSome result }
+{
+    let Some((name, values)) = matches.subcommand() else {
+        return Some(Action::Open);
+    };
+    match name {
+        "open" => Some(Action::Open),
+        "format" => format_in(values),
+        "apply" => apply_in(values),
+        "show" => show_in(values),
+        "protect" => protect_in(values),
+        "validate" => validate_in(values),
+        "relay" => relay_in(values),
+        _ => None,
+    }
+}
+
+/// The action that the words name, without the program's own name among them. Refused as `Usage` where clap
+/// refuses the words, else as `Memory` where memory is wanting.
+pub fn action_of<'a>(alloc: Global, words: &'a [&'a str]) -> Result<Action<'a>, UsageFault>
+    // What is answered is what clap reads.
+    ensures read { IfOk result (Names (subcommand_of macsecd (texts words.now))) }
+    // What clap takes is refused for memory alone.
+    ensures taken { takes macsecd (texts words.now) ≡ true
+        → IfErr result (λ fault. fault ≡ UsageFault.Memory) }
+    // What is answered is nothing that clap refuses.
+    ensures refused { OnOk result (fault_of macsecd (texts words.now) ≡ []) }
+    // The cause of a refusal has no control character.
+    ensures printable { IfErr result HasPrintableCause }
+{
+    match known_words(alloc)?.try_get_matches_from(words) {
+        Ok(matches) => Ok(action_in(&matches).unwrap()),
+        Err(error) => Err(usage_fault_of(alloc, &error)?),
+    }
+}

@@ -1,0 +1,109 @@
+//! The words that ask for help.
+
+ghost use Rattle.std.specs.Prelude.{◌≡◌, ◌↔◌, IsTrue, Some};
+ghost use Rattle.macs_words.specs.Words.{AsksFor, IsHelpFlag, IsVersionFlag, name_of, texts};
+
+use crate::help_texts::{APPLY, FORMAT, HELP, OPEN, PROTECT, RELAY, SHOW, VALIDATE, VERSION};
+
+/// A subcommand.
+#[derive(Clone, Copy)]
+pub enum Subcommand {
+    Open,
+    Format,
+    Apply,
+    Show,
+    Protect,
+    Validate,
+    Relay,
+}
+
+/// What is asked for in place of an action.
+#[derive(Clone, Copy)]
+pub enum Topic {
+    /// What the program does: `--help` or `-h` alone.
+    Help,
+    /// What a subcommand does, and what its values are: `--help` or `-h` behind its name.
+    HelpOn(Subcommand),
+    /// Which program it is: `--version` alone.
+    Version,
+}
+
+impl Subcommand {
+    ghost use Rattle.std.specs.Prelude.{◌≡◌, ◌↔◌};
+    ghost use Rattle.macs_words.specs.Help.{subcommand_text};
+    ghost use Rattle.macs_words.specs.Words.{name_of};
+
+    /// The subcommand of this name.
+    fn named(name: &str) -> Option<Subcommand>
+        ensures { (which : Subcommand) → (result ≡ Some which) ↔ (name.now ≡ name_of which) }
+    {
+        match name {
+            "open" => Some(Subcommand::Open),
+            "format" => Some(Subcommand::Format),
+            "apply" => Some(Subcommand::Apply),
+            "show" => Some(Subcommand::Show),
+            "protect" => Some(Subcommand::Protect),
+            "validate" => Some(Subcommand::Validate),
+            "relay" => Some(Subcommand::Relay),
+            _ => None,
+        }
+    }
+
+    /// What is printed on it, of whole lines.
+    fn text(self) -> &'static str
+        ensures { result.now ≡ subcommand_text self }
+    {
+        match self {
+            Subcommand::Open => OPEN,
+            Subcommand::Format => FORMAT,
+            Subcommand::Apply => APPLY,
+            Subcommand::Show => SHOW,
+            Subcommand::Protect => PROTECT,
+            Subcommand::Validate => VALIDATE,
+            Subcommand::Relay => RELAY,
+        }
+    }
+}
+
+impl Topic {
+    ghost use Rattle.std.specs.Prelude.{◌≡◌};
+    ghost use Rattle.macs_words.specs.Help.{topic_text};
+
+    /// The text that is printed, of whole lines.
+    pub fn text(self) -> &'static str
+        ensures { result.now ≡ topic_text self }
+    {
+        match self {
+            Topic::Help => HELP,
+            Topic::HelpOn(which) => which.text(),
+            Topic::Version => VERSION,
+        }
+    }
+}
+
+fn is_help_flag(word: &str) -> bool
+    ensures { IsTrue result ↔ IsHelpFlag word.now }
+{
+    word == "--help" || word == "-h"
+}
+
+fn is_version_flag(word: &str) -> bool
+    ensures { IsTrue result ↔ IsVersionFlag word.now }
+{
+    word == "--version"
+}
+
+/// What the words ask for in place of an action, if they do.
+pub fn topic_of(words: &[&str]) -> Option<Topic>
+    ensures { (topic : Topic) → (result ≡ Some topic) ↔ AsksFor (texts words.now) topic }
+{
+    match words {
+        [word] if is_help_flag(word) => Some(Topic::Help),
+        [word] if is_version_flag(word) => Some(Topic::Version),
+        [name, word] if is_help_flag(word) => {
+            let which = Subcommand::named(name)?;
+            Some(Topic::HelpOn(which))
+        }
+        _ => None,
+    }
+}

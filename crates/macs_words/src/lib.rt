@@ -1,0 +1,10 @@
+//! The words of the program: what they ask for, read by `clap`, and the help.
+#![tactic(auto)]
+
+mod action;
+mod help;
+mod help_texts;
+mod plain_text;
+
+pub use action::{Action, UsageFault, WireEnds, action_of};
+pub use help::{Subcommand, Topic, topic_of};

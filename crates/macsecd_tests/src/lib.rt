@@ -1,0 +1,5 @@
+//! Runs of the program, through its public calls.
+#![tactic(auto)]
+
+#[cfg(test)]
+mod tests;

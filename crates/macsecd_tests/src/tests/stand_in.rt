@@ -1,0 +1,265 @@
+//! A stand-in for the system: it hands on to the system's own files and sockets, but for the file of one
+//! path, of which something fails, and for wires at which a frame waits.
+
+use super::peers::Peers;
+use macs_disk::DiskFile;
+use macs_program::CaptureFile;
+use std::alloc::Allocator;
+use std::fs::{File, Metadata, OpenFile, OpenOptions};
+use std::io;
+use std::io::{ErrorKind, Read, Seek, SeekFrom, Write};
+use std::net::{Net, SocketAddr, UdpSocket};
+use std::path::PathBuf;
+use std::rt::Files;
+
+/// What fails of a file. Calls of a kind are counted from 1.
+#[derive(Clone, Copy)]
+pub enum Broken {
+    Nothing,
+    /// It is not opened.
+    Opening(ErrorKind),
+    /// This read. Each one before it gives 100 octets at most.
+    Read(u32, ErrorKind),
+    /// This write.
+    Write(u32),
+    /// Each flush.
+    Flush,
+    /// This sync of its octets.
+    Sync(u32),
+    /// Each reading anew.
+    Reread,
+    /// Each sync of the folder that it is.
+    Folder,
+}
+
+/// How many octets a read gives at most where a later one fails.
+const SHORT_READ: usize = 100;
+
+/// A file of the system of which something may fail.
+#[derive(Drop)]
+pub struct BrokenFile {
+    file: File,
+    broken: Broken,
+    /// How many calls were made of the kind that fails.
+    made: u32,
+}
+
+impl BrokenFile {
+    /// Counts a call of the kind that fails. An error where it is the one.
+    fn count(&mut self, failing: u32, kind: ErrorKind) -> io::Result<()> {
+        self.made = self.made.saturating_add(1);
+        if self.made == failing {
+            return Err(io::Error::from(kind));
+        }
+        Ok(())
+    }
+
+    /// Counts a read, and answers how many of so many octets it may give.
+    fn count_read(&mut self, room: usize) -> io::Result<usize> {
+        match self.broken {
+            Broken::Read(failing, kind) => {
+                self.count(failing, kind)?;
+                Ok(room.min(SHORT_READ))
+            }
+            _ => Ok(room),
+        }
+    }
+
+    /// Counts a write.
+    fn count_write(&mut self) -> io::Result<()> {
+        match self.broken {
+            Broken::Write(failing) => self.count(failing, ErrorKind::Other),
+            _ => Ok(()),
+        }
+    }
+}
+
+impl Read for BrokenFile {
+    fn read(&mut self, into: &mut [u8]) -> io::Result<usize> {
+        let most = self.count_read(into.len())?.min(into.len());
+        self.file.read(&mut into[..most])
+    }
+}
+
+impl Write for BrokenFile {
+    fn write(&mut self, from: &[u8]) -> io::Result<usize> {
+        self.count_write()?;
+        self.file.write(from)
+    }
+
+    fn flush(&mut self) -> io::Result<()> {
+        match self.broken {
+            Broken::Flush => Err(io::Error::from(ErrorKind::Other)),
+            _ => self.file.flush(),
+        }
+    }
+}
+
+impl Seek for BrokenFile {
+    fn seek(&mut self, to: SeekFrom) -> io::Result<u64> {
+        self.file.seek(to)
+    }
+}
+
+impl OpenFile for BrokenFile {
+    fn metadata(&self) -> io::Result<Metadata> {
+        self.file.metadata()
+    }
+
+    fn set_len(&self, size: u64) -> io::Result<()> {
+        self.file.set_len(size)
+    }
+
+    fn sync_all(&self) -> io::Result<()> {
+        match self.broken {
+            Broken::Folder => Err(io::Error::from(ErrorKind::Other)),
+            _ => self.file.sync_all(),
+        }
+    }
+
+    fn sync_data(&self) -> io::Result<()> {
+        self.file.sync_data()
+    }
+}
+
+impl DiskFile for BrokenFile {
+    ghost use Rattle.macs_disk.specs.Evidence.{no-claim};
+
+    fn claim(&mut self) -> io::Result<()> {
+        self.file.claim()
+    }
+
+    fn size(&mut self) -> io::Result<u64> {
+        self.file.size()
+    }
+
+    fn read_at(&mut self, at: u64, into: &mut [u8]) -> io::Result<usize> {
+        let most = self.count_read(into.len())?.min(into.len());
+        self.file.read_at(at, &mut into[..most])
+    }
+
+    fn write_at(&mut self, at: u64, from: &[u8]) -> io::Result<usize> {
+        self.count_write()?;
+        self.file.write_at(at, from)
+    }
+
+    fn sync(&mut self) -> io::Result<()> {
+        if let Broken::Sync(failing) = self.broken {
+            self.count(failing, ErrorKind::Other)?;
+        }
+        self.file.sync()
+    }
+
+    fn reread(&mut self) -> io::Result<()> {
+        match self.broken {
+            Broken::Reread => Err(io::Error::from(ErrorKind::Other)),
+            _ => self.file.reread(),
+        }
+    }
+
+    ghost sound = { λ _ behaves. no-claim behaves };
+}
+
+impl CaptureFile for BrokenFile {
+    fn share(&mut self) -> io::Result<()> {
+        self.file.share()
+    }
+
+    fn cut(&mut self) -> io::Result<()> {
+        self.file.cut()
+    }
+}
+
+/// The system, but for the file of one path, and with peers of the wires where there are any.
+#[derive(Clone, Copy)]
+pub struct StandIn<'a, R> {
+    pub system: &'a R,
+    pub path: &'static str,
+    pub broken: Broken,
+    pub peers: Option<&'a Peers>,
+}
+
+impl<R: Files<File = File>> Files for StandIn<'_, R> {
+    type File = BrokenFile;
+
+    type Dir = R::Dir;
+
+    fn open_file(&self, how: &OpenOptions, path: &str) -> io::Result<BrokenFile> {
+        // A path that was resolved has the folders in front of it too.
+        let broken = if path.ends_with(self.path) {
+            self.broken
+        } else {
+            Broken::Nothing
+        };
+        if let Broken::Opening(kind) = broken {
+            return Err(io::Error::from(kind));
+        }
+        let file = self.system.open_file(how, path)?;
+        Ok(BrokenFile {
+            file,
+            broken,
+            made: 0,
+        })
+    }
+
+    fn open_dir(&self, path: &str) -> io::Result<R::Dir> {
+        self.system.open_dir(path)
+    }
+
+    fn metadata(&self, path: &str) -> io::Result<Metadata> {
+        self.system.metadata(path)
+    }
+
+    fn symlink_metadata(&self, path: &str) -> io::Result<Metadata> {
+        self.system.symlink_metadata(path)
+    }
+
+    fn copy(&self, from: &str, to: &str) -> io::Result<u64> {
+        self.system.copy(from, to)
+    }
+
+    fn rename(&self, from: &str, to: &str) -> io::Result<()> {
+        self.system.rename(from, to)
+    }
+
+    fn remove_file(&self, path: &str) -> io::Result<()> {
+        self.system.remove_file(path)
+    }
+
+    fn create_dir(&self, path: &str) -> io::Result<()> {
+        self.system.create_dir(path)
+    }
+
+    fn remove_dir(&self, path: &str) -> io::Result<()> {
+        self.system.remove_dir(path)
+    }
+
+    fn remove_dir_all<B: Allocator>(&self, alloc: B, path: &str) -> io::Result<()> {
+        self.system.remove_dir_all(alloc, path)
+    }
+
+    fn canonicalize<B: Allocator>(&self, alloc: B, path: &str) -> io::Result<PathBuf<B>> {
+        self.system.canonicalize(alloc, path)
+    }
+}
+
+impl<R: Net> Net for StandIn<'_, R> {
+    type Stream = R::Stream;
+
+    type Listener = R::Listener;
+
+    fn bind(&self, at: SocketAddr) -> io::Result<R::Listener> {
+        self.system.bind(at)
+    }
+
+    fn connect(&self, at: SocketAddr) -> io::Result<R::Stream> {
+        self.system.connect(at)
+    }
+
+    fn bind_udp(&self, at: SocketAddr) -> io::Result<UdpSocket> {
+        match self.peers {
+            Some(peers) => peers.bind(self.system, at),
+            None => self.system.bind_udp(at),
+        }
+    }
+}

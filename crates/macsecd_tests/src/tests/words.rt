@@ -1,0 +1,560 @@
+//! Words: the action, and what is refused.
+
+use super::{INTEGRITY, KEY, OPENED, Outcome, SCI, expect, expect_lines, joined};
+use macs_words::{Action, action_of};
+use std::alloc::Global;
+use std::test::Fail;
+
+/// `open` is also what no word asks for.
+#[test]
+fn opens_with_and_without_its_name(rt: HostRuntime) -> Result<(), Fail> {
+    let alloc = rt.alloc();
+    expect_lines(&rt, alloc, [KEY, SCI, "0", INTEGRITY], OPENED)?;
+    let input = joined(alloc, &[KEY, "\n", SCI, "\n0\n", INTEGRITY, "\n"])?;
+    expect(&rt, alloc, &[], input.as_str(), OPENED);
+    Ok(())
+}
+
+/// Words that are refused, and the line that says why.
+const OTHER_WORDS: &[(&[&str], Outcome)] = &[
+    (
+        &["frobnicate"],
+        Outcome::Usage("macsecd: unrecognized subcommand 'frobnicate'\n"),
+    ),
+    (
+        &["Open"],
+        Outcome::Usage("macsecd: unrecognized subcommand 'Open'\n"),
+    ),
+    (
+        &[""],
+        Outcome::Usage("macsecd: unrecognized subcommand ''\n"),
+    ),
+    (
+        &["frob\nnicate"],
+        Outcome::Usage("macsecd: unrecognized subcommand 'frob\n"),
+    ),
+    (
+        &["help"],
+        Outcome::Usage("macsecd: unrecognized subcommand 'help'\n"),
+    ),
+    (
+        &["open", "open"],
+        Outcome::Usage("macsecd: unexpected argument 'open' found\n"),
+    ),
+    (
+        &["open", "--frob"],
+        Outcome::Usage("macsecd: unexpected argument '--frob' found\n"),
+    ),
+    (
+        &["open", "help"],
+        Outcome::Usage("macsecd: unexpected argument 'help' found\n"),
+    ),
+    (
+        &["-V"],
+        Outcome::Usage("macsecd: unexpected argument '-V' found\n"),
+    ),
+    (
+        &["--help", "open"],
+        Outcome::Usage("macsecd: unexpected argument '--help' found\n"),
+    ),
+    (
+        &["--help", "--help"],
+        Outcome::Usage("macsecd: unexpected argument '--help' found\n"),
+    ),
+    (
+        &["open", "-h", "x"],
+        Outcome::Usage("macsecd: unexpected argument '-h' found\n"),
+    ),
+    (
+        &["open", "--version"],
+        Outcome::Usage("macsecd: unexpected argument '--version' found\n"),
+    ),
+    (
+        &["--version", "x"],
+        Outcome::Usage("macsecd: unexpected argument '--version' found\n"),
+    ),
+];
+
+/// The words come first: the input, which is wrong too, is not told.
+#[test]
+fn refuses_other_words(rt: HostRuntime) {
+    for (words, outcome) in OTHER_WORDS {
+        expect(&rt, rt.alloc(), words, "", *outcome);
+    }
+}
+
+/// Words with a value too few, and the line that says so.
+const TOO_FEW: Outcome = Outcome::Usage(
+    "macsecd: the following required arguments were not provided:\n",
+);
+
+const WORDS_TOO_FEW: &[&[&str]] = &[
+    &["format"],
+    &["format", "left.disk"],
+    &["format", "left.disk", "0200000000010001"],
+    &["format", "left.disk", "0200000000010001", "1024"],
+    &["apply"],
+    &["apply", "left.disk"],
+    &["show"],
+    &["protect"],
+    &["protect", "left.disk"],
+    &["protect", "left.disk", "plain.pcap"],
+    &["validate"],
+    &["validate", "left.disk"],
+    &["validate", "left.disk", "protected.pcap"],
+];
+
+/// Each value is required.
+#[test]
+fn refuses_a_value_too_few(rt: HostRuntime) {
+    for words in WORDS_TOO_FEW {
+        expect(&rt, rt.alloc(), words, "", TOO_FEW);
+    }
+}
+
+/// Words with one value too many.
+const WORDS_TOO_MANY: &[&[&str]] = &[
+    &["open", "more"],
+    &[
+        "format",
+        "left.disk",
+        "0200000000010001",
+        "1024",
+        "16",
+        "more",
+    ],
+    &["apply", "left.disk", "left.toml", "more"],
+    &["show", "left.disk", "more"],
+    &[
+        "protect",
+        "left.disk",
+        "plain.pcap",
+        "protected.pcap",
+        "more",
+    ],
+    &[
+        "validate",
+        "left.disk",
+        "protected.pcap",
+        "plain.pcap",
+        "more",
+    ],
+];
+
+#[test]
+fn refuses_a_value_too_many(rt: HostRuntime) {
+    let outcome = Outcome::Usage("macsecd: unexpected argument 'more' found\n");
+    for words in WORDS_TOO_MANY {
+        expect(&rt, rt.alloc(), words, "", outcome);
+    }
+}
+
+/// Words with an option, and the line that says that there is none.
+const WORDS_WITH_OPTIONS: &[(&[&str], Outcome)] = &[
+    (
+        &[
+            "format",
+            "left.disk",
+            "0200000000010001",
+            "1024",
+            "16",
+            "--frob",
+        ],
+        Outcome::Usage("macsecd: unexpected argument '--frob' found\n"),
+    ),
+    (
+        &["format", "d", "s", "1", "1", "--over=1"],
+        Outcome::Usage("macsecd: unexpected value '1' for '--over' found; no more were expected\n"),
+    ),
+    (
+        &["format", "d", "s", "1", "1", "--over", "--over"],
+        Outcome::Usage("macsecd: the argument '--over' cannot be used multiple times\n"),
+    ),
+    (
+        &["format", "d", "s", "1", "1", "--block"],
+        Outcome::Usage(
+            "macsecd: a value is required for '--block <block>' but none was supplied\n",
+        ),
+    ),
+    (
+        &[
+            "format", "d", "s", "1", "1", "--block", "512", "--block", "512",
+        ],
+        Outcome::Usage("macsecd: the argument '--block <block>' cannot be used multiple times\n"),
+    ),
+    (
+        &["show", "left.disk", "--over"],
+        Outcome::Usage("macsecd: unexpected argument '--over' found\n"),
+    ),
+    (
+        &["apply", "--frob=1", "left.disk", "left.toml"],
+        Outcome::Usage("macsecd: unexpected argument '--frob' found\n"),
+    ),
+    (
+        &["show", "left.disk", "-f"],
+        Outcome::Usage("macsecd: unexpected argument '-f' found\n"),
+    ),
+    (
+        &[
+            "protect",
+            "left.disk",
+            "-fg",
+            "plain.pcap",
+            "protected.pcap",
+        ],
+        Outcome::Usage("macsecd: unexpected argument '-f' found\n"),
+    ),
+    (
+        &[
+            "validate",
+            "left.disk",
+            "--",
+            "plain.pcap",
+            "protected.pcap",
+            "--frob",
+        ],
+        Outcome::Usage("macsecd: unexpected argument '--frob' found\n"),
+    ),
+    (
+        &["format", "left.disk", "--help"],
+        Outcome::Usage("macsecd: unexpected argument '--help' found\n"),
+    ),
+    (
+        &["apply", "left.disk", "left.toml", "--help"],
+        Outcome::Usage("macsecd: unexpected argument '--help' found\n"),
+    ),
+    (
+        &["show", "left.disk", "-h"],
+        Outcome::Usage("macsecd: unexpected argument '-h' found\n"),
+    ),
+    (
+        &["protect", "--help", "left.disk"],
+        Outcome::Usage("macsecd: unexpected argument '--help' found\n"),
+    ),
+    (
+        &["validate", "--version"],
+        Outcome::Usage("macsecd: unexpected argument '--version' found\n"),
+    ),
+    (
+        &["show", "-V"],
+        Outcome::Usage("macsecd: unexpected argument '-V' found\n"),
+    ),
+];
+
+/// No subcommand has another option than its own, and help is asked for right behind its name
+/// alone.
+#[test]
+fn refuses_options(rt: HostRuntime) {
+    for (words, outcome) in WORDS_WITH_OPTIONS {
+        expect(&rt, rt.alloc(), words, "", *outcome);
+    }
+}
+
+/// A number of packet numbers that is none, and the line that says why.
+const NO_NUMBERS: &[(&str, Outcome)] = &[
+    (
+        "-1",
+        Outcome::Usage("macsecd: unexpected argument '-1' found\n"),
+    ),
+    (
+        "-0",
+        Outcome::Usage("macsecd: unexpected argument '-0' found\n"),
+    ),
+    (
+        "x",
+        Outcome::Usage("macsecd: invalid value 'x' for '<TX>': invalid digit found in string\n"),
+    ),
+    (
+        "4294967296",
+        Outcome::Usage(
+            "macsecd: invalid value '4294967296' for '<TX>': 4294967296 is not in 0..=4294967295\n",
+        ),
+    ),
+    (
+        "18446744073709551616",
+        Outcome::Usage(
+            "macsecd: invalid value '18446744073709551616' for '<TX>': number too large to fit in target type\n",
+        ),
+    ),
+    (
+        "0x10",
+        Outcome::Usage("macsecd: invalid value '0x10' for '<TX>': invalid digit found in string\n"),
+    ),
+    (
+        " 1",
+        Outcome::Usage("macsecd: invalid value ' 1' for '<TX>': invalid digit found in string\n"),
+    ),
+    (
+        "",
+        Outcome::Usage(
+            "macsecd: invalid value '' for '<TX>': cannot parse integer from empty string\n",
+        ),
+    ),
+];
+
+/// The numbers of `format` are in decimal digits.
+#[test]
+fn refuses_what_is_no_number(rt: HostRuntime) {
+    for (number, outcome) in NO_NUMBERS {
+        let words = ["format", "left.disk", "0200000000010001", *number, "16"];
+        expect(&rt, rt.alloc(), &words, "", *outcome);
+    }
+}
+
+/// A second number that is none.
+#[test]
+fn refuses_what_is_no_second_number(rt: HostRuntime) {
+    let words = ["format", "left.disk", "0200000000010001", "1024", "many"];
+    let line = "macsecd: invalid value 'many' for '<RX>': invalid digit found in string\n";
+    expect(&rt, rt.alloc(), &words, "", Outcome::Usage(line));
+}
+
+/// Behind `--` a hyphen is taken, but for a number.
+#[test]
+fn refuses_a_number_below_zero(rt: HostRuntime) {
+    let words = ["format", "left.disk", "0200000000010001", "--", "-0", "16"];
+    let line = "macsecd: invalid value '-0' for '<TX>': invalid digit found in string\n";
+    expect(&rt, rt.alloc(), &words, "", Outcome::Usage(line));
+}
+
+/// A file whose name begins with a hyphen.
+const HYPHENS: &[(&[&str], Outcome)] = &[
+    (
+        &["format", "-left.disk", "0200000000010001", "1024", "16"],
+        Outcome::Usage("macsecd: unexpected argument '-l' found\n"),
+    ),
+    (
+        &["apply", "-left.disk", "left.toml"],
+        Outcome::Usage("macsecd: unexpected argument '-l' found\n"),
+    ),
+    (
+        &["show", "-left.disk"],
+        Outcome::Usage("macsecd: unexpected argument '-l' found\n"),
+    ),
+    (
+        &["show", "--left.disk"],
+        Outcome::Usage("macsecd: unexpected argument '--left.disk' found\n"),
+    ),
+    (
+        &["protect", "-left.disk", "plain.pcap", "protected.pcap"],
+        Outcome::Usage("macsecd: unexpected argument '-l' found\n"),
+    ),
+    (
+        &["validate", "-left.disk", "protected.pcap", "plain.pcap"],
+        Outcome::Usage("macsecd: unexpected argument '-l' found\n"),
+    ),
+];
+
+#[test]
+fn refuses_a_file_that_begins_with_a_hyphen(rt: HostRuntime) {
+    for (words, outcome) in HYPHENS {
+        expect(&rt, rt.alloc(), words, "", *outcome);
+    }
+}
+
+/// An action in parts: its name, up to five texts and up to two numbers.
+type Parts<'a> = (&'a str, [&'a str; 5], [u64; 2]);
+
+/// Words that are taken, and the action that they name.
+const TAKEN: &[(&[&str], Parts<'static>)] = &[
+    (&[], ("open", ["", "", "", "", ""], [0, 0])),
+    (&["open"], ("open", ["", "", "", "", ""], [0, 0])),
+    (
+        &["format", "left.disk", "0200000000010001", "1024", "16"],
+        (
+            "format",
+            ["left.disk", "0200000000010001", "", "", ""],
+            [1024, 16],
+        ),
+    ),
+    (
+        &["format", "--block", "4096", "d", "s", "1", "2", "--over"],
+        ("format", ["d", "s", "4096", "over", ""], [1, 2]),
+    ),
+    (
+        &["format", "d", "s", "1", "--over", "2", "--block=none"],
+        ("format", ["d", "s", "none", "over", ""], [1, 2]),
+    ),
+    (
+        &["format", "d", "s", "4294967295", "0"],
+        ("format", ["d", "s", "", "", ""], [4_294_967_295, 0]),
+    ),
+    (
+        &["format", "", "", "+7", "0016"],
+        ("format", ["", "", "", "", ""], [7, 16]),
+    ),
+    (
+        &["apply", "left.disk", "left.toml"],
+        ("apply", ["left.disk", "left.toml", "", "", ""], [0, 0]),
+    ),
+    (
+        &["show", "left.disk"],
+        ("show", ["left.disk", "", "", "", ""], [0, 0]),
+    ),
+    (
+        &["show", "open"],
+        ("show", ["open", "", "", "", ""], [0, 0]),
+    ),
+    (&["show", "-"], ("show", ["-", "", "", "", ""], [0, 0])),
+    (
+        &["show", "--", "-left.disk"],
+        ("show", ["-left.disk", "", "", "", ""], [0, 0]),
+    ),
+    (
+        &["show", "--", "--help"],
+        ("show", ["--help", "", "", "", ""], [0, 0]),
+    ),
+    (
+        &["protect", "left.disk", "plain.pcap", "protected.pcap"],
+        (
+            "protect",
+            ["left.disk", "plain.pcap", "protected.pcap", "", ""],
+            [0, 0],
+        ),
+    ),
+    (
+        &["protect", "validate", "protect", "show"],
+        ("protect", ["validate", "protect", "show", "", ""], [0, 0]),
+    ),
+    (
+        &["validate", "right.disk", "protected.pcap", "plain.pcap"],
+        (
+            "validate",
+            ["right.disk", "protected.pcap", "plain.pcap", "", ""],
+            [0, 0],
+        ),
+    ),
+    (
+        &[
+            "relay",
+            "d",
+            "--turns",
+            "18446744073709551615",
+            "a",
+            "b",
+            "c",
+            "e",
+        ],
+        (
+            "relay",
+            ["d", "a", "b", "c", "e"],
+            [18_446_744_073_709_551_615, 0],
+        ),
+    ),
+    (
+        &["relay", "d", "a", "b", "c", "e", "--turns=+0"],
+        ("relay", ["d", "a", "b", "c", "e"], [0, 0]),
+    ),
+];
+
+/// An action in its parts.
+fn parts<'a>(action: Action<'a>) -> Parts<'a> {
+    match action {
+        Action::Open => ("open", ["", "", "", "", ""], [0, 0]),
+        Action::Format {
+            disk,
+            sci,
+            tx_block,
+            rx_block,
+            block,
+            is_over,
+        } => (
+            "format",
+            [
+                disk,
+                sci,
+                block.unwrap_or(""),
+                if is_over { "over" } else { "" },
+                "",
+            ],
+            [u64::from(tx_block), u64::from(rx_block)],
+        ),
+        Action::Apply { disk, file } => ("apply", [disk, file, "", "", ""], [0, 0]),
+        Action::Show { disk } => ("show", [disk, "", "", "", ""], [0, 0]),
+        Action::Protect {
+            disk,
+            input,
+            output,
+        } => ("protect", [disk, input, output, "", ""], [0, 0]),
+        Action::Validate {
+            disk,
+            input,
+            output,
+        } => ("validate", [disk, input, output, "", ""], [0, 0]),
+        Action::Relay {
+            disk,
+            controlled,
+            common,
+            turns,
+        } => (
+            "relay",
+            [
+                disk,
+                controlled.own,
+                controlled.peer,
+                common.own,
+                common.peer,
+            ],
+            [turns, 0],
+        ),
+    }
+}
+
+/// The action that the words name. What is proved of it stays behind.
+fn named<'a>(alloc: Global, words: &'a [&'a str]) -> Option<Action<'a>> {
+    action_of(alloc, words).ok()
+}
+
+/// Each word goes to its own place.
+#[test]
+fn takes_each_subcommand(rt: HostRuntime) {
+    for (words, (name, texts, numbers)) in TAKEN {
+        let Some(action) = named(rt.alloc(), words) else {
+            panic!(rt; "{name}");
+        };
+        let (found, found_texts, found_numbers) = parts(action);
+        assert_eq!(rt; found, *name);
+        assert_eq!(rt; found_texts, *texts);
+        assert_eq!(rt; found_numbers, *numbers);
+    }
+}
+
+/// Words with characters that a terminal obeys, and the line that says why they are refused: it
+/// ends at a line feed of theirs, and has `?` in the place of each other one.
+const CONTROL_WORDS: &[(&[&str], Outcome)] = &[
+    (
+        &["\x1b[31mred"],
+        Outcome::Usage("macsecd: unrecognized subcommand '?[31mred'\n"),
+    ),
+    (
+        &["frob\rnicate"],
+        Outcome::Usage("macsecd: unrecognized subcommand 'frob?nicate'\n"),
+    ),
+    (
+        &["frob\tnicate"],
+        Outcome::Usage("macsecd: unrecognized subcommand 'frob?nicate'\n"),
+    ),
+    (
+        &["\u{9b}31mred"],
+        Outcome::Usage("macsecd: unrecognized subcommand '?31mred'\n"),
+    ),
+    (
+        &["\0\x1f \x7f\u{80}\u{9f}\u{a0}é"],
+        Outcome::Usage("macsecd: unrecognized subcommand '?? ???\u{a0}é'\n"),
+    ),
+    (
+        &["open", "--\x1b[31m\t\u{9b}"],
+        Outcome::Usage("macsecd: unexpected argument '--?[31m??' found\n"),
+    ),
+    (
+        &["\x1b[31m\r\t\u{9b}\nmacsecd: input"],
+        Outcome::Usage("macsecd: unrecognized subcommand '?[31m???\n"),
+    ),
+];
+
+#[test]
+fn says_nothing_that_a_terminal_obeys(rt: HostRuntime) {
+    for (words, outcome) in CONTROL_WORDS {
+        expect(&rt, rt.alloc(), words, "", *outcome);
+    }
+}
