@@ -6,6 +6,7 @@ mod files;
 mod forgetful;
 mod fuses;
 mod kernel_files;
+mod marks;
 mod memory;
 mod promises;
 mod shut_files;

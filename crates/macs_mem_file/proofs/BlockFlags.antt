@@ -1,12 +1,14 @@
 -- Octets in memory, by the blocks that they lie in.
-use Rattle.std.proofs.Common.{◌≡◌, ◌≤◌, ◌<◌, ◌+◌, ◌-◌, ◌*◌, ◌/◌, inl, inr, ℕ, suc, not, Bool, true, false, List, length, take, length-take-le, refl, ap, ◌∙◌, arith, subst, sym}
+use Rattle.std.proofs.Common.{◌≡◌, ◌≤◌, ◌<◌, ◌+◌, ◌-◌, ◌*◌, ◌/◌, ◌%◌, inl, inr, ℕ, suc, not, nat_lt, Bool, true, false, List, length, take, length-take-le, refl, ap, ◌∙◌, arith, subst, sym}
 use Rattle.std.specs.Bool.{beq}
-use Rattle.std.proofs.Math.Nat.{add-mul, div-lt_iff_lt-mul, mul_comm, suc-mul}
+use Rattle.std.proofs.Math.Nat.{add-mul, div-add-mod, div-lt_iff_lt-mul, mul_comm, suc-mul}
 use Rattle.std.proofs.lemmas.Bool.{cases_lt}
+use Rattle.std.proofs.lemmas.Bool.Decides.{nat_tests}
 use Rattle.std.proofs.lemmas.List.{ext_get_or, get_or-take, get_or_past}
 use Rattle.macs_disk.specs.Files.{values_from}
 use Rattle.macs_disk.specs.FileEvidence.{length-values, value-at}
-use Rattle.macs_mem_file.specs.Blocks.{are_octets, flag_in, octet_at}
+use Rattle.macs_mem_file.specs.Blocks.{are_octets, flag_in, is_in_first_half, left_of, octet_at}
+use Rattle.macs_mem_file.specs.declared.blocks.Left.{Left}
 use Rattle.macs_disk.specs.Recorded.{flag_at}
 
 -- the first n blocks whose flag is this were copied
@@ -16,9 +18,12 @@ pub record Copied (block n : ℕ) (flags : List Bool) (which : Bool) (first from
   pub others : (p : ℕ) → flag_in block flags p ≡ not which → octet_at now p ≡ octet_at first p
   pub rest : (p : ℕ) → n ≤ p / block → octet_at now p ≡ octet_at first p
 
--- blocks whose flag is up were spoiled
-pub record Spoiled (block : ℕ) (flags : List Bool) (first written now : List ℕ) : Type 0 where
+-- the first n blocks whose flag is up were spoiled
+pub record Spoiled (block n : ℕ) (flags : List Bool) (left : Left) (first written now : List ℕ) : Type 0 where
   pub same_length : length now ≡ length first
+  pub spoiled : (p : ℕ) → p / block < n → flag_in block flags p ≡ true
+      → octet_at now p ≡ left_of left (is_in_first_half block p) (octet_at first p) (octet_at written p)
+  pub rest : (p : ℕ) → n ≤ p / block → octet_at now p ≡ octet_at first p
   pub kept : (p : ℕ) → flag_in block flags p ≡ false → octet_at now p ≡ octet_at first p
   pub octets : are_octets first → are_octets written → are_octets now
 
@@ -136,15 +141,57 @@ copied-all block n flags which first from now some blocks alike all was p on = e
       ∙ sym (get_or_past from p 0 (subst (λ (e : ℕ). e ≤ p) (sym alike) past))
 ]
 
+-- a block was left as it is
+pub spoiled-past : (block n : ℕ) (flags : List Bool) (left : Left) (first written now : List ℕ) → flag_at flags n ≡ false
+    → Spoiled block n flags left first written now → Spoiled block (n + 1) flags left first written now
+spoiled-past block n flags left first written now off was = record {
+  same_length = was.same_length;
+  spoiled = λ p lt up. elim (cases_lt (p / block) n) [
+    | inl before ↦ was.spoiled p before up
+    | inr ge ↦
+        let here : p / block ≡ n = omega (arith, lt, ge) in
+        differ true (sym up ∙ ap (flag_at flags) here ∙ off) (octet_at now p ≡ left_of left (is_in_first_half block p) (octet_at first p) (octet_at written p))
+  ];
+  rest = λ p le. was.rest p (omega (arith, le));
+  kept = was.kept;
+  octets = was.octets;
+}
+
+-- the first half of block n
+first-half : (block n p : ℕ) → p / block ≡ n → nat_lt p (n * block + block / 2) ≡ is_in_first_half block p
+first-half block n p is =
+    let whole : block * (p / block) + p % block ≡ p = div-add-mod p block in
+    let front : block * (p / block) ≡ n * block = ap (λ (c : ℕ). block * c) is ∙ mul_comm block n in
+    elim (cases_lt (p % block) (block / 2)) [
+      | inl lt ↦ lt-true p (n * block + block / 2) (omega (arith, whole, front, lt)) ∙ sym (lt-true (p % block) (block / 2) lt)
+      | inr ge ↦ lt-false p (n * block + block / 2) (omega (arith, whole, front, ge)) ∙ sym (lt-false (p % block) (block / 2) ge)
+    ] where
+      lt-true : (a b : ℕ) → a < b → nat_lt a b ≡ true
+      lt-true a b lt = grind (arith, nat_tests, lt)
+
+      lt-false : (a b : ℕ) → b ≤ a → nat_lt a b ≡ false
+      lt-false a b ge = grind (arith, nat_tests, ge)
+
 -- a block was spoiled
-pub spoiled-one : (block n : ℕ) (flags : List Bool) (first written old now : List ℕ) → 0 < block → flag_at flags n ≡ true
+pub spoiled-one : (block n : ℕ) (flags : List Bool) (left : Left) (first written old now : List ℕ) → 0 < block → flag_at flags n ≡ true
     → length now ≡ length old
+    → ((p : ℕ) → n * block ≤ p → p < n * block + block
+    → octet_at now p ≡ left_of left (nat_lt p (n * block + block / 2)) (octet_at old p) (octet_at written p))
     → ((p : ℕ) → p < n * block → octet_at now p ≡ octet_at old p)
     → ((p : ℕ) → n * block + block ≤ p → octet_at now p ≡ octet_at old p)
     → (are_octets old → are_octets written → are_octets now)
-    → Spoiled block flags first written old → Spoiled block flags first written now
-spoiled-one block n flags first written old now some up size front behind octets was = record {
+    → Spoiled block n flags left first written old → Spoiled block (n + 1) flags left first written now
+spoiled-one block n flags left first written old now some up size here front behind octets was = record {
   same_length = size ∙ was.same_length;
+  spoiled = λ p lt on. elim (cases_lt (p / block) n) [
+    | inl before ↦ front p (before-block block n p some before) ∙ was.spoiled p before on
+    | inr ge ↦
+        let same : p / block ≡ n = omega (arith, lt, ge) in
+        here p (from-block block n p some ge) (to-block block n p some same)
+        ∙ ap (λ (b : Bool). left_of left b (octet_at old p) (octet_at written p)) (first-half block n p same)
+        ∙ ap (λ (o : ℕ). left_of left (is_in_first_half block p) o (octet_at written p)) (was.rest p ge)
+  ];
+  rest = λ p le. behind p (behind-block block n p some (omega (arith, le))) ∙ was.rest p (omega (arith, le));
   kept = λ p off. elim (cases_lt (p / block) n) [
     | inl before ↦ front p (before-block block n p some before) ∙ was.kept p off
     | inr ge ↦ elim (cases_lt n (p / block)) [
@@ -166,3 +213,13 @@ fetched-all from into at count room fetched =
     (λ k lt.
     let within : k < count = omega (arith, lt, size) in
     get_or-take count into k 0 within ∙ fetched k within ∙ sym (value-at (octet_at from) at count k 0 within))
+
+-- all blocks were spoiled
+pub spoiled-all : (block n : ℕ) (flags : List Bool) (left : Left) (first written now : List ℕ) → length flags ≤ n
+    → Spoiled block n flags left first written now → (p : ℕ) → flag_in block flags p ≡ true
+    → octet_at now p ≡ left_of left (is_in_first_half block p) (octet_at first p) (octet_at written p)
+spoiled-all block n flags left first written now all was p up = elim (cases_lt (p / block) n) [
+  | inl before ↦ was.spoiled p before up
+  | inr ge ↦ differ true (sym up ∙ get_or_past flags (p / block) false (omega (arith, all, ge)))
+      (octet_at now p ≡ left_of left (is_in_first_half block p) (octet_at first p) (octet_at written p))
+]

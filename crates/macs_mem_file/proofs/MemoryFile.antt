@@ -1,12 +1,14 @@
 -- What the calls of a file in memory do.
-use Rattle.std.proofs.Common.{◌≡◌, ◌≤◌, ◌<◌, ◌+◌, ◌-◌, ◌*◌, ◌/◌, ◌==◌, ◌&&◌, ◌||◌, inl, inr, ℕ, max, Bool, true, false, List, [], ◌∷◌, length, nat_le, nat_lt, refl, ap, ◌∙◌, arith, sym}
+use Rattle.std.proofs.Common.{◌≡◌, ◌≤◌, ◌<◌, ◌+◌, ◌-◌, ◌*◌, ◌/◌, ◌==◌, ◌&&◌, ◌||◌, inl, inr, ℕ, if◌then◌else◌, max, Bool, true, false, List, [], ◌∷◌, length, nat_le, nat_lt, refl, ap, ◌∙◌, arith, sym}
 use Rattle.std.proofs.Math.Nat.{lt-mul-div-succ, mul-div-le, mul-add}
 use Rattle.std.proofs.lemmas.Bool.{cases_Bool, cases_lt, le-leb, lt-leb, or_parts}
 use Rattle.std.proofs.lemmas.Bool.Decides.{nat_tests}
 use Rattle.std.proofs.lemmas.List.{get_or_past}
-use Rattle.macs_disk.specs.Files.{IsFileImage, file_after_write, has_some, put_from}
-use Rattle.macs_mem_file.specs.Blocks.{IsKept, are_octets, file_in_memory, flag_in, octet_at}
+use Rattle.macs_disk.specs.Files.{FileState, IsFileImage, file_after_write, file_reread, has_some, put_from}
+use Rattle.macs_mem_file.specs.Blocks.{IsKept, are_octets, file_in_memory, flag_in, is_in_first_half, left_of, octet_at, octet_left}
+use Rattle.macs_mem_file.specs.declared.blocks.Left.{Left}
 use Rattle.macs_mem_file.specs.Evidence.{block-of}
+use Rattle.macs_mem_file.specs.MemFiles.{file_pressed}
 use Rattle.macs_disk.specs.Recorded.{flag_at}
 
 -- octets outside what was put are as before
@@ -126,3 +128,91 @@ image_kept block size durable_size cache durable image pending is_clean is_sure 
   kept = λ n k clear lt. kept (block * n + k) (ap (flag_at pending) (block-of block n k lt) ∙ clear);
   octets = octets;
 }
+
+-- a choice, by what it is in either case
+chosen : (b : Bool) (x this that : ℕ) → (b ≡ true → x ≡ this) → (b ≡ false → x ≡ that) → x ≡ (if b then this else that)
+chosen true x this that up down = up refl
+chosen false x this that up down = down refl
+
+-- what a power loss leaves, once all that is dirty was written
+pub loss_leaves : (block size durable_size : ℕ) (cache device durable : List ℕ) (dirty pending : List Bool) (is_clean is_sure : Bool) (left : Left)
+    → (written spoiled : List ℕ)
+    → ((p : ℕ) → flag_in block dirty p ≡ true → octet_at written p ≡ octet_at cache p)
+    → ((p : ℕ) → flag_in block dirty p ≡ false → octet_at written p ≡ octet_at device p)
+    → ((p : ℕ) → flag_in block pending p ≡ true → octet_at spoiled p ≡ left_of left (is_in_first_half block p) (octet_at durable p) (octet_at written p))
+    → ((p : ℕ) → flag_in block pending p ≡ false → octet_at spoiled p ≡ octet_at durable p)
+    → (p : ℕ) → octet_at spoiled p ≡ octet_left left (file_in_memory block size durable_size cache durable pending is_clean is_sure)
+    (λ q. if flag_in block dirty q then octet_at cache q else octet_at device q) p
+loss_leaves block size durable_size cache device durable dirty pending is_clean is_sure left written spoiled copied others lost kept p =
+    let now : octet_at written p ≡ (if flag_in block dirty p then octet_at cache p else octet_at device p) =
+    chosen (flag_in block dirty p) (octet_at written p) (octet_at cache p) (octet_at device p) (copied p) (others p) in
+    chosen (flag_in block pending p) (octet_at spoiled p)
+    (left_of left (is_in_first_half block p) (octet_at durable p) (if flag_in block dirty p then octet_at cache p else octet_at device p))
+    (octet_at durable p)
+    (λ up. lost p up ∙ ap (λ (o : ℕ). left_of left (is_in_first_half block p) (octet_at durable p) o) now) (kept p)
+
+-- of a file that is sure all that is pending is dirty, so that what is written there is what it shows
+pub left_of_seen : (block size durable_size : ℕ) (cache device durable : List ℕ) (dirty pending : List Bool) (is_clean is_sure : Bool) (left : Left)
+    → IsKept block cache device durable dirty pending is_clean is_sure → is_sure ≡ true → (p : ℕ)
+    → octet_left left (file_in_memory block size durable_size cache durable pending is_clean is_sure)
+    (λ q. if flag_in block dirty q then octet_at cache q else octet_at device q) p
+    ≡ octet_left left (file_in_memory block size durable_size cache durable pending is_clean is_sure) (octet_at cache) p
+left_of_seen block size durable_size cache device durable dirty pending is_clean is_sure left kept sure p =
+    same (flag_in block pending p) (octet_at durable p) (if flag_in block dirty p then octet_at cache p else octet_at device p) (octet_at cache p)
+    (λ up. shown (flag_in block dirty p) (octet_at cache p) (octet_at device p) (λ down. apart (sym up ∙ kept.all sure (p / block) down))) where
+      apart : true ≡ false → ⊥
+      apart is = absurd (let differ : true ≡ false = is in cc)
+
+      shown : (b : Bool) (this that : ℕ) → (b ≡ false → ⊥) → (if b then this else that) ≡ this
+      shown true this that never = refl
+      shown false this that never = absurd (never refl)
+
+      same : (b : Bool) (d w s : ℕ) → (b ≡ true → w ≡ s)
+          → (if b then left_of left (is_in_first_half block p) d w else d) ≡ (if b then left_of left (is_in_first_half block p) d s else d)
+      same true d w s is = ap (λ (o : ℕ). left_of left (is_in_first_half block p) d o) (is refl)
+      same false d w s is = refl
+
+-- a clean file that shows what is durable is sure
+pub kept_reread : (block : ℕ) (cache device durable : List ℕ) (dirty pending : List Bool) (is_clean is_sure : Bool)
+    → IsKept block cache device durable dirty pending is_clean is_sure → (is_clean ≡ true → (p : ℕ) → octet_at cache p ≡ octet_at durable p)
+    → IsKept block cache device durable dirty pending is_clean (is_sure || is_clean)
+kept_reread block cache device durable dirty pending true true kept shows = kept
+kept_reread block cache device durable dirty pending true false kept shows = record {
+  some = kept.some;
+  as_device = kept.as_device;
+  as_durable = kept.as_durable;
+  as_dirty = kept.as_dirty;
+  blocks = kept.blocks;
+  cache_octets = kept.cache_octets;
+  device_octets = kept.device_octets;
+  durable_octets = kept.durable_octets;
+  shown = kept.shown;
+  fewer = kept.fewer;
+  clean = kept.clean;
+  seen = λ _ p _. shows refl p;
+  all = λ _ n _. kept.clean refl n;
+}
+kept_reread block cache device durable dirty pending false true kept shows = kept
+kept_reread block cache device durable dirty pending false false kept shows = kept
+
+-- a clean file whose clean pages were dropped was read anew
+pub pressed_reread : (file pressed : FileState) → file.is_clean ≡ true → pressed ≡ file_pressed file pressed.seen
+    → ((p : ℕ) → pressed.seen p ≡ file.durable p)
+    → record pressed { is_sure = pressed.is_sure || pressed.is_clean } ≡ file_reread file
+pressed_reread file pressed is same shows = λ j. record {
+  behaves = ap (λ (f : FileState). f.behaves) same j;
+  block = ap (λ (f : FileState). f.block) same j;
+  size = ap (λ (f : FileState). f.size) same j;
+  is_size_durable = ap (λ (f : FileState). f.is_size_durable) same j;
+  seen = λ p. shows p j;
+  durable = ap (λ (f : FileState). f.durable) same j;
+  pending = ap (λ (f : FileState). f.pending) same j;
+  is_clean = ap (λ (f : FileState). f.is_clean) same j;
+  is_sure = sure j;
+} where
+  or-one : (b : Bool) → (b || true) ≡ true
+  or-one true = refl
+  or-one false = refl
+
+  sure : (pressed.is_sure || pressed.is_clean) ≡ true
+  sure = ap (λ (b : Bool). pressed.is_sure || b) (ap (λ (f : FileState). f.is_clean) same ∙ is) ∙ or-one pressed.is_sure

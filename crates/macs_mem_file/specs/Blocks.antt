@@ -1,7 +1,9 @@
 -- Octets in memory by their blocks, and what a file in memory keeps of them.
-use Rattle.std.specs.Prelude.{◌≡◌, ◌<◌, ◌*◌, ◌/◌, ◌^◌, ◌==◌, ℕ, Bool, true, false, List, length, get_or}
+use Rattle.std.specs.Prelude.{◌≡◌, ◌<◌, ◌*◌, ◌/◌, ◌%◌, ◌^◌, ◌==◌, ℕ, if◌then◌else◌, nat_lt, Bool, true, false, List, length, get_or}
 use Rattle.macs_disk.specs.Files.{FileState}
 use Rattle.macs_disk.specs.Recorded.{flag_at}
+use Rattle.macs_mem_file.specs.declared.blocks.Left.{Left}
+use Rattle.macs_mem_file.specs.declared.blocks.Left.TheVariants.{Durable, Written, Half, Zeros}
 
 -- an octet of a list, and zeros behind it
 abbrev pub octet_at : List ℕ → ℕ → ℕ
@@ -33,6 +35,32 @@ pub record IsKept (block : ℕ) (cache device durable : List ℕ) (dirty pending
   -- while no sync has failed, reads give what is durable where nothing is pending, and all that is pending is dirty
   pub seen : is_sure ≡ true → (p : ℕ) → flag_in block pending p ≡ false → octet_at cache p ≡ octet_at durable p
   pub all : is_sure ≡ true → (n : ℕ) → flag_at dirty n ≡ false → flag_at pending n ≡ false
+
+-- what a power loss leaves in the place of an octet of a pending block, where this one was durable and that one written.
+-- It lies in the first half of its block or not.
+abbrev pub left_of : Left → Bool → ℕ → ℕ → ℕ
+left_of Durable is_first durable written = durable
+left_of Written is_first durable written = written
+left_of Half is_first durable written = if is_first then written else durable
+left_of Zeros is_first durable written = 0
+
+-- whether an octet lies in the first half of its block
+abbrev pub is_in_first_half : ℕ → ℕ → Bool
+is_in_first_half block p = nat_lt (p % block) (block / 2)
+
+-- the octet that a power loss leaves at a place, where these were written: the durable one in a block that is not pending
+abbrev pub octet_left : Left → FileState → (ℕ → ℕ) → ℕ → ℕ
+octet_left left file written p =
+    if file.pending (p / file.block)
+    then left_of left (is_in_first_half file.block p) (file.durable p) (written p)
+    else file.durable p
+
+-- the size that a power loss leaves, of the one that was written and the one that is durable
+abbrev pub size_left : Left → ℕ → ℕ → ℕ
+size_left Durable written durable = durable
+size_left Written written durable = written
+size_left Half written durable = written
+size_left Zeros written durable = durable
 
 -- a file by what it keeps
 abbrev pub file_in_memory : ℕ → ℕ → ℕ → List ℕ → List ℕ → List Bool → Bool → Bool → FileState

@@ -1,14 +1,34 @@
 -- What a `MemFile` is.
-use Rattle.std.specs.Prelude.{ℕ, true, false}
+use Rattle.std.specs.Prelude.{ℕ, if◌then◌else◌, true, false}
 use Rattle.macs_disk.specs.Files.{FileState}
-use Rattle.macs_mem_file.specs.Blocks.{file_in_memory}
+use Rattle.macs_mem_file.specs.Blocks.{file_in_memory, flag_in, octet_at}
 use Rattle.macs_mem_file.specs.declared.blocks.DeviceBlock.{DeviceBlock}
 use Rattle.macs_mem_file.specs.declared.blocks.DeviceBlock.TheVariants.{Octets512, Octets4096}
 use Rattle.macs_mem_file.specs.declared.file.MemFile.{MemFile}
+use Rattle.macs_mem_file.specs.declared.plan.FileCall.{FileCall}
 
 -- a file in memory, as a file
 abbrev pub file_of : {A : Type 0} → MemFile A → FileState
 file_of it = file_in_memory it.block it.size it.durable_size it.cache.items it.durable.items it.pending.items it.is_clean it.is_sure
+
+-- what the device has once all that is dirty was written to it
+abbrev pub written_in : {A : Type 0} → MemFile A → ℕ → ℕ
+written_in it p = if flag_in it.block it.dirty.items p then octet_at it.cache.items p else octet_at it.device.items p
+
+-- how many octets it durably has
+abbrev pub durable_size_of : {A : Type 0} → MemFile A → ℕ
+durable_size_of it = it.durable_size
+
+-- which call is to fail: one of this kind, and the so manieth of them from now on. None where that is 0.
+abbrev pub failing_call_of : {A : Type 0} → MemFile A → FileCall
+failing_call_of it = it.plan.call
+
+abbrev pub failing_number_of : {A : Type 0} → MemFile A → ℕ
+failing_number_of it = it.plan.nth
+
+-- how many blocks a sync that fails writes
+abbrev pub blocks_reached_by : {A : Type 0} → MemFile A → ℕ
+blocks_reached_by it = it.reached
 
 -- how many octets a block has
 abbrev pub octets_in : DeviceBlock → ℕ

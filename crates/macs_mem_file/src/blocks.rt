@@ -1,8 +1,8 @@
 //! Octets in memory, and flags of their blocks.
 
-ghost use Rattle.std.specs.Prelude.{◌≡◌, ◌<◌, ◌≤◌, ◌+◌, ◌*◌, ◌^◌, ◌||◌, ◌⊎◌, ℕ, not, false, true, length, take};
+ghost use Rattle.std.specs.Prelude.{◌≡◌, ◌<◌, ◌≤◌, ◌+◌, ◌*◌, ◌/◌, ◌^◌, ◌||◌, ℕ, nat_lt, not, false, true, length, take};
 ghost use Rattle.macs_disk.specs.Files.{has_some, put_from, values_from};
-ghost use Rattle.macs_mem_file.specs.Blocks.{are_octets, flag_in, octet_at};
+ghost use Rattle.macs_mem_file.specs.Blocks.{are_octets, flag_in, is_in_first_half, left_of, octet_at, size_left};
 ghost use Rattle.macs_disk.specs.Recorded.{flag_at};
 
 use std::alloc::Allocator;
@@ -46,7 +46,7 @@ pub enum Left {
 impl Left {
     /// The size that was written, or that which is durable.
     pub(crate) fn choose(self, written: u64, durable: u64) -> u64
-        ensures { (result ≡ written) ⊎ (result ≡ durable) }
+        ensures { result ≡ size_left self written durable }
     {
         match self {
             Left::Durable | Left::Zeros => durable,
@@ -167,6 +167,8 @@ fn spoil_block<A: Allocator>(
     requires within { at + block ≤ length durable.old.items }
     requires alike { length written.now ≡ length durable.old.items }
     ensures length { length durable.new.items ≡ length durable.old.items }
+    ensures spoiled { (p : ℕ) → at ≤ p → p < at + block → octet_at durable.new.items p
+        ≡ left_of left (nat_lt p (at + block / 2)) (octet_at durable.old.items p) (octet_at written.now p) }
     ensures before { (p : ℕ) → p < at → octet_at durable.new.items p ≡ octet_at durable.old.items p }
     ensures behind { (p : ℕ) → at + block ≤ p → octet_at durable.new.items p ≡ octet_at durable.old.items p }
     ensures octets { are_octets durable.old.items → are_octets written.now → are_octets durable.new.items }
@@ -191,6 +193,8 @@ pub(crate) fn spoil<A: Allocator>(
     requires blocks { block * length pending.now ≡ length durable.old.items }
     requires alike { length written.now ≡ length durable.old.items }
     ensures length { length durable.new.items ≡ length durable.old.items }
+    ensures spoiled { (p : ℕ) → flag_in block pending.now p ≡ true → octet_at durable.new.items p
+        ≡ left_of left (is_in_first_half block p) (octet_at durable.old.items p) (octet_at written.now p) }
     ensures kept { (p : ℕ) → flag_in block pending.now p ≡ false
         → octet_at durable.new.items p ≡ octet_at durable.old.items p }
     ensures octets { are_octets durable.old.items → are_octets written.now → are_octets durable.new.items }

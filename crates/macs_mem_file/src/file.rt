@@ -91,27 +91,33 @@ impl<A: Allocator + Copy> MemFile<A> {
 }
 
 impl<A: Allocator> MemFile<A> {
-    ghost use Rattle.std.specs.Prelude.{◌≡◌, ◌<◌, ◌≤◌, ◌+◌, false, true, length, take};
+    ghost use Rattle.std.specs.Prelude.{◌≡◌, ◌<◌, ◌≤◌, ◌+◌, false, true, length, nat_lt, take};
     ghost use Rattle.macs_disk.specs.Files.{IsFileImage, IsSure, file_after_write, file_in_doubt, file_synced};
-    ghost use Rattle.macs_mem_file.specs.Blocks.{octet_at};
-    ghost use Rattle.macs_mem_file.specs.MemFiles.{file_after_loss, file_of, file_pressed};
+    ghost use Rattle.macs_mem_file.specs.Blocks.{octet_at, octet_left, size_left};
+    ghost use Rattle.macs_mem_file.specs.MemFiles.{file_after_loss, file_of, file_pressed, written_in};
+    ghost use Rattle.macs_mem_file.specs.MemFiles.{blocks_reached_by, durable_size_of, failing_call_of, failing_number_of};
 
     /// Has the so manieth call of this kind fail, from now on, once. With 0 none does.
     pub fn fail(&mut self, call: FileCall, nth: u64)
-        ensures { file_of self.new ≡ file_of self.old }
+        ensures same { file_of self.new ≡ file_of self.old }
+        ensures call { failing_call_of self.new ≡ call }
+        ensures number { failing_number_of self.new ≡ nth }
     {
         self.plan = Plan { call, nth };
     }
 
     /// Has so many of the blocks that a failed sync was to write reach the device.
     pub fn reach(&mut self, blocks: usize)
-        ensures { file_of self.new ≡ file_of self.old }
+        ensures same { file_of self.new ≡ file_of self.old }
+        ensures reached { blocks_reached_by self.new ≡ blocks }
     {
         self.reached = blocks;
     }
 
     /// Whether the call that was to fail has not come yet.
-    pub fn is_due(&self) -> bool {
+    pub fn is_due(&self) -> bool
+        ensures { result ≡ nat_lt 0 (failing_number_of self.now) }
+    {
         self.plan.nth > 0
     }
 
@@ -168,6 +174,7 @@ impl<A: Allocator> MemFile<A> {
     /// Memory is short: the kernel drops all clean pages.
     pub fn press(&mut self)
         ensures same { file_of self.new ≡ file_pressed (file_of self.old) (file_of self.new).seen }
+        ensures dropped { (p : ℕ) → (file_of self.new).seen p ≡ written_in self.old p }
         ensures sure { IsSure (file_of self.old) → file_of self.new ≡ file_of self.old }
         ensures clean { (file_of self.old).is_clean ≡ true
             → (p : ℕ) → (file_of self.new).seen p ≡ (file_of self.old).durable p }
@@ -196,6 +203,12 @@ impl<A: Allocator> MemFile<A> {
             ≡ file_after_loss (file_of self.old) (file_of self.new).size (file_of self.new).durable }
         ensures image { IsFileImage (file_of self.old) (file_of self.new).durable }
         ensures size { (file_of self.old).is_size_durable ≡ true → (file_of self.new).size ≡ (file_of self.old).size }
+        ensures left { (p : ℕ) → (file_of self.new).durable p
+            ≡ octet_left left (file_of self.old) (written_in self.old) p }
+        ensures sure { IsSure (file_of self.old)
+            → (p : ℕ) → (file_of self.new).durable p ≡ octet_left left (file_of self.old) (file_of self.old).seen p }
+        ensures length { (file_of self.new).size
+            ≡ size_left left (file_of self.old).size (durable_size_of self.old) }
     {
         let size = left.choose(self.size, self.durable_size);
         copy_blocks(&mut self.device, &self.cache, &self.dirty, true, self.block);
@@ -226,6 +239,8 @@ impl<A: Allocator> MemFile<A> {
 }
 
 impl<A: Allocator> DiskFile for MemFile<A> {
+    ghost use Rattle.std.specs.Prelude.{◌≡◌, ◌≤◌, ◌+◌, ◌⊎◌, length, IfOk};
+    ghost use Rattle.macs_disk.specs.Files.{Behaves, ReadsFile};
     ghost use Rattle.macs_mem_file.specs.Evidence.{memory-sound};
     ghost use Rattle.macs_mem_file.specs.MemFiles.{file_of};
 
@@ -242,7 +257,14 @@ impl<A: Allocator> DiskFile for MemFile<A> {
         Ok(self.size)
     }
 
-    fn read_at(&mut self, at: u64, into: &mut [u8]) -> io::Result<usize> {
+    // It reads nothing behind the file's end.
+    fn read_at(&mut self, at: u64, into: &mut [u8]) -> io::Result<usize>
+        ensures bound { IfOk result (λ count. count ≤ length into.new) }
+        ensures steady { (file_of self.new).behaves ≡ (file_of self.old).behaves }
+        ensures effect { Behaves (file_of self.old)
+            → ReadsFile (file_of self.old) (file_of self.new) at into.new result }
+        ensures within { IfOk result (λ count. (count ≡ 0) ⊎ (at + count ≤ (file_of self.old).size)) }
+    {
         self.plan.pass(FileCall::Read)?;
         if at >= self.size {
             return Ok(0);
@@ -278,16 +300,8 @@ impl<A: Allocator> DiskFile for MemFile<A> {
     // A page with a block that is dirty stays in the cache, and so does the doubt.
     fn reread(&mut self) -> io::Result<()> {
         self.plan.pass(FileCall::Reread)?;
-        copy_blocks(
-            &mut self.cache,
-            &self.device,
-            &self.dirty,
-            false,
-            self.block,
-        );
-        if self.is_clean {
-            self.is_sure = true;
-        }
+        self.press();
+        self.is_sure |= self.is_clean;
         Ok(())
     }
 }

@@ -77,7 +77,7 @@ impl DiskFile for FailingFile {
 }
 
 /// A file of so many octets of zeros.
-fn file(length: u64, most: usize, failing: u64, kind: ErrorKind) -> FailingFile {
+pub(super) fn file(length: u64, most: usize, failing: u64, kind: ErrorKind) -> FailingFile {
     FailingFile {
         calls: Calls {
             made: 0,

@@ -9,14 +9,14 @@ use std::cell::{RefCell, RefMut};
 use std::process::Abort;
 
 /// The file of a kernel.
-type Kernel = RefCell<MemFile>;
+pub(super) type Kernel = RefCell<MemFile>;
 
 /// A disk in it.
 type Disk<'a> = FileDisk<OpenMemFile<'a>>;
 
 /// What a trial is made on.
 #[derive(Clone, Copy)]
-struct Ground {
+pub(super) struct Ground {
     layout: Layout,
     block: DeviceBlock,
     /// How many pages the file has room for.
@@ -32,7 +32,7 @@ const PACKED: Ground = Ground {
     most: 300,
 };
 
-const SPACED: Ground = Ground {
+pub(super) const SPACED: Ground = Ground {
     layout: Layout::Spaced,
     block: DeviceBlock::Octets4096,
     pages: 1_029,
@@ -91,7 +91,7 @@ const BLANK_SYNCS: u64 = 3;
 /// What is known of the sectors: the octet that each is full of.
 type Known = [u8; SECTORS];
 
-fn kernel(rt: &impl Abort, alloc: Global, ground: Ground) -> Kernel {
+pub(super) fn kernel(rt: &impl Abort, alloc: Global, ground: Ground) -> Kernel {
     match MemFile::new(alloc, ground.pages, ground.block, ground.most) {
         Ok(file) => RefCell::new(file),
         Err(_) => panic!(rt; "no memory"),
@@ -99,7 +99,7 @@ fn kernel(rt: &impl Abort, alloc: Global, ground: Ground) -> Kernel {
 }
 
 /// The file, as the kernel has it.
-fn file<'a>(rt: &impl Abort, kernel: &'a Kernel) -> RefMut<'a, MemFile> {
+pub(super) fn file<'a>(rt: &impl Abort, kernel: &'a Kernel) -> RefMut<'a, MemFile> {
     match kernel.try_borrow_mut() {
         Ok(file) => file,
         Err(_) => panic!(rt; "the file is in use"),

@@ -1,6 +1,6 @@
-//! A system that opens no file, for each reason that a disk tells apart.
+//! A system that opens no file, for each reason that a disk tells apart, and one that makes no name durable.
 
-use super::failing_files::FailingFile;
+use super::failing_files::{FailingFile, file};
 use macs_disk::{FileDisk, FileFault};
 use std::alloc::Allocator;
 use std::fs::{Metadata, OpenFile, OpenOptions};
@@ -50,13 +50,18 @@ impl OpenFile for FailingFile {
     }
 }
 
-/// A system each of whose calls fails with an error of this kind.
+/// A system each of whose calls fails with an error of this kind, but that it may open files.
 #[derive(Clone, Copy)]
-struct Shut(ErrorKind);
+struct Shut {
+    kind: ErrorKind,
+    /// Each name is that of a file of two sectors. What a disk asks of the file is done, and `sync_all`, which
+    /// makes the names in a folder durable, is an error.
+    has_files: bool,
+}
 
 impl Shut {
     fn refuse<T>(&self) -> io::Result<T> {
-        Err(io::Error::from(self.0))
+        Err(io::Error::from(self.kind))
     }
 }
 
@@ -66,6 +71,9 @@ impl Files for Shut {
     type Dir = Empty;
 
     fn open_file(&self, _how: &OpenOptions, _path: &str) -> io::Result<FailingFile> {
+        if self.has_files {
+            return Ok(file(1_024, 2_048, 0, self.kind));
+        }
         self.refuse()
     }
 
@@ -116,8 +124,21 @@ const REASONS: [(ErrorKind, FileFault); 3] = [
 #[test]
 fn what_is_not_opened_says_why(rt: HostRuntime) {
     for (kind, fault) in REASONS {
-        let system = Shut(kind);
+        let system = Shut {
+            kind,
+            has_files: false,
+        };
         assert!(rt; FileDisk::create(&system, "disk", 1).err() == Some(fault));
         assert!(rt; FileDisk::open(&system, "disk").err() == Some(fault));
     }
+}
+
+#[test]
+fn a_name_that_is_not_durable_is_no_disk(rt: HostRuntime) {
+    let system = Shut {
+        kind: ErrorKind::Other,
+        has_files: true,
+    };
+    assert!(rt; FileDisk::open(&system, "disk").is_ok());
+    assert!(rt; FileDisk::create(&system, "disk", 1).err() == Some(FileFault::Open));
 }

@@ -1,7 +1,7 @@
-use Rattle.std.proofs.Common.{ℕ, ap, rules, subst, sym}
+use Rattle.std.proofs.Common.{ℕ, ap, ◌∙◌, rules, subst, sym}
 use Rattle.macs_disk.specs.Files.{FileState, IsFileImage}
 use Rattle.macs_mem_file.specs.MemFiles.{file_of}
-use Rattle.macs_mem_file.proofs.MemoryFile.{image_kept}
+use Rattle.macs_mem_file.proofs.MemoryFile.{image_kept, left_of_seen, loss_leaves}
 use Rattle.macs_mem_file.proofs.file.MemFile.crash.Goals as goal
 
 pub returns-clause-image : goal.returns-clause-image
@@ -9,3 +9,19 @@ returns-clause-image g c =
     let m = c.args.self.now in
     subst (λ (octets : ℕ → ℕ). IsFileImage (file_of m) octets) (sym (ap (λ (f : FileState). f.durable) c.boot.ensures))
     (image_kept m.block m.size m.durable_size m.cache.items m.durable.items c.spoil.new.durable.items m.pending.items m.is_clean m.is_sure (search rules) (search rules))
+
+pub returns-clause-left : goal.returns-clause-left
+returns-clause-left g c p =
+    let m = c.args.self.now in
+    ap (λ (f : FileState). f.durable p) c.boot.ensures
+    ∙ loss_leaves m.block m.size m.durable_size m.cache.items m.device.items m.durable.items m.dirty.items m.pending.items m.is_clean m.is_sure c.args.left
+    c.copy_blocks.new.to.items c.spoil.new.durable.items (search rules) (search rules) (search rules) (search rules) p
+
+pub returns-clause-sure : goal.returns-clause-sure
+returns-clause-sure g c sure p =
+    let m = c.args.self.now in
+    ap (λ (f : FileState). f.durable p) c.boot.ensures
+    ∙ loss_leaves m.block m.size m.durable_size m.cache.items m.device.items m.durable.items m.dirty.items m.pending.items m.is_clean m.is_sure c.args.left
+    c.copy_blocks.new.to.items c.spoil.new.durable.items (search rules) (search rules) (search rules) (search rules) p
+    ∙ left_of_seen m.block m.size m.durable_size m.cache.items m.device.items m.durable.items m.dirty.items m.pending.items m.is_clean m.is_sure c.args.left
+    m.kept sure p
