@@ -19,10 +19,11 @@ written_in it p = if flag_in it.block it.dirty.items p then octet_at it.cache.it
 abbrev pub durable_size_of : {A : Type 0} → MemFile A → ℕ
 durable_size_of it = it.durable_size
 
--- which call is to fail: one of this kind, and the so manieth of them from now on. None where that is 0.
+-- the kind of call that is to fail
 abbrev pub failing_call_of : {A : Type 0} → MemFile A → FileCall
 failing_call_of it = it.plan.call
 
+-- and which of them, counted from 1 on from now. None is to fail where it is 0.
 abbrev pub failing_number_of : {A : Type 0} → MemFile A → ℕ
 failing_number_of it = it.plan.nth
 
