@@ -73,6 +73,7 @@ impl<F: DiskFile> FileDisk<F> {
         ensures least { IfOk result (λ it. sectors ≤ (disk_in_file F.file it).sectors) }
         ensures known { IfOk result (λ it. Behaves (F.file (file_given it))
             → IsOpened (F.file (file_given it)) sectors (layout_of it) (disk_in_file F.file it)) }
+        ensures spaced { IfOk result (λ it. layout_of it ≡ Layout.Spaced → (disk_in_file F.file it).sectors ≡ 1028) }
         ensures left { IfOk result (IsLeftAsShown F.file) }
         ensures fresh { IfOk result (λ it. IsFresh (disk_in_file F.file it)) }
     {
@@ -87,6 +88,7 @@ impl<F: DiskFile> FileDisk<F> {
     pub fn open<R: Files<File = F>, P: AsPath>(rt: &R, path: P) -> Result<Self, FileFault>
         ensures known { IfOk result (λ it. Behaves (F.file (file_given it))
             → IsOpened (F.file (file_given it)) 0 (layout_of it) (disk_in_file F.file it)) }
+        ensures spaced { IfOk result (λ it. layout_of it ≡ Layout.Spaced → (disk_in_file F.file it).sectors ≡ 1028) }
         ensures left { IfOk result (IsLeftAsShown F.file) }
         ensures fresh { IfOk result (λ it. IsFresh (disk_in_file F.file it)) }
     {
@@ -101,6 +103,7 @@ impl<F: DiskFile> FileDisk<F> {
         ensures known { Behaves (F.file file) → IfOk result (λ it.
             IsOpened (F.file file) sectors (layout_of it) (disk_in_file F.file it)) }
         ensures length { IsErrOf result FileFault.Length → Behaves (F.file file) → (F.file file).size % 512 ≢ 0 }
+        ensures spaced { IfOk result (λ it. layout_of it ≡ Layout.Spaced → (disk_in_file F.file it).sectors ≡ 1028) }
         ensures left { IfOk result (IsLeftAsShown F.file) }
         ensures fresh { IfOk result (λ it. IsFresh (disk_in_file F.file it)) }
     {
@@ -126,6 +129,7 @@ impl<F: DiskFile> FileDisk<F> {
     pub fn reopen(self) -> Result<Self, FileFault>
         ensures known { Behaves (F.file (file_left self)) → IfOk result (λ it.
             IsOpened (F.file (file_left self)) 0 (layout_of it) (disk_in_file F.file it)) }
+        ensures spaced { IfOk result (λ it. layout_of it ≡ Layout.Spaced → (disk_in_file F.file it).sectors ≡ 1028) }
         ensures left { IfOk result (IsLeftAsShown F.file) }
         ensures fresh { IfOk result (λ it. IsFresh (disk_in_file F.file it)) }
     {

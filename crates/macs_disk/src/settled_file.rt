@@ -98,6 +98,7 @@ fn prepare<F: DiskFile>(file: &mut F, octets: u64, least: u64) -> Result<Extent,
     ensures least { IfOk result (λ extent. least ≤ extent.sectors) }
     ensures known { Behaves (F.file file.old) → IsStill (F.file file.old) → octets ≡ (F.file file.old).size
         → IfOk result (λ extent. IsExtent (F.file file.old) (F.file file.new) least extent.layout extent.sectors) }
+    ensures spaced { IfOk result (λ extent. extent.layout ≡ Layout.Spaced → extent.sectors ≡ 1028) }
     ensures err { IfErr result (λ fault. fault ≢ FileFault.Length) }
 {
     let layout = find_layout(file, octets)?;
@@ -151,6 +152,7 @@ impl<F: DiskFile> SettledFile<F> {
         ensures given { IfOk result (λ it. file_given it ≡ file_before self) }
         ensures known { Behaves (F.file self.file) → IsSettled F.file self → IfOk result (λ it.
             IsOpened (F.file (file_before self)) least (layout_of it) (disk_in_file F.file it)) }
+        ensures spaced { IfOk result (λ it. layout_of it ≡ Layout.Spaced → (disk_in_file F.file it).sectors ≡ 1028) }
         ensures left { IfOk result (IsLeftAsShown F.file) }
         ensures fresh { IfOk result (λ it. IsFresh (disk_in_file F.file it)) }
         ensures err { IfErr result (λ fault. fault ≢ FileFault.Length) }
