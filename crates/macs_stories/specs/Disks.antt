@@ -1,5 +1,5 @@
 -- What a `StoryDisk` is.
-use Rattle.std.specs.Prelude.{◌≡◌, ◌-◌, ◌^◌, ◌==◌, false}
+use Rattle.std.specs.Prelude.{◌-◌, ◌^◌, ◌==◌, false}
 use Rattle.macs_disk.specs.States.{settled_state, zero_sector}
 use Rattle.macs_disk.specs.Disk.{Disk}
 use Rattle.macs_stories.specs.declared.disk.StoryDisk.{StoryDisk}
