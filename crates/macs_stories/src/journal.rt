@@ -1,5 +1,8 @@
 //! What is done with a journal, and what is asked of it.
 
+ghost use Rattle.std.specs.Prelude.{IsTrue};
+ghost use Rattle.macs_journal.specs.Stepping.{FitsWork};
+
 use crate::answer::Answer;
 use crate::disk::StoryDisk;
 use crate::life::Life;
@@ -9,7 +12,7 @@ use crate::store::tell_step;
 use crate::tools::Tools;
 use crate::words::Words;
 use macs_config::Identity;
-use macs_journal::{Journal, Records, Recovered};
+use macs_journal::{Journal, Records, Recovered, Work};
 use macs_record::Record;
 
 type Played = Journal<StoryDisk>;
@@ -25,8 +28,8 @@ pub struct JournalLife {
     /// How many of the records are the snapshot's.
     count: u32,
     records: Records,
-    /// What is lent to the steps of the work in hand.
-    lent: Records,
+    /// The work that was started last: its records are lent to the steps.
+    work: Work,
 }
 
 impl JournalLife {
@@ -43,7 +46,7 @@ impl JournalLife {
             identity,
             count,
             records,
-            lent: Records::new(),
+            work: Work::Compact(Records::new()),
         }
     }
 }
@@ -51,14 +54,6 @@ impl JournalLife {
 fn append(journal: &mut Played, record: &Record, answer: &mut Answer) {
     if journal.is_idle() && !journal.is_full() {
         answer.done(journal.append(record));
-    } else {
-        answer.word(NOT_NOW);
-    }
-}
-
-fn start_append(journal: &mut Played, record: &Record, answer: &mut Answer) {
-    if journal.is_idle() && !journal.is_full() {
-        answer.done(journal.start_append(record));
     } else {
         answer.word(NOT_NOW);
     }
@@ -72,9 +67,20 @@ fn compact(journal: &mut Played, records: &Records, answer: &mut Answer) {
     }
 }
 
-fn start_compact(journal: &mut Played, records: &Records, answer: &mut Answer) {
-    if journal.is_idle() && !records.is_empty() {
-        answer.done(journal.start_compact(records.as_slice()));
+/// Whether a journal has room for this work.
+fn fits(journal: &Played, work: &Work) -> bool
+    ensures { IsTrue result → FitsWork journal.now.place work.now }
+{
+    match work {
+        Work::Append(_) => !journal.is_full(),
+        Work::Compact(records) => !records.is_empty(),
+    }
+}
+
+/// Takes work in hand.
+fn start(journal: &mut Played, work: &Work, answer: &mut Answer) {
+    if journal.is_idle() && fits(journal, work) {
+        answer.done(journal.start(work));
     } else {
         answer.word(NOT_NOW);
     }
@@ -94,11 +100,14 @@ fn work(life: &mut JournalLife, words: Words<'_>, answer: &mut Answer) -> Option
     let mut words = words;
     match words.take() {
         "append" => append(&mut life.journal, &record_of(&mut words)?, answer),
-        "start-append" => start_append(&mut life.journal, &record_of(&mut words)?, answer),
+        "start-append" => {
+            life.work = Work::Append(record_of(&mut words)?);
+            start(&mut life.journal, &life.work, answer);
+        }
         "compact" => compact(&mut life.journal, &records_of(&mut words)?, answer),
         "start-compact" => {
-            life.lent = records_of(&mut words)?;
-            start_compact(&mut life.journal, &life.lent, answer);
+            life.work = Work::Compact(records_of(&mut words)?);
+            start(&mut life.journal, &life.work, answer);
         }
         _ => return None,
     }
@@ -109,7 +118,10 @@ fn make_step(life: &mut JournalLife, words: Words<'_>, answer: &mut Answer) -> O
     if words.rest() != "step" {
         return None;
     }
-    step(&mut life.journal, life.lent.as_slice(), answer);
+    match &life.work {
+        Work::Append(_) => step(&mut life.journal, &[], answer),
+        Work::Compact(records) => step(&mut life.journal, records.as_slice(), answer),
+    }
     Some(())
 }
 
