@@ -104,13 +104,27 @@ fn record_at(octets: &[u8], place: u64) -> Option<(usize, usize)> {
     Some((at, length_at(octets, at)?))
 }
 
-/// The frame of a record.
-fn frame_at(octets: &[u8], place: u64) -> Option<&[u8]> {
-    let (at, length) = record_at(octets, place)?;
-    Some(part(octets, at.saturating_add(RECORD), length))
+/// `written-octets FIRST LENGTH`.
+fn tell_part(octets: &[u8], first: u64, words: &mut Words<'_>, answer: &mut Answer) -> Option<()> {
+    let first = usize::try_from(first).ok()?;
+    let length = usize::try_from(whole(words.number(), words)?).ok()?;
+    answer.octets(part(octets, first, length));
+    Some(())
 }
 
-/// Tells what was written: how many octets; some of them; of a record its stamp, its frame or the packet number of that.
+/// Of a record its stamp, its frame, or the packet number of that.
+fn tell_record(octets: &[u8], act: &str, place: u64, answer: &mut Answer) -> Option<()> {
+    let (at, length) = record_at(octets, place)?;
+    let frame = part(octets, at.saturating_add(RECORD), length);
+    match act {
+        "written-stamp" => answer.octets(part(octets, at, 8)),
+        "written-frame" => tell_frame(frame, answer),
+        _ => tell_number(frame, answer),
+    }
+    Some(())
+}
+
+/// Tells what was written: how many octets; some of them; what a record is.
 fn look(words: Words<'_>, octets: &[u8], answer: &mut Answer) -> Option<()> {
     let mut words = words;
     let act = words.take();
@@ -120,20 +134,12 @@ fn look(words: Words<'_>, octets: &[u8], answer: &mut Answer) -> Option<()> {
     }
     let place = words.number()?;
     match act {
-        "written-octets" => {
-            let first = usize::try_from(place).ok()?;
-            let length = usize::try_from(whole(words.number(), &words)?).ok()?;
-            answer.octets(part(octets, first, length));
+        "written-octets" => tell_part(octets, place, &mut words, answer),
+        "written-stamp" | "written-frame" | "written-number" => {
+            tell_record(octets, act, place, answer)
         }
-        "written-stamp" => {
-            let (at, _) = record_at(octets, place)?;
-            answer.octets(part(octets, at, 8));
-        }
-        "written-frame" => tell_frame(frame_at(octets, place)?, answer),
-        "written-number" => tell_number(frame_at(octets, place)?, answer),
-        _ => return None,
+        _ => None,
     }
-    Some(())
 }
 
 /// Does an act with a capture, and answers it; `None` where there is no such act.

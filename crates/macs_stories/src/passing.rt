@@ -109,10 +109,29 @@ fn seal_sevens(endpoint: &mut Played, octets: usize, answer: &mut Answer) {
 }
 
 /// `protect-hex HEX`: the number, and the frame that goes out.
-fn protect_octets(endpoint: &mut Played, octets: &[u8], answer: &mut Answer) {
+fn protect_octets(
+    endpoint: &mut Played,
+    words: &mut Words<'_>,
+    alloc: Global,
+    answer: &mut Answer,
+) -> Option<()> {
+    let octets = octets_of(words, alloc)?;
     let mut out = stale();
-    protect(endpoint, octets, &mut out, answer);
+    protect(endpoint, octets.as_slice(), &mut out, answer);
     answer.octets(out.as_slice());
+    Some(())
+}
+
+/// `receive-hex HEX`: what is given is told.
+fn receive_octets(
+    endpoint: &mut Played,
+    words: &mut Words<'_>,
+    alloc: Global,
+    answer: &mut Answer,
+) -> Option<()> {
+    let octets = octets_of(words, alloc)?;
+    receive(endpoint, octets.as_slice(), &[], answer);
+    Some(())
 }
 
 /// `receive-plain LENGTH`: a frame of sevens without a SecTAG.
@@ -168,6 +187,23 @@ fn octets_of(words: &mut Words<'_>, alloc: Global) -> Option<Vec<u8>> {
     hex::decode(alloc, words.take_rest()).ok()
 }
 
+/// Passes a frame of sevens, whose length the words say; `None` where there is no such act.
+fn pass_sevens(
+    endpoint: &mut Played,
+    act: &str,
+    words: &mut Words<'_>,
+    answer: &mut Answer,
+) -> Option<()> {
+    let octets = whole_length(words)?;
+    match act {
+        "protect" => protect_sevens(endpoint, octets, answer),
+        "seal" => seal_sevens(endpoint, octets, answer),
+        "receive-plain" => receive_sevens(endpoint, octets, answer),
+        _ => return None,
+    }
+    Some(())
+}
+
 /// Passes a frame, and answers; `None` where the words say none.
 pub fn pass(
     endpoint: &mut Played,
@@ -177,21 +213,11 @@ pub fn pass(
 ) -> Option<()> {
     let mut words = words;
     match words.take() {
-        "protect" => protect_sevens(endpoint, whole_length(&mut words)?, answer),
-        "seal" => seal_sevens(endpoint, whole_length(&mut words)?, answer),
-        "receive-plain" => receive_sevens(endpoint, whole_length(&mut words)?, answer),
-        "receive" => receive_sealed(endpoint, &mut words, answer)?,
-        "protect-hex" => {
-            let octets = octets_of(&mut words, alloc)?;
-            protect_octets(endpoint, octets.as_slice(), answer);
-        }
-        "receive-hex" => {
-            let octets = octets_of(&mut words, alloc)?;
-            receive(endpoint, octets.as_slice(), &[], answer);
-        }
-        _ => return None,
+        "receive" => receive_sealed(endpoint, &mut words, answer),
+        "protect-hex" => protect_octets(endpoint, &mut words, alloc, answer),
+        "receive-hex" => receive_octets(endpoint, &mut words, alloc, answer),
+        act => pass_sevens(endpoint, act, &mut words, answer),
     }
-    Some(())
 }
 
 fn whole_length(words: &mut Words<'_>) -> Option<usize> {

@@ -78,18 +78,28 @@ fn tell_zeros(disk: &mut MemDisk, words: &mut Words<'_>, answer: &mut Answer) ->
 fn act(disk: &mut StoryDisk, line: Line<'_>, tools: &mut Tools) -> Option<()> {
     let mut words = Words::new(line.act, line.values);
     let alloc = tools.alloc;
-    let answer = &mut tools.answer;
     match words.take() {
-        "disk" => answer.done(replace(disk, alloc, words.number()?)),
-        "format" => format_disk(disk, &identity_of(&mut words)?, answer),
-        "put" => fill(disk, &mut words, alloc, true, answer)?,
-        "write" => fill(disk, &mut words, alloc, false, answer)?,
-        "sync" => answer.done(disk.disk.sync()),
-        "tear" => choose(disk, &mut words, alloc, answer)?,
+        "disk" => tools.answer.done(replace(disk, alloc, words.number()?)),
+        "format" => format_disk(disk, &identity_of(&mut words)?, &mut tools.answer),
         "power-loss" => power_loss(disk, line, tools),
-        _ => look(&mut disk.disk, line, answer)?,
+        _ => touch(disk, line, alloc, &mut tools.answer)?,
     }
     Some(())
+}
+
+/// Writes sectors, or chooses what a power loss leaves in them.
+fn touch(disk: &mut StoryDisk, line: Line<'_>, alloc: Global, answer: &mut Answer) -> Option<()> {
+    let mut words = Words::new(line.act, line.values);
+    match words.take() {
+        "put" => fill(disk, &mut words, alloc, true, answer),
+        "write" => fill(disk, &mut words, alloc, false, answer),
+        "tear" => choose(disk, &mut words, alloc, answer),
+        "sync" => {
+            answer.done(disk.disk.sync());
+            Some(())
+        }
+        _ => look(&mut disk.disk, line, answer),
+    }
 }
 
 /// Tells what stands on the disk.

@@ -89,9 +89,17 @@ impl<'a> Stage<'a> {
         is_done
     }
 
-    /// What is printed of the file.
-    pub fn into_report(self) -> Report<'a> {
-        let Stage { report, .. } = self;
+    /// What is printed of the file, also where the file of its disk gave other octets than the disk in memory.
+    pub fn into_report(self, rt: &impl Print) -> Report<'a> {
+        let Stage {
+            report,
+            controls,
+            ..
+        } = self;
+        let mut report = report;
+        if controls.differs() {
+            report.differ(rt);
+        }
         report
     }
 }

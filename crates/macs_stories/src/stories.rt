@@ -167,6 +167,13 @@ fn play_story(rt: &impl Print, disk: StoryDisk, stage: &mut Stage<'_>) {
     }
 }
 
+/// Plays a story on its disk.
+fn play_on<'a>(rt: &impl Print, disk: StoryDisk, stage: Stage<'a>) -> Report<'a> {
+    let mut stage = stage;
+    play_story(rt, disk, &mut stage);
+    stage.into_report(rt)
+}
+
 /// Plays a story once. The report, unless there was no memory or no file.
 fn play_once<'a>(
     rt: &(impl Print + Files<File = File>),
@@ -181,13 +188,8 @@ fn play_once<'a>(
     let script = Script::new(source.text, block.body, play);
     let mut report = report;
     report.begin_story(rt, block.name);
-    let mut stage = Stage::new(alloc, script, report, controls.clone().ok()?);
-    play_story(rt, disk, &mut stage);
-    let mut report = stage.into_report();
-    if controls.differs() {
-        report.differ(rt);
-    }
-    Some(report)
+    let stage = Stage::new(alloc, script, report, controls);
+    Some(play_on(rt, disk, stage))
 }
 
 /// Plays a story with each of its rows.

@@ -298,28 +298,31 @@ fn tell_sent_frame(wire: &StoryWire, place: u64, answer: &mut Answer) {
     }
 }
 
-/// Does an act with a wire, and answers it; `None` where there is no such act.
-pub fn act(words: Words<'_>, tools: &mut Tools) -> Option<()> {
-    let mut words = words;
-    let act = words.take();
-    let name = name_of(words.take())?;
+/// A new wire, of which these calls fail.
+fn begin(name: Name, words: &mut Words<'_>, tools: &mut Tools) -> Option<()> {
+    let wire = StoryWire::new(tools.alloc, fails_of(words)?);
+    tools.wires.place(name, wire);
+    tools.answer.word("ok");
+    Some(())
+}
+
+fn push(name: Name, words: &mut Words<'_>, tools: &mut Tools) -> Option<()> {
+    let frame = frame_of(&tools.wires, words, tools.alloc)?;
+    let told = tools.wires.wire(name).push(tools.alloc, frame.as_slice());
+    tools.answer.done(told);
+    Some(())
+}
+
+fn send(name: Name, words: &mut Words<'_>, tools: &mut Tools) -> Option<()> {
+    let frame = frame_of(&tools.wires, words, tools.alloc)?;
+    let told = sent_on(tools.wires.wire(name), frame.as_slice());
+    tools.answer.done(told);
+    Some(())
+}
+
+/// Does an act that says no more than its wire; `None` where there is no such act.
+fn handle(act: &str, name: Name, tools: &mut Tools) -> Option<()> {
     match act {
-        "wire" => {
-            let wire = StoryWire::new(tools.alloc, fails_of(&mut words)?);
-            tools.wires.place(name, wire);
-            tools.answer.word("ok");
-        }
-        "push" => {
-            let frame = frame_of(&tools.wires, &mut words, tools.alloc)?;
-            let told = tools.wires.wire(name).push(tools.alloc, frame.as_slice());
-            tools.answer.done(told);
-        }
-        "send" => {
-            let frame = frame_of(&tools.wires, &mut words, tools.alloc)?;
-            tools
-                .answer
-                .done(sent_on(tools.wires.wire(name), frame.as_slice()));
-        }
         "keep" => {
             let could = keep(&mut tools.wires, name, tools.alloc);
             tools.answer.could(could);
@@ -329,9 +332,23 @@ pub fn act(words: Words<'_>, tools: &mut Tools) -> Option<()> {
             tools.wires.wire(name).mend(tools.alloc);
             tools.answer.word("ok");
         }
-        _ => look(act, name, words, tools)?,
+        _ => return None,
     }
     Some(())
+}
+
+/// Does an act with a wire, and answers it; `None` where there is no such act.
+pub fn act(words: Words<'_>, tools: &mut Tools) -> Option<()> {
+    let mut words = words;
+    let act = words.take();
+    let name = name_of(words.take())?;
+    match act {
+        "wire" => begin(name, &mut words, tools),
+        "push" => push(name, &mut words, tools),
+        "send" => send(name, &mut words, tools),
+        "keep" | "take" | "mend" => handle(act, name, tools),
+        _ => look(act, name, words, tools),
+    }
 }
 
 /// Tells what a wire sent: how many frames, their packet numbers, or one by its place from 0 on.
