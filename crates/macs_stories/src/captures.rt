@@ -153,7 +153,7 @@ pub fn act(line: Line<'_>, tools: &mut Tools) -> Option<()> {
 }
 
 /// Which way a capture runs.
-#[derive(Clone, Copy, PartialEq, Eq)]
+#[derive(Clone, Copy)]
 enum Way {
     Protect,
     Validate,

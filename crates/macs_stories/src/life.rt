@@ -18,7 +18,7 @@ pub trait Life: Drop {
 }
 
 /// How a life ends.
-#[derive(Clone, Copy, PartialEq, Eq)]
+#[derive(Clone, Copy)]
 enum End {
     PowerLoss,
     Close,

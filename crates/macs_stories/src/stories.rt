@@ -30,7 +30,7 @@ pub struct Source<'a> {
 }
 
 /// What opens the disk.
-#[derive(Clone, Copy, PartialEq, Eq)]
+#[derive(Clone, Copy)]
 enum Opening {
     Endpoint,
     Store,
