@@ -1,13 +1,11 @@
-//! Command files, good and bad, as they are written by hand; captures that run through an endpoint; wires, and relays between them.
+//! Command files with each wrong value, captures that are cut or fail in mid-stream, want of memory, and wires of the system.
 
 mod captures;
 mod datagrams;
 mod fault_wires;
-mod faults;
 mod hostile_files;
 mod hostile_texts;
 mod memory;
-mod reading;
 mod relaying;
 mod wires;
 

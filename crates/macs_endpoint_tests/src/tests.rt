@@ -1,158 +1,192 @@
-//! Endpoints on disks in memory: what they answer, and what is found after a power loss. Blocks are 4
-//! packet numbers on either side.
+//! Events that are served, by a source and a sink that tell what they have: their clauses are met. What is answered to
+//! events stands in stories, too, whose source and sink do not tell.
 
-mod commands;
-mod compactions;
-mod counting;
-mod formatting;
-mod frames;
-mod orders;
-mod receiving;
-mod sending;
-mod serving;
-mod stepped;
-mod stepped_compactions;
-mod stepped_stops;
-mod stepping;
-mod steps;
-mod stops;
-mod torn;
+ghost use Rattle.std.specs.Prelude.{true};
 
-use macs_config::Identity;
-use macs_disk::{Fuse, MemDisk, SectorDisk};
-use macs_endpoint::{Endpoint, format};
-use macs_frame::{An, Sci};
-use macs_rxsc::{Kind, Reason, Verdict};
-use orders::Channel;
-use orders::Order::{RxAdd, RxInstall, TxInstall, TxUse};
+use macs_config::{Command, Identity};
+use macs_disk::{MemDisk, SectorDisk};
+use macs_endpoint::{
+    Answer, AnswerSink, CommandFault, Endpoint, Event, EventSource, ProtectFault, RefillFault,
+    ServeEnd, Step, StepFault, Stopped, SubmitFault, Ticket, format,
+};
+use macs_frame::{An, FrameBuf, Pn, Sci};
+use macs_rxsc::{Reason, Verdict};
 use std::alloc::Global;
+use std::collections::VecDeque;
 use std::process::Abort;
-use steps::Step::{self, Keeps};
-use steps::{expect, play_last};
 
-/// How many sectors a disk needs.
-const SECTORS: u64 = 1_028;
-
-/// How many calls an opening makes of a disk with a new journal: a sync, the reads of two head gates
-/// and a head body, of 255 gates behind the snapshot and of a body. It reads one more for each record.
-const OPENING: u64 = 1 + 3 + 255 + 1;
-
-/// The end of the packet numbers.
-const END: u64 = 4_294_967_296;
-
-/// The endpoint of most tests.
-const OWN: Sci = Sci([2, 0, 0, 0, 0, 1, 0, 1]);
-
-/// Another channel than the peer's.
-const OTHER: Sci = Sci([9; 8]);
-
-const OK: Verdict = Verdict::Delivered(Kind::Ok);
-
-const LATE: Verdict = Verdict::Discarded(Reason::Late);
-
-const NO_TAG: Verdict = Verdict::Discarded(Reason::NoTag);
-
-const RUNT: Verdict = Verdict::Discarded(Reason::Runt);
-
-fn number_of(rt: &impl Abort, association: u8) -> An {
-    An::new(association).expect(rt, "association number")
+/// Events in their order, and how often one was asked for.
+#[derive(Drop)]
+struct Script {
+    events: VecDeque<Event>,
+    asked: u64,
 }
 
-/// A disk in memory of so many sectors.
-fn blank(rt: &impl Abort, alloc: Global, sectors: u64) -> MemDisk {
-    match MemDisk::new(alloc, sectors) {
-        Ok(disk) => disk,
-        Err(_) => panic!(rt; "no disk"),
+impl EventSource for Script {
+    ghost tells = { λ script. true };
+
+    ghost left = { λ script. script.events.items };
+
+    fn next_event(&mut self) -> Option<Event> {
+        self.asked = self.asked.saturating_add(1);
+        self.events.pop_front()
     }
 }
 
-/// A disk in memory with the journal of a new endpoint.
-fn formatted(rt: &impl Abort, alloc: Global, sci: Sci) -> MemDisk {
-    formatted_with(rt, alloc, sci, 4)
+/// The answers that were given.
+#[derive(Drop)]
+struct Answers<'a, R: Abort> {
+    rt: &'a R,
+    given: Vec<Answer>,
 }
 
-/// A disk in memory with the journal of a new endpoint, whose blocks are of this many packet numbers.
-fn formatted_with(rt: &impl Abort, alloc: Global, sci: Sci, block: u32) -> MemDisk {
-    let identity = Identity::new(sci, block, block).expect(rt, "identity");
-    let mut disk = blank(rt, alloc, SECTORS);
+impl<R: Abort> AnswerSink for Answers<'_, R> {
+    ghost tells = { λ sink. true };
+
+    ghost took = { λ sink. sink.given.items };
+
+    fn put(&mut self, answer: Answer) {
+        self.given.push(answer).expect(self.rt, "memory");
+    }
+}
+
+/// What a step came to, with a ticket's number.
+#[derive(Clone, Copy, PartialEq)]
+enum Came {
+    Idle,
+    Worked,
+    Reserved,
+    Done(u64, Result<(), CommandFault>),
+}
+
+fn told_of(step: Step) -> Came {
+    match step {
+        Step::Idle => Came::Idle,
+        Step::Worked => Came::Worked,
+        Step::Reserved => Came::Reserved,
+        Step::Done(ticket, answer) => Came::Done(ticket.get(), answer),
+    }
+}
+
+/// An answer, with a ticket's number, or the number of octets for a frame's.
+#[derive(Clone, Copy, PartialEq)]
+enum Told {
+    Submitted(Result<u64, SubmitFault>),
+    Stepped(Result<Came, StepFault>),
+    Protected(Result<u32, ProtectFault>, usize),
+    Received(Result<Verdict, Stopped>, usize),
+    Ran(Result<(), CommandFault>),
+    Refilled(Result<(), RefillFault>),
+}
+
+fn told_by(answer: &Answer) -> Told {
+    match answer {
+        Answer::Submitted(result) => Told::Submitted(result.map(Ticket::get)),
+        Answer::Stepped(result) => Told::Stepped(result.map(told_of)),
+        Answer::Protected(result, out) => Told::Protected(result.map(Pn::get), out.len()),
+        Answer::Received(result, out) => Told::Received(*result, out.len()),
+        Answer::Ran(result) => Told::Ran(*result),
+        Answer::Refilled(result) => Told::Refilled(*result),
+    }
+}
+
+fn add(rt: &impl Abort, events: &mut VecDeque<Event>, event: Event) {
+    events.push_back(event).expect(rt, "memory");
+}
+
+/// A plain frame of 62 octets.
+fn plain(rt: &impl Abort) -> FrameBuf {
+    let mut frame = FrameBuf::new();
+    frame.try_extend_from_slice(&[7; 62]).expect(rt, "room");
+    frame
+}
+
+fn install(an: An) -> Command {
+    Command::TxInstall {
+        an,
+        key: [1; 16],
+        start: 1,
+        confidential: true,
+        offset: 0,
+    }
+}
+
+/// An install and its use, which are kept; a frame that goes out, one that comes and has no SecTAG, and
+/// work.
+fn some_events(rt: &impl Abort, alloc: Global) -> Script {
+    let an = An::new(0).expect(rt, "association number");
+    let mut events = VecDeque::new(alloc);
+    add(rt, &mut events, Event::Operator(install(an)));
+    add(rt, &mut events, Event::Operator(Command::TxUse { an }));
+    for _ in 0..8 {
+        add(rt, &mut events, Event::Work);
+    }
+    add(rt, &mut events, Event::Controlled(plain(rt)));
+    add(rt, &mut events, Event::Common(plain(rt)));
+    add(rt, &mut events, Event::Work);
+    Script { events, asked: 0 }
+}
+
+/// A device call is made, and the work goes on.
+const WORKED: Told = Told::Stepped(Ok(Came::Worked));
+
+/// What is answered to them: a frame is longer by a SecTAG of 16 octets and an ICV of 16.
+const EXPECTED: [Told; 13] = [
+    Told::Submitted(Ok(1)),
+    Told::Submitted(Ok(2)),
+    WORKED,
+    WORKED,
+    WORKED,
+    Told::Stepped(Ok(Came::Done(1, Ok(())))),
+    WORKED,
+    WORKED,
+    WORKED,
+    Told::Stepped(Ok(Came::Done(2, Ok(())))),
+    Told::Protected(Ok(1), 94),
+    Told::Received(Ok(Verdict::Discarded(Reason::NoTag)), 0),
+    Told::Stepped(Ok(Came::Idle)),
+];
+
+/// A new endpoint on a disk in memory.
+fn made(rt: &impl Abort, alloc: Global) -> Endpoint<MemDisk> {
+    let identity = Identity::new(Sci([2, 0, 0, 0, 0, 1, 0, 1]), 4, 4).expect(rt, "identity");
+    let mut disk = match MemDisk::new(alloc, 1_028) {
+        Ok(disk) => disk,
+        Err(_) => panic!(rt; "no disk"),
+    };
     assert!(rt; format(&mut disk, &identity).is_ok());
-    disk
-}
-
-/// The endpoint of a disk.
-fn opened<D: SectorDisk + Drop>(rt: &impl Abort, disk: D) -> Endpoint<D> {
     match Endpoint::open(disk) {
         Ok(endpoint) => endpoint,
         Err(_) => panic!(rt; "not opened"),
     }
 }
 
-/// A new endpoint.
-fn made(rt: &impl Abort, alloc: Global, sci: Sci) -> Endpoint<MemDisk> {
-    opened(rt, formatted(rt, alloc, sci))
+/// Serves events in so many turns.
+fn serve<D: SectorDisk, R: Abort>(
+    endpoint: &mut Endpoint<D>,
+    source: &mut Script,
+    sink: &mut Answers<'_, R>,
+    turns: u64,
+) -> ServeEnd {
+    endpoint.serve(source, sink, turns)
 }
 
-/// A new endpoint whose blocks are of this many packet numbers.
-fn made_with(rt: &impl Abort, alloc: Global, sci: Sci, block: u32) -> Endpoint<MemDisk> {
-    opened(rt, formatted_with(rt, alloc, sci, block))
+fn expect_told<R: Abort>(sink: &Answers<'_, R>) {
+    assert!(sink.rt; sink.given.len() == EXPECTED.len());
+    for (answer, told) in sink.given.iter().zip(&EXPECTED) {
+        assert!(sink.rt; told_by(answer) == *told);
+    }
 }
 
-/// Takes these steps with a new endpoint.
-fn play_new(rt: &impl Abort, alloc: Global, sci: Sci, steps: &[Step]) {
-    play_last(rt, made(rt, alloc, sci), steps);
-}
-
-/// An endpoint whose frames go out under association 0, from a first packet number on.
-fn sender(rt: &impl Abort, alloc: Global, start: u32) -> Endpoint<MemDisk> {
-    let mut endpoint = made(rt, alloc, OWN);
-    use_association(rt, &mut endpoint, start);
-    endpoint
-}
-
-/// An endpoint whose frames go out under association 0, from packet number 1 on, in blocks of this many.
-fn wide_sender(rt: &impl Abort, alloc: Global, block: u32) -> Endpoint<MemDisk> {
-    let mut endpoint = made_with(rt, alloc, OWN, block);
-    use_association(rt, &mut endpoint, 1);
-    endpoint
-}
-
-/// Has the frames of an endpoint go out under association 0, from a first packet number on.
-fn use_association(rt: &impl Abort, endpoint: &mut Endpoint<MemDisk>, start: u32) {
-    expect(rt, endpoint, Keeps(TxInstall(0, 1, start)));
-    expect(rt, endpoint, Keeps(TxUse(0)));
-}
-
-/// Gives an endpoint a channel and its association 2, from packet number 1 on.
-fn add_channel(rt: &impl Abort, endpoint: &mut Endpoint<MemDisk>, channel: Channel) {
-    expect(rt, endpoint, Keeps(RxAdd(channel)));
-    expect(rt, endpoint, Keeps(RxInstall(channel, 2, 1)));
-}
-
-/// An endpoint with the peer's channel and its association 2, from packet number 1 on.
-fn receiver(rt: &impl Abort, alloc: Global) -> Endpoint<MemDisk> {
-    let mut endpoint = made(rt, alloc, OWN);
-    add_channel(rt, &mut endpoint, Channel::Peer);
-    endpoint
-}
-
-/// The endpoint of a disk after a power loss.
-fn crashed(rt: &impl Abort, disk: MemDisk) -> Endpoint<MemDisk> {
-    let mut disk = disk;
-    disk.crash();
-    opened(rt, disk)
-}
-
-/// The endpoint after a power loss.
-fn reopened(rt: &impl Abort, endpoint: Endpoint<MemDisk>) -> Endpoint<MemDisk> {
-    crashed(rt, endpoint.into_disk())
-}
-
-/// A disk behind a fuse that passes the calls of an opening and so many.
-fn fuse(disk: MemDisk, calls: u64) -> Fuse<MemDisk> {
-    Fuse::new(disk, OPENING.saturating_add(calls))
-}
-
-/// The disk behind the fuse.
-fn unfused(endpoint: Endpoint<Fuse<MemDisk>>) -> MemDisk {
-    endpoint.into_disk().into_inner()
+#[test]
+fn a_source_ends(rt: HostRuntime) {
+    let mut endpoint = made(&rt, rt.alloc());
+    let mut source = some_events(&rt, rt.alloc());
+    let mut sink = Answers {
+        rt: &rt,
+        given: Vec::new(rt.alloc()),
+    };
+    assert!(rt; serve(&mut endpoint, &mut source, &mut sink, 20) == ServeEnd::Ended);
+    assert!(rt; source.asked == 14);
+    expect_told(&sink);
 }

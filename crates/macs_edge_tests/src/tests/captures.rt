@@ -4,7 +4,6 @@
 mod faults;
 mod frames;
 mod memory;
-mod stops;
 
 use macs_config::{Command, Identity};
 use macs_disk::{MemDisk, SectorDisk};
@@ -36,7 +35,7 @@ const PEER: Sci = Sci([0x12, 0x15, 0x35, 0x24, 0xc0, 0x89, 0x5e, 0x81]);
 const PEER_KEY: u128 = 0xad7a_2bd0_3eac_835a_6f62_0fdc_b506_b345;
 
 /// The published frame (IEEE Std 802.1AE-2018, Annex C) with integrity protection, number b2c28465.
-pub(super) const SEALED: [u8; 86] = *b"\xd6\x09\xb1\xf0\x56\x63\x7a\x0d\x46\xdf\x99\x8d\
+const SEALED: [u8; 86] = *b"\xd6\x09\xb1\xf0\x56\x63\x7a\x0d\x46\xdf\x99\x8d\
 \x88\xe5\x22\x2a\xb2\xc2\x84\x65\x12\x15\x35\x24\xc0\x89\x5e\x81\
 \x08\x00\x0f\x10\x11\x12\x13\x14\x15\x16\x17\x18\x19\x1a\x1b\x1c\x1d\x1e\x1f\x20\x21\x22\x23\x24\x25\x26\x27\x28\x29\x2a\x2b\x2c\x2d\x2e\x2f\x30\x31\x32\x33\x34\x00\x01\
 \xf0\x94\x78\xa9\xb0\x90\x07\xd0\x6f\x46\xe9\xb6\xa1\xda\x25\xdd";
@@ -190,15 +189,6 @@ fn plain_capture(alloc: Global, sizes: [usize; 10]) -> Result<Vec<u8>, Fail> {
     Ok(octets)
 }
 
-/// A capture of the published frame so many times.
-fn published_capture(alloc: Global, times: u32) -> Result<Vec<u8>, Fail> {
-    let mut octets = Vec::from_slice(alloc, &HEADER)?;
-    for place in 0..times {
-        push_frame(&mut octets, place, &SEALED)?;
-    }
-    Ok(octets)
-}
-
 pub(super) fn number_of(rt: &impl Abort, association: u8) -> An {
     An::new(association).expect(rt, "association number")
 }
@@ -214,7 +204,7 @@ pub(super) fn formatted(rt: &impl Abort, alloc: Global, sci: Sci, block: u32) ->
     disk
 }
 
-pub(super) fn opened<D: SectorDisk + Drop>(rt: &impl Abort, disk: D) -> Endpoint<D> {
+fn opened<D: SectorDisk + Drop>(rt: &impl Abort, disk: D) -> Endpoint<D> {
     match Endpoint::open(disk) {
         Ok(endpoint) => endpoint,
         Err(_) => panic!(rt; "not opened"),
@@ -255,7 +245,7 @@ fn sender(rt: &impl Abort, alloc: Global) -> Endpoint<MemDisk> {
 }
 
 /// The endpoint of a disk, receiving under the peer's association 2 from packet number 1 on.
-pub(super) fn receiving<D: SectorDisk + Drop>(rt: &impl Abort, disk: D) -> Endpoint<D> {
+fn receiving<D: SectorDisk + Drop>(rt: &impl Abort, disk: D) -> Endpoint<D> {
     let mut endpoint = opened(rt, disk);
     let install = Command::RxInstall {
         sci: PEER,

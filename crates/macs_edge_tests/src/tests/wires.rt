@@ -54,40 +54,6 @@ fn was_sent<A: Allocator + Copy>(
     }
 }
 
-/// Pushes and sends a frame.
-fn put(rt: &impl Abort, alloc: Global, wire: &mut MemWire<Global>, octets: usize, octet: u8) {
-    let frame = filled(rt, alloc, octets, octet);
-    assert!(rt; push(wire, &frame) == Ok(()));
-    assert!(rt; send(wire, &frame) == Ok(()));
-}
-
-/// Receives a frame, or learns that it is too long.
-fn take(rt: &impl Abort, wire: &mut MemWire<Global>, octets: usize, answer: Got, octet: u8) {
-    let mut got = FrameBuf::new();
-    assert!(rt; receive(wire, &mut got) == Ok(answer));
-    let given = if answer == Got::Frame { octets } else { 0 };
-    assert!(rt; is_filled(&got, given, octet));
-}
-
-/// Frames of each length, pushed and sent by turns.
-#[test]
-fn frames_keep_their_order(rt: HostRuntime) {
-    let mut wire = MemWire::new(rt.alloc());
-    let mut octet = 0_u8;
-    for (octets, _) in FRAMES {
-        put(&rt, rt.alloc(), &mut wire, octets, octet);
-        octet = octet.wrapping_add(1);
-    }
-    octet = 0;
-    for (octets, answer) in FRAMES {
-        take(&rt, &mut wire, octets, answer, octet);
-        assert!(rt; was_sent(&wire, usize::from(octet), octets, octet));
-        octet = octet.wrapping_add(1);
-    }
-    take(&rt, &mut wire, 0, Got::Nothing, 0);
-    assert!(rt; wire.sent().len() == FRAMES.len());
-}
-
 /// A thousand frames that wait, each of which is sent as it is received.
 #[test]
 fn a_burst_is_handed_on(rt: HostRuntime) {

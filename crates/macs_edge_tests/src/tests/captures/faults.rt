@@ -1,10 +1,7 @@
-//! Captures with a fault, and reads and writes that fail.
+//! Captures that are cut, and reads and writes that fail.
 
 use super::frames::published_sender;
-use super::{
-    HEADER, PLAIN, SEALED, WRITTEN, Way, push_frame, push_record, receiver, run_in, run_whole,
-    sender, summary,
-};
+use super::{HEADER, PLAIN, SEALED, WRITTEN, Way, push_frame, receiver, run_in, summary};
 use macs_disk::MemDisk;
 use macs_edge::{RunFault, Summary};
 use macs_endpoint::Endpoint;
@@ -15,81 +12,6 @@ use std::test::Fail;
 
 fn fault(fault: PcapFault) -> Result<Summary, RunFault> {
     Err(RunFault::Pcap(fault))
-}
-
-/// A header with this magic, and behind it one record: its lengths, and how many octets of its frame stand.
-fn capture(alloc: Global, magic: u32, record: Option<(u32, u32, usize)>) -> Result<Vec<u8>, Fail> {
-    let (_, behind) = HEADER.split_at(4);
-    let mut octets = Vec::from_slice(alloc, &magic.to_be_bytes())?;
-    octets.extend_from_slice(behind)?;
-    if let Some((kept, original, stand)) = record {
-        push_record(&mut octets, 3, kept, original)?;
-        let end = octets.len().saturating_add(stand);
-        octets.resize(end, 5)?;
-    }
-    Ok(octets)
-}
-
-const MAGIC: u32 = 0xa1b2_3c4d;
-
-/// A capture, its fault, and how much of the header is written.
-const FAULTS: [(u32, Option<(u32, u32, usize)>, PcapFault, usize); 6] = [
-    (0xa1b2_3c4e, None, PcapFault::BadMagic, 0),
-    (0xa1b2_3c4e, Some((60, 60, 60)), PcapFault::BadMagic, 0),
-    (MAGIC, Some((60, 60, 59)), PcapFault::CutFile, 24),
-    (MAGIC, Some((60, 64, 60)), PcapFault::CutRecord, 24),
-    (
-        MAGIC,
-        Some((262_145, 262_145, 60)),
-        PcapFault::RecordTooLong,
-        24,
-    ),
-    (
-        MAGIC,
-        Some((262_145, 262_146, 60)),
-        PcapFault::RecordTooLong,
-        24,
-    ),
-];
-
-/// The header is written once it was read.
-#[test]
-fn the_first_fault_ends_a_run(rt: HostRuntime) -> Result<(), Fail> {
-    let mut endpoint = sender(&rt, rt.alloc());
-    for (magic, record, first, size) in FAULTS {
-        let octets = capture(rt.alloc(), magic, record)?;
-        let (wanted, _) = WRITTEN.split_at(size);
-        for way in [Way::Protect, Way::Validate] {
-            let (answer, written) = run_whole(rt.alloc(), &mut endpoint, way, octets.as_slice());
-            assert!(rt; answer == fault(first));
-            assert!(rt; written.as_slice() == wanted);
-        }
-    }
-    Ok(())
-}
-
-/// A header alone, a frame without octets, and one that is longer than it says it was.
-const SOUND: [(Option<(u32, u32, usize)>, u64, u64, usize); 3] = [
-    (None, 0, 0, 24),
-    (Some((0, 0, 0)), 0, 1, 24),
-    (Some((60, 59, 60)), 1, 0, 132),
-];
-
-#[test]
-fn sound_captures_end(rt: HostRuntime) -> Result<(), Fail> {
-    let mut endpoint = sender(&rt, rt.alloc());
-    for (record, passed, dropped, size) in SOUND {
-        let octets = capture(rt.alloc(), MAGIC, record)?;
-        let (answer, written) = run_whole(
-            rt.alloc(),
-            &mut endpoint,
-            Way::Protect,
-            octets.as_slice(),
-        );
-        assert!(rt; answer == summary(passed, dropped));
-        assert!(rt; written.len() == size && written.as_slice().starts_with(&WRITTEN));
-    }
-    Ok(())
 }
 
 /// Which way a published frame runs, how many octets its capture has, and that of the frame that goes out for it.

@@ -1,9 +1,8 @@
 //! Frames that pass, and frames that are left out.
 
 use super::{
-    HEADER, OWN, PEER, PEER_KEY, PLAIN, SEALED, WRITTEN, Way, command, formatted, next_number,
-    number_of, opened, plain, plain_capture, protect, published_capture, push_frame, receiver,
-    run_whole, sender, sending, summary,
+    OWN, PEER, PEER_KEY, WRITTEN, Way, command, formatted, next_number, number_of, opened, plain,
+    plain_capture, protect, push_frame, run_whole, sender, sending, summary,
 };
 use macs_config::Command;
 use macs_disk::MemDisk;
@@ -84,60 +83,4 @@ pub(super) fn published_sender(rt: &impl Abort, alloc: Global) -> Endpoint<MemDi
     command(rt, &mut endpoint, install);
     command(rt, &mut endpoint, Command::TxUse { an });
     endpoint
-}
-
-/// The plain frame goes out as the published one.
-#[test]
-fn the_published_frame_goes_out(rt: HostRuntime) -> Result<(), Fail> {
-    let mut endpoint = published_sender(&rt, rt.alloc());
-    let mut octets = Vec::from_slice(rt.alloc(), &HEADER)?;
-    push_frame(&mut octets, 9, &PLAIN)?;
-    let mut wanted = Vec::from_slice(rt.alloc(), &WRITTEN)?;
-    push_frame(&mut wanted, 9, &SEALED)?;
-    let (answer, written) = run_whole(rt.alloc(), &mut endpoint, Way::Protect, octets.as_slice());
-    assert!(rt; answer == summary(1, 0));
-    assert!(rt; written.as_slice() == wanted.as_slice());
-    Ok(())
-}
-
-/// The published frame so many times, and then with its last octet changed.
-fn received_capture(alloc: Global, times: u32, is_broken: bool) -> Result<Vec<u8>, Fail> {
-    if !is_broken {
-        return published_capture(alloc, times);
-    }
-    let mut octets = published_capture(alloc, times.wrapping_add(1))?;
-    octets.pop();
-    octets.push(0)?;
-    Ok(octets)
-}
-
-/// How many times the published frame comes, whether a broken one comes behind it, how many pass and how
-/// many are left out. Its number is far above what is reserved at first, so that it is held back; the second
-/// time it comes late.
-const RECEIVED: [(u32, bool, u64, u64); 4] = [
-    (0, true, 0, 1),
-    (1, false, 1, 0),
-    (2, false, 1, 1),
-    (3, true, 1, 3),
-];
-
-#[test]
-fn frames_are_received(rt: HostRuntime) -> Result<(), Fail> {
-    for (times, is_broken, passed, dropped) in RECEIVED {
-        let octets = received_capture(rt.alloc(), times, is_broken)?;
-        let mut wanted = Vec::from_slice(rt.alloc(), &WRITTEN)?;
-        if passed == 1 {
-            push_frame(&mut wanted, 0, &PLAIN)?;
-        }
-        let mut endpoint = receiver(&rt, rt.alloc());
-        let (answer, written) = run_whole(
-            rt.alloc(),
-            &mut endpoint,
-            Way::Validate,
-            octets.as_slice(),
-        );
-        assert!(rt; answer == summary(passed, dropped));
-        assert!(rt; written.as_slice() == wanted.as_slice());
-    }
-    Ok(())
 }
