@@ -7,11 +7,13 @@ mod cutting;
 mod disks;
 mod failed_syncs;
 mod frames;
+mod heads;
 mod judging;
 mod kernel_files;
 mod known;
 mod life;
 mod script;
+mod serving;
 mod stops;
 mod tearing;
 

@@ -57,9 +57,9 @@ enum Behind {
     Plays,
 }
 
-/// The syncs of a run without a failure on a packed disk: two of a new disk, two of a format, whose first leaves the
-/// file alone, and one of an opening; and two for each of eight commands and nine ceilings that are kept.
-const SYNCS: u64 = 2 + 2 + 1 + 2 * (8 + 9);
+/// The syncs of a run without a failure: three of a new disk, two of a format, whose first leaves the file alone, and
+/// one of an opening; and two for each of eight commands and nine ceilings that are kept.
+const SYNCS: u64 = 3 + 2 + 1 + 2 * (8 + 9);
 
 /// More syncs than any run has.
 const MOST_SYNCS: u64 = 200;
@@ -263,8 +263,7 @@ fn all_is_played_behind_a_failed_sync_of_a_program_that_ends(rt: HostRuntime) {
     fail_packed(&rt, rt.alloc(), Going::Ends, Behind::Plays);
 }
 
-/// Each sync of a spaced disk fails in turn, and then a power loss spoils whole blocks. A new disk has a sync more
-/// than a packed one: behind its mark.
+/// Each sync of a spaced disk fails in turn, and then a power loss spoils whole blocks.
 fn fail_spaced(rt: &impl Abort, alloc: Global, going: Going, behind: Behind) {
     let run = Run {
         ground: Ground::Spaced,
@@ -274,7 +273,7 @@ fn fail_spaced(rt: &impl Abort, alloc: Global, going: Going, behind: Behind) {
         behind,
         left: Left::Zeros,
     };
-    assert!(rt; fail_each(rt, alloc, run) == SYNCS + 1);
+    assert!(rt; fail_each(rt, alloc, run) == SYNCS);
 }
 
 #[test]

@@ -61,10 +61,11 @@ pub(super) fn fail_sync(rt: &impl Abort, kernel: &Kernel, failing: u64, reached:
 }
 
 fn make<'a>(kernel: &'a Kernel, ground: Ground) -> Result<Disk<'a>, FileFault> {
-    match ground {
-        Ground::Packed => FileDisk::over(OpenMemFile::new(kernel), SECTORS),
-        Ground::Spaced => FileDisk::blank(OpenMemFile::new(kernel), Layout::Spaced),
-    }
+    let layout = match ground {
+        Ground::Packed => Layout::Packed,
+        Ground::Spaced => Layout::Spaced,
+    };
+    FileDisk::blank(OpenMemFile::new(kernel), layout)
 }
 
 /// A new disk. Where a sync fails, the next program makes it.

@@ -1,5 +1,0 @@
-//! Tests of the endpoint on disks in memory, through its public calls.
-#![tactic(auto)]
-
-#[cfg(test)]
-mod tests;
