@@ -144,6 +144,8 @@ def slips():
             yield ["validate", name, CAPTURE, "out"], None, None, printed
             yield ["relay", name, *WIRES], None, None, printed
     yield ["format", EMPTY, SCI, BLOCK, BLOCK], None, None, EMPTY
+    yield ["protect", DISK, CAPTURE, "out"], None, None, "out"
+    yield ["validate", DISK, CAPTURE, "out"], None, None, "out"
 
 
 def may_change(words, own, printed):

@@ -13,6 +13,7 @@ use Rattle.macs_program.specs.Addresses.{AddressFaultHolds, SpellsBoth}
 use Rattle.macs_program.specs.Answer.{Answers, answer_status, answer_text}
 use Rattle.macs_program.specs.Applying.{outcome_lines, outcomes_status}
 use Rattle.macs_words.specs.Help.{topic_text}
+use Rattle.macs_program.specs.NewDisks.{Formats}
 use Rattle.macs_program.specs.Relaying.{ComesTo}
 use Rattle.macs_program.specs.Showing.{line, show_text}
 use Rattle.macs_program.specs.Summing.{relay_line, summary_line}
@@ -39,7 +40,7 @@ abbrev pub Does : {F : Type 0} → (F → FileState) → Action → Option (List
 Does state_of Open input before after status = IfSome input (λ octets. Prints octets before after status)
 Does state_of (Format disk sci tx_block rx_block block is_over) input before after status =
     (identity : Identity) × SpellsIdentity sci.now tx_block rx_block identity
-    × (layout : Layout) × SpellsLayout (option_map (λ text. text.now) block) layout
+    × (layout : Layout) × SpellsLayout (option_map (λ text. text.now) block) layout × Formats state_of layout identity
     × Appends before after (line (codes "formatted")) × (status ≡ ends.Done)
 Does state_of (Apply disk file) input before after status =
     (outcomes : List (Option Refusal)) × Appends before after (outcome_lines 1 outcomes) × (status ≡ outcomes_status outcomes)

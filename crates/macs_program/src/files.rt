@@ -197,13 +197,17 @@ fn cut_output<F: CaptureFile>(file: &mut F) -> io::Result<()>
 }
 
 /// Opens a file to write it as a capture, or makes it. A regular file is claimed and looked at
-/// before it is cut to nothing.
+/// before it is cut to nothing. An error where standard output goes to it: the line of the run would be
+/// written over the capture.
 fn open_sink<T: Files>(rt: &T, path: &str) -> io::Result<T::File>
 where
     T::File: CaptureFile,
 {
     let mut file = open_output(rt, path)?;
     if file.metadata()?.is_file() {
+        if is_printed_to(rt, path) {
+            return Err(io::Error::from(io::ErrorKind::AlreadyExists));
+        }
         cut_output(&mut file)?;
     }
     Ok(file)
@@ -229,7 +233,7 @@ where
 
 /// A capture that is written to a file, which is made, or cut to nothing. It fails as `Memory`
 /// where memory is wanting, the system's or the program's, and else as `Capture`, where the file
-/// cannot be made, is another file of the run, holds an endpoint, or has octets and cannot be read:
+/// cannot be made, is another file of the run, holds an endpoint, or has a sector and cannot be read:
 /// then it is left as it is.
 pub fn make_capture<T: Files>(
     rt: &T,

@@ -1,10 +1,10 @@
 //! How the file of a new endpoint is made.
 
 ghost use Rattle.std.specs.Prelude.{◌≡◌, ◌⊎◌, ◌<◌, ◌*◌, ◌^◌, None, Some, IfErr, IfOk, IsErrOf, OnOk};
-ghost use Rattle.macs_disk.specs.FileDisks.{IsBlank, disk_in_file, file_left};
+ghost use Rattle.macs_disk.specs.FileDisks.{IsBlank, disk_in_file, file_given, file_left};
 ghost use Rattle.macs_disk.specs.Files.{Behaves, IsSure};
 ghost use Rattle.macs_journal.specs.declared.fault.JournalFault.TheVariants as journal;
-ghost use Rattle.macs_program.specs.NewDisks.{IsFree, Permits, refusal_of};
+ghost use Rattle.macs_program.specs.NewDisks.{Formats, IsFree, Permits, refusal_of};
 ghost use Rattle.macs_program.specs.declared.failure.DiskFault.{DiskFault};
 ghost use Rattle.macs_program.specs.declared.failure.DiskFault.TheVariants as disk;
 
@@ -81,6 +81,7 @@ fn admit<F: DiskFile>(file: &mut F, sectors: u64, is_over: bool) -> Result<(), F
 /// it fails as `File` where there is no room. Want of the system's memory is `Memory`.
 fn blank_disk<F: DiskFile>(file: F, how: NewFile) -> Result<FileDisk<F>, Failure>
     ensures free { Behaves (F.file file) → OnOk result (IsFree how.is_over (F.file file)) }
+    ensures given { IfOk result (λ it. file_given it ≡ file) }
     ensures blank { Behaves (F.file file) → IfOk result (λ it.
         IsBlank (F.file file) (F.file (file_left it)) how.layout (disk_in_file F.file it)) }
     ensures failed { IfErr result (λ failure. (failure ≡ Failure.Memory)
@@ -100,9 +101,9 @@ fn sync_name<T: Files>(rt: &T, alloc: Global, path: &str) -> io::Result<()> {
 
 /// Makes the disk in a file that of a new endpoint. Where there is no file it is made, and a short
 /// one is lengthened; its name is made durable before the journal is written. It fails as `Memory`,
-/// or as `Disk` with the first fault: `File` where there is no regular file, or standard output goes there; then as a blank disk
-/// is not to be had; `File` where the folder that holds the file cannot be synced; then the fault
-/// of the journal.
+/// or as `Disk` with the first fault: `File` where there is no regular file, or standard output
+/// goes there; then as a blank disk is not to be had; `File` where the folder that holds the file
+/// cannot be synced; then the fault of the journal.
 pub fn format_disk<T: Files>(
     rt: &T,
     alloc: Global,
@@ -112,7 +113,8 @@ pub fn format_disk<T: Files>(
 ) -> Result<(), Failure>
 where
     T::File: DiskFile,
-    ensures { IfErr result (λ failure. (failure ≡ Failure.Memory)
+    ensures formats { OnOk result (Formats T.File.file how.layout identity.now) }
+    ensures failed { IfErr result (λ failure. (failure ≡ Failure.Memory)
         ⊎ ((fault : DiskFault) × (failure ≡ Failure.Disk fault))) }
 {
     let file = match open_file(rt, path) {

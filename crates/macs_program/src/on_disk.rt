@@ -12,6 +12,7 @@ ghost use Rattle.macs_frame.specs.First.{IsFirst};
 ghost use Rattle.macs_program.specs.Addresses.{AddressFaultHolds, SpellsBoth, address_faults};
 ghost use Rattle.macs_program.specs.Applying.{outcome_lines, outcomes_status};
 ghost use Rattle.macs_program.specs.Failing.{failure_status};
+ghost use Rattle.macs_program.specs.NewDisks.{Formats};
 ghost use Rattle.macs_program.specs.Relaying.{ComesTo, IsAfterAddresses, IsOfRelay, Relays};
 ghost use Rattle.macs_program.specs.Showing.{line, show_text};
 ghost use Rattle.macs_program.specs.Summing.{relay_line, summary_line};
@@ -55,6 +56,7 @@ where
     T::File: DiskFile,
     ensures printed { IfOk result (λ status. (identity : Identity) × SpellsIdentity sci.now tx_block rx_block identity
         × (layout : Layout) × SpellsLayout (option_map (λ text. text.now) block.entry) layout
+        × Formats T.File.file layout identity
         × Appends (W.contents out.old) (W.contents out.new) (line (codes "formatted")) × (status ≡ Status.Done)) }
     ensures usage { IfErr result (λ failure. failure_status failure ≡ Status.Usage → ((fault : ValueFault)
         × ValueFaultHolds sci.now tx_block rx_block (option_map (λ text. text.now) block.entry) fault) × (out.new ≡ out.old)) }
