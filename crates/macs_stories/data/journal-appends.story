@@ -130,6 +130,16 @@ use found
 snapshot = 1
 records = settings
 
+# No call comes behind one that fails: a recovery that fails behind so many makes one more.
+story a recovery ends at the call that fails
+with calls=0..4
+with calls=258..259
+use new
+calls = 264
+fail $calls
+open-journal = Disk
+calls = 1+$calls
+
 story an append writes its body and an open gate
 with calls=4 first=ok second=Disk third=Stopped
 use new

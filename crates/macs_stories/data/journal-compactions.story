@@ -233,3 +233,15 @@ close
 use found
 snapshot = 1
 records = settings 1 2 3
+
+# A journal that stopped answers so, though its generation is the last.
+story a stopped journal of the last generation is stopped
+write 0 head 18446744073709551615 1 12153524c0895e81 4 4
+write 1 gate
+write 2 record settings
+sync
+fail 260 on
+open-journal
+append set-replay on 1 = Disk
+stopped = yes
+compact set-replay on 7 = Stopped

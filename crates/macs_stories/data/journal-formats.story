@@ -48,3 +48,12 @@ open-journal
 identity = 12153524c0895e81 4 4
 snapshot = 1
 records = settings
+
+# The gates behind that of the head are in sectors 3, 5 to 513: the format closes each.
+story a format closes all gates that read open
+each 1 256 write 1+2*$ gate
+format 12153524c0895e81 4 4
+each 1 256 sector 1+2*$ = -
+open-journal
+snapshot = 1
+records = settings

@@ -64,6 +64,23 @@ channel 12153524c0895e81 = yes
 rx-ceiling 12153524c0895e81 0 = none
 rx-install 12153524c0895e81 0 03030303030303030303030303030303 9 = refused KeySpent
 
+# A channel that comes or goes leaves the ceilings of another: 9 is the start of its association.
+story a channel keeps its ceilings beside another
+with loss=last
+with loss=durable
+use new
+open-store
+rx-add 12153524c0895e81
+rx-install 12153524c0895e81 0 03030303030303030303030303030303 9
+rx-add b
+rx-ceiling 12153524c0895e81 0 = 9
+rx-ceiling b 0 = none
+rx-drop b
+rx-ceiling 12153524c0895e81 0 = 9
+power-loss $loss
+open-store
+rx-ceiling 12153524c0895e81 0 = 9
+
 # The device passes the calls of the opening, and no further one: at that the store stops.
 story a refused command makes no call
 use new
