@@ -3,7 +3,7 @@
 
     tools/slips.py PROGRAM
 
-PROGRAM is the built program, or a command that runs it. Each slip is a run in a folder of its own, which has an endpoint
+PROGRAM is the absolute path of the built program, or a command that runs it. Each slip is a run in a folder of its own, which has an endpoint
 that sends, one that another run has in use, one that nobody has, one in a spaced file, a command file, a capture, an image of
 other octets, an empty file, a folder, a symbolic link and a hard link to the endpoint that sends. A line for each slip has its words, its status, what it
 said, and which files were changed, made or removed. The last line is 'N slips, M wrong'. Wrong is a slip after which a file differs
