@@ -5,7 +5,7 @@
 
 FOLDER, where the captures and the disk file are made, should be on a real disk; it is the system's folder for temporary files unless
 one is named. FRAMES is 100,000, ROUNDS 10: more of them where other work on the machine disturbs. Frames have 1,500 octets, blocks 65,536 packet numbers. Both programs are built for one level of
-processors, x86-64-v3 unless MACSECD_CPU names another, and run in turn in each round; times are of the processor (user and system). The ratio is told three times: of the two least times, of the two
+processors, x86-64-v3 unless MACSECD_CPU names another, and run in turn in each round; times are of the processor (user and system). The ratio is given three times: of the two least times, of the two
 tenths (a tenth of the runs took less), and as the median of the rounds' own ratios.
 Each run writes a new file: to give back the pages of an old one would be counted too. strace, where there is one, counts the calls of one more run.
 """

@@ -2,8 +2,8 @@
 # What `macsecd`, `tools/prove`, `tools/build_unproved` and `.ci/run` have in common. Each reads it with `top` set to the
 # repository's folder.
 #
-# A built program stands in out/LEVEL, named after its level of processors; one that is not proved in out/LEVEL/unproved. Beside it
-# stands `sources`, the checksum of all that it was built from. `out` lies at the top, since the gate clears that of each crate.
+# A built program is in out/LEVEL, named after its level of processors; one that is not proved is in out/LEVEL/unproved. Beside it is
+# `sources`, the checksum of all that it was built from. `out` is at the top, since the gate clears that of each crate.
 
 # The level of processors that this machine belongs to: x86-64-v3 where that serves, else the toolchain's default.
 processor() {
@@ -16,7 +16,7 @@ processor() {
     echo x86-64-v3
 }
 
-# The crates that the program stands on, and it, lowest first.
+# The crates that the program needs, and it, lowest first.
 crates() {
     awk -F: '
         { sub(/#.*/, "") }

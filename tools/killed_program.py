@@ -9,7 +9,7 @@ whole: which system calls it makes on its disk file, and the octets that it writ
 
 A kill alone loses nothing, since the operating system keeps what was written. So the power loss is made by hand: a sector that was written and not synced is left
 with one of six contents: the octets of the last sync, the last write, zeros, ones, an open gate, or the first half of the last write and the octets of the last
-sync behind it. The same is left in each such sector; where there are two, each pair.
+sync after it. The same is left in each such sector; where there are two, each pair.
 
 What is asserted of what `show` finds then:
   format   an endpoint as it was asked for, or none; then `format` makes one without `--over`, unless a sector was left that no `format` wrote;
@@ -59,7 +59,7 @@ window = 7
 
 
 def program():
-    """The proved program's path, of which the script that builds it tells behind its sum."""
+    """The proved program's path, which the script that builds it prints after its sum."""
     cpu = os.environ.get("MACSECD_CPU")
     told = subprocess.run([PROVE, *([cpu] if cpu else [])], check=True, stdout=subprocess.PIPE, text=True).stdout
     return os.path.join(TOP, told.split()[-1])
@@ -166,7 +166,7 @@ def show(macsecd, disk):
 
 
 def configuration(text):
-    """What `show` tells but for packet numbers, which an opening may raise."""
+    """What `show` prints but for packet numbers, which an opening may raise."""
     return re.sub(r"(next|lowest) \d+", "", text)
 
 

@@ -34,7 +34,7 @@ ample="sent 0 delivered 0 dropped 0 faults 0"
 : >"$folder/input"
 "$top/macsecd" format "$folder/disk" 0200000000010001 4 4
 set -- --data disk="$folder/disk" -- relay disk 127.0.0.1:0 127.0.0.1:9 127.0.0.1:0 127.0.0.1:9 --turns 5
-# The last allocation that is made lies from `low` on and below `high`.
+# The number of the last allocation that is made is at least `low` and below `high`.
 low=1
 high=64
 while is_refused "$high" "$@"; do

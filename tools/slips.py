@@ -3,10 +3,10 @@
 
     tools/slips.py PROGRAM
 
-PROGRAM is the built program, or a command that runs it. Each slip is a run in a folder of its own, in which lie: an endpoint
+PROGRAM is the absolute path of the built program, or a command that runs it. Each slip is a run in a folder of its own, which has an endpoint
 that sends, one that another run has in use, one that nobody has, one in a spaced file, a command file, a capture, an image of
-other octets, an empty file, a folder, a symbolic link and a hard link to the endpoint that sends. A line tells of each slip its words, its status, what it
-said, and which files were changed, made or removed. Last stands 'N slips, M wrong'. Wrong is a slip after which a file differs
+other octets, an empty file, a folder, a symbolic link and a hard link to the endpoint that sends. A line for each slip has its words, its status, what it
+said, and which files were changed, made or removed. The last line is 'N slips, M wrong'. Wrong is a slip after which a file differs
 that is not the run's own output, and one after which a packet number comes twice. The status is 1 if M is not 0.
 """
 import fcntl
@@ -25,7 +25,7 @@ BLOCK = "16"
 # How long a run may take, in seconds.
 PATIENCE = 60
 
-# What lies in the folder, by its role.
+# What is in the folder, by its role.
 DISK = "disk"
 IN_USE = "in-use"
 IDLE = "idle"
@@ -175,7 +175,7 @@ def changed(before, after):
 
 
 def try_slip(room, words, given, own, printed):
-    """Runs a slip, and tells what it did and what is wrong with that."""
+    """Runs a slip, and answers what it did and what is wrong with that."""
     used = room.numbers()
     before = room.look()
     with open(os.path.join(room.folder, IN_USE), "rb") as held:

@@ -144,7 +144,7 @@ class Run:
         return None
 
     def make(self, call, place, octets):
-        """Lets the program make the call at which it stands. A write is pending from here on; what is pending is durable once a sync succeeds."""
+        """Lets the program make the call at which it has stopped. A write is pending from here on; what is pending is durable once a sync succeeds."""
         if call == "write":
             self.disk.write(place, octets)
             self.go_on(CONT)
