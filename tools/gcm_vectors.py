@@ -1,5 +1,5 @@
 #!/usr/bin/env python3
-"""Prints crates/macs_gcm/src/tests/vectors.rt: AES-128-GCM by Python's `cryptography`.
+"""Prints crates/macs_cipher_tests/src/tests/gcm/vectors.rt: AES-128-GCM by Python's `cryptography`.
 
 The inputs follow rules, which the tests of the crate repeat, so that the table holds results alone.
 Of vector n
@@ -9,7 +9,7 @@ Of vector n
     octet i of the plaintext is                    ( 7 i + 3) mod 256.
 A ciphertext is written in blocks of 16 octets, whose last is filled up with zero octets.
 
-Run:  python3 tools/gcm_vectors.py > crates/macs_gcm/src/tests/vectors.rt
+Run:  python3 tools/gcm_vectors.py > crates/macs_cipher_tests/src/tests/gcm/vectors.rt
 """
 
 from cryptography.hazmat.primitives.ciphers.aead import AESGCM

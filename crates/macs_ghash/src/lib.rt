@@ -12,8 +12,6 @@ mod masks;
 mod pieces;
 mod powers;
 mod reduction;
-#[cfg(test)]
-mod tests;
 
 pub use hash::ghash;
 pub use powers::Powers;

@@ -9,11 +9,11 @@ mod forms;
 mod memory;
 mod vectors;
 
+use macs_fixtures::NarrowReader;
 use macs_pcap::{
     Header, PcapFault, PcapReader, PcapWriter, ReaderSource, Sink, Source, Stamp, WriterSink,
 };
 use std::alloc::{Allocator, Global};
-use std::io::{self, ErrorKind, Read, Write};
 use std::process::Abort;
 
 /// The octets of a header, and of a whole capture with one record of three octets.
@@ -61,93 +61,9 @@ fn with_octets(
     octets
 }
 
-/// A reader that gives one octet a call. One of its calls fails, as if it were interrupted; at 0 none does.
-#[derive(Drop)]
-struct NarrowReader<'a> {
-    octets: &'a [u8],
-    calls: u64,
-    fails_at: u64,
-}
-
-impl Read for NarrowReader<'_> {
-    fn read(&mut self, into: &mut [u8]) -> io::Result<usize> {
-        self.calls = self.calls.wrapping_add(1);
-        if self.calls == self.fails_at {
-            return Err(io::Error::from(ErrorKind::Interrupted));
-        }
-        let (Some((first, rest)), [place, ..]) = (self.octets.split_first(), into) else {
-            return Ok(0);
-        };
-        *place = *first;
-        self.octets = rest;
-        Ok(1)
-    }
-}
-
 /// A reader of these octets, of which one call fails.
 fn source_of(octets: &[u8], fails_at: u64) -> ReaderSource<NarrowReader<'_>> {
-    ReaderSource::new(NarrowReader {
-        octets,
-        calls: 0,
-        fails_at,
-    })
-}
-
-/// How a call of a writer fails.
-#[derive(Clone, Copy)]
-enum Failure {
-    Error,
-    /// It takes no octet, and says so.
-    Nothing,
-}
-
-/// A writer that takes one octet a call. One of its calls fails, flushes included; at 0 none does.
-#[derive(Drop)]
-struct NarrowWriter {
-    octets: Vec<u8>,
-    calls: u64,
-    fails_at: u64,
-    failure: Failure,
-}
-
-impl NarrowWriter {
-    fn new(alloc: Global, fails_at: u64, failure: Failure) -> NarrowWriter {
-        NarrowWriter {
-            octets: Vec::new(alloc),
-            calls: 0,
-            fails_at,
-            failure,
-        }
-    }
-
-    /// Counts a call. Whether it is the one that fails.
-    fn is_failing(&mut self) -> bool {
-        self.calls = self.calls.wrapping_add(1);
-        self.calls == self.fails_at
-    }
-}
-
-impl Write for NarrowWriter {
-    fn write(&mut self, from: &[u8]) -> io::Result<usize> {
-        if self.is_failing() {
-            return match self.failure {
-                Failure::Error => Err(io::Error::from(ErrorKind::BrokenPipe)),
-                Failure::Nothing => Ok(0),
-            };
-        }
-        let Some(first) = from.first() else {
-            return Ok(0);
-        };
-        self.octets.push(*first)?;
-        Ok(1)
-    }
-
-    fn flush(&mut self) -> io::Result<()> {
-        if self.is_failing() {
-            return Err(io::Error::from(ErrorKind::BrokenPipe));
-        }
-        Ok(())
-    }
+    ReaderSource::new(NarrowReader::new(octets, fails_at))
 }
 
 /// What comes of a capture that is read.

@@ -15,8 +15,6 @@ mod round_keys;
 mod rows;
 mod sbox;
 mod subfield;
-#[cfg(test)]
-mod tests;
 
 pub use group::{BLOCKS_OF_A_GROUP, GroupKeys, encrypt16};
 pub use planes::Planes;

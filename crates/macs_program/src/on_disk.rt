@@ -72,6 +72,25 @@ where
     Ok(Status::Done)
 }
 
+/// Applies the commands of a file to an endpoint.
+fn apply_file<T: Files, D: SectorDisk, W: Write>(
+    rt: &T,
+    alloc: Global,
+    endpoint: &mut Endpoint<D>,
+    file: &str,
+    out: &mut W,
+) -> Result<Status, Failure>
+    ensures printed { IfOk result (λ status. (outcomes : List (Option Refusal))
+        × Appends (W.contents out.old) (W.contents out.new) (outcome_lines 1 outcomes)
+        × (status ≡ outcomes_status outcomes)) }
+    ensures failed { IfErr result (λ failure. failure_status failure ≢ Status.Usage) }
+    ensures lines { IfErr result (λ failure. failure ≢ Failure.Output
+        → (outcomes : List (Option Refusal)) × Appends (W.contents out.old) (W.contents out.new) (outcome_lines 1 outcomes)) }
+{
+    let commands = commands_of_file(rt, alloc, file)?;
+    apply_commands(endpoint, commands.as_slice(), out)
+}
+
 /// `apply`: applies the commands of a file.
 pub fn apply<T: Files, W: Write>(
     rt: &T,
@@ -90,8 +109,7 @@ where
         → (outcomes : List (Option Refusal)) × Appends (W.contents out.old) (W.contents out.new) (outcome_lines 1 outcomes)) }
 {
     let mut endpoint = open_endpoint(rt, disk)?;
-    let commands = commands_of_file(rt, alloc, file)?;
-    apply_commands(&mut endpoint, commands.as_slice(), out)
+    apply_file(rt, alloc, &mut endpoint, file, out)
 }
 
 /// Prints the configuration and the packet numbers of an endpoint.
@@ -128,6 +146,28 @@ where
     show_endpoint(alloc, &endpoint, out)
 }
 
+/// Takes a capture through an endpoint into another one.
+fn pass_between<T: Files, D: SectorDisk, W: Write>(
+    rt: &T,
+    alloc: Global,
+    endpoint: &mut Endpoint<D>,
+    direction: Direction,
+    from: &str,
+    to: &str,
+    out: &mut W,
+) -> Result<Status, Failure>
+where
+    T::File: CaptureFile,
+    ensures printed { IfOk result (λ status. (summary : Summary)
+        × Appends (W.contents out.old) (W.contents out.new) (summary_line direction summary) × (status ≡ Status.Done)) }
+    ensures failed { IfErr result (λ failure. failure_status failure ≢ Status.Usage) }
+    ensures silent { IfErr result (λ failure. failure ≢ Failure.Output → out.new ≡ out.old) }
+{
+    let mut source = open_capture(rt, alloc, from)?;
+    let mut sink = make_capture(rt, alloc, to)?;
+    pass_frames(alloc, endpoint, direction, &mut source, &mut sink, out)
+}
+
 /// `protect` and `validate`: takes a capture through an endpoint.
 pub fn pass<T: Files, W: Write>(
     rt: &T,
@@ -146,9 +186,7 @@ where
     ensures silent { IfErr result (λ failure. failure ≢ Failure.Output → out.new ≡ out.old) }
 {
     let mut endpoint = open_endpoint(rt, disk)?;
-    let mut source = open_capture(rt, alloc, from)?;
-    let mut sink = make_capture(rt, alloc, to)?;
-    pass_frames(alloc, &mut endpoint, direction, &mut source, &mut sink, out)
+    pass_between(rt, alloc, &mut endpoint, direction, from, to, out)
 }
 
 /// Relays frames through an endpoint between two wires, which are bound from left to right.

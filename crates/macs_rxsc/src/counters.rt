@@ -49,7 +49,7 @@ impl RxCounters {
     ghost use Rattle.macs_rxsc.specs.Counting.{count_of, counters_after_verdict, no_counts};
 
     /// Nothing is counted yet.
-    pub(crate) fn new() -> RxCounters
+    pub fn new() -> RxCounters
         ensures { result ≡ no_counts }
     {
         RxCounters {
@@ -72,7 +72,7 @@ impl RxCounters {
     }
 
     /// How often a verdict was given, 0 for a frame that is held back.
-    pub(crate) fn of(&self, verdict: Verdict) -> u64
+    pub fn of(&self, verdict: Verdict) -> u64
         ensures { result ≡ count_of verdict self.now }
     {
         match verdict {
@@ -96,7 +96,7 @@ impl RxCounters {
     }
 
     /// A verdict is given once more.
-    pub(crate) fn count(&mut self, verdict: Verdict)
+    pub fn count(&mut self, verdict: Verdict)
         ensures { self.new ≡ counters_after_verdict verdict self.old }
     {
         match verdict {
@@ -125,7 +125,7 @@ impl ChannelCounters {
     ghost use Rattle.macs_rxsc.specs.Counting.{channel_count_of, channel_counters_after_verdict, no_channel_counts};
 
     /// Nothing is counted yet.
-    pub(crate) fn new() -> ChannelCounters
+    pub fn new() -> ChannelCounters
         ensures { result ≡ no_channel_counts }
     {
         ChannelCounters {
@@ -140,7 +140,7 @@ impl ChannelCounters {
     }
 
     /// How often a verdict was given, 0 for one that is not counted for channels.
-    pub(crate) fn of(&self, verdict: Verdict) -> u64
+    pub fn of(&self, verdict: Verdict) -> u64
         ensures { result ≡ channel_count_of verdict self.now }
     {
         match verdict {
@@ -156,7 +156,7 @@ impl ChannelCounters {
     }
 
     /// A verdict is given once more.
-    pub(crate) fn count(&mut self, verdict: Verdict)
+    pub fn count(&mut self, verdict: Verdict)
         ensures { self.new ≡ channel_counters_after_verdict verdict self.old }
     {
         match verdict {

@@ -10,11 +10,10 @@ mod need;
 mod receive;
 mod settling;
 mod table;
-#[cfg(test)]
-mod tests;
 mod verdict;
 
 pub use association::RxNumbers;
+pub use counters::{ChannelCounters, RxCounters};
 pub use need::RxNeed;
 pub use receive::Rx;
 pub use verdict::{Kind, Reason, Verdict};

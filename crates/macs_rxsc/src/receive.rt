@@ -17,7 +17,7 @@ use crate::need::RxNeed;
 use crate::table::Table;
 use crate::verdict::Verdict;
 use arrayvec::ArrayVec;
-use macs_config::{Replay, Validate};
+use macs_config::{MAX_CHANNELS, Replay, Validate};
 use macs_frame::{An, FrameBuf, Offset, Sci};
 use macs_gcm::GcmKey;
 use std::marker::Model;
@@ -246,12 +246,11 @@ impl Rx {
         Some(channel.counters.of(verdict))
     }
 
-    /// Whether another channel may be added, as the tests have to ask.
-    #[cfg(test)]
-    pub(crate) fn has_room(&self) -> bool
+    /// Whether another channel may be added: fewer than 8 stand.
+    pub fn has_room(&self) -> bool
         ensures { result ≡ nat_lt (length (rx_side_of self.now).channels) this_edition.channels }
     {
-        self.table.channels.len() < macs_config::MAX_CHANNELS
+        self.table.channels.len() < MAX_CHANNELS
     }
 
     /// What holds of all receive channels.

@@ -5,8 +5,7 @@ mod association;
 mod channel;
 mod counters;
 mod fault;
-#[cfg(test)]
-mod tests;
 
 pub use channel::Tx;
+pub use counters::TxCounters;
 pub use fault::TxFault;

@@ -9,10 +9,10 @@ use macs_config::{Command, Identity};
 use macs_disk::{MemDisk, SectorDisk};
 use macs_edge::{RunFault, Summary, run_protect, run_validate};
 use macs_endpoint::{Endpoint, format};
+use macs_fixtures::{NarrowReader, NarrowWriter};
 use macs_frame::{An, FrameBuf, Sci};
 use macs_pcap::{ReaderSource, Sink, Source, WriterSink};
 use std::alloc::{Allocator, Global};
-use std::io::{self, ErrorKind, Read, Write};
 use std::process::Abort;
 use std::test::Fail;
 
@@ -43,55 +43,6 @@ const SEALED: [u8; 86] = *b"\xd6\x09\xb1\xf0\x56\x63\x7a\x0d\x46\xdf\x99\x8d\
 /// The plain frame of the published one: addresses and User Data.
 const PLAIN: [u8; 54] = *b"\xd6\x09\xb1\xf0\x56\x63\x7a\x0d\x46\xdf\x99\x8d\
 \x08\x00\x0f\x10\x11\x12\x13\x14\x15\x16\x17\x18\x19\x1a\x1b\x1c\x1d\x1e\x1f\x20\x21\x22\x23\x24\x25\x26\x27\x28\x29\x2a\x2b\x2c\x2d\x2e\x2f\x30\x31\x32\x33\x34\x00\x01";
-
-/// A reader that gives one octet a call. One of its calls fails; at 0 none does.
-#[derive(Drop)]
-struct NarrowReader<'a> {
-    octets: &'a [u8],
-    calls: u64,
-    fails_at: u64,
-}
-
-impl Read for NarrowReader<'_> {
-    fn read(&mut self, into: &mut [u8]) -> io::Result<usize> {
-        self.calls = self.calls.wrapping_add(1);
-        if self.calls == self.fails_at {
-            return Err(io::Error::from(ErrorKind::Interrupted));
-        }
-        let (Some((first, rest)), [place, ..]) = (self.octets.split_first(), into) else {
-            return Ok(0);
-        };
-        *place = *first;
-        self.octets = rest;
-        Ok(1)
-    }
-}
-
-/// A writer that takes one octet a call. One of its calls fails; at 0 none does.
-#[derive(Drop)]
-struct NarrowWriter {
-    octets: Vec<u8>,
-    calls: u64,
-    fails_at: u64,
-}
-
-impl Write for NarrowWriter {
-    fn write(&mut self, from: &[u8]) -> io::Result<usize> {
-        self.calls = self.calls.wrapping_add(1);
-        if self.calls == self.fails_at {
-            return Err(io::Error::from(ErrorKind::BrokenPipe));
-        }
-        let Some(first) = from.first() else {
-            return Ok(0);
-        };
-        self.octets.push(*first)?;
-        Ok(1)
-    }
-
-    fn flush(&mut self) -> io::Result<()> {
-        Err(io::Error::from(ErrorKind::BrokenPipe))
-    }
-}
 
 /// Which way a capture runs.
 #[derive(Clone, Copy)]
@@ -124,21 +75,12 @@ fn run_in<D: SectorDisk, A: Allocator>(
     read_fails_at: u64,
     write_fails_at: u64,
 ) -> (Result<Summary, RunFault>, Vec<u8>) {
-    let mut source = ReaderSource::new(NarrowReader {
-        octets,
-        calls: 0,
-        fails_at: read_fails_at,
-    });
-    let mut writer = NarrowWriter {
-        octets: Vec::new(alloc),
-        calls: 0,
-        fails_at: write_fails_at,
-    };
+    let mut source = ReaderSource::new(NarrowReader::new(octets, read_fails_at));
+    let mut writer = NarrowWriter::without_flush(alloc, write_fails_at);
     let mut sink = WriterSink::new(&mut writer);
     let answer = run(memory, endpoint, way, &mut source, &mut sink);
     drop(sink);
-    let NarrowWriter { octets, .. } = writer;
-    (answer, octets)
+    (answer, writer.into_octets())
 }
 
 /// Runs these octets where no call fails.

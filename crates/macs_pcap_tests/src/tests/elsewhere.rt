@@ -1,7 +1,8 @@
 //! Captures that another program wrote.
 
 use super::vectors::CAPTURES;
-use super::{Failure, NarrowWriter, begin, begin_writing, gives, put, source_of, take};
+use super::{begin, begin_writing, gives, put, source_of, take};
+use macs_fixtures::{Failure, NarrowWriter};
 use macs_pcap::{Header, PcapFault, PcapReader, Sink, Source, Stamp, WriterSink};
 use std::alloc::Global;
 use std::process::Abort;
@@ -91,6 +92,6 @@ fn each_is_written(rt: HostRuntime) {
     for at in 0..4 {
         let mut writer = NarrowWriter::new(rt.alloc(), 0, Failure::Error);
         assert!(rt; write_both(&rt, WriterSink::new(&mut writer), &header_of(at)).is_ok());
-        assert!(rt; writer.octets.as_slice() == CAPTURES[at].as_slice());
+        assert!(rt; writer.octets() == CAPTURES[at].as_slice());
     }
 }

@@ -1,10 +1,8 @@
 //! Reads and writes that fail, each call in turn.
 
 use super::Outcome::{Header, Records};
-use super::{
-    BIG, Failure, HEADER, LITTLE, NarrowWriter, SIGFIGS, WHOLE, ZONE, reading_of, with_octets,
-    write_whole,
-};
+use super::{BIG, HEADER, LITTLE, SIGFIGS, WHOLE, ZONE, reading_of, with_octets, write_whole};
+use macs_fixtures::{Failure, NarrowWriter};
 use macs_pcap::{Header as CaptureHeader, PcapFault, WriterSink};
 use std::alloc::Global;
 use std::process::Abort;
@@ -63,7 +61,7 @@ fn expect_front(rt: &impl Abort, alloc: Global, big: bool, failure: Failure, cal
     let written = if is_whole { WHOLE } else { call as usize - 1 };
     let whole = if big { BIG } else { LITTLE };
     let (front, _) = whole.split_at(written);
-    assert!(rt; writer.octets.as_slice() == front, "write {call}");
+    assert!(rt; writer.octets() == front, "write {call}");
 }
 
 /// Each octet takes a write, and the flush is one call more: 44 calls of each of two captures, which fail in two

@@ -1,9 +1,10 @@
 //! Both orders of octets and both fractions.
 
 use super::{
-    BIG, FRAME, Failure, HEADER, LITTLE, NarrowWriter, SIGFIGS, STAMP, WHOLE, ZONE, begin, gives,
-    source_of, take, with_octets, write_whole,
+    BIG, FRAME, HEADER, LITTLE, SIGFIGS, STAMP, WHOLE, ZONE, begin, gives, source_of, take,
+    with_octets, write_whole,
 };
+use macs_fixtures::{Failure, NarrowWriter};
 use macs_pcap::{Header, PcapReader, Source, WriterSink};
 use std::alloc::Global;
 use std::process::Abort;
@@ -81,7 +82,7 @@ fn four_captures_are_written(rt: HostRuntime) {
     for form in FORMS {
         let mut writer = NarrowWriter::new(rt.alloc(), 0, Failure::Error);
         assert!(rt; write_whole(&rt, WriterSink::new(&mut writer), &header_of(form)).is_ok());
-        assert!(rt; writer.octets.as_slice() == capture_of(&rt, form).as_slice());
+        assert!(rt; writer.octets() == capture_of(&rt, form).as_slice());
     }
 }
 
@@ -94,6 +95,6 @@ fn any_snaplen_is_read(rt: HostRuntime) {
         let header = *reader.header();
         let mut writer = NarrowWriter::new(rt.alloc(), HEADER as u64 + 1, Failure::Error);
         assert!(rt; write_whole(&rt, WriterSink::new(&mut writer), &header).is_err());
-        assert!(rt; writer.octets.as_slice() == &BIG[..HEADER]);
+        assert!(rt; writer.octets() == &BIG[..HEADER]);
     }
 }

@@ -1,0 +1,136 @@
+//! Counters at their greatest, and what is not counted for a channel.
+
+use super::frames::{CHANNEL, Change, INTEGRITY, STATION, Security, Source};
+use super::story::{Step, play, ready, take};
+use super::{
+    ALL_VERDICTS, BAD_TAG, CHANNEL_VERDICTS, FOR_KAY, LATE, NO_SCI, NO_TAG, OTHER_VERDICTS,
+    OVERSIZE, RUNT,
+};
+use macs_rxsc::{ChannelCounters, Rx, RxCounters, Verdict};
+use std::process::Abort;
+
+/// One below the greatest number.
+const BEFORE: u64 = 0xffff_ffff_ffff_fffe;
+
+/// Every counter is one below the greatest number.
+const NEARLY_FULL: RxCounters = RxCounters {
+    ok: BEFORE,
+    delayed: BEFORE,
+    invalid: BEFORE,
+    untagged: BEFORE,
+    unknown_sci: BEFORE,
+    unused_sa: BEFORE,
+    runt: BEFORE,
+    oversize: BEFORE,
+    no_tag: BEFORE,
+    bad_tag: BEFORE,
+    for_kay: BEFORE,
+    no_sci: BEFORE,
+    not_using_sa: BEFORE,
+    late: BEFORE,
+    not_valid: BEFORE,
+};
+
+/// Every counter of a channel is one below the greatest number.
+const NEARLY_FULL_FOR_CHANNEL: ChannelCounters = ChannelCounters {
+    ok: BEFORE,
+    delayed: BEFORE,
+    invalid: BEFORE,
+    unused_sa: BEFORE,
+    not_using_sa: BEFORE,
+    late: BEFORE,
+    not_valid: BEFORE,
+};
+
+fn count_of(counters: &RxCounters, verdict: Verdict) -> u64 {
+    counters.of(verdict)
+}
+
+fn count(counters: &mut RxCounters, verdict: Verdict) {
+    counters.count(verdict);
+}
+
+fn channel_count_of(counters: &ChannelCounters, verdict: Verdict) -> u64 {
+    counters.of(verdict)
+}
+
+fn count_for_channel(counters: &mut ChannelCounters, verdict: Verdict) {
+    counters.count(verdict);
+}
+
+#[test]
+fn counters_stay_at_their_greatest(rt: HostRuntime) {
+    let mut counters = NEARLY_FULL;
+    for verdict in ALL_VERDICTS {
+        for before in [BEFORE, u64::MAX] {
+            assert_eq!(rt; count_of(&counters, verdict), before, "{verdict:?}");
+            count(&mut counters, verdict);
+        }
+        assert_eq!(rt; count_of(&counters, verdict), u64::MAX, "{verdict:?}");
+    }
+}
+
+#[test]
+fn channel_counters_stay_at_their_greatest(rt: HostRuntime) {
+    let mut counters = NEARLY_FULL_FOR_CHANNEL;
+    for verdict in CHANNEL_VERDICTS {
+        for before in [BEFORE, u64::MAX] {
+            assert_eq!(rt; channel_count_of(&counters, verdict), before, "{verdict:?}");
+            count_for_channel(&mut counters, verdict);
+        }
+        assert_eq!(rt;
+            channel_count_of(&counters, verdict),
+            u64::MAX,
+            "{verdict:?}"
+        );
+    }
+}
+
+/// What is not counted for the channel is told as 0.
+fn expect_no_others(rt: &impl Abort, rx: &mut Rx) {
+    for verdict in OTHER_VERDICTS {
+        take(rt, rx, Step::ChannelCount(CHANNEL, verdict, Some(0)));
+    }
+    take(
+        rt,
+        rx,
+        Step::ChannelCount(CHANNEL, Verdict::HeldBack, Some(0)),
+    );
+}
+
+/// Verdicts that are not kept for a channel, before and after frames that have them, and after a
+/// late one that is counted for it.
+#[test]
+fn verdicts_of_no_channel(rt: HostRuntime) {
+    const STEPS: &[Step] = &[
+        Step::Number(9, Verdict::HeldBack),
+        Step::Untagged(13, RUNT),
+        Step::Untagged(9217, OVERSIZE),
+        Step::Untagged(62, NO_TAG),
+        Step::Receive(
+            Source::These(INTEGRITY),
+            Change::Octet(14, 0x32),
+            BAD_TAG,
+            &[],
+        ),
+        Step::Receive(
+            Source::These(INTEGRITY),
+            Change::Octet(14, 0x2a),
+            FOR_KAY,
+            &[],
+        ),
+        Step::Receive(
+            Source::Sealed(STATION, 2, 5, Security::Integrity, 62),
+            Change::Nothing,
+            NO_SCI,
+            &[],
+        ),
+    ];
+    let mut rx = ready(&rt, 3, 9);
+    expect_no_others(&rt, &mut rx);
+    take(&rt, &mut rx, Step::Number(2, LATE));
+    expect_no_others(&rt, &mut rx);
+    play(&rt, &mut rx, STEPS);
+    expect_no_others(&rt, &mut rx);
+    take(&rt, &mut rx, Step::ChannelCount(CHANNEL, LATE, Some(1)));
+}

@@ -1,0 +1,198 @@
+//! Frames that go out: IEEE Std 802.1AE-2018, Annex C, and Python's `cryptography`.
+
+use super::fixture::{channel, install, number_of, protect, select};
+use super::{END, HIDDEN, KEY, PLAIN, STATION, Security};
+use macs_config::SciMode;
+use macs_frame::{FrameBuf, Offset};
+use macs_txsc::Tx;
+use std::process::Abort;
+
+/// What a frame goes out under, and the frame. A line of it is its addresses, its SecTAG, its Secure
+/// Data or its ICV.
+#[derive(Clone, Copy)]
+pub(super) struct Case {
+    pub(super) sci: [u8; 8],
+    pub(super) mode: SciMode,
+    pub(super) association: u8,
+    pub(super) security: Security,
+    pub(super) number: u32,
+    pub(super) plain: &'static [u8],
+    pub(super) frame: &'static [u8],
+}
+
+const CHANNEL: [u8; 8] = [0x12, 0x15, 0x35, 0x24, 0xc0, 0x89, 0x5e, 0x81];
+
+const CHANNEL_KEY: u128 = 0xad7a_2bd0_3eac_835a_6f62_0fdc_b506_b345;
+
+/// Annex C: integrity protection of a frame with an SCI.
+pub(super) const INTEGRITY: Case = Case {
+    sci: CHANNEL,
+    mode: SciMode::Explicit,
+    association: 2,
+    security: Security {
+        key: CHANNEL_KEY,
+        confidential: false,
+        offset: Offset::Zero,
+    },
+    number: 0xb2c2_8465,
+    plain: b"\xd6\x09\xb1\xf0\x56\x63\x7a\x0d\x46\xdf\x99\x8d\
+\x08\x00\x0f\x10\x11\x12\x13\x14\x15\x16\x17\x18\x19\x1a\x1b\x1c\x1d\x1e\x1f\x20\x21\x22\x23\x24\x25\x26\x27\x28\x29\x2a\x2b\x2c\x2d\x2e\x2f\x30\x31\x32\x33\x34\x00\x01",
+    frame: b"\xd6\x09\xb1\xf0\x56\x63\x7a\x0d\x46\xdf\x99\x8d\
+\x88\xe5\x22\x2a\xb2\xc2\x84\x65\x12\x15\x35\x24\xc0\x89\x5e\x81\
+\x08\x00\x0f\x10\x11\x12\x13\x14\x15\x16\x17\x18\x19\x1a\x1b\x1c\x1d\x1e\x1f\x20\x21\x22\x23\x24\x25\x26\x27\x28\x29\x2a\x2b\x2c\x2d\x2e\x2f\x30\x31\x32\x33\x34\x00\x01\
+\xf0\x94\x78\xa9\xb0\x90\x07\xd0\x6f\x46\xe9\xb6\xa1\xda\x25\xdd",
+};
+
+/// Annex C: confidentiality protection of a frame with an SCI.
+pub(super) const CONFIDENTIALITY: Case = Case {
+    sci: CHANNEL,
+    mode: SciMode::Explicit,
+    association: 2,
+    security: Security {
+        key: CHANNEL_KEY,
+        confidential: true,
+        offset: Offset::Zero,
+    },
+    number: 0xb2c2_8465,
+    plain: b"\xd6\x09\xb1\xf0\x56\x63\x7a\x0d\x46\xdf\x99\x8d\
+\x08\x00\x0f\x10\x11\x12\x13\x14\x15\x16\x17\x18\x19\x1a\x1b\x1c\x1d\x1e\x1f\x20\x21\x22\x23\x24\x25\x26\x27\x28\x29\x2a\x2b\x2c\x2d\x2e\x2f\x30\x31\x32\x33\x34\x35\x36\x37\x38\x39\x3a\x00\x02",
+    frame: b"\xd6\x09\xb1\xf0\x56\x63\x7a\x0d\x46\xdf\x99\x8d\
+\x88\xe5\x2e\x00\xb2\xc2\x84\x65\x12\x15\x35\x24\xc0\x89\x5e\x81\
+\x70\x1a\xfa\x1c\xc0\x39\xc0\xd7\x65\x12\x8a\x66\x5d\xab\x69\x24\x38\x99\xbf\x73\x18\xcc\xdc\x81\xc9\x93\x1d\xa1\x7f\xbe\x8e\xdd\x7d\x17\xcb\x8b\x4c\x26\xfc\x81\xe3\x28\x4f\x2b\x7f\xba\x71\x3d\
+\x4f\x8d\x55\xe7\xd3\xf0\x6f\xd5\xa1\x3c\x0c\x29\xb9\xd5\xb8\x80",
+};
+
+/// Annex C: confidentiality protection of an end station's frame.
+pub(super) const END_STATION: Case = Case {
+    sci: STATION,
+    mode: SciMode::EndStation,
+    association: 0,
+    security: HIDDEN,
+    number: 0x76d4_57ed,
+    plain: PLAIN,
+    frame: b"\xe2\x01\x06\xd7\xcd\x0d\xf0\x76\x1e\x8d\xcd\x3d\
+\x88\xe5\x4c\x2a\x76\xd4\x57\xed\
+\x13\xb4\xc7\x2b\x38\x9d\xc5\x01\x8e\x72\xa1\x71\xdd\x85\xa5\xd3\x75\x22\x74\xd3\xa0\x19\xfb\xca\xed\x09\xa4\x25\xcd\x9b\x2e\x1c\x9b\x72\xee\xe7\xc9\xde\x7d\x52\xb3\xf3\
+\xd6\xa5\x28\x4f\x4a\x6d\x3f\xe2\x2a\x5d\x6c\x2b\x96\x04\x94\xc3",
+};
+
+/// By Python's `cryptography`: 30 octets of User Data, all of them in the clear.
+pub(super) const ALL_CLEAR: Case = Case {
+    sci: STATION,
+    mode: SciMode::Explicit,
+    association: 0,
+    security: Security {
+        key: KEY,
+        confidential: true,
+        offset: Offset::Thirty,
+    },
+    number: 0x76d4_57ed,
+    plain: b"\xe2\x01\x06\xd7\xcd\x0d\xf0\x76\x1e\x8d\xcd\x3d\
+\x08\x00\x0f\x10\x11\x12\x13\x14\x15\x16\x17\x18\x19\x1a\x1b\x1c\x1d\x1e\x1f\x20\x21\x22\x23\x24\x25\x26\x27\x28\x29\x2a",
+    frame: b"\xe2\x01\x06\xd7\xcd\x0d\xf0\x76\x1e\x8d\xcd\x3d\
+\x88\xe5\x2c\x1e\x76\xd4\x57\xed\xf0\x76\x1e\x8d\xcd\x3d\x00\x01\
+\x08\x00\x0f\x10\x11\x12\x13\x14\x15\x16\x17\x18\x19\x1a\x1b\x1c\x1d\x1e\x1f\x20\x21\x22\x23\x24\x25\x26\x27\x28\x29\x2a\
+\x53\xef\x3a\xb8\xdf\xc6\x56\xdc\x59\x86\xf6\x03\xf6\x72\xe7\x60",
+};
+
+/// By Python's `cryptography`: 30 octets of User Data in the clear and one encrypted.
+pub(super) const ONE_HIDDEN: Case = Case {
+    sci: STATION,
+    mode: SciMode::Explicit,
+    association: 0,
+    security: Security {
+        key: KEY,
+        confidential: true,
+        offset: Offset::Thirty,
+    },
+    number: 0x76d4_57ed,
+    plain: b"\xe2\x01\x06\xd7\xcd\x0d\xf0\x76\x1e\x8d\xcd\x3d\
+\x08\x00\x0f\x10\x11\x12\x13\x14\x15\x16\x17\x18\x19\x1a\x1b\x1c\x1d\x1e\x1f\x20\x21\x22\x23\x24\x25\x26\x27\x28\x29\x2a\x2b",
+    frame: b"\xe2\x01\x06\xd7\xcd\x0d\xf0\x76\x1e\x8d\xcd\x3d\
+\x88\xe5\x2c\x1f\x76\xd4\x57\xed\xf0\x76\x1e\x8d\xcd\x3d\x00\x01\
+\x08\x00\x0f\x10\x11\x12\x13\x14\x15\x16\x17\x18\x19\x1a\x1b\x1c\x1d\x1e\x1f\x20\x21\x22\x23\x24\x25\x26\x27\x28\x29\x2a\
+\x30\
+\x9e\x65\xd3\x41\x1e\x42\x56\x00\x35\x24\x8b\x17\x6a\x40\xe6\x3b",
+};
+
+/// By Python's `cryptography`: the shortest plain frame, 14 octets.
+const SHORTEST: Case = Case {
+    sci: STATION,
+    mode: SciMode::Explicit,
+    association: 3,
+    security: HIDDEN,
+    number: 1,
+    plain: b"\xe2\x01\x06\xd7\xcd\x0d\xf0\x76\x1e\x8d\xcd\x3d\x08\x00",
+    frame: b"\xe2\x01\x06\xd7\xcd\x0d\xf0\x76\x1e\x8d\xcd\x3d\
+\x88\xe5\x2f\x02\x00\x00\x00\x01\xf0\x76\x1e\x8d\xcd\x3d\x00\x01\
+\xe4\xf1\
+\x48\xf7\xa7\x49\x33\xdf\xe6\x6f\x0e\xe1\x47\x9b\x43\xdf\x50\x26",
+};
+
+/// By Python's `cryptography`: a channel that is not named.
+const IMPLICIT: Case = Case {
+    sci: CHANNEL,
+    mode: SciMode::Implicit,
+    association: 1,
+    security: HIDDEN,
+    number: 1,
+    plain: b"\xe2\x01\x06\xd7\xcd\x0d\xf0\x76\x1e\x8d\xcd\x3d\x08\x00",
+    frame: b"\xe2\x01\x06\xd7\xcd\x0d\xf0\x76\x1e\x8d\xcd\x3d\
+\x88\xe5\x0d\x02\x00\x00\x00\x01\
+\x4e\x24\
+\xae\xf2\xa9\x53\x0b\xae\x26\x3d\xa4\x75\xd3\xab\x17\xe4\xbb\x27",
+};
+
+/// By Python's `cryptography`: the last packet number.
+pub(super) const LAST_NUMBER: Case = Case {
+    sci: STATION,
+    mode: SciMode::EndStation,
+    association: 0,
+    security: HIDDEN,
+    number: 0xffff_ffff,
+    plain: b"\xe2\x01\x06\xd7\xcd\x0d\xf0\x76\x1e\x8d\xcd\x3d\x08\x00",
+    frame: b"\xe2\x01\x06\xd7\xcd\x0d\xf0\x76\x1e\x8d\xcd\x3d\
+\x88\xe5\x4c\x02\xff\xff\xff\xff\
+\xe3\x1c\
+\x88\x7e\xc9\xb7\x6e\x74\xa4\x88\xaa\x2d\x6c\x69\xd2\xfe\xfe\xbb",
+};
+
+/// Every frame that goes out.
+const CASES: &[Case] = &[
+    INTEGRITY,
+    CONFIDENTIALITY,
+    END_STATION,
+    ALL_CLEAR,
+    ONE_HIDDEN,
+    SHORTEST,
+    IMPLICIT,
+    LAST_NUMBER,
+];
+
+/// The channel of a case, which sends under its association.
+fn channel_of(rt: &impl Abort, case: &Case) -> Tx {
+    let an = number_of(rt, case.association);
+    let mut tx = channel(rt, case.sci, case.mode);
+    install(rt, &mut tx, an, &case.security, u64::from(case.number), END);
+    select(rt, &mut tx, an);
+    tx
+}
+
+/// The frame of a case goes out under its number.
+pub(super) fn expect_frame(rt: &impl Abort, tx: &mut Tx, case: &Case) {
+    let mut out = FrameBuf::new();
+    let answer = protect(rt, tx, case.plain, &mut out);
+    assert_eq!(rt; answer, Ok(case.number));
+    assert_eq!(rt; out.as_slice(), case.frame);
+}
+
+/// The frame goes out, and its number is used.
+#[test]
+fn protects_frames(rt: HostRuntime) {
+    for case in CASES {
+        let mut tx = channel_of(&rt, case);
+        expect_frame(&rt, &mut tx, case);
+        let an = number_of(&rt, case.association);
+        assert_eq!(rt; tx.next_number(an), Some(u64::from(case.number) + 1));
+    }
+}

@@ -1,0 +1,5 @@
+mod aes;
+mod fields;
+mod gcm;
+mod ghash;
+mod planes;

@@ -1,0 +1,209 @@
+//! Sealing and opening against values from outside.
+//!
+//! Octets are written as the blocks of 16 that they fill, each a number whose highest octet is the
+//! first.
+
+mod changed;
+mod single_blocks;
+mod vectors;
+
+use macs_aes::Schedule;
+use macs_gcm::{GcmKey, gctr, open, seal};
+use std::process::Abort;
+use vectors::{BLOCKS, VECTORS};
+
+/// The most octets of a text in these tests.
+const ROOM: usize = 1500;
+
+/// Texts and additional data have fewer octets than this.
+const LIMIT: usize = 1 << 32;
+
+/// Octets of a text or of additional data.
+#[derive(Clone, Copy)]
+struct Octets {
+    octets: [u8; ROOM],
+    len: usize,
+}
+
+impl Octets {
+    fn by_rule(factor: u8, first: u8, len: usize) -> Octets {
+        let mut octets = [0; ROOM];
+        fill_by_rule(&mut octets, factor, first);
+        Octets { octets, len }
+    }
+
+    /// The octets of the blocks from this one on, as many as the length.
+    fn from_blocks(blocks: &[u128], first: usize, len: usize) -> Octets {
+        let mut octets = [0; ROOM];
+        for at in 0..ROOM {
+            let block = *blocks.get(first.wrapping_add(at / 16)).unwrap_or(&0);
+            octets[at] = block.to_be_bytes()[at % 16];
+        }
+        Octets { octets, len }
+    }
+
+    fn as_slice(&self) -> &[u8] {
+        let len = self.len.min(ROOM);
+        &self.octets[..len]
+    }
+
+    fn as_mut_slice(&mut self) -> &mut [u8] {
+        let len = self.len.min(ROOM);
+        &mut self.octets[..len]
+    }
+}
+
+/// Octet i becomes (factor * i + first) mod 256.
+fn fill_by_rule(octets: &mut [u8], factor: u8, first: u8) {
+    let mut next = first;
+    for at in 0..octets.len() {
+        octets[at] = next;
+        next = next.wrapping_add(factor);
+    }
+}
+
+/// The initialisation vector in the highest 96 bits.
+fn iv_from(block: u128) -> [u8; 12] {
+    let mut iv = [0; 12];
+    iv.copy_from_slice(&block.to_be_bytes()[..12]);
+    iv
+}
+
+/// Additional data and a text, and what they are sealed under.
+#[derive(Clone, Copy)]
+struct Sealing {
+    key: [u8; 16],
+    iv: [u8; 12],
+    aad: Octets,
+    text: Octets,
+}
+
+impl Sealing {
+    /// Encrypts the text, and answers the tag.
+    fn seal(&mut self, rt: &impl Abort) -> [u8; 16] {
+        let aad = self.aad.as_slice();
+        let text = self.text.as_mut_slice();
+        assert!(rt; aad.len() < LIMIT);
+        assert!(rt; text.len() < LIMIT);
+        seal(&GcmKey::new(&self.key), &self.iv, aad, text)
+    }
+
+    /// Decrypts the text where the tag is right.
+    fn open(&mut self, rt: &impl Abort, tag: &[u8; 16]) -> bool {
+        let aad = self.aad.as_slice();
+        let text = self.text.as_mut_slice();
+        assert!(rt; aad.len() < LIMIT);
+        assert!(rt; text.len() < LIMIT);
+        open(&GcmKey::new(&self.key), &self.iv, aad, text, tag)
+    }
+
+    /// Seals the text to this one and this tag, and opens it again.
+    fn check(&mut self, rt: &impl Abort, ciphertext: &Octets, tag: u128) {
+        let plaintext = self.text;
+        let sealed = self.seal(rt);
+        assert_eq!(rt; self.text.as_slice(), ciphertext.as_slice());
+        assert_eq!(rt; u128::from_be_bytes(sealed), tag);
+        assert!(rt; self.open(rt, &sealed));
+        assert_eq!(rt; self.text.as_slice(), plaintext.as_slice());
+    }
+}
+
+// The GCM specification (McGrew and Viega, 2005), appendix B, test cases 1 and 2.
+#[test]
+fn zero_key(rt: HostRuntime) {
+    let ciphertext = [0x0388dace60b6a392f328c2b971b2fe78];
+    let cases = [
+        (0, 0x58e2fccefa7e3061367f1d57a4e7455a),
+        (16, 0xab6e47d42cec13bdf53a67b21257bddf),
+    ];
+    for (length, tag) in cases {
+        let mut sealing = Sealing {
+            key: [0; 16],
+            iv: [0; 12],
+            aad: Octets::from_blocks(&[], 0, 0),
+            text: Octets::from_blocks(&[], 0, length),
+        };
+        sealing.check(&rt, &Octets::from_blocks(&ciphertext, 0, length), tag);
+    }
+}
+
+const PLAINTEXT: [u128; 4] = [
+    0xd9313225f88406e5a55909c5aff5269a,
+    0x86a7a9531534f7da2e4c303d8a318a72,
+    0x1c3c0c95956809532fcf0e2449a6b525,
+    0xb16aedf5aa0de657ba637b391aafd255,
+];
+
+const CIPHERTEXT: [u128; 4] = [
+    0x42831ec2217774244b7221b784d0d49c,
+    0xe3aa212f2c02a4e035c17e2329aca12e,
+    0x21d514b25466931c7d8f6a5aac84aa05,
+    0x1ba30b396a0aac973d58e091473f5985,
+];
+
+const AAD: [u128; 2] = [
+    0xfeedfacedeadbeeffeedfacedeadbeef,
+    0xabaddad2000000000000000000000000,
+];
+
+// The same, test cases 3 and 4: whole blocks alone, and a short last block with additional data.
+#[test]
+fn other_key(rt: HostRuntime) {
+    let cases = [
+        (0, 64, 0x4d5c2af327cd64a62cf35abd2ba6fab4),
+        (20, 60, 0x5bc94fbc3221a5db94fae95ae7121a47),
+    ];
+    for (aad_length, text_length, tag) in cases {
+        let mut sealing = Sealing {
+            key: 0xfeffe9928665731c6d6a8f9467308308_u128.to_be_bytes(),
+            iv: iv_from(0xcafebabefacedbaddecaf88800000000),
+            aad: Octets::from_blocks(&AAD, 0, aad_length),
+            text: Octets::from_blocks(&PLAINTEXT, 0, text_length),
+        };
+        sealing.check(&rt, &Octets::from_blocks(&CIPHERTEXT, 0, text_length), tag);
+    }
+}
+
+/// What vector n seals.
+fn sealing_of(n: u8, aad_length: usize, text_length: usize) -> Sealing {
+    let mut key = [0; 16];
+    fill_by_rule(&mut key, 13, n);
+    let mut iv = [0; 12];
+    fill_by_rule(&mut iv, 17, n.wrapping_mul(2).wrapping_add(1));
+    Sealing {
+        key,
+        iv,
+        aad: Octets::by_rule(11, 5, aad_length),
+        text: Octets::by_rule(7, 3, text_length),
+    }
+}
+
+// Lengths of zero, of whole and of short blocks, by another implementation.
+#[test]
+fn many_lengths(rt: HostRuntime) {
+    let mut n = 0u8;
+    for vector in VECTORS {
+        let mut sealing = sealing_of(n, vector.aad_length, vector.text_length);
+        let ciphertext = Octets::from_blocks(BLOCKS, vector.first_block, vector.text_length);
+        sealing.check(&rt, &ciphertext, vector.tag);
+        n = n.wrapping_add(1);
+    }
+    assert!(rt; n == 31);
+}
+
+// The last 32 bits begin again at zero, and the first 96 stay (SP 800-38D, 6.2): the two counter
+// blocks encrypted by another implementation of AES-128.
+#[test]
+fn counter_wraps(rt: HostRuntime) {
+    let schedule = Schedule::new(&0xfeffe9928665731c6d6a8f9467308308_u128.to_be_bytes());
+    let mut text = [0; 32];
+    gctr(&schedule, &[0xff; 16], &mut text);
+    let masks = [
+        0xc06388d524637cced312c0961533cd99,
+        0x31316bf8a5a11493d187871e3dbf6768,
+    ];
+    assert_eq!(rt;
+        text.as_slice(),
+        Octets::from_blocks(&masks, 0, 32).as_slice()
+    );
+}
