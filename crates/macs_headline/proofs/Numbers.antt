@@ -1,6 +1,6 @@
 -- The headline on packet numbers.
 use Rattle.std.proofs.Common.{◌≡◌, ◌<◌, ◌≤◌, ◌+◌, ◌/◌, inl, inr, ℕ, refl, sym, ◌∙◌, ap, subst, arith, List, [], ◌∷◌, length, true, false}
-use Rattle.std.specs.Prelude.{Option, Some, None, IsSomeAnd, nat_lt}
+use Rattle.std.specs.Prelude.{Contains, Option, Some, None, IsSomeAnd, nat_lt}
 use Rattle.std.specs.Option.{option_map}
 use Rattle.std.proofs.lemmas.Bool.{cases_eq, cases_lt}
 use Rattle.std.proofs.lemmas.Bool.Decides.{nat_tests}
@@ -12,14 +12,15 @@ use Rattle.macs_config.specs.declared.association.TxSa.{TxSa}
 use Rattle.macs_config.specs.declared.command.Command.{Command}
 use Rattle.macs_config.specs.declared.command.Command.TheVariants.{TxInstall, TxRemove}
 use Rattle.macs_rxsc.specs.Receive.{Numbers, delivery_kind, first_numbers}
+use Rattle.macs_rxsc.specs.declared.verdict.Kind.{Kind}
 use Rattle.macs_rxsc.specs.declared.verdict.Kind.TheVariants.{Ok as AsOk, Delayed}
 use Rattle.macs_store.specs.Standing.{Standing}
-use Rattle.macs_endpoint.specs.State.{Delivery, Logs, State}
-use Rattle.macs_endpoint.specs.Step.{Exchange, Steps, next_after}
+use Rattle.macs_endpoint.specs.State.{Call, Delivery, Logs, Reply, State}
+use Rattle.macs_endpoint.specs.Step.{Exchange, Step, Steps, next_after}
 use Rattle.macs_endpoint.specs.Restart.{Restart, opened_state}
 use Rattle.macs_headline.specs.History.{Blank, Formatted, Past, logs_of}
-use Rattle.macs_headline.specs.Moments.{IsFoundAfter, WasGiven, WasUsed}
-use Rattle.macs_headline.specs.Numbers.{GivenBelow, GivenOnce, HasNoneTwice, IsBeyondRx, IsBeyondTx, NeverOkAgain, SkipsFew, UsedBelow, UsedOnce, UsedOnceAtEnd}
+use Rattle.macs_headline.specs.Moments.{IsFoundAfter, Moment}
+use Rattle.macs_headline.specs.Numbers.{HasNoneTwice, IsBeyondRx, IsBeyondTx, SkipsFew, UsedOnce, UsedOnceAtEnd}
 use Rattle.macs_headline.proofs.Lists.{pairs-none}
 use Rattle.macs_headline.proofs.Ledger.{ledger-kept, some_one}
 use Rattle.macs_headline.proofs.Places.{put-that, put-this}
@@ -29,6 +30,16 @@ use Rattle.macs_headline.proofs.Sent.{key_of}
 use Rattle.macs_headline.proofs.Given.{IsGiven, IsRxLedger, IsSoundRx, lowest-bound, pair_of, print_of, rx-effect, rx_bounds, rx_keys}
 use Rattle.macs_headline.proofs.Sound.{IsSound, tx-rise}
 use Rattle.macs_headline.proofs.Histories.{IsSoundPast, fits-restart, sound-history, sound-moment, sound-opened, sound-opening}
+
+-- ---- numbers in the logs
+
+-- a frame went out under this key with this packet number
+abbrev pub WasUsed : Logs → (key : List ℕ) (pn : ℕ) → Type 0
+WasUsed logs key pn = Contains logs.used (record { key = key; pn = pn })
+
+-- a frame with this packet number was delivered as Ok or Delayed, on an association of this SCI and key
+abbrev pub WasGiven : Logs → (sci key : List ℕ) (pn : ℕ) → Type 0
+WasGiven logs sci key pn = (kind : Kind) × Contains logs.given (record { sci = sci; key = key; pn = pn; kind = kind })
 
 -- ---- a delivery
 
@@ -175,8 +186,10 @@ module _ (sectors : ℕ) where
   pub used-once-at-end : UsedOnceAtEnd sectors
   used-once-at-end lives past history = past_apart past (sound-history sectors lives past history)
 
-  pub given-once : GivenOnce sectors
-  given-once s m on zero_window call reply new d (step, more) was =
+  -- where the window is 0, no call adds a delivery of a number that was given
+  pub given-apart : (s : State) → Moment sectors s → s.config.replay.on ≡ true → s.config.replay.window ≡ 0 → (call : Call) (reply : Reply) (new : State)
+      (d : Delivery) → Step s call reply new → new.logs.given ≡ d ∷ s.logs.given → ¬ WasGiven s.logs d.sci d.key d.pn
+  given-apart s m on zero_window call reply new d step more was =
       let is = sound-moment sectors s m in
       let a = added s.edition (core s) (core new) d (effect-of s call reply new step) more in
       let here = is.rx.below (d.sci, a.an) (d.sci, d.key) (pair_is (core s) d a) in
@@ -187,8 +200,10 @@ module _ (sectors : ℕ) where
       let over : a.n.lowest ≤ d.pn = a.in_time on in
       omega (arith, is_m, low, near, over, zero_window)
 
-  pub never-ok-again : NeverOkAgain sectors
-  never-ok-again s m call reply new d (step, more) ok was =
+  -- no call adds one as Ok of a number that was given before this life
+  pub never-ok-apart : (s : State) (m : Moment sectors s) (call : Call) (reply : Reply) (new : State) (d : Delivery) → Step s call reply new
+      → new.logs.given ≡ d ∷ s.logs.given → d.kind ≡ AsOk → ¬ WasGiven (logs_of m.past) d.sci d.key d.pn
+  never-ok-apart s m call reply new d step more ok was =
       let logs = logs_of m.past in
       let opened = opened_state m.life.found logs in
       let floor = floor-steps (IsGiven logs.given) opened m.exchanges s m.life.steps (floor-opening m.life.found logs (sound-opened sectors s m).rx) in
@@ -203,11 +218,13 @@ module _ (sectors : ℕ) where
   found_sound : (past : Past) (found : Standing) → IsFoundAfter sectors past found → IsSound (core (opened_state found (logs_of past)))
   found_sound past found is = sound-opening sectors past is.edition is.image found is.fits is.is_found (sound-history sectors is.lives past is.history)
 
-  pub used-below : UsedBelow sectors
-  used-below past found is = beyond_tx found (logs_of past) (found_sound past found is)
+  pub used-beyond : (past : Past) (found : Standing) → IsFoundAfter sectors past found → (key : List ℕ) (pn : ℕ) → WasUsed (logs_of past) key pn
+      → IsBeyondTx found key pn
+  used-beyond past found is = beyond_tx found (logs_of past) (found_sound past found is)
 
-  pub given-below : GivenBelow sectors
-  given-below past found is = beyond_rx found (logs_of past) (found_sound past found is)
+  pub given-beyond : (past : Past) (found : Standing) → IsFoundAfter sectors past found → (sci key : List ℕ) (pn : ℕ) → WasGiven (logs_of past) sci key pn
+      → IsBeyondRx found sci key pn
+  given-beyond past found is = beyond_rx found (logs_of past) (found_sound past found is)
 
   pub skips-few : SkipsFew sectors
   skips-few s edition image found fits is an before after next later is_before is_after is_next is_later =

@@ -4,13 +4,12 @@ use Rattle.macs_config.specs.Config.{Edition, is_spent, rx_fingerprint, tx_finge
 use Rattle.macs_config.specs.declared.association.RxSa.{RxSa}
 use Rattle.macs_config.specs.declared.association.TxSa.{TxSa}
 use Rattle.macs_disk.specs.States.{Image}
-use Rattle.macs_rxsc.specs.declared.verdict.Kind.TheVariants.{Ok as AsOk}
 use Rattle.macs_store.specs.Found.{StandingIs}
 use Rattle.macs_store.specs.Standing.{Standing}
 use Rattle.macs_endpoint.specs.Restart.{Fits}
-use Rattle.macs_endpoint.specs.State.{Call, Delivery, Logs, Reply, State, Use}
+use Rattle.macs_endpoint.specs.State.{Delivery, Logs, State, Use}
 use Rattle.macs_headline.specs.History.{IsHistory, LeadOn, Life, Past, logs_of}
-use Rattle.macs_headline.specs.Moments.{Delivers, IsFoundAfter, Moment, WasGiven, WasUsed}
+use Rattle.macs_headline.specs.Moments.{Moment}
 
 -- ---- nothing is forgotten
 
@@ -39,39 +38,18 @@ UsedOnce sectors = (s : State) → Moment sectors s → HasNoneTwice s.logs.used
 abbrev pub UsedOnceAtEnd : ℕ → Type 0
 UsedOnceAtEnd sectors = (lives : List Life) (past : Past) → IsHistory sectors lives past → HasNoneTwice (logs_of past).used
 
--- Where replay protection is on with window 0, no call delivers as Ok or Delayed what was delivered so in any life on an association of
--- the same SCI and key.
-abbrev pub GivenOnce : ℕ → Type 0
-GivenOnce sectors = (s : State) → Moment sectors s → s.config.replay.on ≡ true → s.config.replay.window ≡ 0
-    → (call : Call) (reply : Reply) (new : State) (d : Delivery) → Delivers s call reply new d → ¬ WasGiven s.logs d.sci d.key d.pn
-
--- Whatever the window, no call delivers as Ok what was delivered before this life on an association of the same SCI and key.
-abbrev pub NeverOkAgain : ℕ → Type 0
-NeverOkAgain sectors = (s : State) (m : Moment sectors s) (call : Call) (reply : Reply) (new : State) (d : Delivery)
-    → Delivers s call reply new d → d.kind ≡ AsOk → ¬ WasGiven (logs_of m.past) d.sci d.key d.pn
-
--- ---- what is found is above what was used
+-- ---- what is found is above a number
 
 -- The key is spent on the transmit side, and each association that has it begins above this number.
 pub record IsBeyondTx (found : Standing) (key : List ℕ) (pn : ℕ) : Type 0 where
   pub spent : is_spent found.config.spent_tx (tx_fingerprint key) ≡ true
   pub below : (an : ℕ) (sa : TxSa) → found.config.tx an ≡ Some sa → sa.key ≡ key → IsSomeAnd (found.ceilings.tx an) (λ next. pn < next)
 
--- in every image, of each number that was used before
-abbrev pub UsedBelow : ℕ → Type 0
-UsedBelow sectors = (past : Past) (found : Standing) → IsFoundAfter sectors past found
-    → (key : List ℕ) (pn : ℕ) → WasUsed (logs_of past) key pn → IsBeyondTx found key pn
-
 -- The key is spent for this SCI on the receive side, and each association of the SCI that has it begins above this number.
 pub record IsBeyondRx (found : Standing) (sci key : List ℕ) (pn : ℕ) : Type 0 where
   pub spent : is_spent found.config.spent_rx (rx_fingerprint sci key) ≡ true
   pub below : (an : ℕ) (sa : RxSa) → found.config.rx sci an ≡ Some sa → sa.key ≡ key
       → IsSomeAnd (found.ceilings.rx sci an) (λ next. pn < next)
-
--- in every image, of each number that was delivered before
-abbrev pub GivenBelow : ℕ → Type 0
-GivenBelow sectors = (past : Past) (found : Standing) → IsFoundAfter sectors past found
-    → (sci key : List ℕ) (pn : ℕ) → WasGiven (logs_of past) sci key pn → IsBeyondRx found sci key pn
 
 -- ---- and not far above
 

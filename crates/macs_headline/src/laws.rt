@@ -10,15 +10,21 @@ ghost use Rattle.macs_disk.specs.States.{Image, IsImage};
 ghost use Rattle.macs_disk.specs.declared.file.FileDisk.{FileDisk};
 ghost use Rattle.macs_disk.specs.declared.layout.Layout.{Layout};
 ghost use Rattle.macs_journal.specs.Areas.{least_sectors};
-ghost use Rattle.macs_headline.specs.Binding.{DeedsAreHistories, FramesAreWrittenOnce, IsNewDisk, LivesAreMoments};
-ghost use Rattle.macs_headline.specs.Binding.{LivesKeepCommands, LossesAreCuts};
+ghost use Rattle.macs_headline.specs.Answered.{AnswersAreHeld};
+ghost use Rattle.macs_headline.specs.Binding.{CallsAreDeeds, ChainsAnswer, DeedsAreHistories, EndsAreCuts, FramesAreDeliveredOnce, FramesAreWrittenOnce};
+ghost use Rattle.macs_headline.specs.Binding.{FusesChangeNone, IsNewDisk, LargerGoOn, LivesAreMoments, LivesKeepCommands, LivesKeepTickets};
+ghost use Rattle.macs_headline.specs.Binding.{NewDeedsAreHistories};
+ghost use Rattle.macs_headline.specs.Binding.{NewDisksHaveHistories, OpeningsFind, PassedOnHaveHistories, RefusalsAreFailures, SettledHaveHistories};
 ghost use Rattle.macs_headline.specs.Commands.{CommandsKept};
-ghost use Rattle.macs_headline.specs.Deeds.{LosesPower};
+ghost use Rattle.macs_headline.specs.Deeds.{IsPassedOn};
+ghost use Rattle.macs_headline.specs.Deliveries.{DeliveriesAreVerified, GivenBelow, GivenOnce, NeverOkAgain, OthersAreBare};
+ghost use Rattle.macs_headline.specs.Endings.{DroppedPassOn, KillingsPassOn, PassedOnAgain, PowerLossesPassOn, ReadsPassOn, SyncsPassOn, WrittenBackPassOn};
 ghost use Rattle.macs_headline.specs.ExampleLives.{IsWorkedHistory};
-ghost use Rattle.macs_headline.specs.Frames.{FramesAreStandard};
-ghost use Rattle.macs_headline.specs.Numbers.{GivenBelow, GivenOnce, NeverOkAgain, NothingForgotten, SkipsFew, UsedBelow};
+ghost use Rattle.macs_headline.specs.Frames.{FramesAreStandard, UsedBelow, WrittenOnce};
+ghost use Rattle.macs_headline.specs.Numbers.{NothingForgotten, SkipsFew};
 ghost use Rattle.macs_headline.specs.Numbers.{UsedOnce, UsedOnceAtEnd};
-ghost use Rattle.macs_headline.specs.Openings.{RefusedForDisk, RefusedForDiskOrBlank};
+ghost use Rattle.macs_headline.specs.Tickets.{TicketsKept};
+ghost use Rattle.macs_headline.specs.Openings.{IdentityWasGiven, RefusedForDisk, RefusedForDiskOrBlank};
 
 use crate::example::peer_frame_in_range;
 use macs_disk::laws::a_file_is_left_as_its_disk;
@@ -31,9 +37,13 @@ use macs_disk::{DiskFile, SectorDisk};
 pub fn headline()
     // No life forgets what was used and delivered before it.
     ensures nothing_forgotten { (sectors : ℕ) → NothingForgotten sectors }
+    // What any life answered was answered at a moment of the history, and what it used and delivered is held.
+    ensures answers_are_held { (sectors : ℕ) → AnswersAreHeld sectors }
     // No two frames carry the same key and packet number: at each moment of each life, and at the end.
     ensures used_once { (sectors : ℕ) → UsedOnce sectors }
     ensures used_once_at_end { (sectors : ℕ) → UsedOnceAtEnd sectors }
+    // A frame that is written carries another key or number than each that was, in this life or before it.
+    ensures written_once { (sectors : ℕ) → WrittenOnce sectors }
     // With replay window zero no packet number is delivered twice as verified on one association.
     ensures given_once { (sectors : ℕ) → GivenOnce sectors }
     // A packet number that was delivered before a restart is never delivered as Ok after it.
@@ -46,26 +56,79 @@ pub fn headline()
     ensures skips_few { (sectors : ℕ) → SkipsFew sectors }
     // An opening finds a prefix of the accepted commands that holds every acknowledged one.
     ensures commands_kept { (sectors : ℕ) → CommandsKept sectors }
+    // In one life tickets are given in order from 1, each is answered at most once, in order, and none is lost.
+    ensures tickets_kept { (sectors : ℕ) → TicketsKept sectors }
     // Each frame is the protected frame of that moment, and its number joins those that were used.
     ensures frames_are_standard { (sectors : ℕ) → FramesAreStandard sectors }
+    // Each frame delivered as Ok or Delayed verifies, and its own number joins those that were delivered.
+    ensures deliveries_are_verified { (sectors : ℕ) → DeliveriesAreVerified sectors }
+    // Each other answer gives nothing that was hidden, and leaves what was used and delivered as it was.
+    ensures others_are_bare { (sectors : ℕ) → OthersAreBare sectors }
     // After `format` has answered Ok an opening is refused for the disk alone.
     ensures refused_for_disk { (sectors : ℕ) → RefusedForDisk sectors }
     // Before that it may also find no journal.
     ensures refused_for_disk_or_blank { (sectors : ℕ) → RefusedForDiskOrBlank sectors }
+    // An opening finds an identity that some `format` was given.
+    ensures identity_was_given { (sectors : ℕ) → IdentityWasGiven sectors }
 {}
 
-/// What is done with a disk that is new, by the contracts of `format`, of `Endpoint::open` and of an
-/// endpoint's calls, with power losses between and inside them, is such a history.
+/// Where a history begins, and which disks have it.
+pub fn beginnings()
+    ensures new { NewDisksHaveHistories }
+    // One with nothing pending has each history after which a program may come upon what is on it.
+    ensures settled { SettledHaveHistories }
+    // A program of a larger edition goes on from the history that those of a smaller one made.
+    ensures larger { LargerGoOn }
+    // The next disk over the same medium has the history of the one before.
+    ensures passed_on { PassedOnHaveHistories }
+    // So has a disk with a fuse before it, and one without.
+    ensures fuses { FusesChangeNone }
+{}
+
+/// Each way in which a program may end passes the medium of its disk on, in a call or between two.
+pub fn endings<D: SectorDisk>()
+    // Power is lost.
+    ensures power_lost { PowerLossesPassOn }
+    // The program is killed, and no power is lost.
+    ensures killed { KillingsPassOn }
+    // It lets go of its disk while sectors are pending.
+    ensures dropped { DroppedPassOn }
+    // Some of the pending sectors reach the medium meanwhile.
+    ensures written_back { WrittenBackPassOn D.disk }
+    // The owner reads, or syncs.
+    ensures read { ReadsPassOn D.disk }
+    ensures synced { SyncsPassOn D.disk }
+    // One of these comes after another.
+    ensures again { PassedOnAgain }
+{}
+
+/// What is done with a disk that has a history, by the contracts of `format`, of `Endpoint::open` and of an
+/// endpoint's calls, wherever a program ends, continues that history.
 pub fn histories<D: SectorDisk>()
+    // What a call's contract says makes a deed.
+    ensures deeds { CallsAreDeeds D.disk }
+    // Deeds, one after another, continue the history of the disk.
     ensures whole { DeedsAreHistories D.disk }
+    // What their endpoints answered is among what the lives answered.
+    ensures answers { ChainsAnswer D.disk }
+    // From a disk that is new they are one.
+    ensures from_new { NewDeedsAreHistories D.disk }
+    // An opening finds what may be found after the history.
+    ensures found { OpeningsFind D.disk }
     // An endpoint that lives is at a moment of it.
     ensures under_way { LivesAreMoments D.disk }
-    // A power loss while it lives is one in its opening, or inside one of its calls.
-    ensures cut { LossesAreCuts D.disk }
+    // Where the medium is passed on while it lives, that is in its opening, or inside one of its calls.
+    ensures cut { EndsAreCuts D.disk }
+    // An opening is refused only where a device call failed, or where the disk was not formatted for sure.
+    ensures refusals { RefusalsAreFailures D.disk }
     // What it acknowledged is kept.
     ensures commands { LivesKeepCommands D.disk }
+    // Its tickets are kept, on every disk.
+    ensures tickets { LivesKeepTickets D.disk }
     // A frame that it writes is the standard's, with a number that its key had in no life before.
     ensures frames { FramesAreWrittenOnce D.disk }
+    // A frame that it delivers as verified verifies, and with window zero its number was so delivered in no life.
+    ensures deliveries { FramesAreDeliveredOnce D.disk }
 {}
 
 /// There are histories, over real images and frames: with power losses in `format`, between two steps of a
@@ -84,7 +147,7 @@ pub fn new_disks()
 /// A power loss, as a disk in memory plays one, is a power loss of a history.
 pub fn power_losses()
     ensures { (disk : Disk) (since : ℕ) (image : Image) → LeftSince disk since image
-        → LosesPower disk since (disk_after_loss disk image) }
+        → IsPassedOn disk since (disk_after_loss disk image) }
 {}
 
 /// A disk in a file that behaves is one that histories are of, where the blocks of its device suit the layout.
@@ -96,12 +159,12 @@ pub fn files<F: DiskFile>()
     // the new disk has one of the images that the file might have been left with.
     ensures opened_again { (file : FileState) (layout : Layout) (old new : Disk) → IsOpened file 0 layout new
         → suits layout file.block ≡ true → ((image : Image) → IsImage (state_in_file layout file) image → MayLeave old image)
-        → new.sectors ≡ old.sectors → new.honest ≡ old.honest → LosesPower old old.clock new }
+        → new.sectors ≡ old.sectors → new.honest ≡ old.honest → IsPassedOn old old.clock new }
     // So it is to open the file that a disk left, be it after a call that failed.
     ensures reopened { (it : FileDisk F) (new : Disk) → IsLeftAsShown F.file it → Behaves (F.file (file_left it))
         → suits (layout_of it) (F.file (file_left it)).block ≡ true → IsOpened (F.file (file_left it)) 0 (layout_of it) new
         → new.sectors ≡ (disk_in_file F.file it).sectors → new.honest ≡ (disk_in_file F.file it).honest
-        → LosesPower (disk_in_file F.file it) (disk_in_file F.file it).clock new }
+        → IsPassedOn (disk_in_file F.file it) (disk_in_file F.file it).clock new }
 {
     a_file_is_left_as_its_disk::<F>();
 }
