@@ -5,12 +5,13 @@ use Rattle.macs_disk.specs.Disk.{Disk, IsHonest, MayLeave, now}
 use Rattle.macs_disk.specs.Fused.{fused_disk}
 use Rattle.macs_disk.specs.States.{DiskState, Image, IsImage, IsSound}
 use Rattle.std.specs.Prelude.{Contains}
-use Rattle.macs_endpoint.specs.Lives.{Transition, exchange_of}
+use Rattle.macs_endpoint.specs.Calls.{IsCall}
+use Rattle.macs_endpoint.specs.Lives.{Lives, Transition, exchange_of}
 use Rattle.macs_endpoint.specs.State.{Call}
 use Rattle.macs_endpoint.specs.Step.{Exchange}
-use Rattle.macs_endpoint.specs.Value.{EndpointValue}
+use Rattle.macs_endpoint.specs.Value.{EndpointValue, IsSoundEndpoint}
 use Rattle.macs_headline.specs.Answered.{exchanges_in, exchanges_of_lives}
-use Rattle.macs_headline.specs.Binding.{CallsAreDeeds, ChainsAnswer, DeedsAreHistories, FusesChangeNone, HasHistory, NewDeedsAreHistories, NewDisksHaveHistories, PassedOnHaveHistories, SettledHaveHistories}
+use Rattle.macs_headline.specs.Binding.{CallsAreDeeds, ChainsAnswer, ChainsKeepSizes, DeedsAreHistories, FusesChangeNone, HasHistory, NewDeedsAreHistories, NewDisksHaveHistories, PassedOnHaveHistories, SettledHaveHistories}
 use Rattle.macs_headline.specs.Deeds.{Chain, Deed, Does, Formatting, FormattingCut, IsPassedOn, Link, Living, OpeningCut, PassingOn, Refusing, lives_of_deed, lives_of_links}
 use Rattle.macs_headline.specs.History.{Blank, FitsPast, IsHistory, LeadOn, Life, Past}
 use Rattle.macs_headline.proofs.Formats.{format-answered, format-cut}
@@ -127,10 +128,26 @@ module _ {D : Type 0} (disk_of : D → Disk) (sound : (it : D) → IsHonest (dis
         images = λ image left. subst (λ (n : ℕ). FitsPast this_edition n leads.later image) (sym leads.covered.size) (leads.covered.images image left);
       }
 
+  pub chains-keep-sizes : ChainsKeepSizes disk_of
+  chains-keep-sizes old new before links h chain =
+      (by-links (disk_of old).sectors h.past old new links (history-covers (disk_of old) before h) chain).covered.size
+
   pub new-deeds-are-histories : NewDeedsAreHistories disk_of
   new-deeds-are-histories old new links is_new chain = deeds-are-histories old new [] links (new-disks this_edition (disk_of old) is_new) chain
 
 -- ---- what makes a deed
+
+-- one call more, and one deed more
+lives_one_more : {D : Type 0} (disk_of : D → Disk) (turns : List (Transition D)) (first mid : EndpointValue D) (turn : Transition D) → Lives disk_of first turns mid
+    → IsSoundEndpoint mid → IsCall disk_of mid turn.call turn.reply turn.after → Lives disk_of first (turns ++ turn ∷ []) turn.after
+lives_one_more {D} disk_of [] first mid turn same kept call =
+    (subst IsSoundEndpoint same kept, subst (λ (e : EndpointValue D). IsCall disk_of e turn.call turn.reply turn.after) same call, refl)
+lives_one_more disk_of (next ∷ turns) first mid turn (sound, call, rest) kept last = (sound, call, lives_one_more disk_of turns next.after mid turn rest kept last)
+
+chain_one_more : {D : Type 0} (disk_of : D → Disk) (links : List (Link D)) (old mid : D) (link : Link D) → Chain disk_of old links mid
+    → Does disk_of mid link.deed link.after → Chain disk_of old (links ++ link ∷ []) link.after
+chain_one_more {D} disk_of [] old mid link same does = (subst (λ (d : D). Does disk_of d link.deed link.after) same does, refl)
+chain_one_more disk_of (next ∷ links) old mid link (is, rest) does = (is, chain_one_more disk_of links next.after mid link rest does)
 
 pub calls-are-deeds : {D : Type 0} (disk_of : D → Disk) → CallsAreDeeds disk_of
 calls-are-deeds disk_of = record {
@@ -141,6 +158,10 @@ calls-are-deeds disk_of = record {
   ended = λ old first last turns lived. (lived, refl);
   call_cut = λ old new first last after turns call reply lived kept is passed. (lived, kept, reply, after, is, passed);
   passed_on = λ old new passed. passed;
+  begun = λ disk first opening. (opening, refl);
+  called = λ disk first mid turns turn lived kept call. (lived.0, lives_one_more disk_of turns first mid turn lived.1 kept call);
+  none = λ old. refl;
+  one_more = λ old mid links link chain does. chain_one_more disk_of links old mid link chain does;
 }
 
 -- ---- what they answered

@@ -57,9 +57,9 @@ deliveries-are-verified sectors s m frame out kind new is step = delivered s fra
 
 -- ---- the other answers
 
-verified_kind : (late : Bool) → IsVerifiedKind (cond late Delayed AsOk)
-verified_kind true = tt
-verified_kind false = tt
+pub verified-kind : (late : Bool) → IsVerifiedKind (cond late Delayed AsOk)
+verified-kind true = tt
+verified-kind false = tt
 
 bare : (frame : List ℕ) (verdict : Verdict) → ¬ IsVerifiedAnswer (Ok verdict) → given_at frame verdict ≡ out_after frame (Ok verdict)
 bare frame (Delivered AsOk) other = absurd (other tt)
@@ -78,6 +78,6 @@ others-are-bare sectors s m frame out (Ok verdict) new other (inr (running, inl 
 others-are-bare sectors s m frame out (Ok verdict) new other (inr (running, inr (a, there, inl (is_verdict, above, is_out, same)))) =
     (is_out ∙ sym (ap (λ (v : Verdict). out_after frame (Ok v)) is_verdict), ap (λ (t : State). t.logs) same)
 others-are-bare sectors s m frame out (Ok verdict) new other (inr (running, inr (a, there, inr (is_verdict, is_out, same)))) =
-    absurd (other (subst (λ (v : Verdict). IsVerifiedAnswer (Ok v)) (sym is_verdict) (verified_kind (nat_lt a.pn a.numbers.lowest))))
+    absurd (other (subst (λ (v : Verdict). IsVerifiedAnswer (Ok v)) (sym is_verdict) (verified-kind (nat_lt a.pn a.numbers.lowest))))
 others-are-bare sectors s m frame out (Err stopped) new other (inl (is_stopped, empty, same)) = (empty, ap (λ (t : State). t.logs) same)
 others-are-bare sectors s m frame out (Err stopped) new other (inr (running, answer)) = absurd answer

@@ -1,6 +1,6 @@
 -- Disks in files, as histories have them.
 use Rattle.std.proofs.Common.{◌≡◌, ◌<◌, ◌-◌, ℕ, true, replicate, refl, ap, ◌∙◌, arith, le_refl}
-use Rattle.macs_disk.specs.Disk.{Disk, MayLeave, now}
+use Rattle.macs_disk.specs.Disk.{Disk, MayLeave}
 use Rattle.macs_disk.specs.FileDisks.{IsBlank, IsOpened, file_lengthened, image_in_file, state_in_file}
 use Rattle.macs_disk.specs.Files.{FileState, file_after_sync, file_after_write, file_settled}
 use Rattle.macs_disk.specs.Layouts.{place, suits}
@@ -9,9 +9,8 @@ use Rattle.macs_disk.specs.declared.layout.Layout.{Layout}
 use Rattle.macs_disk.specs.declared.layout.Layout.TheVariants.{Packed, Spaced}
 use Rattle.macs_disk.proofs.FileSectors.{file-image}
 use Rattle.macs_headline.specs.Binding.{IsNewDisk}
-use Rattle.macs_headline.specs.Deeds.{IsPassedOn}
+use Rattle.macs_headline.specs.Endings.{LosesPower}
 use Rattle.macs_headline.proofs.Built.{closed-gate}
-use Rattle.macs_headline.proofs.Losses.{settled-passed}
 
 pub blank-file-is-new : (old new : FileState) (layout : Layout) (disk : Disk) → IsBlank old new layout disk → suits layout old.block ≡ true → IsNewDisk disk
 blank-file-is-new old new layout disk blank suited = record {
@@ -37,9 +36,12 @@ as-settled layout file settled octets is =
     ∙ ap (λ (f : FileState). state_in_file layout (file_after_sync f)) is
 
 pub opened-again : (file : FileState) (layout : Layout) (old new : Disk) → IsOpened file 0 layout new → suits layout file.block ≡ true
-    → ((image : Image) → IsImage (state_in_file layout file) image → MayLeave old image) → new.sectors ≡ old.sectors → new.honest ≡ old.honest → IsPassedOn old old.clock new
+    → ((image : Image) → IsImage (state_in_file layout file) image → MayLeave old image) → new.sectors ≡ old.sectors → new.honest ≡ old.honest → LosesPower old old.clock new
 opened-again file layout old new opened suited may sectors honest =
     let octets = opened.settles.0 in
-    let settled : now new ≡ settled_state (image_in_file layout octets) = opened.state ∙ as-settled layout file opened.settled octets opened.settles.3 in
-    settled-passed old new old.clock (image_in_file layout octets)
-    (old.clock, le_refl old.clock, le_refl old.clock, may (image_in_file layout octets) (file-image layout file octets suited opened.settles.1)) sectors honest settled
+    record {
+      image = image_in_file layout octets;
+      left = (old.clock, le_refl old.clock, le_refl old.clock, may (image_in_file layout octets) (file-image layout file octets suited opened.settles.1));
+      alike = record { sectors = sectors; honest = honest };
+      settled = opened.state ∙ as-settled layout file opened.settled octets opened.settles.3;
+    }

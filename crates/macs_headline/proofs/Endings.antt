@@ -4,11 +4,11 @@ use Rattle.macs_disk.specs.Disk.{Disk, IsDeviceCall, IsHonest, now}
 use Rattle.macs_disk.specs.States.{DiskState, Image, IsImage, IsSector, IsSound}
 use Rattle.macs_disk.specs.declared.disk.DeviceFault.{DeviceFault}
 use Rattle.macs_headline.specs.Deeds.{IsPassedOn}
-use Rattle.macs_headline.specs.Endings.{DroppedPassOn, KillingsPassOn, PassedOnAgain, PowerLossesPassOn, ReadsPassOn, SyncsPassOn, WrittenBackPassOn, state_written_back}
+use Rattle.macs_headline.specs.Endings.{DroppedPassOn, EndsAreEarlier, KillingsPassOn, PassedOnAgain, PowerLossesPassOn, ReadsPassOn, SyncsPassOn, WrittenBackPassOn, state_written_back}
 use Rattle.macs_headline.proofs.Losses.{settled-passed}
 
 pub power-losses-pass-on : PowerLossesPassOn
-power-losses-pass-on old new since image left alike settled = settled-passed old new since image left alike.sectors alike.honest settled
+power-losses-pass-on old new since lost = settled-passed old new since lost.image lost.left lost.alike.sectors lost.alike.honest lost.settled
 
 pub killings-pass-on : KillingsPassOn
 killings-pass-on old new since moment from to alike same = record {
@@ -22,6 +22,16 @@ killings-pass-on old new since moment from to alike same = record {
 
 pub dropped-pass-on : DroppedPassOn
 dropped-pass-on old new alike same = killings-pass-on old new old.clock old.clock (le_refl old.clock) (le_refl old.clock) alike same
+
+pub ends-are-earlier : EndsAreEarlier
+ends-are-earlier old ran new since works passed from later within = record {
+  moment = passed.moment;
+  later = later;
+  within = within;
+  sectors = passed.sectors ∙ works.sectors;
+  honest = passed.honest ∙ works.honest;
+  images = λ image here. subst (λ (s : DiskState). IsImage s image) (works.past passed.moment within) (passed.images image here);
+}
 
 pub passed-on-again : PassedOnAgain
 passed-on-again old mid new since first second = record {

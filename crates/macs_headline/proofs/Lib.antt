@@ -24,6 +24,7 @@ pub mod Formats
 pub mod Living
 pub mod Chains
 pub mod Answered
+pub mod Logged
 pub mod Moments
 pub mod Tickets
 pub mod RefusedDays

@@ -7,6 +7,7 @@ use Rattle.macs_disk.specs.Runs.{LeavesNothingNew}
 use Rattle.macs_disk.specs.States.{DiskState, Image, IsImage, IsSound, settled_state}
 use Rattle.macs_disk.proofs.Moments.{Left-now}
 use Rattle.macs_headline.specs.Deeds.{IsPassedOn}
+use Rattle.macs_headline.specs.Endings.{LosesPower}
 use Rattle.macs_headline.specs.History.{FitsPast, LeadOn, Life, Past}
 
 -- where nothing is pending there is one image
@@ -27,8 +28,8 @@ settled-passed old new since image left sectors honest settled = record {
       subst (λ (i : Image). IsImage (old.past left.0) i) (sym same) left.3;
 }
 
-pub loses-power : (disk : Disk) (since : ℕ) (image : Image) → LeftSince disk since image → IsPassedOn disk since (disk_after_loss disk image)
-loses-power disk since image left = settled-passed disk (disk_after_loss disk image) since image left refl refl refl
+pub loses-power : (disk : Disk) (since : ℕ) (image : Image) → LeftSince disk since image → LosesPower disk since (disk_after_loss disk image)
+loses-power disk since image left = record { image = image; left = left; alike = record { sectors = refl; honest = refl }; settled = refl }
 
 -- ---- a disk each of whose images may be come upon after a past
 

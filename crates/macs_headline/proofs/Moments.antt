@@ -17,16 +17,18 @@ use Rattle.macs_store.specs.Standing.{Standing}
 use Rattle.macs_store.specs.Value.{standing_in}
 use Rattle.macs_endpoint.specs.Calls.{IsCall}
 use Rattle.macs_endpoint.specs.Lives.{Lives, Transition, exchange_of}
-use Rattle.macs_endpoint.specs.Restart.{state_taking_alone, state_taking_first}
+use Rattle.macs_endpoint.specs.Ceilings.{Raise}
+use Rattle.macs_endpoint.specs.Restart.{Fits, state_during, state_taking_alone, state_taking_first}
 use Rattle.macs_endpoint.specs.State.{Advances, Call, Commands, Logs, Protects, Protected, Received, Receives, Refills, State, Submits, no_logs, state_with_in_hand}
 use Rattle.macs_endpoint.specs.declared.queue.Waiting.{Waiting}
 use Rattle.macs_endpoint.specs.Value.{EndpointValue, IsSoundEndpoint, disk_in, state_of}
-use Rattle.macs_headline.specs.Binding.{FramesAreDeliveredOnce, FramesAreWrittenOnce, EndsAreCuts, HasHistory, IsAtMoment, LivesAreMoments, LivesKeepCommands, OpeningsFind}
+use Rattle.macs_headline.specs.Binding.{FramesAreDeliveredOnce, FramesAreWrittenOnce, EndsAreCuts, HasHistory, IsAtMoment, LivesAreMoments, LivesFit, LivesKeepCommands, OpeningsFind}
+use Rattle.macs_headline.specs.Binding.{cut_beginning, state_left}
 use Rattle.macs_endpoint.specs.Step.{Step}
 use Rattle.macs_headline.specs.Answered.{exchanges_of_lives}
 use Rattle.macs_headline.specs.Commands.{FindsPrefix}
 use Rattle.macs_headline.specs.Deliveries.{IsOtherDelivery, IsVerifiedDelivery, IsVerifiedKind, delivering}
-use Rattle.macs_headline.specs.Deeds.{LivesFrom}
+use Rattle.macs_headline.specs.Deeds.{Does, Living, LivesFrom}
 use Rattle.macs_headline.specs.History.{Formatted, Life, logs_of, state_at_end}
 use Rattle.macs_headline.specs.Moments.{Moment}
 use Rattle.macs_headline.proofs.Chains.{history-covers}
@@ -35,7 +37,8 @@ use Rattle.macs_headline.proofs.Answered.{given-once, never-ok-again, written-on
 use Rattle.macs_headline.proofs.Deliveries.{deliveries-are-verified}
 use Rattle.macs_headline.proofs.Effects.{core, effect-of}
 use Rattle.macs_headline.proofs.Histories.{sound-moment}
-use Rattle.macs_headline.proofs.Living.{IsAlive, alive, covered-cut, covered-life}
+use Rattle.macs_headline.proofs.Endings.{ends-are-earlier}
+use Rattle.macs_headline.proofs.Living.{IsAlive, alive, covered-cut, covered-life, covered-raising}
 use Rattle.macs_headline.proofs.Losses.{IsCovered}
 use Rattle.macs_headline.proofs.Older.{larger-fits}
 use Rattle.macs_headline.proofs.Ranges.{frames-are-standard}
@@ -109,14 +112,7 @@ module _ {D : Type 0} (disk_of : D → Disk) where
         | inr early ↦ inl (
           Ok first,
           lived.0,
-          record {
-            moment = k;
-            later = passed.later;
-            within = early;
-            sectors = passed.sectors ∙ on.sectors;
-            honest = passed.honest ∙ on.honest;
-            images = λ image here. subst (λ (s : DiskState). IsImage s image) (on.past k early) (passed.images image here);
-          },
+          ends-are-earlier (disk_in disk_of first) (disk_in disk_of last) (disk_of new) (disk_of old).clock on passed (disk_of old).clock passed.later early,
         )
         | inl late ↦ elim (within turns first last k lived.1 (omega (arith, late)) passed.within) [
           | inl same ↦
@@ -135,14 +131,8 @@ module _ {D : Type 0} (disk_of : D → Disk) where
               is.turn.reply,
               is.turn.after,
               is.call,
-              record {
-                moment = k;
-                later = is.from;
-                within = is.to;
-                sectors = passed.sectors ∙ is.on.sectors;
-                honest = passed.honest ∙ is.on.honest;
-                images = λ image here. subst (λ (s : DiskState). IsImage s image) (is.on.past k is.to) (passed.images image here);
-              },
+              ends-are-earlier (disk_in disk_of is.turn.after) (disk_in disk_of last) (disk_of new) (disk_of old).clock is.on passed (disk_in disk_of is.mid).clock
+                  is.from is.to,
             ),
           )
         ]
@@ -217,24 +207,61 @@ module _ {D : Type 0} (disk_of : D → Disk) (sound : (it : D) → IsHonest (dis
     found = living.same_found;
   }
 
-  -- what is found of a disk that its end covers
-  kept_commands : (cut : Option Call) (new : D) → IsCovered sectors (Formatted (state_at_end (state_of last living.logs) cut)) (disk_of new)
-      → (later : Edition) → IsUpTo this_edition later
+  -- what a cut call leaves, by what it is and whether a ceiling was being raised
+  covered_end : (reserving : Option Raise) (call : Call) (new : D)
+      → ((raise : Raise) → reserving ≡ Some raise → call ≡ Advances → IsCovered sectors (Formatted (state_of last living.logs)) (disk_of new))
+      → IsCovered sectors (Formatted (state_during (state_of last living.logs) call)) (disk_of new)
+      → IsCovered sectors (Formatted (state_at_end (state_of last living.logs) (cut_beginning reserving (Some call)))) (disk_of new)
+  covered_end None call new raising during = during
+  covered_end (Some raise) (Commands c) new raising during = during
+  covered_end (Some raise) Refills new raising during = during
+  covered_end (Some raise) (Submits c) new raising during = during
+  covered_end (Some raise) Advances new raising during = raising raise refl refl
+  covered_end (Some raise) (Protects plain) new raising during = during
+  covered_end (Some raise) (Receives frame) new raising during = during
+
+  no_cut : (reserving : Option Raise) → cut_beginning reserving None ≡ None
+  no_cut None = refl
+  no_cut (Some raise) = refl
+
+  -- the disk after the life
+  covered_left : (cut : Option Call) (new : D) → Does disk_of disk (Living first turns last cut) new
+      → IsCovered sectors (Formatted (state_left last living.logs cut)) (disk_of new)
+  covered_left None new (as_lived, same) =
+      subst (λ (cut : Option Call). IsCovered sectors (Formatted (state_at_end (state_of last living.logs) cut)) (disk_of new)) (sym (no_cut last.reserving))
+      (covered-life disk_of sound sectors h.past disk first turns last covered lived new same)
+  covered_left (Some call) new (as_lived, kept, reply, after, is, passed) =
+      covered_end last.reserving call new (covered-raising disk_of sound sectors h.past disk first turns last covered lived kept call reply after is new passed)
+      (covered-cut disk_of sound sectors h.past disk first turns last covered lived kept call reply after is new passed)
+
+  fits_left : (cut : Option Call) (new : D) → Does disk_of disk (Living first turns last cut) new → (later : Edition) → IsUpTo this_edition later
+      → (image : Image) → MayLeave (disk_of new) image → Fits later sectors image (state_left last living.logs cut)
+  fits_left cut new does later up_to image left =
+      larger-fits this_edition later up_to sectors image (state_left last living.logs cut) ((covered_left cut new does).images image left)
+
+  -- what is found there
+  kept_commands : (cut : Option Call) (new : D) → Does disk_of disk (Living first turns last cut) new → (later : Edition) → IsUpTo this_edition later
       → (image : Image) (after : Standing) → MayLeave (disk_of new) image → StandingIs later sectors image (Ok after)
-      → FindsPrefix (standing_in first.store) (map exchange_of turns) (state_at_end (state_of last no_logs) cut).in_hand after
-  kept_commands cut new covered_new later up_to image after left is_after =
-      let end = state_at_end (state_of last living.logs) cut in
-      let fits = larger-fits this_edition later up_to sectors image end (covered_new.images image left) in
-      let found = commands-kept sectors (state_of last living.logs) moment cut later image after fits is_after in
-      let hand : Option Command = (state_at_end (state_of last living.logs) cut).in_hand in
-      subst (λ (h : Option Command). FindsPrefix (standing_in first.store) (map exchange_of turns) h after) (in_hand_at_end last living.logs cut)
+      → FindsPrefix (standing_in first.store) (map exchange_of turns) (state_left last no_logs cut).in_hand after
+  kept_commands cut new does later up_to image after left is_after =
+      let begun = cut_beginning last.reserving cut in
+      let fits = fits_left cut new does later up_to image left in
+      let found = commands-kept sectors (state_of last living.logs) moment begun later image after fits is_after in
+      let hand : Option Command = (state_left last living.logs cut).in_hand in
+      subst (λ (h : Option Command). FindsPrefix (standing_in first.store) (map exchange_of turns) h after) (in_hand_at_end last living.logs begun)
       (subst (λ (s : Standing). FindsPrefix s (map exchange_of turns) hand after) living.same_found found)
+
+-- that which a life was lived from
+lived_of : {D : Type 0} (disk_of : D → Disk) (disk new : D) (first last : EndpointValue D) (turns : List (Transition D)) (cut : Option Call)
+    → Does disk_of disk (Living first turns last cut) new → LivesFrom disk_of disk first turns last
+lived_of disk_of disk new first last turns None does = does.0
+lived_of disk_of disk new first last turns (Some call) does = does.0
 
 -- a delivery whose kind is Ok
 as_ok : (sectors : ℕ) (s : State) (m : Moment sectors s) (frame out : List ℕ) (kind : Kind) (new : State) (d : IsVerifiedDelivery s frame kind out new)
     → Step s (Receives frame) (Received (Ok (Delivered kind)) out) new → kind ≡ AsOk
     → (earlier given : List ℕ) (was : Kind) → IsVerifiedKind was → Contains (exchanges_of_lives m.lives) (delivering earlier was given)
-    → IsOtherDelivery sectors (logs_of m.past) earlier was given d.sci d.sa.key (tag_of frame).pn
+    → IsOtherDelivery sectors m.lives (logs_of m.past) earlier was given d.sci d.sa.key (tag_of frame).pn
 as_ok sectors s m frame out AsOk new d step is_ok = never-ok-again sectors s m frame out new d step
 as_ok sectors s m frame out kind new d step is_ok = absurd (cc)
 
@@ -259,12 +286,13 @@ module _ {D : Type 0} (disk_of : D → Disk) (sound : (it : D) → IsHonest (dis
   lives-are-moments disk before first last turns h lived = at_moment disk_of sound disk before h first last turns lived
 
   pub lives-keep-commands : LivesKeepCommands disk_of
-  lives-keep-commands disk new before first last turns None h (lived, same) =
-      kept_commands disk_of sound disk before h first last turns lived None new
-      (covered-life disk_of sound (disk_of disk).sectors h.past disk first turns last (history-covers (disk_of disk) before h) lived new same)
-  lives-keep-commands disk new before first last turns (Some call) h (lived, kept, reply, after, is, passed) =
-      kept_commands disk_of sound disk before h first last turns lived (Some call) new
-      (covered-cut disk_of sound (disk_of disk).sectors h.past disk first turns last (history-covers (disk_of disk) before h) lived kept call reply after is new passed)
+  lives-keep-commands disk new before first last turns cut h does =
+      kept_commands disk_of sound disk before h first last turns (lived_of disk_of disk new first last turns cut does) cut new does
+
+  pub lives-fit : LivesFit disk_of
+  lives-fit disk new before first last turns cut h does =
+      let lived = lived_of disk_of disk new first last turns cut does in
+      (at_moment disk_of sound disk before h first last turns lived, fits_left disk_of sound disk before h first last turns lived cut new does)
 
   pub frames-are-written-once : FramesAreWrittenOnce disk_of
   frames-are-written-once disk before first last after turns plain pn out h lived call =

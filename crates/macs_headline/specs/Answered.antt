@@ -1,8 +1,8 @@
 -- What was answered in all lives, and that the logs hold it.
-use Rattle.std.specs.Prelude.{◌++◌, ℕ, List, [], ◌∷◌, Contains}
-use Rattle.macs_endpoint.specs.State.{Logs, State}
+use Rattle.std.specs.Prelude.{◌≡◌, ◌++◌, ℕ, List, [], ◌∷◌, Contains, Option, None}
+use Rattle.macs_endpoint.specs.State.{Call, Logs, State}
 use Rattle.macs_endpoint.specs.Step.{Exchange, Step}
-use Rattle.macs_headline.specs.History.{Life, Serves}
+use Rattle.macs_headline.specs.History.{Formatted, IsHistory, Life, Past, Serves, logs_of}
 use Rattle.macs_headline.specs.Moments.{Moment}
 use Rattle.macs_headline.specs.Numbers.{AreHeldIn}
 
@@ -16,15 +16,28 @@ abbrev pub exchanges_of_lives : List Life → List Exchange
 exchanges_of_lives [] = []
 exchanges_of_lives (life ∷ lives) = exchanges_in life ++ exchanges_of_lives lives
 
--- A call was answered so at a moment of a history, and these logs hold all that was used and delivered by then.
-pub record WasAnswered (sectors : ℕ) (e : Exchange) (logs : Logs) : Type 0 where
+-- the lives up to a moment: those before it, and then the one that is under way, so far
+abbrev pub lives_at : {sectors : ℕ} {s : State} → Moment sectors s → List Life
+lives_at m = m.lives ++ Serves m.edition m.image m.exchanges None ∷ []
+
+-- they are a history, which leads to the state of that moment
+abbrev pub MomentsAreHistories : ℕ → Type 0
+MomentsAreHistories sectors = (s : State) (m : Moment sectors s) → IsHistory sectors (lives_at m) (Formatted s)
+
+-- In these lives a call was answered so. It was at this moment of them: after the lives and the calls before it. It was a step of the endpoint, and
+-- these logs hold all that was used and delivered by then.
+pub record WasAnswered (sectors : ℕ) (lives : List Life) (e : Exchange) (logs : Logs) : Type 0 where
   pub at : State
   pub moment : Moment sectors at
+  pub rest : List Exchange
+  pub cut : Option Call
+  pub later : List Life
+  pub there : moment.lives ++ Serves moment.edition moment.image (moment.exchanges ++ e ∷ rest) cut ∷ later ≡ lives
   pub after : State
   pub step : Step at e.call e.reply after
   pub held : AreHeldIn after.logs logs
 
--- at each moment each call was, that was answered in this life so far or in any life before it
+-- so was each call that is among the answers of a history
 abbrev pub AnswersAreHeld : ℕ → Type 0
-AnswersAreHeld sectors = (s : State) (m : Moment sectors s) (e : Exchange) → Contains (exchanges_of_lives m.lives ++ m.exchanges) e
-    → WasAnswered sectors e s.logs
+AnswersAreHeld sectors = (lives : List Life) (past : Past) → IsHistory sectors lives past → (e : Exchange) → Contains (exchanges_of_lives lives) e
+    → WasAnswered sectors lives e (logs_of past)

@@ -21,10 +21,12 @@ use Rattle.macs_endpoint.specs.Opening.{IsOpening}
 use Rattle.macs_rxsc.specs.declared.verdict.Kind.{Kind}
 use Rattle.macs_rxsc.specs.declared.verdict.Kind.TheVariants.{Ok as AsOk}
 use Rattle.macs_rxsc.specs.declared.verdict.Verdict.TheVariants.{Delivered}
-use Rattle.macs_endpoint.specs.State.{Call, Logs, Protects, Protected, Received, Receives, Reply, no_logs}
+use Rattle.macs_endpoint.specs.Ceilings.{Raise}
+use Rattle.macs_endpoint.specs.Restart.{Fits}
+use Rattle.macs_endpoint.specs.State.{Advances, Call, Logs, Protects, Protected, Received, Receives, Reply, State, no_logs}
 use Rattle.macs_endpoint.specs.Value.{EndpointValue, IsSoundEndpoint, device_in, disk_in, state_of}
 use Rattle.macs_headline.specs.Commands.{FindsPrefix}
-use Rattle.macs_headline.specs.Answered.{exchanges_of_lives}
+use Rattle.macs_headline.specs.Answered.{exchanges_of_lives, lives_at}
 use Rattle.macs_headline.specs.Deliveries.{IsOtherDelivery, IsVerifiedDelivery, IsVerifiedKind, delivering}
 use Rattle.macs_headline.specs.Deeds.{Chain, Does, Formatting, FormattingCut, IsPassedOn, Link, Living, LivesFrom, OpeningCut, PassingOn, Refusing, disk_after_opening, lives_of_links}
 use Rattle.macs_headline.specs.Frames.{IsOtherFrame, IsStandardFrame, writing}
@@ -84,6 +86,11 @@ abbrev pub NewDeedsAreHistories : {D : Type 0} → (D → Disk) → Type 0
 NewDeedsAreHistories {D} disk_of = (old new : D) (links : List (Link D)) → IsNewDisk (disk_of old) → Chain disk_of old links new
     → HasHistory this_edition (disk_of new) (lives_of_links disk_of old links)
 
+-- and its disk has as many sectors as before
+abbrev pub ChainsKeepSizes : {D : Type 0} → (D → Disk) → Type 0
+ChainsKeepSizes {D} disk_of = (old new : D) (before : List Life) (links : List (Link D)) → HasHistory this_edition (disk_of old) before
+    → Chain disk_of old links new → (disk_of new).sectors ≡ (disk_of old).sectors
+
 -- each call that an endpoint of such a chain answered is among what its lives answered
 abbrev pub ChainsAnswer : {D : Type 0} → (D → Disk) → Type 0
 ChainsAnswer {D} disk_of = (old : D) (links : List (Link D)) (link : Link D) (first last : EndpointValue D) (turns : List (Transition D)) (cut : Option Call)
@@ -121,6 +128,23 @@ EndsAreCuts {D} disk_of = (old new : D) (first last : EndpointValue D) (turns : 
     ⊎ ((before : List (Transition D)) × (mid : EndpointValue D) × (turn : Transition D) × (rest : List (Transition D))
     × (before ++ turn ∷ rest ≡ turns) × Does disk_of old (Living first before mid (Some turn.call)) new)
 
+-- The call in which a life ends, where a command may begin in it. None begins in a step while a ceiling is being raised: the step goes on with that.
+abbrev pub cut_beginning : Option Raise → Option Call → Option Call
+cut_beginning (Some raise) (Some Advances) = None
+cut_beginning reserving cut = cut
+
+-- The state in which a life ends, after these logs: with the command in hand that may have begun in the call that was cut short
+abbrev pub state_left : {D : Type 0} → EndpointValue D → Logs → Option Call → State
+state_left e logs cut = state_at_end (state_of e logs) (cut_beginning e.reserving cut)
+
+-- Each image that the disk may leave after a life fits that state, to this edition and to each larger one: what is opened there is a restart of it.
+abbrev pub LivesFit : {D : Type 0} → (D → Disk) → Type 0
+LivesFit {D} disk_of = (disk new : D) (before : List Life) (first last : EndpointValue D) (turns : List (Transition D)) (cut : Option Call)
+    → HasHistory this_edition (disk_of disk) before → Does disk_of disk (Living first turns last cut) new
+    → (at : IsAtMoment (disk_of disk).sectors before (now (disk_of disk)).seen turns first last)
+    × ((later : Edition) → IsUpTo this_edition later → (image : Image) → MayLeave (disk_of new) image
+    → Fits later (disk_of disk).sectors image (state_left last at.logs cut))
+
 -- Each image that the disk may leave after a life stands, to this edition and to each larger one, for the configuration after a prefix of the
 -- life's accepted commands that holds every acknowledged one.
 abbrev pub LivesKeepCommands : {D : Type 0} → (D → Disk) → Type 0
@@ -128,7 +152,7 @@ LivesKeepCommands {D} disk_of = (disk new : D) (before : List Life) (first last 
     → HasHistory this_edition (disk_of disk) before → Does disk_of disk (Living first turns last cut) new
     → (later : Edition) → IsUpTo this_edition later
     → (image : Image) (after : Standing) → MayLeave (disk_of new) image → StandingIs later (disk_of disk).sectors image (Ok after)
-    → FindsPrefix (standing_in first.store) (map exchange_of turns) (state_at_end (state_of last no_logs) cut).in_hand after
+    → FindsPrefix (standing_in first.store) (map exchange_of turns) (state_left last no_logs cut).in_hand after
 
 -- the tickets of a life are kept, whatever its disk does
 abbrev pub LivesKeepTickets : {D : Type 0} → (D → Disk) → Type 0
@@ -144,8 +168,8 @@ pub record IsWrittenOnce {D : Type 0} (sectors : ℕ) (lives : List Life) (image
   pub standard : IsStandardFrame (state_of last at.logs) plain pn out (state_of after later)
   pub once : HasNoneTwice later.used
   pub others : (earlier : List ℕ) (was : ℕ) (given : List ℕ)
-      → Contains (exchanges_of_lives lives ++ map exchange_of turns) (writing earlier was given)
-      → IsOtherFrame sectors at.logs earlier was given standard.sa.key pn
+      → Contains (exchanges_of_lives (lives_at at.moment)) (writing earlier was given)
+      → IsOtherFrame sectors (lives_at at.moment) at.logs earlier was given standard.sa.key pn
 
 -- so is each frame that an endpoint writes, whatever history its disk has
 abbrev pub FramesAreWrittenOnce : {D : Type 0} → (D → Disk) → Type 0
@@ -164,11 +188,11 @@ pub record IsDeliveredOnce {D : Type 0} (sectors : ℕ) (lives : List Life) (ima
   pub delivery : IsVerifiedDelivery (state_of last at.logs) frame kind out (state_of after later)
   pub once : (state_of last at.logs).config.replay.on ≡ true → (state_of last at.logs).config.replay.window ≡ 0
       → (earlier given : List ℕ) (was : Kind) → IsVerifiedKind was
-      → Contains (exchanges_of_lives lives ++ map exchange_of turns) (delivering earlier was given)
-      → IsOtherDelivery sectors at.logs earlier was given delivery.sci delivery.sa.key (tag_of frame).pn
+      → Contains (exchanges_of_lives (lives_at at.moment)) (delivering earlier was given)
+      → IsOtherDelivery sectors (lives_at at.moment) at.logs earlier was given delivery.sci delivery.sa.key (tag_of frame).pn
   pub never_ok_again : kind ≡ AsOk → (earlier given : List ℕ) (was : Kind) → IsVerifiedKind was
       → Contains (exchanges_of_lives lives) (delivering earlier was given)
-      → IsOtherDelivery sectors (logs_of at.moment.past) earlier was given delivery.sci delivery.sa.key (tag_of frame).pn
+      → IsOtherDelivery sectors lives (logs_of at.moment.past) earlier was given delivery.sci delivery.sa.key (tag_of frame).pn
 
 -- so is each frame that an endpoint delivers so, whatever history its disk has
 abbrev pub FramesAreDeliveredOnce : {D : Type 0} → (D → Disk) → Type 0
@@ -196,7 +220,7 @@ RefusalsAreFailures {D} disk_of = (disk : D) (before : List Life) (refused : Rec
 
 -- What a call's contract says makes a deed: a `format` that was answered, and one in which the medium was passed on; an opening that was refused,
 -- and one in which it was passed on; an endpoint that gave its disk back, and one in a call of which it was passed on; and a disk with which
--- nothing was done.
+-- nothing was done. A life begins with an opening and goes on with each call; a chain begins with nothing and goes on with each deed.
 pub record CallsAreDeeds {D : Type 0} (disk_of : D → Disk) : Type 0 where
   pub formatted : (old new : D) (identity : Identity) (result : Result (Unit {0}) JournalFault) → IsFormat disk_of old identity result new
       → Does disk_of old (Formatting identity result) new
@@ -211,3 +235,9 @@ pub record CallsAreDeeds {D : Type 0} (disk_of : D → Disk) : Type 0 where
       → LivesFrom disk_of old first turns last → IsSoundEndpoint last → IsCall disk_of last call reply after
       → IsPassedOn (disk_in disk_of after) (disk_in disk_of last).clock (disk_of new) → Does disk_of old (Living first turns last (Some call)) new
   pub passed_on : (old new : D) → IsPassedOn (disk_of old) (disk_of old).clock (disk_of new) → Does disk_of old PassingOn new
+  pub begun : (disk : D) (first : EndpointValue D) → IsOpening disk_of disk (Ok first) → LivesFrom disk_of disk first [] first
+  pub called : (disk : D) (first mid : EndpointValue D) (turns : List (Transition D)) (turn : Transition D) → LivesFrom disk_of disk first turns mid
+      → IsSoundEndpoint mid → IsCall disk_of mid turn.call turn.reply turn.after → LivesFrom disk_of disk first (turns ++ turn ∷ []) turn.after
+  pub none : (old : D) → Chain disk_of old [] old
+  pub one_more : (old mid : D) (links : List (Link D)) (link : Link D) → Chain disk_of old links mid → Does disk_of mid link.deed link.after
+      → Chain disk_of old (links ++ link ∷ []) link.after

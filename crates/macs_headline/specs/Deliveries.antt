@@ -1,5 +1,5 @@
 -- The headline on frames that are received.
-use Rattle.std.specs.Prelude.{◌≡◌, ◌≢◌, ◌++◌, true, ℕ, List, [], ◌∷◌, Contains, Some, Result, Ok}
+use Rattle.std.specs.Prelude.{◌≡◌, ◌≢◌, true, ℕ, List, [], ◌∷◌, Contains, Some, Result, Ok}
 use Rattle.macs_frame.specs.Fields.{octets_of}
 use Rattle.macs_frame.specs.Opening.{Verified, bare_frame}
 use Rattle.macs_frame.specs.Tag.{tag_of}
@@ -11,9 +11,9 @@ use Rattle.macs_rxsc.specs.declared.verdict.Verdict.TheVariants.{Delivered}
 use Rattle.macs_endpoint.specs.declared.fault.Stopped.{Stopped}
 use Rattle.macs_endpoint.specs.State.{Logs, Receives, Received, State}
 use Rattle.macs_endpoint.specs.Step.{Exchange, Step}
-use Rattle.macs_headline.specs.Answered.{WasAnswered, exchanges_of_lives}
 use Rattle.macs_store.specs.Standing.{Standing}
-use Rattle.macs_headline.specs.History.{Past, logs_of}
+use Rattle.macs_headline.specs.Answered.{WasAnswered, exchanges_of_lives, lives_at}
+use Rattle.macs_headline.specs.History.{Life, Past, logs_of}
 use Rattle.macs_headline.specs.Moments.{IsFoundAfter, Moment}
 use Rattle.macs_headline.specs.Numbers.{IsBeyondRx}
 
@@ -65,9 +65,9 @@ OthersAreBare sectors = (s : State) → Moment sectors s → (frame out : List �
 abbrev pub delivering : (frame : List ℕ) → Kind → (out : List ℕ) → Exchange
 delivering frame kind out = record { call = Receives frame; reply = Received (Ok (Delivered kind)) out }
 
--- A frame was delivered so at a moment of a history, and then it verified under another SCI or key than these, or it has another number.
-pub record IsOtherDelivery (sectors : ℕ) (logs : Logs) (frame : List ℕ) (kind : Kind) (out sci key : List ℕ) (pn : ℕ) : Type 0 where
-  pub answered : WasAnswered sectors (delivering frame kind out) logs
+-- A frame was delivered so in these lives, and then it verified under another SCI or key than these, or it has another number.
+pub record IsOtherDelivery (sectors : ℕ) (lives : List Life) (logs : Logs) (frame : List ℕ) (kind : Kind) (out sci key : List ℕ) (pn : ℕ) : Type 0 where
+  pub answered : WasAnswered sectors lives (delivering frame kind out) logs
   pub delivery : IsVerifiedDelivery answered.at frame kind out answered.after
   pub other : delivery.sci ≡ sci → delivery.sa.key ≡ key → (tag_of frame).pn ≢ pn
 
@@ -77,8 +77,8 @@ abbrev pub GivenOnce : ℕ → Type 0
 GivenOnce sectors = (s : State) (m : Moment sectors s) → s.config.replay.on ≡ true → s.config.replay.window ≡ 0
     → (frame out : List ℕ) (kind : Kind) (new : State) (d : IsVerifiedDelivery s frame kind out new)
     → Step s (Receives frame) (Received (Ok (Delivered kind)) out) new
-    → (earlier given : List ℕ) (was : Kind) → IsVerifiedKind was → Contains (exchanges_of_lives m.lives ++ m.exchanges) (delivering earlier was given)
-    → IsOtherDelivery sectors s.logs earlier was given d.sci d.sa.key (tag_of frame).pn
+    → (earlier given : List ℕ) (was : Kind) → IsVerifiedKind was → Contains (exchanges_of_lives (lives_at m)) (delivering earlier was given)
+    → IsOtherDelivery sectors (lives_at m) s.logs earlier was given d.sci d.sa.key (tag_of frame).pn
 
 -- Whatever the window, a frame that is delivered as Ok is another than each that was delivered as verified in a life before this one.
 abbrev pub NeverOkAgain : ℕ → Type 0
@@ -86,18 +86,18 @@ NeverOkAgain sectors = (s : State) (m : Moment sectors s)
     → (frame out : List ℕ) (new : State) (d : IsVerifiedDelivery s frame AsOk out new)
     → Step s (Receives frame) (Received (Ok (Delivered AsOk)) out) new
     → (earlier given : List ℕ) (was : Kind) → IsVerifiedKind was → Contains (exchanges_of_lives m.lives) (delivering earlier was given)
-    → IsOtherDelivery sectors (logs_of m.past) earlier was given d.sci d.sa.key (tag_of frame).pn
+    → IsOtherDelivery sectors m.lives (logs_of m.past) earlier was given d.sci d.sa.key (tag_of frame).pn
 
--- ---- what is found is above each number that was delivered
+-- ---- what is found is above the number of each
 
--- A frame was delivered so at a moment of a history, and this was found after it: the key of the association under which it verified is spent for
--- its SCI, and each association of the SCI that has the key begins above the number.
-pub record IsFoundBeyondDelivery (sectors : ℕ) (logs : Logs) (frame : List ℕ) (kind : Kind) (out : List ℕ) (found : Standing) : Type 0 where
-  pub answered : WasAnswered sectors (delivering frame kind out) logs
+-- A frame was delivered so in these lives, and this was found after them: the key of the association under which it verified is spent for its SCI,
+-- and each association of the SCI that has the key begins above the number.
+pub record IsFoundBeyondDelivery (sectors : ℕ) (lives : List Life) (logs : Logs) (frame : List ℕ) (kind : Kind) (out : List ℕ) (found : Standing) : Type 0 where
+  pub answered : WasAnswered sectors lives (delivering frame kind out) logs
   pub delivery : IsVerifiedDelivery answered.at frame kind out answered.after
   pub beyond : IsBeyondRx found delivery.sci delivery.sa.key (tag_of frame).pn
 
 -- so it is in every image, of each frame that any life before it delivered as verified
-abbrev pub GivenBelow : ℕ → Type 0
-GivenBelow sectors = (past : Past) (found : Standing) (f : IsFoundAfter sectors past found) (frame out : List ℕ) (kind : Kind) → IsVerifiedKind kind
-    → Contains (exchanges_of_lives f.lives) (delivering frame kind out) → IsFoundBeyondDelivery sectors (logs_of past) frame kind out found
+abbrev pub DeliveredBelow : ℕ → Type 0
+DeliveredBelow sectors = (past : Past) (found : Standing) (f : IsFoundAfter sectors past found) (frame out : List ℕ) (kind : Kind) → IsVerifiedKind kind
+    → Contains (exchanges_of_lives f.lives) (delivering frame kind out) → IsFoundBeyondDelivery sectors f.lives (logs_of past) frame kind out found

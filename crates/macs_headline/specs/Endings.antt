@@ -1,6 +1,6 @@
 -- The ways in which a program may end, each of which passes the medium of its disk on.
 use Rattle.std.specs.Prelude.{◌≡◌, ◌≤◌, ◌&&◌, not, if◌then◌else◌, ℕ, Bool, List, Result}
-use Rattle.macs_disk.specs.Disk.{Disk, IsDeviceCall, IsHonest, LeftSince, Reads, Syncs, now}
+use Rattle.macs_disk.specs.Disk.{Disk, IsDeviceCall, IsHonest, LeftSince, Reads, Syncs, Works, now}
 use Rattle.macs_disk.specs.States.{DiskState, Image, settled_state}
 use Rattle.macs_disk.specs.declared.disk.DeviceFault.{DeviceFault}
 use Rattle.macs_headline.specs.Deeds.{IsPassedOn}
@@ -10,10 +10,17 @@ pub record IsAlike (old new : Disk) : Type 0 where
   pub sectors : new.sectors ≡ old.sectors
   pub honest : new.honest ≡ old.honest
 
--- Power is lost at some moment since: nothing is pending then, and each sector that was holds any octets.
+-- The power goes at some moment of calls that began at `since` and would have led to `ran`: the disk holds one of the images of that moment,
+-- and nothing is pending.
+pub record LosesPower (ran : Disk) (since : ℕ) (new : Disk) : Type 0 where
+  pub image : Image
+  pub left : LeftSince ran since image
+  pub alike : IsAlike ran new
+  pub settled : now new ≡ settled_state image
+
+-- Power is lost.
 abbrev pub PowerLossesPassOn : Type 0
-PowerLossesPassOn = (old new : Disk) (since : ℕ) (image : Image) → LeftSince old since image → IsAlike old new → now new ≡ settled_state image
-    → IsPassedOn old since new
+PowerLossesPassOn = (old new : Disk) (since : ℕ) → LosesPower old since new → IsPassedOn old since new
 
 -- The program is killed at some moment since, inside a call or between two, and no power is lost: what was pending is pending still.
 abbrev pub KillingsPassOn : Type 0
@@ -48,6 +55,11 @@ abbrev pub SyncsPassOn : {D : Type 0} → (D → Disk) → Type 0
 SyncsPassOn {D} disk_of = (old new : D) (result : Result (Unit {0}) DeviceFault) → IsHonest (disk_of old)
     → IsDeviceCall (disk_of old) (disk_of new) result → Syncs (now (disk_of old)) (now (disk_of new)) result
     → IsPassedOn (disk_of old) (disk_of old).clock (disk_of new)
+
+-- What ended in calls that came before others ended in the earlier ones: each end fits the work of its own moment.
+abbrev pub EndsAreEarlier : Type 0
+EndsAreEarlier = (old ran new : Disk) (since : ℕ) → Works old ran → (p : IsPassedOn ran since new) → (from : ℕ) → from ≤ p.moment → p.moment ≤ old.clock
+    → IsPassedOn old from new
 
 -- One of these comes after another.
 abbrev pub PassedOnAgain : Type 0

@@ -1,5 +1,5 @@
 -- The headline on frames.
-use Rattle.std.specs.Prelude.{◌≡◌, ◌≢◌, ◌<◌, ◌≤◌, ◌^◌, ◌++◌, ℕ, List, ◌∷◌, Contains, Some, Ok}
+use Rattle.std.specs.Prelude.{◌≡◌, ◌≢◌, ◌<◌, ◌≤◌, ◌^◌, ℕ, List, ◌∷◌, Contains, Some, Ok}
 use Rattle.macs_frame.specs.Fields.{octets_of}
 use Rattle.macs_frame.specs.Protection.{protected_frame}
 use Rattle.macs_config.specs.Association.{is_confidential, offset_of}
@@ -7,9 +7,9 @@ use Rattle.macs_config.specs.declared.association.TxSa.{TxSa}
 use Rattle.macs_txsc.specs.Transmit.{name_in}
 use Rattle.macs_endpoint.specs.State.{Logs, Protects, Protected, State}
 use Rattle.macs_endpoint.specs.Step.{Exchange, Step}
-use Rattle.macs_headline.specs.Answered.{WasAnswered, exchanges_of_lives}
 use Rattle.macs_store.specs.Standing.{Standing}
-use Rattle.macs_headline.specs.History.{Past, logs_of}
+use Rattle.macs_headline.specs.Answered.{WasAnswered, exchanges_of_lives, lives_at}
+use Rattle.macs_headline.specs.History.{Life, Past, logs_of}
 use Rattle.macs_headline.specs.Moments.{IsFoundAfter, Moment}
 use Rattle.macs_headline.specs.Numbers.{IsBeyondTx}
 
@@ -45,9 +45,9 @@ FramesAreStandard sectors = (s : State) → Moment sectors s → (plain : List �
 abbrev pub writing : (plain : List ℕ) (pn : ℕ) (out : List ℕ) → Exchange
 writing plain pn out = record { call = Protects plain; reply = Protected (Ok pn) out }
 
--- A frame was written at a moment of a history, and it was protected under another key than this, or has another number.
-pub record IsOtherFrame (sectors : ℕ) (logs : Logs) (plain : List ℕ) (pn : ℕ) (out key : List ℕ) (number : ℕ) : Type 0 where
-  pub answered : WasAnswered sectors (writing plain pn out) logs
+-- A frame was written in these lives, and it was protected under another key than this, or has another number.
+pub record IsOtherFrame (sectors : ℕ) (lives : List Life) (logs : Logs) (plain : List ℕ) (pn : ℕ) (out key : List ℕ) (number : ℕ) : Type 0 where
+  pub answered : WasAnswered sectors lives (writing plain pn out) logs
   pub frame : IsStandardFrame answered.at plain pn out answered.after
   pub other : frame.sa.key ≡ key → pn ≢ number
 
@@ -55,19 +55,19 @@ pub record IsOtherFrame (sectors : ℕ) (logs : Logs) (plain : List ℕ) (pn : �
 abbrev pub WrittenOnce : ℕ → Type 0
 WrittenOnce sectors = (s : State) (m : Moment sectors s) (plain : List ℕ) (pn : ℕ) (out : List ℕ) (new : State) (f : IsStandardFrame s plain pn out new)
     → Step s (Protects plain) (Protected (Ok pn) out) new
-    → (earlier : List ℕ) (was : ℕ) (given : List ℕ) → Contains (exchanges_of_lives m.lives ++ m.exchanges) (writing earlier was given)
-    → IsOtherFrame sectors s.logs earlier was given f.sa.key pn
+    → (earlier : List ℕ) (was : ℕ) (given : List ℕ) → Contains (exchanges_of_lives (lives_at m)) (writing earlier was given)
+    → IsOtherFrame sectors (lives_at m) s.logs earlier was given f.sa.key pn
 
--- ---- what is found is above each number that was used
+-- ---- what is found is above the number of each
 
--- A frame was written at a moment of a history, and this was found after it: the key of the frame is spent, and each association that has it
--- begins above the number.
-pub record IsFoundBeyondFrame (sectors : ℕ) (logs : Logs) (plain : List ℕ) (pn : ℕ) (out : List ℕ) (found : Standing) : Type 0 where
-  pub answered : WasAnswered sectors (writing plain pn out) logs
+-- A frame was written in these lives, and this was found after them: the key of the frame is spent, and each association that has it begins above
+-- the number.
+pub record IsFoundBeyondFrame (sectors : ℕ) (lives : List Life) (logs : Logs) (plain : List ℕ) (pn : ℕ) (out : List ℕ) (found : Standing) : Type 0 where
+  pub answered : WasAnswered sectors lives (writing plain pn out) logs
   pub frame : IsStandardFrame answered.at plain pn out answered.after
   pub beyond : IsBeyondTx found frame.sa.key pn
 
 -- so it is in every image, of each frame that any life before it wrote
-abbrev pub UsedBelow : ℕ → Type 0
-UsedBelow sectors = (past : Past) (found : Standing) (f : IsFoundAfter sectors past found) (plain : List ℕ) (pn : ℕ) (out : List ℕ)
-    → Contains (exchanges_of_lives f.lives) (writing plain pn out) → IsFoundBeyondFrame sectors (logs_of past) plain pn out found
+abbrev pub WrittenBelow : ℕ → Type 0
+WrittenBelow sectors = (past : Past) (found : Standing) (f : IsFoundAfter sectors past found) (plain : List ℕ) (pn : ℕ) (out : List ℕ)
+    → Contains (exchanges_of_lives f.lives) (writing plain pn out) → IsFoundBeyondFrame sectors f.lives (logs_of past) plain pn out found

@@ -6,6 +6,7 @@ pub mod Tickets
 pub mod Answered
 pub mod Frames
 pub mod Deliveries
+pub mod Logged
 pub mod Openings
 pub mod Deeds
 pub mod Endings

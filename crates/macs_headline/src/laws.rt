@@ -10,19 +10,21 @@ ghost use Rattle.macs_disk.specs.States.{Image, IsImage};
 ghost use Rattle.macs_disk.specs.declared.file.FileDisk.{FileDisk};
 ghost use Rattle.macs_disk.specs.declared.layout.Layout.{Layout};
 ghost use Rattle.macs_journal.specs.Areas.{least_sectors};
-ghost use Rattle.macs_headline.specs.Answered.{AnswersAreHeld};
-ghost use Rattle.macs_headline.specs.Binding.{CallsAreDeeds, ChainsAnswer, DeedsAreHistories, EndsAreCuts, FramesAreDeliveredOnce, FramesAreWrittenOnce};
-ghost use Rattle.macs_headline.specs.Binding.{FusesChangeNone, IsNewDisk, LargerGoOn, LivesAreMoments, LivesKeepCommands, LivesKeepTickets};
+ghost use Rattle.macs_headline.specs.Answered.{AnswersAreHeld, MomentsAreHistories};
+ghost use Rattle.macs_headline.specs.Binding.{CallsAreDeeds, ChainsAnswer, ChainsKeepSizes, DeedsAreHistories, EndsAreCuts};
+ghost use Rattle.macs_headline.specs.Binding.{FramesAreDeliveredOnce, FramesAreWrittenOnce};
+ghost use Rattle.macs_headline.specs.Binding.{FusesChangeNone, IsNewDisk, LargerGoOn, LivesAreMoments, LivesFit, LivesKeepCommands, LivesKeepTickets};
 ghost use Rattle.macs_headline.specs.Binding.{NewDeedsAreHistories};
 ghost use Rattle.macs_headline.specs.Binding.{NewDisksHaveHistories, OpeningsFind, PassedOnHaveHistories, RefusalsAreFailures, SettledHaveHistories};
 ghost use Rattle.macs_headline.specs.Commands.{CommandsKept};
-ghost use Rattle.macs_headline.specs.Deeds.{IsPassedOn};
-ghost use Rattle.macs_headline.specs.Deliveries.{DeliveriesAreVerified, GivenBelow, GivenOnce, NeverOkAgain, OthersAreBare};
-ghost use Rattle.macs_headline.specs.Endings.{DroppedPassOn, KillingsPassOn, PassedOnAgain, PowerLossesPassOn, ReadsPassOn, SyncsPassOn, WrittenBackPassOn};
+ghost use Rattle.macs_headline.specs.Deliveries.{DeliveredBelow, DeliveriesAreVerified, GivenOnce, NeverOkAgain, OthersAreBare};
+ghost use Rattle.macs_headline.specs.Endings.{DroppedPassOn, EndsAreEarlier, KillingsPassOn, LosesPower, PassedOnAgain, PowerLossesPassOn};
+ghost use Rattle.macs_headline.specs.Endings.{ReadsPassOn, SyncsPassOn, WrittenBackPassOn};
 ghost use Rattle.macs_headline.specs.ExampleLives.{IsWorkedHistory};
-ghost use Rattle.macs_headline.specs.Frames.{FramesAreStandard, UsedBelow, WrittenOnce};
-ghost use Rattle.macs_headline.specs.Numbers.{NothingForgotten, SkipsFew};
-ghost use Rattle.macs_headline.specs.Numbers.{UsedOnce, UsedOnceAtEnd};
+ghost use Rattle.macs_headline.specs.Frames.{FramesAreStandard, WrittenBelow, WrittenOnce};
+ghost use Rattle.macs_headline.specs.Logged.{LogsAreAnswers};
+ghost use Rattle.macs_headline.specs.Numbers.{GivenApart, GivenBelow, NothingForgotten, OkApart, SkipsFew, SkipsFewReceived};
+ghost use Rattle.macs_headline.specs.Numbers.{UsedBelow, UsedOnce, UsedOnceAtEnd};
 ghost use Rattle.macs_headline.specs.Tickets.{TicketsKept};
 ghost use Rattle.macs_headline.specs.Openings.{IdentityWasGiven, RefusedForDisk, RefusedForDiskOrBlank};
 
@@ -37,8 +39,12 @@ use macs_disk::{DiskFile, SectorDisk};
 pub fn headline()
     // No life forgets what was used and delivered before it.
     ensures nothing_forgotten { (sectors : ℕ) → NothingForgotten sectors }
+    // The lives up to a moment are a history.
+    ensures moments_are_histories { (sectors : ℕ) → MomentsAreHistories sectors }
     // What any life answered was answered at a moment of the history, and what it used and delivered is held.
     ensures answers_are_held { (sectors : ℕ) → AnswersAreHeld sectors }
+    // And nothing else is: what was used and delivered is what some life answered.
+    ensures logs_are_answers { (sectors : ℕ) → LogsAreAnswers sectors }
     // No two frames carry the same key and packet number: at each moment of each life, and at the end.
     ensures used_once { (sectors : ℕ) → UsedOnce sectors }
     ensures used_once_at_end { (sectors : ℕ) → UsedOnceAtEnd sectors }
@@ -46,14 +52,22 @@ pub fn headline()
     ensures written_once { (sectors : ℕ) → WrittenOnce sectors }
     // With replay window zero no packet number is delivered twice as verified on one association.
     ensures given_once { (sectors : ℕ) → GivenOnce sectors }
+    ensures given_apart { (sectors : ℕ) → GivenApart sectors }
     // A packet number that was delivered before a restart is never delivered as Ok after it.
     ensures never_ok_again { (sectors : ℕ) → NeverOkAgain sectors }
+    ensures ok_apart { (sectors : ℕ) → OkApart sectors }
     // In every image each number that was used is below the next one found for its key, which is spent.
     ensures used_below { (sectors : ℕ) → UsedBelow sectors }
+    // So is that of each frame which any life wrote.
+    ensures written_below { (sectors : ℕ) → WrittenBelow sectors }
     // The same of each number that was delivered, for its SCI and key.
     ensures given_below { (sectors : ℕ) → GivenBelow sectors }
+    // And of each frame which any life delivered as verified.
+    ensures delivered_below { (sectors : ℕ) → DeliveredBelow sectors }
     // A restart skips at most a block and a half.
     ensures skips_few { (sectors : ℕ) → SkipsFew sectors }
+    // Of a receive association it skips at most a block beyond what was seen, and nothing where nothing was.
+    ensures skips_few_received { (sectors : ℕ) → SkipsFewReceived sectors }
     // An opening finds a prefix of the accepted commands that holds every acknowledged one.
     ensures commands_kept { (sectors : ℕ) → CommandsKept sectors }
     // In one life tickets are given in order from 1, each is answered at most once, in order, and none is lost.
@@ -98,6 +112,8 @@ pub fn endings<D: SectorDisk>()
     // The owner reads, or syncs.
     ensures read { ReadsPassOn D.disk }
     ensures synced { SyncsPassOn D.disk }
+    // What ended in earlier calls ended in those.
+    ensures earlier { EndsAreEarlier }
     // One of these comes after another.
     ensures again { PassedOnAgain }
 {}
@@ -109,6 +125,8 @@ pub fn histories<D: SectorDisk>()
     ensures deeds { CallsAreDeeds D.disk }
     // Deeds, one after another, continue the history of the disk.
     ensures whole { DeedsAreHistories D.disk }
+    // A disk keeps its size.
+    ensures sizes { ChainsKeepSizes D.disk }
     // What their endpoints answered is among what the lives answered.
     ensures answers { ChainsAnswer D.disk }
     // From a disk that is new they are one.
@@ -121,6 +139,8 @@ pub fn histories<D: SectorDisk>()
     ensures cut { EndsAreCuts D.disk }
     // An opening is refused only where a device call failed, or where the disk was not formatted for sure.
     ensures refusals { RefusalsAreFailures D.disk }
+    // What is left after it is opened as a restart of the state in which it ended.
+    ensures fit { LivesFit D.disk }
     // What it acknowledged is kept.
     ensures commands { LivesKeepCommands D.disk }
     // Its tickets are kept, on every disk.
@@ -147,7 +167,7 @@ pub fn new_disks()
 /// A power loss, as a disk in memory plays one, is a power loss of a history.
 pub fn power_losses()
     ensures { (disk : Disk) (since : ℕ) (image : Image) → LeftSince disk since image
-        → IsPassedOn disk since (disk_after_loss disk image) }
+        → LosesPower disk since (disk_after_loss disk image) }
 {}
 
 /// A disk in a file that behaves is one that histories are of, where the blocks of its device suit the layout.
@@ -159,12 +179,12 @@ pub fn files<F: DiskFile>()
     // the new disk has one of the images that the file might have been left with.
     ensures opened_again { (file : FileState) (layout : Layout) (old new : Disk) → IsOpened file 0 layout new
         → suits layout file.block ≡ true → ((image : Image) → IsImage (state_in_file layout file) image → MayLeave old image)
-        → new.sectors ≡ old.sectors → new.honest ≡ old.honest → IsPassedOn old old.clock new }
+        → new.sectors ≡ old.sectors → new.honest ≡ old.honest → LosesPower old old.clock new }
     // So it is to open the file that a disk left, be it after a call that failed.
     ensures reopened { (it : FileDisk F) (new : Disk) → IsLeftAsShown F.file it → Behaves (F.file (file_left it))
         → suits (layout_of it) (F.file (file_left it)).block ≡ true → IsOpened (F.file (file_left it)) 0 (layout_of it) new
         → new.sectors ≡ (disk_in_file F.file it).sectors → new.honest ≡ (disk_in_file F.file it).honest
-        → IsPassedOn (disk_in_file F.file it) (disk_in_file F.file it).clock new }
+        → LosesPower (disk_in_file F.file it) (disk_in_file F.file it).clock new }
 {
     a_file_is_left_as_its_disk::<F>();
 }

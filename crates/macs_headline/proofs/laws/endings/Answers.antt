@@ -1,4 +1,4 @@
-use Rattle.macs_headline.proofs.Endings.{dropped-pass-on, killings-pass-on, passed-on-again, power-losses-pass-on, reads-pass-on, syncs-pass-on, written-back-pass-on}
+use Rattle.macs_headline.proofs.Endings.{dropped-pass-on, ends-are-earlier, killings-pass-on, passed-on-again, power-losses-pass-on, reads-pass-on, syncs-pass-on, written-back-pass-on}
 use Rattle.macs_headline.proofs.laws.endings.Goals as goal
 
 pub returns-clause-power_lost : goal.returns-clause-power_lost
@@ -18,6 +18,9 @@ returns-clause-read g c = reads-pass-on g.D.SectorDisk.disk g.met.D.SectorDisk.s
 
 pub returns-clause-synced : goal.returns-clause-synced
 returns-clause-synced g c = syncs-pass-on g.D.SectorDisk.disk g.met.D.SectorDisk.sound
+
+pub returns-clause-earlier : goal.returns-clause-earlier
+returns-clause-earlier g c = ends-are-earlier
 
 pub returns-clause-again : goal.returns-clause-again
 returns-clause-again g c = passed-on-again

@@ -1,9 +1,10 @@
-use Rattle.macs_headline.proofs.Answered.{answers-are-held, given-below, given-once, never-ok-again, used-below, written-once}
+use Rattle.macs_headline.proofs.Answered.{answers-are-held, delivered-below, given-once, moments-are-histories, never-ok-again, written-below, written-once}
 use Rattle.macs_headline.proofs.Commands.{commands-kept}
 use Rattle.macs_headline.proofs.Deliveries.{deliveries-are-verified, others-are-bare}
 use Rattle.macs_headline.proofs.Identities.{identity-was-given}
+use Rattle.macs_headline.proofs.Logged.{logs-are-answers}
 use Rattle.macs_headline.proofs.Logs.{nothing-forgotten}
-use Rattle.macs_headline.proofs.Numbers.{skips-few, used-once, used-once-at-end}
+use Rattle.macs_headline.proofs.Numbers.{given-apart, given-below, ok-apart, skips-few, skips-few-received, used-below, used-once, used-once-at-end}
 use Rattle.macs_headline.proofs.Openings.{refused-for-disk, refused-for-disk-or-blank}
 use Rattle.macs_headline.proofs.Ranges.{frames-are-standard}
 use Rattle.macs_headline.proofs.Tickets.{tickets-kept}
@@ -11,6 +12,27 @@ use Rattle.macs_headline.proofs.laws.headline.Goals as goal
 
 pub returns-clause-nothing_forgotten : goal.returns-clause-nothing_forgotten
 returns-clause-nothing_forgotten c = nothing-forgotten
+
+pub returns-clause-moments_are_histories : goal.returns-clause-moments_are_histories
+returns-clause-moments_are_histories c = moments-are-histories
+
+pub returns-clause-logs_are_answers : goal.returns-clause-logs_are_answers
+returns-clause-logs_are_answers c = logs-are-answers
+
+pub returns-clause-given_apart : goal.returns-clause-given_apart
+returns-clause-given_apart c = given-apart
+
+pub returns-clause-ok_apart : goal.returns-clause-ok_apart
+returns-clause-ok_apart c = ok-apart
+
+pub returns-clause-written_below : goal.returns-clause-written_below
+returns-clause-written_below c = written-below
+
+pub returns-clause-delivered_below : goal.returns-clause-delivered_below
+returns-clause-delivered_below c = delivered-below
+
+pub returns-clause-skips_few_received : goal.returns-clause-skips_few_received
+returns-clause-skips_few_received c = skips-few-received
 
 pub returns-clause-used_once : goal.returns-clause-used_once
 returns-clause-used_once c = used-once
