@@ -1,10 +1,11 @@
 -- Each way in which a program may end passes the medium of its disk on.
 use Rattle.std.proofs.Common.{◌≡◌, ◌&&◌, not, cond, ℕ, Bool, true, false, List, Result, Ok, Err, refl, sym, ◌∙◌, subst, arith, le_refl}
+use Rattle.std.proofs.Math.Path.{fun_ext}
 use Rattle.macs_disk.specs.Disk.{Disk, IsDeviceCall, IsHonest, now}
 use Rattle.macs_disk.specs.States.{DiskState, Image, IsImage, IsSector, IsSound}
 use Rattle.macs_disk.specs.declared.disk.DeviceFault.{DeviceFault}
 use Rattle.macs_headline.specs.Deeds.{IsPassedOn}
-use Rattle.macs_headline.specs.Endings.{DroppedPassOn, EndsAreEarlier, KillingsPassOn, PassedOnAgain, PowerLossesPassOn, ReadsPassOn, SyncsPassOn, WrittenBackPassOn, state_written_back}
+use Rattle.macs_headline.specs.Endings.{DroppedPassOn, EndsAreEarlier, KillingsPassOn, PassedOnAgain, PowerLossesPassOn, ReadsPassOn, SyncsPassOn, WritesBackAsSyncs, WrittenBackPassOn, state_written_back}
 use Rattle.macs_headline.proofs.Losses.{settled-passed}
 
 pub power-losses-pass-on : PowerLossesPassOn
@@ -67,6 +68,20 @@ written_image state written image sound left = record {
   kept = λ i. kept_sector (state.pending i) (written i) (state.seen i) (state.durable i) (image i) (sound.fit.kept i) (left.kept i);
   whole = λ i. whole_sector (state.pending i) (written i) (state.seen i) (state.durable i) (image i) (sound.seen i) (left.kept i) (left.whole i);
 }
+
+and_none : (b : Bool) → (b && not true) ≡ false
+and_none true = refl
+and_none false = refl
+
+and_all : (b : Bool) → (b && not false) ≡ b
+and_all true = refl
+and_all false = refl
+
+pub writes-back-as-syncs : WritesBackAsSyncs
+writes-back-as-syncs state = (
+  λ i. record { seen = state.seen; durable = state.seen; pending = fun_ext (λ j. and_none (state.pending j)) i },
+  λ i. record { seen = state.seen; durable = state.durable; pending = fun_ext (λ j. and_all (state.pending j)) i },
+)
 
 -- ---- calls of the owner
 

@@ -11,13 +11,19 @@ use Rattle.macs_journal.specs.declared.fault.JournalFault.TheVariants as variant
 use Rattle.macs_endpoint.specs.Opening.{RefusesOpening}
 use Rattle.macs_endpoint.specs.Restart.{Fits}
 use Rattle.macs_endpoint.specs.State.{State}
-use Rattle.macs_headline.specs.Binding.{IsFormatting, RefusalsAreFailures}
+use Rattle.macs_headline.specs.Binding.{RefusalsAreFailures}
 use Rattle.macs_headline.specs.History.{Blank, FitsPast, FormatLeads, Formats, Formatted, LeadOn, Leads, Life, Past, Refuses, Serves}
 use Rattle.macs_headline.proofs.Chains.{history-covers}
 use Rattle.macs_headline.proofs.Lists.{contains-cases, contains-none}
 use Rattle.macs_headline.proofs.Living.{why-refused}
 use Rattle.macs_headline.proofs.Losses.{IsCovered, covered-seen}
 use Rattle.macs_headline.proofs.Openings.{refused-for-disk-or-blank}
+
+-- a life after which the disk is formatted for sure: a `format` that answered Ok, or an opening that was not refused
+abbrev IsFormatting : Life → Type 0
+IsFormatting (Formats edition identity true) = Unit {0}
+IsFormatting (Serves edition image exchanges cut) = Unit {0}
+IsFormatting life = ⊥
 
 -- the disk is formatted for sure
 abbrev IsFormatted : Past → Type 0
@@ -83,5 +89,12 @@ refusals-are-failures disk_of sound disk before refused h opening =
     let new = disk_of refused.disk in
     elim (by_past disk_of sound disk refused.disk refused.fault h.past (history-covers old before h) opening) [
       | inl for_disk ↦ inl (for_disk, subst (λ (at : JournalFault). FailsWith old new at) for_disk opening.refused.fails)
-      | inr blank ↦ inr (blank.0, λ life among is. blank.1 (formatted_by old.sectors (Blank []) before h.past life h.history among is))
+      | inr blank ↦
+          let never : (life : Life) → Contains before life → ¬ IsFormatting life =
+          (λ life among is. blank.1 (formatted_by old.sectors (Blank []) before h.past life h.history among is)) in
+          inr (
+            blank.0,
+            λ edition identity among. never (Formats edition identity true) among tt,
+            λ edition image exchanges cut among. never (Serves edition image exchanges cut) among tt,
+          )
     ]

@@ -18,6 +18,7 @@ use Rattle.macs_endpoint.specs.Calls.{IsCall}
 use Rattle.macs_endpoint.specs.Formatting.{IsFormat}
 use Rattle.macs_endpoint.specs.Lives.{Transition, exchange_of}
 use Rattle.macs_endpoint.specs.Opening.{IsOpening}
+use Rattle.macs_endpoint.specs.Step.{Exchange}
 use Rattle.macs_rxsc.specs.declared.verdict.Kind.{Kind}
 use Rattle.macs_rxsc.specs.declared.verdict.Kind.TheVariants.{Ok as AsOk}
 use Rattle.macs_rxsc.specs.declared.verdict.Verdict.TheVariants.{Delivered}
@@ -203,18 +204,14 @@ FramesAreDeliveredOnce {D} disk_of = (disk : D) (before : List Life) (first last
 
 -- ---- openings that are refused
 
--- a life after which the disk is formatted for sure: a `format` that answered Ok, or an opening that was not refused
-abbrev pub IsFormatting : Life → Type 0
-IsFormatting (Formats edition identity true) = Unit {0}
-IsFormatting (Serves edition image exchanges cut) = Unit {0}
-IsFormatting life = ⊥
-
--- An opening is refused as Disk, with one failed call counted or the disk worn; or as NotFormatted, and then no life formatted the disk for sure.
+-- An opening is refused as Disk, with one failed call counted or the disk worn; or as NotFormatted, and then no `format` of the history answered Ok,
+-- and no opening of it succeeded.
 abbrev pub RefusalsAreFailures : {D : Type 0} → (D → Disk) → Type 0
 RefusalsAreFailures {D} disk_of = (disk : D) (before : List Life) (refused : RecoverRefused D) → HasHistory this_edition (disk_of disk) before
     → IsOpening disk_of disk (Err refused)
     → ((refused.fault ≡ DiskFault) × FailsOnce (disk_of disk) (disk_of refused.disk))
-    ⊎ ((refused.fault ≡ NotFormatted) × ((life : Life) → Contains before life → ¬ IsFormatting life))
+    ⊎ ((refused.fault ≡ NotFormatted) × ((edition : Edition) (identity : Identity) → ¬ Contains before (Formats edition identity true))
+    × ((edition : Edition) (image : Image) (exchanges : List Exchange) (cut : Option Call) → ¬ Contains before (Serves edition image exchanges cut)))
 
 -- ---- deeds
 

@@ -1,7 +1,7 @@
 -- The ways in which a program may end, each of which passes the medium of its disk on.
-use Rattle.std.specs.Prelude.{◌≡◌, ◌≤◌, ◌&&◌, not, if◌then◌else◌, ℕ, Bool, List, Result}
+use Rattle.std.specs.Prelude.{◌≡◌, ◌≤◌, ◌&&◌, not, if◌then◌else◌, ℕ, Bool, true, false, List, Result}
 use Rattle.macs_disk.specs.Disk.{Disk, IsDeviceCall, IsHonest, LeftSince, Reads, Syncs, Works, now}
-use Rattle.macs_disk.specs.States.{DiskState, Image, settled_state}
+use Rattle.macs_disk.specs.States.{DiskState, Image, settled_state, state_after_sync}
 use Rattle.macs_disk.specs.declared.disk.DeviceFault.{DeviceFault}
 use Rattle.macs_headline.specs.Deeds.{IsPassedOn}
 
@@ -38,6 +38,10 @@ state_written_back written state = record {
   durable = λ i. if written i then state.seen i else state.durable i;
   pending = λ i. state.pending i && not (written i);
 }
+
+-- That is what a sync does where all of them do; and where none does it is no change.
+abbrev pub WritesBackAsSyncs : Type 0
+WritesBackAsSyncs = (state : DiskState) → (state_written_back (λ i. true) state ≡ state_after_sync state) × (state_written_back (λ i. false) state ≡ state)
 
 -- Some of the pending sectors reach the medium meanwhile, all of them, or none.
 abbrev pub WrittenBackPassOn : {D : Type 0} → (D → Disk) → Type 0

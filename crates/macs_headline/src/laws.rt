@@ -19,7 +19,7 @@ ghost use Rattle.macs_headline.specs.Binding.{NewDisksHaveHistories, OpeningsFin
 ghost use Rattle.macs_headline.specs.Commands.{CommandsKept};
 ghost use Rattle.macs_headline.specs.Deliveries.{DeliveredBelow, DeliveriesAreVerified, GivenOnce, NeverOkAgain, OthersAreBare};
 ghost use Rattle.macs_headline.specs.Endings.{DroppedPassOn, EndsAreEarlier, KillingsPassOn, LosesPower, PassedOnAgain, PowerLossesPassOn};
-ghost use Rattle.macs_headline.specs.Endings.{ReadsPassOn, SyncsPassOn, WrittenBackPassOn};
+ghost use Rattle.macs_headline.specs.Endings.{ReadsPassOn, SyncsPassOn, WritesBackAsSyncs, WrittenBackPassOn};
 ghost use Rattle.macs_headline.specs.ExampleLives.{IsWorkedHistory};
 ghost use Rattle.macs_headline.specs.Frames.{FramesAreStandard, WrittenBelow, WrittenOnce};
 ghost use Rattle.macs_headline.specs.Logged.{LogsAreAnswers};
@@ -109,6 +109,7 @@ pub fn endings<D: SectorDisk>()
     ensures dropped { DroppedPassOn }
     // Some of the pending sectors reach the medium meanwhile.
     ensures written_back { WrittenBackPassOn D.disk }
+    ensures as_synced { WritesBackAsSyncs }
     // The owner reads, or syncs.
     ensures read { ReadsPassOn D.disk }
     ensures synced { SyncsPassOn D.disk }

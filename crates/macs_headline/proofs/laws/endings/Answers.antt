@@ -1,4 +1,4 @@
-use Rattle.macs_headline.proofs.Endings.{dropped-pass-on, ends-are-earlier, killings-pass-on, passed-on-again, power-losses-pass-on, reads-pass-on, syncs-pass-on, written-back-pass-on}
+use Rattle.macs_headline.proofs.Endings.{dropped-pass-on, ends-are-earlier, killings-pass-on, passed-on-again, power-losses-pass-on, reads-pass-on, syncs-pass-on, writes-back-as-syncs, written-back-pass-on}
 use Rattle.macs_headline.proofs.laws.endings.Goals as goal
 
 pub returns-clause-power_lost : goal.returns-clause-power_lost
@@ -12,6 +12,9 @@ returns-clause-dropped g c = dropped-pass-on
 
 pub returns-clause-written_back : goal.returns-clause-written_back
 returns-clause-written_back g c = written-back-pass-on g.D.SectorDisk.disk g.met.D.SectorDisk.sound
+
+pub returns-clause-as_synced : goal.returns-clause-as_synced
+returns-clause-as_synced g c = writes-back-as-syncs
 
 pub returns-clause-read : goal.returns-clause-read
 returns-clause-read g c = reads-pass-on g.D.SectorDisk.disk g.met.D.SectorDisk.sound
