@@ -64,12 +64,12 @@ pub passed-on : PassedOnHaveHistories
 passed-on edition old new lives h passed = same_history edition old new lives h (passed.honest ∙ h.honest) passed.sectors (left-now old new passed)
 
 -- a fuse shows what the disk under it is now
-fuse_now : (disk : Disk) (at missed added : ℕ) → at ≤ disk.clock → now (fused_disk disk at missed added) ≡ now disk
-fuse_now disk at missed added before = ap disk.past (omega (arith, before))
+pub fuse-now : (disk : Disk) (at missed added : ℕ) → at ≤ disk.clock → now (fused_disk disk at missed added) ≡ now disk
+fuse-now disk at missed added before = ap disk.past (omega (arith, before))
 
 pub fuses-change-none : FusesChangeNone
 fuses-change-none edition disk at missed added lives before =
-    let same = fuse_now disk at missed added before in
+    let same = fuse-now disk at missed added before in
     let fused = fused_disk disk at missed added in (
       λ h. same_history edition fused disk lives h h.honest refl (λ image left. subst (λ (s : DiskState). IsImage s image) (sym same) left),
       λ h. same_history edition disk fused lives h h.honest refl (λ image left. subst (λ (s : DiskState). IsImage s image) same left),

@@ -28,6 +28,8 @@ pub mod Logged
 pub mod Moments
 pub mod Tickets
 pub mod RefusedDays
+pub mod Ours
+pub mod Nights
 pub mod Built
 pub mod BuiltAnew
 pub mod ExampleRecords

@@ -12,6 +12,7 @@ pub mod Deeds
 pub mod Endings
 pub mod Binding
 pub mod Days
+pub mod Nights
 pub mod Images
 pub mod Example
 pub mod ExampleStanding
