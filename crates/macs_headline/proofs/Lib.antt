@@ -29,8 +29,8 @@ pub mod Moments
 pub mod Tickets
 pub mod RefusedDays
 pub mod Ours
-pub mod Nights
 pub mod Built
+pub mod Nights
 pub mod BuiltAnew
 pub mod ExampleRecords
 pub mod ExampleImages

@@ -12,7 +12,7 @@ use Rattle.macs_config.specs.declared.command.Command.TheVariants.{TxUse}
 use Rattle.macs_config.specs.declared.command.SciMode.{SciMode}
 use Rattle.macs_disk.specs.Disk.{Disk, IsHonest, MayLeave, disk_after_loss, now}
 use Rattle.macs_disk.specs.Fused.{fused_disk}
-use Rattle.macs_disk.specs.Memory.{Memory, image_left, memory_after_loss}
+use Rattle.macs_disk.specs.Memory.{Memory, blank_memory, image_left, memory_after_loss}
 use Rattle.macs_disk.specs.States.{DiskState, IsImage, IsSound}
 use Rattle.macs_journal.specs.declared.fault.JournalFault.{JournalFault}
 use Rattle.macs_journal.specs.declared.recovery.RecoverRefused.{RecoverRefused}
@@ -35,6 +35,7 @@ use Rattle.macs_headline.specs.Frames.{IsStandardFrame, writing}
 use Rattle.macs_headline.specs.History.{Formats, Life, Serves}
 use Rattle.macs_headline.specs.Moments.{Moment}
 use Rattle.macs_headline.specs.Nights.{IsNightFrame, IsRefusedNight, night_install}
+use Rattle.macs_headline.proofs.Built.{blank-is-new}
 use Rattle.macs_headline.proofs.Chains.{deeds-are-histories, fuse-now, new-deeds-are-histories}
 use Rattle.macs_headline.proofs.Endings.{power-losses-pass-on}
 use Rattle.macs_headline.proofs.Lists.{all-on, contains-first, contains-later}
@@ -67,6 +68,19 @@ fuse-loses disk lost at missed added later before behind loses =
       alike = record { sectors = loses.alike.sectors; honest = loses.alike.honest };
       settled = fuse-now lost later 0 0 behind ∙ loses.settled;
     }
+
+-- ---- disks that are new
+
+pub blank-new : (m : Memory) → m ≡ blank_memory 1028 → IsNewDisk m.disk
+blank-new m is = subst (λ (m : Memory). IsNewDisk m.disk) (sym is) (blank-is-new 1028 (omega arith))
+
+-- one behind a fuse
+pub fused-new : (disk : Disk) (at missed added : ℕ) → at ≤ disk.clock → IsNewDisk disk → IsNewDisk (fused_disk disk at missed added)
+fused-new disk at missed added before is = record {
+  honest = is.honest;
+  large = is.large;
+  closed = λ image left. is.closed image (subst (λ (s : DiskState). IsImage s image) (fuse-now disk at missed added before) left);
+}
 
 -- ---- frames of such a state
 

@@ -1,6 +1,6 @@
 //! A night of an endpoint, in Rust: power is lost between two frames under one key, and they have two numbers.
 
-ghost use Rattle.std.specs.Prelude.{IfErr, IfOk};
+ghost use Rattle.std.specs.Prelude.{IfErr, IfOk, IfSome};
 ghost use Rattle.macs_headline.specs.Binding.{IsNewDisk};
 ghost use Rattle.macs_headline.specs.Endings.{LosesPower};
 ghost use Rattle.macs_headline.specs.Nights.{IsNight, IsRefusedNight};
@@ -10,7 +10,7 @@ use macs_disk::{Fuse, MemDisk, SectorDisk};
 use macs_endpoint::{CommandFault, Endpoint, OpenRefused, ProtectFault, RefillFault, format};
 use macs_frame::{An, FrameBuf, Pn};
 use macs_journal::JournalFault;
-use std::alloc::Allocator;
+use std::alloc::{Allocator, Global};
 
 /// A disk on which a power loss can be played.
 pub trait PowerLoss: SectorDisk {
@@ -93,4 +93,51 @@ pub fn a_night<D: PowerLoss>(
         sent_again,
         disk: again.into_disk(),
     })
+}
+
+/// A night over a new disk in memory, of 1,028 sectors. None where there is no memory for it, or an opening is
+/// refused.
+pub fn a_night_in_memory(
+    alloc: Global,
+    identity: &Identity,
+    an: An,
+    key: [u8; 16],
+    evening: &[u8],
+    first: &mut FrameBuf,
+    morning: &[u8],
+    second: &mut FrameBuf,
+) -> Option<Night<MemDisk>>
+    ensures { IfSome result (λ night. IsNight identity.now an key evening.now first.new.items morning.now second.new.items night) }
+{
+    let Ok(disk) = MemDisk::new(alloc, 1_028) else {
+        return None;
+    };
+    let Ok(night) = a_night(disk, identity, an, key, evening, first, morning, second) else {
+        return None;
+    };
+    Some(night)
+}
+
+/// The same behind a fuse that passes on so many calls until the power is lost, and then fails each.
+pub fn a_night_behind_a_fuse(
+    alloc: Global,
+    left: u64,
+    identity: &Identity,
+    an: An,
+    key: [u8; 16],
+    evening: &[u8],
+    first: &mut FrameBuf,
+    morning: &[u8],
+    second: &mut FrameBuf,
+) -> Option<Night<Fuse<MemDisk>>>
+    ensures { IfSome result (λ night. IsNight identity.now an key evening.now first.new.items morning.now second.new.items night) }
+{
+    let Ok(disk) = MemDisk::new(alloc, 1_028) else {
+        return None;
+    };
+    let fuse = Fuse::new(disk, left);
+    let Ok(night) = a_night(fuse, identity, an, key, evening, first, morning, second) else {
+        return None;
+    };
+    Some(night)
 }
