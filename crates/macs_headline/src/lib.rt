@@ -5,5 +5,7 @@
 mod day;
 mod example;
 pub mod laws;
+mod night;
 
 pub use day::{Day, a_day};
+pub use night::{Night, PowerLoss, a_night, a_night_behind_a_fuse, a_night_in_memory};

@@ -1,0 +1,241 @@
+-- A night: two frames under one key have two numbers, though power was lost between them.
+use Rattle.std.proofs.Common.{◌≡◌, ◌≢◌, ◌≤◌, ◌+◌, arith, ◌++◌, inl, inr, ℕ, List, [], ◌∷◌, Option, None, Result, Ok, Err, is_ok, refl, sym, ◌∙◌, ap, subst, le_refl, map}
+use Rattle.std.specs.Prelude.{Contains}
+use Rattle.std.specs.List.{AllByRecursion}
+use Rattle.macs_frame.specs.Fields.{octets_of}
+use Rattle.macs_frame.specs.Protection.{protected_frame}
+use Rattle.macs_config.specs.Association.{is_confidential, offset_of}
+use Rattle.macs_config.specs.Config.{this_edition}
+use Rattle.macs_config.specs.Identity.{Identity}
+use Rattle.macs_config.specs.declared.association.TxSa.{TxSa}
+use Rattle.macs_config.specs.declared.command.Command.TheVariants.{TxUse}
+use Rattle.macs_config.specs.declared.command.SciMode.{SciMode}
+use Rattle.macs_disk.specs.Disk.{Disk, IsHonest, MayLeave, disk_after_loss, now}
+use Rattle.macs_disk.specs.Fused.{fused_disk}
+use Rattle.macs_disk.specs.Memory.{Memory, blank_memory, image_left, memory_after_loss}
+use Rattle.macs_disk.specs.States.{DiskState, IsImage, IsSound}
+use Rattle.macs_journal.specs.declared.fault.JournalFault.{JournalFault}
+use Rattle.macs_journal.specs.declared.recovery.RecoverRefused.{RecoverRefused}
+use Rattle.macs_txsc.specs.Transmit.{name_in}
+use Rattle.macs_endpoint.specs.Calls.{IsCall}
+use Rattle.macs_endpoint.specs.Formatting.{IsFormat}
+use Rattle.macs_endpoint.specs.Lives.{Transition, exchange_of}
+use Rattle.macs_endpoint.specs.Opening.{IsOpening}
+use Rattle.macs_endpoint.specs.State.{Commands, Protects, Protected, Ran, Refilled, Refills, State}
+use Rattle.macs_endpoint.specs.Step.{Exchange}
+use Rattle.macs_endpoint.specs.Value.{EndpointValue, IsSoundEndpoint, device_in, state_of}
+use Rattle.macs_endpoint.specs.declared.fault.CommandFault.{CommandFault}
+use Rattle.macs_endpoint.specs.declared.fault.ProtectFault.{ProtectFault}
+use Rattle.macs_endpoint.specs.declared.fault.RefillFault.{RefillFault}
+use Rattle.macs_headline.specs.Answered.{exchanges_of_lives, lives_at}
+use Rattle.macs_headline.specs.Binding.{HasHistory, IsNewDisk, IsWrittenOnce}
+use Rattle.macs_headline.specs.Deeds.{Formatting, Link, Living, LivesFrom, PassingOn}
+use Rattle.macs_headline.specs.Endings.{LosesPower}
+use Rattle.macs_headline.specs.Frames.{IsStandardFrame, writing}
+use Rattle.macs_headline.specs.History.{Formats, Life, Serves}
+use Rattle.macs_headline.specs.Moments.{Moment}
+use Rattle.macs_headline.specs.Nights.{IsNightFrame, IsRefusedNight, night_install}
+use Rattle.macs_headline.proofs.Built.{blank-is-new}
+use Rattle.macs_headline.proofs.Chains.{deeds-are-histories, fuse-now, new-deeds-are-histories}
+use Rattle.macs_headline.proofs.Endings.{power-losses-pass-on}
+use Rattle.macs_headline.proofs.Lists.{all-on, contains-first, contains-later}
+use Rattle.macs_headline.proofs.Losses.{loses-power}
+use Rattle.macs_headline.proofs.Moments.{frames-are-written-once}
+use Rattle.macs_headline.proofs.Ours.{AreOurCalls, IsOurLife, IsOurs, our-answer, our-moment}
+
+-- ---- power losses that are played
+
+-- in memory
+pub crashed-loses : (old new : Memory) → new ≡ memory_after_loss old → MayLeave old.disk (now new.disk).seen → LosesPower old.disk old.disk.clock new.disk
+crashed-loses old new is may =
+    let after : new.disk ≡ disk_after_loss old.disk (image_left old) = ap (λ (m : Memory). m.disk) is in
+    let left : MayLeave old.disk (image_left old) = subst (λ (d : Disk). MayLeave old.disk (now d).seen) after may in
+    let clock = old.disk.clock in
+    subst (LosesPower old.disk clock) (sym after) (loses-power old.disk clock (image_left old) (clock, le_refl clock, le_refl clock, left))
+
+-- behind a fuse, of which another takes the place
+pub fuse-loses : (disk lost : Disk) (at missed added later : ℕ) → at ≤ disk.clock → later ≤ lost.clock → LosesPower disk disk.clock lost
+    → LosesPower (fused_disk disk at missed added) (disk.clock + missed) (fused_disk lost later 0 0)
+fuse-loses disk lost at missed added later before behind loses =
+    let fused = fused_disk disk at missed added in
+    let from = loses.left.1 in
+    let to = loses.left.2 in
+    let last : loses.left.0 ≡ disk.clock = omega (arith, from, to) in
+    let left : IsImage (now disk) loses.image = subst (λ (k : ℕ). IsImage (disk.past k) loses.image) last loses.left.3 in
+    record {
+      image = loses.image;
+      left = (fused.clock, le_refl fused.clock, le_refl fused.clock, subst (λ (s : DiskState). IsImage s loses.image) (sym (fuse-now disk at missed added before)) left);
+      alike = record { sectors = loses.alike.sectors; honest = loses.alike.honest };
+      settled = fuse-now lost later 0 0 behind ∙ loses.settled;
+    }
+
+-- ---- disks that are new
+
+pub blank-new : (m : Memory) → m ≡ blank_memory 1028 → IsNewDisk m.disk
+blank-new m is = subst (λ (m : Memory). IsNewDisk m.disk) (sym is) (blank-is-new 1028 (omega arith))
+
+-- one behind a fuse
+pub fused-new : (disk : Disk) (at missed added : ℕ) → at ≤ disk.clock → IsNewDisk disk → IsNewDisk (fused_disk disk at missed added)
+fused-new disk at missed added before is = record {
+  honest = is.honest;
+  large = is.large;
+  closed = λ image left. is.closed image (subst (λ (s : DiskState). IsImage s image) (fuse-now disk at missed added before) left);
+}
+
+-- ---- frames of such a state
+
+abbrev frame_by : ℕ → TxSa → Identity → SciMode → ℕ → List ℕ → List ℕ
+frame_by an sa identity mode pn plain = protected_frame sa.key identity.sci
+    (record { an = an; pn = pn; name = name_in mode identity.sci; encrypted = is_confidential sa.protection; changed = is_confidential sa.protection })
+    (octets_of (offset_of sa.protection)) plain
+
+module _ (identity : Identity) (an : ℕ) (key : List ℕ) where
+  night-frame : (s : State) (plain : List ℕ) (pn : ℕ) (out : List ℕ) (new : State) → IsOurs identity an key s → IsStandardFrame s plain pn out new
+      → IsNightFrame identity an key plain pn out
+  night-frame s plain pn out new ours f =
+      let its = ours.config_is.ours f.an f.sa f.association in
+      record {
+        least = f.least;
+        most = f.most;
+        frame = f.frame ∙ (λ i. frame_by (its.0 i) (its.1 i) (ours.identity_is i) (ours.config_is.mode i) pn plain);
+      }
+
+  key-is : (s : State) (plain : List ℕ) (pn : ℕ) (out : List ℕ) (new : State) → IsOurs identity an key s → (f : IsStandardFrame s plain pn out new) → f.sa.key ≡ key
+  key-is s plain pn out new ours f = ap (λ (sa : TxSa). sa.key) (ours.config_is.ours f.an f.sa f.association).1
+
+-- ---- the night
+
+-- the first opening was refused
+pub refused-first : {D : Type 0} (disk_of : D → Disk) (identity : Identity) (old mid : D) (formatted : Result (Unit {0}) JournalFault)
+    → IsFormat disk_of old identity formatted mid → (refused : RecoverRefused D) → IsOpening disk_of mid (Err refused) → IsRefusedNight disk_of old refused
+refused-first disk_of identity old mid formatted format refused opening =
+    record { links = record { deed = Formatting identity formatted; after = mid } ∷ []; chain = (format, (opening, refl)) }
+
+module _ {D : Type 0} (disk_of : D → Disk) (sound : (it : D) → IsHonest (disk_of it) → IsSound (now (disk_of it))) (identity : Identity) (an : ℕ) (key : List ℕ)
+    (old mid : D) (is_new : IsNewDisk (disk_of old)) (formatted : Result (Unit {0}) JournalFault) (format : IsFormat disk_of old identity formatted mid)
+    (first one two three : EndpointValue D) (opening : IsOpening disk_of mid (Ok first))
+    (kept : IsSoundEndpoint first) (installed : Result (Unit {0}) CommandFault) (install : IsCall disk_of first (Commands (night_install an key)) (Ran installed) one)
+    (kept_one : IsSoundEndpoint one) (chosen : Result (Unit {0}) CommandFault) (choose : IsCall disk_of one (Commands (TxUse an)) (Ran chosen) two)
+    (kept_two : IsSoundEndpoint two) (evening : List ℕ) (sent : Result ℕ ProtectFault) (out : List ℕ)
+    (protect : IsCall disk_of two (Protects evening) (Protected sent out) three) where
+  abbrev before : List Life
+  before = Formats this_edition identity (is_ok formatted) ∷ []
+
+  has_before : HasHistory this_edition (disk_of mid) before
+  has_before = new-deeds-are-histories disk_of sound old mid (record { deed = Formatting identity formatted; after = mid } ∷ []) is_new (format, refl)
+
+  abbrev commands : List (Transition D)
+  commands =
+      record { call = Commands (night_install an key); reply = Ran installed; after = one }
+      ∷ record { call = Commands (TxUse an); reply = Ran chosen; after = two }
+      ∷ []
+
+  abbrev with_frame : List (Transition D)
+  with_frame =
+      record { call = Commands (night_install an key); reply = Ran installed; after = one }
+      ∷ record { call = Commands (TxUse an); reply = Ran chosen; after = two }
+      ∷ record { call = Protects evening; reply = Protected sent out; after = three }
+      ∷ []
+
+  lived : LivesFrom disk_of mid first commands two
+  lived = (opening, (kept, install, (kept_one, choose, refl)))
+
+  -- the frame of the evening
+  pub evening-frame : (pn : ℕ) → sent ≡ Ok pn → IsNightFrame identity an key evening pn out
+  evening-frame pn is =
+      let w = frames-are-written-once disk_of sound mid before first two three commands evening pn out has_before lived
+      (subst (λ (r : Result ℕ ProtectFault). IsCall disk_of two (Protects evening) (Protected r out) three) is protect) in
+      night-frame identity an key (state_of two w.at.logs) evening pn out (state_of three w.later)
+      (our-moment identity an key (disk_of mid).sectors (state_of two w.at.logs) w.at.moment
+      (subst (AllByRecursion (IsOurLife identity an key)) (sym w.at.after_lives) (refl, tt))
+      (subst (AreOurCalls identity an key) (sym w.at.calls) (inl refl, (inr refl, tt))))
+      w.standard
+
+  -- the second one was
+  pub refused-again : (left : D) → left ≡ device_in three → (lost : D) → LosesPower (disk_of left) (disk_of left).clock (disk_of lost)
+      → (refused : RecoverRefused D) → IsOpening disk_of lost (Err refused) → IsRefusedNight disk_of old refused
+  refused-again left gave lost loses refused opening_again = record {
+    links =
+        record { deed = Formatting identity formatted; after = mid }
+        ∷ record { deed = Living first with_frame three None; after = left }
+        ∷ record { deed = PassingOn; after = lost }
+        ∷ [];
+    chain = (
+      format,
+      (
+        ((opening, (kept, install, (kept_one, choose, (kept_two, protect, refl)))), gave),
+        (power-losses-pass-on (disk_of left) (disk_of lost) (disk_of left).clock loses, (opening_again, refl)),
+      ),
+    );
+  }
+
+  module _ (left : D) (gave : left ≡ device_in three) (lost : D) (loses : LosesPower (disk_of left) (disk_of left).clock (disk_of lost))
+      (again four five : EndpointValue D) (opening_again : IsOpening disk_of lost (Ok again))
+      (kept_again : IsSoundEndpoint again) (refilled : Result (Unit {0}) RefillFault) (refill : IsCall disk_of again Refills (Refilled refilled) four)
+      (morning : List ℕ) (sent_again : Result ℕ ProtectFault) (second : List ℕ)
+      (protect_again : IsCall disk_of four (Protects morning) (Protected sent_again second) five) where
+    abbrev evening_life : Life
+    evening_life = Serves this_edition (now (disk_of mid)).seen (map exchange_of with_frame) None
+
+    abbrev both : List Life
+    both = Formats this_edition identity (is_ok formatted) ∷ evening_life ∷ []
+
+    abbrev links : List (Link D)
+    links = record { deed = Living first with_frame three None; after = left } ∷ record { deed = PassingOn; after = lost } ∷ []
+
+    has_both : HasHistory this_edition (disk_of lost) both
+    has_both = deeds-are-histories disk_of sound mid lost before links has_before (
+      ((opening, (kept, install, (kept_one, choose, (kept_two, protect, refl)))), gave),
+      (power-losses-pass-on (disk_of left) (disk_of lost) (disk_of left).clock loses, refl),
+    )
+
+    abbrev refills : List (Transition D)
+    refills = record { call = Refills; reply = Refilled refilled; after = four } ∷ []
+
+    lived_again : LivesFrom disk_of lost again refills four
+    lived_again = (opening_again, (kept_again, refill, refl))
+
+    written : (pn : ℕ) → sent_again ≡ Ok pn
+        → IsWrittenOnce (disk_of lost).sectors both (now (disk_of lost)).seen refills again four five morning pn second
+    written pn is =
+        frames-are-written-once disk_of sound lost both again four five refills morning pn second has_both lived_again
+        (subst (λ (r : Result ℕ ProtectFault). IsCall disk_of four (Protects morning) (Protected r second) five) is protect_again)
+
+    module _ (pn : ℕ) (is : sent_again ≡ Ok pn) where
+      abbrev w : IsWrittenOnce (disk_of lost).sectors both (now (disk_of lost)).seen refills again four five morning pn second
+      w = written pn is
+
+      both_ours : AllByRecursion (IsOurLife identity an key) w.at.moment.lives
+      both_ours = subst (AllByRecursion (IsOurLife identity an key)) (sym w.at.after_lives) (refl, ((inl refl, (inr refl, (tt, tt))), tt))
+
+      refills_ours : AreOurCalls identity an key w.at.moment.exchanges
+      refills_ours = subst (AreOurCalls identity an key) (sym w.at.calls) (tt, tt)
+
+      now_ours : IsOurs identity an key (state_of four w.at.logs)
+      now_ours = our-moment identity an key (disk_of lost).sectors (state_of four w.at.logs) w.at.moment both_ours refills_ours
+
+      -- the frame of the morning
+      pub morning-frame : IsNightFrame identity an key morning pn second
+      morning-frame = night-frame identity an key (state_of four w.at.logs) morning pn second (state_of five w.later) now_ours w.standard
+
+      -- and that of the evening has another number
+      pub numbers-apart : (number : ℕ) → sent ≡ Ok number → number ≢ pn
+      numbers-apart number was =
+          let e = writing evening number out in
+          let m = w.at.moment in
+          let lives = lives_at m in
+          let frame : Exchange = record { call = Protects evening; reply = Protected sent out } in
+          let installing : Exchange = record { call = Commands (night_install an key); reply = Ran installed } in
+          let choosing : Exchange = record { call = Commands (TxUse an); reply = Ran chosen } in
+          let same : frame ≡ e = λ i. record { call = Protects evening; reply = Protected (was i) out } in
+          let rest = m.exchanges ++ [] in
+          let front : Contains (frame ∷ rest) e = subst (Contains (frame ∷ rest)) same (contains-first frame rest) in
+          let here : Contains (exchanges_of_lives (both ++ Serves m.edition m.image m.exchanges None ∷ [])) e =
+          contains-later installing (choosing ∷ frame ∷ rest) e (contains-later choosing (frame ∷ rest) e front) in
+          let among : Contains (exchanges_of_lives lives) e =
+          subst (λ (lives : List Life). Contains (exchanges_of_lives (lives ++ Serves m.edition m.image m.exchanges None ∷ [])) e) (sym w.at.after_lives) here in
+          let other = w.others evening number out among in
+          let ours = our-answer identity an key (disk_of lost).sectors lives e w.at.logs other.answered
+          (all-on (IsOurLife identity an key) m.lives (Serves m.edition m.image m.exchanges None) both_ours refills_ours) in
+          other.other (key-is identity an key other.answered.at evening number out other.answered.after ours other.frame
+          ∙ sym (key-is identity an key (state_of four w.at.logs) morning pn second (state_of five w.later) now_ours w.standard))
