@@ -1,5 +1,5 @@
 -- What is found while a journal begins anew, and what it stands for.
-use Rattle.std.proofs.Common.{◌≡◌, ◌≤◌, ◌<◌, ◌+◌, ℕ, zero, suc, List, [], ◌∷◌, ◌++◌, length, take, drop, replicate, Some, refl, sym, ◌∙◌, ap, subst, arith, append-nil, append_assoc, take_all}
+use Rattle.std.proofs.Common.{◌≡◌, ◌≤◌, ◌<◌, ◌+◌, ℕ, zero, suc, List, [], ◌∷◌, ◌++◌, length, take, drop, replicate, Option, Some, None, refl, sym, ◌∙◌, ap, subst, arith, append-nil, append_assoc, take_all}
 use Rattle.std.specs.List.{AllByRecursion}
 use Rattle.std.specs.Option.{option_and_then}
 use Rattle.std.proofs.lemmas.List.{drop_all, length_push}
@@ -18,7 +18,6 @@ use Rattle.macs_store.specs.Standing.{Standing}
 use Rattle.macs_store.proofs.Keeping.{standing-with}
 use Rattle.macs_headline.specs.Images.{content_with_records, image_with_area, image_with_open_head}
 use Rattle.macs_headline.proofs.Built.{area-other, opened-found, opened-other}
-use Rattle.macs_headline.proofs.Editions.{and-then}
 
 -- ---- the other area, while it is written and when it is open
 
@@ -65,6 +64,11 @@ anew-found image c finds area area_is records is_head few are closed =
 
 -- ---- what contents stand for
 
+-- what comes of something comes of what that is
+and_then : {A B : Type 0} (f : A → Option B) (o : Option A) (b : B) → option_and_then f o ≡ Some b → (a : A) × (o ≡ Some a) × (f a ≡ Some b)
+and_then f None b is = absurd (cc)
+and_then f (Some a) b is = (a, refl, is)
+
 -- several records more
 pub meaning-more : (edition : Edition) (rs : List Record) (c : Content) (s t : Standing) → c.head.count ≤ length c.records → meaning_of edition c ≡ Some s
     → standing_after_records s rs ≡ Some t → meaning_of edition (content_with_records c rs) ≡ Some t
@@ -72,7 +76,7 @@ meaning-more edition [] c s t within stands made =
     subst (λ (records : List Record). meaning_of edition (record c { records = records }) ≡ Some t) (sym (append-nil c.records)) (stands ∙ made)
 meaning-more edition (r ∷ rs) c s t within stands made =
     let size : length (c.records ++ r ∷ []) ≡ length c.records + 1 = length_push c.records r in
-    let next = and-then (λ (next : Standing). standing_after_records next rs) (standing_after_record s r) t made in
+    let next = and_then (λ (next : Standing). standing_after_records next rs) (standing_after_record s r) t made in
     let more = meaning-more edition rs (content_with_record c r) next.0 t (omega (arith, size, within)) (standing-with edition c r s within stands ∙ next.1) next.2 in
     subst (λ (records : List Record). meaning_of edition (record c { records = records }) ≡ Some t) (append_assoc c.records (r ∷ []) rs) more
 

@@ -1,7 +1,8 @@
 -- The headline on commands: what an opening finds of them.
-use Rattle.std.proofs.Common.{◌≡◌, inl, inr, ℕ, refl, sym, ◌∙◌, ap, subst, List, [], ◌∷◌, ◌++◌, drop, Result, Ok, Err, append-nil}
+use Rattle.std.proofs.Common.{◌≡◌, inl, inr, ℕ, refl, sym, ◌∙◌, ap, subst, List, [], ◌∷◌, ◌++◌, ◌==◌, if◌then◌else◌, Bool, cond, Result, Ok, Err, append-nil}
 use Rattle.std.specs.Prelude.{Option}
 use Rattle.std.specs.Option.{option_to_list}
+use Rattle.std.proofs.lemmas.Bool.{eq-eqb}
 use Rattle.macs_config.specs.Apply.{apply}
 use Rattle.macs_config.specs.Config.{Config, Edition}
 use Rattle.macs_config.specs.Identity.{Identity}
@@ -26,7 +27,7 @@ use Rattle.macs_endpoint.specs.declared.queue.Waiting.{Waiting}
 use Rattle.macs_endpoint.specs.Restart.{Restart, opened_state}
 use Rattle.macs_endpoint.specs.State.{Advanced, Advances, Call, Commands, Protects, Protected, Ran, Received, Receives, Refilled, Refills, Reply, State, Submits, Submitted}
 use Rattle.macs_endpoint.specs.Step.{AdvanceStep, CommandStep, Ends, Exchange, IsStopped, ProtectStep, ReceiveStep, RefillStep, RunningStep, Step, Steps, SubmitStep, TakesUp}
-use Rattle.macs_headline.specs.Commands.{CommandsKept, CommandsMake, FindsPrefix, acknowledged_by, acknowledged_commands, acknowledged_from, waiting_after}
+use Rattle.macs_headline.specs.Commands.{CommandsKept, CommandsMake, FindsPrefix, acknowledged_by, acknowledged_commands, acknowledged_from, waiting_after, without_first}
 use Rattle.macs_headline.specs.History.{logs_of, state_at_end}
 use Rattle.macs_headline.proofs.Effects.{Core}
 use Rattle.macs_headline.proofs.Sound.{end-core, end-edition}
@@ -120,37 +121,42 @@ taken_up old new (first, rest, waiting, idle, accepts, is) = record {
   waiting = ap (λ (s : State). s.waiting) is;
 }
 
+-- what is chosen where two numbers are one
+chosen : {X : Type 0} (n m : ℕ) (x y : X) → n ≡ m → (if n == m then x else y) ≡ x
+chosen n m x y same = ap (λ (b : Bool). cond b x y) (eq-eqb n m same)
+
 -- the first one is done with, of those that wait
-by_end : (old : State) (first : Waiting) (rest : List Waiting) (ticket : ℕ) (result : Result (Unit {0}) CommandFault) (new : State)
+by_end : (old : State) (first : Waiting) (rest : List Waiting) (ticket : ℕ) (result : Result (Unit {0}) CommandFault) (new : State) → ticket ≡ first.ticket
     → Ends old first rest result new
-    → IsMadeBy old new (acknowledged_by (first ∷ rest) Advances (Advanced (Ok (Done ticket result)))) rest
-by_end old first rest ticket (Ok done) new h = record {
+    → IsMadeBy old new (acknowledged_by (first ∷ rest) Advances (Advanced (Ok (Done ticket result)))) (without_first ticket (first ∷ rest))
+by_end old first rest ticket (Ok done) new is_ticket h = record {
   edition = ap (λ (s : State). s.edition) h.2;
   identity = ap (λ (s : State). s.identity) h.2;
-  made = (h.0, h.1, ap (λ (s : State). s.config) h.2);
-  waiting = ap (λ (s : State). s.waiting) h.2;
+  made = subst (λ (commands : List Command). CommandsMake old.edition old.identity old.config commands new.config)
+      (sym (chosen first.ticket ticket (first.command ∷ []) [] (sym is_ticket))) (h.0, h.1, ap (λ (s : State). s.config) h.2);
+  waiting = ap (λ (s : State). s.waiting) h.2 ∙ sym (chosen first.ticket ticket rest (first ∷ rest) (sym is_ticket));
 }
-by_end old first rest ticket (Err (ran.Refused refusal)) new (idle, why, is) = record {
+by_end old first rest ticket (Err (ran.Refused refusal)) new is_ticket (idle, why, is) = record {
   edition = ap (λ (s : State). s.edition) is;
   identity = ap (λ (s : State). s.identity) is;
   made = ap (λ (s : State). s.config) is;
-  waiting = ap (λ (s : State). s.waiting) is;
+  waiting = ap (λ (s : State). s.waiting) is ∙ sym (chosen first.ticket ticket rest (first ∷ rest) (sym is_ticket));
 }
-by_end old first rest ticket (Err ran.GenerationsSpent) new (idle, accepts, is) = record {
+by_end old first rest ticket (Err ran.GenerationsSpent) new is_ticket (idle, accepts, is) = record {
   edition = ap (λ (s : State). s.edition) is;
   identity = ap (λ (s : State). s.identity) is;
   made = ap (λ (s : State). s.config) is;
-  waiting = ap (λ (s : State). s.waiting) is;
+  waiting = ap (λ (s : State). s.waiting) is ∙ sym (chosen first.ticket ticket rest (first ∷ rest) (sym is_ticket));
 }
-by_end old first rest ticket (Err fault) new h = absurd h
+by_end old first rest ticket (Err fault) new is_ticket h = absurd h
 
 by_advance : (old : State) (result : Result Progress StepFault) (new : State) → AdvanceStep old result new
     → IsMadeByCall old new Advances (Advanced result)
 by_advance old (Ok Worked) new (inl is) = unchanged old new is
 by_advance old (Ok Worked) new (inr takes) = like old new (taken_up old new takes)
 by_advance old (Ok (Done ticket result)) new (first, rest, waiting, is_ticket, ends) =
-    subst (λ (w : List Waiting). IsMadeBy old new (acknowledged_by w Advances (Advanced (Ok (Done ticket result)))) (drop 1 w)) (sym waiting)
-    (by_end old first rest ticket result new ends)
+    subst (λ (w : List Waiting). IsMadeBy old new (acknowledged_by w Advances (Advanced (Ok (Done ticket result)))) (without_first ticket w)) (sym waiting)
+    (by_end old first rest ticket result new is_ticket ends)
 by_advance old (Err advance.Disk) new (inl is) = record {
   edition = ap (λ (s : State). s.edition) is;
   identity = ap (λ (s : State). s.identity) is;

@@ -9,7 +9,7 @@ use Rattle.macs_disk.specs.declared.layout.Layout.{Layout}
 use Rattle.macs_disk.specs.declared.layout.Layout.TheVariants.{Packed, Spaced}
 use Rattle.macs_disk.proofs.FileSectors.{file-image}
 use Rattle.macs_headline.specs.Binding.{IsNewDisk}
-use Rattle.macs_headline.specs.Deeds.{LosesPower}
+use Rattle.macs_headline.specs.Endings.{LosesPower}
 use Rattle.macs_headline.proofs.Built.{closed-gate}
 
 pub blank-file-is-new : (old new : FileState) (layout : Layout) (disk : Disk) → IsBlank old new layout disk → suits layout old.block ≡ true → IsNewDisk disk
@@ -42,7 +42,6 @@ opened-again file layout old new opened suited may sectors honest =
     record {
       image = image_in_file layout octets;
       left = (old.clock, le_refl old.clock, le_refl old.clock, may (image_in_file layout octets) (file-image layout file octets suited opened.settles.1));
-      sectors = sectors;
-      honest = honest;
+      alike = record { sectors = sectors; honest = honest };
       settled = opened.state ∙ as-settled layout file opened.settled octets opened.settles.3;
     }

@@ -6,11 +6,11 @@ use Rattle.macs_config.specs.Config.{this_edition}
 use Rattle.macs_rxsc.specs.Receive.{Numbers, first_numbers, numbers_after_delivery, numbers_under_window}
 use Rattle.macs_store.specs.Standing.{no_ceilings}
 use Rattle.macs_endpoint.specs.Restart.{Fits, RxRises, TxRises}
-use Rattle.macs_headline.specs.Example.{example_identity, example_sectors, later_edition, peer_sci, widen}
+use Rattle.macs_headline.specs.Example.{example_identity, example_sectors, peer_sci, widen}
 use Rattle.macs_headline.specs.ExampleDisk.{cut_image, last_image, new_image, served_image}
 use Rattle.macs_headline.specs.ExampleStanding.{full_standing, last_standing, served_config}
 use Rattle.macs_headline.specs.History.{formatted_state}
-use Rattle.macs_headline.proofs.ExampleImages.{cut-is, larger, last-is, later-config, new-is, served-is, served_standing}
+use Rattle.macs_headline.proofs.ExampleImages.{cut-is, last-is, new-is, served-is, served-is-config, served_standing}
 use Rattle.macs_headline.proofs.ExampleStates.{after_hold, before_frame, first_end, first_followed, last_state, s0, s11, s12, second_end, t0, third_end, u0}
 use Rattle.macs_headline.proofs.Formats.{new-fits}
 use Rattle.macs_headline.proofs.Places.{cases_place, put_rx, put_rx-that}
@@ -111,12 +111,12 @@ tx_third true = (17, refl, omega arith, omega arith, omega arith)
 tx_third false = refl
 
 -- nor was it here, where the device failed
-pub fits-last : Fits later_edition example_sectors last_image third_end
+pub fits-last : Fits this_edition example_sectors last_image third_end
 fits-last = record {
-  found = last_standing later_edition;
-  is_found = last-is later_edition later-config;
+  found = last_standing this_edition;
+  is_found = last-is this_edition served-is-config;
   restart = inl (record {
-    edition = larger;
+    edition = record { channels = omega arith; long_keys = λ is. is };
     identity = refl;
     config = refl;
     next = λ an. tx_third (an == 0);

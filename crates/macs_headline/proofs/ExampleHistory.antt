@@ -7,18 +7,22 @@ use Rattle.macs_config.specs.Apply.{config_after}
 use Rattle.macs_config.specs.Config.{this_edition}
 use Rattle.macs_rxsc.specs.Receive.{BelowLowest, first_numbers}
 use Rattle.macs_store.specs.Standing.{new_standing}
+use Rattle.macs_store.proofs.LargerEditions.{larger-finds}
 use Rattle.macs_endpoint.specs.Calls.{IsInRange}
 use Rattle.macs_endpoint.specs.State.{State, rx_side}
 use Rattle.macs_endpoint.specs.Step.{Exchange, Step, Steps}
 use Rattle.macs_headline.specs.Example.{add_peer, example_identity, example_plain, example_sectors, later_edition, peer_frame, remove_peer, stay_strict, widen}
 use Rattle.macs_headline.specs.ExampleDisk.{cut_image, last_image, new_image, served_image}
 use Rattle.macs_headline.specs.ExampleStanding.{full_standing, last_standing, served_config}
-use Rattle.macs_headline.specs.ExampleLives.{IsWorkedHistory, first_exchanges, obeyed, second_exchanges, third_exchanges}
-use Rattle.macs_headline.specs.History.{Blank, Formatted, IsLifeSoFar, formatted_state}
+use Rattle.macs_headline.specs.ExampleLives.{IsWorkedHistory, early_lives, example_lives, first_exchanges, last_disk, obeyed, second_exchanges, third_exchanges}
+use Rattle.macs_headline.specs.Binding.{HasHistory}
+use Rattle.macs_headline.specs.History.{Blank, Formatted, IsHistory, IsLifeSoFar, formatted_state}
+use Rattle.macs_headline.proofs.Chains.{lead-on, settled-disks}
+use Rattle.macs_headline.proofs.Older.{larger-fits, older}
 use Rattle.macs_headline.proofs.Lists.{each-same}
 use Rattle.macs_headline.proofs.ExampleFits.{fits-cut, fits-last, fits-new, fits-served}
 use Rattle.macs_headline.proofs.ExampleFrames.{arrival, peer-arrives, peer-late}
-use Rattle.macs_headline.proofs.ExampleImages.{cut-is, cut-stands, full-slots, last-is, later-config, new-generation, new-is, served-is, served_standing, unfinished-is}
+use Rattle.macs_headline.proofs.ExampleImages.{cut-is, cut-stands, full-slots, larger, last-is, new-generation, new-is, served-is, served-is-config, served_standing, unfinished-is}
 use Rattle.macs_headline.proofs.ExampleRecords.{key-range, peer-range}
 use Rattle.macs_headline.proofs.ExampleStates.{after_hold, before_frame, c1, c2, c3, c4, first_end, last_state, outgoing, s0, s1, s2, s3, s4, s5, s6, s7, s8, s9, s10, s11, s12, s13, s14, s15, second_end, t0, t1, third_end, u0, u1, u2, waits}
 
@@ -276,50 +280,62 @@ module _ (peer : All (λ octet. octet < 2 ^ 8) (peer_frame 5)) where
   third_life = record { fits = fits-cut; found = full_standing; is_found = cut-is; in_range = third_range; steps = third_steps }
 
   last_life : IsLifeSoFar example_sectors (Formatted third_end) later_edition last_image [] last_state
-  last_life = record { fits = fits-last; found = last_standing later_edition; is_found = last-is later_edition later-config; in_range = tt; steps = refl }
+  last_life = record {
+    fits = larger-fits this_edition later_edition larger example_sectors last_image third_end fits-last;
+    found = last_standing later_edition;
+    is_found = larger-finds this_edition later_edition larger example_sectors last_image (last_standing this_edition) (last-is this_edition served-is-config);
+    in_range = tt;
+    steps = refl;
+  }
 
-  pub is-worked-history : IsWorkedHistory
-  is-worked-history = record {
-    last = last_state;
-    history = (
+  -- all but the last
+  early : IsHistory example_sectors early_lives (Formatted third_end)
+  early = (
+    Blank (example_identity ∷ []),
+    refl,
+    (
       Blank (example_identity ∷ []),
-      refl,
+      (inl unfinished-is, inr unfinished-is, refl),
       (
-        Blank (example_identity ∷ []),
-        (inl unfinished-is, inr unfinished-is, refl),
+        Formatted (formatted_state this_edition example_identity),
+        refl,
         (
           Formatted (formatted_state this_edition example_identity),
-          refl,
+          (fits-new, inl refl, refl),
           (
-            Formatted (formatted_state this_edition example_identity),
-            (fits-new, inl refl, refl),
+            Formatted first_end,
+            (first_end, first_life, tt, refl),
             (
-              Formatted first_end,
-              (first_end, first_life, tt, refl),
+              Formatted second_end,
+              (t1, second_life, (peer-range, omega arith), refl),
               (
                 Formatted second_end,
-                (t1, second_life, (peer-range, omega arith), refl),
+                refl,
                 (
-                  Formatted second_end,
+                  Formatted third_end,
+                  (third_end, third_life, tt, refl),
                   refl,
-                  (
-                    Formatted third_end,
-                    (third_end, third_life, tt, refl),
-                    (
-                      Formatted last_state,
-                      (last_state, last_life, tt, refl),
-                      refl,
-                    ),
-                  ),
                 ),
               ),
             ),
           ),
         ),
       ),
-    );
+    ),
+  )
+
+  early_disk : HasHistory this_edition last_disk early_lives
+  early_disk = settled-disks this_edition last_disk early_lives (Formatted third_end) last_image refl refl early fits-last
+
+  pub is-worked-history : IsWorkedHistory
+  is-worked-history = record {
+    last = last_state;
+    history = lead-on example_sectors early_lives (drop 8 example_lives) (Blank []) (Formatted third_end) (Formatted last_state) early
+        (Formatted last_state, (last_state, last_life, tt, refl), refl);
     used = refl;
     given = refl;
+    early = early_disk;
+    older = older this_edition later_edition larger last_disk early_lives early_disk;
     full = full-slots;
     cut = cut-stands;
     anew = (refl, refl, new-generation);

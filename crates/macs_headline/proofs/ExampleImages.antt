@@ -9,7 +9,6 @@ use Rattle.macs_config.specs.Tables.{put, put_at}
 use Rattle.macs_config.specs.declared.command.Command.{Command}
 use Rattle.macs_config.specs.declared.command.Role.{Role}
 use Rattle.macs_config.specs.declared.command.Role.TheVariants.{Receive, Transmit}
-use Rattle.macs_config.proofs.Editions.{larger-has}
 use Rattle.macs_config.proofs.Kept.{apply-keeps}
 use Rattle.macs_config.proofs.Tables.{put-same, put_at-same, put_at-twice}
 use Rattle.macs_disk.specs.States.{zero_sector}
@@ -198,8 +197,8 @@ next_config : (old new : Config) (command : Command) → apply this_edition exam
     → IsConfig this_edition example_identity new
 next_config old new command done is = apply-keeps this_edition example_identity old new command is done
 
-served_is_config : IsConfig this_edition example_identity served_config
-served_is_config =
+pub served-is-config : IsConfig this_edition example_identity served_config
+served-is-config =
     let c1 = config_after default install_own in
     let c2 = config_after c1 use_own in
     let c3 = config_after c2 add_peer in
@@ -275,6 +274,3 @@ larger = record { channels = omega arith; long_keys = λ is. refl }
 
 pub last-is : (edition : Edition) → IsConfig edition example_identity served_config → StandingIs edition example_sectors last_image (Ok (last_standing edition))
 last-is edition is = (omega arith, record { content = last_content; found = last_found; stands = last_meaning edition is })
-
-pub later-config : IsConfig later_edition example_identity served_config
-later-config = larger-has this_edition later_edition larger example_identity served_config served_is_config

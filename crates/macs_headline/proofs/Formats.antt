@@ -16,11 +16,11 @@ use Rattle.macs_store.specs.Standing.{Standing, new_standing}
 use Rattle.macs_endpoint.specs.Formatting.{FormatLeaves, IsFormat}
 use Rattle.macs_endpoint.specs.Restart.{Fits}
 use Rattle.macs_endpoint.specs.State.{State}
-use Rattle.macs_headline.specs.Deeds.{LosesPower}
+use Rattle.macs_headline.specs.Deeds.{IsPassedOn}
 use Rattle.macs_headline.specs.History.{Blank, FitsPast, Formats, Formatted, Past, formatted_state}
 use Rattle.macs_headline.proofs.Lists.{contains-first, contains-later}
 use Rattle.macs_headline.proofs.Histories.{found-or-refused}
-use Rattle.macs_headline.proofs.Losses.{IsCovered, LeadTo, covered-loss, covered-seen}
+use Rattle.macs_headline.proofs.Losses.{IsCovered, LeadTo, covered-passed, covered-seen}
 
 -- ---- one image
 
@@ -105,18 +105,18 @@ module _ {D : Type 0} (disk_of : D → Disk) (sound : (it : D) → IsHonest (dis
       (format.device.journal opens (format_honest (Formatted s) covered)) left.3)
 
   -- cut short
-  pub format-cut : (past : Past) (lost : D) → IsCovered sectors past (disk_of old) → LosesPower (disk_of new) (disk_of old).clock (disk_of lost)
+  pub format-cut : (past : Past) (lost : D) → IsCovered sectors past (disk_of old) → IsPassedOn (disk_of new) (disk_of old).clock (disk_of lost)
       → LeadTo sectors past (Formats this_edition identity false ∷ []) (disk_of lost)
-  format-cut (Blank identities) lost covered loss = record {
+  format-cut (Blank identities) lost covered passed = record {
     later = Blank (identity ∷ identities);
     lead = (Blank (identity ∷ identities), refl, refl);
-    covered = covered-loss sectors (Blank (identity ∷ identities)) (disk_of new) (disk_of lost) (disk_of old).clock loss
+    covered = covered-passed sectors (Blank (identity ∷ identities)) (disk_of new) (disk_of lost) (disk_of old).clock passed
         (format_honest (Blank identities) covered) (format_size (Blank identities) covered) (left_blank identities covered);
   }
-  format-cut (Formatted s) lost covered loss = record {
+  format-cut (Formatted s) lost covered passed = record {
     later = Formatted s;
     lead = (Formatted s, refl, refl);
-    covered = covered-loss sectors (Formatted s) (disk_of new) (disk_of lost) (disk_of old).clock loss
+    covered = covered-passed sectors (Formatted s) (disk_of new) (disk_of lost) (disk_of old).clock passed
         (format_honest (Formatted s) covered) (format_size (Formatted s) covered) (left_formatted s covered);
   }
 

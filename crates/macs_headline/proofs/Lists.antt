@@ -1,5 +1,5 @@
 -- Items of lists.
-use Rattle.std.proofs.Common.{◌≡◌, ◌≢◌, ◌⊎◌, inl, inr, ℕ, zero, suc, List, [], ◌∷◌, replicate, refl, sym, ◌∙◌, arith}
+use Rattle.std.proofs.Common.{◌≡◌, ◌≢◌, ◌⊎◌, inl, inr, ℕ, zero, suc, List, [], ◌∷◌, ◌++◌, map, ap, replicate, refl, sym, ◌∙◌, subst, arith}
 use Rattle.std.specs.Prelude.{AllPairs, Contains}
 use Rattle.std.specs.List.{AllByRecursion}
 use Rattle.std.proofs.lemmas.List.{get_or_default}
@@ -20,6 +20,38 @@ contains-cases x xs y (suc k, within, is) = inr (k, omega (arith, within), is)
 pub contains-none : {X : Type 0} (y : X) → ¬ Contains [] y
 contains-none y (k, within, is) = omega (arith, within)
 
+-- ---- two lists
+
+pub contains-either : {X : Type 0} (xs ys : List X) (y : X) → Contains (xs ++ ys) y → Contains xs y ⊎ Contains ys y
+contains-either [] ys y h = inr h
+contains-either (x ∷ xs) ys y h = elim (contains-cases x (xs ++ ys) y h) [
+  | inl same ↦ inl (subst (Contains (x ∷ xs)) (sym same) (contains-first x xs))
+  | inr later ↦ elim (contains-either xs ys y later) [
+    | inl front ↦ inl (contains-later x xs y front)
+    | inr rear ↦ inr rear
+  ]
+]
+
+pub contains-front : {X : Type 0} (xs ys : List X) (y : X) → Contains xs y → Contains (xs ++ ys) y
+contains-front [] ys y h = absurd (contains-none y h)
+contains-front (x ∷ xs) ys y h = elim (contains-cases x xs y h) [
+  | inl same ↦ subst (Contains (x ∷ xs ++ ys)) (sym same) (contains-first x (xs ++ ys))
+  | inr later ↦ contains-later x (xs ++ ys) y (contains-front xs ys y later)
+]
+
+pub contains-map : {X Y : Type 0} (f : X → Y) (xs : List X) (x : X) → Contains xs x → Contains (map f xs) (f x)
+contains-map f [] x h = absurd (contains-none x h)
+contains-map f (first ∷ xs) x h = elim (contains-cases first xs x h) [
+  | inl same ↦ subst (λ y. Contains (map f (first ∷ xs)) y) (ap f (sym same)) (contains-first (f first) (map f xs))
+  | inr later ↦ contains-later (f first) (map f xs) (f x) (contains-map f xs x later)
+]
+
+pub contains-rear : {X : Type 0} (xs ys : List X) (y : X) → Contains ys y → Contains (xs ++ ys) y
+contains-rear [] ys y h = h
+contains-rear (x ∷ xs) ys y h = contains-later x (xs ++ ys) y (contains-rear xs ys y h)
+
+-- ---- pairs
+
 pub pairs-none : {X : Type 0} → AllPairs {X = X} (λ a b. a ≢ b) []
 pairs-none i j d before within = absurd (omega (arith, within))
 
@@ -28,6 +60,15 @@ pub none-twice : {X : Type 0} (x : X) (xs : List X) → ¬ Contains xs x → All
 none-twice {X} x xs apart pairs =
     AllPairs-cons (λ (a : X) (b : X). a ≢ b) x xs
     (λ k d within same. apart (k, within, get_or_default xs k x d within ∙ sym same)) pairs
+
+pub not-twice : {X : Type 0} (x : X) (xs : List X) → AllPairs {X = X} (λ a b. a ≢ b) (x ∷ xs) → ¬ Contains xs x
+not-twice x xs pairs (k, within, is) = pairs zero (suc k) x (omega arith) (omega (arith, within)) (sym is)
+
+-- ---- one more at the end
+
+pub all-on : {X : Type 0} (P : X → Type 0) (xs : List X) (x : X) → AllByRecursion P xs → P x → AllByRecursion P (xs ++ x ∷ [])
+all-on P [] x all is = (is, tt)
+all-on P (first ∷ xs) x all is = (all.0, all-on P xs x all.1 is)
 
 -- ---- the same many times
 

@@ -13,20 +13,21 @@ use Rattle.macs_endpoint.specs.Calls.{IsCall, IsInRange}
 use Rattle.macs_endpoint.specs.Lives.{Lives, Transition, exchange_of}
 use Rattle.macs_endpoint.specs.Opening.{IsOpening}
 use Rattle.macs_endpoint.specs.Restart.{Fits, state_during}
-use Rattle.macs_endpoint.specs.State.{Call, Logs, Reply, State}
+use Rattle.macs_endpoint.specs.Ceilings.{Raise}
+use Rattle.macs_endpoint.specs.State.{Advances, Call, Logs, Reply, State}
 use Rattle.macs_endpoint.specs.Step.{Exchange, Steps}
 use Rattle.macs_endpoint.specs.Value.{EndpointValue, IsBacked, IsSoundEndpoint, device_in, disk_in, state_of}
-use Rattle.macs_headline.specs.Deeds.{LivesFrom, LosesPower, disk_after_opening}
+use Rattle.macs_headline.specs.Deeds.{LivesFrom, IsPassedOn, disk_after_opening}
 use Rattle.macs_headline.specs.History.{FitsPast, Formatted, IsLifeSoFar, Past, Refuses, Serves, logs_of}
-use Rattle.macs_headline.proofs.Cuts.{cut-call}
-use Rattle.macs_headline.proofs.Losses.{IsCovered, LeadTo, covered-loss, covered-on, covered-seen, lead-nowhere, nothing-new}
+use Rattle.macs_headline.proofs.Cuts.{cut-call, cut-raising, raising}
+use Rattle.macs_headline.proofs.Losses.{IsCovered, LeadTo, covered-passed, covered-on, covered-seen, lead-nowhere, nothing-new}
 
 -- ---- openings
 
-why_refused : (sectors : ℕ) (image : Image) (fault : JournalFault) → (fault ≢ DiskFault → StandingIs this_edition sectors image (Err fault))
+pub why-refused : (sectors : ℕ) (image : Image) (fault : JournalFault) → (fault ≢ DiskFault → StandingIs this_edition sectors image (Err fault))
     → (fault ≡ DiskFault) ⊎ StandingIs this_edition sectors image (Err fault)
-why_refused sectors image DiskFault refused = inl refl
-why_refused sectors image fault refused = inr (refused (λ is. cc))
+why-refused sectors image DiskFault refused = inl refl
+why-refused sectors image fault refused = inr (refused (λ is. cc))
 
 module _ {D : Type 0} (disk_of : D → Disk) (sound : (it : D) → IsHonest (disk_of it) → IsSound (now (disk_of it))) (sectors : ℕ) (past : Past)
     (old : D) (covered : IsCovered sectors past (disk_of old)) where
@@ -41,7 +42,7 @@ module _ {D : Type 0} (disk_of : D → Disk) (sound : (it : D) → IsHonest (dis
       → LeadTo sectors past (Refuses this_edition seen fault ∷ []) (disk_of new)
   opening-refused new fault opening =
       let honest = opening.refused.works.honest ∙ covered.honest in
-      let why = why_refused sectors seen fault
+      let why = why-refused sectors seen fault
       (λ other. subst (λ (n : ℕ). StandingIs this_edition n seen (Err fault)) covered.size (opening.refused.found other honest)) in
       record {
         later = past;
@@ -50,27 +51,27 @@ module _ {D : Type 0} (disk_of : D → Disk) (sound : (it : D) → IsHonest (dis
       }
 
   pub opening-cut : (result : Result (EndpointValue D) (RecoverRefused D)) (new : D) → IsOpening disk_of old result
-      → LosesPower (disk_after_opening disk_of result) (disk_of old).clock (disk_of new) → LeadTo sectors past [] (disk_of new)
-  opening-cut (Ok e) new opening loss =
+      → IsPassedOn (disk_after_opening disk_of result) (disk_of old).clock (disk_of new) → LeadTo sectors past [] (disk_of new)
+  opening-cut (Ok e) new opening passed =
       let honest = opening.device.works.honest ∙ covered.honest in
-      lead-nowhere sectors past (disk_of new) (covered-loss sectors past (disk_in disk_of e) (disk_of new) (disk_of old).clock loss
+      lead-nowhere sectors past (disk_of new) (covered-passed sectors past (disk_in disk_of e) (disk_of new) (disk_of old).clock passed
       honest (opening.device.works.sectors ∙ covered.size)
       (nothing-new sectors past (disk_of old) (disk_in disk_of e) covered (opening.device.any_moment honest)))
-  opening-cut (Err refused) new opening loss =
+  opening-cut (Err refused) new opening passed =
       let honest = opening.refused.works.honest ∙ covered.honest in
-      lead-nowhere sectors past (disk_of new) (covered-loss sectors past (disk_of refused.disk) (disk_of new) (disk_of old).clock loss
+      lead-nowhere sectors past (disk_of new) (covered-passed sectors past (disk_of refused.disk) (disk_of new) (disk_of old).clock passed
       honest (opening.refused.works.sectors ∙ covered.size)
       (nothing-new sectors past (disk_of old) (disk_of refused.disk) covered (opening.refused.any_moment honest)))
 
 -- ---- calls, one after another
 
 module _ {D : Type 0} (disk_of : D → Disk) where
-  lives_steps : (turns : List (Transition D)) (old new : EndpointValue D) (logs : Logs) → Lives disk_of old turns new
+  pub lives-steps : (turns : List (Transition D)) (old new : EndpointValue D) (logs : Logs) → Lives disk_of old turns new
       → (after : Logs) × Steps (state_of old logs) (map exchange_of turns) (state_of new after)
-  lives_steps [] old new logs lives = (logs, ap (λ (e : EndpointValue D). state_of e logs) lives)
-  lives_steps (turn ∷ turns) old new logs (kept, call, rest) =
+  lives-steps [] old new logs lives = (logs, ap (λ (e : EndpointValue D). state_of e logs) lives)
+  lives-steps (turn ∷ turns) old new logs (kept, call, rest) =
       let step = call.behaves.step logs in
-      let more = lives_steps turns turn.after new step.0 rest in
+      let more = lives-steps turns turn.after new step.0 rest in
       (more.0, (state_of turn.after step.0, step.1, more.1))
 
   lives_in_range : (turns : List (Transition D)) (old new : EndpointValue D) → Lives disk_of old turns new
@@ -112,7 +113,7 @@ module _ {D : Type 0} (disk_of : D → Disk) (sound : (it : D) → IsHonest (dis
       let opened = lived.0 in
       let honest = opened.device.works.honest ∙ covered.honest in
       let on = lives_on disk_of turns first last lived.1 in
-      let steps = lives_steps disk_of turns first last (logs_of past) lived.1 in
+      let steps = lives-steps disk_of turns first last (logs_of past) lived.1 in
       record {
         logs = steps.0;
         life = record {
@@ -148,14 +149,24 @@ module _ {D : Type 0} (disk_of : D → Disk) (sound : (it : D) → IsHonest (dis
 
   -- a call was cut short
   module _ (kept : IsSoundEndpoint last) (call : Call) (reply : Reply) (after : EndpointValue D) (is : IsCall disk_of last call reply after) (new : D)
-      (loss : LosesPower (disk_in disk_of after) (disk_in disk_of last).clock (disk_of new)) where
+      (passed : IsPassedOn (disk_in disk_of after) (disk_in disk_of last).clock (disk_of new)) where
     pub covered-cut : IsCovered sectors (Formatted (state_during (state_of last alive.logs) call)) (disk_of new)
     covered-cut =
         let s = state_during (state_of last alive.logs) call in
-        covered-loss sectors (Formatted s) (disk_in disk_of after) (disk_of new) (disk_in disk_of last).clock loss
+        covered-passed sectors (Formatted s) (disk_in disk_of after) (disk_of new) (disk_in disk_of last).clock passed
         (is.device.works.honest ∙ alive.honest) (is.device.works.sectors ∙ alive.size)
         (λ image left. subst (λ (n : ℕ). Fits this_edition n image s) alive.size
         (cut-call disk_of last after alive.logs reply kept alive.honest alive.backed call is image left))
+
+    -- in a step while a ceiling is being raised: the state before it
+    pub covered-raising : (raise : Raise) → last.reserving ≡ Some raise → call ≡ Advances → IsCovered sectors (Formatted (state_of last alive.logs)) (disk_of new)
+    covered-raising raise reserving steps =
+        let s = state_of last alive.logs in
+        covered-passed sectors (Formatted s) (disk_in disk_of after) (disk_of new) (disk_in disk_of last).clock passed
+        (is.device.works.honest ∙ alive.honest) (is.device.works.sectors ∙ alive.size)
+        (λ image left. subst (λ (n : ℕ). Fits this_edition n image s) alive.size
+        (cut-raising disk_of last after alive.logs (raising last raise reserving kept.work) alive.honest alive.backed image reply
+        (subst (λ (c : Call). IsCall disk_of last c reply after) steps is) left))
 
     pub life-cut : LeadTo sectors past (Serves this_edition (now (disk_of old)).seen (map exchange_of turns) (Some call) ∷ []) (disk_of new)
     life-cut =

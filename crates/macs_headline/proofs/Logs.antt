@@ -13,8 +13,8 @@ use Rattle.macs_headline.proofs.Sound.{end-core}
 held_same : (old new : Logs) → new ≡ old → AreHeldIn old new
 held_same old new is = subst (AreHeldIn old) (sym is) (record { used_since = []; used = refl; given_since = []; given = refl })
 
-held_on : (old mid new : Logs) → AreHeldIn old mid → AreHeldIn mid new → AreHeldIn old new
-held_on old mid new one two = record {
+pub held-on : (old mid new : Logs) → AreHeldIn old mid → AreHeldIn mid new → AreHeldIn old new
+held-on old mid new one two = record {
   used_since = two.used_since ++ one.used_since;
   used = append_assoc two.used_since one.used_since old.used ∙ ap (two.used_since ++◌) one.used ∙ two.used;
   given_since = two.given_since ++ one.given_since;
@@ -23,7 +23,7 @@ held_on old mid new one two = record {
 
 -- ---- a life
 
-abbrev logs_in : Core → Logs
+abbrev pub logs_in : Core → Logs
 logs_in c = record { used = c.used; given = c.given }
 
 by_effect : (edition : Edition) (old new : Core) → Effect edition old new → AreHeldIn (logs_in old) (logs_in new)
@@ -35,11 +35,12 @@ by_effect edition old new (Held sci an n pn is_n is) = held_same (logs_in old) (
 by_effect edition old new (Given sci an sa n pn is_sa is_n in_time is) =
     subst (λ (c : Core). AreHeldIn (logs_in old) (logs_in c)) (sym is) (record { used_since = []; used = refl; given_since = _ ∷ []; given = refl })
 
-by_steps : (old : State) (exchanges : List Exchange) (new : State) → Steps old exchanges new → AreHeldIn old.logs new.logs
-by_steps old [] new steps = held_same old.logs new.logs (ap (λ (s : State). s.logs) steps)
-by_steps old (e ∷ es) new steps =
+-- what was used and delivered before calls is held after them
+pub steps-hold : (old : State) (exchanges : List Exchange) (new : State) → Steps old exchanges new → AreHeldIn old.logs new.logs
+steps-hold old [] new steps = held_same old.logs new.logs (ap (λ (s : State). s.logs) steps)
+steps-hold old (e ∷ es) new steps =
     let mid = steps.0 in
-    held_on old.logs mid.logs new.logs (by_effect old.edition (core old) (core mid) (effect-of old e.call e.reply mid steps.1)) (by_steps mid es new steps.2)
+    held-on old.logs mid.logs new.logs (by_effect old.edition (core old) (core mid) (effect-of old e.call e.reply mid steps.1)) (steps-hold mid es new steps.2)
 
 by_format : (old : Past) (edition : Edition) (identity : Identity) (is_ok : Bool) (new : Past) → FormatLeads old edition identity is_ok new
     → AreHeldIn (logs_of old) (logs_of new)
@@ -54,11 +55,11 @@ module _ (sectors : ℕ) where
   by_life old (Refuses edition image fault) new h = held_same (logs_of old) (logs_of new) (ap logs_of h.2)
   by_life old (Serves edition image exchanges cut) new (last, life, cut_in_range, is) =
       subst (AreHeldIn (logs_of old)) (sym (ap logs_of is ∙ ap logs_in (end-core last cut)))
-      (by_steps (opened_state life.found (logs_of old)) exchanges last life.steps)
+      (steps-hold (opened_state life.found (logs_of old)) exchanges last life.steps)
 
   -- ---- lives
 
   pub nothing-forgotten : NothingForgotten sectors
   nothing-forgotten old new [] is = held_same (logs_of old) (logs_of new) (ap logs_of is)
   nothing-forgotten old new (life ∷ lives) h =
-      held_on (logs_of old) (logs_of h.0) (logs_of new) (by_life old life h.0 h.1) (nothing-forgotten h.0 new lives h.2)
+      held-on (logs_of old) (logs_of h.0) (logs_of new) (by_life old life h.0 h.1) (nothing-forgotten h.0 new lives h.2)

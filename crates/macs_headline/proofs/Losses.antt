@@ -1,4 +1,4 @@
--- Power losses, and disks that a past covers.
+-- A medium that is passed on, and disks that a past covers.
 use Rattle.std.proofs.Common.{◌≡◌, ℕ, List, [], refl, sym, ◌∙◌, subst}
 use Rattle.std.proofs.Math.Path.{fun_ext}
 use Rattle.macs_config.specs.Config.{this_edition}
@@ -6,15 +6,30 @@ use Rattle.macs_disk.specs.Disk.{Disk, IsHonest, LeftSince, MayLeave, Works, dis
 use Rattle.macs_disk.specs.Runs.{LeavesNothingNew}
 use Rattle.macs_disk.specs.States.{DiskState, Image, IsImage, IsSound, settled_state}
 use Rattle.macs_disk.proofs.Moments.{Left-now}
-use Rattle.macs_headline.specs.Deeds.{LosesPower}
+use Rattle.macs_headline.specs.Deeds.{IsPassedOn}
+use Rattle.macs_headline.specs.Endings.{LosesPower}
 use Rattle.macs_headline.specs.History.{FitsPast, LeadOn, Life, Past}
 
-pub loses-power : (disk : Disk) (since : ℕ) (image : Image) → LeftSince disk since image → LosesPower disk since (disk_after_loss disk image)
-loses-power disk since image left = record { image = image; left = left; sectors = refl; honest = refl; settled = refl }
-
 -- where nothing is pending there is one image
-one_image : (image other : Image) → IsImage (settled_state image) other → other ≡ image
-one_image image other left = fun_ext (λ i. left.kept i refl)
+pub one-image : (image other : Image) → IsImage (settled_state image) other → other ≡ image
+one-image image other left = fun_ext (λ i. left.kept i refl)
+
+-- a disk that holds an image of some moment since, with nothing pending
+pub settled-passed : (old new : Disk) (since : ℕ) (image : Image) → LeftSince old since image → new.sectors ≡ old.sectors → new.honest ≡ old.honest
+    → now new ≡ settled_state image → IsPassedOn old since new
+settled-passed old new since image left sectors honest settled = record {
+  moment = left.0;
+  later = left.1;
+  within = left.2;
+  sectors = sectors;
+  honest = honest;
+  images = λ other here.
+      let same : other ≡ image = one-image image other (subst (λ (s : DiskState). IsImage s other) settled here) in
+      subst (λ (i : Image). IsImage (old.past left.0) i) (sym same) left.3;
+}
+
+pub loses-power : (disk : Disk) (since : ℕ) (image : Image) → LeftSince disk since image → LosesPower disk since (disk_after_loss disk image)
+loses-power disk since image left = record { image = image; left = left; alike = record { sectors = refl; honest = refl }; settled = refl }
 
 -- ---- a disk each of whose images may be come upon after a past
 
@@ -27,15 +42,13 @@ pub record IsCovered (sectors : ℕ) (past : Past) (disk : Disk) : Type 0 where
 pub covered-seen : (sectors : ℕ) (past : Past) (disk : Disk) → IsSound (now disk) → IsCovered sectors past disk → FitsPast this_edition sectors past (now disk).seen
 covered-seen sectors past disk sound covered = covered.images (now disk).seen sound.fit
 
--- after a power loss
-pub covered-loss : (sectors : ℕ) (past : Past) (ran new : Disk) (since : ℕ) → LosesPower ran since new → IsHonest ran → ran.sectors ≡ sectors
+-- one to which the medium is passed on
+pub covered-passed : (sectors : ℕ) (past : Past) (ran new : Disk) (since : ℕ) → IsPassedOn ran since new → IsHonest ran → ran.sectors ≡ sectors
     → ((image : Image) → LeftSince ran since image → FitsPast this_edition sectors past image) → IsCovered sectors past new
-covered-loss sectors past ran new since loss honest size fits = record {
-  honest = loss.honest ∙ honest;
-  size = loss.sectors ∙ size;
-  images = λ image left.
-      let same : image ≡ loss.image = one_image loss.image image (subst (λ (s : DiskState). IsImage s image) loss.settled left) in
-      subst (λ (i : Image). FitsPast this_edition sectors past i) (sym same) (fits loss.image loss.left);
+covered-passed sectors past ran new since passed honest size fits = record {
+  honest = passed.honest ∙ honest;
+  size = passed.sectors ∙ size;
+  images = λ image left. fits image (passed.moment, passed.later, passed.within, passed.images image left);
 }
 
 -- and after calls that leave nothing new

@@ -1,36 +1,50 @@
--- An endpoint that lives is at a moment of a history: what the laws say of it, and where a power loss may come.
-use Rattle.std.proofs.Common.{◌≡◌, ◌⊎◌, ◌++◌, inl, inr, ℕ, Bool, true, false, cond, not, ◌&&◌, is_ok, List, [], ◌∷◌, map, Option, Some, None, Ok, refl, sym, ◌∙◌, ap, subst, arith}
+-- An endpoint that lives is at a moment of a history: what the laws say of it, and where its medium may be passed on.
+use Rattle.std.proofs.Common.{◌≡◌, ◌≤◌, ◌⊎◌, ◌++◌, inl, inr, ℕ, Bool, true, false, cond, not, ◌&&◌, is_ok, List, [], ◌∷◌, map, Option, Some, None, Ok, refl, sym, ◌∙◌, ap, subst, arith}
 use Rattle.std.proofs.lemmas.Bool.{cases_lt}
 use Rattle.macs_config.specs.Apply.{apply}
-use Rattle.macs_config.specs.Config.{this_edition}
+use Rattle.macs_frame.specs.Tag.{tag_of}
+use Rattle.macs_config.specs.Config.{Edition, IsUpTo, this_edition}
 use Rattle.macs_config.specs.declared.command.Command.{Command}
-use Rattle.macs_disk.specs.Disk.{Disk, IsHonest, LeftSince, MayLeave, Works, now}
-use Rattle.macs_disk.specs.States.{Image, IsSound}
-use Rattle.macs_disk.proofs.Moments.{Left-before, Works-on, Works-start}
+use Rattle.macs_disk.specs.Disk.{Disk, IsHonest, MayLeave, Works, now}
+use Rattle.macs_disk.specs.States.{DiskState, Image, IsImage, IsSound}
+use Rattle.macs_disk.proofs.Moments.{Works-on, Works-start}
+use Rattle.std.specs.Prelude.{Contains}
+use Rattle.macs_rxsc.specs.declared.verdict.Kind.{Kind}
+use Rattle.macs_rxsc.specs.declared.verdict.Kind.TheVariants.{Ok as AsOk}
+use Rattle.macs_rxsc.specs.declared.verdict.Verdict.TheVariants.{Delivered}
 use Rattle.macs_store.specs.Found.{StandingIs}
 use Rattle.macs_store.specs.Standing.{Standing}
 use Rattle.macs_store.specs.Value.{standing_in}
 use Rattle.macs_endpoint.specs.Calls.{IsCall}
 use Rattle.macs_endpoint.specs.Lives.{Lives, Transition, exchange_of}
-use Rattle.macs_endpoint.specs.Restart.{state_taking_alone, state_taking_first}
-use Rattle.macs_endpoint.specs.State.{Advances, Call, Commands, Logs, Protects, Protected, Receives, Refills, State, Submits, no_logs, state_with_in_hand}
+use Rattle.macs_endpoint.specs.Ceilings.{Raise}
+use Rattle.macs_endpoint.specs.Restart.{Fits, state_during, state_taking_alone, state_taking_first}
+use Rattle.macs_endpoint.specs.State.{Advances, Call, Commands, Logs, Protects, Protected, Received, Receives, Refills, State, Submits, no_logs, state_with_in_hand}
 use Rattle.macs_endpoint.specs.declared.queue.Waiting.{Waiting}
 use Rattle.macs_endpoint.specs.Value.{EndpointValue, IsSoundEndpoint, disk_in, state_of}
-use Rattle.macs_headline.specs.Binding.{FramesAreWrittenOnce, IsAtMoment, IsNewDisk, LivesAreMoments, LivesKeepCommands, LossesAreCuts}
+use Rattle.macs_headline.specs.Binding.{FramesAreDeliveredOnce, FramesAreWrittenOnce, EndsAreCuts, HasHistory, IsAtMoment, LivesAreMoments, LivesFit, LivesKeepCommands, OpeningsFind}
+use Rattle.macs_headline.specs.Binding.{cut_beginning, state_left}
+use Rattle.macs_endpoint.specs.Step.{Step}
+use Rattle.macs_headline.specs.Answered.{exchanges_of_lives}
 use Rattle.macs_headline.specs.Commands.{FindsPrefix}
-use Rattle.macs_headline.specs.Deeds.{Chain, Link, LivesFrom, lives_of_links}
-use Rattle.macs_headline.specs.History.{Blank, Formatted, Life, state_at_end}
+use Rattle.macs_headline.specs.Deliveries.{IsOtherDelivery, IsVerifiedDelivery, IsVerifiedKind, delivering}
+use Rattle.macs_headline.specs.Deeds.{Does, Living, LivesFrom}
+use Rattle.macs_headline.specs.History.{Formatted, Life, logs_of, state_at_end}
 use Rattle.macs_headline.specs.Moments.{Moment}
-use Rattle.macs_headline.proofs.Chains.{from-new}
+use Rattle.macs_headline.proofs.Chains.{history-covers}
 use Rattle.macs_headline.proofs.Commands.{commands-kept}
+use Rattle.macs_headline.proofs.Answered.{given-once, never-ok-again, written-once}
+use Rattle.macs_headline.proofs.Deliveries.{deliveries-are-verified}
 use Rattle.macs_headline.proofs.Effects.{core, effect-of}
 use Rattle.macs_headline.proofs.Histories.{sound-moment}
-use Rattle.macs_headline.proofs.Living.{IsAlive, alive, covered-cut, covered-life}
-use Rattle.macs_headline.proofs.Losses.{IsCovered, LeadTo}
+use Rattle.macs_headline.proofs.Endings.{ends-are-earlier}
+use Rattle.macs_headline.proofs.Living.{IsAlive, alive, covered-cut, covered-life, covered-raising}
+use Rattle.macs_headline.proofs.Losses.{IsCovered}
+use Rattle.macs_headline.proofs.Older.{larger-fits}
 use Rattle.macs_headline.proofs.Ranges.{frames-are-standard}
 use Rattle.macs_headline.proofs.Sound.{sound-effect}
 
--- ---- the call in which a power loss lies
+-- ---- the call in which a medium is passed on
 
 module _ {D : Type 0} (disk_of : D → Disk) where
   lives_work : (turns : List (Transition D)) (old new : EndpointValue D) → Lives disk_of old turns new → Works (disk_in disk_of old) (disk_in disk_of new)
@@ -38,7 +52,7 @@ module _ {D : Type 0} (disk_of : D → Disk) where
   lives_work (turn ∷ turns) old new (kept, call, rest) =
       Works-on (disk_in disk_of old) (disk_in disk_of turn.after) (disk_in disk_of new) call.device.works (lives_work turns turn.after new rest)
 
-  record IsWithin (first last : EndpointValue D) (turns : List (Transition D)) (image : Image) : Type 0 where
+  record IsWithin (first last : EndpointValue D) (turns : List (Transition D)) (k : ℕ) : Type 0 where
     before : List (Transition D)
     mid : EndpointValue D
     turn : Transition D
@@ -47,15 +61,16 @@ module _ {D : Type 0} (disk_of : D → Disk) where
     lives : Lives disk_of first before mid
     kept : IsSoundEndpoint mid
     call : IsCall disk_of mid turn.call turn.reply turn.after
-    left : LeftSince (disk_in disk_of turn.after) (disk_in disk_of mid).clock image
+    from : (disk_in disk_of mid).clock ≤ k
+    to : k ≤ (disk_in disk_of turn.after).clock
     on : Works (disk_in disk_of turn.after) (disk_in disk_of last)
 
-  within : (turns : List (Transition D)) (first last : EndpointValue D) (image : Image) → Lives disk_of first turns last
-      → LeftSince (disk_in disk_of last) (disk_in disk_of first).clock image → (last ≡ first) ⊎ IsWithin first last turns image
-  within [] first last image lives left = inl lives
-  within (turn ∷ turns) first last image (kept, call, rest) left =
+  within : (turns : List (Transition D)) (first last : EndpointValue D) (k : ℕ) → Lives disk_of first turns last
+      → (disk_in disk_of first).clock ≤ k → k ≤ (disk_in disk_of last).clock → (last ≡ first) ⊎ IsWithin first last turns k
+  within [] first last k lives lo hi = inl lives
+  within (turn ∷ turns) first last k (kept, call, rest) lo hi =
       let on = lives_work turns turn.after last rest in
-      elim (cases_lt (disk_in disk_of turn.after).clock left.0) [
+      elim (cases_lt (disk_in disk_of turn.after).clock k) [
         | inr early ↦ inr (record {
           before = [];
           mid = first;
@@ -65,14 +80,14 @@ module _ {D : Type 0} (disk_of : D → Disk) where
           lives = refl;
           kept = kept;
           call = call;
-          left = Left-before (disk_in disk_of turn.after) (disk_in disk_of last) (disk_in disk_of first).clock image on left early;
+          from = lo;
+          to = early;
           on = on;
         })
-        | inl late ↦ elim (within turns turn.after last image rest (left.0, omega (arith, late), left.2, left.3)) [
+        | inl late ↦ elim (within turns turn.after last k rest (omega (arith, late)) hi) [
           | inl same ↦
               let clock : (disk_in disk_of last).clock ≡ (disk_in disk_of turn.after).clock = ap (λ (e : EndpointValue D). (disk_in disk_of e).clock) same in
-              let end = left.2 in
-              absurd (omega (arith, clock, late, end))
+              absurd (omega (arith, clock, late, hi))
           | inr is ↦ inr (record {
             before = turn ∷ is.before;
             mid = is.mid;
@@ -82,32 +97,27 @@ module _ {D : Type 0} (disk_of : D → Disk) where
             lives = (kept, call, is.lives);
             kept = is.kept;
             call = is.call;
-            left = is.left;
+            from = is.from;
+            to = is.to;
             on = is.on;
           })
         ]
       ]
 
-  pub losses-are-cuts : LossesAreCuts disk_of
-  losses-are-cuts old new first last turns lived loss =
+  pub ends-are-cuts : EndsAreCuts disk_of
+  ends-are-cuts old new first last turns lived passed =
       let on = lives_work turns first last lived.1 in
-      let left = loss.left in
-      elim (cases_lt (disk_in disk_of first).clock left.0) [
+      let k = passed.moment in
+      elim (cases_lt (disk_in disk_of first).clock k) [
         | inr early ↦ inl (
           Ok first,
           lived.0,
-          record {
-            image = loss.image;
-            left = Left-before (disk_in disk_of first) (disk_in disk_of last) (disk_of old).clock loss.image on left early;
-            sectors = loss.sectors ∙ on.sectors;
-            honest = loss.honest ∙ on.honest;
-            settled = loss.settled;
-          },
+          ends-are-earlier (disk_in disk_of first) (disk_in disk_of last) (disk_of new) (disk_of old).clock on passed (disk_of old).clock passed.later early,
         )
-        | inl late ↦ elim (within turns first last loss.image lived.1 (left.0, omega (arith, late), left.2, left.3)) [
+        | inl late ↦ elim (within turns first last k lived.1 (omega (arith, late)) passed.within) [
           | inl same ↦
               let clock : (disk_in disk_of last).clock ≡ (disk_in disk_of first).clock = ap (λ (e : EndpointValue D). (disk_in disk_of e).clock) same in
-              let end = left.2 in
+              let end = passed.within in
               absurd (omega (arith, clock, late, end))
           | inr is ↦ inr (
             is.before,
@@ -121,13 +131,8 @@ module _ {D : Type 0} (disk_of : D → Disk) where
               is.turn.reply,
               is.turn.after,
               is.call,
-              record {
-                image = loss.image;
-                left = is.left;
-                sectors = loss.sectors ∙ is.on.sectors;
-                honest = loss.honest ∙ is.on.honest;
-                settled = loss.settled;
-              },
+              ends-are-earlier (disk_in disk_of is.turn.after) (disk_in disk_of last) (disk_of new) (disk_of old).clock is.on passed (disk_in disk_of is.mid).clock
+                  is.from is.to,
             ),
           )
         ]
@@ -168,70 +173,156 @@ in_hand_at_end e logs (Some (Receives frame)) = refl
 
 -- ---- the moment
 
-module _ {D : Type 0} (disk_of : D → Disk) (sound : (it : D) → IsHonest (disk_of it) → IsSound (now (disk_of it))) (old disk : D) (links : List (Link D))
-    (is_new : IsNewDisk (disk_of old)) (chain : Chain disk_of old links disk) (first last : EndpointValue D) (turns : List (Transition D))
+module _ {D : Type 0} (disk_of : D → Disk) (sound : (it : D) → IsHonest (disk_of it) → IsSound (now (disk_of it))) (disk : D) (before : List Life)
+    (h : HasHistory this_edition (disk_of disk) before) (first last : EndpointValue D) (turns : List (Transition D))
     (lived : LivesFrom disk_of disk first turns last) where
   abbrev sectors : ℕ
-  sectors = (disk_of old).sectors
+  sectors = (disk_of disk).sectors
 
-  abbrev lives : List Life
-  lives = lives_of_links disk_of old links
+  abbrev covered : IsCovered sectors h.past (disk_of disk)
+  covered = history-covers (disk_of disk) before h
 
-  abbrev leads : LeadTo sectors (Blank []) lives (disk_of disk)
-  leads = from-new disk_of sound old disk links is_new chain
-
-  abbrev living : IsAlive disk_of sectors leads.later (now (disk_of disk)).seen first turns last
-  living = alive disk_of sound sectors leads.later disk first turns last leads.covered lived
-
-  abbrev at_moment : IsAtMoment sectors lives (now (disk_of disk)).seen turns first last
-  at_moment = record { logs = living.logs; past = leads.later; history = leads.lead; life = living.life; same_found = living.same_found }
+  abbrev living : IsAlive disk_of sectors h.past (now (disk_of disk)).seen first turns last
+  living = alive disk_of sound sectors h.past disk first turns last covered lived
 
   abbrev moment : Moment sectors (state_of last living.logs)
   moment = record {
-    lives = lives;
-    past = leads.later;
-    history = leads.lead;
+    lives = before;
+    past = h.past;
+    history = h.history;
     edition = this_edition;
     image = (now (disk_of disk)).seen;
     exchanges = map exchange_of turns;
     life = living.life;
   }
 
-  -- what is found of a disk that its end covers
-  kept_commands : (cut : Option Call) (new : D) → IsCovered sectors (Formatted (state_at_end (state_of last living.logs) cut)) (disk_of new)
-      → (image : Image) (after : Standing) → MayLeave (disk_of new) image → StandingIs this_edition sectors image (Ok after)
-      → FindsPrefix (standing_in first.store) (map exchange_of turns) (state_at_end (state_of last no_logs) cut).in_hand after
-  kept_commands cut new covered image after left is_after =
-      let found = commands-kept sectors (state_of last living.logs) moment cut this_edition image after (covered.images image left) is_after in
-      let hand : Option Command = (state_at_end (state_of last living.logs) cut).in_hand in
-      subst (λ (h : Option Command). FindsPrefix (standing_in first.store) (map exchange_of turns) h after) (in_hand_at_end last living.logs cut)
+  abbrev at_moment : IsAtMoment sectors before (now (disk_of disk)).seen turns first last
+  at_moment = record {
+    logs = living.logs;
+    moment = moment;
+    after_lives = refl;
+    of_edition = refl;
+    opened = refl;
+    calls = refl;
+    found = living.same_found;
+  }
+
+  -- what a cut call leaves, by what it is and whether a ceiling was being raised
+  covered_end : (reserving : Option Raise) (call : Call) (new : D)
+      → ((raise : Raise) → reserving ≡ Some raise → call ≡ Advances → IsCovered sectors (Formatted (state_of last living.logs)) (disk_of new))
+      → IsCovered sectors (Formatted (state_during (state_of last living.logs) call)) (disk_of new)
+      → IsCovered sectors (Formatted (state_at_end (state_of last living.logs) (cut_beginning reserving (Some call)))) (disk_of new)
+  covered_end None call new raising during = during
+  covered_end (Some raise) (Commands c) new raising during = during
+  covered_end (Some raise) Refills new raising during = during
+  covered_end (Some raise) (Submits c) new raising during = during
+  covered_end (Some raise) Advances new raising during = raising raise refl refl
+  covered_end (Some raise) (Protects plain) new raising during = during
+  covered_end (Some raise) (Receives frame) new raising during = during
+
+  no_cut : (reserving : Option Raise) → cut_beginning reserving None ≡ None
+  no_cut None = refl
+  no_cut (Some raise) = refl
+
+  -- the disk after the life
+  covered_left : (cut : Option Call) (new : D) → Does disk_of disk (Living first turns last cut) new
+      → IsCovered sectors (Formatted (state_left last living.logs cut)) (disk_of new)
+  covered_left None new (as_lived, same) =
+      subst (λ (cut : Option Call). IsCovered sectors (Formatted (state_at_end (state_of last living.logs) cut)) (disk_of new)) (sym (no_cut last.reserving))
+      (covered-life disk_of sound sectors h.past disk first turns last covered lived new same)
+  covered_left (Some call) new (as_lived, kept, reply, after, is, passed) =
+      covered_end last.reserving call new (covered-raising disk_of sound sectors h.past disk first turns last covered lived kept call reply after is new passed)
+      (covered-cut disk_of sound sectors h.past disk first turns last covered lived kept call reply after is new passed)
+
+  fits_left : (cut : Option Call) (new : D) → Does disk_of disk (Living first turns last cut) new → (later : Edition) → IsUpTo this_edition later
+      → (image : Image) → MayLeave (disk_of new) image → Fits later sectors image (state_left last living.logs cut)
+  fits_left cut new does later up_to image left =
+      larger-fits this_edition later up_to sectors image (state_left last living.logs cut) ((covered_left cut new does).images image left)
+
+  -- what is found there
+  kept_commands : (cut : Option Call) (new : D) → Does disk_of disk (Living first turns last cut) new → (later : Edition) → IsUpTo this_edition later
+      → (image : Image) (after : Standing) → MayLeave (disk_of new) image → StandingIs later sectors image (Ok after)
+      → FindsPrefix (standing_in first.store) (map exchange_of turns) (state_left last no_logs cut).in_hand after
+  kept_commands cut new does later up_to image after left is_after =
+      let begun = cut_beginning last.reserving cut in
+      let fits = fits_left cut new does later up_to image left in
+      let found = commands-kept sectors (state_of last living.logs) moment begun later image after fits is_after in
+      let hand : Option Command = (state_left last living.logs cut).in_hand in
+      subst (λ (h : Option Command). FindsPrefix (standing_in first.store) (map exchange_of turns) h after) (in_hand_at_end last living.logs begun)
       (subst (λ (s : Standing). FindsPrefix s (map exchange_of turns) hand after) living.same_found found)
 
+-- that which a life was lived from
+lived_of : {D : Type 0} (disk_of : D → Disk) (disk new : D) (first last : EndpointValue D) (turns : List (Transition D)) (cut : Option Call)
+    → Does disk_of disk (Living first turns last cut) new → LivesFrom disk_of disk first turns last
+lived_of disk_of disk new first last turns None does = does.0
+lived_of disk_of disk new first last turns (Some call) does = does.0
+
+-- a delivery whose kind is Ok
+as_ok : (sectors : ℕ) (s : State) (m : Moment sectors s) (frame out : List ℕ) (kind : Kind) (new : State) (d : IsVerifiedDelivery s frame kind out new)
+    → Step s (Receives frame) (Received (Ok (Delivered kind)) out) new → kind ≡ AsOk
+    → (earlier given : List ℕ) (was : Kind) → IsVerifiedKind was → Contains (exchanges_of_lives m.lives) (delivering earlier was given)
+    → IsOtherDelivery sectors m.lives (logs_of m.past) earlier was given d.sci d.sa.key (tag_of frame).pn
+as_ok sectors s m frame out AsOk new d step is_ok = never-ok-again sectors s m frame out new d step
+as_ok sectors s m frame out kind new d step is_ok = absurd (cc)
+
 module _ {D : Type 0} (disk_of : D → Disk) (sound : (it : D) → IsHonest (disk_of it) → IsSound (now (disk_of it))) where
+  pub openings-find : OpeningsFind disk_of
+  openings-find disk before first h opening =
+      let life = (moment disk_of sound disk before h first first [] (opening, refl)).life in (
+        record {
+          lives = before;
+          history = h.history;
+          edition = this_edition;
+          image = (now (disk_of disk)).seen;
+          fits = life.fits;
+          is_found = opening.found (opening.device.works.honest ∙ h.honest);
+        },
+        refl,
+        refl,
+        refl,
+      )
+
   pub lives-are-moments : LivesAreMoments disk_of
-  lives-are-moments old disk links first last turns is_new chain lived = at_moment disk_of sound old disk links is_new chain first last turns lived
+  lives-are-moments disk before first last turns h lived = at_moment disk_of sound disk before h first last turns lived
 
   pub lives-keep-commands : LivesKeepCommands disk_of
-  lives-keep-commands old disk new links first last turns None is_new chain (lived, same) =
-      let leads = from-new disk_of sound old disk links is_new chain in
-      kept_commands disk_of sound old disk links is_new chain first last turns lived None new
-      (covered-life disk_of sound (disk_of old).sectors leads.later disk first turns last leads.covered lived new same)
-  lives-keep-commands old disk new links first last turns (Some call) is_new chain (lived, kept, reply, after, is, loss) =
-      let leads = from-new disk_of sound old disk links is_new chain in
-      kept_commands disk_of sound old disk links is_new chain first last turns lived (Some call) new
-      (covered-cut disk_of sound (disk_of old).sectors leads.later disk first turns last leads.covered lived kept call reply after is new loss)
+  lives-keep-commands disk new before first last turns cut h does =
+      kept_commands disk_of sound disk before h first last turns (lived_of disk_of disk new first last turns cut does) cut new does
+
+  pub lives-fit : LivesFit disk_of
+  lives-fit disk new before first last turns cut h does =
+      let lived = lived_of disk_of disk new first last turns cut does in
+      (at_moment disk_of sound disk before h first last turns lived, fits_left disk_of sound disk before h first last turns lived cut new does)
 
   pub frames-are-written-once : FramesAreWrittenOnce disk_of
-  frames-are-written-once old disk links first last after turns plain pn out is_new chain lived call =
-      let at = at_moment disk_of sound old disk links is_new chain first last turns lived in
-      let m = moment disk_of sound old disk links is_new chain first last turns lived in
+  frames-are-written-once disk before first last after turns plain pn out h lived call =
+      let at = at_moment disk_of sound disk before h first last turns lived in
+      let m = moment disk_of sound disk before h first last turns lived in
       let s = state_of last at.logs in
       let step = call.behaves.step at.logs in
       let new = state_of after step.0 in
+      let standard = frames-are-standard (disk_of disk).sectors s m plain pn out new step.1 in
       record {
         at = at;
         later = step.0;
-        standard = frames-are-standard (disk_of old).sectors s m plain pn out new step.1;
+        standard = standard;
         once = (sound-effect s.edition (core s) (core new) (effect-of s (Protects plain) (Protected (Ok pn) out) new step.1)
-            (sound-moment (disk_of old).sectors s m)).tx.apart;
+            (sound-moment (disk_of disk).sectors s m)).tx.apart;
+        others = written-once (disk_of disk).sectors s m plain pn out new standard step.1;
+      }
+
+  pub frames-are-delivered-once : FramesAreDeliveredOnce disk_of
+  frames-are-delivered-once disk before first last after turns frame kind out verified h lived call =
+      let at = at_moment disk_of sound disk before h first last turns lived in
+      let m = moment disk_of sound disk before h first last turns lived in
+      let s = state_of last at.logs in
+      let step = call.behaves.step at.logs in
+      let new = state_of after step.0 in
+      let d = deliveries-are-verified (disk_of disk).sectors s m frame out kind new verified step.1 in
+      record {
+        at = at;
+        later = step.0;
+        delivery = d;
+        once = λ on zero. given-once (disk_of disk).sectors s m on zero frame out kind new d step.1;
+        never_ok_again = λ is_ok. as_ok (disk_of disk).sectors s m frame out kind new d step.1 is_ok;
       }

@@ -1,6 +1,6 @@
 -- The headline on packet numbers.
 use Rattle.std.proofs.Common.{◌≡◌, ◌<◌, ◌≤◌, ◌+◌, ◌/◌, inl, inr, ℕ, refl, sym, ◌∙◌, ap, subst, arith, List, [], ◌∷◌, length, true, false}
-use Rattle.std.specs.Prelude.{Option, Some, None, IsSomeAnd, nat_lt}
+use Rattle.std.specs.Prelude.{◌^◌, Option, Some, None, IsSomeAnd, max, min, nat_lt}
 use Rattle.std.specs.Option.{option_map}
 use Rattle.std.proofs.lemmas.Bool.{cases_eq, cases_lt}
 use Rattle.std.proofs.lemmas.Bool.Decides.{nat_tests}
@@ -10,19 +10,19 @@ use Rattle.macs_config.specs.Identity.{Identity}
 use Rattle.macs_config.specs.declared.association.RxSa.{RxSa}
 use Rattle.macs_config.specs.declared.association.TxSa.{TxSa}
 use Rattle.macs_config.specs.declared.command.Command.{Command}
-use Rattle.macs_config.specs.declared.command.Command.TheVariants.{TxInstall, TxRemove}
-use Rattle.macs_rxsc.specs.Receive.{Numbers, delivery_kind, first_numbers}
+use Rattle.macs_config.specs.declared.command.Command.TheVariants.{RxDrop, RxInstall, RxRemove, SetReplay, TxInstall, TxRemove}
+use Rattle.macs_rxsc.specs.Receive.{Numbers, delivery_kind, first_numbers, numbers_under_window}
 use Rattle.macs_rxsc.specs.declared.verdict.Kind.TheVariants.{Ok as AsOk, Delayed}
 use Rattle.macs_store.specs.Standing.{Standing}
 use Rattle.macs_endpoint.specs.State.{Delivery, Logs, State}
-use Rattle.macs_endpoint.specs.Step.{Exchange, Steps, next_after}
-use Rattle.macs_endpoint.specs.Restart.{Restart, opened_state}
+use Rattle.macs_endpoint.specs.Step.{Exchange, Steps, next_after, numbers_after}
+use Rattle.macs_endpoint.specs.Restart.{Restart, RxRises, opened_state, rx_limit}
 use Rattle.macs_headline.specs.History.{Blank, Formatted, Past, logs_of}
-use Rattle.macs_headline.specs.Moments.{IsFoundAfter, WasGiven, WasUsed}
-use Rattle.macs_headline.specs.Numbers.{GivenBelow, GivenOnce, HasNoneTwice, IsBeyondRx, IsBeyondTx, NeverOkAgain, SkipsFew, UsedBelow, UsedOnce, UsedOnceAtEnd}
+use Rattle.macs_headline.specs.Moments.{IsFoundAfter, Moment, WasGiven, WasUsed}
+use Rattle.macs_headline.specs.Numbers.{GivenApart, GivenBelow, HasNoneTwice, IsBeyondRx, IsBeyondTx, IsMoved, OkApart, SkipsFew, SkipsFewReceived, UsedBelow, UsedOnce, UsedOnceAtEnd}
 use Rattle.macs_headline.proofs.Lists.{pairs-none}
 use Rattle.macs_headline.proofs.Ledger.{ledger-kept, some_one}
-use Rattle.macs_headline.proofs.Places.{put-that, put-this}
+use Rattle.macs_headline.proofs.Places.{cases_place, cases_sci, put-that, put-this, put_at-that, put_at-this, put_rx-that, put_rx-this}
 use Rattle.macs_headline.proofs.Accepted.{accepted, free-slot}
 use Rattle.macs_headline.proofs.Effects.{Commanded, Core, Effect, Given, Held, NoEffect, Sent, core, effect-of}
 use Rattle.macs_headline.proofs.Sent.{key_of}
@@ -162,6 +162,74 @@ skips s new an before after next later (inr (c, mid, hand, makes, up)) is js is_
     subst (λ (i : Identity). rise.0 ≤ next + (i.tx_block + i.tx_block / 2)) block rise.3 in
     omega (arith, one, high)
 
+gone_or : {X : Type 0} {x : X} → ◌≡◌ {A = Option X} None (Some x) → ⊥
+gone_or is = cc
+
+-- the numbers of a receive association that stays, over the command in hand: a new window moves the lowest alone
+numbers_stay : (edition : Edition) (identity : Identity) (old : Config) (c : Command) (numbers : List ℕ → ℕ → Option Numbers) (sci : List ℕ) (an : ℕ)
+    (before after : RxSa) (n : Numbers) → refusal_of edition identity old c ≡ None → old.rx sci an ≡ Some before → (config_after old c).rx sci an ≡ Some after
+    → numbers sci an ≡ Some n → (m : Numbers) × (numbers_after c numbers sci an ≡ Some m) × (m.next ≡ n.next) × (m.seen ≡ n.seen)
+numbers_stay edition identity old (SetReplay on window) numbers sci an before after n ok is js here =
+    (numbers_under_window window n, ap (option_map (numbers_under_window window)) here, refl, refl)
+numbers_stay edition identity old (RxDrop at) numbers sci an before after n ok is js here = elim (cases_sci sci at) [
+  | inl same ↦
+      let gone : (config_after old (RxDrop at)).rx sci an ≡ None = ap (λ (f : ℕ → Option RxSa). f an) (put_at-this old.rx at sci (λ an. None) same) in
+      absurd (gone_or (sym gone ∙ js))
+  | inr apart ↦ (n, ap (λ (f : ℕ → Option Numbers). f an) (put_at-that numbers at sci _ apart) ∙ here, refl, refl)
+]
+numbers_stay edition identity old (RxInstall at number key start offset) numbers sci an before after n ok is js here = elim (cases_place sci an at number) [
+  | inl same ↦
+      let free : is_slot_taken old (RxInstall at number key start offset) ≡ false = free-slot edition identity old (RxInstall at number key start offset) ok in
+      let there : old.rx at number ≡ Some before = (λ i. old.rx (sym same.0 i) (sym same.1 i)) ∙ is in
+      let both : true ≡ false = rw there at free in
+      absurd (cc)
+  | inr apart ↦ (n, put_rx-that numbers at number sci an (Some (first_numbers start)) apart ∙ here, refl, refl)
+]
+numbers_stay edition identity old (RxRemove at number) numbers sci an before after n ok is js here = elim (cases_place sci an at number) [
+  | inl same ↦
+      let gone : (config_after old (RxRemove at number)).rx sci an ≡ None = put_rx-this old.rx at number sci an None same.0 same.1 in
+      absurd (gone_or (sym gone ∙ js))
+  | inr apart ↦ (n, put_rx-that numbers at number sci an None apart ∙ here, refl, refl)
+]
+numbers_stay edition identity old c numbers sci an before after n ok is js here = (n, here, refl, refl)
+
+-- what may be found of an association that has these numbers
+moved : (block : ℕ) (old : Numbers) (found : Option Numbers) (new : Numbers) → RxRises block (Some old) found → found ≡ Some new → IsMoved block old new
+moved block old found new (later, is_later, low, high) is =
+    let one : first_numbers later ≡ new = some_one found (first_numbers later) new is_later is in
+    subst (IsMoved block old) one (record {
+      level = refl;
+      rises = low;
+      unseen = λ none. let most : later ≤ old.next = subst (λ (seen : Option ℕ). later ≤ rx_limit block old.next seen) none high in omega (arith, low, most);
+      seen = λ last is_last. subst (λ (seen : Option ℕ). later ≤ rx_limit block old.next seen) is_last high;
+    })
+
+-- over numbers whose lowest alone changed
+moved_on : (block : ℕ) (old mid new : Numbers) → mid.next ≡ old.next → mid.seen ≡ old.seen → IsMoved block mid new → IsMoved block old new
+moved_on block old mid new next seen is = record {
+  level = is.level;
+  rises = subst (λ (n : ℕ). n ≤ new.next) next is.rises;
+  unseen = λ none. is.unseen (seen ∙ none) ∙ next;
+  seen = λ last is_last. subst (λ (n : ℕ). new.next ≤ max n (min (last + block) (2 ^ 32))) next (is.seen last (seen ∙ is_last));
+}
+
+skips_received : (s found : State) (sci : List ℕ) (an : ℕ) (before after : RxSa) (old new : Numbers) → Restart s found → s.config.rx sci an ≡ Some before
+    → found.config.rx sci an ≡ Some after → s.numbers sci an ≡ Some old → found.numbers sci an ≡ Some new → IsMoved s.identity.rx_block old new
+skips_received s found sci an before after old new (inl up) is js is_old is_new =
+    moved s.identity.rx_block old (found.numbers sci an) new
+    (subst (λ (n : Option Numbers). RxRises s.identity.rx_block n (found.numbers sci an)) is_old (up.numbers sci an)) is_new
+skips_received s found sci an before after old new (inr (c, mid, hand, makes, up)) is js is_old is_new =
+    let a = accepted s.edition s.identity s.config c makes.0 makes.1 in
+    let config : found.config ≡ config_after s.config c = up.config ∙ ap (λ (s : State). s.config) makes.2 ∙ a.1 in
+    let there : (config_after s.config c).rx sci an ≡ Some after = ap (λ (c : Config). c.rx sci an) (sym config) ∙ js in
+    let stay = numbers_stay s.edition s.identity s.config c s.numbers sci an before after old a.0 is there is_old in
+    let mid_is : mid.numbers sci an ≡ Some stay.0 = ap (λ (s : State). s.numbers sci an) makes.2 ∙ stay.1 in
+    let block : mid.identity ≡ s.identity = ap (λ (s : State). s.identity) makes.2 in
+    let rises : RxRises s.identity.rx_block (Some stay.0) (found.numbers sci an) =
+    subst (λ (i : Identity). RxRises i.rx_block (Some stay.0) (found.numbers sci an)) block
+    (subst (λ (n : Option Numbers). RxRises mid.identity.rx_block n (found.numbers sci an)) mid_is (up.numbers sci an)) in
+    moved_on s.identity.rx_block old stay.0 new stay.2 stay.3 (moved s.identity.rx_block stay.0 (found.numbers sci an) new rises is_new)
+
 -- ---- the laws
 
 past_apart : (past : Past) → IsSoundPast past → HasNoneTwice (logs_of past).used
@@ -175,10 +243,10 @@ module _ (sectors : ℕ) where
   pub used-once-at-end : UsedOnceAtEnd sectors
   used-once-at-end lives past history = past_apart past (sound-history sectors lives past history)
 
-  pub given-once : GivenOnce sectors
-  given-once s m on zero_window call reply new d (step, more) was =
+  pub given-apart : GivenApart sectors
+  given-apart s m on zero_window call reply new d delivers was =
       let is = sound-moment sectors s m in
-      let a = added s.edition (core s) (core new) d (effect-of s call reply new step) more in
+      let a = added s.edition (core s) (core new) d (effect-of s call reply new delivers.0) delivers.1 in
       let here = is.rx.below (d.sci, a.an) (d.sci, d.key) (pair_is (core s) d a) in
       let is_m : here.0 ≡ a.n.next =
       some_one (option_map (λ (n : Numbers). n.next) (s.numbers d.sci a.an)) here.0 a.n.next here.1 (ap (option_map (λ (n : Numbers). n.next)) a.is_n) in
@@ -187,12 +255,12 @@ module _ (sectors : ℕ) where
       let over : a.n.lowest ≤ d.pn = a.in_time on in
       omega (arith, is_m, low, near, over, zero_window)
 
-  pub never-ok-again : NeverOkAgain sectors
-  never-ok-again s m call reply new d (step, more) ok was =
+  pub ok-apart : OkApart sectors
+  ok-apart s m call reply new d delivers ok was =
       let logs = logs_of m.past in
       let opened = opened_state m.life.found logs in
       let floor = floor-steps (IsGiven logs.given) opened m.exchanges s m.life.steps (floor-opening m.life.found logs (sound-opened sectors s m).rx) in
-      let a = added s.edition (core s) (core new) d (effect-of s call reply new step) more in
+      let a = added s.edition (core s) (core new) d (effect-of s call reply new delivers.0) delivers.1 in
       let here = floor.below (d.sci, a.an) (d.sci, d.key) (pair_is (core s) d a) in
       let is_m : here.0 ≡ a.n.lowest =
       some_one (option_map (λ (n : Numbers). n.lowest) (s.numbers d.sci a.an)) here.0 a.n.lowest here.1 (ap (option_map (λ (n : Numbers). n.lowest)) a.is_n) in
@@ -212,3 +280,7 @@ module _ (sectors : ℕ) where
   pub skips-few : SkipsFew sectors
   skips-few s edition image found fits is an before after next later is_before is_after is_next is_later =
       skips s (opened_state found s.logs) an before after next later (fits-restart edition sectors image s found fits is) is_before is_after is_next is_later
+
+  pub skips-few-received : SkipsFewReceived sectors
+  skips-few-received s edition image found fits is sci an before after old new is_before is_after is_old is_new =
+      skips_received s (opened_state found s.logs) sci an before after old new (fits-restart edition sectors image s found fits is) is_before is_after is_old is_new

@@ -14,6 +14,7 @@ use Rattle.macs_txsc.specs.Transmit.{is_used_up, next_outgoing, tx_faults}
 use Rattle.macs_rxsc.specs.declared.verdict.Verdict.{Verdict}
 use Rattle.macs_store.specs.Found.{StandingIs}
 use Rattle.macs_store.specs.Standing.{Standing}
+use Rattle.macs_store.proofs.LargerEditions.{of-edition}
 use Rattle.macs_endpoint.specs.Calls.{IsInRange}
 use Rattle.macs_endpoint.specs.Queue.{with_waiting}
 use Rattle.macs_endpoint.specs.declared.fault.CommandFault.{CommandFault}
@@ -39,7 +40,6 @@ use Rattle.macs_headline.proofs.Ledger.{some_one}
 use Rattle.macs_headline.proofs.Places.{put-that, put-this}
 use Rattle.macs_headline.proofs.Accepted.{NoTest, accepted, no-test, right-start}
 use Rattle.macs_headline.proofs.Effects.{outgoing_is}
-use Rattle.macs_headline.proofs.Editions.{found-edition}
 use Rattle.macs_headline.proofs.Histories.{fits-restart, found-new}
 
 -- a next packet number
@@ -328,7 +328,7 @@ module _ (sectors : ℕ) where
       let new = found-new edition sectors image identities found fits is in
       subst (λ (o : Standing). IsRanged edition (opened_state o no_logs)) new.2 (formatted_range edition new.0)
   opening_range (Formatted s) edition image found fits is ranged =
-      subst (λ (e : Edition). IsRanged e (opened_state found s.logs)) (found-edition edition sectors image found is)
+      subst (λ (e : Edition). IsRanged e (opened_state found s.logs)) (of-edition edition sectors image found is)
       (restart_range s.edition s (opened_state found s.logs) (fits-restart edition sectors image s found fits is) ranged)
 
   life_range : (past : Past) (edition : Edition) (image : Image) (exchanges : List Exchange) (s : State)

@@ -16,7 +16,7 @@ use Rattle.macs_headline.specs.Binding.{IsNewDisk}
 use Rattle.macs_headline.specs.Days.{IsRefusedDay, link_of}
 use Rattle.macs_headline.specs.Deeds.{Chain, Formatting, Refusing}
 use Rattle.macs_headline.specs.History.{formatted_state}
-use Rattle.macs_headline.proofs.Chains.{deeds-are-histories}
+use Rattle.macs_headline.proofs.Chains.{new-deeds-are-histories}
 use Rattle.macs_headline.proofs.Formats.{new-fits}
 
 -- no head gate of a disk without a journal reads open
@@ -80,5 +80,5 @@ module _ {D : Type 0} (disk_of : D → Disk) (sound : (it : D) → IsHonest (dis
         formatted = result;
         between = mid;
         chain = chain;
-        history = deeds-are-histories disk_of sound old refused.disk links is_new chain;
+        history = new-deeds-are-histories disk_of sound old refused.disk links is_new chain;
       }

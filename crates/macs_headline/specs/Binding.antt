@@ -1,22 +1,39 @@
--- What binds the program to the headline: whatever is done with a disk that is new is a history.
-use Rattle.std.specs.Prelude.{◌≡◌, ◌⊎◌, ◌≤◌, ◌++◌, ℕ, List, ◌∷◌, map, Option, Some, Ok}
-use Rattle.macs_config.specs.Config.{this_edition}
-use Rattle.macs_disk.specs.Disk.{Disk, IsHonest, MayLeave, now}
-use Rattle.macs_disk.specs.States.{Image}
+-- What binds the program to the headline: whatever is done with a disk that has a history is one, and a disk that is new has the empty one.
+use Rattle.std.specs.Prelude.{◌≡◌, ◌⊎◌, ◌↔◌, ◌≤◌, true, ◌++◌, ℕ, List, [], ◌∷◌, map, Contains, Option, Some, None, Result, Ok, Err}
+use Rattle.macs_frame.specs.Tag.{tag_of}
+use Rattle.macs_config.specs.Config.{Edition, IsUpTo, this_edition}
+use Rattle.macs_config.specs.Identity.{Identity}
+use Rattle.macs_disk.specs.Disk.{Disk, FailsOnce, IsHonest, MayLeave, now}
+use Rattle.macs_disk.specs.Fused.{fused_disk}
+use Rattle.macs_disk.specs.States.{Image, settled_state}
 use Rattle.macs_journal.specs.Areas.{least_sectors}
 use Rattle.macs_journal.specs.Found.{IsNotFormatted}
+use Rattle.macs_journal.specs.declared.fault.JournalFault.{JournalFault}
+use Rattle.macs_journal.specs.declared.fault.JournalFault.TheVariants.{Disk as DiskFault, NotFormatted}
+use Rattle.macs_journal.specs.declared.recovery.RecoverRefused.{RecoverRefused}
 use Rattle.macs_store.specs.Found.{StandingIs}
 use Rattle.macs_store.specs.Standing.{Standing}
 use Rattle.macs_store.specs.Value.{standing_in}
 use Rattle.macs_endpoint.specs.Calls.{IsCall}
+use Rattle.macs_endpoint.specs.Formatting.{IsFormat}
 use Rattle.macs_endpoint.specs.Lives.{Transition, exchange_of}
-use Rattle.macs_endpoint.specs.State.{Call, Logs, Protects, Protected, no_logs}
-use Rattle.macs_endpoint.specs.Value.{EndpointValue, disk_in, state_of}
+use Rattle.macs_endpoint.specs.Opening.{IsOpening}
+use Rattle.macs_rxsc.specs.declared.verdict.Kind.{Kind}
+use Rattle.macs_rxsc.specs.declared.verdict.Kind.TheVariants.{Ok as AsOk}
+use Rattle.macs_rxsc.specs.declared.verdict.Verdict.TheVariants.{Delivered}
+use Rattle.macs_endpoint.specs.Ceilings.{Raise}
+use Rattle.macs_endpoint.specs.Restart.{Fits}
+use Rattle.macs_endpoint.specs.State.{Advances, Call, Logs, Protects, Protected, Received, Receives, Reply, State, no_logs}
+use Rattle.macs_endpoint.specs.Value.{EndpointValue, IsSoundEndpoint, device_in, disk_in, state_of}
 use Rattle.macs_headline.specs.Commands.{FindsPrefix}
-use Rattle.macs_headline.specs.Deeds.{Chain, Does, Link, Living, LivesFrom, LosesPower, OpeningCut, lives_of_links}
-use Rattle.macs_headline.specs.Frames.{IsStandardFrame}
-use Rattle.macs_headline.specs.History.{FitsPast, IsHistory, IsLifeSoFar, Life, Past, state_at_end}
+use Rattle.macs_headline.specs.Answered.{exchanges_of_lives, lives_at}
+use Rattle.macs_headline.specs.Deliveries.{IsOtherDelivery, IsVerifiedDelivery, IsVerifiedKind, delivering}
+use Rattle.macs_headline.specs.Deeds.{Chain, Does, Formatting, FormattingCut, IsPassedOn, Link, Living, LivesFrom, OpeningCut, PassingOn, Refusing, disk_after_opening, lives_of_links}
+use Rattle.macs_headline.specs.Frames.{IsOtherFrame, IsStandardFrame, writing}
+use Rattle.macs_headline.specs.History.{FitsPast, Formats, IsHistory, Life, Past, Serves, logs_of, state_at_end}
+use Rattle.macs_headline.specs.Moments.{IsFoundAfter, Moment}
 use Rattle.macs_headline.specs.Numbers.{HasNoneTwice}
+use Rattle.macs_headline.specs.Tickets.{AreTicketsKept}
 
 -- an honest disk of 1,028 sectors or more, whose head gates are closed in every image
 pub record IsNewDisk (disk : Disk) : Type 0 where
@@ -24,59 +41,203 @@ pub record IsNewDisk (disk : Disk) : Type 0 where
   pub large : least_sectors ≤ disk.sectors
   pub closed : (image : Image) → MayLeave disk image → IsNotFormatted image
 
--- A history of these lives led to the disk: each image that a power loss may leave now is one that may be come upon after it.
-pub record HasHistory (disk : Disk) (lives : List Life) : Type 0 where
+-- A history of these lives led to the disk: each image that a power loss may leave now is one that a program of this edition may come upon
+-- after it.
+pub record HasHistory (edition : Edition) (disk : Disk) (lives : List Life) : Type 0 where
   pub honest : IsHonest disk
   pub past : Past
   pub history : IsHistory disk.sectors lives past
-  pub images : (image : Image) → MayLeave disk image → FitsPast this_edition disk.sectors past image
+  pub images : (image : Image) → MayLeave disk image → FitsPast edition disk.sectors past image
 
--- whatever was done with a disk that was new, a history led to it
+-- ---- where a history begins, and which disks have it
+
+-- a disk that is new has the history in which nothing was done
+abbrev pub NewDisksHaveHistories : Type 0
+NewDisksHaveHistories = (edition : Edition) (disk : Disk) → IsNewDisk disk → HasHistory edition disk []
+
+-- a disk on which nothing is pending has each history after which a program may come upon what is on it
+abbrev pub SettledHaveHistories : Type 0
+SettledHaveHistories = (edition : Edition) (disk : Disk) (lives : List Life) (past : Past) (image : Image) → IsHonest disk → now disk ≡ settled_state image
+    → IsHistory disk.sectors lives past → FitsPast edition disk.sectors past image → HasHistory edition disk lives
+
+-- a history from which a program of one edition goes on is one from which a program of a larger edition does
+abbrev pub LargerGoOn : Type 0
+LargerGoOn = (small large : Edition) → IsUpTo small large → (disk : Disk) (lives : List Life) → HasHistory small disk lives → HasHistory large disk lives
+
+-- the disk to which a medium is passed on has the history of the disk before it
+abbrev pub PassedOnHaveHistories : Type 0
+PassedOnHaveHistories = (edition : Edition) (old new : Disk) (lives : List Life) → HasHistory edition old lives → IsPassedOn old old.clock new
+    → HasHistory edition new lives
+
+-- a disk has the same histories with a fuse before it and without, whichever of its calls the fuse failed
+abbrev pub FusesChangeNone : Type 0
+FusesChangeNone = (edition : Edition) (disk : Disk) (at missed added : ℕ) (lives : List Life) → at ≤ disk.clock
+    → HasHistory edition (fused_disk disk at missed added) lives ↔ HasHistory edition disk lives
+
+-- ---- how it goes on
+
+-- whatever is done with a disk that has a history, the history goes on with it
 abbrev pub DeedsAreHistories : {D : Type 0} → (D → Disk) → Type 0
-DeedsAreHistories {D} disk_of = (old new : D) (links : List (Link D)) → IsNewDisk (disk_of old) → Chain disk_of old links new
-    → HasHistory (disk_of new) (lives_of_links disk_of old links)
+DeedsAreHistories {D} disk_of = (old new : D) (before : List Life) (links : List (Link D)) → HasHistory this_edition (disk_of old) before
+    → Chain disk_of old links new → HasHistory this_edition (disk_of new) (before ++ lives_of_links disk_of old links)
 
--- An endpoint that opened this image is at a moment of a history: behind these lives, and after these calls of its own.
+-- so whatever was done with a disk that was new, a history led to it
+abbrev pub NewDeedsAreHistories : {D : Type 0} → (D → Disk) → Type 0
+NewDeedsAreHistories {D} disk_of = (old new : D) (links : List (Link D)) → IsNewDisk (disk_of old) → Chain disk_of old links new
+    → HasHistory this_edition (disk_of new) (lives_of_links disk_of old links)
+
+-- and its disk has as many sectors as before
+abbrev pub ChainsKeepSizes : {D : Type 0} → (D → Disk) → Type 0
+ChainsKeepSizes {D} disk_of = (old new : D) (before : List Life) (links : List (Link D)) → HasHistory this_edition (disk_of old) before
+    → Chain disk_of old links new → (disk_of new).sectors ≡ (disk_of old).sectors
+
+-- each call that an endpoint of such a chain answered is among what its lives answered
+abbrev pub ChainsAnswer : {D : Type 0} → (D → Disk) → Type 0
+ChainsAnswer {D} disk_of = (old : D) (links : List (Link D)) (link : Link D) (first last : EndpointValue D) (turns : List (Transition D)) (cut : Option Call)
+    (turn : Transition D) → Contains links link → link.deed ≡ Living first turns last cut → Contains turns turn
+    → Contains (exchanges_of_lives (lives_of_links disk_of old links)) (exchange_of turn)
+
+-- An endpoint that opened this image is at a moment of a history: after these lives, and after these calls of its own.
 pub record IsAtMoment {D : Type 0} (sectors : ℕ) (lives : List Life) (image : Image) (turns : List (Transition D)) (first last : EndpointValue D) : Type 0 where
   pub logs : Logs
-  pub past : Past
-  pub history : IsHistory sectors lives past
-  pub life : IsLifeSoFar sectors past this_edition image (map exchange_of turns) (state_of last logs)
-  pub same_found : life.found ≡ standing_in first.store
+  pub moment : Moment sectors (state_of last logs)
+  pub after_lives : moment.lives ≡ lives
+  pub of_edition : moment.edition ≡ this_edition
+  pub opened : moment.image ≡ image
+  pub calls : moment.exchanges ≡ map exchange_of turns
+  pub found : moment.life.found ≡ standing_in first.store
 
--- whatever was done with a disk that was new, an endpoint that then opened it and made calls is at a moment of that history
+-- an endpoint that opened a disk which has a history, and made calls, is at a moment of that history
 abbrev pub LivesAreMoments : {D : Type 0} → (D → Disk) → Type 0
-LivesAreMoments {D} disk_of = (old disk : D) (links : List (Link D)) (first last : EndpointValue D) (turns : List (Transition D))
-    → IsNewDisk (disk_of old) → Chain disk_of old links disk → LivesFrom disk_of disk first turns last
-    → IsAtMoment (disk_of old).sectors (lives_of_links disk_of old links) (now (disk_of disk)).seen turns first last
+LivesAreMoments {D} disk_of = (disk : D) (before : List Life) (first last : EndpointValue D) (turns : List (Transition D))
+    → HasHistory this_edition (disk_of disk) before → LivesFrom disk_of disk first turns last
+    → IsAtMoment (disk_of disk).sectors before (now (disk_of disk)).seen turns first last
 
--- a power loss while an endpoint is opened and lives is one in its opening, or in one of its calls, after those before it
-abbrev pub LossesAreCuts : {D : Type 0} → (D → Disk) → Type 0
-LossesAreCuts {D} disk_of = (old new : D) (first last : EndpointValue D) (turns : List (Transition D)) → LivesFrom disk_of old first turns last
-    → LosesPower (disk_in disk_of last) (disk_of old).clock (disk_of new)
+-- what an endpoint begins with is what an opening finds after the history of its disk
+abbrev pub OpeningsFind : {D : Type 0} → (D → Disk) → Type 0
+OpeningsFind {D} disk_of = (disk : D) (before : List Life) (first : EndpointValue D) → (h : HasHistory this_edition (disk_of disk) before)
+    → IsOpening disk_of disk (Ok first)
+    → (f : IsFoundAfter (disk_of disk).sectors h.past (standing_in first.store))
+    × (f.lives ≡ before) × (f.edition ≡ this_edition) × (f.image ≡ (now (disk_of disk)).seen)
+
+-- where a medium is passed on at a moment since an opening began, that moment is one of the opening, or of one of the calls after it
+abbrev pub EndsAreCuts : {D : Type 0} → (D → Disk) → Type 0
+EndsAreCuts {D} disk_of = (old new : D) (first last : EndpointValue D) (turns : List (Transition D)) → LivesFrom disk_of old first turns last
+    → IsPassedOn (disk_in disk_of last) (disk_of old).clock (disk_of new)
     → Does disk_of old OpeningCut new
     ⊎ ((before : List (Transition D)) × (mid : EndpointValue D) × (turn : Transition D) × (rest : List (Transition D))
     × (before ++ turn ∷ rest ≡ turns) × Does disk_of old (Living first before mid (Some turn.call)) new)
 
--- Each image that the disk may leave after a life stands for the configuration after a prefix of the life's accepted commands that holds
--- every acknowledged one.
-abbrev pub LivesKeepCommands : {D : Type 0} → (D → Disk) → Type 0
-LivesKeepCommands {D} disk_of = (old disk new : D) (links : List (Link D)) (first last : EndpointValue D) (turns : List (Transition D)) (cut : Option Call)
-    → IsNewDisk (disk_of old) → Chain disk_of old links disk → Does disk_of disk (Living first turns last cut) new
-    → (image : Image) (after : Standing) → MayLeave (disk_of new) image → StandingIs this_edition (disk_of old).sectors image (Ok after)
-    → FindsPrefix (standing_in first.store) (map exchange_of turns) (state_at_end (state_of last no_logs) cut).in_hand after
+-- The call in which a life ends, where a command may begin in it. None begins in a step while a ceiling is being raised: the step goes on with that.
+abbrev pub cut_beginning : Option Raise → Option Call → Option Call
+cut_beginning (Some raise) (Some Advances) = None
+cut_beginning reserving cut = cut
 
--- A frame that `protect` wrote at such a moment is the standard's, and with it no pair of key and packet number was used twice in all lives.
+-- The state in which a life ends, after these logs: with the command in hand that may have begun in the call that was cut short
+abbrev pub state_left : {D : Type 0} → EndpointValue D → Logs → Option Call → State
+state_left e logs cut = state_at_end (state_of e logs) (cut_beginning e.reserving cut)
+
+-- Each image that the disk may leave after a life fits that state, to this edition and to each larger one: what is opened there is a restart of it.
+abbrev pub LivesFit : {D : Type 0} → (D → Disk) → Type 0
+LivesFit {D} disk_of = (disk new : D) (before : List Life) (first last : EndpointValue D) (turns : List (Transition D)) (cut : Option Call)
+    → HasHistory this_edition (disk_of disk) before → Does disk_of disk (Living first turns last cut) new
+    → (at : IsAtMoment (disk_of disk).sectors before (now (disk_of disk)).seen turns first last)
+    × ((later : Edition) → IsUpTo this_edition later → (image : Image) → MayLeave (disk_of new) image
+    → Fits later (disk_of disk).sectors image (state_left last at.logs cut))
+
+-- Each image that the disk may leave after a life stands, to this edition and to each larger one, for the configuration after a prefix of the
+-- life's accepted commands that holds every acknowledged one.
+abbrev pub LivesKeepCommands : {D : Type 0} → (D → Disk) → Type 0
+LivesKeepCommands {D} disk_of = (disk new : D) (before : List Life) (first last : EndpointValue D) (turns : List (Transition D)) (cut : Option Call)
+    → HasHistory this_edition (disk_of disk) before → Does disk_of disk (Living first turns last cut) new
+    → (later : Edition) → IsUpTo this_edition later
+    → (image : Image) (after : Standing) → MayLeave (disk_of new) image → StandingIs later (disk_of disk).sectors image (Ok after)
+    → FindsPrefix (standing_in first.store) (map exchange_of turns) (state_left last no_logs cut).in_hand after
+
+-- the tickets of a life are kept, whatever its disk does
+abbrev pub LivesKeepTickets : {D : Type 0} → (D → Disk) → Type 0
+LivesKeepTickets {D} disk_of = (disk : D) (first last : EndpointValue D) (turns : List (Transition D)) → LivesFrom disk_of disk first turns last
+    → AreTicketsKept (map exchange_of turns) last.waiting
+
+-- A frame that `protect` wrote at such a moment is the standard's, and another than each that was written in all lives: under the same key it has
+-- another number.
 pub record IsWrittenOnce {D : Type 0} (sectors : ℕ) (lives : List Life) (image : Image) (turns : List (Transition D)) (first last after : EndpointValue D)
     (plain : List ℕ) (pn : ℕ) (out : List ℕ) : Type 0 where
   pub at : IsAtMoment sectors lives image turns first last
   pub later : Logs
   pub standard : IsStandardFrame (state_of last at.logs) plain pn out (state_of after later)
   pub once : HasNoneTwice later.used
+  pub others : (earlier : List ℕ) (was : ℕ) (given : List ℕ)
+      → Contains (exchanges_of_lives (lives_at at.moment)) (writing earlier was given)
+      → IsOtherFrame sectors (lives_at at.moment) at.logs earlier was given standard.sa.key pn
 
--- so is each frame that an endpoint writes, whatever was done with its disk before
+-- so is each frame that an endpoint writes, whatever history its disk has
 abbrev pub FramesAreWrittenOnce : {D : Type 0} → (D → Disk) → Type 0
-FramesAreWrittenOnce {D} disk_of = (old disk : D) (links : List (Link D)) (first last after : EndpointValue D) (turns : List (Transition D))
-    (plain : List ℕ) (pn : ℕ) (out : List ℕ) → IsNewDisk (disk_of old) → Chain disk_of old links disk → LivesFrom disk_of disk first turns last
+FramesAreWrittenOnce {D} disk_of = (disk : D) (before : List Life) (first last after : EndpointValue D) (turns : List (Transition D))
+    (plain : List ℕ) (pn : ℕ) (out : List ℕ) → HasHistory this_edition (disk_of disk) before → LivesFrom disk_of disk first turns last
     → IsCall disk_of last (Protects plain) (Protected (Ok pn) out) after
-    → IsWrittenOnce (disk_of old).sectors (lives_of_links disk_of old links) (now (disk_of disk)).seen turns first last after plain pn out
+    → IsWrittenOnce (disk_of disk).sectors before (now (disk_of disk)).seen turns first last after plain pn out
+
+-- A frame that `receive` delivered as Ok or Delayed at such a moment verifies under an association of that moment, and gives its plain frame and no
+-- other. Where replay protection is on with window 0, it is another than each that was delivered so in all lives: on an association of the same SCI
+-- and key it has another number. Whatever the window, it is another than each of a life before, where it is delivered as Ok.
+pub record IsDeliveredOnce {D : Type 0} (sectors : ℕ) (lives : List Life) (image : Image) (turns : List (Transition D)) (first last after : EndpointValue D)
+    (frame : List ℕ) (kind : Kind) (out : List ℕ) : Type 0 where
+  pub at : IsAtMoment sectors lives image turns first last
+  pub later : Logs
+  pub delivery : IsVerifiedDelivery (state_of last at.logs) frame kind out (state_of after later)
+  pub once : (state_of last at.logs).config.replay.on ≡ true → (state_of last at.logs).config.replay.window ≡ 0
+      → (earlier given : List ℕ) (was : Kind) → IsVerifiedKind was
+      → Contains (exchanges_of_lives (lives_at at.moment)) (delivering earlier was given)
+      → IsOtherDelivery sectors (lives_at at.moment) at.logs earlier was given delivery.sci delivery.sa.key (tag_of frame).pn
+  pub never_ok_again : kind ≡ AsOk → (earlier given : List ℕ) (was : Kind) → IsVerifiedKind was
+      → Contains (exchanges_of_lives lives) (delivering earlier was given)
+      → IsOtherDelivery sectors lives (logs_of at.moment.past) earlier was given delivery.sci delivery.sa.key (tag_of frame).pn
+
+-- so is each frame that an endpoint delivers so, whatever history its disk has
+abbrev pub FramesAreDeliveredOnce : {D : Type 0} → (D → Disk) → Type 0
+FramesAreDeliveredOnce {D} disk_of = (disk : D) (before : List Life) (first last after : EndpointValue D) (turns : List (Transition D))
+    (frame : List ℕ) (kind : Kind) (out : List ℕ) → IsVerifiedKind kind → HasHistory this_edition (disk_of disk) before → LivesFrom disk_of disk first turns last
+    → IsCall disk_of last (Receives frame) (Received (Ok (Delivered kind)) out) after
+    → IsDeliveredOnce (disk_of disk).sectors before (now (disk_of disk)).seen turns first last after frame kind out
+
+-- ---- openings that are refused
+
+-- a life after which the disk is formatted for sure: a `format` that answered Ok, or an opening that was not refused
+abbrev pub IsFormatting : Life → Type 0
+IsFormatting (Formats edition identity true) = Unit {0}
+IsFormatting (Serves edition image exchanges cut) = Unit {0}
+IsFormatting life = ⊥
+
+-- An opening is refused as Disk, with one failed call counted or the disk worn; or as NotFormatted, and then no life formatted the disk for sure.
+abbrev pub RefusalsAreFailures : {D : Type 0} → (D → Disk) → Type 0
+RefusalsAreFailures {D} disk_of = (disk : D) (before : List Life) (refused : RecoverRefused D) → HasHistory this_edition (disk_of disk) before
+    → IsOpening disk_of disk (Err refused)
+    → ((refused.fault ≡ DiskFault) × FailsOnce (disk_of disk) (disk_of refused.disk))
+    ⊎ ((refused.fault ≡ NotFormatted) × ((life : Life) → Contains before life → ¬ IsFormatting life))
+
+-- ---- deeds
+
+-- What a call's contract says makes a deed: a `format` that was answered, and one in which the medium was passed on; an opening that was refused,
+-- and one in which it was passed on; an endpoint that gave its disk back, and one in a call of which it was passed on; and a disk with which
+-- nothing was done. A life begins with an opening and goes on with each call; a chain begins with nothing and goes on with each deed.
+pub record CallsAreDeeds {D : Type 0} (disk_of : D → Disk) : Type 0 where
+  pub formatted : (old new : D) (identity : Identity) (result : Result (Unit {0}) JournalFault) → IsFormat disk_of old identity result new
+      → Does disk_of old (Formatting identity result) new
+  pub format_cut : (old ran new : D) (identity : Identity) (result : Result (Unit {0}) JournalFault) → IsFormat disk_of old identity result ran
+      → IsPassedOn (disk_of ran) (disk_of old).clock (disk_of new) → Does disk_of old (FormattingCut identity) new
+  pub refused : (old : D) (refused : RecoverRefused D) → IsOpening disk_of old (Err refused) → Does disk_of old (Refusing refused.fault) refused.disk
+  pub opening_cut : (old new : D) (result : Result (EndpointValue D) (RecoverRefused D)) → IsOpening disk_of old result
+      → IsPassedOn (disk_after_opening disk_of result) (disk_of old).clock (disk_of new) → Does disk_of old OpeningCut new
+  pub ended : (old : D) (first last : EndpointValue D) (turns : List (Transition D)) → LivesFrom disk_of old first turns last
+      → Does disk_of old (Living first turns last None) (device_in last)
+  pub call_cut : (old new : D) (first last after : EndpointValue D) (turns : List (Transition D)) (call : Call) (reply : Reply)
+      → LivesFrom disk_of old first turns last → IsSoundEndpoint last → IsCall disk_of last call reply after
+      → IsPassedOn (disk_in disk_of after) (disk_in disk_of last).clock (disk_of new) → Does disk_of old (Living first turns last (Some call)) new
+  pub passed_on : (old new : D) → IsPassedOn (disk_of old) (disk_of old).clock (disk_of new) → Does disk_of old PassingOn new
+  pub begun : (disk : D) (first : EndpointValue D) → IsOpening disk_of disk (Ok first) → LivesFrom disk_of disk first [] first
+  pub called : (disk : D) (first mid : EndpointValue D) (turns : List (Transition D)) (turn : Transition D) → LivesFrom disk_of disk first turns mid
+      → IsSoundEndpoint mid → IsCall disk_of mid turn.call turn.reply turn.after → LivesFrom disk_of disk first (turns ++ turn ∷ []) turn.after
+  pub none : (old : D) → Chain disk_of old [] old
+  pub one_more : (old mid : D) (links : List (Link D)) (link : Link D) → Chain disk_of old links mid → Does disk_of mid link.deed link.after
+      → Chain disk_of old (links ++ link ∷ []) link.after

@@ -1,5 +1,5 @@
 -- The headline on commands.
-use Rattle.std.specs.Prelude.{◌≡◌, ◌++◌, ℕ, List, [], ◌∷◌, drop, option_to_list, Option, Ok}
+use Rattle.std.specs.Prelude.{◌≡◌, ◌==◌, ◌++◌, if◌then◌else◌, ℕ, List, [], ◌∷◌, option_to_list, Option, Ok}
 use Rattle.macs_config.specs.Apply.{apply}
 use Rattle.macs_config.specs.Config.{Config, Edition}
 use Rattle.macs_config.specs.Identity.{Identity}
@@ -7,7 +7,7 @@ use Rattle.macs_config.specs.declared.command.Command.{Command}
 use Rattle.macs_disk.specs.States.{Image}
 use Rattle.macs_store.specs.Found.{StandingIs}
 use Rattle.macs_store.specs.Standing.{Standing}
-use Rattle.macs_endpoint.specs.Queue.{first_command, with_waiting}
+use Rattle.macs_endpoint.specs.Queue.{with_waiting}
 use Rattle.macs_endpoint.specs.Restart.{Fits}
 use Rattle.macs_endpoint.specs.State.{Advanced, Advances, Call, Commands, Ran, Reply, State, Submits, Submitted}
 use Rattle.macs_endpoint.specs.Step.{Exchange}
@@ -18,16 +18,26 @@ use Rattle.macs_headline.specs.Moments.{Moment}
 
 -- ---- the commands of a life
 
--- The command that this answer acknowledges, if it acknowledges one: it is that of the call, or the first of these that wait.
+-- the first command that waits, where it waits under this ticket
+abbrev pub first_under : ℕ → List Waiting → List Command
+first_under ticket [] = []
+first_under ticket (first ∷ rest) = if first.ticket == ticket then first.command ∷ [] else []
+
+-- those that wait without it
+abbrev pub without_first : ℕ → List Waiting → List Waiting
+without_first ticket [] = []
+without_first ticket (first ∷ rest) = if first.ticket == ticket then rest else first ∷ rest
+
+-- The command that this answer acknowledges, if it acknowledges one: that of the call, or the first of these that wait, by its ticket.
 abbrev pub acknowledged_by : List Waiting → Call → Reply → List Command
 acknowledged_by waiting (Commands command) (Ran (Ok done)) = command ∷ []
-acknowledged_by waiting Advances (Advanced (Ok (Done ticket (Ok done)))) = option_to_list (first_command waiting)
+acknowledged_by waiting Advances (Advanced (Ok (Done ticket (Ok done)))) = first_under ticket waiting
 acknowledged_by waiting call reply = []
 
--- the commands that wait after a call, behind these: one more, or one less
+-- the commands that wait after a call, where these waited before it: one more under the ticket that is answered, or one less, by its ticket
 abbrev pub waiting_after : List Waiting → Call → Reply → List Waiting
 waiting_after waiting (Submits command) (Submitted (Ok ticket)) = with_waiting waiting ticket command
-waiting_after waiting Advances (Advanced (Ok (Done ticket result))) = drop 1 waiting
+waiting_after waiting Advances (Advanced (Ok (Done ticket result))) = without_first ticket waiting
 waiting_after waiting call reply = waiting
 
 -- those that were acknowledged while these waited at first, in their order

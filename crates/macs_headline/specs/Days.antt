@@ -43,7 +43,7 @@ pub record IsDay {D : Type 0} (disk_of : D → Disk) (old : D) (identity : Ident
   pub last : EndpointValue D
   pub called : map exchange_of turns ≡ exchanges_of_day install select plain out day
   pub chain : Chain disk_of old (link_of (Formatting identity day.formatted) between ∷ link_of (Living first turns last None) day.disk ∷ []) day.disk
-  pub history : HasHistory (disk_of day.disk) (
+  pub history : HasHistory this_edition (disk_of day.disk) (
       Formats this_edition identity (is_ok day.formatted)
       ∷ Serves this_edition (now (disk_of between)).seen (exchanges_of_day install select plain out day) None
       ∷ []
@@ -54,7 +54,7 @@ pub record IsRefusedDay {D : Type 0} (disk_of : D → Disk) (old : D) (identity 
   pub formatted : Result (Unit {0}) JournalFault
   pub between : D
   pub chain : Chain disk_of old (link_of (Formatting identity formatted) between ∷ link_of (Refusing refused.fault) refused.disk ∷ []) refused.disk
-  pub history : HasHistory (disk_of refused.disk) (
+  pub history : HasHistory this_edition (disk_of refused.disk) (
       Formats this_edition identity (is_ok formatted)
       ∷ Refuses this_edition (now (disk_of between)).seen refused.fault
       ∷ []

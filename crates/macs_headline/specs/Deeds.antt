@@ -1,9 +1,9 @@
 -- What is done with a disk, by the contracts of `format`, of `Endpoint::open` and of an endpoint's calls, and which lives it makes.
-use Rattle.std.specs.Prelude.{◌≡◌, ◌++◌, ℕ, false, is_ok, List, [], ◌∷◌, map, Option, Some, None, Result, Ok, Err}
+use Rattle.std.specs.Prelude.{◌≡◌, ◌≤◌, ◌++◌, ℕ, false, is_ok, List, [], ◌∷◌, map, Option, Some, None, Result, Ok, Err}
 use Rattle.macs_config.specs.Config.{this_edition}
 use Rattle.macs_config.specs.Identity.{Identity}
-use Rattle.macs_disk.specs.Disk.{Disk, LeftSince, now}
-use Rattle.macs_disk.specs.States.{Image, settled_state}
+use Rattle.macs_disk.specs.Disk.{Disk, MayLeave, now}
+use Rattle.macs_disk.specs.States.{Image, IsImage}
 use Rattle.macs_journal.specs.declared.fault.JournalFault.{JournalFault}
 use Rattle.macs_journal.specs.declared.recovery.RecoverRefused.{RecoverRefused}
 use Rattle.macs_endpoint.specs.Calls.{IsCall}
@@ -14,26 +14,30 @@ use Rattle.macs_endpoint.specs.State.{Call, Reply}
 use Rattle.macs_endpoint.specs.Value.{EndpointValue, IsSoundEndpoint, device_in, disk_in}
 use Rattle.macs_headline.specs.History.{Formats, Life, Refuses, Serves}
 
--- The power goes at some moment of calls that began at `since` and would have led to `ran`: the disk holds one of the images of that moment,
--- and nothing is pending.
-pub record LosesPower (ran : Disk) (since : ℕ) (new : Disk) : Type 0 where
-  pub image : Image
-  pub left : LeftSince ran since image
+-- ---- how a program ends
+
+-- Calls that began at `since` and would have led to `ran` end at a moment on the way, and another disk has the medium from then on. Whatever
+-- happened to the sectors that were pending, a power loss leaves nothing of it that it could not have left at that moment. That the power is lost
+-- is one way to end so; that the program is killed, or lets go of its disk, are others.
+pub record IsPassedOn (ran : Disk) (since : ℕ) (new : Disk) : Type 0 where
+  pub moment : ℕ
+  pub later : since ≤ moment
+  pub within : moment ≤ ran.clock
   pub sectors : new.sectors ≡ ran.sectors
   pub honest : new.honest ≡ ran.honest
-  pub settled : now new ≡ settled_state image
+  pub images : (image : Image) → MayLeave new image → IsImage (ran.past moment) image
 
 -- ---- deeds
 
 -- What is done with a disk: a `format`, answered or cut short; an opening that is refused, or cut short; the life of an endpoint, from its
--- opening to the end of its last call or into a call that is cut short; or a power loss while nothing is done
+-- opening to the end of its last call or into a call that is cut short; or nothing, while the medium is passed on to another disk
 pub data Deed (D : Type 0) : Type 0 where
   Formatting : (identity : Identity) (result : Result (Unit {0}) JournalFault) → Deed D
   FormattingCut : (identity : Identity) → Deed D
   Refusing : (fault : JournalFault) → Deed D
   OpeningCut : Deed D
   Living : (first : EndpointValue D) (turns : List (Transition D)) (last : EndpointValue D) (cut : Option Call) → Deed D
-  PowerLoss : Deed D
+  PassingOn : Deed D
 
 -- the disk after an opening, refused or not
 abbrev pub disk_after_opening : {D : Type 0} → (D → Disk) → Result (EndpointValue D) (RecoverRefused D) → Disk
@@ -44,23 +48,23 @@ disk_after_opening disk_of (Err refused) = disk_of refused.disk
 abbrev pub LivesFrom : {D : Type 0} → (D → Disk) → D → EndpointValue D → List (Transition D) → EndpointValue D → Type 0
 LivesFrom disk_of disk first turns last = IsOpening disk_of disk (Ok first) × Lives disk_of first turns last
 
--- A deed leads from a disk to a disk. What is cut short is something that would have been answered, and the power goes at some moment of it.
--- Where no call is cut short, an endpoint gives its device as it is.
+-- A deed leads from a disk to a disk. What is cut short would have been answered, and the medium is passed on at some moment of it. Where no call
+-- is cut short, an endpoint gives its device as it is.
 abbrev pub Does : {D : Type 0} → (D → Disk) → D → Deed D → D → Type 0
 Does disk_of old (Formatting identity result) new = IsFormat disk_of old identity result new
 Does {D} disk_of old (FormattingCut identity) new =
     (result : Result (Unit {0}) JournalFault) × (ran : D) × IsFormat disk_of old identity result ran
-    × LosesPower (disk_of ran) (disk_of old).clock (disk_of new)
+    × IsPassedOn (disk_of ran) (disk_of old).clock (disk_of new)
 Does disk_of old (Refusing fault) new = IsOpening disk_of old (Err (record { disk = new; fault = fault }))
 Does {D} disk_of old OpeningCut new =
     (result : Result (EndpointValue D) (RecoverRefused D)) × IsOpening disk_of old result
-    × LosesPower (disk_after_opening disk_of result) (disk_of old).clock (disk_of new)
+    × IsPassedOn (disk_after_opening disk_of result) (disk_of old).clock (disk_of new)
 Does disk_of old (Living first turns last None) new = LivesFrom disk_of old first turns last × (new ≡ device_in last)
 Does {D} disk_of old (Living first turns last (Some call)) new =
     LivesFrom disk_of old first turns last × IsSoundEndpoint last
     × (reply : Reply) × (after : EndpointValue D) × IsCall disk_of last call reply after
-    × LosesPower (disk_in disk_of after) (disk_in disk_of last).clock (disk_of new)
-Does disk_of old PowerLoss new = LosesPower (disk_of old) (disk_of old).clock (disk_of new)
+    × IsPassedOn (disk_in disk_of after) (disk_in disk_of last).clock (disk_of new)
+Does disk_of old PassingOn new = IsPassedOn (disk_of old) (disk_of old).clock (disk_of new)
 
 -- ---- one after another
 
@@ -83,7 +87,7 @@ lives_of_deed seen (FormattingCut identity) = Formats this_edition identity fals
 lives_of_deed seen (Refusing fault) = Refuses this_edition seen fault ∷ []
 lives_of_deed seen OpeningCut = []
 lives_of_deed seen (Living first turns last cut) = Serves this_edition seen (map exchange_of turns) cut ∷ []
-lives_of_deed seen PowerLoss = []
+lives_of_deed seen PassingOn = []
 
 -- those of deeds, beginning with this disk
 abbrev pub lives_of_links : {D : Type 0} → (D → Disk) → D → List (Link D) → List Life

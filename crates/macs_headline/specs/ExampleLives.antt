@@ -1,9 +1,11 @@
 -- The example of a history: its lives, over these images.
-use Rattle.std.specs.Prelude.{◌≡◌, ℕ, true, false, List, [], ◌∷◌, map, replicate, length, Some, None, Ok, Err}
+use Rattle.std.specs.Prelude.{◌≡◌, ℕ, true, false, List, [], ◌∷◌, map, replicate, take, length, Some, None, Ok, Err}
 use Rattle.macs_config.specs.Config.{this_edition}
 use Rattle.macs_config.specs.declared.command.Command.{Command}
 use Rattle.macs_config.specs.declared.command.Command.TheVariants.{TxRemove}
 use Rattle.macs_config.specs.declared.refusal.Refusal.TheVariants.{InUse}
+use Rattle.macs_disk.specs.Disk.{Disk, disk_after_loss}
+use Rattle.macs_disk.specs.Memory.{blank_memory}
 use Rattle.macs_journal.specs.Areas.{slots}
 use Rattle.macs_journal.specs.Found.{HasJournal}
 use Rattle.macs_journal.specs.declared.fault.JournalFault.TheVariants as journal
@@ -22,6 +24,7 @@ use Rattle.macs_endpoint.specs.declared.progress.Step.TheVariants.{Done, Reserve
 use Rattle.macs_headline.specs.Example.{add_peer, check_only, example_identity, example_plain, example_sectors, install_own, install_peer, later_edition, own_frame, own_key, peer_frame, peer_key, peer_sci, remove_peer, stay_strict, use_own, widen}
 use Rattle.macs_headline.specs.ExampleDisk.{anew_content, anew_image, cut_image, served_image, full_content, last_image, new_image}
 use Rattle.macs_headline.specs.ExampleStanding.{full_standing}
+use Rattle.macs_headline.specs.Binding.{HasHistory}
 use Rattle.macs_headline.specs.History.{Formats, Formatted, IsHistory, Life, Refuses, Serves}
 use Rattle.macs_headline.specs.Images.{image_while_formatted}
 
@@ -109,17 +112,27 @@ example_lives =
     ∷ Serves later_edition last_image [] None
     ∷ []
 
+-- all but that opening
+abbrev pub early_lives : List Life
+early_lives = take 8 example_lives
+
+-- a disk in memory that holds the last image, with nothing pending
+abbrev pub last_disk : Disk
+last_disk = disk_after_loss (blank_memory example_sectors).disk last_image
+
 -- a frame went out under the endpoint's key with this packet number
 abbrev pub own_use : ℕ → Use
 own_use pn = record { key = own_key; pn = pn }
 
 -- This is a history: eight frames went out under one key, one frame was delivered, and the journal began anew. While it does so its disk stands
--- for what it stood for, however many bodies are written.
+-- for what it stood for, however many bodies are written. Before the later edition opens it, its disk has this history to both editions.
 pub record IsWorkedHistory : Type 0 where
   pub last : State
   pub history : IsHistory example_sectors example_lives (Formatted last)
   pub used : last.logs.used ≡ map own_use (13 ∷ 9 ∷ 6 ∷ 5 ∷ 4 ∷ 3 ∷ 2 ∷ 1 ∷ [])
   pub given : last.logs.given ≡ record { sci = peer_sci; key = peer_key; pn = 5; kind = AsOk } ∷ []
+  pub early : HasHistory this_edition last_disk early_lives
+  pub older : HasHistory later_edition last_disk early_lives
   pub full : length full_content.records ≡ slots
   pub cut : (count : ℕ) → StandsFor this_edition (cut_image count) full_standing
   pub anew : (anew_content.area ≡ 1) × (anew_content.head.generation ≡ 2) × HasJournal anew_image anew_content

@@ -1,13 +1,17 @@
 -- The headline on frames.
-use Rattle.std.specs.Prelude.{◌≡◌, ◌<◌, ◌≤◌, ◌^◌, ℕ, List, ◌∷◌, Some, Ok}
+use Rattle.std.specs.Prelude.{◌≡◌, ◌≢◌, ◌<◌, ◌≤◌, ◌^◌, ℕ, List, ◌∷◌, Contains, Some, Ok}
 use Rattle.macs_frame.specs.Fields.{octets_of}
 use Rattle.macs_frame.specs.Protection.{protected_frame}
 use Rattle.macs_config.specs.Association.{is_confidential, offset_of}
 use Rattle.macs_config.specs.declared.association.TxSa.{TxSa}
 use Rattle.macs_txsc.specs.Transmit.{name_in}
-use Rattle.macs_endpoint.specs.State.{Protects, Protected, State}
-use Rattle.macs_endpoint.specs.Step.{Step}
-use Rattle.macs_headline.specs.Moments.{Moment}
+use Rattle.macs_endpoint.specs.State.{Logs, Protects, Protected, State}
+use Rattle.macs_endpoint.specs.Step.{Exchange, Step}
+use Rattle.macs_store.specs.Standing.{Standing}
+use Rattle.macs_headline.specs.Answered.{WasAnswered, exchanges_of_lives, lives_at}
+use Rattle.macs_headline.specs.History.{Life, Past, logs_of}
+use Rattle.macs_headline.specs.Moments.{IsFoundAfter, Moment}
+use Rattle.macs_headline.specs.Numbers.{IsBeyondTx}
 
 -- A frame is the standard's (IEEE Std 802.1AE-2018, clauses 9 and 10): the protected frame of the plain one under the encoding association
 -- of that moment, with its mode and its next packet number, 1 to 2^32 - 1; and the number joins those that were used.
@@ -34,3 +38,36 @@ pub record IsStandardFrame (s : State) (plain : List ℕ) (pn : ℕ) (out : List
 abbrev pub FramesAreStandard : ℕ → Type 0
 FramesAreStandard sectors = (s : State) → Moment sectors s → (plain : List ℕ) (pn : ℕ) (out : List ℕ) (new : State)
     → Step s (Protects plain) (Protected (Ok pn) out) new → IsStandardFrame s plain pn out new
+
+-- ---- no number twice
+
+-- `protect` was given this plain frame, and wrote that one with this number
+abbrev pub writing : (plain : List ℕ) (pn : ℕ) (out : List ℕ) → Exchange
+writing plain pn out = record { call = Protects plain; reply = Protected (Ok pn) out }
+
+-- A frame was written in these lives, and it was protected under another key than this, or has another number.
+pub record IsOtherFrame (sectors : ℕ) (lives : List Life) (logs : Logs) (plain : List ℕ) (pn : ℕ) (out key : List ℕ) (number : ℕ) : Type 0 where
+  pub answered : WasAnswered sectors lives (writing plain pn out) logs
+  pub frame : IsStandardFrame answered.at plain pn out answered.after
+  pub other : frame.sa.key ≡ key → pn ≢ number
+
+-- a frame that is written is another than each that was written in this life or in one before it: under the same key it has another number
+abbrev pub WrittenOnce : ℕ → Type 0
+WrittenOnce sectors = (s : State) (m : Moment sectors s) (plain : List ℕ) (pn : ℕ) (out : List ℕ) (new : State) (f : IsStandardFrame s plain pn out new)
+    → Step s (Protects plain) (Protected (Ok pn) out) new
+    → (earlier : List ℕ) (was : ℕ) (given : List ℕ) → Contains (exchanges_of_lives (lives_at m)) (writing earlier was given)
+    → IsOtherFrame sectors (lives_at m) s.logs earlier was given f.sa.key pn
+
+-- ---- what is found is above the number of each
+
+-- A frame was written in these lives, and this was found after them: the key of the frame is spent, and each association that has it begins above
+-- the number.
+pub record IsFoundBeyondFrame (sectors : ℕ) (lives : List Life) (logs : Logs) (plain : List ℕ) (pn : ℕ) (out : List ℕ) (found : Standing) : Type 0 where
+  pub answered : WasAnswered sectors lives (writing plain pn out) logs
+  pub frame : IsStandardFrame answered.at plain pn out answered.after
+  pub beyond : IsBeyondTx found frame.sa.key pn
+
+-- so it is in every image, of each frame that any life before it wrote
+abbrev pub WrittenBelow : ℕ → Type 0
+WrittenBelow sectors = (past : Past) (found : Standing) (f : IsFoundAfter sectors past found) (plain : List ℕ) (pn : ℕ) (out : List ℕ)
+    → Contains (exchanges_of_lives f.lives) (writing plain pn out) → IsFoundBeyondFrame sectors f.lives (logs_of past) plain pn out found

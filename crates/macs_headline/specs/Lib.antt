@@ -2,9 +2,14 @@ pub mod History
 pub mod Moments
 pub mod Numbers
 pub mod Commands
+pub mod Tickets
+pub mod Answered
 pub mod Frames
+pub mod Deliveries
+pub mod Logged
 pub mod Openings
 pub mod Deeds
+pub mod Endings
 pub mod Binding
 pub mod Days
 pub mod Images

@@ -1,13 +1,14 @@
 -- The headline on packet numbers.
-use Rattle.std.specs.Prelude.{◌≡◌, ◌≢◌, ◌<◌, ◌≤◌, ◌+◌, ◌/◌, ◌++◌, ℕ, true, List, AllPairs, Some, IsSomeAnd, Ok}
+use Rattle.std.specs.Prelude.{◌≡◌, ◌≢◌, ◌<◌, ◌≤◌, ◌+◌, ◌/◌, ◌^◌, ◌++◌, ℕ, max, min, true, List, AllPairs, Some, None, IsSomeAnd, Ok}
 use Rattle.macs_config.specs.Config.{Edition, is_spent, rx_fingerprint, tx_fingerprint}
 use Rattle.macs_config.specs.declared.association.RxSa.{RxSa}
 use Rattle.macs_config.specs.declared.association.TxSa.{TxSa}
 use Rattle.macs_disk.specs.States.{Image}
+use Rattle.macs_rxsc.specs.Receive.{Numbers}
 use Rattle.macs_rxsc.specs.declared.verdict.Kind.TheVariants.{Ok as AsOk}
 use Rattle.macs_store.specs.Found.{StandingIs}
 use Rattle.macs_store.specs.Standing.{Standing}
-use Rattle.macs_endpoint.specs.Restart.{Fits}
+use Rattle.macs_endpoint.specs.Restart.{Fits, opened_state}
 use Rattle.macs_endpoint.specs.State.{Call, Delivery, Logs, Reply, State, Use}
 use Rattle.macs_headline.specs.History.{IsHistory, LeadOn, Life, Past, logs_of}
 use Rattle.macs_headline.specs.Moments.{Delivers, IsFoundAfter, Moment, WasGiven, WasUsed}
@@ -41,13 +42,13 @@ UsedOnceAtEnd sectors = (lives : List Life) (past : Past) → IsHistory sectors 
 
 -- Where replay protection is on with window 0, no call delivers as Ok or Delayed what was delivered so in any life on an association of
 -- the same SCI and key.
-abbrev pub GivenOnce : ℕ → Type 0
-GivenOnce sectors = (s : State) → Moment sectors s → s.config.replay.on ≡ true → s.config.replay.window ≡ 0
+abbrev pub GivenApart : ℕ → Type 0
+GivenApart sectors = (s : State) → Moment sectors s → s.config.replay.on ≡ true → s.config.replay.window ≡ 0
     → (call : Call) (reply : Reply) (new : State) (d : Delivery) → Delivers s call reply new d → ¬ WasGiven s.logs d.sci d.key d.pn
 
 -- Whatever the window, no call delivers as Ok what was delivered before this life on an association of the same SCI and key.
-abbrev pub NeverOkAgain : ℕ → Type 0
-NeverOkAgain sectors = (s : State) (m : Moment sectors s) (call : Call) (reply : Reply) (new : State) (d : Delivery)
+abbrev pub OkApart : ℕ → Type 0
+OkApart sectors = (s : State) (m : Moment sectors s) (call : Call) (reply : Reply) (new : State) (d : Delivery)
     → Delivers s call reply new d → d.kind ≡ AsOk → ¬ WasGiven (logs_of m.past) d.sci d.key d.pn
 
 -- ---- what is found is above what was used
@@ -81,3 +82,18 @@ SkipsFew sectors = (s : State) (edition : Edition) (image : Image) (found : Stan
     → StandingIs edition sectors image (Ok found) → (an : ℕ) (before after : TxSa) (next later : ℕ)
     → s.config.tx an ≡ Some before → found.config.tx an ≡ Some after → s.next an ≡ Some next → found.ceilings.tx an ≡ Some later
     → later ≤ next + (s.identity.tx_block + s.identity.tx_block / 2)
+
+-- How far a restart moves the numbers of a receive association: next and lowest become one number. It is no smaller than next was, and at most a block
+-- beyond the greatest number that was seen, and not beyond the last one; where none was seen it is what next was.
+pub record IsMoved (block : ℕ) (old new : Numbers) : Type 0 where
+  pub level : new.lowest ≡ new.next
+  pub rises : old.next ≤ new.next
+  pub unseen : old.seen ≡ None → new.next ≡ old.next
+  pub seen : (last : ℕ) → old.seen ≡ Some last → new.next ≤ max old.next (min (last + block) (2 ^ 32))
+
+-- so each that stays is moved, whatever state it is a restart of
+abbrev pub SkipsFewReceived : ℕ → Type 0
+SkipsFewReceived sectors = (s : State) (edition : Edition) (image : Image) (found : Standing) → Fits edition sectors image s
+    → StandingIs edition sectors image (Ok found) → (sci : List ℕ) (an : ℕ) (before after : RxSa) (old new : Numbers)
+    → s.config.rx sci an ≡ Some before → found.config.rx sci an ≡ Some after → s.numbers sci an ≡ Some old
+    → (opened_state found s.logs).numbers sci an ≡ Some new → IsMoved s.identity.rx_block old new

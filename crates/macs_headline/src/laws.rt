@@ -10,15 +10,23 @@ ghost use Rattle.macs_disk.specs.States.{Image, IsImage};
 ghost use Rattle.macs_disk.specs.declared.file.FileDisk.{FileDisk};
 ghost use Rattle.macs_disk.specs.declared.layout.Layout.{Layout};
 ghost use Rattle.macs_journal.specs.Areas.{least_sectors};
-ghost use Rattle.macs_headline.specs.Binding.{DeedsAreHistories, FramesAreWrittenOnce, IsNewDisk, LivesAreMoments};
-ghost use Rattle.macs_headline.specs.Binding.{LivesKeepCommands, LossesAreCuts};
+ghost use Rattle.macs_headline.specs.Answered.{AnswersAreHeld, MomentsAreHistories};
+ghost use Rattle.macs_headline.specs.Binding.{CallsAreDeeds, ChainsAnswer, ChainsKeepSizes, DeedsAreHistories, EndsAreCuts};
+ghost use Rattle.macs_headline.specs.Binding.{FramesAreDeliveredOnce, FramesAreWrittenOnce};
+ghost use Rattle.macs_headline.specs.Binding.{FusesChangeNone, IsNewDisk, LargerGoOn, LivesAreMoments, LivesFit, LivesKeepCommands, LivesKeepTickets};
+ghost use Rattle.macs_headline.specs.Binding.{NewDeedsAreHistories};
+ghost use Rattle.macs_headline.specs.Binding.{NewDisksHaveHistories, OpeningsFind, PassedOnHaveHistories, RefusalsAreFailures, SettledHaveHistories};
 ghost use Rattle.macs_headline.specs.Commands.{CommandsKept};
-ghost use Rattle.macs_headline.specs.Deeds.{LosesPower};
+ghost use Rattle.macs_headline.specs.Deliveries.{DeliveredBelow, DeliveriesAreVerified, GivenOnce, NeverOkAgain, OthersAreBare};
+ghost use Rattle.macs_headline.specs.Endings.{DroppedPassOn, EndsAreEarlier, KillingsPassOn, LosesPower, PassedOnAgain, PowerLossesPassOn};
+ghost use Rattle.macs_headline.specs.Endings.{ReadsPassOn, SyncsPassOn, WrittenBackPassOn};
 ghost use Rattle.macs_headline.specs.ExampleLives.{IsWorkedHistory};
-ghost use Rattle.macs_headline.specs.Frames.{FramesAreStandard};
-ghost use Rattle.macs_headline.specs.Numbers.{GivenBelow, GivenOnce, NeverOkAgain, NothingForgotten, SkipsFew, UsedBelow};
-ghost use Rattle.macs_headline.specs.Numbers.{UsedOnce, UsedOnceAtEnd};
-ghost use Rattle.macs_headline.specs.Openings.{RefusedForDisk, RefusedForDiskOrBlank};
+ghost use Rattle.macs_headline.specs.Frames.{FramesAreStandard, WrittenBelow, WrittenOnce};
+ghost use Rattle.macs_headline.specs.Logged.{LogsAreAnswers};
+ghost use Rattle.macs_headline.specs.Numbers.{GivenApart, GivenBelow, NothingForgotten, OkApart, SkipsFew, SkipsFewReceived};
+ghost use Rattle.macs_headline.specs.Numbers.{UsedBelow, UsedOnce, UsedOnceAtEnd};
+ghost use Rattle.macs_headline.specs.Tickets.{TicketsKept};
+ghost use Rattle.macs_headline.specs.Openings.{IdentityWasGiven, RefusedForDisk, RefusedForDiskOrBlank};
 
 use crate::example::peer_frame_in_range;
 use macs_disk::laws::a_file_is_left_as_its_disk;
@@ -31,41 +39,116 @@ use macs_disk::{DiskFile, SectorDisk};
 pub fn headline()
     // No life forgets what was used and delivered before it.
     ensures nothing_forgotten { (sectors : ℕ) → NothingForgotten sectors }
+    // The lives up to a moment are a history.
+    ensures moments_are_histories { (sectors : ℕ) → MomentsAreHistories sectors }
+    // What any life answered was answered at a moment of the history, and what it used and delivered is held.
+    ensures answers_are_held { (sectors : ℕ) → AnswersAreHeld sectors }
+    // And nothing else is: what was used and delivered is what some life answered.
+    ensures logs_are_answers { (sectors : ℕ) → LogsAreAnswers sectors }
     // No two frames carry the same key and packet number: at each moment of each life, and at the end.
     ensures used_once { (sectors : ℕ) → UsedOnce sectors }
     ensures used_once_at_end { (sectors : ℕ) → UsedOnceAtEnd sectors }
+    // A frame that is written carries another key or number than each that was, in this life or before it.
+    ensures written_once { (sectors : ℕ) → WrittenOnce sectors }
     // With replay window zero no packet number is delivered twice as verified on one association.
     ensures given_once { (sectors : ℕ) → GivenOnce sectors }
+    ensures given_apart { (sectors : ℕ) → GivenApart sectors }
     // A packet number that was delivered before a restart is never delivered as Ok after it.
     ensures never_ok_again { (sectors : ℕ) → NeverOkAgain sectors }
+    ensures ok_apart { (sectors : ℕ) → OkApart sectors }
     // In every image each number that was used is below the next one found for its key, which is spent.
     ensures used_below { (sectors : ℕ) → UsedBelow sectors }
+    // So is that of each frame which any life wrote.
+    ensures written_below { (sectors : ℕ) → WrittenBelow sectors }
     // The same of each number that was delivered, for its SCI and key.
     ensures given_below { (sectors : ℕ) → GivenBelow sectors }
+    // And of each frame which any life delivered as verified.
+    ensures delivered_below { (sectors : ℕ) → DeliveredBelow sectors }
     // A restart skips at most a block and a half.
     ensures skips_few { (sectors : ℕ) → SkipsFew sectors }
+    // Of a receive association it skips at most a block beyond what was seen, and nothing where nothing was.
+    ensures skips_few_received { (sectors : ℕ) → SkipsFewReceived sectors }
     // An opening finds a prefix of the accepted commands that holds every acknowledged one.
     ensures commands_kept { (sectors : ℕ) → CommandsKept sectors }
+    // In one life tickets are given in order from 1, each is answered at most once, in order, and none is lost.
+    ensures tickets_kept { (sectors : ℕ) → TicketsKept sectors }
     // Each frame is the protected frame of that moment, and its number joins those that were used.
     ensures frames_are_standard { (sectors : ℕ) → FramesAreStandard sectors }
+    // Each frame delivered as Ok or Delayed verifies, and its own number joins those that were delivered.
+    ensures deliveries_are_verified { (sectors : ℕ) → DeliveriesAreVerified sectors }
+    // Each other answer gives nothing that was hidden, and leaves what was used and delivered as it was.
+    ensures others_are_bare { (sectors : ℕ) → OthersAreBare sectors }
     // After `format` has answered Ok an opening is refused for the disk alone.
     ensures refused_for_disk { (sectors : ℕ) → RefusedForDisk sectors }
     // Before that it may also find no journal.
     ensures refused_for_disk_or_blank { (sectors : ℕ) → RefusedForDiskOrBlank sectors }
+    // An opening finds an identity that some `format` was given.
+    ensures identity_was_given { (sectors : ℕ) → IdentityWasGiven sectors }
 {}
 
-/// What is done with a disk that is new, by the contracts of `format`, of `Endpoint::open` and of an
-/// endpoint's calls, with power losses between and inside them, is such a history.
+/// Where a history begins, and which disks have it.
+pub fn beginnings()
+    ensures new { NewDisksHaveHistories }
+    // One with nothing pending has each history after which a program may come upon what is on it.
+    ensures settled { SettledHaveHistories }
+    // A program of a larger edition goes on from the history that those of a smaller one made.
+    ensures larger { LargerGoOn }
+    // The next disk over the same medium has the history of the one before.
+    ensures passed_on { PassedOnHaveHistories }
+    // So has a disk with a fuse before it, and one without.
+    ensures fuses { FusesChangeNone }
+{}
+
+/// Each way in which a program may end passes the medium of its disk on, in a call or between two.
+pub fn endings<D: SectorDisk>()
+    // Power is lost.
+    ensures power_lost { PowerLossesPassOn }
+    // The program is killed, and no power is lost.
+    ensures killed { KillingsPassOn }
+    // It lets go of its disk while sectors are pending.
+    ensures dropped { DroppedPassOn }
+    // Some of the pending sectors reach the medium meanwhile.
+    ensures written_back { WrittenBackPassOn D.disk }
+    // The owner reads, or syncs.
+    ensures read { ReadsPassOn D.disk }
+    ensures synced { SyncsPassOn D.disk }
+    // What ended in earlier calls ended in those.
+    ensures earlier { EndsAreEarlier }
+    // One of these comes after another.
+    ensures again { PassedOnAgain }
+{}
+
+/// What is done with a disk that has a history, by the contracts of `format`, of `Endpoint::open` and of an
+/// endpoint's calls, wherever a program ends, continues that history.
 pub fn histories<D: SectorDisk>()
+    // What a call's contract says makes a deed.
+    ensures deeds { CallsAreDeeds D.disk }
+    // Deeds, one after another, continue the history of the disk.
     ensures whole { DeedsAreHistories D.disk }
+    // A disk keeps its size.
+    ensures sizes { ChainsKeepSizes D.disk }
+    // What their endpoints answered is among what the lives answered.
+    ensures answers { ChainsAnswer D.disk }
+    // From a disk that is new they are one.
+    ensures from_new { NewDeedsAreHistories D.disk }
+    // An opening finds what may be found after the history.
+    ensures found { OpeningsFind D.disk }
     // An endpoint that lives is at a moment of it.
     ensures under_way { LivesAreMoments D.disk }
-    // A power loss while it lives is one in its opening, or inside one of its calls.
-    ensures cut { LossesAreCuts D.disk }
+    // Where the medium is passed on while it lives, that is in its opening, or inside one of its calls.
+    ensures cut { EndsAreCuts D.disk }
+    // An opening is refused only where a device call failed, or where the disk was not formatted for sure.
+    ensures refusals { RefusalsAreFailures D.disk }
+    // What is left after it is opened as a restart of the state in which it ended.
+    ensures fit { LivesFit D.disk }
     // What it acknowledged is kept.
     ensures commands { LivesKeepCommands D.disk }
+    // Its tickets are kept, on every disk.
+    ensures tickets { LivesKeepTickets D.disk }
     // A frame that it writes is the standard's, with a number that its key had in no life before.
     ensures frames { FramesAreWrittenOnce D.disk }
+    // A frame that it delivers as verified verifies, and with window zero its number was so delivered in no life.
+    ensures deliveries { FramesAreDeliveredOnce D.disk }
 {}
 
 /// There are histories, over real images and frames: with power losses in `format`, between two steps of a

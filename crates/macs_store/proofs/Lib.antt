@@ -9,6 +9,7 @@ mod StartedCommands
 pub mod EachStep
 pub mod ToTheEnd
 pub mod OneStanding
+pub mod LargerEditions
 pub mod Filling
 pub mod Ascending
 pub mod Making

@@ -1,4 +1,5 @@
 pub mod Standing
+pub mod Editions
 pub mod Commands
 pub mod Replay
 pub mod Snapshot

@@ -4,7 +4,7 @@ use Rattle.std.specs.Prelude.{None}
 use Rattle.macs_endpoint.specs.Lives.{Lives, Transition}
 use Rattle.macs_endpoint.specs.State.{Advanced, Advances, Commands, Protects, Protected, Ran, Submits, Submitted}
 use Rattle.macs_headline.specs.Deeds.{Chain, Formatting, Link, Living}
-use Rattle.macs_headline.proofs.Chains.{deeds-are-histories}
+use Rattle.macs_headline.proofs.Chains.{new-deeds-are-histories}
 use Rattle.macs_headline.proofs.RefusedDays.{day-failed, is-refused-day}
 use Rattle.macs_headline.proofs.day.a_day.Goals as goal
 
@@ -47,7 +47,7 @@ returns-clause-opened g c =
       last = last;
       called = refl;
       chain = chain;
-      history = deeds-are-histories g.D.SectorDisk.disk g.met.D.SectorDisk.sound c.args.disk c.into_disk.result links c.requires.new chain;
+      history = new-deeds-are-histories g.D.SectorDisk.disk g.met.D.SectorDisk.sound c.args.disk c.into_disk.result links c.requires.new chain;
     }
 
 pub returns-in_err-endpoint-clause-failed : goal.returns-in_err-endpoint-clause-failed

@@ -1,22 +1,86 @@
+use Rattle.macs_headline.proofs.Answered.{answers-are-held, delivered-below, given-once, moments-are-histories, never-ok-again, written-below, written-once}
 use Rattle.macs_headline.proofs.Commands.{commands-kept}
+use Rattle.macs_headline.proofs.Deliveries.{deliveries-are-verified, others-are-bare}
+use Rattle.macs_headline.proofs.Identities.{identity-was-given}
+use Rattle.macs_headline.proofs.Logged.{logs-are-answers}
 use Rattle.macs_headline.proofs.Logs.{nothing-forgotten}
-use Rattle.macs_headline.proofs.Numbers.{given-below, given-once, never-ok-again, skips-few, used-below, used-once, used-once-at-end}
+use Rattle.macs_headline.proofs.Numbers.{given-apart, given-below, ok-apart, skips-few, skips-few-received, used-below, used-once, used-once-at-end}
 use Rattle.macs_headline.proofs.Openings.{refused-for-disk, refused-for-disk-or-blank}
 use Rattle.macs_headline.proofs.Ranges.{frames-are-standard}
+use Rattle.macs_headline.proofs.Tickets.{tickets-kept}
 use Rattle.macs_headline.proofs.laws.headline.Goals as goal
 
-pub returns : goal.returns
-returns c = record {
-  nothing_forgotten = nothing-forgotten;
-  used_once = used-once;
-  used_once_at_end = used-once-at-end;
-  given_once = given-once;
-  never_ok_again = never-ok-again;
-  used_below = used-below;
-  given_below = given-below;
-  skips_few = skips-few;
-  commands_kept = commands-kept;
-  frames_are_standard = frames-are-standard;
-  refused_for_disk = refused-for-disk;
-  refused_for_disk_or_blank = refused-for-disk-or-blank;
-}
+pub returns-clause-nothing_forgotten : goal.returns-clause-nothing_forgotten
+returns-clause-nothing_forgotten c = nothing-forgotten
+
+pub returns-clause-moments_are_histories : goal.returns-clause-moments_are_histories
+returns-clause-moments_are_histories c = moments-are-histories
+
+pub returns-clause-logs_are_answers : goal.returns-clause-logs_are_answers
+returns-clause-logs_are_answers c = logs-are-answers
+
+pub returns-clause-given_apart : goal.returns-clause-given_apart
+returns-clause-given_apart c = given-apart
+
+pub returns-clause-ok_apart : goal.returns-clause-ok_apart
+returns-clause-ok_apart c = ok-apart
+
+pub returns-clause-written_below : goal.returns-clause-written_below
+returns-clause-written_below c = written-below
+
+pub returns-clause-delivered_below : goal.returns-clause-delivered_below
+returns-clause-delivered_below c = delivered-below
+
+pub returns-clause-skips_few_received : goal.returns-clause-skips_few_received
+returns-clause-skips_few_received c = skips-few-received
+
+pub returns-clause-used_once : goal.returns-clause-used_once
+returns-clause-used_once c = used-once
+
+pub returns-clause-used_once_at_end : goal.returns-clause-used_once_at_end
+returns-clause-used_once_at_end c = used-once-at-end
+
+pub returns-clause-given_once : goal.returns-clause-given_once
+returns-clause-given_once c = given-once
+
+pub returns-clause-never_ok_again : goal.returns-clause-never_ok_again
+returns-clause-never_ok_again c = never-ok-again
+
+pub returns-clause-used_below : goal.returns-clause-used_below
+returns-clause-used_below c = used-below
+
+pub returns-clause-given_below : goal.returns-clause-given_below
+returns-clause-given_below c = given-below
+
+pub returns-clause-skips_few : goal.returns-clause-skips_few
+returns-clause-skips_few c = skips-few
+
+pub returns-clause-commands_kept : goal.returns-clause-commands_kept
+returns-clause-commands_kept c = commands-kept
+
+pub returns-clause-tickets_kept : goal.returns-clause-tickets_kept
+returns-clause-tickets_kept c = tickets-kept
+
+pub returns-clause-frames_are_standard : goal.returns-clause-frames_are_standard
+returns-clause-frames_are_standard c = frames-are-standard
+
+pub returns-clause-deliveries_are_verified : goal.returns-clause-deliveries_are_verified
+returns-clause-deliveries_are_verified c = deliveries-are-verified
+
+pub returns-clause-answers_are_held : goal.returns-clause-answers_are_held
+returns-clause-answers_are_held c = answers-are-held
+
+pub returns-clause-written_once : goal.returns-clause-written_once
+returns-clause-written_once c = written-once
+
+pub returns-clause-others_are_bare : goal.returns-clause-others_are_bare
+returns-clause-others_are_bare c = others-are-bare
+
+pub returns-clause-refused_for_disk : goal.returns-clause-refused_for_disk
+returns-clause-refused_for_disk c = refused-for-disk
+
+pub returns-clause-refused_for_disk_or_blank : goal.returns-clause-refused_for_disk_or_blank
+returns-clause-refused_for_disk_or_blank c = refused-for-disk-or-blank
+
+pub returns-clause-identity_was_given : goal.returns-clause-identity_was_given
+returns-clause-identity_was_given c = identity-was-given

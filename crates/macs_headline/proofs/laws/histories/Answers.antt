@@ -1,18 +1,47 @@
-use Rattle.macs_headline.proofs.Chains.{deeds-are-histories}
-use Rattle.macs_headline.proofs.Moments.{frames-are-written-once, lives-are-moments, lives-keep-commands, losses-are-cuts}
+use Rattle.macs_headline.proofs.Chains.{calls-are-deeds, chains-answer, chains-keep-sizes, deeds-are-histories, new-deeds-are-histories}
+use Rattle.macs_headline.proofs.Moments.{ends-are-cuts, frames-are-delivered-once, frames-are-written-once, lives-are-moments, lives-fit, lives-keep-commands, openings-find}
+use Rattle.macs_headline.proofs.Refusals.{refusals-are-failures}
+use Rattle.macs_headline.proofs.Tickets.{lives-keep-tickets}
 use Rattle.macs_headline.proofs.laws.histories.Goals as goal
+
+pub returns-clause-sizes : goal.returns-clause-sizes
+returns-clause-sizes g c = chains-keep-sizes g.D.SectorDisk.disk g.met.D.SectorDisk.sound
+
+pub returns-clause-fit : goal.returns-clause-fit
+returns-clause-fit g c = lives-fit g.D.SectorDisk.disk g.met.D.SectorDisk.sound
 
 pub returns-clause-whole : goal.returns-clause-whole
 returns-clause-whole g c = deeds-are-histories g.D.SectorDisk.disk g.met.D.SectorDisk.sound
+
+pub returns-clause-from_new : goal.returns-clause-from_new
+returns-clause-from_new g c = new-deeds-are-histories g.D.SectorDisk.disk g.met.D.SectorDisk.sound
 
 pub returns-clause-under_way : goal.returns-clause-under_way
 returns-clause-under_way g c = lives-are-moments g.D.SectorDisk.disk g.met.D.SectorDisk.sound
 
 pub returns-clause-cut : goal.returns-clause-cut
-returns-clause-cut g c = losses-are-cuts g.D.SectorDisk.disk
+returns-clause-cut g c = ends-are-cuts g.D.SectorDisk.disk
 
 pub returns-clause-commands : goal.returns-clause-commands
 returns-clause-commands g c = lives-keep-commands g.D.SectorDisk.disk g.met.D.SectorDisk.sound
 
 pub returns-clause-frames : goal.returns-clause-frames
 returns-clause-frames g c = frames-are-written-once g.D.SectorDisk.disk g.met.D.SectorDisk.sound
+
+pub returns-clause-deliveries : goal.returns-clause-deliveries
+returns-clause-deliveries g c = frames-are-delivered-once g.D.SectorDisk.disk g.met.D.SectorDisk.sound
+
+pub returns-clause-refusals : goal.returns-clause-refusals
+returns-clause-refusals g c = refusals-are-failures g.D.SectorDisk.disk g.met.D.SectorDisk.sound
+
+pub returns-clause-deeds : goal.returns-clause-deeds
+returns-clause-deeds g c = calls-are-deeds g.D.SectorDisk.disk
+
+pub returns-clause-found : goal.returns-clause-found
+returns-clause-found g c = openings-find g.D.SectorDisk.disk g.met.D.SectorDisk.sound
+
+pub returns-clause-tickets : goal.returns-clause-tickets
+returns-clause-tickets g c = lives-keep-tickets g.D.SectorDisk.disk
+
+pub returns-clause-answers : goal.returns-clause-answers
+returns-clause-answers g c = chains-answer g.D.SectorDisk.disk

@@ -1,0 +1,87 @@
+-- An opening is refused only where a device call failed, or where no life formatted the disk for sure.
+use Rattle.std.proofs.Common.{◌≡◌, ◌⊎◌, inl, inr, ℕ, Bool, true, false, List, [], ◌∷◌, refl, sym, ◌∙◌, subst}
+use Rattle.std.specs.Prelude.{Contains}
+use Rattle.macs_config.specs.Config.{Edition, this_edition}
+use Rattle.macs_config.specs.Identity.{Identity}
+use Rattle.macs_disk.specs.Disk.{Disk, IsHonest, now}
+use Rattle.macs_disk.specs.States.{Image, IsSound}
+use Rattle.macs_journal.specs.Work.{FailsWith}
+use Rattle.macs_journal.specs.declared.fault.JournalFault.{JournalFault}
+use Rattle.macs_journal.specs.declared.fault.JournalFault.TheVariants as variant
+use Rattle.macs_endpoint.specs.Opening.{RefusesOpening}
+use Rattle.macs_endpoint.specs.Restart.{Fits}
+use Rattle.macs_endpoint.specs.State.{State}
+use Rattle.macs_headline.specs.Binding.{IsFormatting, RefusalsAreFailures}
+use Rattle.macs_headline.specs.History.{Blank, FitsPast, FormatLeads, Formats, Formatted, LeadOn, Leads, Life, Past, Refuses, Serves}
+use Rattle.macs_headline.proofs.Chains.{history-covers}
+use Rattle.macs_headline.proofs.Lists.{contains-cases, contains-none}
+use Rattle.macs_headline.proofs.Living.{why-refused}
+use Rattle.macs_headline.proofs.Losses.{IsCovered, covered-seen}
+use Rattle.macs_headline.proofs.Openings.{refused-for-disk-or-blank}
+
+-- the disk is formatted for sure
+abbrev IsFormatted : Past → Type 0
+IsFormatted (Blank identities) = ⊥
+IsFormatted (Formatted s) = Unit {0}
+
+by_format : (old : Past) (edition : Edition) (identity : Identity) (new : Past) → FormatLeads old edition identity true new → IsFormatted new
+by_format (Blank identities) edition identity new is = subst IsFormatted (sym is) tt
+by_format (Formatted s) edition identity new h = absurd h
+
+stays_formatted : (old : Past) (edition : Edition) (identity : Identity) (is_ok : Bool) (new : Past) → FormatLeads old edition identity is_ok new → IsFormatted old
+    → IsFormatted new
+stays_formatted (Blank identities) edition identity is_ok new h formatted = absurd formatted
+stays_formatted (Formatted s) edition identity true new h formatted = absurd h
+stays_formatted (Formatted s) edition identity false new is formatted = subst IsFormatted (sym is) tt
+
+module _ (sectors : ℕ) where
+  formats : (old : Past) (life : Life) (new : Past) → Leads sectors old life new → IsFormatting life → IsFormatted new
+  formats old (Formats edition identity true) new h is = by_format old edition identity new h
+  formats old (Formats edition identity false) new h is = absurd is
+  formats old (Refuses edition image fault) new h is = absurd is
+  formats old (Serves edition image exchanges cut) new (last, life, in_range, same) is = subst IsFormatted (sym same) tt
+
+  stays : (old : Past) (life : Life) (new : Past) → Leads sectors old life new → IsFormatted old → IsFormatted new
+  stays old (Formats edition identity is_ok) new h is = stays_formatted old edition identity is_ok new h is
+  stays old (Refuses edition image fault) new h is = subst IsFormatted (sym h.2) is
+  stays old (Serves edition image exchanges cut) new (last, life, in_range, same) is = subst IsFormatted (sym same) tt
+
+  stay : (old : Past) (lives : List Life) (new : Past) → LeadOn sectors old lives new → IsFormatted old → IsFormatted new
+  stay old [] new same is = subst IsFormatted (sym same) is
+  stay old (life ∷ lives) new h is = stay h.0 lives new h.2 (stays old life h.0 h.1 is)
+
+  formatted_by : (old : Past) (lives : List Life) (new : Past) (life : Life) → LeadOn sectors old lives new → Contains lives life → IsFormatting life → IsFormatted new
+  formatted_by old [] new life h among is = absurd (contains-none _ among)
+  formatted_by old (first ∷ lives) new life h among is = elim (contains-cases first lives life among) [
+    | inl here ↦ stay h.0 lives new h.2 (formats old first h.0 h.1 (subst IsFormatting here is))
+    | inr later ↦ formatted_by h.0 lives new life h.2 later is
+  ]
+
+fits_one : (sectors : ℕ) (s : State) (image : Image) → FitsPast this_edition sectors (Formatted s) image → (s : State) × Fits this_edition sectors image s
+fits_one sectors s image fits = (s, fits)
+
+-- a refused opening after some past
+by_past : {D : Type 0} (disk_of : D → Disk) (sound : (it : D) → IsHonest (disk_of it) → IsSound (now (disk_of it))) (disk left : D) (fault : JournalFault) (past : Past)
+    → IsCovered (disk_of disk).sectors past (disk_of disk) → RefusesOpening disk_of disk left fault
+    → (fault ≡ variant.Disk) ⊎ ((fault ≡ variant.NotFormatted) × (¬ IsFormatted past))
+by_past disk_of sound disk left fault (Blank identities) covered opening =
+    let old = disk_of disk in
+    let honest : IsHonest (disk_of left) = opening.refused.works.honest ∙ covered.honest in
+    let may_see = covered-seen old.sectors (Blank identities) old (sound disk covered.honest) covered in
+    let why = why-refused old.sectors (now old).seen fault (λ other. opening.refused.found other honest) in
+    elim (refused-for-disk-or-blank old.sectors identities this_edition (now old).seen fault (Blank identities) (may_see, why, refl)) [
+      | inl disk ↦ inl disk
+      | inr blank ↦ inr (blank, λ is. is)
+    ]
+by_past disk_of sound disk left fault (Formatted s) covered opening =
+    let honest : IsHonest (disk_of left) = opening.refused.works.honest ∙ covered.honest in
+    inl (opening.opens honest (λ image may. fits_one (disk_of disk).sectors s image (covered.images image may)))
+
+pub refusals-are-failures : {D : Type 0} (disk_of : D → Disk) (sound : (it : D) → IsHonest (disk_of it) → IsSound (now (disk_of it))) → RefusalsAreFailures disk_of
+refusals-are-failures disk_of sound disk before refused h opening =
+    let old = disk_of disk in
+    let new = disk_of refused.disk in
+    elim (by_past disk_of sound disk refused.disk refused.fault h.past (history-covers old before h) opening) [
+      | inl for_disk ↦ inl (for_disk, subst (λ (at : JournalFault). FailsWith old new at) for_disk opening.refused.fails)
+      | inr blank ↦ inr (blank.0, λ life among is. blank.1 (formatted_by old.sectors (Blank []) before h.past life h.history among is))
+    ]

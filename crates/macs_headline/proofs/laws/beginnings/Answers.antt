@@ -1,0 +1,18 @@
+use Rattle.macs_headline.proofs.Chains.{fuses-change-none, new-disks, passed-on, settled-disks}
+use Rattle.macs_headline.proofs.Older.{older}
+use Rattle.macs_headline.proofs.laws.beginnings.Goals as goal
+
+pub returns-clause-new : goal.returns-clause-new
+returns-clause-new c = new-disks
+
+pub returns-clause-settled : goal.returns-clause-settled
+returns-clause-settled c = settled-disks
+
+pub returns-clause-larger : goal.returns-clause-larger
+returns-clause-larger c = older
+
+pub returns-clause-passed_on : goal.returns-clause-passed_on
+returns-clause-passed_on c = passed-on
+
+pub returns-clause-fuses : goal.returns-clause-fuses
+returns-clause-fuses c = fuses-change-none

@@ -1,0 +1,103 @@
+-- The headline on frames that are received.
+use Rattle.std.specs.Prelude.{◌≡◌, ◌≢◌, true, ℕ, List, [], ◌∷◌, Contains, Some, Result, Ok}
+use Rattle.macs_frame.specs.Fields.{octets_of}
+use Rattle.macs_frame.specs.Opening.{Verified, bare_frame}
+use Rattle.macs_frame.specs.Tag.{tag_of}
+use Rattle.macs_config.specs.declared.association.RxSa.{RxSa}
+use Rattle.macs_rxsc.specs.declared.verdict.Kind.{Kind}
+use Rattle.macs_rxsc.specs.declared.verdict.Kind.TheVariants.{Delayed, Ok as AsOk, Untagged}
+use Rattle.macs_rxsc.specs.declared.verdict.Verdict.{Verdict}
+use Rattle.macs_rxsc.specs.declared.verdict.Verdict.TheVariants.{Delivered}
+use Rattle.macs_endpoint.specs.declared.fault.Stopped.{Stopped}
+use Rattle.macs_endpoint.specs.State.{Logs, Receives, Received, State}
+use Rattle.macs_endpoint.specs.Step.{Exchange, Step}
+use Rattle.macs_store.specs.Standing.{Standing}
+use Rattle.macs_headline.specs.Answered.{WasAnswered, exchanges_of_lives, lives_at}
+use Rattle.macs_headline.specs.History.{Life, Past, logs_of}
+use Rattle.macs_headline.specs.Moments.{IsFoundAfter, Moment}
+use Rattle.macs_headline.specs.Numbers.{IsBeyondRx}
+
+-- ---- what is delivered as verified
+
+-- delivered as verified: as Ok, or as Delayed
+abbrev pub IsVerifiedKind : Kind → Type 0
+IsVerifiedKind AsOk = Unit {0}
+IsVerifiedKind Delayed = Unit {0}
+IsVerifiedKind kind = ⊥
+
+-- A frame verifies (IEEE Std 802.1AE-2018, clause 10) under the key, the SCI and the offset of an association of that moment, which has the number
+-- that its tag names; it gives its plain frame and no other; and its packet number joins those that were delivered.
+pub record IsVerifiedDelivery (s : State) (frame : List ℕ) (kind : Kind) (out : List ℕ) (new : State) : Type 0 where
+  pub sci : List ℕ
+  pub sa : RxSa
+  pub association : s.config.rx sci (tag_of frame).an ≡ Some sa
+  pub verified : Verified frame sa.key sci (octets_of sa.offset) out
+  pub only : (other : List ℕ) → Verified frame sa.key sci (octets_of sa.offset) other → other ≡ out
+  pub logged : new.logs.given ≡ record { sci = sci; key = sa.key; pn = (tag_of frame).pn; kind = kind } ∷ s.logs.given
+
+-- each frame that is delivered as Ok or Delayed is so delivered
+abbrev pub DeliveriesAreVerified : ℕ → Type 0
+DeliveriesAreVerified sectors = (s : State) → Moment sectors s → (frame out : List ℕ) (kind : Kind) (new : State) → IsVerifiedKind kind
+    → Step s (Receives frame) (Received (Ok (Delivered kind)) out) new → IsVerifiedDelivery s frame kind out new
+
+-- ---- all other answers
+
+-- an answer that a frame is delivered as verified
+abbrev pub IsVerifiedAnswer : Result Verdict Stopped → Type 0
+IsVerifiedAnswer (Ok (Delivered kind)) = IsVerifiedKind kind
+IsVerifiedAnswer answer = ⊥
+
+-- what `out` holds after another answer: a frame without a tag whole, one that is delivered though it did not verify without its SecTAG and ICV,
+-- and nothing of one that is discarded or held back, or that a stopped endpoint was given
+abbrev pub out_after : List ℕ → Result Verdict Stopped → List ℕ
+out_after frame (Ok (Delivered Untagged)) = frame
+out_after frame (Ok (Delivered kind)) = bare_frame frame
+out_after frame answer = []
+
+-- each other answer gives that, and nothing joins what was used and delivered
+abbrev pub OthersAreBare : ℕ → Type 0
+OthersAreBare sectors = (s : State) → Moment sectors s → (frame out : List ℕ) (answer : Result Verdict Stopped) (new : State) → ¬ IsVerifiedAnswer answer
+    → Step s (Receives frame) (Received answer out) new → (out ≡ out_after frame answer) × (new.logs ≡ s.logs)
+
+-- ---- no number twice
+
+-- `receive` was given this frame, and delivered it so
+abbrev pub delivering : (frame : List ℕ) → Kind → (out : List ℕ) → Exchange
+delivering frame kind out = record { call = Receives frame; reply = Received (Ok (Delivered kind)) out }
+
+-- A frame was delivered so in these lives, and then it verified under another SCI or key than these, or it has another number.
+pub record IsOtherDelivery (sectors : ℕ) (lives : List Life) (logs : Logs) (frame : List ℕ) (kind : Kind) (out sci key : List ℕ) (pn : ℕ) : Type 0 where
+  pub answered : WasAnswered sectors lives (delivering frame kind out) logs
+  pub delivery : IsVerifiedDelivery answered.at frame kind out answered.after
+  pub other : delivery.sci ≡ sci → delivery.sa.key ≡ key → (tag_of frame).pn ≢ pn
+
+-- Where replay protection is on with window 0, a frame that is delivered as verified is another than each that was so delivered in this life or in
+-- one before it: on an association of the same SCI and key it has another number.
+abbrev pub GivenOnce : ℕ → Type 0
+GivenOnce sectors = (s : State) (m : Moment sectors s) → s.config.replay.on ≡ true → s.config.replay.window ≡ 0
+    → (frame out : List ℕ) (kind : Kind) (new : State) (d : IsVerifiedDelivery s frame kind out new)
+    → Step s (Receives frame) (Received (Ok (Delivered kind)) out) new
+    → (earlier given : List ℕ) (was : Kind) → IsVerifiedKind was → Contains (exchanges_of_lives (lives_at m)) (delivering earlier was given)
+    → IsOtherDelivery sectors (lives_at m) s.logs earlier was given d.sci d.sa.key (tag_of frame).pn
+
+-- Whatever the window, a frame that is delivered as Ok is another than each that was delivered as verified in a life before this one.
+abbrev pub NeverOkAgain : ℕ → Type 0
+NeverOkAgain sectors = (s : State) (m : Moment sectors s)
+    → (frame out : List ℕ) (new : State) (d : IsVerifiedDelivery s frame AsOk out new)
+    → Step s (Receives frame) (Received (Ok (Delivered AsOk)) out) new
+    → (earlier given : List ℕ) (was : Kind) → IsVerifiedKind was → Contains (exchanges_of_lives m.lives) (delivering earlier was given)
+    → IsOtherDelivery sectors m.lives (logs_of m.past) earlier was given d.sci d.sa.key (tag_of frame).pn
+
+-- ---- what is found is above the number of each
+
+-- A frame was delivered so in these lives, and this was found after them: the key of the association under which it verified is spent for its SCI,
+-- and each association of the SCI that has the key begins above the number.
+pub record IsFoundBeyondDelivery (sectors : ℕ) (lives : List Life) (logs : Logs) (frame : List ℕ) (kind : Kind) (out : List ℕ) (found : Standing) : Type 0 where
+  pub answered : WasAnswered sectors lives (delivering frame kind out) logs
+  pub delivery : IsVerifiedDelivery answered.at frame kind out answered.after
+  pub beyond : IsBeyondRx found delivery.sci delivery.sa.key (tag_of frame).pn
+
+-- so it is in every image, of each frame that any life before it delivered as verified
+abbrev pub DeliveredBelow : ℕ → Type 0
+DeliveredBelow sectors = (past : Past) (found : Standing) (f : IsFoundAfter sectors past found) (frame out : List ℕ) (kind : Kind) → IsVerifiedKind kind
+    → Contains (exchanges_of_lives f.lives) (delivering frame kind out) → IsFoundBeyondDelivery sectors f.lives (logs_of past) frame kind out found
