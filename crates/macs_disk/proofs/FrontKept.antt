@@ -19,6 +19,20 @@ nothing-more old mid new first second = record {
   images = λ image left. first.images image (second.images image left);
 }
 
+-- a power loss that left one of the images
+pub nothing-lost : (old new : FileState) → IsFileImage old new.durable → new.block ≡ old.block → (old.is_size_durable ≡ true → (new.size ≡ old.size) × (new.is_size_durable ≡ true))
+    → ((n : ℕ) → new.pending n ≡ false) → HasNothingNew old new
+nothing-lost old new is block size none = record {
+  block = block;
+  size = size;
+  images = λ image left. record {
+    kept = λ n k clean lt.
+        subst (λ (b : ℕ). image (b * n + k) ≡ new.durable (b * n + k)) block (left.kept n k (none n) (subst (λ (b : ℕ). k < b) (sym block) lt))
+        ∙ is.kept n k clean lt;
+    octets = left.octets;
+  };
+}
+
 -- a claim, done or failed
 pub nothing-claimed : {T E : Type 0} (old new : FileState) (result : Result T E) → ClaimsFile old new result → HasNothingNew old new
 nothing-claimed old new (Ok x) claims = subst (HasNothingNew old) (sym claims.ok)

@@ -223,12 +223,15 @@ pub fn files_are_found_again()
         → IsOpened new 0 again disk → (again ≡ layout) × (disk.sectors ≡ sectors) }
 {}
 
-/// No call leaves nothing new of a file, nor does a sync that failed, nor do calls one after the other of
-/// which none does.
+/// What leaves nothing new of a file: no call, calls one after the other of which each leaves nothing new, a sync
+/// that failed, and a power loss.
 pub fn nothing_new_of_a_file()
     ensures none { (file : FileState) → HasNothingNew file file }
     ensures more { (old mid new : FileState) → HasNothingNew old mid → HasNothingNew mid new → HasNothingNew old new }
     ensures doubt { (file : FileState) → HasNothingNew file (file_in_doubt file) }
+    ensures lost { (old new : FileState) → IsFileImage old new.durable → new.block ≡ old.block
+        → (old.is_size_durable ≡ true → (new.size ≡ old.size) × (new.is_size_durable ≡ true))
+        → ((n : ℕ) → new.pending n ≡ false) → HasNothingNew old new }
 {}
 
 /// No octet of a file, and no block of a device that suits its layout, is in two sectors.
