@@ -34,7 +34,7 @@ zeros-are : zero_sector ≡ replicate 512 0
 unfolding zero_sector
 zeros-are = refl
 
-unmarked : is_marked zero_sector ≡ false
+pub unmarked : is_marked zero_sector ≡ false
 unfolding zero_sector
 unmarked = refl
 
@@ -44,7 +44,7 @@ read-written old new at xs is size =
     ap (λ (f : FileState). values_from f.seen at 512) is
     ∙ values-same (file_after_write old at xs).seen (put_from old.seen at xs) at 512 (λ k lt. write-seen old at xs (at + k)) ∙ values-written old.seen at xs size
 
-read-elsewhere : (old new : FileState) (at there : ℕ) (xs : List ℕ) → new ≡ file_after_write old there xs → (at + 512 ≤ there) ⊎ (there + length xs ≤ at)
+pub read-elsewhere : (old new : FileState) (at there : ℕ) (xs : List ℕ) → new ≡ file_after_write old there xs → (at + 512 ≤ there) ⊎ (there + length xs ≤ at)
     → values_from new.seen at 512 ≡ values_from old.seen at 512
 read-elsewhere old new at there xs is (inl before) =
     ap (λ (f : FileState). values_from f.seen at 512) is
@@ -54,22 +54,23 @@ read-elsewhere old new at there xs is (inr behind) =
     ∙ values-same (file_after_write old there xs).seen old.seen at 512 (λ k lt. write-seen old there xs (at + k) ∙ put-behind old.seen there (at + k) xs (omega (arith, behind)))
 
 -- the size of a file that was written
-size-written : (old new : FileState) (at : ℕ) (xs : List ℕ) → new ≡ file_after_write old at xs → 0 < length xs → new.size ≡ max old.size (at + length xs)
+pub size-written : (old new : FileState) (at : ℕ) (xs : List ℕ) → new ≡ file_after_write old at xs → 0 < length xs → new.size ≡ max old.size (at + length xs)
 size-written old new at xs is some = ap (λ (f : FileState). f.size) is ∙ write-size old at xs some
 
-block-written : (old new : FileState) (at : ℕ) (xs : List ℕ) → new ≡ file_after_write old at xs → new.block ≡ old.block
+pub block-written : (old new : FileState) (at : ℕ) (xs : List ℕ) → new ≡ file_after_write old at xs → new.block ≡ old.block
 block-written old new at xs is = ap (λ (f : FileState). f.block) is ∙ write-block old at xs
 
 pub sure-written : (old new : FileState) (at : ℕ) (xs : List ℕ) → new ≡ file_after_write old at xs → IsSure old → IsSure new
 sure-written old new at xs is sure = ap (λ (f : FileState). f.is_sure) is ∙ write-sure old at xs ∙ sure
 
-pub erased : (old new : FileState) → IsSure old → new ≡ file_after_write old (place Spaced 1028) (replicate 512 0) → IsMarkedAs old new Packed
-erased old new sure is =
+pub erased : (old new : FileState) → IsSure old → place Spaced 1028 < old.size → new ≡ file_after_write old (place Spaced 1028) (replicate 512 0) → IsMarkedAs old new Packed
+erased old new sure reaches is =
     let some : length (replicate {A = ℕ} 512 0) ≡ 512 = length-replicate {A = ℕ} 512 0 in
     let size = size-written old new (place Spaced 1028) (replicate 512 0) is (omega (arith, some)) in
     record {
       block = block-written old new (place Spaced 1028) (replicate 512 0) is;
       longer = omega (arith, size);
+      size = λ whole. omega (arith, size, some, reaches, whole);
       is_sure = sure-written old new (place Spaced 1028) (replicate 512 0) is sure;
       has = inr (read-written old new (place Spaced 1028) (replicate 512 0) is some ∙ sym zeros-are);
     }
@@ -80,6 +81,7 @@ not-reached old new sure same short =
     record {
       block = ap (λ (f : FileState). f.block) same;
       longer = omega (arith, size);
+      size = λ _. omega (arith, size);
       is_sure = ap (λ (f : FileState). f.is_sure) same ∙ sure;
       has = inl (omega (arith, size, short));
     }
@@ -94,6 +96,7 @@ marked old mid new sure first second =
     record {
       block = block-written mid new (place Spaced 1028 + 512) (replicate 3584 0) second ∙ block-written old mid (place Spaced 1028) mark first;
       longer = omega (arith, size, more);
+      size = λ _. omega (arith, size, more, some, long);
       is_sure = sure-written mid new (place Spaced 1028 + 512) (replicate 3584 0) second (sure-written old mid (place Spaced 1028) mark first sure);
       has = (
         omega (arith, more, some),
@@ -136,7 +139,7 @@ found-again Spaced before new xs (enough, has) is long size =
     let same = read-elsewhere before new (place Spaced 1028) 0 xs is (inr (omega (arith, long))) in
     sym (by-mark new mark true Spaced (omega (arith, size, enough)) (sym (same ∙ has)) refl refl)
 
-layout-synced : (file : FileState) → layout_in (file_after_sync file) ≡ layout_in file
+pub layout-synced : (file : FileState) → layout_in (file_after_sync file) ≡ layout_in file
 unfolding layout_in
 layout-synced file = refl
 
@@ -153,11 +156,13 @@ cleared old before synced over new layout count was first second many third =
     let old_size : synced.size ≡ before.size = ap (λ (f : FileState). f.size) first in
     let new_size : new.size ≡ over.size = ap (λ (f : FileState). f.size) third in
     let longer = was.longer in
+    let exact = was.size in
     let has : HasMark layout synced = subst (HasMark layout) (sym first) (mark-synced layout before was.has) in
     record {
       block = ap (λ (f : FileState). f.block) third ∙ block-written synced over 0 (replicate count 0) second ∙ ap (λ (f : FileState). f.block) first ∙ was.block;
       long = omega (arith, new_size, size, long, many);
       longer = omega (arith, new_size, size, old_size, longer);
+      size = λ whole. (let is = exact whole in omega (arith, new_size, size, old_size, is, long, many));
       is_size_durable = ap (λ (f : FileState). f.is_size_durable) third;
       is_clean = ap (λ (f : FileState). f.is_clean) third;
       is_sure = ap (λ (f : FileState). f.is_sure) third
@@ -182,13 +187,13 @@ honest-when layout sectors shown first behaves sure suited clean durable long =
     rw (behaves, sure, suited, clean, durable, enough) refl
 
 -- a spaced file has its sectors and the mark
-spaced-room : (file : FileState) → layout_in file ≡ Spaced → place Spaced 1028 + 512 ≤ file.size
+pub spaced-room : (file : FileState) → layout_in file ≡ Spaced → place Spaced 1028 + 512 ≤ file.size
 spaced-room file is = elim (cases_lt file.size (place Spaced 1028 + 512)) [
   | inl short ↦ absurd (let no : Packed ≡ Spaced = too-short file short ∙ is in cc)
   | inr long ↦ long
 ]
 
-size-lengthened : (file : FileState) (size : ℕ) → (file_lengthened file size).size ≡ max file.size size
+pub size-lengthened : (file : FileState) (size : ℕ) → (file_lengthened file size).size ≡ max file.size size
 size-lengthened file size = elim (cases_lt file.size size) [
   | inl longer ↦
       let long : length (replicate {A = ℕ} (size - file.size) 0) ≡ size - file.size = length-replicate {A = ℕ} (size - file.size) 0 in
@@ -215,7 +220,7 @@ long-enough Spaced settled least found =
     omega (arith, size, room)
 
 -- Its layout is found again: what made a packed file longer are zeros, also in the place of a mark.
-same-layout : (old new : FileState) → place Spaced 1028 + 512 ≤ old.size → old.size ≤ new.size
+pub same-layout : (old new : FileState) → place Spaced 1028 + 512 ≤ old.size → old.size ≤ new.size
     → values_from new.seen (place Spaced 1028) 512 ≡ values_from old.seen (place Spaced 1028) 512 → layout_in new ≡ layout_in old
 unfolding layout_in
 same-layout old new long longer same =
@@ -233,7 +238,7 @@ packed-still file size short =
           ∙ zero-at file.seen file.size (size - file.size) (place Spaced 1028 + k) (omega (arith, short)) (omega (arith, is, long, short, lt))))) unmarked refl
     ]
 
-found-longer : (layout : Layout) (file : FileState) (size : ℕ) → file.size % 512 ≡ 0 → layout ≡ layout_in file → layout ≡ layout_in (file_lengthened file size)
+pub found-longer : (layout : Layout) (file : FileState) (size : ℕ) → file.size % 512 ≡ 0 → layout ≡ layout_in file → layout ≡ layout_in (file_lengthened file size)
 found-longer layout file size whole found = elim (cases_lt file.size (place Spaced 1028 + 512)) [
   | inl short ↦ found ∙ sym (too-short file short) ∙ packed-still file size (omega (arith, short, whole))
   | inr long ↦

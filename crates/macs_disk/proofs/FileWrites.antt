@@ -1,9 +1,9 @@
 -- Writes of a file, one after the other.
-use Rattle.std.proofs.Common.{◌≡◌, ◌≤◌, ◌<◌, ◌+◌, ◌-◌, ◌*◌, ◌^◌, ◌&&◌, inl, inr, ℕ, zero, suc, ◌||◌, max, Bool, true, false, List, [], ◌∷◌, ◌++◌, length, get_or, take, drop, length-take-le, nat_le, nat_lt, refl, replicate, ap, ◌∙◌, arith, subst, sym}
+use Rattle.std.proofs.Common.{◌≡◌, ◌≤◌, ◌<◌, ◌+◌, ◌-◌, ◌*◌, ◌^◌, ◌&&◌, inl, inr, ℕ, zero, suc, ◌||◌, ◌⊎◌, max, Bool, true, false, List, [], ◌∷◌, ◌++◌, length, get_or, take, drop, length-take-le, nat_le, nat_lt, refl, replicate, ap, ◌∙◌, arith, subst, sym, Result, Ok, Err, IsErr, OnErr}
 use Rattle.std.proofs.lemmas.Bool.{cases_lt, le-leb, lt-leb, lt-ltb, le-ltb}
-use Rattle.std.proofs.lemmas.List.{get_or_past, length-replicate, replicate-append-replicate, take-take}
+use Rattle.std.proofs.lemmas.List.{get_or_past, get_or-replicate, length-replicate, replicate-append-replicate, take-take}
 use lib.Seq.{take-add}
-use Rattle.macs_disk.specs.Files.{FileState, AreOctets, WritesSome, put_from, has_some, values_from, file_after_write}
+use Rattle.macs_disk.specs.Files.{FileState, AreOctets, IsSure, WritesAll, WritesSome, put_from, has_some, values_from, file_after_write}
 use Rattle.macs_disk.specs.FileEvidence.{length-values, value-at}
 
 -- a write of nothing
@@ -105,6 +105,7 @@ write-write file at mid (x ∷ xs) (y ∷ ys) wide is = λ j. record {
   pending = λ n. flags n j;
   is_clean = false;
   is_sure = file.is_sure;
+  is_claimed = file.is_claimed;
 } where
   ends : at + length (x ∷ (xs ++ (y ∷ ys))) ≡ mid + length (y ∷ ys)
   ends = let h = length-joined (x ∷ xs) (y ∷ ys) in omega (arith, h, is)
@@ -240,3 +241,43 @@ zeros-more old mid new from at count zeros wide so_far ordered are here =
     let joined : before ++ replicate count 0 ≡ replicate (at + count - from) 0 =
     replicate-append-replicate (at - from) count 0 ∙ (λ i. replicate (sum i) 0) in
     here ∙ (λ i. file_after_write (so_far i) at (are i)) ∙ write-write old from at before (replicate count 0) wide place ∙ (λ i. file_after_write old from (joined i))
+
+zeros-octets : (n : ℕ) → AreOctets (replicate n 0)
+zeros-octets n i = elim (cases_lt i n) [
+  | inl lt ↦ subst (λ (v : ℕ). v < 2 ^ 8) (sym (get_or-replicate n i 0 0 lt)) (omega arith)
+  | inr past ↦
+      let size : length (replicate {A = ℕ} n 0) ≡ n = length-replicate {A = ℕ} n 0 in
+      subst (λ (v : ℕ). v < 2 ^ 8) (sym (get_or_past (replicate n 0) i 0 (omega (arith, size, past)))) (omega arith)
+]
+
+-- zeros were written so far and no further
+pub zeros-front : (old new : FileState) (from at to : ℕ) → new ≡ file_after_write old from (replicate (at - from) 0) → (at ≤ to) ⊎ (at ≡ from)
+    → WritesSome old new from (length (replicate {A = ℕ} (to - from) 0))
+zeros-front old new from at to is reached =
+    let done : length (replicate {A = ℕ} (at - from) 0) ≡ at - from = length-replicate {A = ℕ} (at - from) 0 in
+    let all : length (replicate {A = ℕ} (to - from) 0) ≡ to - from = length-replicate {A = ℕ} (to - from) 0 in
+    some-front old new from (length (replicate {A = ℕ} (to - from) 0)) (replicate (at - from) 0) (zeros-octets (at - from)) is
+    (elim reached [
+      | inl within ↦ omega (arith, done, all, within)
+      | inr none ↦ omega (arith, done, all, none)
+    ])
+
+-- zeros that a write failed behind
+pub zeros-failed : (old mid new : FileState) (from at to most : ℕ) → 0 < old.block → mid ≡ file_after_write old from (replicate (at - from) 0) → from ≤ at
+    → WritesSome mid new at most → at + most ≤ to → WritesSome old new from (length (replicate {A = ℕ} (to - from) 0))
+zeros-failed old mid new from at to most wide is ordered some within =
+    let done : length (replicate {A = ℕ} (at - from) 0) ≡ at - from = length-replicate {A = ℕ} (at - from) 0 in
+    let all : length (replicate {A = ℕ} (to - from) 0) ≡ to - from = length-replicate {A = ℕ} (to - from) 0 in
+    some-behind old mid new from at (length (replicate {A = ℕ} (to - from) 0)) most (replicate (at - from) 0) wide (zeros-octets (at - from)) is (omega (arith, done, ordered)) some
+    (omega (arith, done, all, ordered, within))
+
+-- what holds of a failed result
+pub on-failed : {T E : Type 0} (result : Result T E) (P : Type 0) → IsErr result → P → OnErr result P
+on-failed (Ok x) P is holds = tt
+on-failed (Err e) P is holds = holds
+
+-- a write that failed, by the result that is handed on
+pub failed-writes : {T E : Type 0} (old new : FileState) (at : ℕ) (octets : List ℕ) (result : Result T E) → IsErr result
+    → (IsSure old → WritesSome old new at (length octets)) → (old.is_sure ≡ false → new.is_sure ≡ false) → WritesAll old new at octets result
+failed-writes old new at octets (Ok x) is some doubt = absurd (let no : false ≡ true = is in cc)
+failed-writes old new at octets (Err e) is some doubt = record { ok = λ _. tt; err = some; doubt = doubt }

@@ -11,3 +11,5 @@ pub mod FileReads
 mod FileCalls
 pub mod FileSectors
 mod FileOpenings
+pub mod FoundAgain
+pub mod FrontKept

@@ -3,7 +3,7 @@ use Rattle.std.specs.Prelude.{◌≡◌, ◌≤◌, ◌<◌, ◌-◌, ◌/◌, �
 use Rattle.macs_disk.specs.States.{DiskState, Image, zero_sector}
 use Rattle.macs_disk.specs.Disk.{Disk, IsHonest, now}
 use Rattle.macs_disk.specs.Files.{Behaves, FileState, IsSure, Settles, file_after_sync, file_after_write, file_in_doubt, values_from}
-use Rattle.macs_disk.specs.Layouts.{layout_in, mark, place, sectors_in, suits}
+use Rattle.macs_disk.specs.Layouts.{layout_in, mark, mark_place, place, sectors_in, suits}
 use Rattle.macs_disk.specs.declared.file.FileDisk.{FileDisk}
 use Rattle.macs_disk.specs.declared.settled_file.SettledFile.{SettledFile}
 use Rattle.macs_disk.specs.declared.layout.Layout.{Layout}
@@ -69,6 +69,31 @@ is_stopped it = it.is_failed
 abbrev pub layout_of : {F : Type 0} → FileDisk F → Layout
 layout_of it = it.layout
 
+-- how many sectors it has
+abbrev pub sectors_of : {F : Type 0} → FileDisk F → ℕ
+sectors_of it = it.sectors
+
+-- the layout of a file is found, whatever a power loss leaves: what stands at the place of the mark is durable, and its block is not
+-- pending, where the device's blocks suit the layout. The size is durable, or the file ends before that place.
+pub record KeepsLayout (layout : Layout) (file : FileState) : Type 0 where
+  pub found : layout_in file ≡ layout
+  pub durable : values_from file.durable mark_place 512 ≡ values_from file.seen mark_place 512
+  pub still : suits layout file.block ≡ true → file.pending (mark_place / file.block) ≡ false
+  pub sized : (file.is_size_durable ≡ true) ⊎ (file.size ≤ mark_place)
+
+-- a file is found as a disk of this layout and of so many sectors, also after a power loss
+pub record IsFoundAs (layout : Layout) (sectors : ℕ) (file : FileState) : Type 0 where
+  pub whole : file.size % 512 ≡ 0
+  pub count : sectors_in layout file.size ≡ sectors
+  pub is_size_durable : file.is_size_durable ≡ true
+  pub keeps : KeepsLayout layout file
+
+-- the file of a disk, as it is left, is found again as a disk of its layout and of its sectors. Until a call fails it shows what
+-- the next sync makes durable.
+abbrev pub IsFoundAgain : {F : Type 0} → (F → FileState) → FileDisk F → Type 0
+IsFoundAgain file it = Behaves (file (file_left it))
+    → IsFoundAs (layout_of it) (sectors_of it) (file (file_left it)) × (is_stopped it ≡ false → IsSure (file (file_left it)))
+
 -- the file made so long with zeros, durably
 abbrev pub file_lengthened : FileState → ℕ → FileState
 file_lengthened file size = file_after_sync (file_after_write file file.size (replicate (size - file.size) 0))
@@ -81,7 +106,7 @@ file_before it = it.given.value
 abbrev pub octets_of : {F : Type 0} → SettledFile F → ℕ
 octets_of it = it.octets
 
--- a file is settled, and was measured to be whole sectors
+-- a file is claimed and settled, and was measured to be whole sectors
 abbrev pub IsSettled : {F : Type 0} → (F → FileState) → SettledFile F → Type 0
 IsSettled file it = Settles (file (file_before it)) (file it.file) × (octets_of it ≡ (file it.file).size) × (octets_of it % 512 ≡ 0)
 
@@ -115,10 +140,16 @@ abbrev pub HasMark : Layout → FileState → Type 0
 HasMark Packed file = (file.size ≤ place Spaced 1028) ⊎ (values_from file.seen (place Spaced 1028) 512 ≡ zero_sector)
 HasMark Spaced file = (place Spaced 1029 ≤ file.size) × (values_from file.seen (place Spaced 1028) 512 ≡ mark)
 
+-- how long a file is at least that has the mark of this layout
+abbrev pub mark_end : Layout → ℕ
+mark_end Packed = 0
+mark_end Spaced = place Spaced 1029
+
 -- a file after the mark of this layout was written
 pub record IsMarkedAs (old new : FileState) (layout : Layout) : Type 0 where
   pub block : new.block ≡ old.block
   pub longer : old.size ≤ new.size
+  pub size : old.size % 512 ≡ 0 → new.size ≡ max old.size (mark_end layout)
   pub is_sure : IsSure new
   pub has : HasMark layout new
 
@@ -127,6 +158,7 @@ pub record IsCleared (old new : FileState) (layout : Layout) : Type 0 where
   pub block : new.block ≡ old.block
   pub long : place layout 1028 ≤ new.size
   pub longer : old.size ≤ new.size
+  pub size : old.size % 512 ≡ 0 → new.size ≡ max (max old.size (mark_end layout)) (place layout 1028)
   pub is_size_durable : new.is_size_durable ≡ true
   pub is_clean : new.is_clean ≡ true
   pub is_sure : IsSure new

@@ -22,6 +22,8 @@ pub record FileState : Type 0 where
   pub is_clean : Bool
   -- no sync failed since the file was last read anew
   pub is_sure : Bool
+  -- this open of the file has claimed it: no other that asks for a claim has it
+  pub is_claimed : Bool
 
 -- the file behaves
 abbrev pub Behaves : FileState → Type 0
@@ -30,6 +32,10 @@ Behaves file = file.behaves ≡ true
 -- what the cache shows is what the next sync that succeeds makes durable
 abbrev pub IsSure : FileState → Type 0
 IsSure file = file.is_sure ≡ true
+
+-- it is claimed
+abbrev pub IsClaimed : FileState → Type 0
+IsClaimed file = file.is_claimed ≡ true
 
 -- a file of which nothing is known
 abbrev pub unknown_file : FileState
@@ -44,6 +50,7 @@ unknown_file =
       pending = λ _. true;
       is_clean = false;
       is_sure = false;
+      is_claimed = false;
     }
 
 -- a block has octets, octets are below 256, nothing is pending in a clean file, and a file that is sure shows what is durable
@@ -87,6 +94,7 @@ file_after_write file at (x ∷ xs) =
       pending = λ n. has_some file.block at (at + length (x ∷ xs)) n || file.pending n;
       is_clean = false;
       is_sure = file.is_sure;
+      is_claimed = file.is_claimed;
     }
 
 -- the file with these octets durable, and its size
@@ -102,6 +110,7 @@ file_synced file octets =
       pending = λ _. false;
       is_clean = true;
       is_sure = file.is_sure;
+      is_claimed = file.is_claimed;
     }
 
 -- the file after a sync
@@ -112,6 +121,10 @@ file_after_sync file = file_synced file file.seen
 abbrev pub file_in_doubt : FileState → FileState
 file_in_doubt file = record file { is_sure = false }
 
+-- the file that shows these octets
+abbrev pub file_showing : FileState → (ℕ → ℕ) → FileState
+file_showing file octets = record file { seen = octets }
+
 -- the file that shows what is durable
 abbrev pub file_reread : FileState → FileState
 file_reread file = record file { seen = file.durable; is_sure = true }
@@ -120,9 +133,22 @@ file_reread file = record file { seen = file.durable; is_sure = true }
 abbrev pub file_settled : FileState → (ℕ → ℕ) → FileState
 file_settled file octets = file_reread (file_synced file octets)
 
+-- the file once it is claimed
+abbrev pub file_claimed : FileState → FileState
+file_claimed file = record file { is_claimed = true }
+
+-- the file cut to nothing. Until a sync a power loss may leave any octets of it, and some other size.
+abbrev pub file_cut : FileState → FileState
+file_cut file = record file { size = 0; is_size_durable = false; seen = λ _. 0; pending = λ _. true; is_clean = false }
+
 -- octets are below 256
 abbrev pub AreOctets : List ℕ → Type 0
 AreOctets octets = (i : ℕ) → get_or octets i 0 < 2 ^ 8
+
+-- what a claim does: where it fails nothing is changed
+pub record ClaimsFile {T E : Type 0} (old new : FileState) (result : Result T E) : Type 0 where
+  pub ok : OnOk result (new ≡ file_claimed old)
+  pub err : OnErr result (new ≡ old)
 
 -- what a read does: it changes nothing, and gives the octets from its place on, as many as it answers
 pub record ReadsFile {E : Type 0} (old new : FileState) (at : ℕ) (into : List ℕ) (result : Result ℕ E) : Type 0 where
@@ -153,12 +179,28 @@ pub record SyncsFile {T E : Type 0} (old new : FileState) (result : Result T E) 
   pub doubt : old.is_sure ≡ false → OnOk result ((image : ℕ → ℕ) × IsFileImage old image × (new ≡ file_synced old image))
   pub err : OnErr result (new ≡ file_in_doubt old)
 
--- what reading anew does: a clean file shows what is durable, and is sure. Of a file with octets that are pending nothing
--- is said, since their pages stay in the cache.
+-- what reading anew does: a clean file that is claimed shows what is durable, and is sure. Of a file with octets that are
+-- pending nothing is said, since their pages stay in the cache, nor of one that is not claimed, since others may write to it.
+-- Where it fails the file may show something else, and nothing else is changed.
 pub record RereadsFile {T E : Type 0} (old new : FileState) (result : Result T E) : Type 0 where
-  pub ok : old.is_clean ≡ true → OnOk result (new ≡ file_reread old)
+  pub ok : old.is_clean ≡ true → IsClaimed old → OnOk result (new ≡ file_reread old)
+  pub err : OnErr result ((octets : ℕ → ℕ) × (new ≡ file_showing old octets))
 
--- what is done to a file before it is used: it shows one of its images, all of it is durable, and its size is. Where the
--- file was sure it is what was shown.
+-- what is done to a file before it is used: it is claimed, shows one of its images, all of it is durable, and its size is.
+-- Where the file was sure it is what was shown.
 abbrev pub Settles : FileState → FileState → Type 0
-Settles old new = (image : ℕ → ℕ) × IsFileImage old image × (IsSure old → image ≡ old.seen) × (new ≡ file_settled old image)
+Settles old new = (image : ℕ → ℕ) × IsFileImage old image × (IsSure old → image ≡ old.seen) × (new ≡ file_claimed (file_settled old image))
+
+-- a power loss leaves nothing new of the file: no image that it could not leave before, and the same size where that was durable
+pub record HasNothingNew (old new : FileState) : Type 0 where
+  pub block : new.block ≡ old.block
+  pub size : old.is_size_durable ≡ true → (new.size ≡ old.size) × (new.is_size_durable ≡ true)
+  pub images : (image : ℕ → ℕ) → IsFileImage new image → IsFileImage old image
+
+-- the octets in front of a place are kept: each image that a power loss may leave has there those of one that it could leave
+-- before, and the file is no shorter
+pub record KeepsFront (front : ℕ) (old new : FileState) : Type 0 where
+  pub block : new.block ≡ old.block
+  pub longer : old.size ≤ new.size
+  pub images : (image : ℕ → ℕ) → IsFileImage new image
+      → (before : ℕ → ℕ) × IsFileImage old before × ((p : ℕ) → p < front → image p ≡ before p)

@@ -14,6 +14,10 @@ place Spaced at = 4096 * at
 abbrev pub spaced_sectors : ℕ
 spaced_sectors = 1028
 
+-- the octet at which the mark of a spaced file stands
+abbrev pub mark_place : ℕ
+mark_place = place Spaced spaced_sectors
+
 -- MSEC4096
 abbrev pub spaced_mark : List ℕ
 spaced_mark = 0x4d ∷ 0x53 ∷ 0x45 ∷ 0x43 ∷ 0x34 ∷ 0x30 ∷ 0x39 ∷ 0x36 ∷ []

@@ -1,8 +1,9 @@
 //! How a file is cleared for a new disk: its mark is written, and zeros.
 
-ghost use Rattle.std.specs.Prelude.{◌≡◌, ◌≢◌, IfErr, OnOk};
-ghost use Rattle.macs_disk.specs.Files.{Behaves, IsSure};
-ghost use Rattle.macs_disk.specs.FileDisks.{IsCleared, IsMarkedAs};
+ghost use Rattle.std.specs.Prelude.{◌≡◌, ◌≢◌, ◌⊎◌, true, IfErr, OnErr, OnOk};
+ghost use Rattle.macs_disk.specs.Files.{Behaves, IsSure, KeepsFront};
+ghost use Rattle.macs_disk.specs.FileDisks.{IsCleared, IsMarkedAs, KeepsLayout};
+ghost use Rattle.macs_disk.specs.Layouts.{mark_place, suits};
 
 use crate::disk_file::DiskFile;
 use crate::file_calls::{write_all, write_zeros};
@@ -14,6 +15,9 @@ fn erase_mark<F: DiskFile>(file: &mut F, octets: u64) -> Result<(), FileFault>
     ensures steady { (F.file file.new).behaves ≡ (F.file file.old).behaves }
     ensures marked { Behaves (F.file file.old) → IsSure (F.file file.old) → octets ≡ (F.file file.old).size
         → OnOk result (IsMarkedAs (F.file file.old) (F.file file.new) Layout.Packed) }
+    ensures front { Behaves (F.file file.old) → IsSure (F.file file.old)
+        → suits Layout.Packed (F.file file.old).block ≡ true
+        → KeepsFront mark_place (F.file file.old) (F.file file.new) }
     ensures err { IfErr result (λ fault. fault ≢ FileFault.Length) }
 {
     if octets <= MARK_PLACE {
@@ -28,6 +32,9 @@ fn put_mark<F: DiskFile>(file: &mut F) -> Result<(), FileFault>
     ensures steady { (F.file file.new).behaves ≡ (F.file file.old).behaves }
     ensures marked { Behaves (F.file file.old) → IsSure (F.file file.old)
         → OnOk result (IsMarkedAs (F.file file.old) (F.file file.new) Layout.Spaced) }
+    ensures front { Behaves (F.file file.old) → IsSure (F.file file.old)
+        → suits Layout.Spaced (F.file file.old).block ≡ true
+        → KeepsFront mark_place (F.file file.old) (F.file file.new) }
     ensures err { IfErr result (λ fault. fault ≢ FileFault.Length) }
 {
     write_all(file, MARK_PLACE, &spaced_mark())?;
@@ -40,6 +47,9 @@ fn mark_as<F: DiskFile>(file: &mut F, octets: u64, layout: Layout) -> Result<(),
     ensures steady { (F.file file.new).behaves ≡ (F.file file.old).behaves }
     ensures marked { Behaves (F.file file.old) → IsSure (F.file file.old) → octets ≡ (F.file file.old).size
         → OnOk result (IsMarkedAs (F.file file.old) (F.file file.new) layout) }
+    ensures front { Behaves (F.file file.old) → IsSure (F.file file.old)
+        → suits layout (F.file file.old).block ≡ true
+        → KeepsFront mark_place (F.file file.old) (F.file file.new) }
     ensures err { IfErr result (λ fault. fault ≢ FileFault.Length) }
 {
     match layout {
@@ -53,6 +63,10 @@ pub(crate) fn clear<F: DiskFile>(file: &mut F, octets: u64, layout: Layout) -> R
     ensures steady { (F.file file.new).behaves ≡ (F.file file.old).behaves }
     ensures cleared { Behaves (F.file file.old) → IsSure (F.file file.old) → octets ≡ (F.file file.old).size
         → OnOk result (IsCleared (F.file file.old) (F.file file.new) layout) }
+    // Where it fails no sector was written over, or the layout is found already, whatever a power loss leaves.
+    ensures order { Behaves (F.file file.old) → IsSure (F.file file.old) → octets ≡ (F.file file.old).size
+        → suits layout (F.file file.old).block ≡ true → OnErr result
+        (KeepsFront mark_place (F.file file.old) (F.file file.new) ⊎ KeepsLayout layout (F.file file.new)) }
     ensures err { IfErr result (λ fault. fault ≢ FileFault.Length) }
 {
     mark_as(file, octets, layout)?;

@@ -3,8 +3,8 @@
 ghost use Rattle.std.specs.Prelude.{◌≡◌, ◌≤◌, length, IfErr, IfOk};
 ghost use Rattle.std.specs.IoError.{error_kind};
 ghost use Rattle.std.specs.declared.io.ErrorKind.TheVariants.{Interrupted};
-ghost use Rattle.macs_disk.specs.Files.{Behaves, FileState, IsSoundFile, ReadsFile, RereadsFile, SyncsFile, WritesFile};
-ghost use Rattle.macs_disk.specs.Files.{unknown_file};
+ghost use Rattle.macs_disk.specs.Files.{Behaves, ClaimsFile, FileState, IsSoundFile, ReadsFile, RereadsFile, SyncsFile};
+ghost use Rattle.macs_disk.specs.Files.{WritesFile, unknown_file};
 
 use libc::{POSIX_FADV_DONTNEED, POSIX_FADV_WILLNEED, posix_fadvise};
 use std::fs::File;
@@ -28,7 +28,7 @@ pub trait DiskFile: Drop {
     /// claim is advisory: it stops only those who ask for one.
     fn claim(&mut self) -> io::Result<()>
         ensures steady { (file self.new).behaves ≡ (file self.old).behaves }
-        ensures effect { Behaves (file self.old) → file self.new ≡ file self.old };
+        ensures effect { Behaves (file self.old) → ClaimsFile (file self.old) (file self.new) result };
 
     /// How many octets the file has.
     fn size(&mut self) -> io::Result<u64>
@@ -59,8 +59,8 @@ pub trait DiskFile: Drop {
         ensures steady { (file self.new).behaves ≡ (file self.old).behaves }
         ensures effect { Behaves (file self.old) → SyncsFile (file self.old) (file self.new) result };
 
-    /// Forgets what the cache shows of a file of which nothing is pending, so that later reads come
-    /// from the device.
+    /// Forgets what the cache shows of a claimed file of which nothing is pending, so that later reads
+    /// come from the device.
     fn reread(&mut self) -> io::Result<()>
         ensures steady { (file self.new).behaves ≡ (file self.old).behaves }
         ensures effect { Behaves (file self.old) → RereadsFile (file self.old) (file self.new) result };

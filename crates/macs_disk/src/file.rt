@@ -145,13 +145,14 @@ impl<F: DiskFile> FileDisk<F> {
 }
 
 impl<F: DiskFile> SectorDisk for FileDisk<F> {
-    ghost use Rattle.std.specs.Prelude.{◌≡◌, ◌<◌, ◌⊎◌, IsErr, OnErr, true};
+    ghost use Rattle.std.specs.Prelude.{◌≡◌, ◌≢◌, ◌<◌, ◌⊎◌, IsErr, OnErr, true};
     ghost use Rattle.macs_disk.specs.Disk.{IsDeviceCall, IsHonest, Reads, Syncs, Writes, now};
     ghost use Rattle.macs_disk.specs.Evidence.{full-clock};
-    ghost use Rattle.macs_disk.specs.FileDisks.{IsLeftAsShown, disk_in_file, file_left, is_stopped, layout_of};
+    ghost use Rattle.macs_disk.specs.FileDisks.{IsFoundAgain, IsLeftAsShown, disk_in_file, file_left, is_stopped};
+    ghost use Rattle.macs_disk.specs.FileDisks.{layout_of};
     ghost use Rattle.macs_disk.specs.FileEvidence.{file-sound};
     ghost use Rattle.macs_disk.specs.Files.{Behaves, WritesAll, file_in_doubt};
-    ghost use Rattle.macs_disk.specs.Layouts.{place};
+    ghost use Rattle.macs_disk.specs.Layouts.{mark_place, place};
 
     ghost disk = { disk_in_file F.file };
 
@@ -173,6 +174,7 @@ impl<F: DiskFile> SectorDisk for FileDisk<F> {
         ensures stops { is_stopped self.old ≡ true → IsErr result }
         ensures stopped { OnErr result ((is_stopped self.new ≡ true) ⊎ ((disk_in_file F.file self.new).worn ≡ true)) }
         ensures left { IsLeftAsShown F.file self.old → IsLeftAsShown F.file self.new }
+        ensures again { IsFoundAgain F.file self.old → IsFoundAgain F.file self.new }
     {
         self.begin()?;
         let answer = read_sector(&mut self.file, self.layout, at, into);
@@ -190,6 +192,10 @@ impl<F: DiskFile> SectorDisk for FileDisk<F> {
         ensures stops { is_stopped self.old ≡ true → IsErr result }
         ensures stopped { OnErr result ((is_stopped self.new ≡ true) ⊎ ((disk_in_file F.file self.new).worn ≡ true)) }
         ensures left { IsLeftAsShown F.file self.old → IsLeftAsShown F.file self.new }
+        // A write of sector 8,224 of a packed disk goes to the place of the mark, and may have the layout found as
+        // another one. A journal has no such sector, and no spaced disk has.
+        ensures again { place (layout_of self.old) at ≢ mark_place
+            → IsFoundAgain F.file self.old → IsFoundAgain F.file self.new }
     {
         self.begin()?;
         let answer = write_all(&mut self.file, self.layout.place(at), from);
@@ -209,6 +215,7 @@ impl<F: DiskFile> SectorDisk for FileDisk<F> {
         ensures stops { is_stopped self.old ≡ true → IsErr result }
         ensures stopped { OnErr result ((is_stopped self.new ≡ true) ⊎ ((disk_in_file F.file self.new).worn ≡ true)) }
         ensures left { IsLeftAsShown F.file self.old → IsLeftAsShown F.file self.new }
+        ensures again { IsFoundAgain F.file self.old → IsFoundAgain F.file self.new }
     {
         self.begin()?;
         if self.clock == 1 {

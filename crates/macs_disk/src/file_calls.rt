@@ -1,7 +1,7 @@
 //! Whole moves of octets to and from a file, and what makes it fit for a disk.
 
 ghost use Rattle.std.specs.Prelude.{◌≡◌, ◌<◌, ◌≤◌, ◌+◌, ◌-◌, ◌^◌, length, replicate, OnOk};
-ghost use Rattle.macs_disk.specs.Files.{Behaves, IsSure, Settles, SyncsFile, WritesAll, file_after_write, values_from};
+ghost use Rattle.macs_disk.specs.Files.{Behaves, HasNothingNew, IsClaimed, IsSure, Settles, WritesAll, values_from};
 ghost use Rattle.macs_disk.specs.Layouts.{place};
 
 use crate::disk::DeviceFault;
@@ -97,8 +97,8 @@ pub(crate) fn read_sector<F: DiskFile>(
 pub(crate) fn write_zeros<F: DiskFile>(file: &mut F, from: u64, to: u64) -> io::Result<()>
     requires { to < 2 ^ 64 }
     ensures steady { (F.file file.new).behaves ≡ (F.file file.old).behaves }
-    ensures effect { Behaves (F.file file.old) → IsSure (F.file file.old)
-        → OnOk result (F.file file.new ≡ file_after_write (F.file file.old) from (replicate (to - from) 0)) }
+    ensures effect { Behaves (F.file file.old)
+        → WritesAll (F.file file.old) (F.file file.new) from (replicate (to - from) 0) result }
 {
     let zeros = [0; ZEROS];
     let mut at = from;
@@ -113,14 +113,20 @@ pub(crate) fn write_zeros<F: DiskFile>(file: &mut F, from: u64, to: u64) -> io::
     Err(io::Error::from(io::ErrorKind::TimedOut))
 }
 
-/// Has a file show what the device has, and nothing pending: it is synced, and then read anew. In this order,
-/// since what is not synced stays in the cache.
+/// Has a claimed file show what the device has, and nothing pending: it is synced, and then read anew. In this
+/// order, since what is not synced stays in the cache.
 pub(crate) fn settle<F: DiskFile>(file: &mut F) -> Result<(), DeviceFault>
     ensures steady { (F.file file.new).behaves ≡ (F.file file.old).behaves }
-    ensures effect { Behaves (F.file file.old) → OnOk result (Settles (F.file file.old) (F.file file.new)) }
+    ensures effect { Behaves (F.file file.old) → IsClaimed (F.file file.old)
+        → OnOk result (Settles (F.file file.old) (F.file file.new)) }
+    ensures nothing_new { Behaves (F.file file.old) → IsClaimed (F.file file.old)
+        → HasNothingNew (F.file file.old) (F.file file.new) }
 {
-    if file.sync().is_err() || file.reread().is_err() {
+    let Ok(()) = file.sync() else {
         return Err(DeviceFault);
-    }
+    };
+    let Ok(()) = file.reread() else {
+        return Err(DeviceFault);
+    };
     Ok(())
 }

@@ -57,8 +57,8 @@ pub fn sync_folder<R: Files, P: AsPath>(rt: &R, path: P) -> io::Result<()> {
 }
 
 impl<F: DiskFile> FileDisk<F> {
-    ghost use Rattle.macs_disk.specs.FileDisks.{IsBlank, IsFresh, IsLeftAsShown, IsOpened, disk_in_file};
-    ghost use Rattle.macs_disk.specs.FileDisks.{file_given, file_left, layout_of};
+    ghost use Rattle.macs_disk.specs.FileDisks.{IsBlank, IsFoundAgain, IsFresh, IsLeftAsShown, IsOpened};
+    ghost use Rattle.macs_disk.specs.FileDisks.{disk_in_file, file_given, file_left, layout_of};
 
     /// A disk of at least so many sectors in the file at `path`. Where there is no file it is made, for its
     /// owner alone, and its name is made durable as by `sync_folder`. The file is synced and read anew, so that
@@ -75,6 +75,7 @@ impl<F: DiskFile> FileDisk<F> {
             → IsOpened (F.file (file_given it)) sectors (layout_of it) (disk_in_file F.file it)) }
         ensures spaced { IfOk result (λ it. layout_of it ≡ Layout.Spaced → (disk_in_file F.file it).sectors ≡ 1028) }
         ensures left { IfOk result (IsLeftAsShown F.file) }
+        ensures again { IfOk result (λ it. Behaves (F.file (file_given it)) → IsFoundAgain F.file it) }
         ensures fresh { IfOk result (λ it. IsFresh (disk_in_file F.file it)) }
     {
         let file = how_to_open(true).open(rt, path.path_text())?;
@@ -90,6 +91,7 @@ impl<F: DiskFile> FileDisk<F> {
             → IsOpened (F.file (file_given it)) 0 (layout_of it) (disk_in_file F.file it)) }
         ensures spaced { IfOk result (λ it. layout_of it ≡ Layout.Spaced → (disk_in_file F.file it).sectors ≡ 1028) }
         ensures left { IfOk result (IsLeftAsShown F.file) }
+        ensures again { IfOk result (λ it. Behaves (F.file (file_given it)) → IsFoundAgain F.file it) }
         ensures fresh { IfOk result (λ it. IsFresh (disk_in_file F.file it)) }
     {
         let file = how_to_open(false).open(rt, path)?;
@@ -105,6 +107,7 @@ impl<F: DiskFile> FileDisk<F> {
         ensures length { IsErrOf result FileFault.Length → Behaves (F.file file) → (F.file file).size % 512 ≢ 0 }
         ensures spaced { IfOk result (λ it. layout_of it ≡ Layout.Spaced → (disk_in_file F.file it).sectors ≡ 1028) }
         ensures left { IfOk result (IsLeftAsShown F.file) }
+        ensures again { Behaves (F.file file) → IfOk result (IsFoundAgain F.file) }
         ensures fresh { IfOk result (λ it. IsFresh (disk_in_file F.file it)) }
     {
         SettledFile::of(file)?.into_disk(sectors)
@@ -119,6 +122,7 @@ impl<F: DiskFile> FileDisk<F> {
             IsBlank (F.file file) (F.file (file_left it)) layout (disk_in_file F.file it)) }
         ensures length { IsErrOf result FileFault.Length → Behaves (F.file file) → (F.file file).size % 512 ≢ 0 }
         ensures left { IfOk result (IsLeftAsShown F.file) }
+        ensures again { Behaves (F.file file) → IfOk result (IsFoundAgain F.file) }
         ensures fresh { IfOk result (λ it. IsFresh (disk_in_file F.file it)) }
     {
         SettledFile::of(file)?.into_blank_disk(layout)
@@ -131,6 +135,7 @@ impl<F: DiskFile> FileDisk<F> {
             IsOpened (F.file (file_left self)) 0 (layout_of it) (disk_in_file F.file it)) }
         ensures spaced { IfOk result (λ it. layout_of it ≡ Layout.Spaced → (disk_in_file F.file it).sectors ≡ 1028) }
         ensures left { IfOk result (IsLeftAsShown F.file) }
+        ensures again { Behaves (F.file (file_left self)) → IfOk result (IsFoundAgain F.file) }
         ensures fresh { IfOk result (λ it. IsFresh (disk_in_file F.file it)) }
     {
         FileDisk::over(self.into_file(), 0)

@@ -9,8 +9,9 @@ ghost use Rattle.macs_disk.specs.Runs.{Leaves, LeavesNothingNew};
 ghost use Rattle.macs_disk.specs.Fused.{FuseValue, disk_of_fuse};
 ghost use Rattle.macs_disk.specs.MemDisks.{disk_of};
 ghost use Rattle.macs_disk.specs.declared.memory.MemDisk.{MemDisk};
-ghost use Rattle.macs_disk.specs.Files.{Behaves, FileState, IsFileImage, WritesSome, file_in_doubt};
-ghost use Rattle.macs_disk.specs.FileDisks.{IsLeftAsShown, IsOpened, disk_in_file, file_left, image_in_file, layout_of, state_in_file};
+ghost use Rattle.macs_disk.specs.Files.{Behaves, FileState, HasNothingNew, IsFileImage, Settles, WritesSome, file_in_doubt};
+ghost use Rattle.macs_disk.specs.FileDisks.{IsFoundAs, IsLeftAsShown, IsOpened, disk_in_file, file_left, image_in_file};
+ghost use Rattle.macs_disk.specs.FileDisks.{layout_of, state_in_file};
 ghost use Rattle.macs_disk.specs.Layouts.{place, suits};
 ghost use Rattle.macs_disk.specs.declared.file.FileDisk.{FileDisk};
 ghost use Rattle.macs_disk.specs.declared.layout.Layout.{Layout};
@@ -210,6 +211,27 @@ pub fn a_failed_sync_of_a_file_leaves_nothing_new()
 pub fn a_file_is_left_as_its_disk<F: DiskFile>()
     ensures { (it : FileDisk F) (image : Image) → IsLeftAsShown F.file it → Behaves (F.file (file_left it))
         → IsImage (state_in_file (layout_of it) (F.file (file_left it))) image → MayLeave (disk_in_file F.file it) image }
+{}
+
+/// A disk is found again as it was, of its layout and with its sectors: in its file as it was left, or as a
+/// power loss left that, or after openings that failed.
+pub fn files_are_found_again()
+    ensures settled { (layout : Layout) (sectors : ℕ) (old new settled : FileState) → IsFoundAs layout sectors old
+        → suits layout old.block ≡ true → HasNothingNew old new → Settles new settled → IsFoundAs layout sectors settled }
+    ensures opened { (layout again : Layout) (sectors : ℕ) (old new : FileState) (disk : Disk)
+        → IsFoundAs layout sectors old → suits layout old.block ≡ true → HasNothingNew old new
+        → IsOpened new 0 again disk → (again ≡ layout) × (disk.sectors ≡ sectors) }
+{}
+
+/// What leaves nothing new of a file: no call, calls one after the other of which each leaves nothing new, a sync
+/// that failed, and a power loss.
+pub fn nothing_new_of_a_file()
+    ensures none { (file : FileState) → HasNothingNew file file }
+    ensures more { (old mid new : FileState) → HasNothingNew old mid → HasNothingNew mid new → HasNothingNew old new }
+    ensures doubt { (file : FileState) → HasNothingNew file (file_in_doubt file) }
+    ensures lost { (old new : FileState) → IsFileImage old new.durable → new.block ≡ old.block
+        → (old.is_size_durable ≡ true → (new.size ≡ old.size) × (new.is_size_durable ≡ true))
+        → ((n : ℕ) → new.pending n ≡ false) → HasNothingNew old new }
 {}
 
 /// No octet of a file, and no block of a device that suits its layout, is in two sectors.

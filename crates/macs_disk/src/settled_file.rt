@@ -1,9 +1,9 @@
 //! A file that is made fit for a disk.
 
-ghost use Rattle.std.specs.Prelude.{◌≡◌, ◌≢◌, ◌<◌, ◌≤◌, ◌*◌, ◌/◌, ◌%◌, ◌^◌, IfErr, IfOk, IsErrOf, OnOk};
-ghost use Rattle.macs_disk.specs.Files.{Behaves, IsSure};
+ghost use Rattle.std.specs.Prelude.{◌≡◌, ◌≢◌, ◌<◌, ◌≤◌, ◌*◌, ◌/◌, ◌%◌, ◌^◌, true, IfErr, IfOk, IsErrOf, OnOk};
+ghost use Rattle.macs_disk.specs.Files.{Behaves, HasNothingNew, IsSure, KeepsFront, file_claimed};
 ghost use Rattle.macs_disk.specs.FileDisks.{IsExtent, IsStill, file_lengthened};
-ghost use Rattle.macs_disk.specs.Layouts.{layout_in, place};
+ghost use Rattle.macs_disk.specs.Layouts.{layout_in, place, suits};
 
 use crate::clearing::clear;
 use crate::disk::DeviceFault;
@@ -40,7 +40,8 @@ struct Extent {
 // Claims a file, and answers how many octets it has, where they are whole sectors.
 fn measure<F: DiskFile>(file: &mut F) -> Result<u64, FileFault>
     ensures steady { (F.file file.new).behaves ≡ (F.file file.old).behaves }
-    ensures same { Behaves (F.file file.old) → F.file file.new ≡ F.file file.old }
+    ensures claimed { Behaves (F.file file.old) → OnOk result (F.file file.new ≡ file_claimed (F.file file.old)) }
+    ensures nothing_new { Behaves (F.file file.old) → HasNothingNew (F.file file.old) (F.file file.new) }
     ensures whole { IfOk result (λ octets. octets % 512 ≡ 0) }
     ensures size { Behaves (F.file file.old) → IfOk result (λ octets. octets ≡ (F.file file.old).size) }
     ensures length { IsErrOf result FileFault.Length → Behaves (F.file file.old) → (F.file file.old).size % 512 ≢ 0 }
@@ -81,6 +82,10 @@ fn lengthen<F: DiskFile>(file: &mut F, octets: u64, sectors: u64) -> Result<(), 
     ensures fits { OnOk result (512 * sectors < 2 ^ 64) }
     ensures long { Behaves (F.file file.old) → IsSure (F.file file.old) → octets ≡ (F.file file.old).size
         → OnOk result (F.file file.new ≡ file_lengthened (F.file file.old) (512 * sectors)) }
+    // Done or failed, it keeps each octet that the file had.
+    ensures front { Behaves (F.file file.old) → IsSure (F.file file.old) → octets ≡ (F.file file.old).size
+        → octets % 512 ≡ 0 → suits Layout.Packed (F.file file.old).block ≡ true
+        → KeepsFront octets (F.file file.old) (F.file file.new) }
     ensures err { IfErr result (λ fault. fault ≢ FileFault.Length) }
 {
     if sectors >= TOO_MANY_SECTORS {
@@ -99,6 +104,10 @@ fn prepare<F: DiskFile>(file: &mut F, octets: u64, least: u64) -> Result<Extent,
     ensures known { Behaves (F.file file.old) → IsStill (F.file file.old) → octets ≡ (F.file file.old).size
         → IfOk result (λ extent. IsExtent (F.file file.old) (F.file file.new) least extent.layout extent.sectors) }
     ensures spaced { IfOk result (λ extent. extent.layout ≡ Layout.Spaced → extent.sectors ≡ 1028) }
+    // Done or failed, it keeps each octet that the file had.
+    ensures front { Behaves (F.file file.old) → IsSure (F.file file.old) → octets ≡ (F.file file.old).size
+        → octets % 512 ≡ 0 → suits (layout_in (F.file file.old)) (F.file file.old).block ≡ true
+        → KeepsFront octets (F.file file.old) (F.file file.new) }
     ensures err { IfErr result (λ fault. fault ≢ FileFault.Length) }
 {
     let layout = find_layout(file, octets)?;
@@ -117,8 +126,8 @@ fn prepare<F: DiskFile>(file: &mut F, octets: u64, least: u64) -> Result<Extent,
 }
 
 impl<F: DiskFile> SettledFile<F> {
-    ghost use Rattle.macs_disk.specs.FileDisks.{IsBlank, IsFresh, IsLeftAsShown, IsOpened, IsSettled, disk_in_file};
-    ghost use Rattle.macs_disk.specs.FileDisks.{file_before, file_given, file_left, layout_of, octets_of};
+    ghost use Rattle.macs_disk.specs.FileDisks.{IsBlank, IsFoundAgain, IsFresh, IsLeftAsShown, IsOpened, IsSettled};
+    ghost use Rattle.macs_disk.specs.FileDisks.{disk_in_file, file_before, file_given, file_left, layout_of, octets_of};
 
     /// Claims a file that is open to read and write, measures it, syncs it, and reads it anew: in this order,
     /// and the first of these that cannot be done says the fault. No octet is changed.
@@ -154,6 +163,7 @@ impl<F: DiskFile> SettledFile<F> {
             IsOpened (F.file (file_before self)) least (layout_of it) (disk_in_file F.file it)) }
         ensures spaced { IfOk result (λ it. layout_of it ≡ Layout.Spaced → (disk_in_file F.file it).sectors ≡ 1028) }
         ensures left { IfOk result (IsLeftAsShown F.file) }
+        ensures again { Behaves (F.file self.file) → IsSettled F.file self → IfOk result (IsFoundAgain F.file) }
         ensures fresh { IfOk result (λ it. IsFresh (disk_in_file F.file it)) }
         ensures err { IfErr result (λ fault. fault ≢ FileFault.Length) }
     {
@@ -170,6 +180,7 @@ impl<F: DiskFile> SettledFile<F> {
         ensures known { Behaves (F.file self.file) → IsSettled F.file self → IfOk result (λ it.
             IsBlank (F.file (file_before self)) (F.file (file_left it)) layout (disk_in_file F.file it)) }
         ensures left { IfOk result (IsLeftAsShown F.file) }
+        ensures again { Behaves (F.file self.file) → IsSettled F.file self → IfOk result (IsFoundAgain F.file) }
         ensures fresh { IfOk result (λ it. IsFresh (disk_in_file F.file it)) }
         ensures err { IfErr result (λ fault. fault ≢ FileFault.Length) }
     {

@@ -1,13 +1,17 @@
 -- Disks in files, as histories have them.
-use Rattle.std.proofs.Common.{◌≡◌, ◌<◌, ◌-◌, ℕ, true, replicate, refl, ap, ◌∙◌, arith, le_refl}
-use Rattle.macs_disk.specs.Disk.{Disk, MayLeave}
-use Rattle.macs_disk.specs.FileDisks.{IsBlank, IsOpened, file_lengthened, image_in_file, state_in_file}
-use Rattle.macs_disk.specs.Files.{FileState, file_after_sync, file_after_write, file_settled}
+use Rattle.std.proofs.Common.{◌≡◌, ◌<◌, ◌-◌, ◌⊎◌, inl, inr, ℕ, true, get_or, replicate, refl, ap, ◌∙◌, arith, le_refl, subst, sym}
+use Rattle.std.proofs.lemmas.Bool.{and_parts}
+use Rattle.macs_disk.specs.Disk.{Disk, IsHonest, MayLeave}
+use Rattle.macs_disk.specs.FileDisks.{IsBlank, IsFoundAs, IsLeftAsShown, IsOpened, disk_in_file, file_lengthened, image_in_file, is_ready, keeps_disk, state_in_file}
+use Rattle.macs_disk.specs.FileEvidence.{keeps}
+use Rattle.macs_disk.specs.Files.{Behaves, FileState, HasNothingNew, file_after_sync, file_after_write, file_claimed, file_in_doubt, file_settled}
 use Rattle.macs_disk.specs.Layouts.{place, suits}
 use Rattle.macs_disk.specs.States.{Image, IsImage, settled_state, zero_sector}
 use Rattle.macs_disk.specs.declared.layout.Layout.{Layout}
 use Rattle.macs_disk.specs.declared.layout.Layout.TheVariants.{Packed, Spaced}
+use Rattle.macs_disk.specs.declared.file.FileDisk.{FileDisk}
 use Rattle.macs_disk.proofs.FileSectors.{file-image}
+use Rattle.macs_disk.proofs.FoundAgain.{found-opened}
 use Rattle.macs_headline.specs.Binding.{IsNewDisk}
 use Rattle.macs_headline.specs.Endings.{LosesPower}
 use Rattle.macs_headline.proofs.Built.{closed-gate}
@@ -27,7 +31,7 @@ no-place Packed = refl
 no-place Spaced = refl
 
 -- a settled file that is made no longer
-as-settled : (layout : Layout) (file settled : FileState) (octets : ℕ → ℕ) → settled ≡ file_settled file octets
+as-settled : (layout : Layout) (file settled : FileState) (octets : ℕ → ℕ) → settled ≡ file_claimed (file_settled file octets)
     → state_in_file layout (file_lengthened settled (place layout 0)) ≡ settled_state (image_in_file layout octets)
 unfolding state_in_file
 as-settled layout file settled octets is =
@@ -35,13 +39,38 @@ as-settled layout file settled octets is =
     ap (λ (n : ℕ). state_in_file layout (file_after_sync (file_after_write settled settled.size (replicate n 0)))) none
     ∙ ap (λ (f : FileState). state_in_file layout (file_after_sync f)) is
 
-pub opened-again : (file : FileState) (layout : Layout) (old new : Disk) → IsOpened file 0 layout new → suits layout file.block ≡ true
-    → ((image : Image) → IsImage (state_in_file layout file) image → MayLeave old image) → new.sectors ≡ old.sectors → new.honest ≡ old.honest → LosesPower old old.clock new
-opened-again file layout old new opened suited may sectors honest =
+-- the file of an honest disk is on a device whose blocks suit its layout
+pub left-suited : {F : Type 0} (file : F → FileState) (it : FileDisk F) → IsLeftAsShown file it → Behaves (file it.file) → IsHonest (disk_in_file file it)
+    → suits it.layout (file it.file).block ≡ true
+left-suited file it left behaves honest = same (left behaves) where
+  suited : suits it.layout (file it.shown.value).block ≡ true
+  suited = (keeps it.layout (file it.shown.value)
+      (and_parts (keeps_disk it.layout (file it.shown.value)) (is_ready it.layout it.sectors (file (get_or it.past.items 0 it.shown).value)) honest).0).suited
+
+  same : (file it.file ≡ file it.shown.value) ⊎ (file it.file ≡ file_in_doubt (file it.shown.value)) → suits it.layout (file it.file).block ≡ true
+  same (inl is) = ap (λ (f : FileState). suits it.layout f.block) is ∙ suited
+  same (inr is) = ap (λ (f : FileState). suits it.layout f.block) is ∙ suited
+
+opened-as : (left file : FileState) (layout : Layout) (old new : Disk) → suits layout left.block ≡ true → IsHonest old
+    → ((image : Image) → IsImage (state_in_file layout left) image → MayLeave old image)
+    → HasNothingNew left file → new.sectors ≡ old.sectors → IsOpened file 0 layout new → LosesPower old old.clock new
+opened-as left file layout old new suited honest may nothing sectors opened =
     let octets = opened.settles.0 in
     record {
       image = image_in_file layout octets;
-      left = (old.clock, le_refl old.clock, le_refl old.clock, may (image_in_file layout octets) (file-image layout file octets suited opened.settles.1));
-      alike = record { sectors = sectors; honest = honest };
+      left = (
+        old.clock,
+        le_refl old.clock,
+        le_refl old.clock,
+        may (image_in_file layout octets) (file-image layout left octets suited (nothing.images octets opened.settles.1)),
+      );
+      alike = record { sectors = sectors; honest = opened.honest (ap (suits layout) nothing.block ∙ suited) ∙ sym honest };
       settled = opened.state ∙ as-settled layout file opened.settled octets opened.settles.3;
     }
+
+pub opened-again : (left file : FileState) (layout again : Layout) (old new : Disk) → IsFoundAs layout old.sectors left → suits layout left.block ≡ true → IsHonest old
+    → ((image : Image) → IsImage (state_in_file layout left) image → MayLeave old image)
+    → HasNothingNew left file → IsOpened file 0 again new → (again ≡ layout) × LosesPower old old.clock new
+opened-again left file layout again old new found suited honest may nothing opened =
+    let is = found-opened layout again old.sectors left file new found suited nothing opened in
+    (is.0, opened-as left file layout old new suited honest may nothing is.1 (subst (λ (l : Layout). IsOpened file 0 l new) is.0 opened))

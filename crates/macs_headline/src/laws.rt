@@ -1,9 +1,10 @@
 //! The laws, and that what a program does is what they speak of.
 
 ghost use Rattle.std.specs.Prelude.{◌≡◌, ◌≤◌, ℕ, true};
-ghost use Rattle.macs_disk.specs.Disk.{Disk, LeftSince, MayLeave, disk_after_loss};
-ghost use Rattle.macs_disk.specs.FileDisks.{IsBlank, IsLeftAsShown, IsOpened, disk_in_file, file_left, layout_of, state_in_file};
-ghost use Rattle.macs_disk.specs.Files.{Behaves, FileState};
+ghost use Rattle.macs_disk.specs.Disk.{Disk, IsHonest, LeftSince, MayLeave, disk_after_loss};
+ghost use Rattle.macs_disk.specs.FileDisks.{IsBlank, IsFoundAgain, IsFoundAs, IsLeftAsShown, IsOpened, disk_in_file};
+ghost use Rattle.macs_disk.specs.FileDisks.{file_left, layout_of, state_in_file};
+ghost use Rattle.macs_disk.specs.Files.{Behaves, FileState, HasNothingNew};
 ghost use Rattle.macs_disk.specs.Layouts.{suits};
 ghost use Rattle.macs_disk.specs.Memory.{blank_memory};
 ghost use Rattle.macs_disk.specs.States.{Image, IsImage};
@@ -176,16 +177,18 @@ pub fn files<F: DiskFile>()
     // A new one is a new disk.
     ensures new { (old new : FileState) (layout : Layout) (disk : Disk) → IsBlank old new layout disk
         → suits layout old.block ≡ true → IsNewDisk disk }
-    // To open its file again, after a power loss or an end of the program, is to it what a power loss is:
-    // the new disk has one of the images that the file might have been left with.
-    ensures opened_again { (file : FileState) (layout : Layout) (old new : Disk) → IsOpened file 0 layout new
-        → suits layout file.block ≡ true → ((image : Image) → IsImage (state_in_file layout file) image → MayLeave old image)
-        → new.sectors ≡ old.sectors → new.honest ≡ old.honest → LosesPower old old.clock new }
-    // So it is to open the file that a disk left, be it after a call that failed.
-    ensures reopened { (it : FileDisk F) (new : Disk) → IsLeftAsShown F.file it → Behaves (F.file (file_left it))
-        → suits (layout_of it) (F.file (file_left it)).block ≡ true → IsOpened (F.file (file_left it)) 0 (layout_of it) new
-        → new.sectors ≡ (disk_in_file F.file it).sectors → new.honest ≡ (disk_in_file F.file it).honest
-        → LosesPower (disk_in_file F.file it) (disk_in_file F.file it).clock new }
+    // To open its file again is to a disk what a power loss is: the file as it was left, or as a power loss or
+    // openings that failed left that. The new disk has its layout and its sectors, and one of the images that
+    // the file might have been left with.
+    ensures opened_again { (left file : FileState) (layout again : Layout) (old new : Disk)
+        → IsFoundAs layout old.sectors left → suits layout left.block ≡ true → IsHonest old
+        → ((image : Image) → IsImage (state_in_file layout left) image → MayLeave old image)
+        → HasNothingNew left file → IsOpened file 0 again new → (again ≡ layout) × LosesPower old old.clock new }
+    // So it is where a disk in a file left it, be it after a call that failed.
+    ensures reopened { (it : FileDisk F) (file : FileState) (again : Layout) (new : Disk)
+        → IsLeftAsShown F.file it → IsFoundAgain F.file it → Behaves (F.file (file_left it))
+        → IsHonest (disk_in_file F.file it) → HasNothingNew (F.file (file_left it)) file → IsOpened file 0 again new
+        → (again ≡ layout_of it) × LosesPower (disk_in_file F.file it) (disk_in_file F.file it).clock new }
 {
     a_file_is_left_as_its_disk::<F>();
 }

@@ -1,14 +1,16 @@
 -- What the calls of a file in memory do.
-use Rattle.std.proofs.Common.{◌≡◌, ◌≤◌, ◌<◌, ◌+◌, ◌-◌, ◌*◌, ◌/◌, ◌==◌, ◌&&◌, ◌||◌, inl, inr, ℕ, if◌then◌else◌, max, Bool, true, false, List, [], ◌∷◌, length, nat_le, nat_lt, refl, ap, ◌∙◌, arith, sym}
+use Rattle.std.proofs.Common.{◌≡◌, ◌≤◌, ◌<◌, ◌+◌, ◌-◌, ◌*◌, ◌/◌, ◌==◌, ◌&&◌, ◌||◌, inl, inr, ℕ, if◌then◌else◌, max, Bool, true, false, List, [], ◌∷◌, length, nat_le, nat_lt, refl, ap, ◌∙◌, arith, subst, sym}
 use Rattle.std.proofs.Math.Nat.{lt-mul-div-succ, mul-div-le, mul-add}
 use Rattle.std.proofs.lemmas.Bool.{cases_Bool, cases_lt, le-leb, lt-leb, or_parts}
 use Rattle.std.proofs.lemmas.Bool.Decides.{nat_tests}
 use Rattle.std.proofs.lemmas.List.{get_or_past}
-use Rattle.macs_disk.specs.Files.{FileState, IsFileImage, file_after_write, file_reread, has_some, put_from}
-use Rattle.macs_mem_file.specs.Blocks.{IsKept, are_octets, file_in_memory, flag_in, is_in_first_half, left_of, octet_at, octet_left}
+use Rattle.macs_disk.specs.FileEvidence.{is_same}
+use Rattle.macs_disk.specs.Files.{FileState, HasNothingNew, IsFileImage, file_after_write, file_reread, has_some, put_from}
+use Rattle.macs_mem_file.specs.Blocks.{IsKept, are_octets, file_in_memory, flag_in, is_in_first_half, left_of, octet_at, octet_left, size_left}
 use Rattle.macs_mem_file.specs.declared.blocks.Left.{Left}
+use Rattle.macs_mem_file.specs.declared.blocks.Left.TheVariants.{Durable, Half, Written, Zeros}
 use Rattle.macs_mem_file.specs.Evidence.{block-of}
-use Rattle.macs_mem_file.specs.MemFiles.{file_pressed}
+use Rattle.macs_mem_file.specs.MemFiles.{file_after_loss, file_pressed}
 use Rattle.macs_disk.specs.Recorded.{flag_at}
 
 -- octets outside what was put are as before
@@ -93,14 +95,14 @@ size-stays durable size end le = elim (cases_lt size end) [
   and-one true = refl
   and-one false = refl
 
-pub put_writes : (block size durable_size : ℕ) (cache durable : List ℕ) (pending : List Bool) (is_clean is_sure : Bool) (at count : ℕ) (xs : List ℕ)
+pub put_writes : (block size durable_size : ℕ) (cache durable : List ℕ) (pending : List Bool) (is_clean is_sure is_claimed : Bool) (at count : ℕ) (xs : List ℕ)
     → length xs ≡ count → 0 < count → durable_size ≤ size
     → (longer : ℕ) (newer : List ℕ) (more : List Bool) → longer ≡ max size (at + count) → ((p : ℕ) → octet_at newer p ≡ put_from (octet_at cache) at xs p)
     → ((n : ℕ) → flag_at more n ≡ (has_some block at (at + count) n || flag_at pending n))
-    → file_in_memory block longer durable_size newer durable more false is_sure
-    ≡ file_after_write (file_in_memory block size durable_size cache durable pending is_clean is_sure) at xs
-put_writes block size durable_size cache durable pending is_clean is_sure at count [] is some le longer newer more size-is put marks = absurd (omega (arith, is, some))
-put_writes block size durable_size cache durable pending is_clean is_sure at count (x ∷ xs) is some le longer newer more size-is put marks = λ j. record {
+    → file_in_memory block longer durable_size newer durable more false is_sure is_claimed
+    ≡ file_after_write (file_in_memory block size durable_size cache durable pending is_clean is_sure is_claimed) at xs
+put_writes block size durable_size cache durable pending is_clean is_sure is_claimed at count [] is some le longer newer more size-is put marks = absurd (omega (arith, is, some))
+put_writes block size durable_size cache durable pending is_clean is_sure is_claimed at count (x ∷ xs) is some le longer newer more size-is put marks = λ j. record {
   behaves = true;
   block = block;
   size = grown j;
@@ -110,6 +112,7 @@ put_writes block size durable_size cache durable pending is_clean is_sure at cou
   pending = λ n. marked n j;
   is_clean = false;
   is_sure = is_sure;
+  is_claimed = is_claimed;
 } where
   grown : longer ≡ max size (at + length (x ∷ xs))
   grown = size-is ∙ ap (λ (c : ℕ). max size (at + c)) (sym is)
@@ -121,13 +124,31 @@ put_writes block size durable_size cache durable pending is_clean is_sure at cou
   marked n = marks n ∙ ap (λ (c : ℕ). has_some block at (at + c) n || flag_at pending n) (sym is)
 
 -- octets that are durable where nothing is pending
-pub image_kept : (block size durable_size : ℕ) (cache durable image : List ℕ) (pending : List Bool) (is_clean is_sure : Bool)
+pub image_kept : (block size durable_size : ℕ) (cache durable image : List ℕ) (pending : List Bool) (is_clean is_sure is_claimed : Bool)
     → ((p : ℕ) → flag_in block pending p ≡ false → octet_at image p ≡ octet_at durable p) → are_octets image
-    → IsFileImage (file_in_memory block size durable_size cache durable pending is_clean is_sure) (octet_at image)
-image_kept block size durable_size cache durable image pending is_clean is_sure kept octets = record {
+    → IsFileImage (file_in_memory block size durable_size cache durable pending is_clean is_sure is_claimed) (octet_at image)
+image_kept block size durable_size cache durable image pending is_clean is_sure is_claimed kept octets = record {
   kept = λ n k clear lt. kept (block * n + k) (ap (flag_at pending) (block-of block n k lt) ∙ clear);
   octets = octets;
 }
+
+-- a power loss leaves nothing new
+pub nothing_lost : (old new : FileState) → new ≡ file_after_loss old new.size new.durable → IsFileImage old new.durable
+    → (old.is_size_durable ≡ true → new.size ≡ old.size) → HasNothingNew old new
+nothing_lost old new is left same = record {
+  block = ap (λ (f : FileState). f.block) is;
+  size = λ durable. (same durable, ap (λ (f : FileState). f.is_size_durable) is);
+  images = λ image next.
+      let now : IsFileImage (file_after_loss old new.size new.durable) image = subst (λ (f : FileState). IsFileImage f image) is next in
+      record { kept = λ n k clear lt. now.kept n k refl lt ∙ left.kept n k clear lt; octets = now.octets };
+}
+
+-- of a file whose size is durable
+pub size_lost : (left : Left) (size durable_size lost : ℕ) → lost ≡ size_left left size durable_size → (durable_size == size) ≡ true → lost ≡ size
+size_lost Durable size durable_size lost is durable = is ∙ is_same durable_size size durable
+size_lost Written size durable_size lost is durable = is
+size_lost Half size durable_size lost is durable = is
+size_lost Zeros size durable_size lost is durable = is ∙ is_same durable_size size durable
 
 -- a choice, by what it is in either case
 chosen : (b : Bool) (x this that : ℕ) → (b ≡ true → x ≡ this) → (b ≡ false → x ≡ that) → x ≡ (if b then this else that)
@@ -135,15 +156,15 @@ chosen true x this that up down = up refl
 chosen false x this that up down = down refl
 
 -- what a power loss leaves, once all that is dirty was written
-pub loss_leaves : (block size durable_size : ℕ) (cache device durable : List ℕ) (dirty pending : List Bool) (is_clean is_sure : Bool) (left : Left)
+pub loss_leaves : (block size durable_size : ℕ) (cache device durable : List ℕ) (dirty pending : List Bool) (is_clean is_sure is_claimed : Bool) (left : Left)
     → (written spoiled : List ℕ)
     → ((p : ℕ) → flag_in block dirty p ≡ true → octet_at written p ≡ octet_at cache p)
     → ((p : ℕ) → flag_in block dirty p ≡ false → octet_at written p ≡ octet_at device p)
     → ((p : ℕ) → flag_in block pending p ≡ true → octet_at spoiled p ≡ left_of left (is_in_first_half block p) (octet_at durable p) (octet_at written p))
     → ((p : ℕ) → flag_in block pending p ≡ false → octet_at spoiled p ≡ octet_at durable p)
-    → (p : ℕ) → octet_at spoiled p ≡ octet_left left (file_in_memory block size durable_size cache durable pending is_clean is_sure)
+    → (p : ℕ) → octet_at spoiled p ≡ octet_left left (file_in_memory block size durable_size cache durable pending is_clean is_sure is_claimed)
     (λ q. if flag_in block dirty q then octet_at cache q else octet_at device q) p
-loss_leaves block size durable_size cache device durable dirty pending is_clean is_sure left written spoiled copied others lost kept p =
+loss_leaves block size durable_size cache device durable dirty pending is_clean is_sure is_claimed left written spoiled copied others lost kept p =
     let now : octet_at written p ≡ (if flag_in block dirty p then octet_at cache p else octet_at device p) =
     chosen (flag_in block dirty p) (octet_at written p) (octet_at cache p) (octet_at device p) (copied p) (others p) in
     chosen (flag_in block pending p) (octet_at spoiled p)
@@ -152,12 +173,12 @@ loss_leaves block size durable_size cache device durable dirty pending is_clean 
     (λ up. lost p up ∙ ap (λ (o : ℕ). left_of left (is_in_first_half block p) (octet_at durable p) o) now) (kept p)
 
 -- of a file that is sure all that is pending is dirty, so that what is written there is what it shows
-pub left_of_seen : (block size durable_size : ℕ) (cache device durable : List ℕ) (dirty pending : List Bool) (is_clean is_sure : Bool) (left : Left)
+pub left_of_seen : (block size durable_size : ℕ) (cache device durable : List ℕ) (dirty pending : List Bool) (is_clean is_sure is_claimed : Bool) (left : Left)
     → IsKept block cache device durable dirty pending is_clean is_sure → is_sure ≡ true → (p : ℕ)
-    → octet_left left (file_in_memory block size durable_size cache durable pending is_clean is_sure)
+    → octet_left left (file_in_memory block size durable_size cache durable pending is_clean is_sure is_claimed)
     (λ q. if flag_in block dirty q then octet_at cache q else octet_at device q) p
-    ≡ octet_left left (file_in_memory block size durable_size cache durable pending is_clean is_sure) (octet_at cache) p
-left_of_seen block size durable_size cache device durable dirty pending is_clean is_sure left kept sure p =
+    ≡ octet_left left (file_in_memory block size durable_size cache durable pending is_clean is_sure is_claimed) (octet_at cache) p
+left_of_seen block size durable_size cache device durable dirty pending is_clean is_sure is_claimed left kept sure p =
     same (flag_in block pending p) (octet_at durable p) (if flag_in block dirty p then octet_at cache p else octet_at device p) (octet_at cache p)
     (λ up. shown (flag_in block dirty p) (octet_at cache p) (octet_at device p) (λ down. apart (sym up ∙ kept.all sure (p / block) down))) where
       apart : true ≡ false → ⊥
@@ -209,6 +230,7 @@ pressed_reread file pressed is same shows = λ j. record {
   pending = ap (λ (f : FileState). f.pending) same j;
   is_clean = ap (λ (f : FileState). f.is_clean) same j;
   is_sure = sure j;
+  is_claimed = ap (λ (f : FileState). f.is_claimed) same j;
 } where
   or-one : (b : Bool) → (b || true) ≡ true
   or-one true = refl

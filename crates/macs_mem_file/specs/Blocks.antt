@@ -63,8 +63,8 @@ size_left Half written durable = written
 size_left Zeros written durable = durable
 
 -- a file by what it keeps
-abbrev pub file_in_memory : ℕ → ℕ → ℕ → List ℕ → List ℕ → List Bool → Bool → Bool → FileState
-file_in_memory block size durable_size cache durable pending is_clean is_sure =
+abbrev pub file_in_memory : ℕ → ℕ → ℕ → List ℕ → List ℕ → List Bool → Bool → Bool → Bool → FileState
+file_in_memory block size durable_size cache durable pending is_clean is_sure is_claimed =
     record {
       behaves = true;
       block = block;
@@ -75,4 +75,5 @@ file_in_memory block size durable_size cache durable pending is_clean is_sure =
       pending = flag_at pending;
       is_clean = is_clean;
       is_sure = is_sure;
+      is_claimed = is_claimed;
     }

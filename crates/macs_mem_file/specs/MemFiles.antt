@@ -9,7 +9,7 @@ use Rattle.macs_mem_file.specs.declared.plan.FileCall.{FileCall}
 
 -- a file in memory, as a file
 abbrev pub file_of : {A : Type 0} → MemFile A → FileState
-file_of it = file_in_memory it.block it.size it.durable_size it.cache.items it.durable.items it.pending.items it.is_clean it.is_sure
+file_of it = file_in_memory it.block it.size it.durable_size it.cache.items it.durable.items it.pending.items it.is_clean it.is_sure it.is_claimed
 
 -- what the device has once all that is dirty was written to it
 abbrev pub written_in : {A : Type 0} → MemFile A → ℕ → ℕ
@@ -40,6 +40,10 @@ octets_in Octets4096 = 4096
 abbrev pub file_pressed : FileState → (ℕ → ℕ) → FileState
 file_pressed file octets = record file { seen = octets }
 
+-- the file that its program let go of and opened again: it is not claimed, nor sure before it was synced and read anew
+abbrev pub file_closed : FileState → FileState
+file_closed file = record file { is_sure = false; is_claimed = false }
+
 -- the file that a power loss left with so many octets, and with these. It is not sure before it was synced and read anew.
 abbrev pub file_after_loss : FileState → ℕ → (ℕ → ℕ) → FileState
 file_after_loss file size octets =
@@ -53,4 +57,5 @@ file_after_loss file size octets =
       pending = λ _. false;
       is_clean = true;
       is_sure = false;
+      is_claimed = false;
     }

@@ -43,6 +43,8 @@ pub struct MemFile<A: Allocator = Global> {
     is_clean: bool,
     /// The file was read anew, and no sync has failed since.
     is_sure: bool,
+    /// It was claimed since it was opened.
+    is_claimed: bool,
     /// How many octets a call moves at most.
     most: usize,
     plan: Plan,
@@ -83,6 +85,7 @@ impl<A: Allocator + Copy> MemFile<A> {
             durable_size: 0,
             is_clean: true,
             is_sure: false,
+            is_claimed: false,
             most,
             plan: Plan::none(),
             reached: 0,
@@ -92,9 +95,9 @@ impl<A: Allocator + Copy> MemFile<A> {
 
 impl<A: Allocator> MemFile<A> {
     ghost use Rattle.std.specs.Prelude.{◌≡◌, ◌<◌, ◌≤◌, ◌+◌, false, true, length, nat_lt, take};
-    ghost use Rattle.macs_disk.specs.Files.{IsFileImage, IsSure, file_after_write, file_in_doubt, file_synced};
+    ghost use Rattle.macs_disk.specs.Files.{HasNothingNew, IsFileImage, IsSure, file_after_write, file_in_doubt, file_synced};
     ghost use Rattle.macs_mem_file.specs.Blocks.{octet_at, octet_left, size_left};
-    ghost use Rattle.macs_mem_file.specs.MemFiles.{file_after_loss, file_of, file_pressed, written_in};
+    ghost use Rattle.macs_mem_file.specs.MemFiles.{file_after_loss, file_closed, file_of, file_pressed, written_in};
     ghost use Rattle.macs_mem_file.specs.MemFiles.{blocks_reached_by, durable_size_of, failing_call_of, failing_number_of};
 
     /// Has the so manieth call of this kind fail, from now on, once. With 0 none does.
@@ -190,9 +193,10 @@ impl<A: Allocator> MemFile<A> {
 
     /// The program ends, and the file is opened again: the kernel keeps the pages as they are.
     pub fn close(&mut self)
-        ensures { file_of self.new ≡ file_in_doubt (file_of self.old) }
+        ensures { file_of self.new ≡ file_closed (file_of self.old) }
     {
         self.is_sure = false;
+        self.is_claimed = false;
     }
 
     /// The power is lost, and after the next boot the file is opened again. Each block that was written since
@@ -202,6 +206,7 @@ impl<A: Allocator> MemFile<A> {
         ensures lost { file_of self.new
             ≡ file_after_loss (file_of self.old) (file_of self.new).size (file_of self.new).durable }
         ensures image { IsFileImage (file_of self.old) (file_of self.new).durable }
+        ensures nothing_new { HasNothingNew (file_of self.old) (file_of self.new) }
         ensures size { (file_of self.old).is_size_durable ≡ true → (file_of self.new).size ≡ (file_of self.old).size }
         ensures left { (p : ℕ) → (file_of self.new).durable p
             ≡ octet_left left (file_of self.old) (written_in self.old) p }
@@ -235,6 +240,7 @@ impl<A: Allocator> MemFile<A> {
         self.durable_size = size;
         self.is_clean = true;
         self.is_sure = false;
+        self.is_claimed = false;
     }
 }
 
@@ -246,10 +252,12 @@ impl<A: Allocator> DiskFile for MemFile<A> {
 
     ghost file = { file_of };
 
-    ghost sound = { λ it _. memory-sound it.block it.size it.durable_size it.cache.items it.device.items it.durable.items it.dirty.items it.pending.items it.is_clean it.is_sure it.kept };
+    ghost sound = { λ it _. memory-sound it.block it.size it.durable_size it.cache.items it.device.items it.durable.items it.dirty.items it.pending.items it.is_clean it.is_sure it.is_claimed it.kept };
 
     fn claim(&mut self) -> io::Result<()> {
-        self.plan.pass(FileCall::Claim)
+        self.plan.pass(FileCall::Claim)?;
+        self.is_claimed = true;
+        Ok(())
     }
 
     fn size(&mut self) -> io::Result<u64> {

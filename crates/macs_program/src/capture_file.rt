@@ -1,7 +1,7 @@
 //! What captures ask of a file, besides what a disk does.
 
-ghost use Rattle.std.specs.Prelude.{◌≡◌, OnErr};
-ghost use Rattle.macs_disk.specs.Files.{Behaves};
+ghost use Rattle.std.specs.Prelude.{◌≡◌, OnErr, OnOk};
+ghost use Rattle.macs_disk.specs.Files.{Behaves, IsClaimed, file_cut};
 
 use macs_disk::DiskFile;
 use std::fs::File;
@@ -15,9 +15,12 @@ pub trait CaptureFile: DiskFile {
         ensures steady { (Self.file self.new).behaves ≡ (Self.file self.old).behaves }
         ensures effect { Behaves (Self.file self.old) → Self.file self.new ≡ Self.file self.old };
 
-    /// Cuts the file to nothing.
+    /// Cuts the file to nothing. What becomes of a file that is not claimed is not said, since others may
+    /// write to it.
     fn cut(&mut self) -> io::Result<()>
         ensures steady { (Self.file self.new).behaves ≡ (Self.file self.old).behaves }
+        ensures ok { Behaves (Self.file self.old) → IsClaimed (Self.file self.old)
+            → OnOk result (Self.file self.new ≡ file_cut (Self.file self.old)) }
         ensures err { Behaves (Self.file self.old) → OnErr result (Self.file self.new ≡ Self.file self.old) };
 }
 

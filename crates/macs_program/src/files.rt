@@ -1,7 +1,7 @@
 //! The files that the words name.
 
 ghost use Rattle.std.specs.Prelude.{◌≡◌, ◌≢◌, ◌⊎◌, ◌/◌, false, true, ℕ, List, IfErr, IfOk, IfSome, OnErr, OnOk};
-ghost use Rattle.macs_disk.specs.Files.{Behaves, IsSure};
+ghost use Rattle.macs_disk.specs.Files.{Behaves, IsSure, file_claimed, file_cut};
 ghost use Rattle.std.specs.IoError.{error_kind};
 ghost use Rattle.std.specs.declared.io.ErrorKind.TheVariants.{OutOfMemory};
 ghost use Rattle.macs_program.specs.Applying.{SaysCommands};
@@ -181,11 +181,14 @@ fn open_output<T: Files>(rt: &T, path: &str) -> io::Result<T::File> {
     }
 }
 
-/// Cuts a file to nothing. An error where another open has claimed it, or where it holds an
-/// endpoint or cannot be looked at: then no octet of it is changed.
+/// Claims a file and cuts it to nothing. An error where another open has claimed it, or where it holds an
+/// endpoint or cannot be looked at: then it is as it was, but for the claim.
 fn cut_output<F: CaptureFile>(file: &mut F) -> io::Result<()>
     ensures steady { (F.file file.new).behaves ≡ (F.file file.old).behaves }
-    ensures same { Behaves (F.file file.old) → OnErr result (F.file file.new ≡ F.file file.old) }
+    ensures same { Behaves (F.file file.old)
+        → OnErr result (file_claimed (F.file file.new) ≡ file_claimed (F.file file.old)) }
+    ensures cut { Behaves (F.file file.old)
+        → OnOk result (F.file file.new ≡ file_cut (file_claimed (F.file file.old))) }
     ensures free { Behaves (F.file file.old) → IsSure (F.file file.old)
         → OnOk result (¬ HoldsEndpoint (F.file file.old) ((F.file file.old).size / 512)) }
 {

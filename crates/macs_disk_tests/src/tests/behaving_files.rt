@@ -3,9 +3,10 @@
 ghost use Rattle.std.specs.Prelude.{◌≡◌, ◌<◌, OnOk};
 ghost use Rattle.macs_disk.specs.States.{Image};
 ghost use Rattle.macs_disk.specs.Disk.{IsHonest, MayLeave};
+ghost use Rattle.macs_disk.specs.FileDisks.{IsFoundAgain, disk_in_file, layout_of};
 
 use super::{full, seen};
-use macs_disk::{DeviceFault, FileDisk, SectorDisk};
+use macs_disk::{DeviceFault, DiskFile, FileDisk, Layout, SectorDisk};
 use macs_mem_file::{DeviceBlock, MemFile};
 use std::alloc::Allocator;
 use std::process::Abort;
@@ -21,6 +22,16 @@ fn keep<D: SectorDisk>(disk: &mut D, at: u64, octets: &[u8; 512]) -> Result<(), 
     disk.sync()
 }
 
+/// Writes a sector of a packed disk and syncs it, done or not. The disk is found again then, where it was.
+fn use_packed<F: DiskFile>(disk: &mut FileDisk<F>)
+    requires packed { layout_of disk.old ≡ Layout.Packed }
+    requires within { 3 < (disk_in_file F.file disk.old).sectors }
+    ensures { IsFoundAgain F.file disk.old → IsFoundAgain F.file disk.new }
+{
+    let _written = disk.write(3, &full(7));
+    let _synced = disk.sync();
+}
+
 #[test]
 fn a_disk_in_a_file_that_behaves_is_honest(rt: HostRuntime) -> Result<(), Fail> {
     let file = MemFile::new(rt.alloc(), 1, DeviceBlock::Octets512, 512)?;
@@ -31,5 +42,21 @@ fn a_disk_in_a_file_that_behaves_is_honest(rt: HostRuntime) -> Result<(), Fail> 
     assert!(rt; keep(&mut disk, 3, &full(7)).is_ok());
     assert!(rt; seen(&rt, &mut disk, 3) == Ok(7));
     assert!(rt; seen(&rt, &mut disk, 2) == Ok(0));
+    Ok(())
+}
+
+#[test]
+fn a_disk_in_a_file_is_found_again(rt: HostRuntime) -> Result<(), Fail> {
+    let file = MemFile::new(rt.alloc(), 129, DeviceBlock::Octets512, 4_096)?;
+    let Ok(mut disk) = FileDisk::blank(file, Layout::Packed) else {
+        panic!(rt; "no new disk");
+    };
+    assert!(rt; 3 < disk.sectors());
+    use_packed(&mut disk);
+    let Ok(mut again) = disk.reopen() else {
+        panic!(rt; "no disk");
+    };
+    assert!(rt; again.sectors() == 1_028);
+    assert!(rt; seen(&rt, &mut again, 3) == Ok(7));
     Ok(())
 }

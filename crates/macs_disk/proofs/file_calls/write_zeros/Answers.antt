@@ -1,7 +1,7 @@
-use Rattle.std.proofs.Common.{◌≤◌, inl, arith, ap, ◌∙◌}
-use Rattle.std.proofs.lemmas.List.{take-replicate}
+use Rattle.std.proofs.Common.{◌≡◌, ◌≤◌, ℕ, inl, arith, ap, ◌∙◌, length, replicate, take}
+use Rattle.std.proofs.lemmas.List.{length-replicate, take-replicate}
 use Rattle.macs_disk.specs.Files.{FileState, IsSure}
-use Rattle.macs_disk.proofs.FileWrites.{write-sure, zeros-more}
+use Rattle.macs_disk.proofs.FileWrites.{failed-writes, write-sure, zeros-failed, zeros-more}
 use Rattle.macs_disk.proofs.file_calls.write_zeros.Goals as goal
 
 pub loop-preserved : goal.loop-preserved
@@ -19,4 +19,22 @@ loop-preserved g c =
           let sure : IsSure (file c.loop.file) = ap (λ (f : FileState). f.is_sure) (inv.3 behaves is) ∙ write-sure (file c.args.file.now) c.args.from _ ∙ is in
           zeros-more (file c.args.file.now) (file c.loop.file) (file c.write_all.new.file) c.args.from c.loop.at count _ (g.met.F.DiskFile.sound c.args.file.now behaves).wide
           (inv.3 behaves is) inv.0 (take-replicate count 4096 0 short) ((c.in_ok-write_all.ensures.effect (inv.2 ∙ behaves)).ok sure),
+      λ behaves doubt. (c.in_ok-write_all.ensures.effect (inv.2 ∙ behaves)).doubt (inv.4 behaves doubt),
     )
+
+pub returns-in_err-write_all-clause-effect : goal.returns-in_err-write_all-clause-effect
+returns-in_err-write_all-clause-effect g c behaves =
+    let inv = c.loop.invariant in
+    let file = g.F.DiskFile.file in
+    let count = c.min-count.result in
+    let least = c.min-count.ensures in
+    let more = c.if-at-to.false in
+    let short : count ≤ 4096 = omega (arith, least) in
+    let long : length (take count (replicate {A = ℕ} 4096 0)) ≡ count = ap length (take-replicate count 4096 0 short) ∙ length-replicate {A = ℕ} count 0 in
+    failed-writes (file c.args.file.now) (file c.write_all.new.file) c.args.from _ c.from_residual.result c.from_residual.ensures.0
+    (λ is.
+    let sure : IsSure (file c.loop.file) = ap (λ (f : FileState). f.is_sure) (inv.3 behaves is) ∙ write-sure (file c.args.file.now) c.args.from _ ∙ is in
+    zeros-failed (file c.args.file.now) (file c.loop.file) (file c.write_all.new.file) c.args.from c.loop.at c.args.to (length (take count (replicate {A = ℕ} 4096 0)))
+    (g.met.F.DiskFile.sound c.args.file.now behaves).wide (inv.3 behaves is) inv.0 ((c.in_err-write_all.ensures.effect (inv.2 ∙ behaves)).err sure)
+    (omega (arith, long, least, more)))
+    (λ is. (c.in_err-write_all.ensures.effect (inv.2 ∙ behaves)).doubt (inv.4 behaves is))

@@ -1,5 +1,5 @@
 -- Zeros were written from the front up to here, and nothing else.
-use Rattle.std.proofs.Common.{◌≡◌, ◌≤◌, ◌-◌, ◌⊎◌, replicate}
+use Rattle.std.proofs.Common.{◌≡◌, ◌≤◌, ◌-◌, ◌⊎◌, false, replicate}
 use Rattle.macs_disk.specs.Files.{Behaves, IsSure, file_after_write}
 use Rattle.macs_disk.proofs.file_calls.write_zeros.Given as goal
 
@@ -8,3 +8,4 @@ invariant-loop g l = (l.initial.from ≤ l.at) × ((l.at ≤ l.initial.to) ⊎ (
     × ((g.F.DiskFile.file l.file).behaves ≡ (g.F.DiskFile.file l.initial.file).behaves)
     × (Behaves (g.F.DiskFile.file l.initial.file) → IsSure (g.F.DiskFile.file l.initial.file)
     → g.F.DiskFile.file l.file ≡ file_after_write (g.F.DiskFile.file l.initial.file) l.initial.from (replicate (l.at - l.initial.from) 0))
+    × (Behaves (g.F.DiskFile.file l.initial.file) → (g.F.DiskFile.file l.initial.file).is_sure ≡ false → (g.F.DiskFile.file l.file).is_sure ≡ false)

@@ -3,9 +3,11 @@ use Rattle.std.specs.declared.snapshot.Snapshot.{Snapshot}
 use Rattle.macs_disk.specs.Disk.{Reads}
 use Rattle.macs_disk.specs.Layouts.{place}
 use Rattle.macs_disk.specs.declared.layout.Layout.{Layout}
-use Rattle.macs_disk.specs.Files.{values_from}
+use Rattle.macs_disk.specs.FileDisks.{IsFoundAs}
+use Rattle.macs_disk.specs.Files.{FileState, values_from}
 use Rattle.macs_disk.proofs.FileSectors.{keeps-same, reads-sector}
 use Rattle.macs_disk.proofs.FileCalls.{effect, file-call, fit-before, fit-through, on-ok, one-more, same-count, through}
+use Rattle.macs_disk.proofs.FoundAgain.{found-next}
 use Rattle.macs_disk.proofs.file.FileDiskSectorDisk.read.Goals as goal
 
 pub returns-clause-call : goal.returns-clause-call
@@ -45,3 +47,19 @@ returns-clause-effect g c honest =
     (through file (λ s t. Reads s t c.args.at into c.count.result) old.layout lent back old.shown new.shown went came
     (reads-sector old.layout (file lent) (file back) c.args.at into c.count.result (c.read_sector-answer.ensures.same before.behaves)
     (on-ok c.read_sector-answer.result c.count.result _ c.count.ensures.alike octets)))
+
+pub returns-clause-again : goal.returns-clause-again
+returns-clause-again g c found =
+    let file = g.F.DiskFile.file in
+    let old = c.args.self.now in
+    let new = c.count.new.self in
+    let lent = c.begin.new.self.file in
+    let back = c.read_sector-answer.new.file in
+    let same = c.read_sector-answer.ensures.same in
+    found-next file old.layout new.layout old.sectors new.sectors old.file lent back new.file old.is_failed new.is_failed (c.count.ensures.layout ∙ c.begin.ensures.layout)
+    (c.count.ensures.sectors ∙ c.begin.ensures.sectors) c.begin.ensures.file c.count.ensures.file c.in_ok-begin.ensures.live.0 c.read_sector-answer.ensures.steady
+    (λ behaves sure is. (
+      subst (IsFoundAs old.layout old.sectors) (sym (same behaves)) is,
+      λ _. ap (λ (f : FileState). f.is_sure) (same behaves) ∙ sure,
+    ))
+    found

@@ -1,10 +1,12 @@
-use Rattle.std.proofs.Common.{◌≡◌, ◌&&◌, ap, ◌∙◌, sym, subst, arith, get_or, Ok, List, true}
+use Rattle.std.proofs.Common.{◌≡◌, ◌&&◌, ap, ◌∙◌, sym, subst, arith, get_or, refl, rules, Ok, List, true, false}
 use Rattle.std.specs.declared.snapshot.Snapshot.{Snapshot}
 use Rattle.macs_disk.specs.Disk.{Syncs}
 use Rattle.macs_disk.specs.FileDisks.{is_ready, keeps_disk, state_in_file}
+use Rattle.macs_disk.specs.Files.{Behaves, FileState, IsSure}
 use Rattle.macs_disk.specs.declared.disk.DeviceFault.{DeviceFault}
 use Rattle.macs_disk.proofs.FileSectors.{keeps-after-sync, state-clean, syncs-file}
 use Rattle.macs_disk.proofs.FileCalls.{clean-first, effect, fit-before, through}
+use Rattle.macs_disk.proofs.FoundAgain.{found-doubted, found-next, found-still, found-synced}
 use Rattle.macs_disk.proofs.file.FileDiskSectorDisk.sync.Goals as goal
 
 pub returns-then-self-eq1-clause-effect : goal.returns-then-self-eq1-clause-effect
@@ -41,3 +43,41 @@ returns-clause-effect g c honest =
     effect file (λ s t. Syncs {E = DeviceFault} s t (Ok tt)) old.layout begun.layout old.past.items begun.past.items old.shown shown old.clock begun.clock old.kept begun.kept c.begin.ensures.layout
     (through file (λ s t. Syncs {E = DeviceFault} s t (Ok tt)) old.layout lent back old.shown shown went c.of.ensures
     (syncs-file old.layout (file lent) (file back) tt before.sure (c.in-Ok.ensures.effect before.behaves)))
+
+pub returns-then-self-eq1-clause-again : goal.returns-then-self-eq1-clause-again
+returns-then-self-eq1-clause-again g c found =
+    let old = c.args.self.now in
+    let new = c.begin.new.self in
+    found-still g.F.DiskFile.file old.layout new.layout old.sectors new.sectors old.file new.file old.is_failed new.is_failed c.begin.ensures.layout c.begin.ensures.sectors
+    c.begin.ensures.file (λ goes_on. sym c.begin.ensures.same ∙ goes_on) found
+
+pub returns-clause-again : goal.returns-clause-again
+returns-clause-again g c found =
+    let file = g.F.DiskFile.file in
+    let old = c.args.self.now in
+    let begun = c.begin.new.self in
+    let lent = begun.file in
+    let back = c.sync.new.self in
+    let synced = λ (behaves : Behaves (file lent)) (sure : IsSure (file lent)). (c.in-Ok.ensures.effect behaves).ok sure in
+    found-next file old.layout begun.layout old.sectors begun.sectors old.file lent back back old.is_failed begun.is_failed c.begin.ensures.layout c.begin.ensures.sectors
+    c.begin.ensures.file refl c.in_ok-begin.ensures.live.0 c.in-Ok.ensures.steady
+    (λ behaves sure is. (
+      found-synced old.layout old.sectors (file lent) (file back) is (synced behaves sure),
+      λ _. ap (λ (f : FileState). f.is_sure) (synced behaves sure) ∙ sure,
+    ))
+    found
+
+pub returns-in_default-clause-again : goal.returns-in_default-clause-again
+returns-in_default-clause-again g c found =
+    let file = g.F.DiskFile.file in
+    let old = c.args.self.now in
+    let begun = c.begin.new.self in
+    let lent = begun.file in
+    let back = c.sync.new.self in
+    found-next file old.layout begun.layout old.sectors begun.sectors old.file lent back back old.is_failed true c.begin.ensures.layout c.begin.ensures.sectors
+    c.begin.ensures.file refl c.in_ok-begin.ensures.live.0 c.in_default.ensures.steady
+    (λ behaves sure is. (
+      found-doubted old.layout old.sectors (file lent) (file back) is (search rules),
+      λ goes_on. absurd (let no : true ≡ false = goes_on in cc),
+    ))
+    found

@@ -1,10 +1,11 @@
-use Rattle.std.proofs.Common.{◌≡◌, ap, ◌∙◌, inl, max, sym, subst, ℕ}
+use Rattle.std.proofs.Common.{◌≡◌, ◌%◌, ap, ◌∙◌, inl, max, refl, sym, subst, false, ℕ}
 use Rattle.macs_disk.specs.FileDisks.{IsBlank}
 use Rattle.macs_disk.specs.Files.{FileState}
 use Rattle.macs_disk.specs.Layouts.{sectors_in}
 use Rattle.macs_disk.specs.declared.layout.Layout.{Layout}
 use Rattle.macs_disk.proofs.FileCalls.{disk_by}
 use Rattle.macs_disk.proofs.FileOpenings.{blank}
+use Rattle.macs_disk.proofs.FoundAgain.{found-cleared, found-still}
 use Rattle.macs_disk.proofs.settled_file.SettledFile.into_blank_disk.Goals as goal
 
 pub returns-clause-known : goal.returns-clause-known
@@ -24,3 +25,19 @@ returns-clause-known g c behaves settled =
 
 pub returns-clause-left : goal.returns-clause-left
 returns-clause-left g c _ = inl (ap g.F.DiskFile.file (c.new.ensures.file ∙ sym c.new.ensures.shown))
+
+pub returns-clause-again : goal.returns-clause-again
+returns-clause-again g c behaves settled =
+    let file = g.F.DiskFile.file in
+    let layout = c.args.layout in
+    let before = file c.args.self.file in
+    let ready = c.clear.new.file in
+    let new = c.new.result in
+    let sure = ap (λ (f : FileState). f.is_sure) settled.0.3 in
+    let whole = ap (λ n. n % 512) (sym settled.1) ∙ settled.2 in
+    let sectors = c.max-sectors.result in
+    let count : sectors ≡ max (sectors_in layout before.size) 1028 =
+    c.max-sectors.ensures ∙ ap (λ (n : ℕ). max n 1028) (c.sectors_in.ensures ∙ ap (sectors_in layout) settled.1) in
+    let cleared = c.in_ok-clear.ensures.cleared behaves sure settled.1 in
+    found-still file layout new.layout sectors new.sectors ready new.file false new.is_failed c.new.ensures.layout c.new.ensures.sectors c.new.ensures.file (λ _. refl)
+    (λ _. (found-cleared before (file ready) layout sectors cleared whole count, λ _. cleared.is_sure))

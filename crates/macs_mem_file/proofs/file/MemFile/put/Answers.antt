@@ -21,6 +21,6 @@ returns-clause-sure g c sure =
     let behind : c.dirty_to-behind.result ≡ c.args.at + c.args.count = c.dirty_to-behind.ensures.sure sure in
     let marked : (n : ℕ) → flag_at c.mark-2.new.flags.items n ≡ (has_some m.block c.args.at (c.args.at + c.args.count) n || flag_at m.pending.items n) =
     λ n. c.mark-2.ensures.marked n ∙ (rw (front, behind) refl) in
-    put_writes m.block m.size m.durable_size m.cache.items m.durable.items m.pending.items m.is_clean m.is_sure c.args.at c.args.count
+    put_writes m.block m.size m.durable_size m.cache.items m.durable.items m.pending.items m.is_clean m.is_sure m.is_claimed c.args.at c.args.count
     (take c.args.count c.args.from.now) size c.requires.some m.grown
     c.max-self.result c.store.new.to.items c.mark-2.new.flags.items c.max-self.ensures c.store.ensures.stored marked

@@ -13,5 +13,6 @@ invariant_of-self-2-clause-kept g c =
 
 pub returns-clause-effect : goal.returns-clause-effect
 returns-clause-effect g c _ = record {
-  ok = λ is. pressed_reread (file_of c.args.self.now) (file_of c.press.new.self) is c.press.ensures.same (c.press.ensures.clean is);
+  ok = λ is _. pressed_reread (file_of c.args.self.now) (file_of c.press.new.self) is c.press.ensures.same (c.press.ensures.clean is);
+  err = tt;
 }
