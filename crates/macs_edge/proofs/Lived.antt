@@ -1,5 +1,5 @@
 -- A run leads from its endpoint to the one after it by calls, however it ends.
-use Rattle.std.proofs.Common.{ℕ, zero, suc, Bool, List, [], ◌∷◌, ◌++◌, Option, Some, None, Result, Ok, Err, ◌≡◌, inl, inr, refl, ap, subst}
+use Rattle.std.proofs.Common.{ℕ, zero, suc, Bool, List, [], ◌∷◌, ◌++◌, Option, Some, None, Result, Ok, Err, inl, inr, refl, ap, subst}
 use Rattle.macs_disk.specs.Disk.{Disk}
 use Rattle.macs_endpoint.specs.Lives.{LivesOn}
 use Rattle.macs_endpoint.specs.State.{Advanced, Advances}

@@ -1,9 +1,9 @@
 -- While a ceiling is needed one submitted command at most is done with before a reservation has its turn.
-use Rattle.std.proofs.Common.{◌≡◌, ◌≢◌, ◌≤◌, ◌+◌, ◌⊎◌, inl, inr, ℕ, true, false, List, [], ◌∷◌, Option, Some, None, Result, Ok, Err, refl, sym, ◌∙◌, ap, subst, arith}
+use Rattle.std.proofs.Common.{◌≡◌, ◌≢◌, ◌≤◌, ◌⊎◌, inl, inr, ℕ, true, false, List, [], ◌∷◌, Option, Some, None, Result, Ok, Err, refl, sym, ◌∙◌, ap, subst, arith}
 use Rattle.macs_config.specs.declared.command.Command.{Command}
 use Rattle.macs_disk.specs.Disk.{Disk}
 use Rattle.macs_store.specs.Value.{IsIdle, StoreValue, standing_in}
-use Rattle.macs_endpoint.specs.Advancing.{AdvancesAs, BeginsWith, GoesOn, Piece, ToRaise, next_piece, piece_among, turn_after, turn_after_step}
+use Rattle.macs_endpoint.specs.Advancing.{AdvancesAs, BeginsWith, GoesOn, Piece, ToRaise, piece_among, turn_after}
 use Rattle.macs_endpoint.specs.Calls.{AdvancesIn, IsCall}
 use Rattle.macs_endpoint.specs.Ceilings.{CeilingsAfter, Raise, first_raise}
 use Rattle.macs_endpoint.specs.Lasting.{IsNotReserved, Needs, NoneReserved, commands_done, commands_in_reply}
