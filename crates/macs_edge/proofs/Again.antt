@@ -32,7 +32,7 @@ use Rattle.macs_endpoint.specs.declared.fault.ProtectFault.TheVariants as protec
 use Rattle.macs_endpoint.specs.declared.fault.Stopped.{Stopped}
 use Rattle.macs_endpoint.proofs.Rooms.{below-delivered, room-numbered, room-refilled}
 use Rattle.macs_endpoint.proofs.Seen.{below-again}
-use Rattle.macs_edge.specs.Settling.{IsSettled, Means, Settles, Waits, call_on}
+use Rattle.macs_edge.specs.Settling.{HandsInAgain, IsSettled, Means, Settles, Waits, call_on, is_passed}
 use Rattle.macs_edge.specs.declared.settling.Outcome.{Outcome}
 use Rattle.macs_edge.specs.declared.settling.Outcome.TheVariants as outcome
 use Rattle.macs_edge.specs.declared.settling.Side.{Side}
@@ -450,3 +450,19 @@ module _ {D : Type 0} (disk_of : D → Disk) where
         absurd (waits_once side frame first reply waits (subst (λ (w : Outcome). Means (call_on side frame) reply out w) is means) one two)
     dropped_again side frame first out what waits one (reply, two, means) (inr (inr is)) =
         absurd (not_stopped side frame reply (subst (λ (w : Outcome). Means (call_on side frame) reply out w) is means) two)
+
+-- what is handed in again is settled
+pub settled-behind : {D : Type 0} (disk_of : D → Disk) (old waiting new : EndpointValue D) (side : Side) (frame out : List ℕ) (first : Reply) (what : Outcome)
+    → IsSoundEndpoint old → IsCall disk_of old (call_on side frame) first waiting → Waits first
+    → HandsInAgain disk_of waiting (call_on side frame) (Ok what) out new
+    → IsSettled disk_of old (call_on side frame) (cond (is_passed what) (Some out) None) new
+settled-behind disk_of old waiting new side frame out first outcome.Passed sound one waits (filled, reply, sound_waiting, refills, sound_filled, two, settles) =
+    settled_again disk_of old waiting filled new sound sound_waiting sound_filled refills side frame first reply (Some out) waits one two settles
+settled-behind disk_of old waiting new side frame out first outcome.Dropped sound one waits (filled, reply, sound_waiting, refills, sound_filled, two, means) =
+    dropped_again disk_of old waiting filled new sound sound_waiting sound_filled refills side frame first out outcome.Dropped waits one (reply, two, means) (inl refl)
+settled-behind disk_of old waiting new side frame out first outcome.Waiting sound one waits (filled, reply, sound_waiting, refills, sound_filled, two, means) =
+    dropped_again disk_of old waiting filled new sound sound_waiting sound_filled refills side frame first out outcome.Waiting waits one (reply, two, means)
+    (inr (inl refl))
+settled-behind disk_of old waiting new side frame out first outcome.Stopped sound one waits (filled, reply, sound_waiting, refills, sound_filled, two, means) =
+    dropped_again disk_of old waiting filled new sound sound_waiting sound_filled refills side frame first out outcome.Stopped waits one (reply, two, means)
+    (inr (inr refl))

@@ -1,5 +1,7 @@
 pub mod Again
+mod Halting
 pub mod Living
+mod Lived
 pub mod Behind
 pub mod Once
 pub mod AllRecords

@@ -12,20 +12,30 @@ use Rattle.macs_edge.specs.declared.word.Word.TheVariants as word
 
 -- ---- words
 
+-- the word of a receive command that a text is
+abbrev pub rx_word_of : List ℕ → Option Word
+rx_word_of text =
+    if bytes_eq text (codes "rx-add") then Some word.RxAdd
+    else if bytes_eq text (codes "rx-drop") then Some word.RxDrop
+    else if bytes_eq text (codes "rx-install") then Some word.RxInstall
+    else if bytes_eq text (codes "rx-remove") then Some word.RxRemove
+    else None
+
+-- the word of a transmit or of a receive command that a text is
+abbrev pub channel_word_of : List ℕ → Option Word
+channel_word_of text =
+    if bytes_eq text (codes "tx-install") then Some word.TxInstall
+    else if bytes_eq text (codes "tx-use") then Some word.TxUse
+    else if bytes_eq text (codes "tx-remove") then Some word.TxRemove
+    else rx_word_of text
+
 -- the word that a text is
 abbrev pub word_of : List ℕ → Option Word
 word_of text =
     if bytes_eq text (codes "set-validate") then Some word.SetValidate
     else if bytes_eq text (codes "set-replay") then Some word.SetReplay
     else if bytes_eq text (codes "set-sci-mode") then Some word.SetSciMode
-    else if bytes_eq text (codes "tx-install") then Some word.TxInstall
-    else if bytes_eq text (codes "tx-use") then Some word.TxUse
-    else if bytes_eq text (codes "tx-remove") then Some word.TxRemove
-    else if bytes_eq text (codes "rx-add") then Some word.RxAdd
-    else if bytes_eq text (codes "rx-drop") then Some word.RxDrop
-    else if bytes_eq text (codes "rx-install") then Some word.RxInstall
-    else if bytes_eq text (codes "rx-remove") then Some word.RxRemove
-    else None
+    else channel_word_of text
 
 -- the word of a table
 abbrev pub word_in : Members → Option Word

@@ -1,5 +1,5 @@
 -- A frame that is handed in until it is settled.
-use Rattle.std.specs.Prelude.{◌≡◌, ◌⊎◌, ℕ, List, [], ◌∷◌, Option, Some, None, Ok, Err, ⊤}
+use Rattle.std.specs.Prelude.{◌≡◌, ℕ, Bool, true, false, List, [], ◌∷◌, Option, Some, None, Result, Ok, Err, ⊤}
 use Rattle.macs_disk.specs.Disk.{Disk}
 use Rattle.macs_txsc.specs.declared.fault.TxFault.TheVariants.{NoNumber}
 use Rattle.macs_rxsc.specs.declared.verdict.Verdict.TheVariants.{Delivered, Discarded, HeldBack}
@@ -7,7 +7,7 @@ use Rattle.macs_endpoint.specs.Calls.{IsCall}
 use Rattle.macs_endpoint.specs.Lives.{Lives, Transition}
 use Rattle.macs_endpoint.specs.State.{Call, Logs, Protects, Protected, Received, Receives, Refilled, Refills, Reply}
 use Rattle.macs_endpoint.specs.Step.{IsStopped, Step}
-use Rattle.macs_endpoint.specs.Value.{EndpointValue, state_of}
+use Rattle.macs_endpoint.specs.Value.{EndpointValue, IsSoundEndpoint, state_of}
 use Rattle.macs_endpoint.specs.declared.fault.ProtectFault.TheVariants as protect
 use Rattle.macs_endpoint.specs.declared.fault.RefillFault.{RefillFault}
 use Rattle.macs_endpoint.specs.declared.fault.RefillFault.TheVariants as refill
@@ -63,9 +63,32 @@ pub record IsSettled {D : Type 0} (disk_of : D → Disk) (old : EndpointValue D)
   pub settles : Settles reply passed
   pub step : (logs : Logs) → (after : Logs) × Step (state_of old logs) call reply (state_of new after)
 
--- The frame finds the endpoint stopped, or it waits and the refill is answered with this fault
-abbrev pub Halts : {D : Type 0} → (D → Disk) → EndpointValue D → Call → RefillFault → EndpointValue D → Type 0
-Halts {D} disk_of old call fault new =
-    ((fault ≡ refill.Stopped) × ((reply : Reply) × IsCall disk_of old call reply new × IsStopped call reply))
-    ⊎ ((reply : Reply) × (waiting : EndpointValue D) × IsCall disk_of old call reply waiting × Waits reply
-    × IsCall disk_of waiting Refills (Refilled (Err fault)) new)
+-- A frame is handed in by these calls and not settled: the one call finds the endpoint stopped; or the frame waits, and the refill behind it
+-- is answered with this fault
+abbrev pub HaltsIn : {D : Type 0} → Call → List (Transition D) → RefillFault → Type 0
+HaltsIn call (only ∷ []) fault = (only.call ≡ call) × IsStopped call only.reply × (fault ≡ refill.Stopped)
+HaltsIn call (early ∷ last ∷ []) fault =
+    (early.call ≡ call) × Waits early.reply × (last.call ≡ Refills) × (last.reply ≡ Refilled (Err fault))
+HaltsIn call turns fault = ⊥
+
+-- The frame is handed in, and the run ends there with this fault
+pub record Halts {D : Type 0} (disk_of : D → Disk) (old : EndpointValue D) (call : Call) (fault : RefillFault) (new : EndpointValue D) : Type 0 where
+  pub turns : List (Transition D)
+  pub lives : Lives disk_of old turns new
+  pub handed : HaltsIn call turns fault
+
+-- ---- a frame that waits
+
+-- a frame passes by this answer
+abbrev pub is_passed : Outcome → Bool
+is_passed outcome.Passed = true
+is_passed outcome.Dropped = false
+is_passed outcome.Waiting = false
+is_passed outcome.Stopped = false
+
+-- A refill is made, and behind it the frame is handed in again; or the refill is refused
+abbrev pub HandsInAgain : {D : Type 0} → (D → Disk) → EndpointValue D → Call → Result Outcome RefillFault → List ℕ → EndpointValue D → Type 0
+HandsInAgain {D} disk_of old call (Ok what) out new =
+    (filled : EndpointValue D) × (reply : Reply) × IsSoundEndpoint old × IsCall disk_of old Refills (Refilled (Ok tt)) filled
+    × IsSoundEndpoint filled × IsCall disk_of filled call reply new × Means call reply out what
+HandsInAgain disk_of old call (Err fault) out new = IsSoundEndpoint old × IsCall disk_of old Refills (Refilled (Err fault)) new

@@ -1,6 +1,7 @@
 //! Captures through an endpoint.
 
 ghost use Rattle.std.specs.Prelude.{◌≡◌, ◌+◌, ◌<◌, ◌^◌, ◌-◌};
+ghost use Rattle.macs_endpoint.specs.Lives.{LivesOn};
 ghost use Rattle.macs_edge.specs.Passing.{RunsOver, RunsRecords, TakesNext, WritesCapture, one_more, run_of};
 
 use crate::settling::{Side, settle};
@@ -161,6 +162,7 @@ pub fn run_protect<D: SectorDisk, R: Source, W: Sink, A: Allocator>(
     ensures writes { WritesCapture Side.Controlled
         (run_of endpoint.old (R.state source.old) (W.state sink.old)) result
         (run_of endpoint.new (R.state source.new) (W.state sink.new)) }
+    ensures lives { LivesOn D.disk endpoint.old endpoint.new }
 {
     run(alloc, endpoint, Side::Controlled, source, sink)
 }
@@ -183,6 +185,7 @@ pub fn run_validate<D: SectorDisk, R: Source, W: Sink, A: Allocator>(
     ensures writes { WritesCapture Side.Common
         (run_of endpoint.old (R.state source.old) (W.state sink.old)) result
         (run_of endpoint.new (R.state source.new) (W.state sink.new)) }
+    ensures lives { LivesOn D.disk endpoint.old endpoint.new }
 {
     run(alloc, endpoint, Side::Common, source, sink)
 }

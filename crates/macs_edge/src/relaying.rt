@@ -1,6 +1,7 @@
 //! Frames between two wires through an endpoint, both ways.
 
 ghost use Rattle.std.specs.Prelude.{◌≡◌, Some, None};
+ghost use Rattle.macs_endpoint.specs.Lives.{LivesOn};
 ghost use Rattle.macs_edge.specs.Relaying.{Carries, Fills, Forwards, HandsOver, IsRelayed, empty_lane, lane_value, one_left, relay_of, summary_of, way_of};
 
 use crate::settling::{Outcome, Side, hand_in};
@@ -178,9 +179,10 @@ pub fn relay<D: SectorDisk, P: Wire, C: Wire>(
     common: &mut C,
     turns: u64,
 ) -> Result<RelaySummary, RefillFault>
-    ensures { IsRelayed D.disk turns
+    ensures relayed { IsRelayed D.disk turns
         (relay_of endpoint.old (P.state controlled.old) (C.state common.old) empty_lane empty_lane) result
         endpoint.new (P.state controlled.new) (C.state common.new) }
+    ensures lives { LivesOn D.disk endpoint.old endpoint.new }
 {
     let mut to_common = Lane::new();
     let mut to_controlled = Lane::new();

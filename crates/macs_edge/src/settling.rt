@@ -3,7 +3,7 @@
 ghost use Rattle.std.specs.Prelude.{◌≡◌, ◌<◌, ◌^◌, Bool, true, false, if◌then◌else◌, Some, None, IfOk, IfErr};
 ghost use Rattle.macs_endpoint.specs.Calls.{IsCall};
 ghost use Rattle.macs_endpoint.specs.State.{Reply};
-ghost use Rattle.macs_edge.specs.Settling.{Halts, IsSettled, Means, call_on};
+ghost use Rattle.macs_edge.specs.Settling.{Halts, HandsInAgain, IsSettled, Means, call_on, is_passed};
 
 use macs_disk::SectorDisk;
 use macs_endpoint::{Endpoint, ProtectFault, RefillFault};
@@ -59,6 +59,32 @@ pub(crate) fn hand_in<D: SectorDisk>(
     }
 }
 
+/// Whether the frame passes by this answer.
+fn passes(outcome: Outcome) -> bool
+    ensures { result ≡ is_passed outcome }
+{
+    matches!(outcome, Outcome::Passed)
+}
+
+/// Reserves the packet numbers that a frame waits for, and hands it in again.
+fn hand_in_again<D: SectorDisk>(
+    endpoint: &mut Endpoint<D>,
+    side: Side,
+    frame: &[u8],
+    out: &mut FrameBuf,
+) -> Result<Outcome, RefillFault>
+    ensures { HandsInAgain D.disk endpoint.old (call_on side frame.now) result out.new.items endpoint.new }
+{
+    endpoint.facts();
+    match endpoint.refill() {
+        Ok(()) => {
+            endpoint.facts();
+            Ok(hand_in(endpoint, side, frame, out))
+        }
+        Err(fault) => Err(fault),
+    }
+}
+
 /// Hands a frame in, and once more after a refill where it waits; and says whether a frame passes. A
 /// frame that waited does not wait again.
 pub(crate) fn settle<D: SectorDisk>(
@@ -74,16 +100,12 @@ pub(crate) fn settle<D: SectorDisk>(
 {
     endpoint.facts();
     match hand_in(endpoint, side, frame, out) {
-        Outcome::Passed => return Ok(true),
-        Outcome::Dropped => return Ok(false),
-        Outcome::Stopped => return Err(RefillFault::Stopped),
-        Outcome::Waiting => {}
-    }
-    endpoint.facts();
-    endpoint.refill()?;
-    endpoint.facts();
-    match hand_in(endpoint, side, frame, out) {
         Outcome::Passed => Ok(true),
-        Outcome::Dropped | Outcome::Waiting | Outcome::Stopped => Ok(false),
+        Outcome::Dropped => Ok(false),
+        Outcome::Stopped => Err(RefillFault::Stopped),
+        Outcome::Waiting => match hand_in_again(endpoint, side, frame, out) {
+            Ok(outcome) => Ok(passes(outcome)),
+            Err(fault) => Err(fault),
+        },
     }
 }

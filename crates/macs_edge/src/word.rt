@@ -1,7 +1,7 @@
 //! The words of the commands.
 
 ghost use Rattle.std.specs.Prelude.{◌≡◌};
-ghost use Rattle.macs_edge.specs.Lines.{keys_of, word_of};
+ghost use Rattle.macs_edge.specs.Lines.{channel_word_of, keys_of, rx_word_of, word_of};
 
 /// What the key `do` of a table says.
 #[derive(Clone, Copy, Debug, PartialEq, Eq)]
@@ -29,13 +29,31 @@ impl Word {
             Some(Word::SetReplay)
         } else if text == "set-sci-mode" {
             Some(Word::SetSciMode)
-        } else if text == "tx-install" {
+        } else {
+            Word::of_channels(text)
+        }
+    }
+
+    /// The word of a transmit or of a receive command that a text is.
+    fn of_channels(text: &str) -> Option<Word>
+        ensures { result ≡ channel_word_of text.now }
+    {
+        if text == "tx-install" {
             Some(Word::TxInstall)
         } else if text == "tx-use" {
             Some(Word::TxUse)
         } else if text == "tx-remove" {
             Some(Word::TxRemove)
-        } else if text == "rx-add" {
+        } else {
+            Word::of_rx(text)
+        }
+    }
+
+    /// The word of a receive command that a text is.
+    fn of_rx(text: &str) -> Option<Word>
+        ensures { result ≡ rx_word_of text.now }
+    {
+        if text == "rx-add" {
             Some(Word::RxAdd)
         } else if text == "rx-drop" {
             Some(Word::RxDrop)

@@ -31,3 +31,4 @@ mod Alike
 mod Lasting
 mod Between
 mod AsBegun
+mod OneCommand

@@ -247,7 +247,7 @@ module _ {D : Type 0} (disk_of : D → Disk) (old : EndpointValue D) (told : Tol
         }
 
     -- what was served
-    pub turns-served : (most : ℕ) (end : ServeEnd) → length turns ≤ most → (end ≡ Ended → told.source_tells ≡ true → tells.left ≡ [])
+    pub turns-served : (most : ℕ) (end : ServeEnd) → length turns ≤ most → (end ≡ Ended → (length turns < most) × (told.source_tells ≡ true → tells.left ≡ []))
         → (end ≡ TurnsSpent → length turns ≡ most) → EndsAs (map (λ (t : Transition D). t.reply) turns) end
         → IsServed disk_of most old told end mid tells
     turns-served most end few ended spent ends = record {
@@ -287,11 +287,12 @@ module _ {D : Type 0} (disk_of : D → Disk) (old : EndpointValue D) (told : Tol
         (λ is. serving.number) (ends-spent (map (λ (t : Transition D). t.reply) serving.turns) serving.go)
 
     -- the source has no further event
-    pub served-ended : (most : ℕ) (later : Told) → count ≤ most → HasTaken tells None later → later.sink_tells ≡ tells.sink_tells
+    pub served-ended : (most : ℕ) (later : Told) → count < most → HasTaken tells None later → later.sink_tells ≡ tells.sink_tells
         → later.took ≡ tells.took → IsServed disk_of most old told Ended mid later
     served-ended most later few taken sink took =
         let end = turns-ended disk_of old told serving.turns mid tells serving.are later taken sink took in
-        turns-served disk_of old told serving.turns mid later end.0 most Ended (omega (arith, serving.number, few)) (λ is. end.1) (λ is. absurd cc)
+        turns-served disk_of old told serving.turns mid later end.0 most Ended (omega (arith, serving.number, few))
+        (λ is. (omega (arith, serving.number, few), end.1)) (λ is. absurd cc)
         (ends-ended (map (λ (t : Transition D). t.reply) serving.turns) serving.go)
 
     module _ (event : Event) (answer : Answer) (new : EndpointValue D) (later : Told) (call : IsCall disk_of mid (call_of event) (reply_of answer) new)

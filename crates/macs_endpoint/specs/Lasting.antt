@@ -1,10 +1,12 @@
 -- How long work in hand lasts, and what has its turn, through calls.
-use Rattle.std.specs.Prelude.{◌≡◌, ◌+◌, ℕ, false, List, [], ◌∷◌, Ok, Err}
+use Rattle.std.specs.Prelude.{◌≡◌, ◌≢◌, ◌+◌, ℕ, false, List, [], ◌∷◌, None, Ok, Err}
 use Rattle.macs_store.specs.Value.{IsIdle}
 use Rattle.macs_endpoint.specs.Lives.{Transition}
-use Rattle.macs_endpoint.specs.State.{Advanced, Advances, Call, Reply}
+use Rattle.macs_endpoint.specs.Needed.{raise_in}
+use Rattle.macs_endpoint.specs.State.{Advanced, Advances, Call, Refilled, Reply}
 use Rattle.macs_endpoint.specs.Value.{EndpointValue, is_stopped}
-use Rattle.macs_endpoint.specs.declared.fault.StepFault.TheVariants.{GenerationsSpent}
+use Rattle.macs_endpoint.specs.declared.fault.RefillFault.TheVariants as refill
+use Rattle.macs_endpoint.specs.declared.fault.StepFault.TheVariants as step
 use Rattle.macs_endpoint.specs.declared.progress.Step.TheVariants.{Done, Reserved}
 
 -- ---- work in hand
@@ -29,7 +31,7 @@ Lasts e (turn ∷ turns) = (¬ IsIdle e.store) × (is_stopped turn.after ≡ fal
 -- 1 where a reservation used its turn, made or refused, else 0
 abbrev pub reservations_in_reply : Reply → ℕ
 reservations_in_reply (Advanced (Ok Reserved)) = 1
-reservations_in_reply (Advanced (Err GenerationsSpent)) = 1
+reservations_in_reply (Advanced (Err step.GenerationsSpent)) = 1
 reservations_in_reply reply = 0
 
 -- how many of these calls are answered so
@@ -46,3 +48,32 @@ IsNotDone reply = Unit {0}
 abbrev pub NoneDone : {D : Type 0} → List (Transition D) → Type 0
 NoneDone [] = Unit {0}
 NoneDone (turn ∷ turns) = IsNotDone turn.reply × NoneDone turns
+
+-- ---- turns of commands
+
+-- a ceiling is needed before each of these calls
+abbrev pub Needs : {D : Type 0} → EndpointValue D → List (Transition D) → Type 0
+Needs e [] = Unit {0}
+Needs e (turn ∷ turns) = (raise_in e ≢ None) × Needs turn.after turns
+
+-- an answer does not say that a step raised a ceiling, or that none can be raised
+abbrev pub IsNotReserved : Reply → Type 0
+IsNotReserved (Advanced (Ok Reserved)) = ⊥
+IsNotReserved (Advanced (Err step.GenerationsSpent)) = ⊥
+IsNotReserved (Refilled (Err refill.GenerationsSpent)) = ⊥
+IsNotReserved reply = Unit {0}
+
+-- and none of these answers does
+abbrev pub NoneReserved : {D : Type 0} → List (Transition D) → Type 0
+NoneReserved [] = Unit {0}
+NoneReserved (turn ∷ turns) = IsNotReserved turn.reply × NoneReserved turns
+
+-- 1 where a submitted command is done with, kept or refused, else 0
+abbrev pub commands_in_reply : Reply → ℕ
+commands_in_reply (Advanced (Ok (Done ticket result))) = 1
+commands_in_reply reply = 0
+
+-- how many of these calls are answered so
+abbrev pub commands_done : {D : Type 0} → List (Transition D) → ℕ
+commands_done [] = 0
+commands_done (turn ∷ turns) = commands_in_reply turn.reply + commands_done turns

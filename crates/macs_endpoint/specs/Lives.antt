@@ -24,6 +24,10 @@ Lives disk_of old [] new = new ≡ old
 Lives disk_of old (turn ∷ turns) new =
     IsSoundEndpoint old × IsCall disk_of old turn.call turn.reply turn.after × Lives disk_of turn.after turns new
 
+-- some calls lead from old to new: what its owner needs to go on
+abbrev pub LivesOn : {D : Type 0} → (D → Disk) → EndpointValue D → EndpointValue D → Type 0
+LivesOn {D} disk_of old new = (turns : List (Transition D)) × Lives disk_of old turns new
+
 -- an image fits the state before one of these calls, with its command in hand, or the one after the last
 abbrev pub FitsLife : {D : Type 0} → ℕ → EndpointValue D → List (Transition D) → Image → Type 0
 FitsLife sectors e [] image = Fits (state_of e no_logs).edition sectors image (state_of e no_logs)

@@ -1,5 +1,5 @@
 -- Events taken from a source, and answers given to a sink.
-use Rattle.std.specs.Prelude.{◌≡◌, ◌≤◌, ℕ, Bool, true, false, List, [], ◌∷◌, ◌++◌, map, length, Option, Some, None, Err}
+use Rattle.std.specs.Prelude.{◌≡◌, ◌<◌, ◌≤◌, ℕ, Bool, true, false, List, [], ◌∷◌, ◌++◌, map, length, Option, Some, None, Err}
 use Rattle.macs_disk.specs.Disk.{Disk, IsHonest}
 use Rattle.macs_endpoint.specs.Value.{IsBacked, EndpointValue, disk_in, state_of}
 use Rattle.macs_endpoint.specs.Lives.{LeavesLife, Lives, Transition, exchange_of}
@@ -66,7 +66,7 @@ pub record Told : Type 0 where
   pub took : List Answer
 
 -- What was served in at most so many turns, with what source and sink tell before and after: the calls link the endpoint of before to that of
--- after, their answers are a run of the machine, and a power loss at any moment leaves what fits one of their states.
+-- after, their answers are a run of the machine, and a power loss at any moment leaves what fits one of their states. Ended comes only with a turn left, in which the source had no further event.
 pub record IsServed {D : Type 0} (disk_of : D → Disk) (most : ℕ) (old : EndpointValue D) (before : Told) (end : ServeEnd) (new : EndpointValue D) (after : Told) : Type 0 where
   pub turns : List (Transition D)
   pub lives : Lives disk_of old turns new
@@ -80,6 +80,6 @@ pub record IsServed {D : Type 0} (disk_of : D → Disk) (most : ℕ) (old : Endp
       × (before.left ≡ events ++ after.left) × (map call_of events ≡ map (λ turn. turn.call) turns)
   pub given : before.sink_tells ≡ true → (answers : List Answer)
       × (after.took ≡ before.took ++ answers) × (map reply_of answers ≡ map (λ turn. turn.reply) turns)
-  pub ended : end ≡ Ended → before.source_tells ≡ true → after.left ≡ []
+  pub ended : end ≡ Ended → (length turns < most) × (before.source_tells ≡ true → after.left ≡ [])
   pub spent : end ≡ TurnsSpent → length turns ≡ most
   pub ends : EndsAs (map (λ turn. turn.reply) turns) end

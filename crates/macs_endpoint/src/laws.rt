@@ -11,7 +11,7 @@ ghost use Rattle.macs_endpoint.specs.Advancing.{ToRaise, next_piece};
 ghost use Rattle.macs_endpoint.specs.Calls.{IsCall};
 ghost use Rattle.macs_endpoint.specs.Ceilings.{Raise, standing_with_raise};
 ghost use Rattle.macs_endpoint.specs.Value.{IsSoundEndpoint, EndpointValue, state_of};
-ghost use Rattle.macs_endpoint.specs.Lasting.{Lasts, NoneDone, reservations_made, steps_made};
+ghost use Rattle.macs_endpoint.specs.Lasting.{Lasts, Needs, NoneDone, NoneReserved, commands_done, reservations_made, steps_made};
 ghost use Rattle.macs_endpoint.specs.Lives.{Lives, Transition};
 ghost use Rattle.macs_endpoint.specs.Rooms.{HasRoom, IsBelow, IsEncodingAn, RxStays, TxStays, frames_sent};
 ghost use Rattle.macs_endpoint.specs.State.{Advanced, Advances, Call, Protects, Protected, Received, Receives, Refilled, Refills, Reply, command_made, no_logs, rx_side};
@@ -109,4 +109,13 @@ pub fn reserved_as_begun<D: SectorDisk>()
 /// `GenerationsSpent`, whatever other calls come between.
 pub fn one_reservation_between<D: SectorDisk>()
     ensures { (old new : EndpointValue D) (turns : List (Transition D)) → old.waiting ≢ [] → Lives D.disk old turns new → NoneDone turns → reservations_made turns ≤ 1 }
+{}
+
+/// While a ceiling is needed one submitted command at most is done with before one is raised.
+///
+/// While some ceiling is needed before each call, and none is answered with `Reserved` or with `GenerationsSpent` of a
+/// `step` or a `refill`, one step at most is answered with `Done`, whatever other calls come between.
+pub fn one_command_between<D: SectorDisk>()
+    ensures { (old new : EndpointValue D) (turns : List (Transition D)) → Lives D.disk old turns new → Needs old turns → NoneReserved turns
+        → commands_done turns ≤ 1 }
 {}

@@ -2,6 +2,7 @@
 
 ghost use Rattle.std.specs.Prelude.{◌≡◌};
 ghost use Rattle.macs_endpoint.specs.Calls.{IsCall};
+ghost use Rattle.macs_endpoint.specs.Lives.{LivesOn};
 ghost use Rattle.macs_endpoint.specs.Serving.{IsServed, call_of, is_halt, reply_of};
 
 use crate::endpoint::Endpoint;
@@ -39,10 +40,11 @@ impl<D: SectorDisk> Endpoint<D> {
         sink: &mut K,
         turns: u64,
     ) -> ServeEnd
-        ensures { IsServed D.disk turns self.old
+        ensures served { IsServed D.disk turns self.old
             (record { source_tells = S.tells source.old; left = S.left source.old; sink_tells = K.tells sink.old; took = K.took sink.old })
             result self.new
             (record { source_tells = S.tells source.new; left = S.left source.new; sink_tells = K.tells sink.new; took = K.took sink.new }) }
+        ensures lives { LivesOn D.disk self.old self.new }
     {
         for _ in 0..turns {
             let Some(event) = source.next_event() else {

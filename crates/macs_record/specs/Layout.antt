@@ -107,6 +107,18 @@ kind_of (RxRemove sci an) = kinds.RxRemove
 kind_of (TxCeiling an ceiling) = kinds.TxCeiling
 kind_of (RxCeiling sci an ceiling) = kinds.RxCeiling
 
+-- a record of this kind has one field
+abbrev pub has_one_field : Kind → Bool
+has_one_field kinds.Channel = true
+has_one_field kinds.SetValidate = true
+has_one_field kinds.SetReplay = true
+has_one_field kinds.SetSciMode = true
+has_one_field kinds.TxUse = true
+has_one_field kinds.TxRemove = true
+has_one_field kinds.RxAdd = true
+has_one_field kinds.RxDrop = true
+has_one_field kind = false
+
 -- what stands behind the mark and the kind: the fields in order, without gaps
 abbrev pub fields_of : Record → List ℕ
 fields_of (Settings validate replay mode encoding) =

@@ -1,9 +1,9 @@
 //! Sectors as records.
 
-ghost use Rattle.std.specs.Prelude.{◌≡◌, ◌≤◌, ◌↔◌, ◌++◌, ℕ, List, IfSome, IsTrue, Ok, Err, Some};
+ghost use Rattle.std.specs.Prelude.{◌≡◌, ◌≤◌, ◌↔◌, ◌++◌, ℕ, List, IfSome, IsTrue, Ok, Err, Some, true};
 ghost use Rattle.macs_frame.specs.First.{IsFirst};
 ghost use Rattle.macs_record.specs.Decoding.{RecordFaultHolds, IsSectorOf, record_faults};
-ghost use Rattle.macs_record.specs.Layout.{IsRecord, fields_of, kind_of, octets_of_kind};
+ghost use Rattle.macs_record.specs.Layout.{IsRecord, fields_of, has_one_field, kind_of, octets_of_kind};
 ghost use Rattle.macs_record.specs.declared.kind.Kind.{Kind};
 ghost use Rattle.macs_record.specs.declared.kind.Kind.TheVariants as kinds;
 ghost use Rattle.macs_record.specs.declared.record.Record.{Record};
@@ -55,21 +55,34 @@ fn read_fields(kind: Kind, from: &mut Reader<'_>) -> Option<Record>
     match kind {
         Kind::Settings => read_settings(from),
         Kind::TxSa => read_tx_sa(from),
-        Kind::Channel => Some(Record::Channel { sci: from.sci()? }),
         Kind::RxSa => read_rx_sa(from),
         Kind::Spent => read_spent(from),
-        Kind::SetValidate => Some(Record::SetValidate(from.validate()?)),
-        Kind::SetReplay => Some(Record::SetReplay(from.replay()?)),
-        Kind::SetSciMode => Some(Record::SetSciMode(from.sci_mode()?)),
         Kind::TxInstall => read_tx_install(from),
-        Kind::TxUse => Some(Record::TxUse { an: from.an()? }),
-        Kind::TxRemove => Some(Record::TxRemove { an: from.an()? }),
-        Kind::RxAdd => Some(Record::RxAdd { sci: from.sci()? }),
-        Kind::RxDrop => Some(Record::RxDrop { sci: from.sci()? }),
         Kind::RxInstall => read_rx_install(from),
         Kind::RxRemove => read_rx_remove(from),
         Kind::TxCeiling => read_tx_ceiling(from),
         Kind::RxCeiling => read_rx_ceiling(from),
+        _ => read_one_field(kind, from),
+    }
+}
+
+/// Reads the field of a record of this kind, which has one.
+fn read_one_field(kind: Kind, from: &mut Reader<'_>) -> Option<Record>
+    requires { has_one_field kind ≡ true }
+    ensures some { IfSome result (λ r. IsRecord r × (kind_of r ≡ kind) × (from.old ≡ fields_of r ++ from.new)) }
+    ensures found { (r : Record) (rest : List ℕ) → IsRecord r → kind_of r ≡ kind → from.old ≡ fields_of r ++ rest
+        → (result ≡ Some r) × (from.new ≡ rest) }
+{
+    match kind {
+        Kind::Channel => Some(Record::Channel { sci: from.sci()? }),
+        Kind::SetValidate => Some(Record::SetValidate(from.validate()?)),
+        Kind::SetReplay => Some(Record::SetReplay(from.replay()?)),
+        Kind::SetSciMode => Some(Record::SetSciMode(from.sci_mode()?)),
+        Kind::TxUse => Some(Record::TxUse { an: from.an()? }),
+        Kind::TxRemove => Some(Record::TxRemove { an: from.an()? }),
+        Kind::RxAdd => Some(Record::RxAdd { sci: from.sci()? }),
+        Kind::RxDrop => Some(Record::RxDrop { sci: from.sci()? }),
+        _ => None,
     }
 }
 
