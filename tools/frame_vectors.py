@@ -121,4 +121,5 @@ pub const GROUPS: &[Group] = &["""
     print("];")
 
 
-main()
+if __name__ == "__main__":
+    main()
