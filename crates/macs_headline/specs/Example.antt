@@ -93,9 +93,28 @@ install_peer = RxInstall peer_sci 0 peer_key 1 0
 abbrev pub remove_peer : Command
 remove_peer = RxRemove peer_sci 0
 
--- a wider replay window
+-- a replay window of one number
+abbrev pub narrow : Command
+narrow = SetReplay true 1
+
+-- a wider one
 abbrev pub widen : Command
 widen = SetReplay true 3
+
+-- no replay protection
+abbrev pub unguard : Command
+unguard = SetReplay false 3
+
+-- and again, with the window that was
+abbrev pub guard : Command
+guard = SetReplay true 3
+
+-- each key again, for an association of another number
+abbrev pub install_own_again : Command
+install_own_again = TxInstall 1 own_key 1 true 0
+
+abbrev pub install_peer_again : Command
+install_peer_again = RxInstall peer_sci 1 peer_key 1 0
 
 -- validation as it is
 abbrev pub stay_strict : Command
