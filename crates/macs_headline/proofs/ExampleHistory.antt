@@ -4,6 +4,7 @@ use Rattle.std.specs.Prelude.{All}
 use Rattle.std.specs.List.{AllByRecursion}
 use Rattle.std.proofs.lemmas.List.Elements.{All-replicate}
 use Rattle.macs_frame.specs.Fields.{IsAn}
+use Rattle.macs_aes.specs.declared.keys.Key.TheVariants.{Short}
 use Rattle.macs_config.specs.Apply.{answer_or_refusal, apply, config_after}
 use Rattle.macs_config.specs.Config.{Config, is_spent, rx_fingerprint, this_edition, tx_fingerprint}
 use Rattle.macs_config.specs.declared.command.Command.TheVariants.{RxInstall, TxInstall}
@@ -312,7 +313,7 @@ fourth_steps = (
 -- ---- the lives
 
 abbrev AreInRange : List Exchange → Type 0
-AreInRange exchanges = AllByRecursion (λ (e : Exchange). IsInRange this_edition e.call) exchanges
+AreInRange exchanges = AllByRecursion (λ (e : Exchange). IsInRange e.call) exchanges
 
 plain_range : All (λ octet. octet < 2 ^ 8) example_plain
 plain_range = All-replicate (λ octet. octet < 2 ^ 8) 14 0 (omega arith)
@@ -322,10 +323,10 @@ range_on : (xs ys : List Exchange) → AreInRange xs → AreInRange ys → AreIn
 range_on [] ys one two = two
 range_on (x ∷ xs) ys one two = (one.0, range_on xs ys one.1 two)
 
-install_own_range : (an : ℕ) → IsAn an → IsInRange this_edition (Commands (TxInstall an own_key 1 true 0))
+install_own_range : (an : ℕ) → IsAn an → IsInRange (Commands (TxInstall an (Short own_key) 1 true 0))
 install_own_range an range = (range, inl (key-range 1 (omega arith)), omega arith, omega arith)
 
-install_peer_range : (an : ℕ) → IsAn an → IsInRange this_edition (Commands (RxInstall peer_sci an peer_key 1 0))
+install_peer_range : (an : ℕ) → IsAn an → IsInRange (Commands (RxInstall peer_sci an (Short peer_key) 1 0))
 install_peer_range an range = (peer-range, range, inl (key-range 2 (omega arith)), omega arith, omega arith)
 
 own_range : AreInRange (part 0 4)
@@ -356,7 +357,7 @@ module _ (peer : All (λ octet. octet < 2 ^ 8) (peer_frame 5)) where
   second_range =
       range_on (take 6 second_exchanges) (drop 6 second_exchanges)
       (plain_range, (tt, (plain_range, (omega arith, (install_own_range 1 (omega arith), (install_peer_range 1 (omega arith), tt))))))
-      (peer, (omega arith, (peer, (omega arith, (peer, each-same (λ (e : Exchange). IsInRange this_edition e.call) 244 (obeyed stay_strict) tt)))))
+      (peer, (omega arith, (peer, (omega arith, (peer, each-same (λ (e : Exchange). IsInRange e.call) 244 (obeyed stay_strict) tt)))))
 
   third_range : AreInRange third_exchanges
   third_range = ((peer-range, omega arith), (plain_range, (tt, (plain_range, (tt, (plain_range, tt))))))

@@ -1,5 +1,5 @@
 -- The records of the example are in their ranges, and its snapshot has these six.
-use Rattle.std.proofs.Common.{◌≡◌, ◌<◌, ◌^◌, ℕ, zero, suc, List, [], ◌∷◌, replicate, refl, arith}
+use Rattle.std.proofs.Common.{◌≡◌, ◌<◌, ◌^◌, inl, ℕ, zero, suc, List, [], ◌∷◌, replicate, refl, arith}
 use Rattle.std.specs.Prelude.{All, slice_index}
 use Rattle.std.specs.List.{AllByRecursion}
 use Rattle.std.specs.Int.{to_be_bytes, w32}
@@ -72,7 +72,7 @@ head-range = record {
 
 pub first-ranges : AllByRecursion IsRecord first_records
 first-ranges = (
-  (omega arith, key-range 1 (omega arith), (omega arith, omega arith)),
+  (omega arith, inl (key-range 1 (omega arith)), (omega arith, omega arith)),
   (
     omega arith,
     (
@@ -80,7 +80,7 @@ first-ranges = (
       (
         peer-range,
         (
-          (peer-range, omega arith, key-range 2 (omega arith), (omega arith, omega arith)),
+          (peer-range, omega arith, inl (key-range 2 (omega arith)), (omega arith, omega arith)),
           (omega arith, ((peer-range, omega arith, (omega arith, omega arith)), tt)),
         ),
       ),
@@ -118,11 +118,11 @@ pub snapshot-ranges : AllByRecursion IsRecord six_records
 snapshot-ranges = (
   (omega arith, omega arith),
   (
-    (omega arith, key-range 1 (omega arith), (omega arith, omega arith)),
+    (omega arith, inl (key-range 1 (omega arith)), (omega arith, omega arith)),
     (
       peer-range,
       (
-        (peer-range, omega arith, key-range 2 (omega arith), (omega arith, omega arith)),
+        (peer-range, omega arith, inl (key-range 2 (omega arith)), (omega arith, omega arith)),
         (
           (omega arith, omega arith, All-from_recursion (IsOctets 32) (tx_fingerprint own_key ∷ []) (print_range own_key, tt)),
           ((omega arith, omega arith, All-from_recursion (IsOctets 32) (rx_fingerprint peer_sci peer_key ∷ []) (print_range _, tt)), tt),

@@ -75,7 +75,7 @@ module _ {D : Type 0} (disk_of : D → Disk) where
       (more.0, (state_of turn.after step.0, step.1, more.1))
 
   lives_in_range : (turns : List (Transition D)) (old new : EndpointValue D) → Lives disk_of old turns new
-      → AllByRecursion (λ (e : Exchange). IsInRange this_edition e.call) (map exchange_of turns)
+      → AllByRecursion (λ (e : Exchange). IsInRange e.call) (map exchange_of turns)
   lives_in_range [] old new lives = tt
   lives_in_range (turn ∷ turns) old new (kept, call, rest) = (call.behaves.in_range, lives_in_range turns turn.after new rest)
 
