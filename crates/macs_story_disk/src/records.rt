@@ -1,12 +1,12 @@
 //! Records of a journal, in words.
 
-use crate::answer::Answer;
 use crate::commands::{command_of, is_on, sci_mode_of, validate_of};
-use crate::words::Words;
+use crate::names::{an_of, fingerprint_of, sci_of};
 use macs_config::{Fingerprints, Protection, Replay, Role, RxSa, TxSa};
 use macs_frame::Offset;
 use macs_journal::Records;
 use macs_record::{Ceiling, Record, encode};
+use macs_story_text::{Answer, Words};
 
 /// The record that all words say: a command, or what else a journal keeps.
 pub fn record_of(words: &mut Words<'_>) -> Option<Record> {
@@ -14,7 +14,7 @@ pub fn record_of(words: &mut Words<'_>) -> Option<Record> {
     let record = match name {
         "settings" => settings_of(words),
         "tx-association" => tx_association_of(words),
-        "channel" => Some(Record::Channel { sci: words.sci()? }),
+        "channel" => channel_of(words),
         "rx-association" => rx_association_of(words),
         "spent" => spent_of(words),
         "tx-ceiling" => tx_ceiling_of(words),
@@ -22,6 +22,13 @@ pub fn record_of(words: &mut Words<'_>) -> Option<Record> {
         _ => command_record_of(name, words),
     };
     if words.is_empty() { record } else { None }
+}
+
+/// `channel SCI`.
+fn channel_of(words: &mut Words<'_>) -> Option<Record> {
+    Some(Record::Channel {
+        sci: sci_of(words)?,
+    })
 }
 
 fn command_record_of(name: &str, words: &mut Words<'_>) -> Option<Record> {
@@ -42,7 +49,7 @@ fn settings_of(words: &mut Words<'_>) -> Option<Record> {
     let encoding = if words.is_empty() {
         None
     } else {
-        Some(words.an()?)
+        Some(an_of(words)?)
     };
     Some(Record::Settings {
         validate,
@@ -76,7 +83,7 @@ fn protection_of(word: &str) -> Option<Protection> {
 
 /// `tx-association AN KEY clear CEILING`, with an offset in the place of `clear`.
 fn tx_association_of(words: &mut Words<'_>) -> Option<Record> {
-    let an = words.an()?;
+    let an = an_of(words)?;
     let key = words.key()?;
     let protection = protection_of(words.take())?;
     let ceiling = ceiling_of(words)?;
@@ -89,8 +96,8 @@ fn tx_association_of(words: &mut Words<'_>) -> Option<Record> {
 
 /// `rx-association SCI AN KEY OFFSET CEILING`.
 fn rx_association_of(words: &mut Words<'_>) -> Option<Record> {
-    let sci = words.sci()?;
-    let an = words.an()?;
+    let sci = sci_of(words)?;
+    let an = an_of(words)?;
     let key = words.key()?;
     let offset = offset_of(words.take())?;
     let ceiling = ceiling_of(words)?;
@@ -103,14 +110,14 @@ fn rx_association_of(words: &mut Words<'_>) -> Option<Record> {
 }
 
 fn tx_ceiling_of(words: &mut Words<'_>) -> Option<Record> {
-    let an = words.an()?;
+    let an = an_of(words)?;
     let ceiling = ceiling_of(words)?;
     Some(Record::TxCeiling { an, ceiling })
 }
 
 fn rx_ceiling_of(words: &mut Words<'_>) -> Option<Record> {
-    let sci = words.sci()?;
-    let an = words.an()?;
+    let sci = sci_of(words)?;
+    let an = an_of(words)?;
     let ceiling = ceiling_of(words)?;
     Some(Record::RxCeiling { sci, an, ceiling })
 }
@@ -126,12 +133,12 @@ fn role_of(word: &str) -> Option<Role> {
 /// `spent tx FINGERPRINT..` or `spent rx FINGERPRINT..`, each of 64 hex digits.
 fn spent_of(words: &mut Words<'_>) -> Option<Record> {
     let role = role_of(words.take())?;
-    let mut fingerprints = Fingerprints::new(words.fingerprint()?);
+    let mut fingerprints = Fingerprints::new(fingerprint_of(words)?);
     for _ in 0..u64::MAX {
         if words.is_empty() {
             return Some(Record::Spent { role, fingerprints });
         }
-        if !fingerprints.push(words.fingerprint()?) {
+        if !fingerprints.push(fingerprint_of(words)?) {
             return None;
         }
     }

@@ -1,17 +1,15 @@
 //! What is done with a store, and what is asked of it.
 
-use crate::answer::Answer;
 use crate::commands::command_of;
 use crate::disk::StoryDisk;
-use crate::life::Life;
+use crate::names::{an_of, pn_of, sci_of};
 use crate::questions::{ask_config, tell_identity};
-use crate::tools::Tools;
-use crate::words::{Words, whole};
 use macs_config::Command;
 use macs_frame::{An, Pn, Sci};
 use macs_journal::JournalFault;
 use macs_record::Ceiling;
 use macs_store::{CommitFault, JournalStep, Store};
+use macs_story_text::{Answer, Words, whole};
 
 type Played = Store<StoryDisk>;
 
@@ -93,11 +91,12 @@ fn start_tx(store: &mut Played, an: An, answer: &mut Answer) {
     answer.word(NOT_NOW);
 }
 
-fn reserve_rx(store: &mut Played, sci: Sci, an: An, pn: Pn, answer: &mut Answer) {
+fn reserve_rx(store: &mut Played, beyond: Beyond, answer: &mut Answer) {
+    let Beyond { sci, an, pn } = beyond;
     let block = u64::from(store.identity().rx_block());
     if let Some(ceiling) = store.rx_ceiling(sci, an) {
-        let beyond = u64::from(pn.get()) + block;
-        if ceiling.get() < END && ceiling.get() < beyond && store.is_idle() {
+        let most = u64::from(pn.get()) + block;
+        if ceiling.get() < END && ceiling.get() < most && store.is_idle() {
             answer.done(store.reserve_rx(sci, an, pn));
             return;
         }
@@ -105,11 +104,12 @@ fn reserve_rx(store: &mut Played, sci: Sci, an: An, pn: Pn, answer: &mut Answer)
     answer.word(NOT_NOW);
 }
 
-fn start_rx(store: &mut Played, sci: Sci, an: An, pn: Pn, answer: &mut Answer) {
+fn start_rx(store: &mut Played, beyond: Beyond, answer: &mut Answer) {
+    let Beyond { sci, an, pn } = beyond;
     let block = u64::from(store.identity().rx_block());
     if let Some(ceiling) = store.rx_ceiling(sci, an) {
-        let beyond = u64::from(pn.get()) + block;
-        if ceiling.get() < END && ceiling.get() < beyond && store.is_idle() {
+        let most = u64::from(pn.get()) + block;
+        if ceiling.get() < END && ceiling.get() < most && store.is_idle() {
             answer.done(store.start_rx(sci, an, pn));
             return;
         }
@@ -117,28 +117,59 @@ fn start_rx(store: &mut Played, sci: Sci, an: An, pn: Pn, answer: &mut Answer) {
     answer.word(NOT_NOW);
 }
 
-/// The channel, the association and the packet number that a receive reservation is to go beyond.
-fn beyond(words: &mut Words<'_>) -> Option<(Sci, An, Pn)> {
-    let sci = words.sci()?;
-    let an = words.an()?;
-    Some((sci, an, whole(words.pn(), words)?))
+/// What a receive reservation says: its association, and the packet number that it is to go beyond.
+#[derive(Clone, Copy)]
+struct Beyond {
+    sci: Sci,
+    an: An,
+    pn: Pn,
+}
+
+fn beyond_of(words: &mut Words<'_>) -> Option<Beyond> {
+    let sci = sci_of(words)?;
+    let an = an_of(words)?;
+    let pn = whole(pn_of(words), words)?;
+    Some(Beyond { sci, an, pn })
 }
 
 /// Makes a reservation, or takes it in hand; `None` where the words say none.
 fn reserve(store: &mut Played, words: Words<'_>, answer: &mut Answer) -> Option<()> {
     let mut words = words;
     match words.take() {
-        "reserve-tx" => reserve_tx(store, whole(words.an(), &words)?, answer),
-        "start-tx" => start_tx(store, whole(words.an(), &words)?, answer),
-        "reserve-rx" => {
-            let (sci, an, pn) = beyond(&mut words)?;
-            reserve_rx(store, sci, an, pn, answer);
-        }
-        "start-rx" => {
-            let (sci, an, pn) = beyond(&mut words)?;
-            start_rx(store, sci, an, pn, answer);
-        }
-        _ => return None,
+        "reserve-tx" => reserve_on_tx(store, &mut words, false, answer),
+        "start-tx" => reserve_on_tx(store, &mut words, true, answer),
+        "reserve-rx" => reserve_on_rx(store, &mut words, false, answer),
+        "start-rx" => reserve_on_rx(store, &mut words, true, answer),
+        _ => None,
+    }
+}
+
+fn reserve_on_tx(
+    store: &mut Played,
+    words: &mut Words<'_>,
+    is_start: bool,
+    answer: &mut Answer,
+) -> Option<()> {
+    let an = whole(an_of(words), words)?;
+    if is_start {
+        start_tx(store, an, answer);
+    } else {
+        reserve_tx(store, an, answer);
+    }
+    Some(())
+}
+
+fn reserve_on_rx(
+    store: &mut Played,
+    words: &mut Words<'_>,
+    is_start: bool,
+    answer: &mut Answer,
+) -> Option<()> {
+    let beyond = beyond_of(words)?;
+    if is_start {
+        start_rx(store, beyond, answer);
+    } else {
+        reserve_rx(store, beyond, answer);
     }
     Some(())
 }
@@ -151,15 +182,28 @@ fn tell_ceiling(ceiling: Option<Ceiling>, answer: &mut Answer) {
 }
 
 fn ask_rx_ceiling(store: &Played, words: &mut Words<'_>, answer: &mut Answer) -> Option<()> {
-    let sci = words.sci()?;
-    tell_ceiling(store.rx_ceiling(sci, words.an()?), answer);
+    let sci = sci_of(words)?;
+    tell_ceiling(store.rx_ceiling(sci, an_of(words)?), answer);
     Some(())
+}
+
+fn ask_tx_ceiling(store: &Played, words: &mut Words<'_>, answer: &mut Answer) -> Option<()> {
+    tell_ceiling(store.tx_ceiling(an_of(words)?), answer);
+    Some(())
+}
+
+fn step(store: &mut Played, answer: &mut Answer) {
+    tell_step(store.step(), answer);
+}
+
+fn finish(store: &mut Played, answer: &mut Answer) {
+    answer.done(store.finish());
 }
 
 fn work(store: &mut Played, words: Words<'_>, answer: &mut Answer) -> Option<()> {
     match words.rest() {
-        "step" => tell_step(store.step(), answer),
-        "finish" => answer.done(store.finish()),
+        "step" => step(store, answer),
+        "finish" => finish(store, answer),
         _ => return None,
     }
     Some(())
@@ -168,28 +212,30 @@ fn work(store: &mut Played, words: Words<'_>, answer: &mut Answer) -> Option<()>
 /// Answers a question; `None` where there is none.
 fn ask(store: &Played, words: Words<'_>, answer: &mut Answer) -> Option<()> {
     let mut words = words;
-    match words.take() {
+    let told = match words.take() {
+        "tx-ceiling" => ask_tx_ceiling(store, &mut words, answer),
+        "rx-ceiling" => ask_rx_ceiling(store, &mut words, answer),
+        question => ask_all(store, question, answer),
+    };
+    whole(told, &words)
+}
+
+/// Answers a question of one word; `None` where there is none.
+fn ask_all(store: &Played, question: &str, answer: &mut Answer) -> Option<()> {
+    match question {
         "idle" => answer.is(store.is_idle()),
         "stopped" => answer.is(store.is_stopped()),
         "identity" => tell_identity(store.identity(), answer),
-        "tx-ceiling" => tell_ceiling(store.tx_ceiling(words.an()?), answer),
-        "rx-ceiling" => ask_rx_ceiling(store, &mut words, answer)?,
         _ => return None,
     }
-    if words.is_empty() { Some(()) } else { None }
+    Some(())
 }
 
-impl Life for Store<StoryDisk> {
-    fn act(&mut self, words: Words<'_>, tools: &mut Tools) -> bool {
-        let answer = &mut tools.answer;
-        command(self, words, answer).is_some()
-            || reserve(self, words, answer).is_some()
-            || work(self, words, answer).is_some()
-            || ask(self, words, answer).is_some()
-            || ask_config(self.config(), words, answer).is_some()
-    }
-
-    fn into_disk(self) -> StoryDisk {
-        Store::into_disk(self)
-    }
+/// Does the act with a store that the words say. Whether there is such an act.
+pub fn act_with_store(store: &mut Played, words: Words<'_>, answer: &mut Answer) -> bool {
+    command(store, words, answer).is_some()
+        || reserve(store, words, answer).is_some()
+        || work(store, words, answer).is_some()
+        || ask(store, words, answer).is_some()
+        || ask_config(store.config(), words, answer).is_some()
 }

@@ -1,9 +1,9 @@
 //! What is asked of a configuration.
 
-use crate::answer::Answer;
-use crate::words::Words;
+use crate::names::{an_of, sci_of};
 use macs_config::{Config, Identity, Protection, RxSa, TxSa};
 use macs_frame::{An, Offset};
+use macs_story_text::{Answer, Words, whole};
 
 /// Tells an SCI, and the blocks of either side.
 pub fn tell_identity(identity: Identity, answer: &mut Answer) {
@@ -74,31 +74,54 @@ fn tell_rx(sa: Option<RxSa>, answer: &mut Answer) {
 }
 
 fn ask_rx(config: &Config, words: &mut Words<'_>, answer: &mut Answer) -> Option<()> {
-    let sci = words.sci()?;
-    tell_rx(config.rx(sci, words.an()?), answer);
+    let sci = sci_of(words)?;
+    tell_rx(config.rx(sci, an_of(words)?), answer);
     Some(())
 }
 
 fn ask_spent_rx(config: &Config, words: &mut Words<'_>, answer: &mut Answer) -> Option<()> {
-    let sci = words.sci()?;
+    let sci = sci_of(words)?;
     answer.is(config.is_spent_rx(sci, &words.key()?));
+    Some(())
+}
+
+fn ask_channel(config: &Config, words: &mut Words<'_>, answer: &mut Answer) -> Option<()> {
+    answer.is(config.has_channel(sci_of(words)?));
+    Some(())
+}
+
+fn ask_tx(config: &Config, words: &mut Words<'_>, answer: &mut Answer) -> Option<()> {
+    tell_tx(config.tx(an_of(words)?), answer);
+    Some(())
+}
+
+fn ask_spent_tx(config: &Config, words: &mut Words<'_>, answer: &mut Answer) -> Option<()> {
+    answer.is(config.is_spent_tx(&words.key()?));
+    Some(())
+}
+
+/// Answers a question of one word; `None` where there is none.
+fn ask_all(config: &Config, question: &str, answer: &mut Answer) -> Option<()> {
+    match question {
+        "settings" => tell_settings(config, answer),
+        "window" => answer.number(u64::from(config.replay().window)),
+        "encoding" => tell_encoding(config.encoding(), answer),
+        "channels" => tell_channels(config, answer),
+        _ => return None,
+    }
     Some(())
 }
 
 /// Answers a question about a configuration; `None` where there is none.
 pub fn ask_config(config: &Config, words: Words<'_>, answer: &mut Answer) -> Option<()> {
     let mut words = words;
-    match words.take() {
-        "settings" => tell_settings(config, answer),
-        "window" => answer.number(u64::from(config.replay().window)),
-        "encoding" => tell_encoding(config.encoding(), answer),
-        "channel" => answer.is(config.has_channel(words.sci()?)),
-        "channels" => tell_channels(config, answer),
-        "tx-association" => tell_tx(config.tx(words.an()?), answer),
-        "rx-association" => ask_rx(config, &mut words, answer)?,
-        "spent-tx" => answer.is(config.is_spent_tx(&words.key()?)),
-        "spent-rx" => ask_spent_rx(config, &mut words, answer)?,
-        _ => return None,
-    }
-    if words.is_empty() { Some(()) } else { None }
+    let told = match words.take() {
+        "channel" => ask_channel(config, &mut words, answer),
+        "tx-association" => ask_tx(config, &mut words, answer),
+        "rx-association" => ask_rx(config, &mut words, answer),
+        "spent-tx" => ask_spent_tx(config, &mut words, answer),
+        "spent-rx" => ask_spent_rx(config, &mut words, answer),
+        question => ask_all(config, question, answer),
+    };
+    whole(told, &words)
 }

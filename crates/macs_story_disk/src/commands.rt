@@ -1,28 +1,28 @@
 //! The operator's commands, in the words of command files; their keys stand in the order of
 //! OPERATIONS.md, without names.
 
-use crate::answer::Answer;
-use crate::words::Words;
+use crate::names::{an_of, sci_of};
 use macs_config::{Command, SciMode, Validate};
 use macs_frame::{An, Sci};
+use macs_story_text::{Answer, Words};
 
 /// The command of this word with the words that follow; `None` where there is none.
 pub fn command_of(name: &str, words: &mut Words<'_>) -> Option<Command> {
     match name {
-        "set-validate" => Some(Command::SetValidate(validate_of(words.take())?)),
+        "set-validate" => set_validate_of(words),
         "set-replay" => set_replay_of(words),
-        "set-sci-mode" => Some(Command::SetSciMode(sci_mode_of(words.take())?)),
+        "set-sci-mode" => set_sci_mode_of(words),
         "tx-install" => tx_install_of(words),
-        "tx-use" => Some(Command::TxUse { an: words.an()? }),
-        "tx-remove" => Some(Command::TxRemove { an: words.an()? }),
+        "tx-use" => tx_use_of(words),
+        "tx-remove" => tx_remove_of(words),
         _ => rx_command_of(name, words),
     }
 }
 
 fn rx_command_of(name: &str, words: &mut Words<'_>) -> Option<Command> {
     match name {
-        "rx-add" => Some(Command::RxAdd { sci: words.sci()? }),
-        "rx-drop" => Some(Command::RxDrop { sci: words.sci()? }),
+        "rx-add" => rx_add_of(words),
+        "rx-drop" => rx_drop_of(words),
         "rx-install" => rx_install_of(words),
         "rx-remove" => rx_remove_of(words),
         _ => None,
@@ -57,6 +57,34 @@ pub fn is_on(word: &str) -> Option<bool> {
     }
 }
 
+fn set_validate_of(words: &mut Words<'_>) -> Option<Command> {
+    Some(Command::SetValidate(validate_of(words.take())?))
+}
+
+fn set_sci_mode_of(words: &mut Words<'_>) -> Option<Command> {
+    Some(Command::SetSciMode(sci_mode_of(words.take())?))
+}
+
+fn tx_use_of(words: &mut Words<'_>) -> Option<Command> {
+    Some(Command::TxUse { an: an_of(words)? })
+}
+
+fn tx_remove_of(words: &mut Words<'_>) -> Option<Command> {
+    Some(Command::TxRemove { an: an_of(words)? })
+}
+
+fn rx_add_of(words: &mut Words<'_>) -> Option<Command> {
+    Some(Command::RxAdd {
+        sci: sci_of(words)?,
+    })
+}
+
+fn rx_drop_of(words: &mut Words<'_>) -> Option<Command> {
+    Some(Command::RxDrop {
+        sci: sci_of(words)?,
+    })
+}
+
 /// `set-replay on WINDOW` or `set-replay off WINDOW`.
 fn set_replay_of(words: &mut Words<'_>) -> Option<Command> {
     let on = is_on(words.take())?;
@@ -66,7 +94,7 @@ fn set_replay_of(words: &mut Words<'_>) -> Option<Command> {
 
 /// `tx-install AN KEY START`, and `clear` or an offset.
 fn tx_install_of(words: &mut Words<'_>) -> Option<Command> {
-    let an = words.an()?;
+    let an = an_of(words)?;
     let key = words.key()?;
     let start = words.short()?;
     let (confidential, offset) = hiding_of(words)?;
@@ -93,8 +121,8 @@ fn hiding_of(words: &mut Words<'_>) -> Option<(bool, u8)> {
 
 /// `rx-install SCI AN KEY START`, and an offset where it is not 0.
 fn rx_install_of(words: &mut Words<'_>) -> Option<Command> {
-    let sci = words.sci()?;
-    let an = words.an()?;
+    let sci = sci_of(words)?;
+    let an = an_of(words)?;
     let key = words.key()?;
     let start = words.short()?;
     let offset = if words.is_empty() { 0 } else { words.octet()? };
@@ -108,10 +136,10 @@ fn rx_install_of(words: &mut Words<'_>) -> Option<Command> {
 }
 
 fn rx_remove_of(words: &mut Words<'_>) -> Option<Command> {
-    let sci = words.sci()?;
+    let sci = sci_of(words)?;
     Some(Command::RxRemove {
         sci,
-        an: words.an()?,
+        an: an_of(words)?,
     })
 }
 
@@ -120,11 +148,7 @@ fn rx_remove_of(words: &mut Words<'_>) -> Option<Command> {
 pub fn tell_command(command: Command, answer: &mut Answer) {
     match command {
         Command::SetValidate(validate) => tell_validate(validate, answer),
-        Command::SetReplay { on, window } => {
-            answer.word("set-replay");
-            answer.word(if on { "on" } else { "off" });
-            answer.number(u64::from(window));
-        }
+        Command::SetReplay { on, window } => tell_replay(on, window, answer),
         Command::SetSciMode(mode) => tell_sci_mode(mode, answer),
         Command::TxInstall {
             an,
@@ -134,8 +158,7 @@ pub fn tell_command(command: Command, answer: &mut Answer) {
             offset,
         } => {
             tell_number("tx-install", an, answer);
-            answer.octets(&key);
-            answer.number(u64::from(start));
+            tell_key(&key, start, answer);
             if !confidential {
                 answer.word("clear");
             }
@@ -160,8 +183,7 @@ fn tell_rx_command(command: Command, answer: &mut Answer) {
         } => {
             tell_sci("rx-install", sci, answer);
             answer.number(u64::from(an.get()));
-            answer.octets(&key);
-            answer.number(u64::from(start));
+            tell_key(&key, start, answer);
             answer.number(u64::from(offset));
         }
         Command::RxRemove { sci, an } => {
@@ -180,6 +202,12 @@ fn tell_validate(validate: Validate, answer: &mut Answer) {
     }
 }
 
+fn tell_replay(on: bool, window: u32, answer: &mut Answer) {
+    answer.word("set-replay");
+    answer.word(if on { "on" } else { "off" });
+    answer.number(u64::from(window));
+}
+
 fn tell_sci_mode(mode: SciMode, answer: &mut Answer) {
     answer.word("set-sci-mode");
     match mode {
@@ -187,6 +215,11 @@ fn tell_sci_mode(mode: SciMode, answer: &mut Answer) {
         SciMode::EndStation => answer.word("end-station"),
         SciMode::Implicit => answer.word("implicit"),
     }
+}
+
+fn tell_key(key: &[u8; 16], start: u32, answer: &mut Answer) {
+    answer.octets(key);
+    answer.number(u64::from(start));
 }
 
 fn tell_number(word: &str, an: An, answer: &mut Answer) {

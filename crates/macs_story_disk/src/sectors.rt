@@ -1,12 +1,12 @@
 //! The sectors of a story's disk: what is put into them, what a power loss leaves there, and what
 //! is found.
 
-use crate::answer::Answer;
+use crate::names::sci_of;
 use crate::records::record_of;
-use crate::words::Words;
 use macs_config::Identity;
 use macs_disk::{DeviceFault, MemDisk, SectorDisk};
 use macs_record::{Head, SECTOR, encode, encode_head, open_gate};
+use macs_story_text::{Answer, Words};
 use std::alloc::Global;
 
 type Sector = [u8; SECTOR];
@@ -44,7 +44,7 @@ fn half(disk: &mut MemDisk, at: u64) -> Sector {
 
 /// `IDENTITY`: an SCI and the blocks of either side.
 pub fn identity_of(words: &mut Words<'_>) -> Option<Identity> {
-    let sci = words.sci()?;
+    let sci = sci_of(words)?;
     let tx = words.short()?;
     Identity::new(sci, tx, words.short()?)
 }

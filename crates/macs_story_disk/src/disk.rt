@@ -210,7 +210,7 @@ impl StoryDisk {
 
 impl SectorDisk for StoryDisk {
     ghost use Rattle.macs_disk.specs.Evidence.{full-clock, no-claim};
-    ghost use Rattle.macs_stories.specs.Disks.{story_disk};
+    ghost use Rattle.macs_story_disk.specs.Disks.{story_disk};
 
     ghost disk = { story_disk };
 

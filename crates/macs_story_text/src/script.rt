@@ -21,6 +21,13 @@ pub struct Line<'a> {
     pub behind: Place<'a>,
 }
 
+impl<'a> Line<'a> {
+    /// The words of the act.
+    pub fn words(self) -> Words<'a> {
+        Words::new(self.act, self.values)
+    }
+}
+
 /// How far a block is read.
 #[derive(Clone, Copy, Default)]
 struct Reading<'a> {

@@ -1,8 +1,6 @@
 //! The words of a line.
 
 use crate::values::{Values, first_word};
-use hex::FromHex;
-use macs_frame::{An, Pn, Sci};
 
 /// The words of a line that are left.
 #[derive(Clone, Copy)]
@@ -90,16 +88,6 @@ impl<'a> Words<'a> {
         (length <= 9_217).then_some(length)
     }
 
-    /// The next word as the number of an association.
-    pub fn an(&mut self) -> Option<An> {
-        An::new(self.octet()?)
-    }
-
-    /// The next word as a packet number.
-    pub fn pn(&mut self) -> Option<Pn> {
-        Pn::new(self.short()?)
-    }
-
     /// A key: hex digits, with zeros in front where they are fewer than 32; or the number of a
     /// turn.
     pub fn key(&mut self) -> Option<[u8; 16]> {
@@ -116,15 +104,9 @@ impl<'a> Words<'a> {
         u8::try_from(hex_number(self.take())?).ok()
     }
 
-    /// The fingerprint of a key: 64 hex digits.
-    pub fn fingerprint(&mut self) -> Option<[u8; 32]> {
-        <[u8; 32] as FromHex>::from_hex(self.take()).ok()
-    }
-
-    /// An SCI: hex digits, with zeros in front where they are fewer than 16.
-    pub fn sci(&mut self) -> Option<Sci> {
-        let number = u64::try_from(hex_number(self.take())?).ok()?;
-        Some(Sci(number.to_be_bytes()))
+    /// A number of 64 bits: hex digits, with zeros in front where they are fewer than 16.
+    pub fn hex_number(&mut self) -> Option<u64> {
+        u64::try_from(hex_number(self.take())?).ok()
     }
 }
 

@@ -1,13 +1,9 @@
-//! Captures that run through an endpoint: the octets that stand behind an act, and those that are written.
+//! Captures: the octets that stand behind an act, and those that are written.
 
 use crate::answer::Answer;
-use crate::endpoint::Played;
+use crate::frames::{filled, octets_of, tell_frame, tell_number};
 use crate::script::Line;
-use crate::tools::Tools;
-use crate::wires::{filled, tell_frame, tell_number};
 use crate::words::{Words, whole};
-use macs_edge::{RunFault, Summary, run_protect, run_validate};
-use macs_pcap::{ReaderSource, WriterSink};
 use std::alloc::Global;
 
 /// The header of a capture whose stamps are in nanoseconds, as another program writes it.
@@ -21,6 +17,23 @@ const FRONT: usize = 24;
 /// How many octets stand before the frame of a record.
 const RECORD: usize = 16;
 
+/// The capture that is read next, and the one that was written last.
+#[derive(Drop)]
+pub struct Captures {
+    pub next: Vec<u8>,
+    pub written: Vec<u8>,
+}
+
+impl Captures {
+    /// Two without an octet.
+    pub fn new(alloc: Global) -> Captures {
+        Captures {
+            next: Vec::new(alloc),
+            written: Vec::new(alloc),
+        }
+    }
+}
+
 /// The header of a record whose stamp is told from others by its place: the kept length and the original one.
 fn push_record(octets: &mut Vec<u8>, words: &mut Words<'_>) -> Option<()> {
     let place = words.short()?;
@@ -32,24 +45,23 @@ fn push_record(octets: &mut Vec<u8>, words: &mut Words<'_>) -> Option<()> {
     octets.extend_from_slice(&original.to_be_bytes()).ok()
 }
 
+fn push_octets(octets: &mut Vec<u8>, piece: Option<Vec<u8>>) -> Option<()> {
+    octets.extend_from_slice(piece?.as_slice()).ok()
+}
+
 /// Octets of a capture: `header`; `record PLACE KEPT ORIGINAL`; `fill LENGTH OCTET`; `hex HEX`.
 fn push_piece(octets: &mut Vec<u8>, words: &mut Words<'_>, alloc: Global) -> Option<()> {
     match words.take() {
         "header" => octets.extend_from_slice(&HEADER).ok(),
         "record" => push_record(octets, words),
-        "fill" => octets
-            .extend_from_slice(filled(words, alloc)?.as_slice())
-            .ok(),
-        "hex" => {
-            let piece = hex::decode(alloc, words.take_rest()).ok()?;
-            octets.extend_from_slice(piece.as_slice()).ok()
-        }
+        "fill" => push_octets(octets, filled(words, alloc)),
+        "hex" => push_octets(octets, octets_of(words, alloc)),
         _ => None,
     }
 }
 
-/// The octets that the lines of a text say.
-fn octets_of(text: &str, line: Line<'_>, alloc: Global) -> Option<Vec<u8>> {
+/// The capture that the lines of a text say.
+fn capture_of(text: &str, line: Line<'_>, alloc: Global) -> Option<Vec<u8>> {
     let mut octets = Vec::new(alloc);
     let mut rest = text;
     for _ in 0..u64::MAX {
@@ -64,17 +76,22 @@ fn octets_of(text: &str, line: Line<'_>, alloc: Global) -> Option<Vec<u8>> {
 }
 
 /// `capture`, and lines of text behind it.
-fn begin(line: Line<'_>, tools: &mut Tools) -> Option<()> {
-    let text = line.behind.text(tools.alloc)?;
-    tools.capture = octets_of(text.as_str(), line, tools.alloc)?;
-    tools.answer.word("ok");
+fn begin(
+    line: Line<'_>,
+    captures: &mut Captures,
+    alloc: Global,
+    answer: &mut Answer,
+) -> Option<()> {
+    let text = line.behind.text(alloc)?;
+    captures.next = capture_of(text.as_str(), line, alloc)?;
+    answer.word("ok");
     Some(())
 }
 
 /// `capture-written`: what was written last is what is read next.
-fn turn(tools: &mut Tools) -> Option<()> {
-    tools.capture = Vec::from_slice(tools.alloc, tools.written.as_slice()).ok()?;
-    tools.answer.word("ok");
+fn turn(captures: &mut Captures, alloc: Global, answer: &mut Answer) -> Option<()> {
+    captures.next = Vec::from_slice(alloc, captures.written.as_slice()).ok()?;
+    answer.word("ok");
     Some(())
 }
 
@@ -143,67 +160,16 @@ fn look(words: Words<'_>, octets: &[u8], answer: &mut Answer) -> Option<()> {
 }
 
 /// Does an act with a capture, and answers it; `None` where there is no such act.
-pub fn act(line: Line<'_>, tools: &mut Tools) -> Option<()> {
-    let words = Words::new(line.act, line.values);
-    match words.rest() {
-        "capture" => begin(line, tools),
-        "capture-written" => turn(tools),
-        _ => look(words, tools.written.as_slice(), &mut tools.answer),
-    }
-}
-
-/// Which way a capture runs.
-#[derive(Clone, Copy)]
-enum Way {
-    Protect,
-    Validate,
-}
-
-fn run_octets(
-    endpoint: &mut Played,
-    way: Way,
-    capture: &[u8],
-    written: &mut Vec<u8>,
+pub fn act_with_captures(
+    line: Line<'_>,
+    captures: &mut Captures,
     alloc: Global,
-) -> Result<Summary, RunFault> {
-    let mut source = ReaderSource::new(capture);
-    let mut sink = WriterSink::new(written);
-    match way {
-        Way::Protect => run_protect(alloc, endpoint, &mut source, &mut sink),
-        Way::Validate => run_validate(alloc, endpoint, &mut source, &mut sink),
+    answer: &mut Answer,
+) -> Option<()> {
+    let words = line.words();
+    match words.rest() {
+        "capture" => begin(line, captures, alloc, answer),
+        "capture-written" => turn(captures, alloc, answer),
+        _ => look(words, captures.written.as_slice(), answer),
     }
-}
-
-fn tell_run(told: Result<Summary, RunFault>, answer: &mut Answer) {
-    match told {
-        Ok(summary) => {
-            answer.word("passed");
-            answer.number(summary.passed);
-            answer.word("dropped");
-            answer.number(summary.dropped);
-        }
-        Err(RunFault::Pcap(fault)) => answer.name(&fault),
-        Err(RunFault::Device(fault)) => answer.name(&fault),
-    }
-}
-
-/// `protect-capture`, `validate-capture`: the capture runs through an endpoint. How many frames passed and were dropped,
-/// or the fault.
-pub fn run(endpoint: &mut Played, words: Words<'_>, tools: &mut Tools) -> Option<()> {
-    let way = match words.rest() {
-        "protect-capture" => Way::Protect,
-        "validate-capture" => Way::Validate,
-        _ => return None,
-    };
-    tools.written.clear();
-    let alloc = tools.alloc;
-    let told = run_octets(
-        endpoint,
-        way,
-        tools.capture.as_slice(),
-        &mut tools.written,
-        alloc,
-    );
-    tell_run(told, &mut tools.answer);
-    Some(())
 }

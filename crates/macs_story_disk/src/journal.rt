@@ -3,17 +3,14 @@
 ghost use Rattle.std.specs.Prelude.{IsTrue};
 ghost use Rattle.macs_journal.specs.Stepping.{FitsWork};
 
-use crate::answer::Answer;
 use crate::disk::StoryDisk;
-use crate::life::Life;
 use crate::questions::tell_identity;
 use crate::records::{record_of, records_of, tell_record, tell_records};
 use crate::store::tell_step;
-use crate::tools::Tools;
-use crate::words::Words;
 use macs_config::Identity;
 use macs_journal::{Journal, Records, Recovered, Work};
 use macs_record::Record;
+use macs_story_text::{Answer, Words};
 
 type Played = Journal<StoryDisk>;
 
@@ -48,6 +45,20 @@ impl JournalLife {
             records,
             work: Work::Compact(Records::new()),
         }
+    }
+
+    /// Does the act that the words say. Whether there is such an act.
+    pub fn act(&mut self, words: Words<'_>, answer: &mut Answer) -> bool {
+        work(self, words, answer).is_some()
+            || make_step(self, words, answer).is_some()
+            || ask(self, words, answer).is_some()
+            || ask_record(self, words, answer).is_some()
+    }
+
+    /// The disk, as it stands.
+    pub fn into_disk(self) -> StoryDisk {
+        let JournalLife { journal, .. } = self;
+        journal.into_disk()
     }
 }
 
@@ -99,18 +110,35 @@ fn step(journal: &mut Played, lent: &[Record], answer: &mut Answer) {
 fn work(life: &mut JournalLife, words: Words<'_>, answer: &mut Answer) -> Option<()> {
     let mut words = words;
     match words.take() {
-        "append" => append(&mut life.journal, &record_of(&mut words)?, answer),
-        "start-append" => {
-            life.work = Work::Append(record_of(&mut words)?);
-            start(&mut life.journal, &life.work, answer);
-        }
-        "compact" => compact(&mut life.journal, &records_of(&mut words)?, answer),
-        "start-compact" => {
-            life.work = Work::Compact(records_of(&mut words)?);
-            start(&mut life.journal, &life.work, answer);
-        }
-        _ => return None,
+        "append" => append_one(&mut life.journal, &mut words, answer),
+        "compact" => compact_to(&mut life.journal, &mut words, answer),
+        "start-append" => start_append(life, &mut words, answer),
+        "start-compact" => start_compact(life, &mut words, answer),
+        _ => None,
     }
+}
+
+fn append_one(journal: &mut Played, words: &mut Words<'_>, answer: &mut Answer) -> Option<()> {
+    let record = record_of(words)?;
+    append(journal, &record, answer);
+    Some(())
+}
+
+fn compact_to(journal: &mut Played, words: &mut Words<'_>, answer: &mut Answer) -> Option<()> {
+    let records = records_of(words)?;
+    compact(journal, &records, answer);
+    Some(())
+}
+
+fn start_append(life: &mut JournalLife, words: &mut Words<'_>, answer: &mut Answer) -> Option<()> {
+    life.work = Work::Append(record_of(words)?);
+    start(&mut life.journal, &life.work, answer);
+    Some(())
+}
+
+fn start_compact(life: &mut JournalLife, words: &mut Words<'_>, answer: &mut Answer) -> Option<()> {
+    life.work = Work::Compact(records_of(words)?);
+    start(&mut life.journal, &life.work, answer);
     Some(())
 }
 
@@ -152,19 +180,4 @@ fn ask(life: &JournalLife, words: Words<'_>, answer: &mut Answer) -> Option<()> 
         _ => return None,
     }
     Some(())
-}
-
-impl Life for JournalLife {
-    fn act(&mut self, words: Words<'_>, tools: &mut Tools) -> bool {
-        let answer = &mut tools.answer;
-        work(self, words, answer).is_some()
-            || make_step(self, words, answer).is_some()
-            || ask(self, words, answer).is_some()
-            || ask_record(self, words, answer).is_some()
-    }
-
-    fn into_disk(self) -> StoryDisk {
-        let JournalLife { journal, .. } = self;
-        journal.into_disk()
-    }
 }
