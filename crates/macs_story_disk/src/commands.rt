@@ -1,7 +1,8 @@
 //! The operator's commands, in the words of command files; their keys stand in the order of
 //! OPERATIONS.md, without names.
 
-use crate::names::{an_of, sci_of};
+use crate::names::{an_of, key_of, sci_of};
+use macs_aes::Key;
 use macs_config::{Command, SciMode, Validate};
 use macs_frame::{An, Sci};
 use macs_story_text::{Answer, Words};
@@ -95,7 +96,7 @@ fn set_replay_of(words: &mut Words<'_>) -> Option<Command> {
 /// `tx-install AN KEY START`, and `clear` or an offset.
 fn tx_install_of(words: &mut Words<'_>) -> Option<Command> {
     let an = an_of(words)?;
-    let key = words.key()?;
+    let key = key_of(words)?;
     let start = words.short()?;
     let (confidential, offset) = hiding_of(words)?;
     Some(Command::TxInstall {
@@ -123,7 +124,7 @@ fn hiding_of(words: &mut Words<'_>) -> Option<(bool, u8)> {
 fn rx_install_of(words: &mut Words<'_>) -> Option<Command> {
     let sci = sci_of(words)?;
     let an = an_of(words)?;
-    let key = words.key()?;
+    let key = key_of(words)?;
     let start = words.short()?;
     let offset = if words.is_empty() { 0 } else { words.octet()? };
     Some(Command::RxInstall {
@@ -217,8 +218,8 @@ fn tell_sci_mode(mode: SciMode, answer: &mut Answer) {
     }
 }
 
-fn tell_key(key: &[u8; 16], start: u32, answer: &mut Answer) {
-    answer.octets(key);
+fn tell_key(key: &Key, start: u32, answer: &mut Answer) {
+    answer.octets(key.as_slice());
     answer.number(u64::from(start));
 }
 

@@ -17,7 +17,7 @@ pub use commands::{command_of, tell_command};
 pub use controls::{Controls, Fuse};
 pub use disk::StoryDisk;
 pub use journal::JournalLife;
-pub use names::{an_of, pn_of, sci_of};
+pub use names::{an_of, key_of, pn_of, sci_of};
 pub use questions::{ask_config, tell_identity};
 pub use records::offset_of;
 pub use sectors::identity_of;

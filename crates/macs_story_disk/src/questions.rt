@@ -1,6 +1,6 @@
 //! What is asked of a configuration.
 
-use crate::names::{an_of, sci_of};
+use crate::names::{an_of, key_of, sci_of};
 use macs_config::{Config, Identity, Protection, RxSa, TxSa};
 use macs_frame::{An, Offset};
 use macs_story_text::{Answer, Words, whole};
@@ -55,7 +55,7 @@ fn tell_tx(sa: Option<TxSa>, answer: &mut Answer) {
         answer.word("none");
         return;
     };
-    answer.octets(&sa.key);
+    answer.octets(sa.key.as_slice());
     match sa.protection {
         Protection::Integrity => answer.word("clear"),
         Protection::Confidentiality(offset) => tell_offset(offset, answer),
@@ -66,7 +66,7 @@ fn tell_tx(sa: Option<TxSa>, answer: &mut Answer) {
 fn tell_rx(sa: Option<RxSa>, answer: &mut Answer) {
     match sa {
         Some(sa) => {
-            answer.octets(&sa.key);
+            answer.octets(sa.key.as_slice());
             tell_offset(sa.offset, answer);
         }
         None => answer.word("none"),
@@ -81,7 +81,7 @@ fn ask_rx(config: &Config, words: &mut Words<'_>, answer: &mut Answer) -> Option
 
 fn ask_spent_rx(config: &Config, words: &mut Words<'_>, answer: &mut Answer) -> Option<()> {
     let sci = sci_of(words)?;
-    answer.is(config.is_spent_rx(sci, &words.key()?));
+    answer.is(config.is_spent_rx(sci, &key_of(words)?));
     Some(())
 }
 
@@ -96,7 +96,7 @@ fn ask_tx(config: &Config, words: &mut Words<'_>, answer: &mut Answer) -> Option
 }
 
 fn ask_spent_tx(config: &Config, words: &mut Words<'_>, answer: &mut Answer) -> Option<()> {
-    answer.is(config.is_spent_tx(&words.key()?));
+    answer.is(config.is_spent_tx(&key_of(words)?));
     Some(())
 }
 

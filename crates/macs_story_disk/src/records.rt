@@ -1,7 +1,8 @@
 //! Records of a journal, in words.
 
 use crate::commands::{command_of, is_on, sci_mode_of, validate_of};
-use crate::names::{an_of, fingerprint_of, sci_of};
+use crate::names::{an_of, fingerprint_of, key_of, sci_of};
+use macs_aes::KeyOctets;
 use macs_config::{Fingerprints, Protection, Replay, Role, RxSa, TxSa};
 use macs_frame::Offset;
 use macs_journal::Records;
@@ -84,7 +85,7 @@ fn protection_of(word: &str) -> Option<Protection> {
 /// `tx-association AN KEY clear CEILING`, with an offset in the place of `clear`.
 fn tx_association_of(words: &mut Words<'_>) -> Option<Record> {
     let an = an_of(words)?;
-    let key = words.key()?;
+    let key = KeyOctets::of(key_of(words)?);
     let protection = protection_of(words.take())?;
     let ceiling = ceiling_of(words)?;
     Some(Record::TxSa {
@@ -98,7 +99,7 @@ fn tx_association_of(words: &mut Words<'_>) -> Option<Record> {
 fn rx_association_of(words: &mut Words<'_>) -> Option<Record> {
     let sci = sci_of(words)?;
     let an = an_of(words)?;
-    let key = words.key()?;
+    let key = KeyOctets::of(key_of(words)?);
     let offset = offset_of(words.take())?;
     let ceiling = ceiling_of(words)?;
     Some(Record::RxSa {

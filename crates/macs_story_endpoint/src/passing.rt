@@ -5,7 +5,7 @@ use crate::frames::{Form, Sealed, clear_octets, frame_of, sevens};
 use macs_endpoint::{ProtectFault, Stopped};
 use macs_frame::{FrameBuf, Offset, Pn};
 use macs_rxsc::Verdict;
-use macs_story_disk::{an_of, offset_of, pn_of, sci_of};
+use macs_story_disk::{an_of, key_of, offset_of, pn_of, sci_of};
 use macs_story_text::{Answer, Words, octets_of, whole};
 use std::alloc::Global;
 
@@ -151,7 +151,7 @@ fn receive_sealed(endpoint: &mut Played, words: &mut Words<'_>, answer: &mut Ans
 
 fn sealed_of(words: &mut Words<'_>) -> Option<Sealed> {
     let sci = sci_of(words)?;
-    let key = words.key()?;
+    let key = key_of(words)?;
     let an = an_of(words)?;
     let pn = pn_of(words)?;
     let octets = words.length()?;
