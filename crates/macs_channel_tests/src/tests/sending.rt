@@ -15,8 +15,7 @@ use macs_frame::Offset;
 const END: u64 = 4_294_967_296;
 
 /// The key of the end station of IEEE Std 802.1AE-2018, Annex C.
-const KEY: Key =
-    Key::Short(*b"\x07\x1b\x11\x3b\x0c\xa7\x43\xfe\xcc\xcf\x3d\x05\x1f\x73\x73\x82");
+const KEY: Key = Key::Short(*b"\x07\x1b\x11\x3b\x0c\xa7\x43\xfe\xcc\xcf\x3d\x05\x1f\x73\x73\x82");
 
 /// Its SCI: its address with port 00-01.
 const STATION: [u8; 8] = [0xf0, 0x76, 0x1e, 0x8d, 0xcd, 0x3d, 0, 1];

@@ -10,15 +10,17 @@ use std::process::Abort;
 pub(super) const CHANNEL: [u8; 8] = [0x12, 0x15, 0x35, 0x24, 0xc0, 0x89, 0x5e, 0x81];
 
 /// The key of its association 2.
-pub(super) const CHANNEL_KEY: Key =
-    Key::Short(*b"\xad\x7a\x2b\xd0\x3e\xac\x83\x5a\x6f\x62\x0f\xdc\xb5\x06\xb3\x45");
+pub(super) const CHANNEL_KEY: Key = Key::Short(
+    *b"\xad\x7a\x2b\xd0\x3e\xac\x83\x5a\x6f\x62\x0f\xdc\xb5\x06\xb3\x45",
+);
 
 /// The SCI of an end station: its address with port 00-01.
 pub(super) const STATION: [u8; 8] = [0xf0, 0x76, 0x1e, 0x8d, 0xcd, 0x3d, 0, 1];
 
 /// The key of its association 0.
-pub(super) const STATION_KEY: Key =
-    Key::Short(*b"\x07\x1b\x11\x3b\x0c\xa7\x43\xfe\xcc\xcf\x3d\x05\x1f\x73\x73\x82");
+pub(super) const STATION_KEY: Key = Key::Short(
+    *b"\x07\x1b\x11\x3b\x0c\xa7\x43\xfe\xcc\xcf\x3d\x05\x1f\x73\x73\x82",
+);
 
 /// Annex C: integrity protection of a frame of the channel, under association 2.
 pub(super) const INTEGRITY: &[u8] = b"\xd6\x09\xb1\xf0\x56\x63\x7a\x0d\x46\xdf\x99\x8d\

@@ -23,8 +23,9 @@ pub(super) struct Case {
 
 pub(super) const CHANNEL: [u8; 8] = [0x12, 0x15, 0x35, 0x24, 0xc0, 0x89, 0x5e, 0x81];
 
-const CHANNEL_KEY: Key =
-    Key::Short(*b"\xad\x7a\x2b\xd0\x3e\xac\x83\x5a\x6f\x62\x0f\xdc\xb5\x06\xb3\x45");
+const CHANNEL_KEY: Key = Key::Short(
+    *b"\xad\x7a\x2b\xd0\x3e\xac\x83\x5a\x6f\x62\x0f\xdc\xb5\x06\xb3\x45",
+);
 
 /// Annex C: integrity protection of a frame with an SCI.
 pub(super) const INTEGRITY: Case = Case {
