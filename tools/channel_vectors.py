@@ -93,7 +93,8 @@ def main():
 
 use macs_aes::Key;"""
     )
-    constant("The key of FIPS 197, C.3.", "KEY", "Key", f"Key::Long(*{literal([KEY[:16], KEY[16:]])})")
+    key = f"Key::Long(\n    *{literal([KEY[:16], KEY[16:]])},\n)"
+    constant("The key of FIPS 197, C.3.", "KEY", "Key", key)
     for comment, frame in FRAMES:
         constant(comment, frame.name, "&[u8]", literal(frame.parts()))
         constant(f"The plain frame of `{frame.name}`.", f"{frame.name}_PLAIN", "&[u8]", literal(frame.plain_parts()))
