@@ -33,8 +33,9 @@ const OWN: Sci = Sci([2, 0, 0, 0, 0, 1, 0, 1]);
 /// The SCI of the sender of the published frame, and the key of its association 2.
 const PEER: Sci = Sci([0x12, 0x15, 0x35, 0x24, 0xc0, 0x89, 0x5e, 0x81]);
 
-const PEER_KEY: Key =
-    Key::Short(*b"\xad\x7a\x2b\xd0\x3e\xac\x83\x5a\x6f\x62\x0f\xdc\xb5\x06\xb3\x45");
+const PEER_KEY: Key = Key::Short(
+    *b"\xad\x7a\x2b\xd0\x3e\xac\x83\x5a\x6f\x62\x0f\xdc\xb5\x06\xb3\x45",
+);
 
 /// The published frame (IEEE Std 802.1AE-2018, Annex C) with integrity protection, number b2c28465.
 const SEALED: [u8; 86] = *b"\xd6\x09\xb1\xf0\x56\x63\x7a\x0d\x46\xdf\x99\x8d\
