@@ -1,0 +1,113 @@
+//! What an endpoint counted.
+
+use crate::passing::tell_verdict;
+use macs_endpoint::Counters;
+use macs_frame::Sci;
+use macs_rxsc::{Kind, Reason, Verdict};
+use macs_story_disk::sci_of;
+use macs_story_text::{Answer, Words, whole};
+use macs_txsc::TxFault;
+
+const TX_FAULTS: [TxFault; 6] = [
+    TxFault::Runt,
+    TxFault::TooLong,
+    TxFault::ForeignSource,
+    TxFault::NoEncodingSa,
+    TxFault::Exhausted,
+    TxFault::NoNumber,
+];
+
+const VERDICTS: [Verdict; 16] = [
+    Verdict::Delivered(Kind::Ok),
+    Verdict::Delivered(Kind::Delayed),
+    Verdict::Delivered(Kind::Invalid),
+    Verdict::Delivered(Kind::Untagged),
+    Verdict::Delivered(Kind::UnknownSci),
+    Verdict::Delivered(Kind::UnusedSa),
+    Verdict::Discarded(Reason::Runt),
+    Verdict::Discarded(Reason::Oversize),
+    Verdict::Discarded(Reason::NoTag),
+    Verdict::Discarded(Reason::BadTag),
+    Verdict::Discarded(Reason::ForKay),
+    Verdict::Discarded(Reason::NoSci),
+    Verdict::Discarded(Reason::NotUsingSa),
+    Verdict::Discarded(Reason::Late),
+    Verdict::Discarded(Reason::NotValid),
+    Verdict::HeldBack,
+];
+
+/// How many frames went out, and each fault that came.
+fn tell_sent(counters: Counters<'_>, answer: &mut Answer) {
+    answer.number(counters.protected());
+    for fault in TX_FAULTS {
+        let count = counters.tx_fault(fault);
+        if count > 0 {
+            answer.name(&fault);
+            answer.number(count);
+        }
+    }
+}
+
+fn tell_count(verdict: Verdict, count: u64, answer: &mut Answer) {
+    if count > 0 {
+        tell_verdict(verdict, answer);
+        answer.number(count);
+    }
+}
+
+fn tell_none(answer: &mut Answer) {
+    if answer.is_empty() {
+        answer.word("none");
+    }
+}
+
+/// How often each verdict was given; `none` where none was.
+fn tell_received(counters: Counters<'_>, answer: &mut Answer) {
+    for verdict in VERDICTS {
+        tell_count(verdict, counters.verdict(verdict), answer);
+    }
+    tell_none(answer);
+}
+
+/// The same on the frames of a channel; `absent` where it does not stand.
+fn tell_received_of(counters: Counters<'_>, sci: Sci, answer: &mut Answer) {
+    for verdict in VERDICTS {
+        match counters.channel(sci, verdict) {
+            Some(count) => tell_count(verdict, count, answer),
+            None => {
+                answer.word("absent");
+                return;
+            }
+        }
+    }
+    tell_none(answer);
+}
+
+/// Answers a question about counters; `None` where there is none.
+pub fn ask_counters(counters: Counters<'_>, words: Words<'_>, answer: &mut Answer) -> Option<()> {
+    let mut words = words;
+    let told = match words.take() {
+        "received-of" => ask_received_of(counters, &mut words, answer),
+        question => ask_all(counters, question, answer),
+    };
+    whole(told, &words)
+}
+
+/// Answers a question of one word; `None` where there is none.
+fn ask_all(counters: Counters<'_>, question: &str, answer: &mut Answer) -> Option<()> {
+    match question {
+        "sent" => tell_sent(counters, answer),
+        "received" => tell_received(counters, answer),
+        _ => return None,
+    }
+    Some(())
+}
+
+fn ask_received_of(
+    counters: Counters<'_>,
+    words: &mut Words<'_>,
+    answer: &mut Answer,
+) -> Option<()> {
+    tell_received_of(counters, sci_of(words)?, answer);
+    Some(())
+}
