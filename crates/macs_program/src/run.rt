@@ -78,7 +78,7 @@ fn perform_with_endpoint<T: Files + Net, W: Write>(
 ) -> Result<Status, Failure>
 where
     T::File: CaptureFile,
-    requires { OpensEndpoint action.entry }
+    requires { OpensEndpoint action }
     ensures does { (input : Option (List ℕ)) → IfOk result (Does T.File.file action.entry input (W.contents out.old) (W.contents out.new)) }
     ensures status { IfOk result (λ status. (status ≡ Status.Done) ⊎ (status ≡ Status.Refused)) }
     ensures usage { IfErr result (λ failure. failure_status failure ≡ Status.Usage

@@ -1,9 +1,9 @@
 //! Command files: the text that stands behind an act, and the commands that it says.
 
+use crate::endpoint::{Played, give, tell_ran};
 use macs_config::Command;
 use macs_edge::{ConfigFault, commands_of};
 use macs_story_disk::tell_command;
-use macs_story_endpoint::{Played, give, tell_ran};
 use macs_story_text::{Answer, Line, Words, whole};
 use std::alloc::Global;
 use toml::Table;

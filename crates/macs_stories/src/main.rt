@@ -7,9 +7,14 @@
 //! is not read, no memory.
 #![tactic(auto)]
 
+mod counting;
+mod endpoint;
 mod files;
+mod frames;
 mod life;
+mod passing;
 mod running;
+mod serving;
 mod shelf;
 mod stage;
 mod stories;

@@ -1,8 +1,8 @@
 //! Captures that run through an endpoint.
 
+use crate::endpoint::Played;
 use macs_edge::{RunFault, Summary, run_protect, run_validate};
 use macs_pcap::{ReaderSource, WriterSink};
-use macs_story_endpoint::Played;
 use macs_story_text::{Answer, Captures, Words};
 use std::alloc::Global;
 

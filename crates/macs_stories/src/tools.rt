@@ -1,9 +1,10 @@
 //! What an act has at hand beside the disk, or beside what has the disk.
 
+use crate::endpoint::{Played, act_with_endpoint};
+use crate::serving::{self, Service};
 use crate::wires::{self, Wires};
 use crate::{files, running};
 use macs_config::Command;
-use macs_story_endpoint::{Played, Service, act_with_endpoint, act_with_events, serve};
 use macs_story_text::{Answer, Captures, Line, Words, act_with_captures};
 use std::alloc::Global;
 
@@ -42,7 +43,7 @@ impl Tools {
         if told.is_some() {
             return told;
         }
-        let told = act_with_events(line, &mut self.service, alloc, answer);
+        let told = serving::act(line, &mut self.service, alloc, answer);
         if told.is_some() {
             return told;
         }
@@ -60,6 +61,6 @@ pub fn act(
     act_with_endpoint(endpoint, words, tools.alloc, answer)
         || wires::pass_frames(endpoint, words, &mut tools.wires, answer).is_some()
         || files::apply(endpoint, words, tools.commands.as_slice(), answer).is_some()
-        || serve(endpoint, words, &mut tools.service, answer).is_some()
+        || serving::serve(endpoint, words, &mut tools.service, answer).is_some()
         || running::run(endpoint, words, &mut tools.captures, tools.alloc, answer).is_some()
 }

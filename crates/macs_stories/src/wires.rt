@@ -1,10 +1,10 @@
 //! The two wires of a story, in memory: what waits on them and what they sent, and relays between
 //! them.
 
+use crate::endpoint::Played;
 use macs_edge::{FaultWire, Got, MemWire, RelaySummary, Wire, WireFault, relay};
 use macs_endpoint::RefillFault;
 use macs_frame::FrameBuf;
-use macs_story_endpoint::Played;
 use macs_story_text::{Answer, Words, filled, frame_at, octets_of, tell_frame, tell_sent, whole};
 use std::alloc::Global;
 use std::mem::replace;

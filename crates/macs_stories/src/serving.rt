@@ -161,7 +161,7 @@ fn tell(words: &mut Words<'_>, replies: &Replies, answer: &mut Answer) -> Option
 }
 
 /// Does an act with events, and answers it; `None` where there is no such act.
-pub fn act_with_events(
+pub fn act(
     line: Line<'_>,
     service: &mut Service,
     alloc: Global,
