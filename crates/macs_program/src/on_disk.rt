@@ -25,7 +25,7 @@ use crate::applying::apply_commands;
 use crate::capture_file::CaptureFile;
 use crate::capturing::{Direction, pass_frames};
 use crate::failure::Failure;
-use crate::files::{commands_of_file, make_capture, open_capture, open_endpoint};
+use crate::files::{commands_of_file, make_capture, open_capture, open_disk};
 use crate::new_disk::{NewFile, format_disk};
 use crate::output::print;
 use crate::relaying::{bind, relay_frames};
@@ -108,8 +108,12 @@ where
     ensures lines { IfErr result (λ failure. failure ≢ Failure.Output
         → (outcomes : List (Option Refusal)) × Appends (W.contents out.old) (W.contents out.new) (outcome_lines 1 outcomes)) }
 {
-    let mut endpoint = open_endpoint(rt, disk)?;
-    apply_file(rt, alloc, &mut endpoint, file, out)
+    let disk = open_disk(rt, disk)?;
+    // It stays where it is: an endpoint is large.
+    match &mut Endpoint::open(disk) {
+        Ok(endpoint) => apply_file(rt, alloc, endpoint, file, out),
+        Err(refused) => Err(Failure::from(refused.fault)),
+    }
 }
 
 /// Prints the configuration and the packet numbers of an endpoint.
@@ -142,8 +146,12 @@ where
     ensures failed { IfErr result (λ failure. failure_status failure ≢ Status.Usage) }
     ensures silent { IfErr result (λ failure. failure ≢ Failure.Output → out.new ≡ out.old) }
 {
-    let endpoint = open_endpoint(rt, disk)?;
-    show_endpoint(alloc, &endpoint, out)
+    let disk = open_disk(rt, disk)?;
+    // It stays where it is: an endpoint is large.
+    match &mut Endpoint::open(disk) {
+        Ok(endpoint) => show_endpoint(alloc, endpoint, out),
+        Err(refused) => Err(Failure::from(refused.fault)),
+    }
 }
 
 /// Takes a capture through an endpoint into another one.
@@ -185,8 +193,12 @@ where
     ensures failed { IfErr result (λ failure. failure_status failure ≢ Status.Usage) }
     ensures silent { IfErr result (λ failure. failure ≢ Failure.Output → out.new ≡ out.old) }
 {
-    let mut endpoint = open_endpoint(rt, disk)?;
-    pass_between(rt, alloc, &mut endpoint, direction, from, to, out)
+    let disk = open_disk(rt, disk)?;
+    // It stays where it is: an endpoint is large.
+    match &mut Endpoint::open(disk) {
+        Ok(endpoint) => pass_between(rt, alloc, endpoint, direction, from, to, out),
+        Err(refused) => Err(Failure::from(refused.fault)),
+    }
 }
 
 /// Relays frames through an endpoint between two wires, which are bound from left to right.
@@ -224,8 +236,12 @@ where
     ensures failed { IfErr result IsAfterAddresses }
     ensures silent { IfErr result (λ failure. failure ≢ Failure.Output → out.new ≡ out.old) }
 {
-    let mut endpoint = open_endpoint(rt, disk)?;
-    relay_wires(rt, alloc, &mut endpoint, addresses, turns, out)
+    let disk = open_disk(rt, disk)?;
+    // It stays where it is: an endpoint is large.
+    match &mut Endpoint::open(disk) {
+        Ok(endpoint) => relay_wires(rt, alloc, endpoint, addresses, turns, out),
+        Err(refused) => Err(Failure::from(refused.fault)),
+    }
 }
 
 /// `relay`: relays frames between two wires, the first of which is the controlled side.
