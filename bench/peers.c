@@ -17,22 +17,30 @@
 
 enum { ROOM = 9216, AAD = 28, LENGTHS = 4, CHECKED = 13, LIBRARIES = 4 };
 
-#define CALLS(cpu)                                                                                                               \
-    void cpu##_kernel_seal(const uint8_t *key, const uint8_t *iv, const uint8_t *aad, size_t aad_len, uint8_t *text, size_t len, \
-                           uint8_t *tag, uint32_t count);                                                                       \
-    bool cpu##_kernel_open(const uint8_t *key, const uint8_t *iv, const uint8_t *aad, size_t aad_len, uint8_t *text, size_t len, \
-                           const uint8_t *tag);                                                                                  \
-    bool cpu##_kernel_open_all(const uint8_t *key, const uint8_t *iv, const uint8_t *aad, size_t aad_len, uint8_t *text,         \
-                               size_t len, const uint8_t *sealed, size_t sealed_len, const uint8_t *tag, uint32_t count);
-CALLS(v2)
-CALLS(v3)
+/* The two lengths of keys. */
+enum { SHORT, LONG, KEYS };
+
+#define CALLS(cpu, length)                                                                                                      \
+    void cpu##_kernel_seal##length(const uint8_t *key, const uint8_t *iv, const uint8_t *aad, size_t aad_len, uint8_t *text,     \
+                                   size_t len, uint8_t *tag, uint32_t count);                                                   \
+    bool cpu##_kernel_open_all##length(const uint8_t *key, const uint8_t *iv, const uint8_t *aad, size_t aad_len, uint8_t *text, \
+                                       size_t len, const uint8_t *sealed, size_t sealed_len, const uint8_t *tag,                \
+                                       uint32_t count);
+CALLS(v2, )
+CALLS(v2, _long)
+CALLS(v3, )
+CALLS(v3, _long)
 
 static const size_t octets_of_frames[LENGTHS] = {64, 256, 1500, 9184};
 static const size_t checked[CHECKED] = {0, 1, 15, 16, 17, 52, 127, 128, 255, 256, 257, 1488, 9172};
 
-static uint8_t key[16], iv[12], aad[AAD], plain[ROOM];
-static EVP_CIPHER_CTX *openssl_seals, *openssl_opens;
-static struct gcm_aes128_ctx nettle;
+static const char *const ciphers[KEYS] = {"AES-128", "AES-256"};
+
+/* A short key is the first 16 octets of the long one. */
+static uint8_t key[32], iv[12], aad[AAD], plain[ROOM];
+static EVP_CIPHER_CTX *openssl_seals[KEYS], *openssl_opens[KEYS];
+static struct gcm_aes128_ctx nettle_short;
+static struct gcm_aes256_ctx nettle_long;
 
 static void must(bool done, const char *what) {
     if (!done) {
@@ -47,78 +55,91 @@ static double seconds(void) {
     return (double)now.tv_sec + 1e-9 * (double)now.tv_nsec;
 }
 
-/* One library: seals the text in place, so many times, and opens copies of a sealed text. */
+/* One library: under a key of this length it seals the text in place, so many times, and opens copies of a sealed text. */
 struct library {
     const char *name;
-    void (*seal)(uint8_t *text, size_t len, uint8_t *tag, uint32_t count);
-    bool (*open)(uint8_t *text, size_t len, const uint8_t *sealed, const uint8_t *tag, uint32_t count);
+    void (*seal)(int keys, uint8_t *text, size_t len, uint8_t *tag, uint32_t count);
+    bool (*open)(int keys, uint8_t *text, size_t len, const uint8_t *sealed, const uint8_t *tag, uint32_t count);
 };
 
-static void v2_seal(uint8_t *text, size_t len, uint8_t *tag, uint32_t count) {
-    v2_kernel_seal(key, iv, aad, AAD, text, len, tag, count);
+static void v2_seal(int keys, uint8_t *text, size_t len, uint8_t *tag, uint32_t count) {
+    (keys == LONG ? v2_kernel_seal_long : v2_kernel_seal)(key, iv, aad, AAD, text, len, tag, count);
 }
 
-static bool v2_open(uint8_t *text, size_t len, const uint8_t *sealed, const uint8_t *tag, uint32_t count) {
-    return v2_kernel_open_all(key, iv, aad, AAD, text, len, sealed, len, tag, count);
+static bool v2_open(int keys, uint8_t *text, size_t len, const uint8_t *sealed, const uint8_t *tag, uint32_t count) {
+    return (keys == LONG ? v2_kernel_open_all_long : v2_kernel_open_all)(key, iv, aad, AAD, text, len, sealed, len, tag, count);
 }
 
-static void v3_seal(uint8_t *text, size_t len, uint8_t *tag, uint32_t count) {
-    v3_kernel_seal(key, iv, aad, AAD, text, len, tag, count);
+static void v3_seal(int keys, uint8_t *text, size_t len, uint8_t *tag, uint32_t count) {
+    (keys == LONG ? v3_kernel_seal_long : v3_kernel_seal)(key, iv, aad, AAD, text, len, tag, count);
 }
 
-static bool v3_open(uint8_t *text, size_t len, const uint8_t *sealed, const uint8_t *tag, uint32_t count) {
-    return v3_kernel_open_all(key, iv, aad, AAD, text, len, sealed, len, tag, count);
+static bool v3_open(int keys, uint8_t *text, size_t len, const uint8_t *sealed, const uint8_t *tag, uint32_t count) {
+    return (keys == LONG ? v3_kernel_open_all_long : v3_kernel_open_all)(key, iv, aad, AAD, text, len, sealed, len, tag, count);
 }
 
-static void openssl_seal(uint8_t *text, size_t len, uint8_t *tag, uint32_t count) {
+static void openssl_seal(int keys, uint8_t *text, size_t len, uint8_t *tag, uint32_t count) {
+    EVP_CIPHER_CTX *seals = openssl_seals[keys];
     uint8_t next[12];
     memcpy(next, iv, 12);
     for (uint32_t i = 0; i < count; i++) {
         int done;
-        EVP_EncryptInit_ex(openssl_seals, NULL, NULL, NULL, next);
-        EVP_EncryptUpdate(openssl_seals, NULL, &done, aad, AAD);
-        EVP_EncryptUpdate(openssl_seals, text, &done, text, (int)len);
-        EVP_EncryptFinal_ex(openssl_seals, text + len, &done);
-        EVP_CIPHER_CTX_ctrl(openssl_seals, EVP_CTRL_GCM_GET_TAG, 16, tag);
+        EVP_EncryptInit_ex(seals, NULL, NULL, NULL, next);
+        EVP_EncryptUpdate(seals, NULL, &done, aad, AAD);
+        EVP_EncryptUpdate(seals, text, &done, text, (int)len);
+        EVP_EncryptFinal_ex(seals, text + len, &done);
+        EVP_CIPHER_CTX_ctrl(seals, EVP_CTRL_GCM_GET_TAG, 16, tag);
         next[11]++;
     }
 }
 
-static bool openssl_open(uint8_t *text, size_t len, const uint8_t *sealed, const uint8_t *tag, uint32_t count) {
+static bool openssl_open(int keys, uint8_t *text, size_t len, const uint8_t *sealed, const uint8_t *tag, uint32_t count) {
+    EVP_CIPHER_CTX *opens = openssl_opens[keys];
     bool all = true;
     for (uint32_t i = 0; i < count; i++) {
         int done;
         memcpy(text, sealed, len);
-        EVP_DecryptInit_ex(openssl_opens, NULL, NULL, NULL, iv);
-        EVP_DecryptUpdate(openssl_opens, NULL, &done, aad, AAD);
-        EVP_DecryptUpdate(openssl_opens, text, &done, text, (int)len);
-        EVP_CIPHER_CTX_ctrl(openssl_opens, EVP_CTRL_GCM_SET_TAG, 16, (void *)tag);
-        all = all && EVP_DecryptFinal_ex(openssl_opens, text + len, &done) == 1;
+        EVP_DecryptInit_ex(opens, NULL, NULL, NULL, iv);
+        EVP_DecryptUpdate(opens, NULL, &done, aad, AAD);
+        EVP_DecryptUpdate(opens, text, &done, text, (int)len);
+        EVP_CIPHER_CTX_ctrl(opens, EVP_CTRL_GCM_SET_TAG, 16, (void *)tag);
+        all = all && EVP_DecryptFinal_ex(opens, text + len, &done) == 1;
     }
     return all;
 }
 
-static void nettle_seal(uint8_t *text, size_t len, uint8_t *tag, uint32_t count) {
+/* What nettle does for one text, by its calls for a length of keys. */
+#define NETTLE(bits, context)                                                                                                   \
+    static void nettle_seal_##bits(const uint8_t *vector, uint8_t *text, size_t len, uint8_t *tag) {                             \
+        gcm_aes##bits##_set_iv(&context, 12, vector);                                                                           \
+        gcm_aes##bits##_update(&context, AAD, aad);                                                                             \
+        gcm_aes##bits##_encrypt(&context, len, text, text);                                                                     \
+        gcm_aes##bits##_digest(&context, 16, tag);                                                                              \
+    }                                                                                                                           \
+    static void nettle_open_##bits(uint8_t *text, size_t len, uint8_t *found) {                                                  \
+        gcm_aes##bits##_set_iv(&context, 12, iv);                                                                               \
+        gcm_aes##bits##_update(&context, AAD, aad);                                                                             \
+        gcm_aes##bits##_decrypt(&context, len, text, text);                                                                     \
+        gcm_aes##bits##_digest(&context, 16, found);                                                                            \
+    }
+NETTLE(128, nettle_short)
+NETTLE(256, nettle_long)
+
+static void nettle_seal(int keys, uint8_t *text, size_t len, uint8_t *tag, uint32_t count) {
     uint8_t next[12];
     memcpy(next, iv, 12);
     for (uint32_t i = 0; i < count; i++) {
-        gcm_aes128_set_iv(&nettle, 12, next);
-        gcm_aes128_update(&nettle, AAD, aad);
-        gcm_aes128_encrypt(&nettle, len, text, text);
-        gcm_aes128_digest(&nettle, 16, tag);
+        (keys == LONG ? nettle_seal_256 : nettle_seal_128)(next, text, len, tag);
         next[11]++;
     }
 }
 
-static bool nettle_open(uint8_t *text, size_t len, const uint8_t *sealed, const uint8_t *tag, uint32_t count) {
+static bool nettle_open(int keys, uint8_t *text, size_t len, const uint8_t *sealed, const uint8_t *tag, uint32_t count) {
     bool all = true;
     for (uint32_t i = 0; i < count; i++) {
         uint8_t found[16];
         memcpy(text, sealed, len);
-        gcm_aes128_set_iv(&nettle, 12, iv);
-        gcm_aes128_update(&nettle, AAD, aad);
-        gcm_aes128_decrypt(&nettle, len, text, text);
-        gcm_aes128_digest(&nettle, 16, found);
+        (keys == LONG ? nettle_open_256 : nettle_open_128)(text, len, found);
         all = all && memcmp(found, tag, 16) == 0;
     }
     return all;
@@ -131,19 +152,19 @@ static const struct library libraries[LIBRARIES] = {
     {"nettle", nettle_seal, nettle_open},
 };
 
-static void check_length(size_t len) {
+static void check_length(int keys, size_t len) {
     uint8_t expected[ROOM], tag[16];
     memcpy(expected, plain, len);
-    openssl_seal(expected, len, tag, 1);
+    openssl_seal(keys, expected, len, tag, 1);
     for (int i = 0; i < LIBRARIES; i++) {
         uint8_t text[ROOM], found[16], changed[16];
         memcpy(text, plain, len);
-        libraries[i].seal(text, len, found, 1);
+        libraries[i].seal(keys, text, len, found, 1);
         must(memcmp(text, expected, len) == 0 && memcmp(found, tag, 16) == 0, "other octets are sealed");
-        must(libraries[i].open(text, len, expected, tag, 1) && memcmp(text, plain, len) == 0, "other octets are opened");
+        must(libraries[i].open(keys, text, len, expected, tag, 1) && memcmp(text, plain, len) == 0, "other octets are opened");
         memcpy(changed, tag, 16);
         changed[len % 16] ^= 1;
-        must(!libraries[i].open(text, len, expected, changed, 1), "a changed tag is taken");
+        must(!libraries[i].open(keys, text, len, expected, changed, 1), "a changed tag is taken");
     }
 }
 
@@ -159,27 +180,27 @@ static void keep_least(double *least, double time) {
 /* A call more than `count`, so that the difference is that of `count` calls. */
 static uint32_t calls(int n) { return (uint32_t)(30000 / octets_of_frames[n]) + 2; }
 
-static void time_sealing(const struct library *library, int n, struct least *least) {
+static void time_sealing(const struct library *library, int keys, int n, struct least *least) {
     uint8_t text[ROOM], tag[16];
     size_t len = octets_of_frames[n] - 12;
     memcpy(text, plain, len);
     double start = seconds();
-    library->seal(text, len, tag, 1);
+    library->seal(keys, text, len, tag, 1);
     double one = seconds();
-    library->seal(text, len, tag, calls(n) + 1);
+    library->seal(keys, text, len, tag, calls(n) + 1);
     keep_least(&least->all, seconds() - one);
     keep_least(&least->one, one - start);
 }
 
-static void time_opening(const struct library *library, int n, struct least *least) {
+static void time_opening(const struct library *library, int keys, int n, struct least *least) {
     uint8_t text[ROOM], sealed[ROOM], tag[16];
     size_t len = octets_of_frames[n] - 12;
     memcpy(sealed, plain, len);
-    libraries[2].seal(sealed, len, tag, 1);
+    libraries[2].seal(keys, sealed, len, tag, 1);
     double start = seconds();
-    bool first = library->open(text, len, sealed, tag, 1);
+    bool first = library->open(keys, text, len, sealed, tag, 1);
     double one = seconds();
-    bool all = library->open(text, len, sealed, tag, calls(n) + 1);
+    bool all = library->open(keys, text, len, sealed, tag, calls(n) + 1);
     keep_least(&least->all, seconds() - one);
     keep_least(&least->one, one - start);
     must(first && all, "a text is not opened");
@@ -187,9 +208,11 @@ static void time_opening(const struct library *library, int n, struct least *lea
 
 static double nanoseconds(const struct least *least, int n) { return 1e9 * (least->all - least->one) / calls(n); }
 
-static void print_row(const char *what, struct least times[LIBRARIES][LENGTHS]) {
+typedef struct least rows[LIBRARIES][LENGTHS];
+
+static void print_rows(const char *what, int keys, rows times) {
     for (int i = 0; i < LIBRARIES; i++) {
-        printf("%-5s %-10s", what, libraries[i].name);
+        printf("%-5s %-8s %-10s", what, ciphers[keys], libraries[i].name);
         for (int n = 0; n < LENGTHS; n++) printf(" %9.0f", nanoseconds(&times[i][n], n));
         printf("  | of OpenSSL");
         for (int n = 0; n < LENGTHS; n++) printf(" %5.2f", nanoseconds(&times[2][n], n) / nanoseconds(&times[i][n], n));
@@ -199,31 +222,56 @@ static void print_row(const char *what, struct least times[LIBRARIES][LENGTHS]) 
     }
 }
 
-int main(int count, char **words) {
-    int rounds = count > 1 ? atoi(words[1]) : 200;
-    for (size_t i = 0; i < 16; i++) key[i] = (uint8_t)(13 * i + 7);
+/* How much longer AES-256 takes than AES-128. */
+static void print_ratios(const char *what, rows short_times, rows long_times) {
+    for (int i = 0; i < LIBRARIES; i++) {
+        printf("%-5s %-10s", what, libraries[i].name);
+        for (int n = 0; n < LENGTHS; n++) printf(" %5.2f", nanoseconds(&long_times[i][n], n) / nanoseconds(&short_times[i][n], n));
+        printf("\n");
+    }
+}
+
+static void prepare(void) {
+    const EVP_CIPHER *of[KEYS] = {EVP_aes_128_gcm(), EVP_aes_256_gcm()};
+    for (size_t i = 0; i < 32; i++) key[i] = (uint8_t)(13 * i + 7);
     for (size_t i = 0; i < 12; i++) iv[i] = (uint8_t)(17 * i + 3);
     for (size_t i = 0; i < AAD; i++) aad[i] = (uint8_t)(11 * i + 5);
     for (size_t i = 0; i < ROOM; i++) plain[i] = (uint8_t)(i * i / 3 + 7 * i);
-    openssl_seals = EVP_CIPHER_CTX_new();
-    openssl_opens = EVP_CIPHER_CTX_new();
-    must(EVP_EncryptInit_ex(openssl_seals, EVP_aes_128_gcm(), NULL, key, NULL) == 1, "no AES-128-GCM in OpenSSL");
-    must(EVP_DecryptInit_ex(openssl_opens, EVP_aes_128_gcm(), NULL, key, NULL) == 1, "no AES-128-GCM in OpenSSL");
-    gcm_aes128_set_key(&nettle, key);
-    for (int i = 0; i < CHECKED; i++) check_length(checked[i]);
-    printf("all give the same octets at %d lengths\n", CHECKED);
+    for (int keys = 0; keys < KEYS; keys++) {
+        openssl_seals[keys] = EVP_CIPHER_CTX_new();
+        openssl_opens[keys] = EVP_CIPHER_CTX_new();
+        must(EVP_EncryptInit_ex(openssl_seals[keys], of[keys], NULL, key, NULL) == 1, "no such cipher in OpenSSL");
+        must(EVP_DecryptInit_ex(openssl_opens[keys], of[keys], NULL, key, NULL) == 1, "no such cipher in OpenSSL");
+    }
+    gcm_aes128_set_key(&nettle_short, key);
+    gcm_aes256_set_key(&nettle_long, key);
+}
 
-    struct least seal[LIBRARIES][LENGTHS], open[LIBRARIES][LENGTHS];
-    for (int i = 0; i < LIBRARIES; i++)
-        for (int n = 0; n < LENGTHS; n++) seal[i][n] = open[i][n] = (struct least){1e18, 1e18};
+int main(int count, char **words) {
+    int rounds = count > 1 ? atoi(words[1]) : 200;
+    static rows seal[KEYS], open[KEYS];
+    prepare();
+    for (int keys = 0; keys < KEYS; keys++)
+        for (int i = 0; i < CHECKED; i++) check_length(keys, checked[i]);
+    printf("all give the same octets at %d lengths, under short and long keys\n", CHECKED);
+
+    for (int keys = 0; keys < KEYS; keys++)
+        for (int i = 0; i < LIBRARIES; i++)
+            for (int n = 0; n < LENGTHS; n++) seal[keys][i][n] = open[keys][i][n] = (struct least){1e18, 1e18};
     for (int r = 0; r < rounds; r++)
         for (int n = 0; n < LENGTHS; n++)
-            for (int i = 0; i < LIBRARIES; i++) {
-                time_sealing(&libraries[i], n, &seal[i][n]);
-                time_opening(&libraries[i], n, &open[i][n]);
-            }
+            for (int keys = 0; keys < KEYS; keys++)
+                for (int i = 0; i < LIBRARIES; i++) {
+                    time_sealing(&libraries[i], keys, n, &seal[keys][i][n]);
+                    time_opening(&libraries[i], keys, n, &open[keys][i][n]);
+                }
     printf("nanoseconds for frames of 64, 256, 1500 and 9184 octets, and speed relative to OpenSSL and nettle\n");
-    print_row("seal", seal);
-    print_row("open", open);
+    for (int keys = 0; keys < KEYS; keys++) {
+        print_rows("seal", keys, seal[keys]);
+        print_rows("open", keys, open[keys]);
+    }
+    printf("times of AES-256 by those of AES-128\n");
+    print_ratios("seal", seal[SHORT], seal[LONG]);
+    print_ratios("open", open[SHORT], open[LONG]);
     return 0;
 }

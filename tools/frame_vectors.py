@@ -4,7 +4,7 @@
 The inputs follow rules, which the tests of the crate repeat, so that the table holds protected frames
 alone. Each way to name the channel is taken with each protection and each length of User Data, in the
 order of NAMES, PROTECTIONS and LENGTHS below. Of frame n, counted from 0,
-    octet i of the key is                (13 i + n) mod 256,
+    octet i of the key is                (13 i + n) mod 256, of 32 octets where n mod 3 is 2, else of 16,
     octet i of the addresses is          ( 5 i + 2) mod 256,
     octet i of the User Data is          ( 7 i + 3) mod 256,
     the association is                   n mod 4,
@@ -46,6 +46,10 @@ def blocks(frame):
     return [f"0x{filled[i:i + 16].hex()}" for i in range(0, len(filled), 16)]
 
 
+def key_of(n):
+    return octets(13, n, 32 if n % 3 == 2 else 16)
+
+
 def sec_tag(name, encrypted, association, number, secure_length, sci):
     """IEEE Std 802.1AE-2018, 9.3 to 9.9."""
     control = {"Explicit": 0b00100000, "EndStation": 0b01000000, "Implicit": 0}[name]
@@ -65,7 +69,7 @@ def protected(n, name, offset, length):
     clear, hidden = user_data[:clear_length], user_data[clear_length:]
     header = addresses + sec_tag(name, offset is not None, n % 4, number, length, sci)
     iv = sci + number.to_bytes(4, "big")
-    return header + clear + AESGCM(octets(13, n, 16)).encrypt(iv, hidden, header + clear)
+    return header + clear + AESGCM(key_of(n)).encrypt(iv, hidden, header + clear)
 
 
 def main():
@@ -117,4 +121,5 @@ pub const GROUPS: &[Group] = &["""
     print("];")
 
 
-main()
+if __name__ == "__main__":
+    main()

@@ -1,6 +1,7 @@
 pub mod SBoxTable
 pub mod RoundConstants
 pub mod RoundSteps
+pub mod KeyLengths
 pub mod Words
 pub mod InversePower
 pub mod Octets

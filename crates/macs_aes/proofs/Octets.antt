@@ -33,7 +33,7 @@ sum_same : (v w u : ℕ) → u ≡ w → to_be_bytes w32 (bit_xor v w) ≡ colum
 sum_same v w u e = octets-xor v w ∙ ap (λ o. column_sum (to_be_bytes w32 v) (to_be_bytes w32 o)) (sym e)
 
 -- a round key is added word by word
-pub columns-add_round_key : (a b c d : ℕ) (ka kb kc kd words : List ℕ) (round : ℕ) → words_in ka kb kc kd ≡ words → round < 11
+pub columns-add_round_key : (a b c d : ℕ) (ka kb kc kd words : List ℕ) (round : ℕ) → words_in ka kb kc kd ≡ words → round < 15
     → state_of_columns (bit_xor a (slice_index ka round)) (bit_xor b (slice_index kb round)) (bit_xor c (slice_index kc round)) (bit_xor d (slice_index kd round))
     ≡ add_round_key words round (state_of_columns a b c d)
 columns-add_round_key a b c d ka kb kc kd words round e h =
@@ -51,7 +51,7 @@ four_same : (o : List ℕ) (v w : ℕ) → o ≡ to_be_bytes w32 v → w ≡ v �
 four_same o v w eo ev = ap four_of (eo ∙ ap (to_be_bytes w32) (sym ev))
 
 -- a round key by the octets of its words
-pub columns-round_key : (oa ob oc od ka kb kc kd words : List ℕ) (round : ℕ) → words_in ka kb kc kd ≡ words → round < 11
+pub columns-round_key : (oa ob oc od ka kb kc kd words : List ℕ) (round : ℕ) → words_in ka kb kc kd ≡ words → round < 15
     → oa ≡ to_be_bytes w32 (slice_index ka round) → ob ≡ to_be_bytes w32 (slice_index kb round)
     → oc ≡ to_be_bytes w32 (slice_index kc round) → od ≡ to_be_bytes w32 (slice_index kd round)
     → four_of oa ++ four_of ob ++ four_of oc ++ four_of od ≡ round_key words round

@@ -16,6 +16,6 @@ mixed_column a b c d = mixed_octet a b c d ∷ mixed_octet b c d a ∷ mixed_oct
 abbrev pub word_in : List ℕ → List ℕ → List ℕ → List ℕ → ℕ → ℕ
 word_in a b c d k = slice_index (get_or (a ∷ b ∷ c ∷ d ∷ []) (k % 4) []) (k / 4)
 
--- the 44 words of four columns of eleven words, taken from them in turn
+-- the 60 words of four columns of fifteen words, taken from them in turn
 unfoldable pub words_in : List ℕ → List ℕ → List ℕ → List ℕ → List ℕ
-words_in a b c d = map (word_in a b c d) (range_with_len 0 44)
+words_in a b c d = map (word_in a b c d) (range_with_len 0 60)

@@ -27,7 +27,7 @@ impl Model for KeyColumns {
     ghost view = { λ k. words_in k.a k.b k.c k.d };
 }
 
-/// The 44 words of the key expansion, put by columns.
+/// The words of the key expansion, put by columns.
 pub(crate) fn by_columns(words: &[u32; WORDS]) -> KeyColumns
     ensures { result ≡ words.now }
 {

@@ -1,4 +1,4 @@
-//! The cipher: its state and its ten rounds (FIPS 197, 5.1).
+//! The cipher: its state and its ten or fourteen rounds (FIPS 197, 5.1).
 
 ghost use Rattle.std.specs.Prelude.{◌≡◌, ◌<◌};
 ghost use Rattle.macs_aes.specs.Cipher.{add_round_key, encrypt, mix_columns};
@@ -7,7 +7,7 @@ ghost use Rattle.macs_aes.specs.Cipher.{shift_rows, sub_bytes};
 use crate::Block;
 use crate::columns::{column, mixed_column};
 use crate::key_columns::KeyColumns;
-use crate::schedule::{ROUND_KEYS, ROUNDS, Schedule};
+use crate::schedule::{ROUND_KEYS, Schedule};
 use std::marker::Model;
 
 /// A state, as the words of its columns from the left (FIPS 197, 3.5). In clauses it is the list of its
@@ -58,7 +58,7 @@ impl State {
     }
 }
 
-/// AddRoundKey (FIPS 197, 5.1.4) of round 0 to 10.
+/// AddRoundKey (FIPS 197, 5.1.4) of a round.
 #[inline(always)]
 fn add_round_key(s: State, words: &KeyColumns, round: usize) -> State
     requires { round < ROUND_KEYS }
@@ -106,14 +106,15 @@ fn last_round(s: State) -> State
     }
 }
 
-/// The block of 16 octets encrypted by AES-128 under the schedule's key (FIPS 197, 5.1).
+/// The block of 16 octets encrypted by AES under the schedule's key (FIPS 197, 5.1).
 pub fn encrypt_block(schedule: &Schedule, block: &Block) -> Block
     ensures { result ≡ encrypt schedule.now block.now }
 {
     let words = schedule.words();
+    let rounds = schedule.rounds();
     let mut state = add_round_key(State::from_block(block), words, 0);
-    for round in 1..ROUNDS {
+    for round in 1..rounds {
         state = add_round_key(inner_round(state), words, round);
     }
-    add_round_key(last_round(state), words, ROUNDS).to_block()
+    add_round_key(last_round(state), words, rounds).to_block()
 }

@@ -1,41 +1,52 @@
 //! The key expansion (FIPS 197, 5.2).
 
-ghost use Rattle.std.specs.Prelude.{◌≡◌, ◌<◌, ◌≤◌, List, ℕ, length};
+ghost use Rattle.std.specs.Prelude.{◌≡◌, ◌<◌, ◌≤◌, ◌⊎◌, ◌+◌, ◌*◌, ℕ, length, take};
 ghost use Rattle.macs_aes.specs.Cipher.{round_key};
 ghost use Rattle.macs_aes.specs.KeyExpansion.{from_previous, key_word, key_words};
+ghost use Rattle.macs_aes.specs.Keys.{octets_of_key};
 ghost use Rattle.macs_aes.specs.KeyExpansion.{round_constant, rounds_of, sub_word};
 
 use crate::Block;
 use crate::key_columns::{KeyColumns, by_columns};
+use crate::keys::Key;
 use crate::sbox::substitute;
 use std::marker::Model;
 
 /// Nr, how many rounds the cipher has under a key of 16 octets (FIPS 197, 5, figure 4).
-pub(crate) const ROUNDS: usize = 10;
+const SHORT_ROUNDS: usize = 10;
 
-/// How many round keys there are: one before the first round, and one for each.
-pub(crate) const ROUND_KEYS: usize = ROUNDS + 1;
+/// Nr under a key of 32 octets.
+const LONG_ROUNDS: usize = 14;
 
-/// How many words the key expansion has: four for each round key.
+/// How many round keys there are at most: one before the first round, and one for each.
+pub(crate) const ROUND_KEYS: usize = LONG_ROUNDS + 1;
+
+/// How many words the key expansion has at most: four for each round key.
 pub(crate) const WORDS: usize = 4 * ROUND_KEYS;
 
 /// The leftmost octets of Rcon\[1\] to Rcon\[10\]: x^0 to x^9.
 const ROUND_CONSTANTS: [u8; 10] = [0x01, 0x02, 0x04, 0x08, 0x10, 0x20, 0x40, 0x80, 0x1b, 0x36];
 
-/// An AES-128 key, expanded for its ten rounds. In clauses it is its key, a list of 16 octets.
+/// A key, expanded for its ten or fourteen rounds. In clauses it is its key, a list of 16 octets or of 32.
 #[derive(Drop)]
 pub struct Schedule {
-    /// Kept for the contracts: the value of a schedule is its key.
-    key: Block,
+    /// The value of a schedule. Its length says how many rounds there are.
+    key: Key,
+    /// After the words of a short key come zeros.
     words: KeyColumns,
 }
 
 impl Model for Schedule {
+    ghost use Rattle.std.specs.Prelude.{◌≡◌, ◌≤◌, List, ℕ};
+    ghost use Rattle.macs_aes.specs.Cipher.{round_key};
+    ghost use Rattle.macs_aes.specs.KeyExpansion.{key_words, rounds_of};
+    ghost use Rattle.macs_aes.specs.Keys.{HasItsLength, octets_of_key};
+
     ghost Value = { List ℕ };
 
-    ghost view = { λ s. s.key };
+    ghost view = { λ s. octets_of_key s.key };
 
-    ghost invariant = { λ s. (length s.key ≡ 16) × (s.words ≡ key_words s.key) };
+    ghost invariant = { λ s. HasItsLength s.key × ((i : ℕ) → i ≤ rounds_of (octets_of_key s.key) → round_key s.words i ≡ round_key (key_words (octets_of_key s.key)) i) };
 }
 
 /// SubWord: the S-box on each octet of a word.
@@ -55,37 +66,42 @@ fn round_constant(j: usize) -> u32
     u32::from(ROUND_CONSTANTS[j - 1]) << 24
 }
 
-/// What word i takes from the word before it, i from 4 to 43.
-fn from_previous(i: usize, word: u32) -> u32
-    requires first { 4 ≤ i }
-    requires last { i < WORDS }
-    ensures { result ≡ from_previous 4 i word }
+/// What word i takes from the word before it, i from Nk on, under a key of Nk words: 4 or 8.
+fn from_previous(words_in_key: usize, i: usize, word: u32) -> u32
+    requires key { (words_in_key ≡ 4) ⊎ (words_in_key ≡ 8) }
+    requires first { words_in_key ≤ i }
+    requires last { i < 4 * (words_in_key + 7) }
+    ensures { result ≡ from_previous words_in_key i word }
 {
-    if i % 4 == 0 {
-        sub_word(word.rotate_left(8)) ^ round_constant(i / 4)
+    if i % words_in_key == 0 {
+        sub_word(word.rotate_left(8)) ^ round_constant(i / words_in_key)
+    } else if 6 < words_in_key && i % words_in_key == 4 {
+        sub_word(word)
     } else {
         word
     }
 }
 
-/// Word i of the key, i from 0 to 3.
-fn key_word(key: &Block, i: usize) -> u32
-    requires { i < 4 }
+/// Word i of the key, whose octets are 4 i to 4 i + 3.
+fn key_word(key: &[u8], i: usize) -> u32
+    requires { 4 * i + 3 < length key.now }
     ensures { result ≡ key_word key.now i }
 {
     u32::from_be_bytes([key[4 * i], key[4 * i + 1], key[4 * i + 2], key[4 * i + 3]])
 }
 
-/// The words of the key expansion of a key of 16 octets.
-fn expand(key: &Block) -> [u32; WORDS]
-    ensures { result ≡ key_words key.now }
+/// The words of the key expansion of a key of 16 or 32 octets, and zeros after them.
+fn expand(key: &[u8]) -> [u32; WORDS]
+    requires { (length key.now ≡ 16) ⊎ (length key.now ≡ 32) }
+    ensures { take (4 * (rounds_of key.now + 1)) result ≡ key_words key.now }
 {
+    let words_in_key = key.len() / 4;
     let mut words = [0u32; WORDS];
-    'key: for i in 0..4 {
+    'key: for i in 0..words_in_key {
         words[i] = key_word(key, i);
     }
-    'rest: for i in 4..WORDS {
-        words[i] = words[i - 4] ^ from_previous(i, words[i - 1]);
+    'rest: for i in words_in_key..4 * (words_in_key + 7) {
+        words[i] = words[i - words_in_key] ^ from_previous(words_in_key, i, words[i - 1]);
     }
     words
 }
@@ -95,33 +111,41 @@ impl Schedule {
     pub fn new(key: &Block) -> Self
         ensures { result ≡ key.now }
     {
+        Schedule::of(&Key::Short(*key))
+    }
+
+    /// The schedule of a key of either length.
+    pub fn of(key: &Key) -> Self
+        ensures { result ≡ octets_of_key key.now }
+    {
         Schedule {
             key: *key,
-            words: by_columns(&expand(key)),
+            words: by_columns(&expand(key.as_slice())),
         }
     }
 
-    /// The words w\[0\] to w\[43\] of the key expansion of 16 octets.
+    /// The words of the key expansion. After those of a short key come zeros.
     pub(crate) fn words(&self) -> &KeyColumns
-        ensures words { result.now ≡ key_words self.now }
-        ensures key { length self.now ≡ 16 }
+        ensures { (i : ℕ) → i ≤ rounds_of self.now → round_key result.now i ≡ round_key (key_words self.now) i }
     {
         &self.words
     }
 
-    /// The number of rounds, Nr (FIPS 197, 5, figure 4): 10 for a key of 16 octets.
+    /// The number of rounds, Nr (FIPS 197, 5, figure 4): 10 for a key of 16 octets, 14 for one of 32.
     pub fn rounds(&self) -> usize
         ensures rounds { result ≡ rounds_of self.now }
-        ensures ten { result ≡ 10 }
+        ensures ten_or_fourteen { (result ≡ 10) ⊎ (result ≡ 14) }
     {
-        let _key = &self.key;
-        ROUNDS
+        match &self.key {
+            Key::Short(_) => SHORT_ROUNDS,
+            Key::Long(_) => LONG_ROUNDS,
+        }
     }
 
-    /// The key of round i, i from 0 to 10: words 4 i to 4 i + 3 of the key expansion, as the columns of
-    /// a state (5.1.4).
+    /// The key of round i, i from 0 to the number of rounds: words 4 i to 4 i + 3 of the key expansion, as
+    /// the columns of a state (5.1.4).
     pub fn round_key(&self, i: usize) -> Block
-        requires { i < 11 }
+        requires { i ≤ rounds_of self.now }
         ensures { result ≡ round_key (key_words self.now) i }
     {
         self.words.round_key(i)

@@ -1,2 +1,3 @@
+mod long_frames;
 mod receiving;
 mod sending;

@@ -1,15 +1,18 @@
 -- Whatever the smaller edition takes the larger takes too.
-use Rattle.std.proofs.Common.{◌≡◌, ◌∙◌, ℕ, Bool, true, false, cond, not, ◌&&◌, nat_le, nat_lt, List, [], ◌∷◌, length, Option, Some, None, Ok, inl, inr, bytes_eq, refl, ap, arith}
-use Rattle.std.proofs.lemmas.Bool.{and_from, and_parts, leb-false, lt-leb, ltb-true, lt-ltb}
-use Rattle.macs_config.specs.Apply.{IsCommand, IsKey, apply, config_after, refusal_of}
-use Rattle.macs_config.specs.Config.{Config, Edition, IsConfig, IsUpTo, default, has_channel}
+use Rattle.std.proofs.Common.{◌≡◌, ◌∙◌, ℕ, Bool, true, false, cond, not, ◌&&◌, ◌||◌, ◌==◌, nat_le, nat_lt, List, [], ◌∷◌, ◌++◌, length, Option, Some, None, is_none, Ok, bytes_eq, refl, ap, arith}
+use Rattle.std.proofs.lemmas.Bool.{and_from, and_parts, leb-false, lt-leb, ltb-true, lt-ltb, not-false}
+use Rattle.macs_aes.specs.Keys.{octets_of_key}
+use Rattle.macs_frame.specs.First.{first}
+use Rattle.macs_config.specs.Apply.{apply, are_spent_full, config_after, has_no_channel, has_wrong_offset, has_wrong_start, is_key_spent, is_long_key, is_slot_taken, refusal_of}
+use Rattle.macs_config.specs.Config.{Config, Edition, IsConfig, IsUpTo, default, has_channel, takes_key}
 use Rattle.macs_config.specs.Identity.{Identity}
 use Rattle.macs_config.specs.Snapshot.{are_ordered, whole_config, may_follow, place_of, config_of_parts, config_with_part, config_with_parts}
 use Rattle.macs_config.specs.declared.command.Command.{Command}
 use Rattle.macs_config.specs.declared.command.Command.TheVariants.{RxAdd, RxDrop, RxInstall, RxRemove, SetReplay, SetSciMode, SetValidate, TxInstall, TxRemove, TxUse}
 use Rattle.macs_config.specs.declared.part.Part.{Part}
 use Rattle.macs_config.specs.declared.part.Part.TheVariants.{Settings, TxSa, Channel, RxSa, Spent}
-use Rattle.macs_config.specs.declared.refusal.Refusal.TheVariants.{ChannelTaken, ChannelsFull, OwnSci}
+use Rattle.macs_config.specs.declared.refusal.Refusal.{Refusal}
+use Rattle.macs_config.specs.declared.refusal.Refusal.TheVariants.{ChannelTaken, ChannelsFull, KeySpent, LongKey, NoChannel, OffsetChoice, OwnSci, SlotTaken, SpentFull, StartRange}
 use Rattle.macs_config.proofs.Kept.{applied_by}
 use Rattle.macs_config.proofs.Refused.{taken_by}
 
@@ -22,7 +25,32 @@ add_by false true full fuller room is = cc
 add_by false false true fuller room is = cc
 add_by false false false fuller room is = ap (λ (test : Bool). cond test (Some ChannelsFull) None) (room refl)
 
+-- an install that is refused by no test is refused by none where fewer keys are too long
+last_behind : (refusal : Refusal) (test : Bool) (others : List (Refusal × Bool)) (long longer : Bool)
+    → (first (others ++ (LongKey, long) ∷ []) ≡ None → first (others ++ (LongKey, longer) ∷ []) ≡ None)
+    → cond test (Some refusal) (first (others ++ (LongKey, long) ∷ [])) ≡ None → cond test (Some refusal) (first (others ++ (LongKey, longer) ∷ [])) ≡ None
+last_behind refusal true others long longer later is = cc
+last_behind refusal false others long longer later is = later is
+
+last_by : (rows : List (Refusal × Bool)) (long longer : Bool) → (long ≡ false → longer ≡ false)
+    → first (rows ++ (LongKey, long) ∷ []) ≡ None → first (rows ++ (LongKey, longer) ∷ []) ≡ None
+last_by [] true longer fewer is = cc
+last_by [] false longer fewer is = ap (λ (test : Bool). cond test (Some LongKey) None) (fewer refl)
+last_by (row ∷ rows) long longer fewer is = last_behind row.0 row.1 rows long longer (last_by rows long longer fewer) is
+
+taken_by_either : (small large short : Bool) → (small ≡ true → large ≡ true) → (small || short) ≡ true → (large || short) ≡ true
+taken_by_either true large short wider is = ap (λ (test : Bool). test || short) (wider refl)
+taken_by_either false true short wider is = refl
+taken_by_either false false short wider is = is
+
 module _ (small large : Edition) (up_to : IsUpTo small large) where
+  -- a key that the smaller takes the larger takes
+  takes-key : (key : List ℕ) → takes_key small key ≡ true → takes_key large key ≡ true
+  takes-key key = taken_by_either small.long_keys large.long_keys (length key == 16) up_to.long_keys
+
+  not_long : (key : List ℕ) → not (takes_key small key) ≡ false → not (takes_key large key) ≡ false
+  not_long key is = ap not (takes-key key (not-false (takes_key small key) is))
+
   room : (n : ℕ) → nat_le small.channels n ≡ false → nat_le large.channels n ≡ false
   room n is =
       let below = leb-false small.channels n is in
@@ -33,14 +61,22 @@ module _ (small large : Edition) (up_to : IsUpTo small large) where
   not_refused identity c (SetValidate validate) is = is
   not_refused identity c (SetReplay on window) is = is
   not_refused identity c (SetSciMode mode) is = is
-  not_refused identity c (TxInstall an key start confidential offset) is = is
+  not_refused identity c (TxInstall an key start confidential offset) is =
+      let install = TxInstall an key start confidential offset in
+      last_by ((StartRange, has_wrong_start install) ∷ (OffsetChoice, has_wrong_offset install) ∷ (SlotTaken, is_slot_taken c install)
+          ∷ (KeySpent, is_key_spent c install) ∷ (SpentFull, are_spent_full c install) ∷ [])
+      (is_long_key small install) (is_long_key large install) (not_long (octets_of_key key)) is
   not_refused identity c (TxUse an) is = is
   not_refused identity c (TxRemove an) is = is
   not_refused identity c (RxAdd sci) is =
       add_by (bytes_eq sci identity.sci) (has_channel c sci) (nat_le small.channels (length c.channels)) (nat_le large.channels (length c.channels))
       (room (length c.channels)) is
   not_refused identity c (RxDrop sci) is = is
-  not_refused identity c (RxInstall sci an key start offset) is = is
+  not_refused identity c (RxInstall sci an key start offset) is =
+      let install = RxInstall sci an key start offset in
+      last_by ((StartRange, has_wrong_start install) ∷ (OffsetChoice, has_wrong_offset install) ∷ (NoChannel, has_no_channel c install)
+          ∷ (SlotTaken, is_slot_taken c install) ∷ (KeySpent, is_key_spent c install) ∷ (SpentFull, are_spent_full c install) ∷ [])
+      (is_long_key small install) (is_long_key large install) (not_long (octets_of_key key)) is
   not_refused identity c (RxRemove sci an) is = is
 
   pub larger-applies : (identity : Identity) (old new : Config) (command : Command)
@@ -53,14 +89,19 @@ module _ (small large : Edition) (up_to : IsUpTo small large) where
 
   follows : (identity : Identity) (c : Config) (part : Part) → may_follow small identity c part ≡ true → may_follow large identity c part ≡ true
   follows identity c (Settings validate replay mode encoding) may = may
-  follows identity c (TxSa an sa) may = may
+  follows identity c (TxSa an sa) may =
+      let parts = and_parts (is_none (c.tx an)) (takes_key small sa.key) may in
+      and_from (is_none (c.tx an)) (takes_key large sa.key) parts.0 (takes-key sa.key parts.1)
   follows identity c (Channel sci) may =
       let free = not (bytes_eq sci identity.sci) && not (has_channel c sci) in
       let parts = and_parts free (nat_lt (length c.channels) small.channels) may in
       let below = ltb-true (length c.channels) small.channels parts.1 in
       let wider = up_to.channels in
       and_from free (nat_lt (length c.channels) large.channels) parts.0 (lt-ltb (length c.channels) large.channels (omega arith))
-  follows identity c (RxSa sci an sa) may = may
+  follows identity c (RxSa sci an sa) may =
+      let free = has_channel c sci && is_none (c.rx sci an) in
+      let parts = and_parts free (takes_key small sa.key) may in
+      and_from free (takes_key large sa.key) parts.0 (takes-key sa.key parts.1)
   follows identity c (Spent role fingerprints) may = may
 
   part_by : (identity : Identity) (c end : Config) (part : Part) (parts : List Part) (by_small by_large : Bool) → (by_small ≡ true → by_large ≡ true)
@@ -95,7 +136,7 @@ module _ (small large : Edition) (up_to : IsUpTo small large) where
   larger-restores identity [] c made = cc
   larger-restores identity (part ∷ parts) c made = restored_by identity part parts c (nat_le (place_of part) 1 && are_ordered 2 parts) made
 
-  -- ---- configurations and commands
+  -- ---- configurations
 
   pub larger-has : (identity : Identity) (c : Config) → IsConfig small identity c → IsConfig large identity c
   larger-has identity c is = record {
@@ -108,24 +149,10 @@ module _ (small large : Edition) (up_to : IsUpTo small large) where
         omega arith;
     own_sci_free = is.own_sci_free;
     rx_channels = is.rx_channels;
+    tx_taken = λ an sa stands. takes-key sa.key (is.tx_taken an sa stands);
+    rx_taken = λ sci an sa stands. takes-key sa.key (is.rx_taken sci an sa stands);
     tx_spent = is.tx_spent;
     rx_spent = is.rx_spent;
     spent_once = is.spent_once;
     spent_fit = is.spent_fit;
   }
-
-  larger-key : (key : List ℕ) → IsKey small key → IsKey large key
-  larger-key key (inl short) = inl short
-  larger-key key (inr long) = inr (up_to.long_keys long.0, long.1)
-
-  pub larger-commands : (command : Command) → IsCommand small command → IsCommand large command
-  larger-commands (SetValidate validate) is = is
-  larger-commands (SetReplay on window) is = is
-  larger-commands (SetSciMode mode) is = is
-  larger-commands (TxInstall an key start confidential offset) is = (is.0, larger-key key is.1, is.2, is.3)
-  larger-commands (TxUse an) is = is
-  larger-commands (TxRemove an) is = is
-  larger-commands (RxAdd sci) is = is
-  larger-commands (RxDrop sci) is = is
-  larger-commands (RxInstall sci an key start offset) is = (is.0, is.1, larger-key key is.2, is.3, is.4)
-  larger-commands (RxRemove sci an) is = is

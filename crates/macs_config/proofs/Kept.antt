@@ -1,10 +1,11 @@
 -- A command that is not refused makes a configuration of a configuration.
 use Rattle.std.proofs.Common.{◌≡◌, ◌∙◌, ◌<◌, ℕ, Bool, true, false, cond, not, ◌&&◌, nat_le, List, [], ◌∷◌, ◌++◌, length, Option, Some, None, is_some, is_none, Ok, filter, bytes_eq, refl, ap, subst, arith, length-append}
 use Rattle.std.proofs.lemmas.Bool.{leb-false, not-false, or_from, or_left, or_right}
+use Rattle.macs_aes.specs.Keys.{octets_of_key}
 use Rattle.macs_frame.specs.First.{first}
-use Rattle.macs_config.specs.Apply.{apply, config_after, is_channel_taken, are_channels_full, offset_or_zero, is_wrong_end_station, is_in_use, is_encoding, is_key_spent, has_no_channel, offset_at, is_own_sci, refusal_of, refusals, is_slot_empty, are_spent_full, answer_or_refusal}
+use Rattle.macs_config.specs.Apply.{apply, config_after, is_channel_taken, are_channels_full, is_long_key, offset_or_zero, is_wrong_end_station, is_in_use, is_encoding, is_key_spent, has_no_channel, offset_at, is_own_sci, refusal_of, refusals, is_slot_empty, are_spent_full, answer_or_refusal}
 use Rattle.macs_config.specs.Association.{is_end_station, protection_of}
-use Rattle.macs_config.specs.Config.{Config, Edition, IsConfig, is_among, is_spent, max_spent, put_among, rx_fingerprint, tx_fingerprint}
+use Rattle.macs_config.specs.Config.{Config, Edition, IsConfig, is_among, is_spent, max_spent, put_among, rx_fingerprint, takes_key, tx_fingerprint}
 use Rattle.macs_config.specs.Identity.{Identity, is_port_one}
 use Rattle.macs_config.specs.Tables.{put, put_at}
 use Rattle.macs_config.specs.declared.association.RxSa.{RxSa}
@@ -51,6 +52,7 @@ module _ (edition : Edition) (identity : Identity) (old : Config) where
     in_use : is_in_use old command ≡ false
     key_spent : is_key_spent old command ≡ false
     spent_full : are_spent_full old command ≡ false
+    long_key : is_long_key edition command ≡ false
 
   passed : (command : Command) → refusal_of edition identity old command ≡ None → Passed command
   passed command is = let none : NoTest (refusals edition identity old command) = no_test (refusals edition identity old command) is in record {
@@ -63,6 +65,7 @@ module _ (edition : Edition) (identity : Identity) (old : Config) where
     in_use = none.1.1.1.1.1.1.1.1.1.0;
     key_spent = none.1.1.1.1.1.1.1.1.1.1.0;
     spent_full = none.1.1.1.1.1.1.1.1.1.1.1.0;
+    long_key = none.1.1.1.1.1.1.1.1.1.1.1.1.0;
   }
 
 -- ---- sides that change
@@ -86,14 +89,17 @@ spent_more spent item is new passed = record {
 pushed_among : (spent : List (List ℕ)) (item : List ℕ) → is_spent (spent ++ item ∷ []) item ≡ true
 pushed_among spent item = among-behind spent (item ∷ []) item (or_left (bytes_eq item item) false (bytes_eq-itself item))
 
-module _ (encoding : Option ℕ) (tx : ℕ → Option TxSa) (spent : List (List ℕ)) (is : IsTransmitSide encoding tx spent) where
-  tx_installed : (an : ℕ) (sa : TxSa) → is_spent spent (tx_fingerprint sa.key) ≡ false → nat_le max_spent (length spent) ≡ false
-      → IsTransmitSide encoding (put tx an (Some sa)) (spent ++ tx_fingerprint sa.key ∷ [])
-  tx_installed an sa new room =
+module _ (edition : Edition) (encoding : Option ℕ) (tx : ℕ → Option TxSa) (spent : List (List ℕ)) (is : IsTransmitSide edition encoding tx spent) where
+  tx_installed : (an : ℕ) (sa : TxSa) → takes_key edition sa.key ≡ true → is_spent spent (tx_fingerprint sa.key) ≡ false
+      → nat_le max_spent (length spent) ≡ false
+      → IsTransmitSide edition encoding (put tx an (Some sa)) (spent ++ tx_fingerprint sa.key ∷ [])
+  tx_installed an sa taken new room =
       let fingerprint = tx_fingerprint sa.key in
       let more = spent ++ fingerprint ∷ [] in
       record {
         encoding_stands = encoding-put encoding tx an sa is.encoding_stands;
+        are_taken = put-associations (λ i (one : TxSa). takes_key edition one.key ≡ true) tx an (Some sa)
+            (λ one same. let key_is : sa.key ≡ one.key = cc in subst (λ (key : List ℕ). takes_key edition key ≡ true) key_is taken) is.are_taken;
         are_spent = put-associations (λ i (one : TxSa). i < 4 → is_spent more (tx_fingerprint one.key) ≡ true) tx an (Some sa)
             (λ one same below. let key_is : sa.key ≡ one.key = cc in
             subst (λ (key : List ℕ). is_spent more (tx_fingerprint key) ≡ true) key_is (pushed_among spent fingerprint))
@@ -101,12 +107,18 @@ module _ (encoding : Option ℕ) (tx : ℕ → Option TxSa) (spent : List (List 
         spent_keys = spent_more spent fingerprint is.spent_keys new room;
       }
 
-  tx_used : (an : ℕ) → is_none (tx an) ≡ false → IsTransmitSide (Some an) tx spent
-  tx_used an stands = record { encoding_stands = not-false (is_some (tx an)) stands; are_spent = is.are_spent; spent_keys = is.spent_keys }
+  tx_used : (an : ℕ) → is_none (tx an) ≡ false → IsTransmitSide edition (Some an) tx spent
+  tx_used an stands = record {
+    encoding_stands = not-false (is_some (tx an)) stands;
+    are_taken = is.are_taken;
+    are_spent = is.are_spent;
+    spent_keys = is.spent_keys;
+  }
 
-  tx_removed : (an : ℕ) → is_encoding encoding an ≡ false → IsTransmitSide encoding (put tx an None) spent
+  tx_removed : (an : ℕ) → is_encoding encoding an ≡ false → IsTransmitSide edition encoding (put tx an None) spent
   tx_removed an unused = record {
     encoding_stands = encoding-kept encoding tx an unused is.encoding_stands;
+    are_taken = put-associations (λ i (one : TxSa). takes_key edition one.key ≡ true) tx an None (λ one same. cc) is.are_taken;
     are_spent = put-associations (λ i (one : TxSa). i < 4 → is_spent spent (tx_fingerprint one.key) ≡ true) tx an None (λ one same below. cc) is.are_spent;
     spent_keys = is.spent_keys;
   }
@@ -130,32 +142,38 @@ module _ (edition : Edition) (identity : Identity) (channels : List (List ℕ)) 
     own_sci_free = not_among-filter stays identity.sci channels are.own_sci_free;
   }
 
-module _ (channels : List (List ℕ)) (rx : List ℕ → ℕ → Option RxSa) (spent : List (List ℕ)) (is : IsReceiveSide channels rx spent) where
-  rx_added : (sci : List ℕ) → IsReceiveSide (put_among sci channels) rx spent
+module _ (edition : Edition) (channels : List (List ℕ)) (rx : List ℕ → ℕ → Option RxSa) (spent : List (List ℕ))
+    (is : IsReceiveSide edition channels rx spent) where
+  rx_added : (sci : List ℕ) → IsReceiveSide edition (put_among sci channels) rx spent
   rx_added sci = record {
     have_channels = λ other an sa stands. among-put_among sci channels other
         ∙ or_right (bytes_eq sci other) (is_among channels other) (is.have_channels other an sa stands);
+    are_taken = is.are_taken;
     are_spent = is.are_spent;
     spent_keys = is.spent_keys;
   }
 
-  rx_dropped : (sci : List ℕ) → IsReceiveSide (filter (λ other. not (bytes_eq other sci)) channels) (put_at rx sci (λ an. None)) spent
+  rx_dropped : (sci : List ℕ) → IsReceiveSide edition (filter (λ other. not (bytes_eq other sci)) channels) (put_at rx sci (λ an. None)) spent
   rx_dropped sci = let stays = λ (other : List ℕ). not (bytes_eq other sci) in record {
     have_channels = λ other an sa. drop-receive-associations (λ other an (sa : RxSa). is_among (filter stays channels) other ≡ true) rx sci other an sa
         (λ differ stood. among-filter stays other channels (ap not differ) (is.have_channels other an sa stood));
+    are_taken = λ other an sa. drop-receive-associations (λ other an (sa : RxSa). takes_key edition sa.key ≡ true) rx sci other an sa
+        (λ differ stood. is.are_taken other an sa stood);
     are_spent = λ other an sa. drop-receive-associations (λ other an (sa : RxSa). an < 4 → is_spent spent (rx_fingerprint other sa.key) ≡ true) rx sci other an sa
         (λ differ stood. is.are_spent other an sa stood);
     spent_keys = is.spent_keys;
   }
 
-  rx_installed : (sci : List ℕ) (an : ℕ) (sa : RxSa) → is_among channels sci ≡ true → is_spent spent (rx_fingerprint sci sa.key) ≡ false
-      → nat_le max_spent (length spent) ≡ false
-      → IsReceiveSide channels (put_at rx sci (put (rx sci) an (Some sa))) (spent ++ rx_fingerprint sci sa.key ∷ [])
-  rx_installed sci an sa channel new room =
+  rx_installed : (sci : List ℕ) (an : ℕ) (sa : RxSa) → is_among channels sci ≡ true → takes_key edition sa.key ≡ true
+      → is_spent spent (rx_fingerprint sci sa.key) ≡ false → nat_le max_spent (length spent) ≡ false
+      → IsReceiveSide edition channels (put_at rx sci (put (rx sci) an (Some sa))) (spent ++ rx_fingerprint sci sa.key ∷ [])
+  rx_installed sci an sa channel taken new room =
       let fingerprint = rx_fingerprint sci sa.key in
       let more = spent ++ fingerprint ∷ [] in
       record {
         have_channels = put-receive-associations (λ other i (one : RxSa). is_among channels other ≡ true) rx sci an (Some sa) (λ one same. channel) is.have_channels;
+        are_taken = put-receive-associations (λ other i (one : RxSa). takes_key edition one.key ≡ true) rx sci an (Some sa)
+            (λ one same. let key_is : sa.key ≡ one.key = cc in subst (λ (key : List ℕ). takes_key edition key ≡ true) key_is taken) is.are_taken;
         are_spent = put-receive-associations (λ other i (one : RxSa). i < 4 → is_spent more (rx_fingerprint other one.key) ≡ true) rx sci an (Some sa)
             (λ one same below. let key_is : sa.key ≡ one.key = cc in
             subst (λ (key : List ℕ). is_spent more (rx_fingerprint sci key) ≡ true) key_is (pushed_among spent fingerprint))
@@ -163,9 +181,10 @@ module _ (channels : List (List ℕ)) (rx : List ℕ → ℕ → Option RxSa) (s
         spent_keys = spent_more spent fingerprint is.spent_keys new room;
       }
 
-  rx_removed : (sci : List ℕ) (an : ℕ) → IsReceiveSide channels (put_at rx sci (put (rx sci) an None)) spent
+  rx_removed : (sci : List ℕ) (an : ℕ) → IsReceiveSide edition channels (put_at rx sci (put (rx sci) an None)) spent
   rx_removed sci an = record {
     have_channels = put-receive-associations (λ other i (one : RxSa). is_among channels other ≡ true) rx sci an None (λ one same. cc) is.have_channels;
+    are_taken = put-receive-associations (λ other i (one : RxSa). takes_key edition one.key ≡ true) rx sci an None (λ one same. cc) is.are_taken;
     are_spent = put-receive-associations (λ other i (one : RxSa). i < 4 → is_spent spent (rx_fingerprint other one.key) ≡ true) rx sci an None
         (λ one same below. cc) is.are_spent;
     spent_keys = is.spent_keys;
@@ -177,13 +196,13 @@ module _ (edition : Edition) (identity : Identity) (old : Config) (is : IsConfig
   kept : (command : Command) → Passed edition identity old command → IsConfig edition identity (config_after old command)
   kept command tests = by command tests
     where
-      transmit : IsTransmitSide old.encoding old.tx old.spent_tx
+      transmit : IsTransmitSide edition old.encoding old.tx old.spent_tx
       transmit = transmit_side edition identity old is
 
       channels : AreChannels edition identity old.channels
       channels = channels_of edition identity old is
 
-      receive : IsReceiveSide old.channels old.rx old.spent_rx
+      receive : IsReceiveSide edition old.channels old.rx old.spent_rx
       receive = receive_side edition identity old is
 
       by : (command : Command) → Passed edition identity old command → IsConfig edition identity (config_after old command)
@@ -192,25 +211,28 @@ module _ (edition : Edition) (identity : Identity) (old : Config) (is : IsConfig
       by (SetSciMode mode) tests =
           from_sides edition identity _ (port_of_end_station mode (is_port_one identity.sci) tests.end_station) transmit channels receive
       by (TxInstall an key start confidential offset) tests =
-          let sa : TxSa = record { key = key; protection = protection_of confidential (offset_or_zero (offset_at offset)) } in
-          from_sides edition identity _ is.end_station (tx_installed old.encoding old.tx old.spent_tx transmit an sa tests.key_spent tests.spent_full) channels receive
+          let sa : TxSa = record { key = octets_of_key key; protection = protection_of confidential (offset_or_zero (offset_at offset)) } in
+          from_sides edition identity _ is.end_station
+          (tx_installed edition old.encoding old.tx old.spent_tx transmit an sa (not-false (takes_key edition sa.key) tests.long_key) tests.key_spent tests.spent_full)
+          channels receive
       by (TxUse an) tests =
-          from_sides edition identity _ is.end_station (tx_used old.encoding old.tx old.spent_tx transmit an tests.slot_empty) channels receive
+          from_sides edition identity _ is.end_station (tx_used edition old.encoding old.tx old.spent_tx transmit an tests.slot_empty) channels receive
       by (TxRemove an) tests =
-          from_sides edition identity _ is.end_station (tx_removed old.encoding old.tx old.spent_tx transmit an tests.in_use) channels receive
+          from_sides edition identity _ is.end_station (tx_removed edition old.encoding old.tx old.spent_tx transmit an tests.in_use) channels receive
       by (RxAdd sci) tests =
           from_sides edition identity _ is.end_station transmit
           (channel_added edition identity old.channels channels sci tests.own tests.channel_taken (leb-false edition.channels (length old.channels) tests.channels_full))
-          (rx_added old.channels old.rx old.spent_rx receive sci)
+          (rx_added edition old.channels old.rx old.spent_rx receive sci)
       by (RxDrop sci) tests =
           from_sides edition identity _ is.end_station transmit (channel_dropped edition identity old.channels channels sci)
-          (rx_dropped old.channels old.rx old.spent_rx receive sci)
+          (rx_dropped edition old.channels old.rx old.spent_rx receive sci)
       by (RxInstall sci an key start offset) tests =
-          let sa : RxSa = record { key = key; offset = offset_or_zero (offset_at offset) } in
+          let sa : RxSa = record { key = octets_of_key key; offset = offset_or_zero (offset_at offset) } in
           from_sides edition identity _ is.end_station transmit channels
-          (rx_installed old.channels old.rx old.spent_rx receive sci an sa (not-false (is_among old.channels sci) tests.no_channel) tests.key_spent tests.spent_full)
+          (rx_installed edition old.channels old.rx old.spent_rx receive sci an sa (not-false (is_among old.channels sci) tests.no_channel)
+          (not-false (takes_key edition sa.key) tests.long_key) tests.key_spent tests.spent_full)
       by (RxRemove sci an) tests =
-          from_sides edition identity _ is.end_station transmit channels (rx_removed old.channels old.rx old.spent_rx receive sci an)
+          from_sides edition identity _ is.end_station transmit channels (rx_removed edition old.channels old.rx old.spent_rx receive sci an)
 
 -- a command that is not refused makes a configuration of a configuration
 pub apply-keeps : (edition : Edition) (identity : Identity) (old new : Config) (command : Command) → IsConfig edition identity old

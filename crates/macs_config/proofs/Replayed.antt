@@ -4,7 +4,7 @@ use Rattle.std.proofs.lemmas.Bool.{and_parts, leb-true, ltb-true, not-true, or_c
 use Rattle.std.specs.List.{list_all}
 use Rattle.std.specs.Option.{option_map_or}
 use Rattle.macs_config.specs.Association.{is_end_station}
-use Rattle.macs_config.specs.Config.{Config, Edition, IsConfig, default, has_channel, is_among, is_spent, max_spent, rx_fingerprint, tx_fingerprint}
+use Rattle.macs_config.specs.Config.{Config, Edition, IsConfig, default, has_channel, is_among, is_spent, max_spent, rx_fingerprint, takes_key, tx_fingerprint}
 use Rattle.macs_config.specs.Identity.{Identity, is_port_one}
 use Rattle.macs_config.specs.Snapshot.{are_new, are_ordered, whole_config, is_rx_spent, is_tx_spent, is_whole, may_follow, every_an, place_of, config_of_parts, config_with_part, config_with_parts}
 use Rattle.macs_config.specs.declared.association.RxSa.{RxSa as RxAssociation}
@@ -16,7 +16,7 @@ use Rattle.macs_config.proofs.Channels.{among-put_among, same_octets}
 use Rattle.macs_config.proofs.Kept.{channel_added, port_of_end_station}
 use Rattle.macs_config.proofs.Sides.{AreChannels, IsSpentList, from_sides}
 use Rattle.macs_config.proofs.Spent.{distinct-append}
-use Rattle.macs_config.proofs.Tables.{put-receive-associations}
+use Rattle.macs_config.proofs.Tables.{put-associations, put-receive-associations}
 
 -- ---- part by part
 
@@ -24,6 +24,8 @@ use Rattle.macs_config.proofs.Tables.{put-receive-associations}
 record Grows (edition : Edition) (identity : Identity) (c : Config) : Type 0 where
   channels : AreChannels edition identity c.channels
   have_channels : (sci : List ℕ) (an : ℕ) (sa : RxAssociation) → c.rx sci an ≡ Some sa → is_among c.channels sci ≡ true
+  tx_taken : (an : ℕ) (sa : TxAssociation) → c.tx an ≡ Some sa → takes_key edition sa.key ≡ true
+  rx_taken : (sci : List ℕ) (an : ℕ) (sa : RxAssociation) → c.rx sci an ≡ Some sa → takes_key edition sa.key ≡ true
   spent_tx : IsSpentList c.spent_tx
   spent_rx : IsSpentList c.spent_rx
 
@@ -42,8 +44,16 @@ spent_joined spent fingerprints is may =
 module _ (edition : Edition) (identity : Identity) where
   grown : (c : Config) (part : Part) → may_follow edition identity c part ≡ true → Grows edition identity c → Grows edition identity (config_with_part c part)
   grown c (Settings validate replay mode encoding) may grows = cc
-  grown c (TxSa an sa) may grows =
-      record { channels = grows.channels; have_channels = grows.have_channels; spent_tx = grows.spent_tx; spent_rx = grows.spent_rx }
+  grown c (TxSa an sa) may grows = record {
+    channels = grows.channels;
+    have_channels = grows.have_channels;
+    tx_taken = put-associations (λ i (one : TxAssociation). takes_key edition one.key ≡ true) c.tx an (Some sa)
+        (λ one same. let key_is : sa.key ≡ one.key = cc in subst (λ (key : List ℕ). takes_key edition key ≡ true) key_is
+        (and_parts (is_none (c.tx an)) (takes_key edition sa.key) may).1) grows.tx_taken;
+    rx_taken = grows.rx_taken;
+    spent_tx = grows.spent_tx;
+    spent_rx = grows.spent_rx;
+  }
   grown c (Channel sci) may grows =
       let room = and_parts (not (bytes_eq sci identity.sci) && not (has_channel c sci)) (nat_lt (length c.channels) edition.channels) may in
       let free = and_parts (not (bytes_eq sci identity.sci)) (not (has_channel c sci)) room.0 in
@@ -52,25 +62,35 @@ module _ (edition : Edition) (identity : Identity) where
             (not-true (has_channel c sci) free.1) (ltb-true (length c.channels) edition.channels room.1);
         have_channels = λ other an sa stands. among-put_among sci c.channels other
             ∙ or_right (bytes_eq sci other) (is_among c.channels other) (grows.have_channels other an sa stands);
+        tx_taken = grows.tx_taken;
+        rx_taken = grows.rx_taken;
         spent_tx = grows.spent_tx;
         spent_rx = grows.spent_rx;
       }
   grown c (RxSa sci an sa) may grows = record {
     channels = grows.channels;
     have_channels = put-receive-associations (λ other i (one : RxAssociation). is_among c.channels other ≡ true) c.rx sci an (Some sa)
-        (λ one same. (and_parts (has_channel c sci) (is_none (c.rx sci an)) may).0) grows.have_channels;
+        (λ one same. (and_parts (has_channel c sci) (is_none (c.rx sci an)) (and_parts (has_channel c sci && is_none (c.rx sci an)) (takes_key edition sa.key) may).0).0) grows.have_channels;
+    tx_taken = grows.tx_taken;
+    rx_taken = put-receive-associations (λ other i (one : RxAssociation). takes_key edition one.key ≡ true) c.rx sci an (Some sa)
+        (λ one same. let key_is : sa.key ≡ one.key = cc in subst (λ (key : List ℕ). takes_key edition key ≡ true) key_is
+        (and_parts (has_channel c sci && is_none (c.rx sci an)) (takes_key edition sa.key) may).1) grows.rx_taken;
     spent_tx = grows.spent_tx;
     spent_rx = grows.spent_rx;
   }
   grown c (Spent Transmit fingerprints) may grows = record {
     channels = grows.channels;
     have_channels = grows.have_channels;
+    tx_taken = grows.tx_taken;
+    rx_taken = grows.rx_taken;
     spent_tx = spent_joined c.spent_tx fingerprints grows.spent_tx may;
     spent_rx = grows.spent_rx;
   }
   grown c (Spent Receive fingerprints) may grows = record {
     channels = grows.channels;
     have_channels = grows.have_channels;
+    tx_taken = grows.tx_taken;
+    rx_taken = grows.rx_taken;
     spent_tx = grows.spent_tx;
     spent_rx = spent_joined c.spent_rx fingerprints grows.spent_rx may;
   }
@@ -126,6 +146,7 @@ whole edition identity c grows is =
     (port_of_end_station c.mode (is_port_one identity.sci) (not-true (is_end_station c.mode && not (is_port_one identity.sci)) port.1))
     (record {
       encoding_stands = encoding_from c.encoding c.tx encoding.1;
+      are_taken = grows.tx_taken;
       are_spent = λ an sa stands below. at_some (λ (one : TxAssociation). is_spent c.spent_tx (tx_fingerprint one.key)) (c.tx an) sa stands
           (number_all (is_tx_spent c) keys.0 an below);
       spent_keys = grows.spent_tx;
@@ -133,6 +154,7 @@ whole edition identity c grows is =
     grows.channels
     (record {
       have_channels = grows.have_channels;
+      are_taken = grows.rx_taken;
       are_spent = λ sci an sa stands below. at_some (λ (one : RxAssociation). is_spent c.spent_rx (rx_fingerprint sci one.key)) (c.rx sci an) sa stands
           (number_all (is_rx_spent c sci)
           (all_among (λ sci. list_all (is_rx_spent c sci) every_an) c.channels sci keys.1 (grows.have_channels sci an sa stands)) an below);
@@ -155,6 +177,8 @@ started : (edition : Edition) (identity : Identity) (part : Part) → nat_le (pl
 started edition identity (Settings validate replay mode encoding) first = record {
   channels = record { ascend = refl; fit = omega arith; own_sci_free = refl };
   have_channels = λ sci an sa stands. cc;
+  tx_taken = λ an sa stands. cc;
+  rx_taken = λ sci an sa stands. cc;
   spent_tx = record { once = refl; fit = omega arith };
   spent_rx = record { once = refl; fit = omega arith };
 }

@@ -1,13 +1,14 @@
 -- What a command makes of the configuration, and why one is refused.
-use Rattle.std.specs.Prelude.{◌≡◌, ◌<◌, ◌⊎◌, ◌^◌, ℕ, if◌then◌else◌, ◌==◌, nat_le, Bool, true, false, not, ◌&&◌, ◌||◌, List, [], ◌∷◌, ◌++◌, length, Option, Some, None, is_none, is_some, Result, Ok, Err}
+use Rattle.std.specs.Prelude.{◌<◌, ◌⊎◌, ◌^◌, ℕ, if◌then◌else◌, ◌==◌, nat_le, Bool, false, not, ◌&&◌, ◌||◌, List, [], ◌∷◌, ◌++◌, length, Option, Some, None, is_none, is_some, Result, Ok, Err}
 use Rattle.std.specs.List.{filter}
 use Rattle.std.specs.Str.{bytes_eq}
+use Rattle.macs_aes.specs.Keys.{octets_of_key}
 use Rattle.macs_frame.specs.Fields.{IsAn, IsOctets, IsSci}
 use Rattle.macs_frame.specs.First.{first}
 use Rattle.macs_frame.specs.declared.fields.Offset.{Offset}
 use Rattle.macs_frame.specs.declared.fields.Offset.TheVariants.{Zero, Thirty, Fifty}
 use Rattle.macs_config.specs.Association.{is_end_station, protection_of}
-use Rattle.macs_config.specs.Config.{Edition, Config, has_channel, is_spent, max_spent, put_among, rx_fingerprint, tx_fingerprint}
+use Rattle.macs_config.specs.Config.{Edition, Config, has_channel, is_spent, max_spent, put_among, rx_fingerprint, takes_key, tx_fingerprint}
 use Rattle.macs_config.specs.Identity.{Identity, is_port_one}
 use Rattle.macs_config.specs.Tables.{put, put_at}
 use Rattle.macs_config.specs.declared.command.Command.{Command}
@@ -15,28 +16,28 @@ use Rattle.macs_config.specs.declared.command.Command.TheVariants.{SetValidate, 
 use Rattle.macs_config.specs.declared.command.Role.{Role}
 use Rattle.macs_config.specs.declared.command.Role.TheVariants.{Transmit, Receive}
 use Rattle.macs_config.specs.declared.refusal.Refusal.{Refusal}
-use Rattle.macs_config.specs.declared.refusal.Refusal.TheVariants.{StartRange, OffsetChoice, OwnSci, EndStationSci, NoChannel, ChannelTaken, ChannelsFull, SlotTaken, SlotEmpty, InUse, KeySpent, SpentFull}
+use Rattle.macs_config.specs.declared.refusal.Refusal.TheVariants.{StartRange, OffsetChoice, OwnSci, EndStationSci, NoChannel, ChannelTaken, ChannelsFull, SlotTaken, SlotEmpty, InUse, KeySpent, SpentFull, LongKey}
 
 -- ---- ranges
 
--- a key has 16 octets, or 32 where the edition takes those
-abbrev pub IsKey : Edition → List ℕ → Type 0
-IsKey edition key = IsOctets 16 key ⊎ ((edition.long_keys ≡ true) × IsOctets 32 key)
+-- a key has 16 octets, or 32
+abbrev pub IsKey : List ℕ → Type 0
+IsKey key = IsOctets 16 key ⊎ IsOctets 32 key
 
 -- the fields of a command are in the ranges that their types keep
-abbrev pub IsCommand : Edition → Command → Type 0
-IsCommand edition (SetValidate validate) = Unit {0}
-IsCommand edition (SetReplay on window) = window < 2 ^ 32
-IsCommand edition (SetSciMode mode) = Unit {0}
-IsCommand edition (TxInstall an key start confidential offset) =
-    IsAn an × IsKey edition key × (start < 2 ^ 32) × (offset < 2 ^ 8)
-IsCommand edition (TxUse an) = IsAn an
-IsCommand edition (TxRemove an) = IsAn an
-IsCommand edition (RxAdd sci) = IsSci sci
-IsCommand edition (RxDrop sci) = IsSci sci
-IsCommand edition (RxInstall sci an key start offset) =
-    IsSci sci × IsAn an × IsKey edition key × (start < 2 ^ 32) × (offset < 2 ^ 8)
-IsCommand edition (RxRemove sci an) = IsSci sci × IsAn an
+abbrev pub IsCommand : Command → Type 0
+IsCommand (SetValidate validate) = Unit {0}
+IsCommand (SetReplay on window) = window < 2 ^ 32
+IsCommand (SetSciMode mode) = Unit {0}
+IsCommand (TxInstall an key start confidential offset) =
+    IsAn an × IsKey (octets_of_key key) × (start < 2 ^ 32) × (offset < 2 ^ 8)
+IsCommand (TxUse an) = IsAn an
+IsCommand (TxRemove an) = IsAn an
+IsCommand (RxAdd sci) = IsSci sci
+IsCommand (RxDrop sci) = IsSci sci
+IsCommand (RxInstall sci an key start offset) =
+    IsSci sci × IsAn an × IsKey (octets_of_key key) × (start < 2 ^ 32) × (offset < 2 ^ 8)
+IsCommand (RxRemove sci an) = IsSci sci × IsAn an
 
 -- ---- the tests of the refusals, each on every command
 
@@ -110,8 +111,8 @@ is_in_use c command = false
 
 -- the fingerprint of an install's key is among the spent ones of its side
 abbrev pub is_key_spent : Config → Command → Bool
-is_key_spent c (TxInstall an key start confidential offset) = is_spent c.spent_tx (tx_fingerprint key)
-is_key_spent c (RxInstall sci an key start offset) = is_spent c.spent_rx (rx_fingerprint sci key)
+is_key_spent c (TxInstall an key start confidential offset) = is_spent c.spent_tx (tx_fingerprint (octets_of_key key))
+is_key_spent c (RxInstall sci an key start offset) = is_spent c.spent_rx (rx_fingerprint sci (octets_of_key key))
 is_key_spent c command = false
 
 -- as many keys are spent on the side of an install as may be
@@ -119,6 +120,12 @@ abbrev pub are_spent_full : Config → Command → Bool
 are_spent_full c (TxInstall an key start confidential offset) = nat_le max_spent (length c.spent_tx)
 are_spent_full c (RxInstall sci an key start offset) = nat_le max_spent (length c.spent_rx)
 are_spent_full c command = false
+
+-- the key of an install is none that the edition takes
+abbrev pub is_long_key : Edition → Command → Bool
+is_long_key edition (TxInstall an key start confidential offset) = not (takes_key edition (octets_of_key key))
+is_long_key edition (RxInstall sci an key start offset) = not (takes_key edition (octets_of_key key))
+is_long_key edition command = false
 
 -- every refusal with its test, in the order in which they are looked for
 abbrev pub refusals : Edition → Identity → Config → Command → List (Refusal × Bool)
@@ -135,6 +142,7 @@ refusals edition identity c command =
     ∷ (InUse, is_in_use c command)
     ∷ (KeySpent, is_key_spent c command)
     ∷ (SpentFull, are_spent_full c command)
+    ∷ (LongKey, is_long_key edition command)
     ∷ []
 
 -- the first refusal that holds of a command, if any does
@@ -154,8 +162,8 @@ config_after c (SetValidate validate) = record c { validate = validate }
 config_after c (SetReplay on window) = record c { replay = record { on = on; window = window } }
 config_after c (SetSciMode mode) = record c { mode = mode }
 config_after c (TxInstall an key start confidential offset) = record c {
-  tx = put c.tx an (Some (record { key = key; protection = protection_of confidential (offset_or_zero (offset_at offset)) }));
-  spent_tx = c.spent_tx ++ tx_fingerprint key ∷ [];
+  tx = put c.tx an (Some (record { key = octets_of_key key; protection = protection_of confidential (offset_or_zero (offset_at offset)) }));
+  spent_tx = c.spent_tx ++ tx_fingerprint (octets_of_key key) ∷ [];
 }
 config_after c (TxUse an) = record c { encoding = Some an }
 config_after c (TxRemove an) = record c { tx = put c.tx an None }
@@ -165,8 +173,8 @@ config_after c (RxDrop sci) = record c {
   rx = put_at c.rx sci (λ an. None);
 }
 config_after c (RxInstall sci an key start offset) = record c {
-  rx = put_at c.rx sci (put (c.rx sci) an (Some (record { key = key; offset = offset_or_zero (offset_at offset) })));
-  spent_rx = c.spent_rx ++ rx_fingerprint sci key ∷ [];
+  rx = put_at c.rx sci (put (c.rx sci) an (Some (record { key = octets_of_key key; offset = offset_or_zero (offset_at offset) })));
+  spent_rx = c.spent_rx ++ rx_fingerprint sci (octets_of_key key) ∷ [];
 }
 config_after c (RxRemove sci an) = record c { rx = put_at c.rx sci (put (c.rx sci) an None) }
 
@@ -181,12 +189,12 @@ apply edition identity c command = answer_or_refusal (refusal_of edition identit
 
 -- the fingerprint that a command spends, if it installs
 abbrev pub fingerprint_of : Command → Option (List ℕ)
-fingerprint_of (TxInstall an key start confidential offset) = Some (tx_fingerprint key)
-fingerprint_of (RxInstall sci an key start offset) = Some (rx_fingerprint sci key)
+fingerprint_of (TxInstall an key start confidential offset) = Some (tx_fingerprint (octets_of_key key))
+fingerprint_of (RxInstall sci an key start offset) = Some (rx_fingerprint sci (octets_of_key key))
 fingerprint_of command = None
 
 -- the fingerprint that a command spends on a side, if it installs there
 abbrev pub spent_by : Role → Command → List (List ℕ)
-spent_by Transmit (TxInstall an key start confidential offset) = tx_fingerprint key ∷ []
-spent_by Receive (RxInstall sci an key start offset) = rx_fingerprint sci key ∷ []
+spent_by Transmit (TxInstall an key start confidential offset) = tx_fingerprint (octets_of_key key) ∷ []
+spent_by Receive (RxInstall sci an key start offset) = rx_fingerprint sci (octets_of_key key) ∷ []
 spent_by role command = []

@@ -1,5 +1,5 @@
 -- The configuration of a MAC Security Entity.
-use Rattle.std.specs.Prelude.{◌≡◌, ◌≤◌, ◌<◌, ℕ, Bool, true, false, ◌&&◌, not, if◌then◌else◌, List, [], ◌∷◌, ◌++◌, length, Option, Some, None, IsSome, IfSome}
+use Rattle.std.specs.Prelude.{◌≡◌, ◌≤◌, ◌<◌, ℕ, Bool, true, false, ◌&&◌, ◌||◌, ◌==◌, not, if◌then◌else◌, List, [], ◌∷◌, ◌++◌, length, Option, Some, None, IsSome, IfSome}
 use Rattle.std.specs.List.{list_any}
 use Rattle.std.specs.Str.{bytes_eq}
 use Rattle.std.specs.Cmp.Lexicographic.{slice_cmp}
@@ -33,6 +33,11 @@ this_edition = first_edition
 pub record IsUpTo (small large : Edition) : Type 0 where
   pub channels : small.channels ≤ large.channels
   pub long_keys : small.long_keys ≡ true → large.long_keys ≡ true
+
+-- an edition takes a key of so many octets: 16, for GCM-AES-128 (IEEE Std 802.1AE-2018, 14.5), or where it takes long keys also 32,
+-- for GCM-AES-256 (14.6)
+abbrev pub takes_key : Edition → List ℕ → Bool
+takes_key edition key = edition.long_keys || (length key == 16)
 
 -- how many keys may be spent on a side
 abbrev pub max_spent : ℕ
@@ -117,8 +122,8 @@ are_distinct (item ∷ items) = not (is_among items item) && are_distinct items
 
 -- ---- what holds of every configuration
 
--- Associations that stand have keys that are spent. Two of them may have one key: a key is spent for a side and, on the
--- receive side, for an SCI.
+-- Associations that stand have keys that the edition takes, and that are spent. Two of them may have one key: a key is spent for a
+-- side and, on the receive side, for an SCI.
 pub record IsConfig (edition : Edition) (identity : Identity) (c : Config) : Type 0 where
   pub encoding_stands : IfSome c.encoding (λ an. IsSome (c.tx an))
   pub end_station : c.mode ≡ EndStation → is_port_one identity.sci ≡ true
@@ -126,6 +131,8 @@ pub record IsConfig (edition : Edition) (identity : Identity) (c : Config) : Typ
   pub channels_fit : length c.channels ≤ edition.channels
   pub own_sci_free : has_channel c identity.sci ≡ false
   pub rx_channels : (sci : List ℕ) (an : ℕ) (sa : RxSa) → c.rx sci an ≡ Some sa → has_channel c sci ≡ true
+  pub tx_taken : (an : ℕ) (sa : TxSa) → c.tx an ≡ Some sa → takes_key edition sa.key ≡ true
+  pub rx_taken : (sci : List ℕ) (an : ℕ) (sa : RxSa) → c.rx sci an ≡ Some sa → takes_key edition sa.key ≡ true
   pub tx_spent : (an : ℕ) (sa : TxSa) → an < 4 → c.tx an ≡ Some sa → is_spent c.spent_tx (tx_fingerprint sa.key) ≡ true
   pub rx_spent : (sci : List ℕ) (an : ℕ) (sa : RxSa) → an < 4 → c.rx sci an ≡ Some sa
       → is_spent c.spent_rx (rx_fingerprint sci sa.key) ≡ true

@@ -4,7 +4,7 @@ use Rattle.std.specs.Option.{option_and_then, option_map, option_map_or}
 use Rattle.std.specs.List.{list_all}
 use Rattle.std.specs.Str.{bytes_eq}
 use Rattle.macs_config.specs.Association.{is_end_station}
-use Rattle.macs_config.specs.Config.{Edition, Config, are_distinct, default, has_channel, is_among, is_spent, max_spent, put_among, rx_fingerprint, spent_of, tx_fingerprint}
+use Rattle.macs_config.specs.Config.{Edition, Config, are_distinct, default, has_channel, is_among, is_spent, max_spent, put_among, rx_fingerprint, spent_of, takes_key, tx_fingerprint}
 use Rattle.macs_config.specs.Identity.{Identity, is_port_one}
 use Rattle.macs_config.specs.Tables.{put, put_at}
 use Rattle.macs_config.specs.declared.command.Role.TheVariants.{Transmit, Receive}
@@ -37,14 +37,15 @@ are_ordered place (part ∷ parts) = nat_le place (place_of part) && are_ordered
 abbrev pub are_new : List (List ℕ) → List (List ℕ) → Bool
 are_new spent fingerprints = are_distinct fingerprints && list_all (λ item. not (is_among spent item)) fingerprints
 
--- A part may follow what the parts in front of it made: its association or channel does not stand yet; its channel is not
--- the own SCI and is one of as many as may stand, or stands, for an association; its fingerprints are new and fit.
+-- A part may follow what the parts in front of it made: its association or channel does not stand yet; its key is one that the
+-- edition takes; its channel is not the own SCI and is one of as many as may stand, or stands, for an association; its
+-- fingerprints are new and fit.
 abbrev pub may_follow : Edition → Identity → Config → Part → Bool
 may_follow edition identity c (Settings validate replay mode encoding) = false
-may_follow edition identity c (TxSa an sa) = is_none (c.tx an)
+may_follow edition identity c (TxSa an sa) = is_none (c.tx an) && takes_key edition sa.key
 may_follow edition identity c (Channel sci) =
     not (bytes_eq sci identity.sci) && not (has_channel c sci) && nat_lt (length c.channels) edition.channels
-may_follow edition identity c (RxSa sci an sa) = has_channel c sci && is_none (c.rx sci an)
+may_follow edition identity c (RxSa sci an sa) = has_channel c sci && is_none (c.rx sci an) && takes_key edition sa.key
 may_follow edition identity c (Spent role fingerprints) =
     are_new (spent_of role c) fingerprints && nat_le (length (spent_of role c) + length fingerprints) max_spent
 

@@ -1,5 +1,6 @@
 //! Secure associations, as the operator configures them.
 
+use macs_aes::KeyOctets;
 use macs_frame::Offset;
 
 /// What an association does with User Data (IEEE Std 802.1AE-2018, 14.5).
@@ -44,17 +45,17 @@ impl Protection {
     }
 }
 
-/// A transmit association: its key of 16 octets, and what it does with User Data.
+/// A transmit association: its key of 16 or 32 octets, and what it does with User Data.
 #[derive(Clone, Copy, PartialEq, Eq)]
 pub struct TxSa {
-    pub key: [u8; 16],
+    pub key: KeyOctets,
     pub protection: Protection,
 }
 
-/// A receive association: its key of 16 octets, and the confidentiality offset of its encrypted
+/// A receive association: its key of 16 or 32 octets, and the confidentiality offset of its encrypted
 /// frames.
 #[derive(Clone, Copy, PartialEq, Eq)]
 pub struct RxSa {
-    pub key: [u8; 16],
+    pub key: KeyOctets,
     pub offset: Offset,
 }

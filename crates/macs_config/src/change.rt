@@ -11,6 +11,7 @@ use crate::association::{Protection, RxSa, TxSa};
 use crate::checked::Checked;
 use crate::command::{Command, Replay};
 use crate::contents::Contents;
+use macs_aes::KeyOctets;
 use macs_frame::{An, Offset, Sci};
 
 /// Does what a command asks for that is not refused, by what its check found.
@@ -30,6 +31,7 @@ pub(crate) fn change(contents: &mut Contents, command: &Command, checked: &Check
             offset,
             ..
         } => {
+            let key = KeyOctets::of(key);
             let protection = Protection::new(confidential, chosen(offset));
             contents.put_tx(an, Some(TxSa { key, protection }));
             contents.spend_tx(checked.fingerprint().unwrap());
@@ -45,6 +47,7 @@ pub(crate) fn change(contents: &mut Contents, command: &Command, checked: &Check
             offset,
             ..
         } => {
+            let key = KeyOctets::of(key);
             let offset = chosen(offset);
             contents.put_rx(sci, an, Some(RxSa { key, offset }));
             contents.spend_rx(checked.fingerprint().unwrap());

@@ -1,20 +1,23 @@
 //! Whether a command may be applied.
 
 ghost use Rattle.std.specs.Prelude.{◌≡◌, ◌==◌, ◌||◌, ◌&&◌, Some, None, not, length, nat_le, if◌then◌else◌, is_none};
+ghost use Rattle.macs_aes.specs.Keys.{octets_of_key};
 ghost use Rattle.macs_config.specs.Apply.{fingerprint_of, offset_at, refusal_of, answer_or_refusal};
-ghost use Rattle.macs_config.specs.Config.{is_spent, max_spent, rx_fingerprint, this_edition, tx_fingerprint};
+ghost use Rattle.macs_config.specs.Config.{is_spent, max_spent, rx_fingerprint, takes_key, this_edition, tx_fingerprint};
 ghost use Rattle.macs_config.specs.Identity.{is_port_one};
 ghost use Rattle.macs_config.specs.Value.{config_in};
 ghost use Rattle.macs_config.specs.declared.command.Command.TheVariants.{SetSciMode, TxInstall, TxUse, TxRemove, RxAdd, RxDrop, RxInstall, RxRemove};
-ghost use Rattle.macs_config.specs.declared.refusal.Refusal.TheVariants.{KeySpent, SpentFull};
+ghost use Rattle.macs_config.specs.declared.refusal.Refusal.TheVariants.{KeySpent, LongKey, SpentFull};
 
 use crate::checked::Checked;
 use crate::command::{Command, SciMode};
 use crate::contents::{Contents, MAX_CHANNELS};
+use crate::edition::takes_key;
 use crate::fingerprint::{Fingerprint, rx_fingerprint, tx_fingerprint};
 use crate::identity::Identity;
 use crate::refusal::Refusal;
 use crate::spent_keys::{MAX_SPENT, SpentKeys};
+use macs_aes::Key;
 use macs_frame::{An, Offset, Sci};
 
 /// The port of an end station's SCI (IEEE Std 802.1AE-2018, 9.5).
@@ -84,13 +87,13 @@ pub(crate) fn is_port_one(sci: Sci) -> bool
 fn check_tx_install(
     contents: &Contents,
     an: An,
-    key: &[u8; 16],
+    key: &Key,
     start: u32,
     confidential: bool,
     offset: u8,
 ) -> Result<Checked, Refusal>
     ensures { (identity : _) → result ≡ answer_or_refusal (refusal_of this_edition identity (config_in contents.now)
-        (TxInstall an key.now start confidential offset)) (Some (tx_fingerprint key.now)) }
+        (TxInstall an key.now start confidential offset)) (Some (tx_fingerprint (octets_of_key key.now))) }
 {
     if start == 0 {
         Err(Refusal::StartRange)
@@ -99,7 +102,8 @@ fn check_tx_install(
     } else if contents.tx[an.get() as usize].is_some() {
         Err(Refusal::SlotTaken)
     } else {
-        check_key(&contents.spent_tx, tx_fingerprint(key))
+        let octets = key.as_slice();
+        check_key(&contents.spent_tx, octets, tx_fingerprint(octets))
     }
 }
 
@@ -153,12 +157,12 @@ fn check_rx_install(
     contents: &Contents,
     sci: Sci,
     an: An,
-    key: &[u8; 16],
+    key: &Key,
     start: u32,
     offset: u8,
 ) -> Result<Checked, Refusal>
     ensures { (identity : _) → result ≡ answer_or_refusal (refusal_of this_edition identity (config_in contents.now)
-        (RxInstall sci an key.now start offset)) (Some (rx_fingerprint sci key.now)) }
+        (RxInstall sci an key.now start offset)) (Some (rx_fingerprint sci (octets_of_key key.now))) }
 {
     if start == 0 {
         Err(Refusal::StartRange)
@@ -169,7 +173,8 @@ fn check_rx_install(
     } else if contents.rx(sci, an).is_some() {
         Err(Refusal::SlotTaken)
     } else {
-        check_key(&contents.spent_rx, rx_fingerprint(sci, key))
+        let octets = key.as_slice();
+        check_key(&contents.spent_rx, octets, rx_fingerprint(sci, octets))
     }
 }
 
@@ -192,15 +197,22 @@ fn is_wrong_offset(confidential: bool, octets: u8) -> bool
     Offset::new(octets).is_none() || (!confidential && octets != 0)
 }
 
-/// What a new key spends among those of its side, or what keeps it from being spent.
-fn check_key(spent: &SpentKeys, fingerprint: Fingerprint) -> Result<Checked, Refusal>
+/// What a new key of these octets spends among those of its side, or what keeps it from being spent.
+fn check_key(
+    spent: &SpentKeys,
+    octets: &[u8],
+    fingerprint: Fingerprint,
+) -> Result<Checked, Refusal>
     ensures { result ≡ answer_or_refusal (if is_spent spent.now fingerprint then Some KeySpent
-        else if nat_le max_spent (length spent.now) then Some SpentFull else None) (Some fingerprint) }
+        else if nat_le max_spent (length spent.now) then Some SpentFull
+        else if not (takes_key this_edition octets.now) then Some LongKey else None) (Some fingerprint) }
 {
     if spent.contains(&fingerprint) {
         Err(Refusal::KeySpent)
     } else if spent.len() >= MAX_SPENT {
         Err(Refusal::SpentFull)
+    } else if !takes_key(octets) {
+        Err(Refusal::LongKey)
     } else {
         Ok(Checked::new(Some(fingerprint)))
     }

@@ -1,5 +1,6 @@
 //! What the operator asks for.
 
+use macs_aes::Key;
 use macs_frame::{An, Sci};
 
 /// What is done with received frames that are not verified: those without a SecTAG, a channel or an
@@ -38,9 +39,9 @@ pub enum Role {
     Receive,
 }
 
-/// A command of the operator. `start` is the first packet number of a new association and `offset` its
-/// confidentiality offset in octets: any number is read here, and one that is out of range is refused
-/// when the command is applied.
+/// A command of the operator. `start` is the first packet number of a new association, `offset` its
+/// confidentiality offset in octets, and the length of its key chooses its cipher suite: any number and
+/// any key is read here, and one that may not be is refused when the command is applied.
 #[derive(Clone, Copy, PartialEq, Eq)]
 pub enum Command {
     /// Sets what is done with frames that do not verify. Never refused.
@@ -55,7 +56,7 @@ pub enum Command {
     /// A new transmit association; its key is spent from then on.
     TxInstall {
         an: An,
-        key: [u8; 16],
+        key: Key,
         start: u32,
         confidential: bool,
         offset: u8,
@@ -80,7 +81,7 @@ pub enum Command {
     RxInstall {
         sci: Sci,
         an: An,
-        key: [u8; 16],
+        key: Key,
         start: u32,
         offset: u8,
     },

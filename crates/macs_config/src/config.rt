@@ -2,6 +2,7 @@
 
 ghost use Rattle.std.specs.Prelude.{◌≡◌, ◌≤◌, ◌↔◌, ℕ, List, false, if◌then◌else◌, length, slice_get, IfSome, None, Some, Ok, Err, IfOk, OnOk, OnErr};
 ghost use Rattle.std.specs.Option.{option_map};
+ghost use Rattle.macs_aes.specs.Keys.{octets_of_key};
 ghost use Rattle.macs_config.specs.Apply.{apply, fingerprint_of, refusal_of};
 ghost use Rattle.macs_config.specs.Config.{IsConfig, default, has_channel, is_spent, rx_fingerprint, spent_of, this_edition, tx_fingerprint};
 ghost use Rattle.macs_config.specs.Snapshot.{config_of_listed, config_of_parts};
@@ -20,6 +21,7 @@ use crate::part_source::PartSource;
 use crate::refusal::Refusal;
 use crate::restore::restore;
 use arrayvec::ArrayVec;
+use macs_aes::Key;
 use macs_frame::{An, Sci};
 use std::marker::Model;
 
@@ -58,9 +60,9 @@ impl Config {
     /// The configuration that the parts of a snapshot make up. `None` where they are not in a
     /// snapshot's order, with settings once; an association, a channel or, on one side, a
     /// fingerprint comes twice; a channel is the endpoint's own SCI, or one more than 8; more than 512
-    /// keys are spent on a side; a receive association has no channel; a key that stands is not spent; the encoding
-    /// association does not stand; or the mode is that of an end station, and the port of the
-    /// endpoint's SCI is not 00-01.
+    /// keys are spent on a side; a receive association has no channel; a key has 32 octets; a key that
+    /// stands is not spent; the encoding association does not stand; or the mode is that of an end
+    /// station, and the port of the endpoint's SCI is not 00-01.
     pub fn restore(identity: &Identity, parts: &[Part]) -> Option<Config>
         ensures restored { option_map config_of result ≡ config_of_parts this_edition identity.now parts.now }
         ensures identity { IfSome result (λ config. config.identity ≡ identity.now) }
@@ -213,18 +215,20 @@ impl Config {
         self.contents.spent_rx.len()
     }
 
-    /// Whether a key of 16 octets is spent on the transmit side.
-    pub fn is_spent_tx(&self, key: &[u8; 16]) -> bool
-        ensures { result ≡ is_spent (config_of self.now).spent_tx (tx_fingerprint key.now) }
+    /// Whether a key is spent on the transmit side.
+    pub fn is_spent_tx(&self, key: &Key) -> bool
+        ensures { result ≡ is_spent (config_of self.now).spent_tx (tx_fingerprint (octets_of_key key.now)) }
     {
-        self.contents.spent_tx.contains(&tx_fingerprint(key))
+        let fingerprint = tx_fingerprint(key.as_slice());
+        self.contents.spent_tx.contains(&fingerprint)
     }
 
-    /// Whether a key of 16 octets is spent for an SCI on the receive side.
-    pub fn is_spent_rx(&self, sci: Sci, key: &[u8; 16]) -> bool
-        ensures { result ≡ is_spent (config_of self.now).spent_rx (rx_fingerprint sci key.now) }
+    /// Whether a key is spent for an SCI on the receive side.
+    pub fn is_spent_rx(&self, sci: Sci, key: &Key) -> bool
+        ensures { result ≡ is_spent (config_of self.now).spent_rx (rx_fingerprint sci (octets_of_key key.now)) }
     {
-        self.contents.spent_rx.contains(&rx_fingerprint(sci, key))
+        let fingerprint = rx_fingerprint(sci, key.as_slice());
+        self.contents.spent_rx.contains(&fingerprint)
     }
 
     /// The fingerprint of the key that was spent at this place in the order of installing, counted

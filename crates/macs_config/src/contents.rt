@@ -25,7 +25,15 @@ impl Channel {
     fn facts(&self)
         ensures { (an : ℕ) → 4 ≤ an → get_or self.now.associations an None ≡ None }
     {
-        let _associations = &self.associations;
+        let associations: &[Option<RxSa>] = &self.associations;
+        let _count = associations.len();
+    }
+
+    /// The association at a number.
+    fn at(&self, an: An) -> Option<RxSa>
+        ensures { result ≡ get_or self.now.associations an None }
+    {
+        self.associations[an.get() as usize]
     }
 
     /// Puts an association at a number, or takes it away.
@@ -91,7 +99,8 @@ impl Contents {
         };
         self.mode = SciMode::Explicit;
         self.encoding = None;
-        self.tx = [None; ASSOCIATIONS];
+        let none = [None; ASSOCIATIONS];
+        self.tx = none;
         self.channels.clear();
         self.spent_tx.clear();
         self.spent_rx.clear();
@@ -102,7 +111,8 @@ impl Contents {
         ensures tx { (an : ℕ) → 4 ≤ an → (config_in self.now).tx an ≡ None }
         ensures rx { (sci : List ℕ) (an : ℕ) → 4 ≤ an → (config_in self.now).rx sci an ≡ None }
     {
-        let _tx = &self.tx;
+        let tx: &[Option<TxSa>] = &self.tx;
+        let _count = tx.len();
         for channel in self.channels.iter() {
             channel.facts();
         }
@@ -133,7 +143,7 @@ impl Contents {
         ensures { result ≡ (config_in self.now).rx sci an }
     {
         let place = self.place(sci)?;
-        self.channels[place].associations[an.get() as usize]
+        self.channels[place].at(an)
     }
 
     /// Puts a transmit association at a number, or takes it away.

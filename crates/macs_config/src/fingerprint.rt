@@ -9,23 +9,21 @@ use sha2::{Digest, Sha256};
 /// The SHA-256 of a key, or of an SCI and a key: 32 octets.
 pub type Fingerprint = [u8; 32];
 
-/// What stands for a key among those that are spent on the transmit side.
-pub(crate) fn tx_fingerprint(key: &[u8; 16]) -> Fingerprint
+/// What stands for a key of these octets among those that are spent on the transmit side.
+pub(crate) fn tx_fingerprint(key: &[u8]) -> Fingerprint
     ensures { result ≡ tx_fingerprint key.now }
 {
-    let mut hasher = Sha256::new();
-    hasher.update(key.as_slice());
-    hasher.finalize()
+    Sha256::digest(key)
 }
 
-/// What stands for an SCI and a key among those that are spent on the receive side.
-pub(crate) fn rx_fingerprint(sci: Sci, key: &[u8; 16]) -> Fingerprint
+/// What stands for an SCI and a key of these octets among those that are spent on the receive side.
+pub(crate) fn rx_fingerprint(sci: Sci, key: &[u8]) -> Fingerprint
     ensures { result ≡ rx_fingerprint sci key.now }
 {
     let octets = sci.get();
     let mut hasher = Sha256::new();
     hasher.update(octets.as_slice());
-    hasher.update(key.as_slice());
+    hasher.update(key);
     hasher.finalize()
 }
 

@@ -1,10 +1,11 @@
 //! Laws of the definitions, for the layers above. Where a law speaks of a value behind a reference, its
 //! body reads the fields: that is how a proof learns their ranges.
 
-ghost use Rattle.std.specs.Prelude.{◌≡◌, ◌<◌, ◌^◌, ◌++◌, ℕ, List, length, Some, Ok};
+ghost use Rattle.std.specs.Prelude.{◌≡◌, ◌<◌, ◌^◌, ◌++◌, ℕ, List, Some, Ok};
+ghost use Rattle.macs_aes.specs.Keys.{octets_of_key};
 ghost use Rattle.macs_frame.specs.Fields.{IsAn, IsSci};
 ghost use Rattle.macs_config.specs.Apply.{IsCommand, IsKey, apply, spent_by};
-ghost use Rattle.macs_config.specs.Config.{Config, Edition, IsConfig, IsUpTo, default, spent_of, this_edition};
+ghost use Rattle.macs_config.specs.Config.{Config, Edition, IsConfig, IsUpTo, default, spent_of};
 ghost use Rattle.macs_config.specs.Identity.{Identity, IsIdentity};
 ghost use Rattle.macs_config.specs.Snapshot.{config_of_parts};
 ghost use Rattle.macs_config.specs.declared.command.Command.{Command};
@@ -12,12 +13,13 @@ ghost use Rattle.macs_config.specs.declared.command.Role.{Role};
 ghost use Rattle.macs_config.specs.declared.part.Part.{Part};
 
 use crate::{Command, Identity};
+use macs_aes::Key;
 use macs_frame::laws::{an_in_range, octets_in_range, sci_in_range};
 use macs_frame::{An, Sci};
 
 /// The fields of a command are in their ranges.
 pub fn command_in_range(command: &Command)
-    ensures { IsCommand this_edition command.now }
+    ensures { IsCommand command.now }
 {
     match *command {
         Command::SetValidate(_) => {}
@@ -33,7 +35,7 @@ pub fn command_in_range(command: &Command)
             ..
         } => {
             an_in_range(an);
-            install_in_range(key, start, offset);
+            install_in_range(&key, start, offset);
         }
         Command::TxUse { an } | Command::TxRemove { an } => an_in_range(an),
         Command::RxAdd { sci } | Command::RxDrop { sci } => sci_in_range(sci),
@@ -45,7 +47,7 @@ pub fn command_in_range(command: &Command)
             offset,
         } => {
             place_in_range(sci, an);
-            install_in_range(key, start, offset);
+            install_in_range(&key, start, offset);
         }
         Command::RxRemove { sci, an } => place_in_range(sci, an),
     }
@@ -60,18 +62,16 @@ fn place_in_range(sci: Sci, an: An)
 }
 
 /// The key and the numbers of a new association are in their ranges.
-fn install_in_range(key: [u8; 16], start: u32, offset: u8)
-    ensures key { IsKey this_edition key }
+fn install_in_range(key: &Key, start: u32, offset: u8)
+    ensures key { IsKey (octets_of_key key.now) }
     ensures start { start < 2 ^ 32 }
     ensures offset { offset < 2 ^ 8 }
 {
-    octets_in_range(&key);
+    match key {
+        Key::Short(octets) => octets_in_range(octets),
+        Key::Long(octets) => octets_in_range(octets),
+    }
 }
-
-/// A key of this edition has 16 octets.
-pub fn short_keys()
-    ensures { (key : List ℕ) → IsKey this_edition key → length key ≡ 16 }
-{}
 
 /// The fields of an identity are in their ranges.
 pub fn identity_in_range(identity: &Identity)
@@ -120,10 +120,8 @@ pub fn larger_restores()
         → config_of_parts small identity parts ≡ Some c → config_of_parts large identity parts ≡ Some c }
 {}
 
-/// What a configuration or a command of an edition is, it is of one that takes as much or more.
+/// A configuration of an edition is one of an edition that takes as much or more.
 pub fn larger_has()
-    ensures config { (small large : Edition) → IsUpTo small large
+    ensures { (small large : Edition) → IsUpTo small large
         → (identity : Identity) (c : Config) → IsConfig small identity c → IsConfig large identity c }
-    ensures command { (small large : Edition) → IsUpTo small large
-        → (command : Command) → IsCommand small command → IsCommand large command }
 {}

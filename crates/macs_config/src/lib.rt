@@ -9,6 +9,7 @@ mod checked;
 mod command;
 mod config;
 mod contents;
+mod edition;
 mod fingerprint;
 mod identity;
 pub mod laws;

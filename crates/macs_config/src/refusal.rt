@@ -29,4 +29,6 @@ pub enum Refusal {
     KeySpent,
     /// As many keys are spent on that side as may be: 512.
     SpentFull,
+    /// The key has 32 octets, and this edition takes keys of 16 alone.
+    LongKey,
 }

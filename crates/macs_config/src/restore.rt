@@ -4,7 +4,7 @@ ghost use Rattle.std.specs.Prelude.{◌≡◌, ◌+◌, ◌&&◌, ◌<◌, [], �
 ghost use Rattle.std.specs.Option.{option_map_or};
 ghost use Rattle.std.specs.List.{list_all};
 ghost use Rattle.std.specs.Str.{bytes_eq};
-ghost use Rattle.macs_config.specs.Config.{are_distinct, has_channel, is_spent, max_spent, put_among, spent_of, this_edition, tx_fingerprint};
+ghost use Rattle.macs_config.specs.Config.{are_distinct, has_channel, is_spent, max_spent, put_among, spent_of, takes_key, this_edition, tx_fingerprint};
 ghost use Rattle.macs_config.specs.Identity.{is_port_one};
 ghost use Rattle.macs_config.specs.Snapshot.{are_new, is_rx_spent, is_tx_spent, is_whole, may_follow, every_an, place_of, config_of_listed, config_with_listed, config_with_part};
 ghost use Rattle.macs_config.specs.Value.{config_in};
@@ -15,6 +15,7 @@ use crate::association::{RxSa, TxSa};
 use crate::check::is_port_one;
 use crate::command::{Role, SciMode};
 use crate::contents::{Contents, MAX_CHANNELS};
+use crate::edition::takes_key;
 use crate::fingerprint::{Fingerprint, is_spent, rx_fingerprint, tx_fingerprint};
 use crate::identity::Identity;
 use crate::part::Part;
@@ -119,16 +120,17 @@ fn add(identity: &Identity, contents: &mut Contents, part: &Part) -> bool
     }
 }
 
-/// Adds a transmit association, and answers whether none stood at its number.
+/// Adds a transmit association, and answers whether none stood at its number and its key is one that
+/// this edition takes.
 fn add_tx(contents: &mut Contents, an: An, sa: TxSa) -> bool
-    ensures test { result ≡ is_none ((config_in contents.old).tx an) }
+    ensures test { result ≡ (is_none ((config_in contents.old).tx an) && takes_key this_edition sa.key) }
     ensures added { result ≡ true → config_in contents.new ≡ record (config_in contents.old) { tx = put (config_in contents.old).tx an (Some sa) } }
 {
-    let is_free = contents.tx[an.get() as usize].is_none();
-    if is_free {
+    let may_follow = contents.tx[an.get() as usize].is_none() && takes_key(sa.key.as_slice());
+    if may_follow {
         contents.put_tx(an, Some(sa));
     }
-    is_free
+    may_follow
 }
 
 /// Adds a receive channel, and answers whether it is not the own one, did not stand, and fits.
@@ -145,18 +147,20 @@ fn add_channel(identity: &Identity, contents: &mut Contents, sci: Sci) -> bool
     may_follow
 }
 
-/// Adds a receive association, and answers whether its channel stands and no association at its
-/// number.
+/// Adds a receive association, and answers whether its channel stands, no association at its number,
+/// and its key is one that this edition takes.
 fn add_rx(contents: &mut Contents, sci: Sci, an: An, sa: RxSa) -> bool
-    ensures test { result ≡ (has_channel (config_in contents.old) sci && is_none ((config_in contents.old).rx sci an)) }
+    ensures test { result ≡ (has_channel (config_in contents.old) sci && is_none ((config_in contents.old).rx sci an)
+        && takes_key this_edition sa.key) }
     ensures added { result ≡ true → config_in contents.new ≡ record (config_in contents.old)
         { rx = put_at (config_in contents.old).rx sci (put ((config_in contents.old).rx sci) an (Some sa)) } }
 {
     let is_free = contents.has_channel(sci) && contents.rx(sci, an).is_none();
-    if is_free {
+    let may_follow = is_free && takes_key(sa.key.as_slice());
+    if may_follow {
         contents.put_rx(sci, an, Some(sa));
     }
-    is_free
+    may_follow
 }
 
 /// Adds spent keys of a side, and answers whether they are new and fit.
@@ -250,7 +254,7 @@ fn is_tx_spent(spent: &SpentKeys, sa: &Option<TxSa>) -> bool
     ensures { result ≡ option_map_or (λ sa. is_spent spent.now (tx_fingerprint sa.key)) sa.now true }
 {
     match sa {
-        Some(sa) => spent.contains(&tx_fingerprint(&sa.key)),
+        Some(sa) => spent.contains(&tx_fingerprint(sa.key.as_slice())),
         None => true,
     }
 }
@@ -277,7 +281,9 @@ fn is_rx_spent(contents: &Contents, sci: Sci, an: An) -> bool
     ensures { result ≡ is_rx_spent (config_in contents.now) sci an }
 {
     match contents.rx(sci, an) {
-        Some(sa) => contents.spent_rx.contains(&rx_fingerprint(sci, &sa.key)),
+        Some(sa) => contents
+            .spent_rx
+            .contains(&rx_fingerprint(sci, sa.key.as_slice())),
         None => true,
     }
 }

@@ -6,6 +6,7 @@ mod refusing;
 mod restoring;
 mod spending;
 
+use macs_aes::Key;
 use macs_config::{Command, Config, Fingerprint, Identity, Refusal, Role};
 use macs_frame::{An, Sci};
 use std::process::Abort;
@@ -18,13 +19,22 @@ fn peer(station: u8) -> Sci {
     Sci([2, 0, 0, 0, 0, station, 0, 7])
 }
 
-/// Sixteen octets that count up from this one.
-fn key_from(first: u8) -> [u8; 16] {
-    let mut key = [0; 16];
+/// A key of sixteen octets that count up from this one.
+fn key_from(first: u8) -> Key {
+    let mut octets = [0; 16];
     for place in 0..16u8 {
-        key[place as usize] = first.wrapping_add(place);
+        octets[place as usize] = first.wrapping_add(place);
     }
-    key
+    Key::Short(octets)
+}
+
+/// A key of thirty-two octets that count up from this one.
+fn long_key_from(first: u8) -> Key {
+    let mut octets = [0; 32];
+    for place in 0..32u8 {
+        octets[place as usize] = first.wrapping_add(place);
+    }
+    Key::Long(octets)
 }
 
 fn an_of(rt: &impl Abort, number: u8) -> An {
@@ -36,7 +46,7 @@ fn identity_of(rt: &impl Abort, sci: Sci) -> Identity {
 }
 
 /// A transmit association with integrity alone, from packet number 1 on.
-fn tx_install(rt: &impl Abort, number: u8, key: [u8; 16]) -> Command {
+fn tx_install(rt: &impl Abort, number: u8, key: Key) -> Command {
     Command::TxInstall {
         an: an_of(rt, number),
         key,
@@ -47,7 +57,7 @@ fn tx_install(rt: &impl Abort, number: u8, key: [u8; 16]) -> Command {
 }
 
 /// A receive association without offset, from packet number 1 on.
-fn rx_install(rt: &impl Abort, sci: Sci, number: u8, key: [u8; 16]) -> Command {
+fn rx_install(rt: &impl Abort, sci: Sci, number: u8, key: Key) -> Command {
     Command::RxInstall {
         sci,
         an: an_of(rt, number),

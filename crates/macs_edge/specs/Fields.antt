@@ -1,8 +1,11 @@
 -- What stands at a key of a table: a number, a flag, a text, a mode, an association number, an SCI or a key.
 use Rattle.std.specs.Prelude.{◌-◌, ◌^◌, ℕ, nat_le, pos, codes, if◌then◌else◌, Bool, List, Option, Some, None, option_and_then, Ok, Err}
 use Rattle.std.specs.Str.{bytes_eq}
+use Rattle.std.specs.Option.{option_map}
 use Rattle.hex.specs.Hex.{decode_sized}
 use Rattle.toml.specs.Data.{Data, Members, as_bool, as_str, get_member, integer}
+use Rattle.macs_aes.specs.declared.keys.Key.{Key}
+use Rattle.macs_aes.specs.declared.keys.Key.TheVariants.{Long, Short}
 use Rattle.macs_config.specs.declared.command.SciMode.{SciMode}
 use Rattle.macs_config.specs.declared.command.SciMode.TheVariants.{Explicit, EndStation, Implicit}
 use Rattle.macs_config.specs.declared.command.Validate.{Validate}
@@ -18,6 +21,13 @@ number_to most other = None
 -- so many octets, from a text of twice as many hex digits
 abbrev pub octets_of : ℕ → List ℕ → Option (List ℕ)
 octets_of count text = elim (decode_sized text count) [ Ok octets ↦ Some octets | Err cause ↦ None ]
+
+-- a key, from a text of 32 hex digits or of 64
+abbrev pub key_of : List ℕ → Option Key
+key_of text = elim (octets_of 16 text) [
+  | Some short ↦ Some (Short short)
+  | None ↦ option_map Long (octets_of 32 text)
+]
 
 -- what is done with frames that do not verify, by its word
 abbrev pub validate_of : List ℕ → Option Validate
@@ -59,9 +69,9 @@ an_in members = number_at (codes "an") 3 members
 abbrev pub sci_in : Members → Option (List ℕ)
 sci_in members = octets_at (codes "sci") 8 members
 
--- a SAK: 32 hex digits
-abbrev pub key_in : Members → Option (List ℕ)
-key_in members = octets_at (codes "key") 16 members
+-- a SAK: 32 hex digits, or 64
+abbrev pub key_in : Members → Option Key
+key_in members = option_and_then key_of (text_at (codes "key") members)
 
 -- a first packet number, 0 to 2^32 - 1: that 0 is none is said when the command is applied
 abbrev pub start_in : Members → Option ℕ

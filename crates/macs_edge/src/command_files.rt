@@ -26,7 +26,7 @@ use toml::{Table, Value};
 /// | `rx-install` | `sci`, `an`, `key`, `start`, `offset` |
 /// | `rx-remove` | `sci`, `an` |
 ///
-/// `an` is 0 to 3, `start` 0 to 2^32 - 1, `offset` 0 to 255 octets, `key` a text of 32 hex digits, `sci`
+/// `an` is 0 to 3, `start` 0 to 2^32 - 1, `offset` 0 to 255 octets, `key` a text of 32 hex digits or 64, `sci`
 /// one of 16, of either case. A start of 0 and an offset that is none are read here, and refused when the
 /// command is applied. Refused with the file's first fault, or as `Memory`; that this comes only from a
 /// growth that was refused is tested.

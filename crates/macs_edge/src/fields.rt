@@ -3,13 +3,14 @@
 ghost use Rattle.std.specs.Prelude.{◌≡◌, ◌<◌, codes, option_map};
 ghost use Rattle.toml.specs.Data.{get_member};
 ghost use Rattle.toml.specs.View.{table_view, view};
-ghost use Rattle.macs_edge.specs.Fields.{an_in, confidential_in, flag_at, key_in, number_at, number_to, octets_of, offset_in, on_in, sci_in, sci_mode_in, start_in, text_at, validate_in, window_in};
+ghost use Rattle.macs_edge.specs.Fields.{an_in, confidential_in, flag_at, key_in, key_of, number_at, number_to, octets_of, offset_in, on_in, sci_in, sci_mode_in, start_in, text_at, validate_in, window_in};
 ghost use Rattle.macs_edge.specs.Lines.{required, word_in};
 ghost use Rattle.macs_edge.specs.declared.config_fault.KeyName.TheVariants as name;
 
 use crate::config_fault::KeyName;
 use crate::modes::{sci_mode_of, validate_of};
 use crate::word::Word;
+use macs_aes::Key;
 use macs_config::{SciMode, Validate};
 use macs_frame::{An, Sci};
 use toml::{Table, Value};
@@ -112,12 +113,25 @@ pub(crate) fn sci(table: &Table) -> Result<Sci, KeyName>
 }
 
 /// The SAK.
-pub(crate) fn key(table: &Table) -> Result<[u8; 16], KeyName>
+pub(crate) fn key(table: &Table) -> Result<Key, KeyName>
     ensures { result ≡ required name.Key (key_in (table_view table.now)) }
 {
     match text(table, "key") {
-        Some(text) => octets(text).ok_or(KeyName::Key),
+        Some(text) => key_of(text).ok_or(KeyName::Key),
         None => Err(KeyName::Key),
+    }
+}
+
+/// A key, from a text of 32 hex digits or of 64.
+fn key_of(text: &str) -> Option<Key>
+    ensures { result ≡ key_of text.now }
+{
+    match octets(text) {
+        Some(short) => Some(Key::Short(short)),
+        None => match octets(text) {
+            Some(long) => Some(Key::Long(long)),
+            None => None,
+        },
     }
 }
 

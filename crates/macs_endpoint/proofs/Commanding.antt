@@ -63,7 +63,7 @@ during-held s command none running accepts =
     ap (λ (waiting : List Waiting). state_taking_alone s command waiting) none
     ∙ (λ i. if not (running i) && accepts i then state_with_in_hand s command else s)
 
-module _ {D : Type 0} (disk_of : D → disk.Disk) (e : EndpointValue D) (command : Command) (ranges : IsCommand this_edition command) where
+module _ {D : Type 0} (disk_of : D → disk.Disk) (e : EndpointValue D) (command : Command) (ranges : IsCommand command) where
   -- nothing changes but whose turn it is
   unmoved : (fault : CommandFault) (other : EndpointValue D) → other.tx ≡ e.tx → other.rx ≡ e.rx
       → ((logs : Logs) → Step (state_of e logs) (Commands command) (Ran (Err fault)) (state_of (record other { store = e.store }) logs))
@@ -134,7 +134,7 @@ pub ok_not_err : {X : Type 0} (result : Result X Refusal) (refusal : Refusal) �
 ok_not_err (Ok x) refusal is not = absurd cc
 ok_not_err (Err other) refusal is not = absurd cc
 
-module _ {D : Type 0} (disk_of : D → disk.Disk) (e : EndpointValue D) (kept : IsSoundEndpoint e) (command : Command) (ranges : IsCommand this_edition command)
+module _ {D : Type 0} (disk_of : D → disk.Disk) (e : EndpointValue D) (kept : IsSoundEndpoint e) (command : Command) (ranges : IsCommand command)
     (running : is_stopped e ≡ false) (idle : IsIdle e.store) (none : e.waiting ≡ []) (accepted : IsOk (accept (standing_in e.store) command)) where
   accepts : IsOk (apply this_edition (standing_in e.store).identity (standing_in e.store).config command)
   accepts = by_accepted (standing_in e.store) command (apply this_edition (standing_in e.store).identity (standing_in e.store).config command) accepted

@@ -126,7 +126,7 @@ started_tx block start least below = (least, omega (arith, below), omega (arith,
 
 -- with the numbers that a command makes go the ceilings that it makes, where its start is not 0
 pub command-ahead : (identity : Identity) (command : Command) (next : ℕ → Option ℕ) (numbers : List ℕ → ℕ → Option Numbers) (c : Ceilings)
-    → IsCommand this_edition command → has_wrong_start command ≡ false → AreAhead identity next numbers c
+    → IsCommand command → has_wrong_start command ≡ false → AreAhead identity next numbers c
     → AreAhead identity (next_after command next) (numbers_after command numbers) (ceilings_after identity command c)
 command-ahead identity (SetValidate validate) next numbers c ranges numbered are = are
 command-ahead identity (SetReplay on window) next numbers c ranges numbered are = record {
@@ -224,7 +224,7 @@ module _ (sectors : ℕ) (image : Image) (size : least_sectors ≤ sectors) wher
 
   -- what the command in hand makes of the configuration
   pub fits-command : (s : State) (c : Ceilings) (command : Command) (made : Standing) → AreAhead s.identity s.next s.numbers c
-      → IsCommand this_edition command → s.in_hand ≡ Some command → accept (standing_with s c) command ≡ Ok made → StandsFor s.edition image made
+      → IsCommand command → s.in_hand ≡ Some command → accept (standing_with s c) command ≡ Ok made → StandsFor s.edition image made
       → Fits s.edition sectors image s
   fits-command s c command made are ranges holds accepts finds =
       let parts = accept-parts (standing_with s c) command made accepts in
@@ -244,7 +244,7 @@ module _ (sectors : ℕ) (image : Image) (size : least_sectors ≤ sectors) wher
       }
 
   -- what a power loss leaves while the command in hand is kept
-  pub fits-commit : (s : State) (c : Ceilings) (command : Command) → AreAhead s.identity s.next s.numbers c → IsCommand this_edition command
+  pub fits-commit : (s : State) (c : Ceilings) (command : Command) → AreAhead s.identity s.next s.numbers c → IsCommand command
       → s.in_hand ≡ Some command → CommitLeaves (standing_with s c) command image → Fits s.edition sectors image s
   fits-commit s c command are ranges holds left = elim left [
     | inl before ↦ fits-ahead s c are before

@@ -4,6 +4,8 @@ use Rattle.std.proofs.Common.{◌≡◌, ◌∙◌, ◌≤◌, ◌^◌, ◌⊎�
 use Rattle.std.specs.Option.{option_map}
 use Rattle.std.proofs.Math.Nat.{max-eq_left}
 use Rattle.std.proofs.Math.Path.{fun_ext}
+use Rattle.macs_aes.specs.Keys.{octets_of_key}
+use Rattle.macs_aes.specs.declared.keys.Key.{Key}
 use Rattle.macs_frame.specs.declared.fields.Offset.{Offset}
 use Rattle.macs_config.specs.Apply.{apply, config_after, offset_or_zero, offset_at, refusal_of}
 use Rattle.macs_config.specs.Association.{is_confidential, offset_of, protection_of}
@@ -89,16 +91,26 @@ with_rx side sci an start sa = record side {
   numbers = put_numbers side.numbers sci an (Some (first_numbers start));
 }
 
-abbrev protected_so : TxSa → Protection → Option TxSa
-protected_so sa protection = Some (record { key = sa.key; protection = protection })
+abbrev protected_so : List ℕ → Protection → Option TxSa
+protected_so key protection = Some (record { key = key; protection = protection })
 
 -- the association that is installed is the one that was found
-pub tx_made : (sa : TxSa) (confidential : Bool) (offset : Offset) (found stands : Option TxSa) → confidential ≡ is_confidential sa.protection
+pub tx_made : (sa : TxSa) (key : List ℕ) (confidential : Bool) (offset : Offset) (found stands : Option TxSa) → key ≡ sa.key
+    → confidential ≡ is_confidential sa.protection
     → offset ≡ offset_of sa.protection → found ≡ Some sa → found ≡ stands
-    → Some (record { key = sa.key; protection = protection_of confidential offset }) ≡ stands
-tx_made sa confidential offset found stands secret from is same =
-    ap (λ (b : Bool). protected_so sa (protection_of b offset)) secret ∙ ap (λ (o : Offset). protected_so sa (protection_of (is_confidential sa.protection) o)) from
-    ∙ ap (protected_so sa) (protection_made sa.protection) ∙ sym is ∙ same
+    → Some (record { key = key; protection = protection_of confidential offset }) ≡ stands
+tx_made sa key confidential offset found stands alike secret from is same =
+    ap (λ (k : List ℕ). protected_so k (protection_of confidential offset)) alike
+    ∙ ap (λ (b : Bool). protected_so sa.key (protection_of b offset)) secret
+    ∙ ap (λ (o : Offset). protected_so sa.key (protection_of (is_confidential sa.protection) o)) from
+    ∙ ap (protected_so sa.key) (protection_made sa.protection) ∙ sym is ∙ same
+
+abbrev keyed_so : RxSa → List ℕ → Option RxSa
+keyed_so sa key = Some (record { key = key; offset = sa.offset })
+
+pub rx_made : (sa : RxSa) (key : List ℕ) (found stands : Option RxSa) → key ≡ sa.key → found ≡ Some sa → found ≡ stands
+    → Some (record { key = key; offset = sa.offset }) ≡ stands
+rx_made sa key found stands alike is same = ap (keyed_so sa) alike ∙ sym is ∙ same
 
 -- ---- sides that follow
 
@@ -148,12 +160,12 @@ module _ (before after : Standing) (tx : Tx) (rx : rxsc.RxValue) (are : AreChann
 
   -- ---- an association is installed
 
-  module _ (an : ℕ) (key : List ℕ) (start : ℕ) (confidential : Bool) (offset : ℕ) (done : Accepts (TxInstall an key start confidential offset)) where
+  module _ (an : ℕ) (key : Key) (start : ℕ) (confidential : Bool) (offset : ℕ) (done : Accepts (TxInstall an key start confidential offset)) where
     abbrev tx_install : Command
     tx_install = TxInstall an key start confidential offset
 
     abbrev tx_sa : TxSa
-    tx_sa = record { key = key; protection = protection_of confidential (offset_or_zero (offset_at offset)) }
+    tx_sa = record { key = octets_of_key key; protection = protection_of confidential (offset_or_zero (offset_at offset)) }
 
     tx_found : after.config.tx an ≡ Some tx_sa
     tx_found = ap (λ (s : Standing). s.config.tx an) (sym (made-is before tx_install after done)) ∙ put-here before.config.tx an (Some tx_sa)
@@ -182,12 +194,12 @@ module _ (before after : Standing) (tx : Tx) (rx : rxsc.RxValue) (are : AreChann
           rx_ceilings = are.rx_ceilings;
         })
 
-  module _ (sci : List ℕ) (an : ℕ) (key : List ℕ) (start offset : ℕ) (done : Accepts (RxInstall sci an key start offset)) where
+  module _ (sci : List ℕ) (an : ℕ) (key : Key) (start offset : ℕ) (done : Accepts (RxInstall sci an key start offset)) where
     abbrev rx_install : Command
     rx_install = RxInstall sci an key start offset
 
     abbrev rx_sa : RxSa
-    rx_sa = record { key = key; offset = offset_or_zero (offset_at offset) }
+    rx_sa = record { key = octets_of_key key; offset = offset_or_zero (offset_at offset) }
 
     rx_found : after.config.rx sci an ≡ Some rx_sa
     rx_found =

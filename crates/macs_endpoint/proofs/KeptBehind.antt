@@ -74,7 +74,7 @@ cut-short-kept {D} mid command kept stopped = record {
 
 -- ---- a command behind it
 
-module _ {D : Type 0} (disk_of : D → disk.Disk) (e : EndpointValue D) (command : Command) (ranges : IsCommand this_edition command)
+module _ {D : Type 0} (disk_of : D → disk.Disk) (e : EndpointValue D) (command : Command) (ranges : IsCommand command)
     (running : is_stopped e ≡ false) (none : e.waiting ≡ []) (free : e.in_hand ≡ None) (accepted : IsOk (accept (standing_in e.store) command)) where
   module _ (mid : EndpointValue D) (ends : ReservationEnds disk_of e (Err refill.Disk) mid) where
     abbrev pub given_up : EndpointValue D

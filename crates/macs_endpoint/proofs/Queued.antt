@@ -27,7 +27,7 @@ one_more waiting ticket command few =
     let added = length-append waiting (last ∷ []) in
     omega (arith, few, added)
 
-module _ {D : Type 0} (disk_of : D → disk.Disk) (e : EndpointValue D) (command : Command) (ranges : IsCommand this_edition command) where
+module _ {D : Type 0} (disk_of : D → disk.Disk) (e : EndpointValue D) (command : Command) (ranges : IsCommand command) where
   -- the store and the channels stay as they are
   untouched : (result : Result ℕ SubmitFault) (other : EndpointValue D) → other.tx ≡ e.tx → other.rx ≡ e.rx → other.turn ≡ e.turn
       → ((logs : Logs) → Step (state_of e logs) (Submits command) (Submitted result) (state_of (record other { store = e.store }) logs))

@@ -5,6 +5,7 @@ use Rattle.std.specs.Option.{option_map, option_map_or}
 use Rattle.std.proofs.lemmas.Bool.{cases_lt, eq-eqb, eqb-true}
 use Rattle.std.proofs.lemmas.Bool.Decides.{nat_tests}
 use Rattle.macs_frame.specs.First.{first}
+use Rattle.macs_aes.specs.declared.keys.Key.{Key}
 use Rattle.macs_config.specs.Config.{Config}
 use Rattle.macs_config.specs.Identity.{Identity}
 use Rattle.macs_config.specs.Tables.{put, put_at}
@@ -458,7 +459,7 @@ module _ {D : Type 0} (disk_of : D → Disk) where
       (covers_same count (0 + frames_sent an old turns) (frames_sent an old turns) n c (omega arith) later)
 
   -- behind the call that made an install durable, whichever it was
-  pub room-installed : (old new : EndpointValue D) (call : Call) (reply : Reply) (an : ℕ) (key : List ℕ) (start : ℕ) (confidential : Bool) (offset : ℕ)
+  pub room-installed : (old new : EndpointValue D) (call : Call) (reply : Reply) (an : ℕ) (key : Key) (start : ℕ) (confidential : Bool) (offset : ℕ)
       → IsSoundEndpoint old → IsCall disk_of old call reply new
       → command_made (state_of old no_logs) call reply ≡ Some (TxInstall an key start confidential offset)
       → HasRoom new an (standing_in new.store).identity.tx_block

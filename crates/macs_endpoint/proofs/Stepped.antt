@@ -196,8 +196,8 @@ module _ {D : Type 0} (disk_of : D → disk.Disk) (e : EndpointValue D) (kept : 
   pub keeps : accept (standing_in e.store) first.command ≡ Ok work.after
   keeps = subst (λ (w : Waiting). accept (standing_in e.store) w.command ≡ Ok work.after) same_first work.accepted
 
-  ranges : IsCommand this_edition first.command
-  ranges = subst (λ (w : Waiting). IsCommand this_edition w.command) same_first work.in_range
+  ranges : IsCommand first.command
+  ranges = subst (λ (w : Waiting). IsCommand w.command) same_first work.in_range
 
   module _ (s : store.StoreValue D) (steps : Steps disk_of e.store (Ok Finished) s) where
     done : IsDone disk_of e.store work.after s

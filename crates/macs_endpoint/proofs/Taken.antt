@@ -167,7 +167,8 @@ module _ {D : Type 0} (disk_of : D → disk.Disk) (e : EndpointValue D) (kept : 
       → GoesOn raising result new → IsCall disk_of e Advances (Advanced result) new
   by_result (Ok Worked) new call goes =
       raise_call (Ok Worked) new call (call.behaves.ceilings ∙ same_standing)
-      (goes.0, (let left = goes.3 in let most = has.left in omega (arith, left, most))) call.behaves.channel_counters
+      (goes.0, (let left = goes.3 in let most = has.left in omega (arith, left, most)), goes.1 ∙ (at-rest e kept idle).in_hand running)
+      call.behaves.channel_counters
   by_result (Err step.Disk) new call goes = raise_call (Err step.Disk) new call (call.behaves.ceilings ∙ same_standing) (goes ∙ (at-rest e kept idle).in_hand running) call.behaves.channel_counters
   by_result (Ok Idle) new call goes = absurd goes
   by_result (Ok Reserved) new call goes = absurd (many goes.2)

@@ -76,7 +76,7 @@ during_taken s in_hand waiting first rest free waits running accepts =
 -- ---- it is taken in hand
 
 module _ {D : Type 0} (disk_of : D → disk.Disk) (e : EndpointValue D) (kept : IsSoundEndpoint e) (running : is_stopped e ≡ false) (idle : IsIdle e.store)
-    (first : Waiting) (ranges : IsCommand this_edition first.command) (waits : first_waiting e.waiting ≡ Some first) where
+    (first : Waiting) (ranges : IsCommand first.command) (waits : first_waiting e.waiting ≡ Some first) where
   abbrev rest : List Waiting
   rest = (rest-waiting e.waiting first waits).0
 

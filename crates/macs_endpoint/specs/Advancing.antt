@@ -69,10 +69,11 @@ turn_after e call reply = e.turn
 -- ---- a step
 
 -- A step of an endpoint that runs and has no work in hand: it is idle where no piece of work is there, and else that piece begins, with its
--- first device call, or is refused before. A command whose first device call fails is in hand then, and a reservation leaves none there.
+-- first device call, or is refused before. Whether that call succeeds or fails, a command is in hand then, and a reservation leaves none there.
 abbrev pub BeginsWith : {D : Type 0} → EndpointValue D → Option Piece → Result Progress StepFault → EndpointValue D → Type 0
 BeginsWith old None (Ok Idle) new = new ≡ old
-BeginsWith old (Some (ToRaise raise)) (Ok Worked) new = (new.reserving ≡ Some raise) × (calls_left new.store + 1 ≤ most_calls old.store)
+BeginsWith old (Some (ToRaise raise)) (Ok Worked) new =
+    (new.reserving ≡ Some raise) × (calls_left new.store + 1 ≤ most_calls old.store) × (new.in_hand ≡ None)
 BeginsWith old (Some (ToRaise raise)) (Err step.GenerationsSpent) new = IsSpent old.store
 BeginsWith old (Some (ToRaise raise)) (Err step.Disk) new = new.in_hand ≡ None
 BeginsWith old (Some (ToKeep first)) (Ok Worked) new = (new.in_hand ≡ Some first.command) × (calls_left new.store + 1 ≤ most_calls old.store)

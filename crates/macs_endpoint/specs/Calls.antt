@@ -1,7 +1,6 @@
 -- One call of an endpoint.
 use Rattle.std.specs.Prelude.{◌≡◌, ◌<◌, ◌^◌, All, Ok, Err, false}
 use Rattle.macs_config.specs.Apply.{IsCommand}
-use Rattle.macs_config.specs.Config.{Edition}
 use Rattle.macs_disk.specs.Disk.{Disk, FailsOnce, IsHonest, Works}
 use Rattle.macs_disk.specs.Runs.{Leaves}
 use Rattle.macs_txsc.specs.Value as txsc
@@ -22,13 +21,13 @@ use Rattle.macs_endpoint.specs.declared.fault.StepFault.TheVariants as step
 -- ---- what a call is given
 
 -- a command and the octets of a frame are in the ranges that their types keep
-abbrev pub IsInRange : Edition → Call → Type 0
-IsInRange edition (Commands command) = IsCommand edition command
-IsInRange edition Refills = Unit {0}
-IsInRange edition (Submits command) = IsCommand edition command
-IsInRange edition Advances = Unit {0}
-IsInRange edition (Protects plain) = All (λ octet. octet < 2 ^ 8) plain
-IsInRange edition (Receives frame) = All (λ octet. octet < 2 ^ 8) frame
+abbrev pub IsInRange : Call → Type 0
+IsInRange (Commands command) = IsCommand command
+IsInRange Refills = Unit {0}
+IsInRange (Submits command) = IsCommand command
+IsInRange Advances = Unit {0}
+IsInRange (Protects plain) = All (λ octet. octet < 2 ^ 8) plain
+IsInRange (Receives frame) = All (λ octet. octet < 2 ^ 8) frame
 
 -- ---- on every disk
 
@@ -49,7 +48,7 @@ Rests call reply new = Unit {0}
 -- where the answers come that a step leaves to the endpoint; which calls make no device call; after which no work is in hand; what a step of
 -- its work does, and whose turn it is after; what is counted.
 pub record Behaves {D : Type 0} (disk_of : D → Disk) (old : EndpointValue D) (call : Call) (reply : Reply) (new : EndpointValue D) : Type 0 where
-  pub in_range : IsInRange (standing_in old.store).edition call
+  pub in_range : IsInRange call
   pub step : (logs : Logs) → (after : Logs) × Step (state_of old logs) call reply (state_of new after)
   pub ceilings : CeilingsAfter (state_of old no_logs) (standing_in old.store) old.reserving call reply (standing_in new.store)
   pub limited : IsLimited old call reply new

@@ -129,7 +129,7 @@ pub record IsKeeping {D : Type 0} (e : EndpointValue D) : Type 0 where
   pub rest : List Waiting
   pub waiting : e.waiting ≡ first ∷ rest
   pub in_hand : e.in_hand ≡ Some first.command
-  pub in_range : IsCommand (standing_in e.store).edition first.command
+  pub in_range : IsCommand first.command
   pub after : Standing
   pub leads : standing_then e.store ≡ Some after
   pub accepted : accept (standing_in e.store) first.command ≡ Ok after

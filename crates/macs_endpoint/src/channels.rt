@@ -129,9 +129,10 @@ pub(crate) fn install_tx<D: SectorDisk>(tx: &mut Tx, store: &Store<D>, an: An, n
     store.facts();
     let sa = store.config().tx(an).unwrap();
     let ceiling = store.tx_ceiling(an).unwrap();
+    let key = sa.key.get();
     tx.install(
         an,
-        &sa.key,
+        &key,
         sa.protection.is_confidential(),
         sa.protection.offset(),
         next,
@@ -159,5 +160,6 @@ pub(crate) fn install_rx<D: SectorDisk>(rx: &mut Rx, store: &Store<D>, sci: Sci,
     store.facts();
     let sa = store.config().rx(sci, an).unwrap();
     let ceiling = store.rx_ceiling(sci, an).unwrap();
-    rx.install(sci, an, &sa.key, sa.offset, next, ceiling.get());
+    let key = sa.key.get();
+    rx.install(sci, an, &key, sa.offset, next, ceiling.get());
 }

@@ -1,6 +1,7 @@
 //! Laws of the definitions, for those above.
 
 ghost use Rattle.std.specs.Prelude.{◌≡◌, ◌≢◌, ◌<◌, ◌≤◌, ◌⊎◌, ◌+◌, ◌/◌, ◌^◌, ◌-◌, Bool, ℕ, List, [], Some, Ok, Err};
+ghost use Rattle.macs_aes.specs.declared.keys.Key.{Key};
 ghost use Rattle.macs_config.specs.declared.command.Command.TheVariants.{TxInstall};
 ghost use Rattle.macs_txsc.specs.declared.fault.TxFault.TheVariants.{NoNumber};
 ghost use Rattle.macs_rxsc.specs.Receive.{Arrival, Arrives};
@@ -37,7 +38,7 @@ pub fn frames_before_no_number<D: SectorDisk>()
         → HasRoom new an ((standing_in new.store).identity.tx_block / 2 + 1) }
     ensures idle { (old new : EndpointValue D) (an : ℕ) → IsSoundEndpoint old → IsCall D.disk old Advances (Advanced (Ok Idle)) new → IsEncodingAn new an
         → HasRoom new an ((standing_in new.store).identity.tx_block / 2 + 1) }
-    ensures installed { (old new : EndpointValue D) (call : Call) (reply : Reply) (an : ℕ) (key : List ℕ) (start : ℕ) (confidential : Bool) (offset : ℕ)
+    ensures installed { (old new : EndpointValue D) (call : Call) (reply : Reply) (an : ℕ) (key : Key) (start : ℕ) (confidential : Bool) (offset : ℕ)
         → IsSoundEndpoint old → IsCall D.disk old call reply new
         → command_made (state_of old no_logs) call reply ≡ Some (TxInstall an key start confidential offset)
         → HasRoom new an (standing_in new.store).identity.tx_block }

@@ -8,6 +8,7 @@ mod sealing;
 mod tabled;
 mod vectors;
 
+use macs_aes::Key;
 use macs_frame::{
     An, FrameBuf, MAX_FRAME, MIN_FRAME, Offset, OpenFault, Pn, ScName, Sci, SecTag, open_frame,
     seal_frame,
@@ -56,7 +57,7 @@ impl Fields {
 /// What a frame is protected and opened under.
 #[derive(Clone, Copy)]
 struct Security {
-    key: [u8; 16],
+    key: Key,
     sci: u64,
     offset: Offset,
 }
@@ -116,7 +117,7 @@ struct Case {
 impl Case {
     fn security(&self) -> Security {
         Security {
-            key: self.key.to_be_bytes(),
+            key: Key::Short(self.key.to_be_bytes()),
             sci: self.sci,
             offset: self.offset,
         }

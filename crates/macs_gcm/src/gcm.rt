@@ -2,15 +2,16 @@
 
 ghost use Rattle.std.specs.Prelude.{◌≡◌, ◌^◌, ◌<◌, ◌↔◌, ℕ, List, length, IsTrue};
 ghost use Rattle.std.specs.Bool.{OnFalse, OnTrue};
+ghost use Rattle.macs_aes.specs.Keys.{octets_of_key};
 ghost use Rattle.macs_gcm.specs.Gcm.{Opens, ciphertext_of, hash_subkey, pre_counter_block, seal, authentication_tag};
 
 use crate::counter::{gctr, inc32};
-use macs_aes::{Block, Schedule, encrypt_block};
+use macs_aes::{Block, Key, Schedule, encrypt_block};
 use macs_ghash::{Powers, ghash};
 use std::marker::Model;
 
-/// A key of AES-128, prepared for GCM: its round keys and the powers of its hash subkey. In clauses it
-/// is its key, a list of 16 octets.
+/// A key of AES, prepared for GCM: its round keys and the powers of its hash subkey. In clauses it
+/// is its key, a list of 16 octets or of 32.
 #[derive(Drop)]
 pub struct GcmKey {
     schedule: Schedule,
@@ -27,11 +28,11 @@ impl Model for GcmKey {
 }
 
 impl GcmKey {
-    /// Prepares a key of 128 bits, given as 16 octets.
-    pub fn new(key: &[u8; 16]) -> Self
-        ensures { result ≡ key.now }
+    /// Prepares a key of 128 or 256 bits.
+    pub fn new(key: &Key) -> Self
+        ensures { result ≡ octets_of_key key.now }
     {
-        let schedule = Schedule::new(key);
+        let schedule = Schedule::of(key);
         let subkey = u128::from_be_bytes(encrypt_block(&schedule, &[0; 16]));
         GcmKey {
             schedule,

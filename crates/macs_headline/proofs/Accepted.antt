@@ -1,6 +1,8 @@
 -- What it says of a command that it is accepted.
 use Rattle.std.proofs.Common.{◌≡◌, ℕ, Bool, true, false, cond, bytes_eq, List, [], ◌∷◌, ◌++◌, Some, None, Ok, refl, sym, ◌∙◌}
 use Rattle.std.proofs.lemmas.Bool.{false≢true, or_left}
+use Rattle.macs_aes.specs.Keys.{octets_of_key}
+use Rattle.macs_aes.specs.declared.keys.Key.{Key}
 use Rattle.macs_frame.specs.First.{first}
 use Rattle.macs_config.specs.Apply.{apply, config_after, has_wrong_start, is_slot_taken, refusal_of, refusals}
 use Rattle.macs_config.specs.Config.{Config, Edition, is_spent, rx_fingerprint, tx_fingerprint}
@@ -45,15 +47,15 @@ module _ (edition : Edition) (identity : Identity) (c : Config) (command : Comma
   free-slot = tests.1.1.1.1.1.1.1.0
 
 -- the key of an install was not spent on its side
-pub tx-unspent : (edition : Edition) (identity : Identity) (c : Config) (an : ℕ) (key : List ℕ) (start : ℕ) (confidential : Bool) (offset : ℕ)
-    → refusal_of edition identity c (TxInstall an key start confidential offset) ≡ None → ¬ (is_spent c.spent_tx (tx_fingerprint key) ≡ true)
+pub tx-unspent : (edition : Edition) (identity : Identity) (c : Config) (an : ℕ) (key : Key) (start : ℕ) (confidential : Bool) (offset : ℕ)
+    → refusal_of edition identity c (TxInstall an key start confidential offset) ≡ None → ¬ (is_spent c.spent_tx (tx_fingerprint (octets_of_key key)) ≡ true)
 tx-unspent edition identity c an key start confidential offset is here =
     let none : NoTest (refusals edition identity c (TxInstall an key start confidential offset)) =
     no-test (refusals edition identity c (TxInstall an key start confidential offset)) is in
     false≢true (sym none.1.1.1.1.1.1.1.1.1.1.0 ∙ here)
 
-pub rx-unspent : (edition : Edition) (identity : Identity) (c : Config) (sci : List ℕ) (an : ℕ) (key : List ℕ) (start offset : ℕ)
-    → refusal_of edition identity c (RxInstall sci an key start offset) ≡ None → ¬ (is_spent c.spent_rx (rx_fingerprint sci key) ≡ true)
+pub rx-unspent : (edition : Edition) (identity : Identity) (c : Config) (sci : List ℕ) (an : ℕ) (key : Key) (start offset : ℕ)
+    → refusal_of edition identity c (RxInstall sci an key start offset) ≡ None → ¬ (is_spent c.spent_rx (rx_fingerprint sci (octets_of_key key)) ≡ true)
 rx-unspent edition identity c sci an key start offset is here =
     let none : NoTest (refusals edition identity c (RxInstall sci an key start offset)) =
     no-test (refusals edition identity c (RxInstall sci an key start offset)) is in

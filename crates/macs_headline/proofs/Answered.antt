@@ -37,13 +37,13 @@ steps_on old (first ∷ exchanges) mid e new steps step = (steps.0, steps.1, ste
 
 module _ (sectors : ℕ) (past : Past) (edition : Edition) (image : Image) where
   -- one call more
-  pub life-on : (exchanges : List Exchange) (old : State) (e : Exchange) (new : State) → IsLifeSoFar sectors past edition image exchanges old → IsInRange edition e.call
+  pub life-on : (exchanges : List Exchange) (old : State) (e : Exchange) (new : State) → IsLifeSoFar sectors past edition image exchanges old → IsInRange e.call
       → Step old e.call e.reply new → IsLifeSoFar sectors past edition image (exchanges ++ e ∷ []) new
   life-on exchanges old e new life in_range step = record {
     fits = life.fits;
     found = life.found;
     is_found = life.is_found;
-    in_range = all-on (λ (e : Exchange). IsInRange edition e.call) exchanges e life.in_range in_range;
+    in_range = all-on (λ (e : Exchange). IsInRange e.call) exchanges e life.in_range in_range;
     steps = steps_on (opened_state life.found (logs_of past)) exchanges old e new life.steps step;
   }
 
@@ -84,7 +84,7 @@ module _ (sectors : ℕ) (lives : List Life) (x : Exchange) where
   module _ (before : List Life) (past : Past) (history : IsHistory sectors before past) (edition : Edition) (image : Image) (cut : Option Call)
       (later : List Life) where
     by_steps : (done : List Exchange) (old : State) → IsLifeSoFar sectors past edition image done old → (exchanges : List Exchange) (new : State)
-        → Steps old exchanges new → AllByRecursion (λ (e : Exchange). IsInRange edition e.call) exchanges
+        → Steps old exchanges new → AllByRecursion (λ (e : Exchange). IsInRange e.call) exchanges
         → before ++ Serves edition image (done ++ exchanges) cut ∷ later ≡ lives → Contains exchanges x → WasAnswered sectors lives x new.logs
     by_steps done old life [] new steps in_range there among = absurd (contains-none _ among)
     by_steps done old life (e ∷ exchanges) new steps in_range there among = elim (contains-cases e exchanges x among) [

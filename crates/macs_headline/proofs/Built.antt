@@ -66,15 +66,15 @@ module _ (image : Image) (area : ℕ) (head : Head) (records : List Record) wher
       ∙ put-other image (head_body area) i (head_sector_of head) apart
 
   -- and those that are
-  area_head : image_with_area image area head records (head_body area) ≡ head_sector_of head
+  pub area-head : image_with_area image area head records (head_body area) ≡ head_sector_of head
   unfolding image_with_area
-  area_head =
+  area-head =
       bodies_other records (put_sector image (head_body area) (head_sector_of head)) area 0 (head_body area) (λ j le lt. omega arith)
       ∙ put-same image (head_body area) (head_body area) (head_sector_of head) refl
 
-  area_body : (j : ℕ) (r : Record) → slice_get records j ≡ Some r → image_with_area image area head records (slot_body area j) ≡ sector_of r
+  pub area-body : (j : ℕ) (r : Record) → slice_get records j ≡ Some r → image_with_area image area head records (slot_body area j) ≡ sector_of r
   unfolding image_with_area
-  area_body j r is =
+  area-body j r is =
       let there : slot_body area j ≡ slot_body area (0 + j) = omega arith in
       let written = put_sector image (head_body area) (head_sector_of head) in
       ap (image_with_bodies written area 0 records) there ∙ bodies_at records written area 0 j r is
@@ -109,7 +109,7 @@ opened-found image area head records is_area is_head count few are closed past =
     area = is_area;
     head = record {
       open_gate = opened_gate image area head records;
-      is = record { range = is_head; octets = sym (opened_but_gate image area head records (head_body area) (omega arith) ∙ area_head image area head records) };
+      is = record { range = is_head; octets = sym (opened_but_gate image area head records (head_body area) (omega arith) ∙ area-head image area head records) };
     };
     snapshot = omega (arith, count);
     few = few;
@@ -118,7 +118,7 @@ opened-found image area head records is_area is_head count few are closed past =
         (opened-other image area head records (gate area (j + 1)) (omega arith) (omega arith) (λ k lt. omega arith)) opens);
     bodies = λ j r is. record {
       range = each_get records j r are is;
-      octets = sym (opened_but_gate image area head records (slot_body area j) (omega arith) ∙ area_body image area head records j r is);
+      octets = sym (opened_but_gate image area head records (slot_body area j) (omega arith) ∙ area-body image area head records j r is);
     };
   };
   past = past;
@@ -126,9 +126,9 @@ opened-found image area head records is_area is_head count few are closed past =
 
 -- ---- records appended
 
-record_found : (image : Image) (c : Content) (r : Record) → length c.records < slots → IsRecord r → HasJournal image c
+pub record-found : (image : Image) (c : Content) (r : Record) → length c.records < slots → IsRecord r → HasJournal image c
     → HasJournal (image_with_record image c r) (content_with_record c r)
-record_found image c r room range finds =
+record-found image c r room range finds =
     let mid = image_with_next_body image c r in
     finds-more mid (image_with_record image c r) c r room
     (λ i apart. put-other mid (free_gate c) i open_gate apart)
@@ -144,7 +144,7 @@ records-found [] image c room are finds =
 records-found (r ∷ rs) image c room are finds =
     let size : length (c.records ++ r ∷ []) ≡ length c.records + 1 = length_push c.records r in
     let more = image_with_record image c r in
-    let found = records-found rs more (content_with_record c r) (omega (arith, size, room)) are.1 (record_found image c r (omega (arith, room)) are.0 finds) in
+    let found = records-found rs more (content_with_record c r) (omega (arith, size, room)) are.1 (record-found image c r (omega (arith, room)) are.0 finds) in
     subst (λ (records : List Record). HasJournal (image_with_records more (content_with_record c r) rs) (record c { records = records }))
     (append_assoc c.records (r ∷ []) rs) found
 

@@ -1,11 +1,10 @@
 -- What a power loss inside a call leaves: the state before it, with its command in hand where work on it may have begun.
-use Rattle.std.proofs.lemmas.Bool.{cases_lt}
-use Rattle.std.proofs.Common.{◌≡◌, ◌≤◌, ◌+◌, le_refl, ◌⊎◌, ◌&&◌, inl, inr, ℕ, Bool, true, false, cond, not, List, [], ◌∷◌, Option, Some, None, Result, Ok, Err, is_ok, refl, sym, ◌∙◌, ap, subst, arith}
+use Rattle.std.proofs.Common.{◌≡◌, ◌⊎◌, ◌&&◌, inl, inr, ℕ, Bool, true, false, cond, not, List, [], ◌∷◌, Option, Some, None, Result, Ok, Err, is_ok, refl, sym, ◌∙◌, ap, subst, arith}
 use Rattle.macs_config.specs.Apply.{apply}
 use Rattle.macs_config.specs.Config.{Config, Edition, this_edition}
 use Rattle.macs_config.specs.declared.command.Command.{Command}
 use Rattle.macs_disk.specs.Disk.{Disk, IsHonest, LeftSince}
-use Rattle.macs_disk.specs.States.{DiskState, Image, IsImage}
+use Rattle.macs_disk.specs.States.{Image, IsImage}
 use Rattle.macs_store.specs.Value as store
 use Rattle.macs_endpoint.specs.declared.fault.CommandFault.{CommandFault}
 use Rattle.macs_endpoint.specs.declared.fault.CommandFault.TheVariants as ran
@@ -14,11 +13,9 @@ use Rattle.macs_endpoint.specs.declared.fault.RefillFault.TheVariants as refill
 use Rattle.macs_endpoint.specs.declared.fault.StepFault.{StepFault}
 use Rattle.macs_endpoint.specs.declared.fault.StepFault.TheVariants as advance
 use Rattle.macs_endpoint.specs.declared.progress.Step.{Step as Progress}
-use Rattle.macs_endpoint.specs.declared.progress.Step.TheVariants.{Done, Idle, Reserved, Worked}
+use Rattle.macs_endpoint.specs.declared.progress.Step.TheVariants.{Done, Worked}
 use Rattle.macs_endpoint.specs.declared.queue.Waiting.{Waiting}
-use Rattle.macs_endpoint.specs.Advancing.{ClockAfter, GoesOn}
 use Rattle.macs_endpoint.specs.Calls.{IsCall}
-use Rattle.macs_endpoint.specs.Ceilings.{Raise}
 use Rattle.macs_endpoint.specs.Limits.{IsStill}
 use Rattle.macs_endpoint.specs.Queue.{first_command}
 use Rattle.macs_endpoint.specs.Restart.{Fits, Resumes, opened_state, state_during, state_taking, state_taking_alone, state_taking_first}
@@ -28,7 +25,7 @@ use Rattle.macs_endpoint.specs.Value.{EndpointValue, IsAtRest, IsBacked, IsKeepi
 
 -- ---- what is in hand
 
-none_in_hand : (c : Command) → ◌≡◌ {A = Option Command} None (Some c) → ⊥
+pub none_in_hand : (c : Command) → ◌≡◌ {A = Option Command} None (Some c) → ⊥
 none_in_hand c is = cc
 
 -- while the endpoint runs, a command is in hand only where it is the first that waits
@@ -170,7 +167,7 @@ module _ (edition : Edition) (sectors : ℕ) (image : Image) where
   during_held s c hand fits = subst (λ (h : Option Command). FitsHere (state_taking_first s h s.waiting)) (sym hand) fits
 
   -- whether it is stopped is forgotten
-  fits_running : (s : State) → FitsHere (state_after_fault s) → FitsHere s
+  pub fits_running : (s : State) → FitsHere (state_after_fault s) → FitsHere s
   fits_running s fits = record {
     found = fits.found;
     is_found = fits.is_found;
@@ -361,83 +358,3 @@ module _ {D : Type 0} (disk_of : D → Disk) (last after : EndpointValue D) (log
       let step = is.behaves.step logs in
       let same = receives_still last after logs step.0 frame reply step.1 is.behaves.still in
       backed.fits logs image (still_left (disk_in disk_of last) (disk_in disk_of after) image (ap (λ (s : store.StoreValue D). store.disk_in disk_of s) (sym same)) left)
-
--- ---- a step while a ceiling is being raised
-
-no_raise : (raise : Raise) → ◌≡◌ {A = Option Raise} None (Some raise) → ⊥
-no_raise raise is = cc
-
-pub raising : {D : Type 0} (e : EndpointValue D) (raise : Raise) → e.reserving ≡ Some raise → IsAtRest e ⊎ (IsReserving e ⊎ IsKeeping e) → IsReserving e
-raising e raise is (inl at) = absurd (no_raise raise (sym at.reserving ∙ is))
-raising e raise is (inr (inl at)) = at
-raising e raise is (inr (inr at)) = absurd (no_raise raise (sym at.reserving ∙ is))
-
--- it takes no command in hand
-takes_none : {D : Type 0} (old new : EndpointValue D) (logs : Logs) (mid : State) → IsReserving old → new.in_hand ≡ old.in_hand → TakesUp (state_of old logs) mid
-    → mid.in_hand ≡ new.in_hand → ⊥
-takes_none old new logs mid at goes (first, rest, waiting, idle, accepts, is) same =
-    none_in_hand first.command (sym at.in_hand ∙ sym goes ∙ sym same ∙ ap (λ (s : State). s.in_hand) is)
-
--- the state is as before, or stopped
-raised_state : {D : Type 0} (old new : EndpointValue D) (logs later : Logs) (result : Result Progress StepFault) → IsReserving old → GoesOn old result new
-    → AdvanceStep (state_of old logs) result (state_of new later) → (state_of new later ≡ state_of old logs) ⊎ (state_of new later ≡ state_after_fault (state_of old logs))
-raised_state old new logs later (Ok Idle) at goes step = absurd goes
-raised_state old new logs later (Ok Worked) at goes (inl same) = inl same
-raised_state old new logs later (Ok Worked) at goes (inr takes) = absurd (takes_none old new logs (state_of new later) at goes.1 takes refl)
-raised_state old new logs later (Ok Reserved) at goes step = inl step
-raised_state old new logs later (Ok (Done ticket (Ok done))) at goes step = absurd (none_in_hand goes.0.0 (sym at.in_hand ∙ goes.0.1))
-raised_state old new logs later (Ok (Done ticket (Err fault))) at goes step = absurd goes
-raised_state old new logs later (Err advance.Disk) at goes (inl same) = inr same
-raised_state old new logs later (Err advance.Disk) at goes (inr (mid, takes, is)) =
-    absurd (takes_none old new logs mid at goes takes (ap (λ (s : State). s.in_hand) (sym is)))
-raised_state old new logs later (Err fault) at goes step = absurd goes
-
--- a step makes one device call at most
-one_call : (old : ℕ) (result : Result Progress StepFault) (new : ℕ) → ClockAfter old result new → new ≤ old + 1
-one_call old (Ok Idle) new one = one
-one_call old (Ok Worked) new one = omega (arith, one)
-one_call old (Ok Reserved) new one = omega (arith, one)
-one_call old (Ok (Done ticket (Ok done))) new one = omega (arith, one)
-one_call old (Ok (Done ticket (Err fault))) new one = one
-one_call old (Err fault) new one = one
-
-module _ {D : Type 0} (disk_of : D → Disk) (last after : EndpointValue D) (logs : Logs) (at : IsReserving last) (honest : IsHonest (disk_in disk_of last))
-    (backed : IsBacked disk_of last) (image : Image) where
-  left_raising : (result : Result Progress StepFault) → IsCall disk_of last Advances (Advanced result) after → (later : Logs)
-      → AdvanceStep (state_of last logs) result (state_of after later) → LeftSince (disk_in disk_of after) (disk_in disk_of last).clock image
-      → Fits this_edition (disk_in disk_of last).sectors image (state_of last logs)
-  left_raising result is later step (k, from, to, left) =
-      let old = disk_in disk_of last in
-      let new = disk_in disk_of after in
-      let does = is.behaves.advances at.running in
-      let most : new.clock ≤ old.clock + 1 = one_call old.clock result new.clock does.one in
-      elim (cases_lt old.clock k) [
-        | inr early ↦
-            let same : k ≡ old.clock = omega (arith, from, early) in
-            backed.fits logs image (subst (λ (s : DiskState). IsImage s image) (is.device.works.past old.clock (le_refl old.clock))
-            (subst (λ (k : ℕ). IsImage (new.past k) image) same left))
-        | inl late ↦
-            let same : k ≡ new.clock = omega (arith, late, to, most) in
-            let fits = (is.survives (is.device.works.honest ∙ honest) backed).backed.fits later image (subst (λ (k : ℕ). IsImage (new.past k) image) same left) in
-            let here = subst (λ (n : ℕ). Fits this_edition n image (state_of after later)) is.device.works.sectors fits in
-            elim (raised_state last after logs later result at (does.goes_on at.busy) step) [
-              | inl stays ↦ subst (Fits this_edition old.sectors image) stays here
-              | inr stopped ↦ fits_running this_edition old.sectors image (state_of last logs) (subst (Fits this_edition old.sectors image) stopped here)
-            ]
-      ]
-
-  -- what a power loss at some moment of such a step leaves
-  pub cut-raising : (reply : Reply) → IsCall disk_of last Advances reply after → LeftSince (disk_in disk_of after) (disk_in disk_of last).clock image
-      → Fits this_edition (disk_in disk_of last).sectors image (state_of last logs)
-  cut-raising (Advanced result) is left =
-      let step = is.behaves.step logs in
-      elim step.1 [
-        | inl stopped ↦ let both : true ≡ false = sym stopped.0 ∙ at.running in absurd (cc)
-        | inr ran ↦ left_raising result is step.0 ran.1 left
-      ]
-  cut-raising reply is left =
-      let step = is.behaves.step logs in
-      elim step.1 [
-        | inl stopped ↦ let both : true ≡ false = sym stopped.0 ∙ at.running in absurd (cc)
-        | inr ran ↦ absurd ran.1
-      ]

@@ -3,15 +3,17 @@ use Rattle.std.proofs.Common.{◌≡◌, ◌==◌, inl, inr, ℕ, Bool, true, fa
 use Rattle.std.specs.Prelude.{Option, Some, None}
 use Rattle.std.specs.Option.{option_map}
 use Rattle.macs_config.specs.Config.{this_edition}
+use Rattle.macs_disk.specs.States.{Image}
+use Rattle.macs_journal.specs.Appending.{HasEitherJournal}
 use Rattle.macs_rxsc.specs.Receive.{Numbers, first_numbers, numbers_after_delivery, numbers_under_window}
 use Rattle.macs_store.specs.Standing.{no_ceilings}
 use Rattle.macs_endpoint.specs.Restart.{Fits, RxRises, TxRises}
-use Rattle.macs_headline.specs.Example.{example_identity, example_sectors, peer_sci, widen}
-use Rattle.macs_headline.specs.ExampleDisk.{cut_image, last_image, new_image, served_image}
-use Rattle.macs_headline.specs.ExampleStanding.{full_standing, last_standing, served_config}
+use Rattle.macs_headline.specs.Example.{check_only, example_identity, example_sectors, peer_sci, widen}
+use Rattle.macs_headline.specs.ExampleDisk.{cut_image, ended_content, last_content, last_image, new_image, served_image}
+use Rattle.macs_headline.specs.ExampleStanding.{checked_standing, full_standing, last_standing, served_config}
 use Rattle.macs_headline.specs.History.{formatted_state}
-use Rattle.macs_headline.proofs.ExampleImages.{cut-is, last-is, new-is, served-is, served-is-config, served_standing}
-use Rattle.macs_headline.proofs.ExampleStates.{after_hold, before_frame, first_end, first_followed, last_state, s0, s11, s12, second_end, t0, third_end, u0}
+use Rattle.macs_headline.proofs.ExampleImages.{checked-is, cut-is, last-found, last-is, new-is, served-is, served_standing}
+use Rattle.macs_headline.proofs.ExampleStates.{after_delay, after_delivery, after_hold, before_frame, first_end, first_followed, fourth_end, fourth_followed, s0, s12, s13, s14, second_end, t0, t2, third_end, u0, v0}
 use Rattle.macs_headline.proofs.Formats.{new-fits}
 use Rattle.macs_headline.proofs.Places.{cases_place, put_rx, put_rx-that}
 
@@ -63,8 +65,8 @@ fits-served = record {
       next = λ an. tx_first (an == 0);
       numbers = rx_all first_followed.numbers t0.numbers (9, refl, omega arith, omega arith) (λ sci an apart. (
         ap (option_map (numbers_under_window 3))
-            (away s12.numbers (Some (numbers_after_delivery 0 after_hold 5)) sci an apart ∙ away s11.numbers (Some after_hold) sci an apart
-            ∙ away s0.numbers (Some before_frame) sci an apart),
+            (away s14.numbers (Some (numbers_after_delivery 1 after_delivery 5)) sci an apart ∙ away s13.numbers (Some after_delivery) sci an apart
+            ∙ away s12.numbers (Some after_hold) sci an apart ∙ ap (option_map (numbers_under_window 1)) (away s0.numbers (Some before_frame) sci an apart)),
         ap (option_map first_numbers) (away (put_rx no_ceilings.rx peer_sci 0 (Some 1)) (Some 9) sci an apart ∙ away no_ceilings.rx (Some 1) sci an apart),
       ));
       logs = refl;
@@ -93,7 +95,9 @@ fits-cut = record {
     config = refl;
     next = λ an. tx_second (an == 0);
     numbers = rx_all second_end.numbers u0.numbers (9, refl, omega arith, omega arith) (λ sci an apart. (
-      ap (option_map first_numbers) (away (put_rx no_ceilings.rx peer_sci 0 (Some 1)) (Some 9) sci an apart ∙ away no_ceilings.rx (Some 1) sci an apart),
+      ap (option_map (numbers_under_window 3))
+          (away t2.numbers (Some after_delay) sci an apart ∙ ap (option_map (numbers_under_window 3)) (ap (option_map first_numbers)
+          (away (put_rx no_ceilings.rx peer_sci 0 (Some 1)) (Some 9) sci an apart ∙ away no_ceilings.rx (Some 1) sci an apart))),
       ap (option_map first_numbers) (away no_ceilings.rx (Some 9) sci an apart),
     ));
     logs = refl;
@@ -114,13 +118,13 @@ tx_third false = refl
 pub fits-last : Fits this_edition example_sectors last_image third_end
 fits-last = record {
   found = last_standing this_edition;
-  is_found = last-is this_edition served-is-config;
+  is_found = last-is last_image last-found;
   restart = inl (record {
     edition = record { channels = omega arith; long_keys = λ is. is };
     identity = refl;
     config = refl;
     next = λ an. tx_third (an == 0);
-    numbers = rx_all third_end.numbers last_state.numbers refl (λ sci an apart. (
+    numbers = rx_all third_end.numbers v0.numbers refl (λ sci an apart. (
       away u0.numbers None sci an apart ∙ ap (option_map first_numbers) (away no_ceilings.rx (Some 9) sci an apart),
       refl,
     ));
@@ -130,4 +134,51 @@ fits-last = record {
     waiting = refl;
     tickets = refl;
   });
+}
+
+-- ---- after the fourth life
+
+tx_fourth : (own : Bool) → TxRises 4 (cond own (Some 17) None) (cond own (Some 17) None)
+tx_fourth true = (17, refl, omega arith, omega arith, omega arith)
+tx_fourth false = refl
+
+-- whether its gate counts or not
+pub fits-killed : (image : Image) → HasEitherJournal last_content ended_content image → Fits this_edition example_sectors image fourth_end
+fits-killed image (inl found) = record {
+  found = last_standing this_edition;
+  is_found = last-is image found;
+  restart = inl (record {
+    edition = record { channels = omega arith; long_keys = λ is. is };
+    identity = refl;
+    config = refl;
+    next = λ an. tx_fourth (an == 0);
+    numbers = λ sci an. refl;
+    logs = refl;
+    running = refl;
+    idle = refl;
+    waiting = refl;
+    tickets = refl;
+  });
+}
+fits-killed image (inr found) = record {
+  found = checked_standing this_edition;
+  is_found = checked-is image found;
+  restart = inr (
+    check_only,
+    fourth_followed,
+    refl,
+    ((checked_standing this_edition).config, refl, refl),
+    record {
+      edition = record { channels = omega arith; long_keys = λ is. is };
+      identity = refl;
+      config = refl;
+      next = λ an. tx_fourth (an == 0);
+      numbers = λ sci an. refl;
+      logs = refl;
+      running = refl;
+      idle = refl;
+      waiting = refl;
+      tickets = refl;
+    },
+  );
 }

@@ -1,5 +1,5 @@
 -- The peer's frame in the example: it is read, it verifies, and it is late or arrives.
-use Rattle.std.proofs.Common.{◌≡◌, ◌≤◌, ◌<◌, ℕ, List, [], ◌∷◌, length, true, Some, refl, sym, ◌∙◌, ap, subst, arith}
+use Rattle.std.proofs.Common.{◌≡◌, ◌<◌, ℕ, List, [], ◌∷◌, length, true, Some, refl, sym, ◌∙◌, ap, subst, arith}
 use Rattle.std.specs.Option.{option_and_then}
 use Rattle.macs_frame.specs.First.{IsFirst}
 use Rattle.macs_frame.specs.Opening.{Verified}
@@ -40,12 +40,12 @@ module _ (side : RxSide) (numbers : Numbers) (channels : side.channels ≡ peer_
   its_numbers : side.numbers peer_sci (tag_of (peer_frame 5)).an ≡ Some numbers
   its_numbers = ap (λ (tag : SecTag). side.numbers peer_sci tag.an) (sym tag_is) ∙ numbers_are
 
-  pub peer-arrives : numbers.lowest ≤ 5 → Arrives side (peer_frame 5) (arrival numbers)
+  pub peer-arrives : (side.replay.on ≡ true → 5 < numbers.lowest → ⊥) → Arrives side (peer_frame 5) (arrival numbers)
   peer-arrives in_time =
       subst (λ (tag : SecTag). Arrives side (peer_frame 5)
       (record { sci = peer_sci; an = tag.an; pn = tag.pn; sa = peer_sa; numbers = numbers; plain = example_plain })) (sym tag_is)
       (arrives side (peer_frame 5) (written_parts (peer_tag 5) (length example_plain)) frame_read peer_sci channel_is peer_sa numbers association_is its_numbers
-      (λ on late. let low : 5 < numbers.lowest = subst (λ (tag : SecTag). tag.pn < numbers.lowest) (sym tag_is) late in omega (arith, low, in_time))
+      (λ on late. in_time on (subst (λ (tag : SecTag). tag.pn < numbers.lowest) (sym tag_is) late))
       example_plain frame_verified)
 
   pub peer-late : side.replay.on ≡ true → 5 < numbers.lowest → IsFirst (RxStepHolds side (peer_frame 5)) rx_steps BelowLowest

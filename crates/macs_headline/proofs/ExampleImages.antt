@@ -1,5 +1,5 @@
 -- What the images of the example stand for.
-use Rattle.std.proofs.Common.{◌≡◌, ◌≤◌, ◌+◌, ◌==◌, ℕ, Bool, true, false, cond, List, [], ◌∷◌, length, take, min, replicate, bytes_eq, Option, Some, None, is_some, Ok, Err, refl, sym, ◌∙◌, ap, subst, arith, length-take}
+use Rattle.std.proofs.Common.{◌≡◌, ◌≤◌, ◌+◌, ◌==◌, ℕ, Bool, true, false, cond, List, [], ◌∷◌, ◌++◌, length, take, min, replicate, bytes_eq, Option, Some, None, is_some, Ok, Err, refl, sym, ◌∙◌, ap, subst, arith, length-take}
 use Rattle.std.specs.List.{AllByRecursion}
 use Rattle.std.proofs.Math.Path.{fun_ext}
 use Rattle.std.proofs.lemmas.List.{length-replicate}
@@ -11,12 +11,15 @@ use Rattle.macs_config.specs.declared.command.Role.{Role}
 use Rattle.macs_config.specs.declared.command.Role.TheVariants.{Receive, Transmit}
 use Rattle.macs_config.proofs.Kept.{apply-keeps}
 use Rattle.macs_config.proofs.Tables.{put-same, put_at-same, put_at-twice}
-use Rattle.macs_disk.specs.States.{zero_sector}
+use Rattle.macs_disk.proofs.Images.{put-other}
+use Rattle.macs_disk.specs.States.{Image, zero_sector}
+use Rattle.macs_record.specs.Gates.{open_gate}
 use Rattle.macs_record.specs.Heads.{IsHead}
-use Rattle.macs_record.specs.Layout.{IsRecord}
+use Rattle.macs_record.specs.Layout.{IsRecord, sector_of}
 use Rattle.macs_record.specs.Settings.{default_settings}
 use Rattle.macs_record.specs.declared.record.Record.{Record}
 use Rattle.macs_record.specs.declared.record.Record.TheVariants as kept
+use Rattle.macs_journal.specs.Appending.{free_body, free_gate}
 use Rattle.macs_journal.specs.Areas.{gate, slots}
 use Rattle.macs_journal.specs.Compacting.{next_head}
 use Rattle.macs_journal.specs.Formatting.{first_head}
@@ -27,13 +30,13 @@ use Rattle.macs_store.specs.Replay.{meaning_of, snapshot_of}
 use Rattle.macs_store.specs.Snapshot.{snapshot}
 use Rattle.macs_store.specs.Standing.{IsStanding, Standing, ceilings_with_rx, ceilings_with_tx, new_standing, no_ceilings}
 use Rattle.macs_store.proofs.Snapshots.{snapshot-stands}
-use Rattle.macs_headline.specs.Example.{add_peer, example_identity, example_sectors, install_own, install_peer, later_edition, own_sa, peer_sa, peer_sci, remove_peer, use_own, widen}
-use Rattle.macs_headline.specs.ExampleDisk.{anew_content, anew_image, cut_image, first_records, full_content, full_image, full_snapshot, last_content, last_image, new_content, new_image, second_records, served_content, served_image, third_records}
-use Rattle.macs_headline.specs.ExampleStanding.{full_standing, last_standing, served_config}
-use Rattle.macs_headline.specs.Images.{blank_image, image_while_formatted}
-use Rattle.macs_headline.proofs.Built.{area-other, closed-gate, opened-found, opened-other, records-found, records-other}
+use Rattle.macs_headline.specs.Example.{add_peer, example_identity, example_sectors, install_own, install_peer, later_edition, narrow, own_sa, peer_sa, peer_sci, remove_peer, use_own, widen}
+use Rattle.macs_headline.specs.ExampleDisk.{anew_content, anew_image, checked, cut_image, ended_content, ended_image, narrow_content, narrow_image, first_records, full_content, full_image, full_snapshot, last_content, last_image, new_content, new_image, second_records, served_content, served_image, third_records, widened}
+use Rattle.macs_headline.specs.ExampleStanding.{checked_standing, full_standing, last_standing, served_config}
+use Rattle.macs_headline.specs.Images.{blank_image, image_while_formatted, image_with_next_body}
+use Rattle.macs_headline.proofs.Built.{area-other, closed-gate, opened-found, opened-other, record-found, records-found, records-other}
 use Rattle.macs_headline.proofs.BuiltAnew.{anew-found, meaning-anew, meaning-more, same-again, written-found}
-use Rattle.macs_headline.proofs.ExampleRecords.{first-ranges, head-range, second-ranges, snapshot-is, snapshot-ranges, third-ranges}
+use Rattle.macs_headline.proofs.ExampleRecords.{first-ranges, head-range, second-ranges, snapshot-is, snapshot-ranges, third-ranges, widened-range}
 use Rattle.macs_headline.proofs.Places.{put-that, put_rx, put_rx-that}
 
 -- ---- formatted
@@ -62,8 +65,11 @@ new-is = (omega arith, record { content = new_content; found = new_found; stands
 
 -- ---- after the first life
 
+pub narrow-found : HasJournal narrow_image narrow_content
+narrow-found = records-found first_records new_image new_content (omega arith) first-ranges new_found
+
 served_found : HasJournal served_image served_content
-served_found = records-found first_records new_image new_content (omega arith) first-ranges new_found
+served_found = record-found narrow_image narrow_content widened (omega arith) widened-range narrow-found
 
 -- as the records leave it, ceiling upon ceiling
 abbrev pub served_standing : Standing
@@ -82,18 +88,20 @@ served-is = (omega arith, record { content = served_content; found = served_foun
 
 -- ---- with a full area
 
-repeated : length (replicate 247 (kept.SetValidate served_config.validate)) ≡ 247
-repeated = length-replicate 247 (kept.SetValidate served_config.validate)
+repeated : length (replicate 244 (kept.SetValidate served_config.validate)) ≡ 244
+repeated = length-replicate 244 (kept.SetValidate served_config.validate)
 
-full_found : HasJournal full_image full_content
-full_found = records-found second_records served_image served_content (omega (arith, repeated)) second-ranges served_found
+pub full-found : HasJournal full_image full_content
+full-found = records-found second_records served_image served_content (omega (arith, repeated)) second-ranges served_found
 
 pub full-slots : length full_content.records ≡ slots
 full-slots = refl
 
-far_full : (i : ℕ) → 514 ≤ i → full_image i ≡ zero_sector
-far_full i far =
+pub far-full : (i : ℕ) → 514 ≤ i → full_image i ≡ zero_sector
+far-full i far =
     records-other second_records served_image served_content i (omega (arith, repeated)) far
+    ∙ put-other (image_with_next_body narrow_image narrow_content widened) (free_gate narrow_content) i open_gate (omega (arith, far))
+    ∙ put-other narrow_image (free_body narrow_content) i (sector_of widened) (omega (arith, far))
     ∙ records-other first_records new_image new_content i (omega arith) far ∙ far_new i far
 
 -- one ceiling in the place of two
@@ -127,18 +135,18 @@ raised_is = λ i. record {
 full_meaning : meaning_of this_edition full_content ≡ Some full_standing
 full_meaning =
     meaning-more this_edition second_records served_content served_standing full_standing (omega arith) served_meaning
-    (same-again 247 (kept.SetValidate served_config.validate) raised_standing refl ∙ ap Some raised_is)
+    (same-again 244 (kept.SetValidate served_config.validate) raised_standing refl ∙ ap Some raised_is)
 
 -- ---- while the journal begins anew
 
-snapshot_size : length full_snapshot ≡ 6
-snapshot_size = ap length snapshot-is
+pub snapshot-size : length full_snapshot ≡ 6
+snapshot-size = ap length snapshot-is
 
 cut_found : (count : ℕ) → HasJournal (cut_image count) full_content
 cut_found count =
     let size : length (take count full_snapshot) ≡ min count (length full_snapshot) = length-take count full_snapshot in
-    written-found full_image full_content full_found 1 refl (next_head full_content.head (length full_snapshot)) (take count full_snapshot)
-    (omega (arith, size, snapshot_size)) (closed-gate full_image 1 0 (far_full (gate 1 0) (omega arith)))
+    written-found full_image full_content full-found 1 refl (next_head full_content.head (length full_snapshot)) (take count full_snapshot)
+    (omega (arith, size, snapshot-size)) (closed-gate full_image 1 0 (far-full (gate 1 0) (omega arith)))
 
 pub cut-stands : (count : ℕ) → StandsFor this_edition (cut_image count) full_standing
 cut-stands count = record { content = full_content; found = cut_found count; stands = full_meaning }
@@ -150,14 +158,14 @@ cut_gates : (k : ℕ) → k ≤ slots → ¬ IsGateOpen (cut_image 2) 1 k
 cut_gates k le =
     closed-gate (cut_image 2) 1 k
     (area-other full_image 1 (next_head full_content.head (length full_snapshot)) (take 2 full_snapshot) (gate 1 k) (omega arith) (λ j lt. omega arith)
-    ∙ far_full (gate 1 k) (omega arith))
+    ∙ far-full (gate 1 k) (omega arith))
 
 anew_head : IsHead (next_head full_content.head (length full_snapshot))
 anew_head = record {
   generation = omega arith;
   generations = omega arith;
-  some = omega (arith, snapshot_size);
-  few = omega (arith, snapshot_size);
+  some = omega (arith, snapshot-size);
+  few = omega (arith, snapshot-size);
   sci = head-range.sci;
   tx_block = head-range.tx_block;
   rx_block = head-range.rx_block;
@@ -165,7 +173,7 @@ anew_head = record {
 
 pub new-generation : HasJournal anew_image anew_content
 new-generation =
-    anew-found (cut_image 2) full_content (cut_found 2) 1 refl full_snapshot anew_head (omega (arith, snapshot_size))
+    anew-found (cut_image 2) full_content (cut_found 2) 1 refl full_snapshot anew_head (omega (arith, snapshot-size))
     (subst (AllByRecursion IsRecord) (sym snapshot-is) snapshot-ranges) cut_gates
 
 -- ---- what the snapshot stands for
@@ -186,6 +194,8 @@ default_config = record {
   channels_fit = omega arith;
   own_sci_free = refl;
   rx_channels = λ sci an sa is. absurd (cc);
+  tx_taken = λ an sa is. absurd (cc);
+  rx_taken = λ sci an sa is. absurd (cc);
   tx_spent = λ an sa lt is. absurd (cc);
   rx_spent = λ sci an sa lt is. absurd (cc);
   spent_once = default_once;
@@ -203,8 +213,10 @@ served-is-config =
     let c2 = config_after c1 use_own in
     let c3 = config_after c2 add_peer in
     let c4 = config_after c3 install_peer in
-    next_config c4 served_config widen refl
-    (next_config c3 c4 install_peer refl (next_config c2 c3 add_peer refl (next_config c1 c2 use_own refl (next_config default c1 install_own refl default_config))))
+    let c5 = config_after c4 narrow in
+    next_config c5 served_config widen refl
+    (next_config c4 c5 narrow refl
+    (next_config c3 c4 install_peer refl (next_config c2 c3 add_peer refl (next_config c1 c2 use_own refl (next_config default c1 install_own refl default_config)))))
 
 -- what stood when the area was full, to an edition
 abbrev pub full_to : Edition → Standing
@@ -239,8 +251,14 @@ snapshot_meaning edition is =
 
 -- ---- at last
 
-last_found : HasJournal last_image last_content
-last_found = records-found third_records anew_image anew_content (omega (arith, snapshot_size)) third-ranges new-generation
+pub last-found : HasJournal last_image last_content
+last-found = records-found third_records anew_image anew_content (omega (arith, snapshot-size)) third-ranges new-generation
+
+pub last-size : length last_content.records ≡ 8
+last-size = ap (λ (rs : List Record). length (rs ++ third_records)) snapshot-is
+
+pub ended-found : HasJournal ended_image ended_content
+ended-found = record-found last_image last_content checked (omega (arith, last-size)) tt last-found
 
 -- the ceilings as the records leave them
 abbrev ended_standing : Edition → Standing
@@ -272,5 +290,17 @@ last_meaning edition is =
 pub larger : IsUpTo this_edition later_edition
 larger = record { channels = omega arith; long_keys = λ is. refl }
 
-pub last-is : (edition : Edition) → IsConfig edition example_identity served_config → StandingIs edition example_sectors last_image (Ok (last_standing edition))
-last-is edition is = (omega arith, record { content = last_content; found = last_found; stands = last_meaning edition is })
+-- what images stand for that hold that journal, or the one with a record more
+pub last-is : (image : Image) → HasJournal image last_content → StandingIs this_edition example_sectors image (Ok (last_standing this_edition))
+last-is image found = (omega arith, record { content = last_content; found = found; stands = last_meaning this_edition served-is-config })
+
+pub checked-is : (image : Image) → HasJournal image ended_content → StandingIs this_edition example_sectors image (Ok (checked_standing this_edition))
+checked-is image found = (
+  omega arith,
+  record {
+    content = ended_content;
+    found = found;
+    stands = meaning-more this_edition (checked ∷ []) last_content (last_standing this_edition) (checked_standing this_edition)
+        (let count : last_content.head.count ≡ 6 = snapshot-size in omega (arith, count, last-size)) (last_meaning this_edition served-is-config) refl;
+  },
+)

@@ -1,5 +1,5 @@
 -- The records of the example are in their ranges, and its snapshot has these six.
-use Rattle.std.proofs.Common.{◌≡◌, ◌<◌, ◌^◌, ℕ, zero, suc, List, [], ◌∷◌, replicate, refl, arith}
+use Rattle.std.proofs.Common.{◌≡◌, ◌<◌, ◌^◌, inl, ℕ, zero, suc, List, [], ◌∷◌, replicate, refl, arith}
 use Rattle.std.specs.Prelude.{All, slice_index}
 use Rattle.std.specs.List.{AllByRecursion}
 use Rattle.std.specs.Int.{to_be_bytes, w32}
@@ -17,7 +17,7 @@ use Rattle.macs_record.specs.declared.record.Record.TheVariants as kept
 use Rattle.macs_journal.specs.Formatting.{first_head}
 use Rattle.macs_store.specs.Snapshot.{rx_records, rx_records_of, settings_record, snapshot, spent_records, tx_records}
 use Rattle.macs_headline.specs.Example.{example_identity, own_key, own_sa, own_sci, peer_key, peer_sa, peer_sci}
-use Rattle.macs_headline.specs.ExampleDisk.{first_records, full_snapshot, second_records, third_records}
+use Rattle.macs_headline.specs.ExampleDisk.{first_records, full_snapshot, second_records, third_records, widened}
 use Rattle.macs_headline.specs.ExampleStanding.{served_config}
 use Rattle.macs_headline.proofs.Lists.{each-same}
 
@@ -42,13 +42,13 @@ peer-range = sci-range 7 (omega arith)
 pub key-range : (x : ℕ) → IsOctet x → IsOctets 16 (replicate 16 x)
 key-range x lt = record { size = refl; each = All-replicate IsOctet 16 x lt }
 
-word_range : (x : ℕ) → All IsOctet (to_be_bytes w32 x)
-word_range x = All-from_recursion IsOctet (to_be_bytes w32 x) (omega arith, (omega arith, (omega arith, (omega arith, tt))))
+pub word-range : (x : ℕ) → All IsOctet (to_be_bytes w32 x)
+word-range x = All-from_recursion IsOctet (to_be_bytes w32 x) (omega arith, (omega arith, (omega arith, (omega arith, tt))))
 
 digest_range : (h : List ℕ) (n : ℕ) → All IsOctet (digest_bytes h n)
 unfolding digest_bytes
 digest_range h zero = All-nil IsOctet
-digest_range h (suc n) = All-append IsOctet (digest_bytes h n) (to_be_bytes w32 (slice_index h n)) (digest_range h n) (word_range (slice_index h n))
+digest_range h (suc n) = All-append IsOctet (digest_bytes h n) (to_be_bytes w32 (slice_index h n)) (digest_range h n) (word-range (slice_index h n))
 
 -- a fingerprint has 32 octets
 print_range : (octets : List ℕ) → IsOctets 32 (sha256 octets)
@@ -72,7 +72,7 @@ head-range = record {
 
 pub first-ranges : AllByRecursion IsRecord first_records
 first-ranges = (
-  (omega arith, key-range 1 (omega arith), (omega arith, omega arith)),
+  (omega arith, inl (key-range 1 (omega arith)), (omega arith, omega arith)),
   (
     omega arith,
     (
@@ -80,16 +80,19 @@ first-ranges = (
       (
         peer-range,
         (
-          (peer-range, omega arith, key-range 2 (omega arith), (omega arith, omega arith)),
-          ((peer-range, omega arith, (omega arith, omega arith)), (omega arith, tt)),
+          (peer-range, omega arith, inl (key-range 2 (omega arith)), (omega arith, omega arith)),
+          (omega arith, ((peer-range, omega arith, (omega arith, omega arith)), tt)),
         ),
       ),
     ),
   ),
 )
 
+pub widened-range : IsRecord widened
+widened-range = omega arith
+
 pub second-ranges : AllByRecursion IsRecord second_records
-second-ranges = ((omega arith, (omega arith, omega arith)), each-same IsRecord 247 (kept.SetValidate Strict) tt)
+second-ranges = ((omega arith, (omega arith, omega arith)), (omega arith, (omega arith, each-same IsRecord 244 (kept.SetValidate Strict) tt)))
 
 pub third-ranges : AllByRecursion IsRecord third_records
 third-ranges = ((peer-range, omega arith), ((omega arith, (omega arith, omega arith)), tt))
@@ -115,11 +118,11 @@ pub snapshot-ranges : AllByRecursion IsRecord six_records
 snapshot-ranges = (
   (omega arith, omega arith),
   (
-    (omega arith, key-range 1 (omega arith), (omega arith, omega arith)),
+    (omega arith, inl (key-range 1 (omega arith)), (omega arith, omega arith)),
     (
       peer-range,
       (
-        (peer-range, omega arith, key-range 2 (omega arith), (omega arith, omega arith)),
+        (peer-range, omega arith, inl (key-range 2 (omega arith)), (omega arith, omega arith)),
         (
           (omega arith, omega arith, All-from_recursion (IsOctets 32) (tx_fingerprint own_key ∷ []) (print_range own_key, tt)),
           ((omega arith, omega arith, All-from_recursion (IsOctets 32) (rx_fingerprint peer_sci peer_key ∷ []) (print_range _, tt)), tt),

@@ -4,14 +4,14 @@ use Rattle.macs_config.specs.Apply.{config_after}
 use Rattle.macs_config.specs.Config.{Config, default, this_edition}
 use Rattle.macs_config.specs.declared.command.Command.{Command}
 use Rattle.macs_txsc.specs.Transmit.{Outgoing}
-use Rattle.macs_rxsc.specs.Receive.{Numbers, first_numbers, numbers_after_hold}
+use Rattle.macs_rxsc.specs.Receive.{Numbers, first_numbers, numbers_after_delivery, numbers_after_hold}
 use Rattle.macs_store.specs.Standing.{new_standing}
 use Rattle.macs_endpoint.specs.Restart.{opened_state}
 use Rattle.macs_endpoint.specs.State.{State, no_logs, state_after_fault, state_with_in_hand}
 use Rattle.macs_endpoint.specs.Step.{state_after_command, state_after_delivery, state_after_frame, state_after_hold, state_with_waiting, state_without_first}
 use Rattle.macs_endpoint.specs.declared.queue.Waiting.{Waiting}
-use Rattle.macs_headline.specs.Example.{add_peer, check_only, example_identity, install_own, install_peer, later_edition, own_sa, remove_peer, use_own, widen}
-use Rattle.macs_headline.specs.ExampleStanding.{full_standing, last_standing, served_config}
+use Rattle.macs_headline.specs.Example.{add_peer, check_only, example_identity, install_own, guard, install_peer, later_edition, narrow, own_sa, remove_peer, unguard, use_own, widen}
+use Rattle.macs_headline.specs.ExampleStanding.{checked_standing, full_standing, last_standing, served_config}
 use Rattle.macs_headline.proofs.ExampleFrames.{arrival}
 use Rattle.macs_headline.proofs.ExampleImages.{served_standing}
 
@@ -32,6 +32,9 @@ c3 = config_after c2 add_peer
 
 abbrev pub c4 : Config
 c4 = config_after c3 install_peer
+
+abbrev pub c5 : Config
+c5 = config_after c4 narrow
 
 abbrev pub s0 : State
 s0 = opened_state (new_standing this_edition example_identity) no_logs
@@ -72,31 +75,42 @@ s9 = state_after_frame s8 (outgoing 5)
 abbrev pub s10 : State
 s10 = state_after_command (state_without_first s9 []) add_peer c3
 
+-- the peer's association, and a window of 1
 abbrev pub s11 : State
 s11 = state_after_command s10 install_peer c4
 
--- the numbers of the receive association, before the frame comes and once it is held back
+abbrev pub s12 : State
+s12 = state_after_command s11 narrow c5
+
+-- the numbers of the receive association, before the frame comes, once it is held back, and once it is delivered
 abbrev pub before_frame : Numbers
 before_frame = first_numbers 1
 
 abbrev pub after_hold : Numbers
 after_hold = numbers_after_hold before_frame 5
 
-abbrev pub s12 : State
-s12 = state_after_hold s11 (arrival before_frame)
+abbrev pub after_delivery : Numbers
+after_delivery = numbers_after_delivery 1 after_hold 5
 
 abbrev pub s13 : State
-s13 = state_after_delivery s12 (arrival after_hold)
+s13 = state_after_hold s12 (arrival before_frame)
 
--- the window is to be widened: it waits, and is in hand when the power goes, with a frame between
+-- delivered twice
 abbrev pub s14 : State
-s14 = state_with_waiting s13 widen
+s14 = state_after_delivery s13 (arrival after_hold)
 
 abbrev pub s15 : State
-s15 = state_with_in_hand s14 widen
+s15 = state_after_delivery s14 (arrival after_delivery)
+
+-- the window is to be widened: it waits, and is in hand when the power goes, with a frame between
+abbrev pub s16 : State
+s16 = state_with_waiting s15 widen
+
+abbrev pub s17 : State
+s17 = state_with_in_hand s16 widen
 
 abbrev pub first_end : State
-first_end = state_after_frame s15 (outgoing 6)
+first_end = state_after_frame s17 (outgoing 6)
 
 -- what it is once the command in hand was followed
 abbrev pub first_followed : State
@@ -110,13 +124,33 @@ t0 = opened_state served_standing first_end.logs
 abbrev pub t1 : State
 t1 = state_after_frame t0 (outgoing 9)
 
+-- no replay protection, the peer's frame, and protection again
+abbrev pub unguarded_config : Config
+unguarded_config = config_after served_config unguard
+
+abbrev pub t2 : State
+t2 = state_after_command t1 unguard unguarded_config
+
+-- the numbers of the receive association then
+abbrev pub late_numbers : Numbers
+late_numbers = first_numbers 9
+
+abbrev pub t3 : State
+t3 = state_after_delivery t2 (arrival late_numbers)
+
+abbrev pub after_delay : Numbers
+after_delay = numbers_after_delivery 3 late_numbers 5
+
+abbrev pub t4 : State
+t4 = state_after_command t3 guard (config_after unguarded_config guard)
+
 abbrev pub second_end : State
-second_end = state_with_in_hand t1 remove_peer
+second_end = state_with_in_hand t4 remove_peer
 
 -- ---- the third life
 
 abbrev pub u0 : State
-u0 = opened_state full_standing t1.logs
+u0 = opened_state full_standing t4.logs
 
 abbrev pub u1 : State
 u1 = state_after_command u0 remove_peer (config_after served_config remove_peer)
@@ -127,7 +161,22 @@ u2 = state_after_frame u1 (outgoing 13)
 abbrev pub third_end : State
 third_end = state_after_fault (state_with_in_hand u2 check_only)
 
+-- ---- the fourth life
+
+abbrev pub v0 : State
+v0 = opened_state (last_standing this_edition) u2.logs
+
+abbrev pub v1 : State
+v1 = state_with_waiting v0 check_only
+
+abbrev pub fourth_end : State
+fourth_end = state_with_in_hand v1 check_only
+
+-- what it is once the command in hand was followed
+abbrev pub fourth_followed : State
+fourth_followed = state_after_command fourth_end check_only (checked_standing this_edition).config
+
 -- ---- the last opening
 
 abbrev pub last_state : State
-last_state = opened_state (last_standing later_edition) u2.logs
+last_state = opened_state (checked_standing later_edition) u2.logs

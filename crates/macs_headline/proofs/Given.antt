@@ -2,6 +2,7 @@
 use Rattle.std.proofs.Common.{◌≡◌, ◌≤◌, inl, inr, ℕ, refl, sym, ◌∙◌, ap, subst, arith, List, [], ◌∷◌}
 use Rattle.std.specs.Prelude.{Contains, Option, Some, None}
 use Rattle.std.specs.Option.{option_map}
+use Rattle.macs_aes.specs.Keys.{octets_of_key}
 use Rattle.macs_config.specs.Apply.{config_after, offset_at, offset_or_zero, refusal_of}
 use Rattle.macs_config.specs.Config.{Config, Edition, rx_fingerprint}
 use Rattle.macs_config.specs.Tables.{put_at}
@@ -125,16 +126,17 @@ module _ (edition : Edition) (b : Numbers → ℕ) (is_b : IsBound b) (log : Lis
       ])
       is
   by_command old (RxInstall sci an key start offset) ok is =
-      let sa : RxSa = record { key = key; offset = offset_or_zero (offset_at offset) } in
+      let octets = octets_of_key key in
+      let sa : RxSa = record { key = octets; offset = offset_or_zero (offset_at offset) } in
       ledger-installed print_of (rx_keys old.config.rx) (rx_keys (put_rx old.config.rx sci an (Some sa))) old.config.spent_rx _
-      (rx_bounds b old.numbers) (rx_bounds b (put_rx old.numbers sci an (Some (first_numbers start)))) log (sci, an) (sci, key) start
+      (rx_bounds b old.numbers) (rx_bounds b (put_rx old.numbers sci an (Some (first_numbers start)))) log (sci, an) (sci, octets) start
       (rx-unspent edition old.identity old.config sci an key start offset ok)
-      (λ print here. among-before old.config.spent_rx (rx_fingerprint sci key ∷ []) print here)
-      (spent-pushed old.config.spent_rx (rx_fingerprint sci key))
+      (λ print here. among-before old.config.spent_rx (rx_fingerprint sci octets ∷ []) print here)
+      (spent-pushed old.config.spent_rx (rx_fingerprint sci octets))
       (λ p. elim (cases_place p.0 p.1 sci an) [
         | inl same ↦ inl (
           same_place p sci an same.0 same.1,
-          ap (pair_of p.0) (put_rx-this old.config.rx sci an p.0 p.1 (Some sa) same.0 same.1) ∙ ap (λ (s : List ℕ). Some (s, key)) same.0,
+          ap (pair_of p.0) (put_rx-this old.config.rx sci an p.0 p.1 (Some sa) same.0 same.1) ∙ ap (λ (s : List ℕ). Some (s, octets)) same.0,
           ap (option_map b) (put_rx-this old.numbers sci an p.0 p.1 (Some (first_numbers start)) same.0 same.1) ∙ ap Some (is_b.begins start),
         )
         | inr apart ↦ inr (

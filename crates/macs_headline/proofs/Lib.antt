@@ -16,6 +16,7 @@ pub mod Commands
 pub mod Ranges
 pub mod Deliveries
 pub mod Cuts
+pub mod Unbegun
 pub mod Losses
 pub mod Endings
 pub mod Older
@@ -34,6 +35,7 @@ pub mod Nights
 pub mod BuiltAnew
 pub mod ExampleRecords
 pub mod ExampleImages
+pub mod ExampleCuts
 pub mod ExampleFrames
 pub mod ExampleStates
 pub mod ExampleFits

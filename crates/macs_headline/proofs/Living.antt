@@ -13,13 +13,13 @@ use Rattle.macs_endpoint.specs.Calls.{IsCall, IsInRange}
 use Rattle.macs_endpoint.specs.Lives.{Lives, Transition, exchange_of}
 use Rattle.macs_endpoint.specs.Opening.{IsOpening}
 use Rattle.macs_endpoint.specs.Restart.{Fits, state_during}
-use Rattle.macs_endpoint.specs.Ceilings.{Raise}
 use Rattle.macs_endpoint.specs.State.{Advances, Call, Logs, Reply, State}
 use Rattle.macs_endpoint.specs.Step.{Exchange, Steps}
 use Rattle.macs_endpoint.specs.Value.{EndpointValue, IsBacked, IsSoundEndpoint, device_in, disk_in, state_of}
 use Rattle.macs_headline.specs.Deeds.{LivesFrom, IsPassedOn, disk_after_opening}
 use Rattle.macs_headline.specs.History.{FitsPast, Formatted, IsLifeSoFar, Past, Refuses, Serves, logs_of}
-use Rattle.macs_headline.proofs.Cuts.{cut-call, cut-raising, raising}
+use Rattle.macs_headline.proofs.Cuts.{cut-call}
+use Rattle.macs_headline.proofs.Unbegun.{IsToKeep, cut-unbegun}
 use Rattle.macs_headline.proofs.Losses.{IsCovered, LeadTo, covered-passed, covered-on, covered-seen, lead-nowhere, nothing-new}
 
 -- ---- openings
@@ -75,7 +75,7 @@ module _ {D : Type 0} (disk_of : D → Disk) where
       (more.0, (state_of turn.after step.0, step.1, more.1))
 
   lives_in_range : (turns : List (Transition D)) (old new : EndpointValue D) → Lives disk_of old turns new
-      → AllByRecursion (λ (e : Exchange). IsInRange this_edition e.call) (map exchange_of turns)
+      → AllByRecursion (λ (e : Exchange). IsInRange e.call) (map exchange_of turns)
   lives_in_range [] old new lives = tt
   lives_in_range (turn ∷ turns) old new (kept, call, rest) = (call.behaves.in_range, lives_in_range turns turn.after new rest)
 
@@ -158,15 +158,15 @@ module _ {D : Type 0} (disk_of : D → Disk) (sound : (it : D) → IsHonest (dis
         (λ image left. subst (λ (n : ℕ). Fits this_edition n image s) alive.size
         (cut-call disk_of last after alive.logs reply kept alive.honest alive.backed call is image left))
 
-    -- in a step while a ceiling is being raised: the state before it
-    pub covered-raising : (raise : Raise) → last.reserving ≡ Some raise → call ≡ Advances → IsCovered sectors (Formatted (state_of last alive.logs)) (disk_of new)
-    covered-raising raise reserving steps =
+    -- in a step in which no command begins: the state before it
+    pub covered-unbegun : (¬ IsToKeep last) → call ≡ Advances → IsCovered sectors (Formatted (state_of last alive.logs)) (disk_of new)
+    covered-unbegun apart steps =
         let s = state_of last alive.logs in
         covered-passed sectors (Formatted s) (disk_in disk_of after) (disk_of new) (disk_in disk_of last).clock passed
         (is.device.works.honest ∙ alive.honest) (is.device.works.sectors ∙ alive.size)
         (λ image left. subst (λ (n : ℕ). Fits this_edition n image s) alive.size
-        (cut-raising disk_of last after alive.logs (raising last raise reserving kept.work) alive.honest alive.backed image reply
-        (subst (λ (c : Call). IsCall disk_of last c reply after) steps is) left))
+        (cut-unbegun disk_of last after alive.logs kept alive.honest alive.backed reply
+        (subst (λ (c : Call). IsCall disk_of last c reply after) steps is) image left apart kept.work))
 
     pub life-cut : LeadTo sectors past (Serves this_edition (now (disk_of old)).seen (map exchange_of turns) (Some call) ∷ []) (disk_of new)
     life-cut =

@@ -199,7 +199,7 @@ module _ (sectors : ℕ) (lives : List Life) where
         }
 
     by_steps : (done : List Exchange) (old : State) → IsLifeSoFar sectors past edition image done old → (exchanges : List Exchange) (new : State)
-        → Steps old exchanges new → AllByRecursion (λ (e : Exchange). IsInRange edition e.call) exchanges
+        → Steps old exchanges new → AllByRecursion (λ (e : Exchange). IsInRange e.call) exchanges
         → before ++ Serves edition image (done ++ exchanges) cut ∷ later ≡ lives → AreAnswers sectors lives old.logs → AreAnswers sectors lives new.logs
     by_steps done old life [] new steps in_range there are = subst (λ (s : State). AreAnswers sectors lives s.logs) (sym steps) are
     by_steps done old life (e ∷ exchanges) new (mid, step, rest) in_range there are =

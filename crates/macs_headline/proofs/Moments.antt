@@ -6,7 +6,7 @@ use Rattle.macs_frame.specs.Tag.{tag_of}
 use Rattle.macs_config.specs.Config.{Edition, IsUpTo, this_edition}
 use Rattle.macs_config.specs.declared.command.Command.{Command}
 use Rattle.macs_disk.specs.Disk.{Disk, IsHonest, MayLeave, Works, now}
-use Rattle.macs_disk.specs.States.{DiskState, Image, IsImage, IsSound}
+use Rattle.macs_disk.specs.States.{Image, IsSound}
 use Rattle.macs_disk.proofs.Moments.{Works-on, Works-start}
 use Rattle.std.specs.Prelude.{Contains}
 use Rattle.macs_rxsc.specs.declared.verdict.Kind.{Kind}
@@ -15,6 +15,7 @@ use Rattle.macs_rxsc.specs.declared.verdict.Verdict.TheVariants.{Delivered}
 use Rattle.macs_store.specs.Found.{StandingIs}
 use Rattle.macs_store.specs.Standing.{Standing}
 use Rattle.macs_store.specs.Value.{standing_in}
+use Rattle.macs_endpoint.specs.Advancing.{Piece, ToKeep, ToRaise, next_piece}
 use Rattle.macs_endpoint.specs.Calls.{IsCall}
 use Rattle.macs_endpoint.specs.Lives.{Lives, Transition, exchange_of}
 use Rattle.macs_endpoint.specs.Ceilings.{Raise}
@@ -38,7 +39,7 @@ use Rattle.macs_headline.proofs.Deliveries.{deliveries-are-verified}
 use Rattle.macs_headline.proofs.Effects.{core, effect-of}
 use Rattle.macs_headline.proofs.Histories.{sound-moment}
 use Rattle.macs_headline.proofs.Endings.{ends-are-earlier}
-use Rattle.macs_headline.proofs.Living.{IsAlive, alive, covered-cut, covered-life, covered-raising}
+use Rattle.macs_headline.proofs.Living.{IsAlive, alive, covered-cut, covered-life, covered-unbegun}
 use Rattle.macs_headline.proofs.Losses.{IsCovered}
 use Rattle.macs_headline.proofs.Older.{larger-fits}
 use Rattle.macs_headline.proofs.Ranges.{frames-are-standard}
@@ -207,31 +208,39 @@ module _ {D : Type 0} (disk_of : D → Disk) (sound : (it : D) → IsHonest (dis
     found = living.same_found;
   }
 
-  -- what a cut call leaves, by what it is and whether a ceiling was being raised
-  covered_end : (reserving : Option Raise) (call : Call) (new : D)
-      → ((raise : Raise) → reserving ≡ Some raise → call ≡ Advances → IsCovered sectors (Formatted (state_of last living.logs)) (disk_of new))
-      → IsCovered sectors (Formatted (state_during (state_of last living.logs) call)) (disk_of new)
-      → IsCovered sectors (Formatted (state_at_end (state_of last living.logs) (cut_beginning reserving (Some call)))) (disk_of new)
-  covered_end None call new raising during = during
-  covered_end (Some raise) (Commands c) new raising during = during
-  covered_end (Some raise) Refills new raising during = during
-  covered_end (Some raise) (Submits c) new raising during = during
-  covered_end (Some raise) Advances new raising during = raising raise refl refl
-  covered_end (Some raise) (Protects plain) new raising during = during
-  covered_end (Some raise) (Receives frame) new raising during = during
+  none_is : (first : Waiting) → ◌≡◌ {A = Option Piece} None (Some (ToKeep first)) → ⊥
+  none_is first is = cc
 
-  no_cut : (reserving : Option Raise) → cut_beginning reserving None ≡ None
-  no_cut None = refl
-  no_cut (Some raise) = refl
+  raise_is : (raise : Raise) (first : Waiting) → ◌≡◌ {A = Option Piece} (Some (ToRaise raise)) (Some (ToKeep first)) → ⊥
+  raise_is raise first is = cc
+
+  some_raise : (raise : Raise) → ◌≡◌ {A = Option Raise} (Some raise) None → ⊥
+  some_raise raise is = cc
+
+  -- what a cut call leaves, by what it is, whether a ceiling is being raised, and what is next
+  covered_end : (call : Call) (reserving : Option Raise) (next : Option Piece) (new : D)
+      → (((first : Waiting) → reserving ≡ None → next ≡ Some (ToKeep first) → ⊥) → call ≡ Advances
+      → IsCovered sectors (Formatted (state_of last living.logs)) (disk_of new))
+      → IsCovered sectors (Formatted (state_during (state_of last living.logs) call)) (disk_of new)
+      → IsCovered sectors (Formatted (state_at_end (state_of last living.logs) (cut_beginning (Some call) reserving next))) (disk_of new)
+  covered_end (Commands c) reserving next new unbegun during = during
+  covered_end Refills reserving next new unbegun during = during
+  covered_end (Submits c) reserving next new unbegun during = during
+  covered_end Advances None None new unbegun during = unbegun (λ first free is. none_is first is) refl
+  covered_end Advances None (Some (ToRaise raise)) new unbegun during = unbegun (λ first free is. raise_is raise first is) refl
+  covered_end Advances None (Some (ToKeep first)) new unbegun during = during
+  covered_end Advances (Some raise) next new unbegun during = unbegun (λ first free is. some_raise raise free) refl
+  covered_end (Protects plain) reserving next new unbegun during = during
+  covered_end (Receives frame) reserving next new unbegun during = during
 
   -- the disk after the life
   covered_left : (cut : Option Call) (new : D) → Does disk_of disk (Living first turns last cut) new
       → IsCovered sectors (Formatted (state_left last living.logs cut)) (disk_of new)
-  covered_left None new (as_lived, same) =
-      subst (λ (cut : Option Call). IsCovered sectors (Formatted (state_at_end (state_of last living.logs) cut)) (disk_of new)) (sym (no_cut last.reserving))
-      (covered-life disk_of sound sectors h.past disk first turns last covered lived new same)
+  covered_left None new (as_lived, same) = covered-life disk_of sound sectors h.past disk first turns last covered lived new same
   covered_left (Some call) new (as_lived, kept, reply, after, is, passed) =
-      covered_end last.reserving call new (covered-raising disk_of sound sectors h.past disk first turns last covered lived kept call reply after is new passed)
+      covered_end call last.reserving (next_piece last) new
+      (λ apart. covered-unbegun disk_of sound sectors h.past disk first turns last covered lived kept call reply after is new passed
+      (λ keeps. apart keeps.0 keeps.1 keeps.2))
       (covered-cut disk_of sound sectors h.past disk first turns last covered lived kept call reply after is new passed)
 
   fits_left : (cut : Option Call) (new : D) → Does disk_of disk (Living first turns last cut) new → (later : Edition) → IsUpTo this_edition later
@@ -244,7 +253,7 @@ module _ {D : Type 0} (disk_of : D → Disk) (sound : (it : D) → IsHonest (dis
       → (image : Image) (after : Standing) → MayLeave (disk_of new) image → StandingIs later sectors image (Ok after)
       → FindsPrefix (standing_in first.store) (map exchange_of turns) (state_left last no_logs cut).in_hand after
   kept_commands cut new does later up_to image after left is_after =
-      let begun = cut_beginning last.reserving cut in
+      let begun = cut_beginning cut last.reserving (next_piece last) in
       let fits = fits_left cut new does later up_to image left in
       let found = commands-kept sectors (state_of last living.logs) moment begun later image after fits is_after in
       let hand : Option Command = (state_left last living.logs cut).in_hand in

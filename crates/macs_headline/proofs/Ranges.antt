@@ -47,15 +47,15 @@ abbrev IsNext : ℕ → Type 0
 IsNext m = (1 ≤ m) × (m ≤ 2 ^ 32)
 
 -- each command that waits is in its ranges
-abbrev AreCommands : Edition → List Waiting → Type 0
-AreCommands edition waiting = AllByRecursion (λ (w : Waiting). IsCommand edition w.command) waiting
+abbrev AreCommands : List Waiting → Type 0
+AreCommands waiting = AllByRecursion (λ (w : Waiting). IsCommand w.command) waiting
 
 -- a state of a program of this edition, with numbers and commands in their ranges
 pub record IsRanged (edition : Edition) (s : State) : Type 0 where
   pub same : s.edition ≡ edition
   pub nexts : (an m : ℕ) → s.next an ≡ Some m → IsNext m
-  pub hand : (c : Command) → s.in_hand ≡ Some c → IsCommand edition c
-  pub queue : AreCommands edition s.waiting
+  pub hand : (c : Command) → s.in_hand ≡ Some c → IsCommand c
+  pub queue : AreCommands s.waiting
 
 none_some : {X : Type 0} (o : Option X) (x : X) → o ≡ None → o ≡ Some x → ⊥
 none_some o x is js = absurd (cc)
@@ -63,9 +63,9 @@ none_some o x is js = absurd (cc)
 -- ---- commands
 
 -- a command in its ranges that is accepted keeps the numbers in theirs
-nexts_after : (edition : Edition) (identity : Identity) (config : Config) (c : Command) (next : ℕ → Option ℕ) (range : Edition) → IsCommand range c
+nexts_after : (edition : Edition) (identity : Identity) (config : Config) (c : Command) (next : ℕ → Option ℕ) → IsCommand c
     → refusal_of edition identity config c ≡ None → ((an m : ℕ) → next an ≡ Some m → IsNext m) → (an m : ℕ) → next_after c next an ≡ Some m → IsNext m
-nexts_after edition identity config (TxInstall at key start confidential offset) next range ranged ok old an m is = elim (cases_eq an at) [
+nexts_after edition identity config (TxInstall at key start confidential offset) next ranged ok old an m is = elim (cases_eq an at) [
   | inl here ↦
       let test : (start == 0) ≡ false = right-start edition identity config (TxInstall at key start confidential offset) ok in
       let one : start ≡ m = some_one (put next at (Some start) an) start m (put-this next at an (Some start) here) is in
@@ -76,22 +76,22 @@ nexts_after edition identity config (TxInstall at key start confidential offset)
       ]
   | inr apart ↦ old an m (sym (put-that next at an (Some start) apart) ∙ is)
 ]
-nexts_after edition identity config (TxRemove at) next range ranged ok old an m is = elim (cases_eq an at) [
+nexts_after edition identity config (TxRemove at) next ranged ok old an m is = elim (cases_eq an at) [
   | inl here ↦ let gone = put-this next at an None here in absurd (cc)
   | inr apart ↦ old an m (sym (put-that next at an None apart) ∙ is)
 ]
-nexts_after edition identity config c next range ranged ok old an m is = old an m is
+nexts_after edition identity config c next ranged ok old an m is = old an m is
 
 module _ (edition : Edition) where
   same_range : (old new : State) → new ≡ old → IsRanged edition old → IsRanged edition new
   same_range old new is ranged = subst (IsRanged edition) (sym is) ranged
 
-  makes_range : (old : State) (c : Command) (new : State) → IsCommand edition c → Makes old c new → IsRanged edition old → IsRanged edition new
+  makes_range : (old : State) (c : Command) (new : State) → IsCommand c → Makes old c new → IsRanged edition old → IsRanged edition new
   makes_range old c new command m ranged =
       let a = accepted old.edition old.identity old.config c m.0 m.1 in
       subst (IsRanged edition) (sym m.2) (record {
         same = ranged.same;
-        nexts = nexts_after old.edition old.identity old.config c old.next edition command a.0 ranged.nexts;
+        nexts = nexts_after old.edition old.identity old.config c old.next command a.0 ranged.nexts;
         hand = λ d is. absurd (none_some None d refl is);
         queue = ranged.queue;
       })
@@ -99,15 +99,15 @@ module _ (edition : Edition) where
   stopped_range : (old new : State) → new ≡ record old { stopped = true } → IsRanged edition old → IsRanged edition new
   stopped_range old new is ranged = subst (IsRanged edition) (sym is) (record { same = ranged.same; nexts = ranged.nexts; hand = ranged.hand; queue = ranged.queue })
 
-  hand_range : (s : State) (c : Command) → IsCommand edition c → IsRanged edition s → IsRanged edition (state_with_in_hand s c)
+  hand_range : (s : State) (c : Command) → IsCommand c → IsRanged edition s → IsRanged edition (state_with_in_hand s c)
   hand_range s c command ranged = record {
     same = ranged.same;
     nexts = ranged.nexts;
-    hand = λ d is. subst (IsCommand edition) (let one : c ≡ d = cc in one) command;
+    hand = λ d is. subst IsCommand (let one : c ≡ d = cc in one) command;
     queue = ranged.queue;
   }
 
-  by_command : (old : State) (c : Command) (result : Result (Unit {0}) CommandFault) (new : State) → IsCommand edition c → CommandStep old c result new
+  by_command : (old : State) (c : Command) (result : Result (Unit {0}) CommandFault) (new : State) → IsCommand c → CommandStep old c result new
       → IsRanged edition old → IsRanged edition new
   by_command old c (Ok done) new command (none, makes) ranged = makes_range old c new command makes ranged
   by_command old c (Err ran.Stopped) new command h ranged = absurd h
@@ -122,12 +122,12 @@ module _ (edition : Edition) where
   by_refill old (Err fault) new (none, is) ranged = same_range old new is ranged
 
   -- one more that waits
-  more_commands : (waiting : List Waiting) (ticket : ℕ) (c : Command) → IsCommand edition c → AreCommands edition waiting
-      → AreCommands edition (with_waiting waiting ticket c)
+  more_commands : (waiting : List Waiting) (ticket : ℕ) (c : Command) → IsCommand c → AreCommands waiting
+      → AreCommands (with_waiting waiting ticket c)
   more_commands [] ticket c command are = (command, tt)
   more_commands (first ∷ rest) ticket c command are = (are.0, more_commands rest ticket c command are.1)
 
-  by_submit : (old : State) (c : Command) (result : Result ℕ SubmitFault) (new : State) → IsCommand edition c → SubmitStep old c result new
+  by_submit : (old : State) (c : Command) (result : Result ℕ SubmitFault) (new : State) → IsCommand c → SubmitStep old c result new
       → IsRanged edition old → IsRanged edition new
   by_submit old c (Ok ticket) new command (few, left, is_ticket, is) ranged =
       subst (IsRanged edition) (sym is) (record {
@@ -142,8 +142,8 @@ module _ (edition : Edition) where
 
   -- the first one that waits
   first_command : (old : State) (first : Waiting) (rest : List Waiting) → old.waiting ≡ first ∷ rest → IsRanged edition old
-      → IsCommand edition first.command × AreCommands edition rest
-  first_command old first rest waiting ranged = subst (AreCommands edition) waiting ranged.queue
+      → IsCommand first.command × AreCommands rest
+  first_command old first rest waiting ranged = subst AreCommands waiting ranged.queue
 
   taken_up : (old new : State) → TakesUp old new → IsRanged edition old → IsRanged edition new
   taken_up old new (first, rest, waiting, idle, accepts, is) ranged =
@@ -151,7 +151,7 @@ module _ (edition : Edition) where
       (hand_range old first.command (first_command old first rest waiting ranged).0 ranged)
 
   -- it waits no more
-  without_first : (old : State) (rest : List Waiting) → AreCommands edition rest → IsRanged edition old → IsRanged edition (state_without_first old rest)
+  without_first : (old : State) (rest : List Waiting) → AreCommands rest → IsRanged edition old → IsRanged edition (state_without_first old rest)
   without_first old rest are ranged = record {
     same = ranged.same;
     nexts = ranged.nexts;
@@ -159,7 +159,7 @@ module _ (edition : Edition) where
     queue = are;
   }
 
-  by_end : (old : State) (first : Waiting) (rest : List Waiting) (result : Result (Unit {0}) CommandFault) (new : State) → IsCommand edition first.command
+  by_end : (old : State) (first : Waiting) (rest : List Waiting) (result : Result (Unit {0}) CommandFault) (new : State) → IsCommand first.command
       → IsRanged edition (state_without_first old rest) → Ends old first rest result new → IsRanged edition new
   by_end old first rest (Ok done) new command ranged makes = makes_range (state_without_first old rest) first.command new command makes ranged
   by_end old first rest (Err (ran.Refused refusal)) new command ranged (idle, why, is) = same_range (state_without_first old rest) new is ranged
@@ -229,7 +229,7 @@ module _ (edition : Edition) where
       subst (IsRanged edition) (sym is) (record { same = ranged.same; nexts = ranged.nexts; hand = ranged.hand; queue = ranged.queue })
   by_receive old frame (Err stopped) out new h ranged = absurd h
 
-  by_call : (old : State) (call : Call) (reply : Reply) (new : State) → IsInRange edition call → RunningStep old call reply new
+  by_call : (old : State) (call : Call) (reply : Reply) (new : State) → IsInRange call → RunningStep old call reply new
       → IsRanged edition old → IsRanged edition new
   by_call old (Commands c) (Ran result) new given h ranged = by_command old c result new given h ranged
   by_call old Refills (Refilled result) new given h ranged = by_refill old result new h ranged
@@ -239,12 +239,12 @@ module _ (edition : Edition) where
   by_call old (Receives frame) (Received result out) new given h ranged = by_receive old frame result out new h ranged
   by_call old call reply new given h ranged = absurd h
 
-  by_step : (old : State) (call : Call) (reply : Reply) (new : State) → IsInRange edition call → Step old call reply new
+  by_step : (old : State) (call : Call) (reply : Reply) (new : State) → IsInRange call → Step old call reply new
       → IsRanged edition old → IsRanged edition new
   by_step old call reply new given (inl (stopped, answer, is)) ranged = same_range old new is ranged
   by_step old call reply new given (inr (running, h)) ranged = by_call old call reply new given h ranged
 
-  by_steps : (old : State) (exchanges : List Exchange) (new : State) → AllByRecursion (λ (e : Exchange). IsInRange edition e.call) exchanges
+  by_steps : (old : State) (exchanges : List Exchange) (new : State) → AllByRecursion (λ (e : Exchange). IsInRange e.call) exchanges
       → Steps old exchanges new → IsRanged edition old → IsRanged edition new
   by_steps old [] new given steps ranged = same_range old new steps ranged
   by_steps old (e ∷ es) new given steps ranged =
@@ -256,21 +256,21 @@ module _ (edition : Edition) where
   either_range true x y is other = is
   either_range false x y is other = other
 
-  taking_range : (s : State) (c : Command) → IsCommand edition c → IsRanged edition s → IsRanged edition (state_taking s c)
+  taking_range : (s : State) (c : Command) → IsCommand c → IsRanged edition s → IsRanged edition (state_taking s c)
   taking_range s c given ranged =
       either_range (not s.stopped && is_ok (apply s.edition s.identity s.config c)) (state_with_in_hand s c) s (hand_range s c given ranged) ranged
 
-  alone_range : (s : State) (c : Command) (waiting : List Waiting) → IsCommand edition c → IsRanged edition s → IsRanged edition (state_taking_alone s c waiting)
+  alone_range : (s : State) (c : Command) (waiting : List Waiting) → IsCommand c → IsRanged edition s → IsRanged edition (state_taking_alone s c waiting)
   alone_range s c [] given ranged = taking_range s c given ranged
   alone_range s c (first ∷ rest) given ranged = ranged
 
-  first_range : (s : State) (in_hand : Option Command) (waiting : List Waiting) → AreCommands edition waiting → IsRanged edition s
+  first_range : (s : State) (in_hand : Option Command) (waiting : List Waiting) → AreCommands waiting → IsRanged edition s
       → IsRanged edition (state_taking_first s in_hand waiting)
   first_range s None [] are ranged = ranged
   first_range s None (first ∷ rest) are ranged = taking_range s first.command are.0 ranged
   first_range s (Some c) waiting are ranged = ranged
 
-  end_range : (s : State) (cut : Option Call) → IfSome cut (λ call. IsInRange edition call) → IsRanged edition s → IsRanged edition (state_at_end s cut)
+  end_range : (s : State) (cut : Option Call) → IfSome cut (λ call. IsInRange call) → IsRanged edition s → IsRanged edition (state_at_end s cut)
   end_range s None given ranged = ranged
   end_range s (Some (Commands c)) given ranged = alone_range s c s.waiting given ranged
   end_range s (Some Refills) given ranged = ranged

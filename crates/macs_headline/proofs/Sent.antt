@@ -2,6 +2,7 @@
 use Rattle.std.proofs.Common.{◌≡◌, ◌≢◌, ◌<◌, ◌+◌, inl, inr, ℕ, refl, sym, ◌∙◌, ap, subst, arith, List, [], ◌∷◌}
 use Rattle.std.specs.Prelude.{AllPairs, Contains, Option, Some, None}
 use Rattle.std.proofs.lemmas.Bool.{cases_eq}
+use Rattle.macs_aes.specs.Keys.{octets_of_key}
 use Rattle.macs_config.specs.Apply.{config_after, refusal_of}
 use Rattle.macs_config.specs.Config.{Config, Edition, tx_fingerprint}
 use Rattle.macs_config.specs.Tables.{put}
@@ -37,10 +38,10 @@ module _ (edition : Edition) where
       → IsSoundTx (core_after_command old c (config_after old.config c))
   by_command old (TxInstall an key start confidential offset) ok is = record {
     apart = is.apart;
-    ledger = ledger-installed tx_fingerprint (tx_keys old.config.tx) _ old.config.spent_tx _ old.next _ (IsUsed old.used) an key start
+    ledger = ledger-installed tx_fingerprint (tx_keys old.config.tx) _ old.config.spent_tx _ old.next _ (IsUsed old.used) an (octets_of_key key) start
         (tx-unspent edition old.identity old.config an key start confidential offset ok)
-        (λ print here. among-before old.config.spent_tx (tx_fingerprint key ∷ []) print here)
-        (spent-pushed old.config.spent_tx (tx_fingerprint key))
+        (λ print here. among-before old.config.spent_tx (tx_fingerprint (octets_of_key key) ∷ []) print here)
+        (spent-pushed old.config.spent_tx (tx_fingerprint (octets_of_key key)))
         (λ p. elim (cases_eq p an) [
           | inl same ↦ inl (same, ap key_of (put-this old.config.tx an p _ same), put-this old.next an p _ same)
           | inr apart ↦ inr (ap key_of (put-that old.config.tx an p _ apart), put-that old.next an p _ apart)

@@ -1,5 +1,5 @@
 -- What was answered in all lives, and that the logs hold it.
-use Rattle.std.specs.Prelude.{◌≡◌, ◌++◌, ℕ, List, [], ◌∷◌, Contains, Option, None}
+use Rattle.std.specs.Prelude.{◌≡◌, ◌++◌, ℕ, List, [], ◌∷◌, flat_map, Contains, Option, None}
 use Rattle.macs_endpoint.specs.State.{Call, Logs, State}
 use Rattle.macs_endpoint.specs.Step.{Exchange, Step}
 use Rattle.macs_headline.specs.History.{Formatted, IsHistory, Life, Past, Serves, logs_of}
@@ -13,8 +13,7 @@ exchanges_in life = []
 
 -- those of all these lives
 abbrev pub exchanges_of_lives : List Life → List Exchange
-exchanges_of_lives [] = []
-exchanges_of_lives (life ∷ lives) = exchanges_in life ++ exchanges_of_lives lives
+exchanges_of_lives lives = flat_map exchanges_in lives
 
 -- the lives up to a moment: those before it, and then the one that is under way, so far
 abbrev pub lives_at : {sectors : ℕ} {s : State} → Moment sectors s → List Life

@@ -14,6 +14,7 @@ use Rattle.macs_journal.specs.declared.recovery.RecoverRefused.{RecoverRefused}
 use Rattle.macs_store.specs.Found.{StandingIs}
 use Rattle.macs_store.specs.Standing.{Standing}
 use Rattle.macs_store.specs.Value.{standing_in}
+use Rattle.macs_endpoint.specs.Advancing.{Piece, ToKeep, next_piece}
 use Rattle.macs_endpoint.specs.Calls.{IsCall}
 use Rattle.macs_endpoint.specs.Formatting.{IsFormat}
 use Rattle.macs_endpoint.specs.Lives.{Transition, exchange_of}
@@ -129,14 +130,16 @@ EndsAreCuts {D} disk_of = (old new : D) (first last : EndpointValue D) (turns : 
     ⊎ ((before : List (Transition D)) × (mid : EndpointValue D) × (turn : Transition D) × (rest : List (Transition D))
     × (before ++ turn ∷ rest ≡ turns) × Does disk_of old (Living first before mid (Some turn.call)) new)
 
--- The call in which a life ends, where a command may begin in it. None begins in a step while a ceiling is being raised: the step goes on with that.
-abbrev pub cut_beginning : Option Raise → Option Call → Option Call
-cut_beginning (Some raise) (Some Advances) = None
-cut_beginning reserving cut = cut
+-- The call in which a life ends, where a command may begin in it. A step begins the first command that waits only where no ceiling is being raised and
+-- to keep that command is the next piece of work, by need and turn.
+abbrev pub cut_beginning : Option Call → Option Raise → Option Piece → Option Call
+cut_beginning (Some Advances) None (Some (ToKeep first)) = Some Advances
+cut_beginning (Some Advances) reserving next = None
+cut_beginning cut reserving next = cut
 
 -- The state in which a life ends, after these logs: with the command in hand that may have begun in the call that was cut short
 abbrev pub state_left : {D : Type 0} → EndpointValue D → Logs → Option Call → State
-state_left e logs cut = state_at_end (state_of e logs) (cut_beginning e.reserving cut)
+state_left e logs cut = state_at_end (state_of e logs) (cut_beginning cut e.reserving (next_piece e))
 
 -- Each image that the disk may leave after a life fits that state, to this edition and to each larger one: what is opened there is a restart of it.
 abbrev pub LivesFit : {D : Type 0} → (D → Disk) → Type 0

@@ -4,6 +4,7 @@ use Rattle.macs_frame.specs.Protection.{protected_frame}
 use Rattle.macs_frame.specs.declared.fields.Offset.TheVariants.{Zero}
 use Rattle.macs_frame.specs.declared.tag.ScName.TheVariants.{Explicit}
 use Rattle.macs_frame.specs.declared.tag.SecTag.{SecTag}
+use Rattle.macs_aes.specs.declared.keys.Key.TheVariants.{Short}
 use Rattle.macs_config.specs.Config.{Edition}
 use Rattle.macs_config.specs.Identity.{Identity}
 use Rattle.macs_config.specs.declared.association.Protection.TheVariants.{Confidentiality}
@@ -75,7 +76,7 @@ peer_frame pn = protected_frame peer_key peer_sci (peer_tag pn) 0 example_plain
 
 -- the transmit association, from packet number 1 on
 abbrev pub install_own : Command
-install_own = TxInstall 0 own_key 1 true 0
+install_own = TxInstall 0 (Short own_key) 1 true 0
 
 -- frames go out under it
 abbrev pub use_own : Command
@@ -87,15 +88,34 @@ add_peer = RxAdd peer_sci
 
 -- its association, from packet number 1 on
 abbrev pub install_peer : Command
-install_peer = RxInstall peer_sci 0 peer_key 1 0
+install_peer = RxInstall peer_sci 0 (Short peer_key) 1 0
 
 -- which goes again
 abbrev pub remove_peer : Command
 remove_peer = RxRemove peer_sci 0
 
--- a wider replay window
+-- a replay window of one number
+abbrev pub narrow : Command
+narrow = SetReplay true 1
+
+-- a wider one
 abbrev pub widen : Command
 widen = SetReplay true 3
+
+-- no replay protection
+abbrev pub unguard : Command
+unguard = SetReplay false 3
+
+-- and again, with the window that was
+abbrev pub guard : Command
+guard = SetReplay true 3
+
+-- each key again, for an association of another number
+abbrev pub install_own_again : Command
+install_own_again = TxInstall 1 (Short own_key) 1 true 0
+
+abbrev pub install_peer_again : Command
+install_peer_again = RxInstall peer_sci 1 (Short peer_key) 1 0
 
 -- validation as it is
 abbrev pub stay_strict : Command

@@ -1,16 +1,16 @@
 -- What the disk holds in the example of a history: its records, and its images.
-use Rattle.std.specs.Prelude.{ℕ, true, List, [], ◌∷◌, replicate, take, length}
-use Rattle.macs_config.specs.declared.command.Validate.TheVariants.{Strict}
+use Rattle.std.specs.Prelude.{ℕ, true, false, List, [], ◌∷◌, replicate, take, length}
+use Rattle.macs_config.specs.declared.command.Validate.TheVariants.{Check, Strict}
 use Rattle.macs_disk.specs.States.{Image}
 use Rattle.macs_record.specs.declared.record.Record.{Record}
 use Rattle.macs_record.specs.declared.record.Record.TheVariants as kept
 use Rattle.macs_journal.specs.Compacting.{compacted}
 use Rattle.macs_journal.specs.Formatting.{first_content}
-use Rattle.macs_journal.specs.Found.{Content}
+use Rattle.macs_journal.specs.Found.{Content, content_with_record}
 use Rattle.macs_store.specs.Snapshot.{snapshot}
 use Rattle.macs_headline.specs.Example.{example_identity, own_sa, peer_sa, peer_sci}
 use Rattle.macs_headline.specs.ExampleStanding.{full_standing}
-use Rattle.macs_headline.specs.Images.{compacted_image, content_with_records, formatted_image, image_while_compacted, image_with_records}
+use Rattle.macs_headline.specs.Images.{compacted_image, content_with_records, formatted_image, image_while_compacted, image_with_record, image_with_records}
 
 -- ---- formatted
 
@@ -24,7 +24,7 @@ new_image = formatted_image example_identity
 
 -- ---- after the first life
 
--- Its commands and ceilings. The last of them was cut short while its gate was pending, and the gate was left open.
+-- its commands and ceilings, but for its last command
 abbrev pub first_records : List Record
 first_records =
     kept.TxInstall 0 own_sa 1
@@ -32,23 +32,39 @@ first_records =
     ∷ kept.TxCeiling 0 9
     ∷ kept.RxAdd peer_sci
     ∷ kept.RxInstall peer_sci 0 peer_sa 1
+    ∷ kept.SetReplay (record { on = true; window = 1 })
     ∷ kept.RxCeiling peer_sci 0 9
-    ∷ kept.SetReplay (record { on = true; window = 3 })
     ∷ []
 
 -- eight records
-abbrev pub served_content : Content
-served_content = content_with_records new_content first_records
+abbrev pub narrow_content : Content
+narrow_content = content_with_records new_content first_records
 
 -- and the image with them
+abbrev pub narrow_image : Image
+narrow_image = image_with_records new_image new_content first_records
+
+-- the last command, which was cut short while its gate was pending
+abbrev pub widened : Record
+widened = kept.SetReplay (record { on = true; window = 3 })
+
+-- the journal with it
+abbrev pub served_content : Content
+served_content = content_with_record narrow_content widened
+
+-- and the image, where the gate was left open
 abbrev pub served_image : Image
-served_image = image_with_records new_image new_content first_records
+served_image = image_with_record narrow_image narrow_content widened
 
 -- ---- after the second life
 
--- a raised ceiling, and the same command so often that all 256 slots are used
+-- a raised ceiling, replay protection off and on, and the same command so often that all 256 slots are used
 abbrev pub second_records : List Record
-second_records = kept.TxCeiling 0 13 ∷ replicate 247 (kept.SetValidate Strict)
+second_records =
+    kept.TxCeiling 0 13
+    ∷ kept.SetReplay (record { on = false; window = 3 })
+    ∷ kept.SetReplay (record { on = true; window = 3 })
+    ∷ replicate 244 (kept.SetValidate Strict)
 
 -- 256 records
 abbrev pub full_content : Content
@@ -84,6 +100,20 @@ third_records = kept.RxRemove peer_sci 0 ∷ kept.TxCeiling 0 17 ∷ []
 abbrev pub last_content : Content
 last_content = content_with_records anew_content third_records
 
--- and the last image
+-- and its image
 abbrev pub last_image : Image
 last_image = image_with_records anew_image anew_content third_records
+
+-- ---- after the fourth life
+
+-- the command in which the program was killed
+abbrev pub checked : Record
+checked = kept.SetValidate Check
+
+-- the journal with it
+abbrev pub ended_content : Content
+ended_content = content_with_record last_content checked
+
+-- and the image
+abbrev pub ended_image : Image
+ended_image = image_with_record last_image last_content checked

@@ -3,28 +3,34 @@ use Rattle.std.specs.Prelude.{◌≡◌, ℕ, true, false, List, [], ◌∷◌, 
 use Rattle.macs_config.specs.Config.{this_edition}
 use Rattle.macs_config.specs.declared.command.Command.{Command}
 use Rattle.macs_config.specs.declared.command.Command.TheVariants.{TxRemove}
-use Rattle.macs_config.specs.declared.refusal.Refusal.TheVariants.{InUse}
-use Rattle.macs_disk.specs.Disk.{Disk, disk_after_loss}
-use Rattle.macs_disk.specs.Memory.{blank_memory}
+use Rattle.macs_config.specs.declared.refusal.Refusal.{Refusal}
+use Rattle.macs_config.specs.declared.refusal.Refusal.TheVariants.{InUse, KeySpent}
+use Rattle.macs_disk.specs.Disk.{MayLeave, now}
+use Rattle.macs_disk.specs.States.{IsSector}
+use Rattle.macs_journal.specs.Appending.{free_gate}
 use Rattle.macs_journal.specs.Areas.{slots}
 use Rattle.macs_journal.specs.Found.{HasJournal}
+use Rattle.macs_journal.specs.Value.{IsHolding}
 use Rattle.macs_journal.specs.declared.fault.JournalFault.TheVariants as journal
 use Rattle.macs_txsc.specs.declared.fault.TxFault.TheVariants.{NoNumber}
-use Rattle.macs_rxsc.specs.declared.verdict.Kind.TheVariants.{Ok as AsOk}
+use Rattle.macs_rxsc.specs.declared.verdict.Kind.{Kind}
+use Rattle.macs_rxsc.specs.declared.verdict.Kind.TheVariants.{Delayed, Ok as AsOk}
 use Rattle.macs_rxsc.specs.declared.verdict.Reason.TheVariants.{Late}
 use Rattle.macs_rxsc.specs.declared.verdict.Verdict.{Verdict}
 use Rattle.macs_rxsc.specs.declared.verdict.Verdict.TheVariants.{Delivered, Discarded, HeldBack}
 use Rattle.macs_store.specs.Found.{StandsFor}
-use Rattle.macs_endpoint.specs.State.{Advanced, Advances, Call, Commands, Protects, Protected, Ran, Received, Receives, Refilled, Refills, Reply, State, Submits, Submitted, Use}
+use Rattle.macs_endpoint.specs.State.{Advanced, Advances, Call, Commands, Delivery, Protects, Protected, Ran, Received, Receives, Refilled, Refills, Reply, State, Submits, Submitted, Use}
 use Rattle.macs_endpoint.specs.Step.{Exchange}
 use Rattle.macs_endpoint.specs.declared.fault.CommandFault.TheVariants as ran
 use Rattle.macs_endpoint.specs.declared.fault.ProtectFault.{ProtectFault}
 use Rattle.macs_endpoint.specs.declared.fault.ProtectFault.TheVariants as protect
 use Rattle.macs_endpoint.specs.declared.progress.Step.TheVariants.{Done, Reserved, Worked}
-use Rattle.macs_headline.specs.Example.{add_peer, check_only, example_identity, example_plain, example_sectors, install_own, install_peer, later_edition, own_frame, own_key, peer_frame, peer_key, peer_sci, remove_peer, stay_strict, use_own, widen}
-use Rattle.macs_headline.specs.ExampleDisk.{anew_content, anew_image, cut_image, served_image, full_content, last_image, new_image}
+use Rattle.macs_headline.specs.Example.{add_peer, check_only, example_identity, example_plain, example_sectors, guard, install_own, install_own_again, install_peer, install_peer_again, later_edition, narrow, own_frame, own_key, peer_frame, peer_key, peer_sci, remove_peer, stay_strict, unguard, use_own, widen}
+use Rattle.macs_headline.specs.ExampleCuts.{append_in_hand, compacting_disk, compaction_in_hand, killed_disk, place_behind, torn_image, widening_disk, working_disk}
+use Rattle.macs_headline.specs.ExampleDisk.{anew_content, anew_image, checked, cut_image, ended_content, ended_image, narrow_content, full_content, last_content, last_image, new_image, served_content, served_image, widened}
 use Rattle.macs_headline.specs.ExampleStanding.{full_standing}
 use Rattle.macs_headline.specs.Binding.{HasHistory}
+use Rattle.macs_headline.specs.Deeds.{IsPassedOn}
 use Rattle.macs_headline.specs.History.{Formats, Formatted, IsHistory, Life, Refuses, Serves}
 use Rattle.macs_headline.specs.Images.{image_while_formatted}
 
@@ -35,6 +41,10 @@ answered call reply = record { call = call; reply = reply }
 -- a command that takes effect
 abbrev pub obeyed : Command → Exchange
 obeyed command = answered (Commands command) (Ran (Ok tt))
+
+-- a command that is refused
+abbrev pub refused : Command → Refusal → Exchange
+refused command refusal = answered (Commands command) (Ran (Err (ran.Refused refusal)))
 
 -- a plain frame that goes out with this packet number
 abbrev pub sent : ℕ → Exchange
@@ -71,24 +81,27 @@ received verdict out = answered (Receives (peer_frame 5)) (Received (Ok verdict)
 -- ---- the lives
 
 -- Frames go out between the steps of a reservation, until none has a number; and one between the steps of `add_peer`, which waited. A frame of the
--- peer is held back until its number is reserved. Then the power goes between two steps of `widen`: its third device call wrote its gate, which is
--- pending.
+-- peer is held back until its number is reserved, and then delivered twice, within a replay window of 1. Then the power goes between two steps of
+-- `widen`: its third device call wrote its gate, which is pending.
 abbrev pub first_exchanges : List Exchange
 first_exchanges =
     obeyed install_own ∷ obeyed use_own
     ∷ sent 1 ∷ sent 2 ∷ worked ∷ sent 3 ∷ worked ∷ sent 4 ∷ worked ∷ unsent (protect.Tx NoNumber) ∷ reserved
     ∷ submitted 1 add_peer ∷ worked ∷ sent 5 ∷ worked ∷ worked ∷ done 1
-    ∷ obeyed install_peer ∷ received HeldBack [] ∷ refilled ∷ received (Delivered AsOk) example_plain
+    ∷ obeyed install_peer ∷ obeyed narrow ∷ received HeldBack [] ∷ refilled
+    ∷ received (Delivered AsOk) example_plain ∷ received (Delivered AsOk) example_plain
     ∷ submitted 2 widen ∷ worked ∷ sent 6 ∷ worked ∷ worked
     ∷ []
 
--- The next frame goes out with number 9; an association in use is not removed; the peer's frame is late; a command is given until the area
--- is full. Then the power goes in `remove_peer`, while the journal begins anew.
+-- The next frame goes out with number 9; an association in use is not removed; neither key is installed again. The peer's frame is late; without
+-- replay protection it is Delayed, and with it late again. A command is given until the area is full. Then the power goes in `remove_peer`, while the
+-- journal begins anew.
 abbrev pub second_exchanges : List Exchange
 second_exchanges =
     unsent (protect.Tx NoNumber) ∷ refilled ∷ sent 9
-    ∷ answered (Commands (TxRemove 0)) (Ran (Err (ran.Refused InUse))) ∷ received (Discarded Late) []
-    ∷ replicate 247 (obeyed stay_strict)
+    ∷ refused (TxRemove 0) InUse ∷ refused install_own_again KeySpent ∷ refused install_peer_again KeySpent
+    ∷ received (Discarded Late) [] ∷ obeyed unguard ∷ received (Delivered Delayed) example_plain ∷ obeyed guard ∷ received (Discarded Late) []
+    ∷ replicate 244 (obeyed stay_strict)
 
 -- The journal begins anew with `remove_peer`; frame 13 goes out; a device call fails in `check_only`.
 abbrev pub third_exchanges : List Exchange
@@ -97,7 +110,12 @@ third_exchanges =
     ∷ answered (Commands check_only) (Ran (Err ran.Disk)) ∷ unsent protect.Stopped
     ∷ []
 
--- `format` cut short, an opening that finds nothing, `format`, an opening that a failed device call refuses; the three lives, with a `format`
+-- `check_only` is asked for again. The program is killed in its fourth step, and no power is lost: its gate, which is pending, is read as it was
+-- written.
+abbrev pub fourth_exchanges : List Exchange
+fourth_exchanges = submitted 1 check_only ∷ worked ∷ worked ∷ worked ∷ []
+
+-- `format` cut short, an opening that finds nothing, `format`, an opening that a failed device call refuses; the four lives, with a `format`
 -- by mistake between them; and an opening by a later edition
 abbrev pub example_lives : List Life
 example_lives =
@@ -109,30 +127,42 @@ example_lives =
     ∷ Serves this_edition served_image second_exchanges (Some (Commands remove_peer))
     ∷ Formats this_edition example_identity false
     ∷ Serves this_edition (cut_image 2) third_exchanges None
-    ∷ Serves later_edition last_image [] None
+    ∷ Serves this_edition last_image fourth_exchanges (Some Advances)
+    ∷ Serves later_edition ended_image [] None
     ∷ []
 
 -- all but that opening
 abbrev pub early_lives : List Life
-early_lives = take 8 example_lives
-
--- a disk in memory that holds the last image, with nothing pending
-abbrev pub last_disk : Disk
-last_disk = disk_after_loss (blank_memory example_sectors).disk last_image
+early_lives = take 9 example_lives
 
 -- a frame went out under the endpoint's key with this packet number
 abbrev pub own_use : ℕ → Use
 own_use pn = record { key = own_key; pn = pn }
 
--- This is a history: eight frames went out under one key, one frame was delivered, and the journal began anew. While it does so its disk stands
--- for what it stood for, however many bodies are written. Before the later edition opens it, its disk has this history to both editions.
+-- the peer's frame was delivered so
+abbrev pub peer_delivery : Kind → Delivery
+peer_delivery kind = record { sci = peer_sci; key = peer_key; pn = 5; kind = kind }
+
+-- This is a history: eight frames went out under one key, one frame was delivered twice in one life and once in the next, and the journal began anew.
+-- Where a life was cut short its disk had work in hand, as a journal has it, and was left so: a power loss may leave the image that the next life
+-- opens, and the killed program left what reads give, with the gate pending. While the journal begins anew its disk stands for what it stood for,
+-- however many bodies are written. Before the later edition opens it, its disk has this history to both editions.
 pub record IsWorkedHistory : Type 0 where
   pub last : State
   pub history : IsHistory example_sectors example_lives (Formatted last)
   pub used : last.logs.used ≡ map own_use (13 ∷ 9 ∷ 6 ∷ 5 ∷ 4 ∷ 3 ∷ 2 ∷ 1 ∷ [])
-  pub given : last.logs.given ≡ record { sci = peer_sci; key = peer_key; pn = 5; kind = AsOk } ∷ []
-  pub early : HasHistory this_edition last_disk early_lives
-  pub older : HasHistory later_edition last_disk early_lives
+  pub given : last.logs.given ≡ map peer_delivery (Delayed ∷ AsOk ∷ AsOk ∷ [])
+  pub widening : IsHolding widening_disk (place_behind narrow_content) (append_in_hand widened) narrow_content served_content
+  pub left_open : MayLeave widening_disk served_image
   pub full : length full_content.records ≡ slots
+  pub compacting : IsHolding compacting_disk (place_behind full_content) compaction_in_hand full_content anew_content
+  pub torn : (head first second : List ℕ) → IsSector head → IsSector first → IsSector second → MayLeave compacting_disk (torn_image head first second)
+  pub left_torn : MayLeave compacting_disk (cut_image 2)
   pub cut : (count : ℕ) → StandsFor this_edition (cut_image count) full_standing
   pub anew : (anew_content.area ≡ 1) × (anew_content.head.generation ≡ 2) × HasJournal anew_image anew_content
+  pub working : IsHolding working_disk (place_behind last_content) (append_in_hand checked) last_content ended_content
+  pub killed : IsPassedOn working_disk working_disk.clock killed_disk
+  pub pending : (now killed_disk).pending (free_gate last_content) ≡ true
+  pub read : (now killed_disk).seen ≡ ended_image
+  pub early : HasHistory this_edition killed_disk early_lives
+  pub older : HasHistory later_edition killed_disk early_lives

@@ -58,7 +58,7 @@ pub record IsLifeSoFar (sectors : ℕ) (past : Past) (edition : Edition) (image 
   pub fits : FitsPast edition sectors past image
   pub found : Standing
   pub is_found : StandingIs edition sectors image (Ok found)
-  pub in_range : AllByRecursion (λ (e : Exchange). IsInRange edition e.call) exchanges
+  pub in_range : AllByRecursion (λ (e : Exchange). IsInRange e.call) exchanges
   pub steps : Steps (opened_state found (logs_of past)) exchanges s
 
 -- A `format` that answers Ok makes a new endpoint, and none answers Ok once the disk is formatted. One that does not, or is cut short, may leave
@@ -77,7 +77,7 @@ Leads sectors old (Refuses edition image fault) new =
     FitsPast edition sectors old image × ((fault ≡ Disk) ⊎ StandingIs edition sectors image (Err fault)) × (new ≡ old)
 Leads sectors old (Serves edition image exchanges cut) new =
     (last : State) × IsLifeSoFar sectors old edition image exchanges last
-    × IfSome cut (λ call. IsInRange edition call) × (new ≡ Formatted (state_at_end last cut))
+    × IfSome cut (λ call. IsInRange call) × (new ≡ Formatted (state_at_end last cut))
 
 -- ---- a history
 

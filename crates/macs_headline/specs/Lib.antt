@@ -17,4 +17,5 @@ pub mod Images
 pub mod Example
 pub mod ExampleStanding
 pub mod ExampleDisk
+pub mod ExampleCuts
 pub mod ExampleLives

@@ -2,6 +2,7 @@
 use Rattle.std.specs.Prelude.{◌≡◌, ◌≢◌, ◌<◌, ◌≤◌, ◌^◌, ◌++◌, ℕ, true, List, [], ◌∷◌, Ok}
 use Rattle.macs_frame.specs.Protection.{protected_frame}
 use Rattle.macs_frame.specs.declared.tag.ScName.TheVariants.{Explicit}
+use Rattle.macs_aes.specs.declared.keys.Key.TheVariants.{Short}
 use Rattle.macs_config.specs.Identity.{Identity}
 use Rattle.macs_config.specs.declared.command.Command.{Command}
 use Rattle.macs_config.specs.declared.command.Command.TheVariants.{TxInstall}
@@ -11,9 +12,9 @@ use Rattle.macs_headline.specs.Days.{link_of}
 use Rattle.macs_headline.specs.Deeds.{Chain, Link, Refusing}
 use Rattle.macs_headline.specs.declared.night.Night.{Night}
 
--- an association of this number and key, from packet number 1, under which User Data are encrypted whole
+-- an association of this number and key of 16 octets, from packet number 1, under which User Data are encrypted whole
 abbrev pub night_install : (an : ℕ) (key : List ℕ) → Command
-night_install an key = TxInstall an key 1 true 0
+night_install an key = TxInstall an (Short key) 1 true 0
 
 -- A frame is the standard's (IEEE Std 802.1AE-2018, clauses 9 and 10): the protected frame of the plain one under that association, with this packet
 -- number, 1 to 2^32 - 1.

@@ -1,5 +1,5 @@
 -- The headline on tickets.
-use Rattle.std.specs.Prelude.{◌≡◌, ◌+◌, ◌++◌, ℕ, List, [], ◌∷◌, map, Ok}
+use Rattle.std.specs.Prelude.{◌≡◌, ◌+◌, ◌++◌, ℕ, List, [], ◌∷◌, flat_map, map, Ok}
 use Rattle.macs_endpoint.specs.State.{Advanced, Reply, State, Submitted}
 use Rattle.macs_endpoint.specs.Step.{Exchange}
 use Rattle.macs_endpoint.specs.declared.progress.Step.TheVariants.{Done}
@@ -18,13 +18,11 @@ done_by reply = []
 
 -- those that the calls of a life gave, in their order
 abbrev pub tickets_given : List Exchange → List ℕ
-tickets_given [] = []
-tickets_given (e ∷ exchanges) = given_by e.reply ++ tickets_given exchanges
+tickets_given exchanges = flat_map (λ (e : Exchange). given_by e.reply) exchanges
 
 -- those that they were done with, in their order
 abbrev pub tickets_done : List Exchange → List ℕ
-tickets_done [] = []
-tickets_done (e ∷ exchanges) = done_by e.reply ++ tickets_done exchanges
+tickets_done exchanges = flat_map (λ (e : Exchange). done_by e.reply) exchanges
 
 -- the tickets of commands that wait
 abbrev pub tickets_of : List Waiting → List ℕ

@@ -141,7 +141,8 @@ pub fn histories<D: SectorDisk>()
     ensures cut { EndsAreCuts D.disk }
     // An opening is refused only where a device call failed, or where the disk was not formatted for sure.
     ensures refusals { RefusalsAreFailures D.disk }
-    // What is left after it is opened as a restart of the state in which it ended.
+    // What is left after it is opened as a restart of the state in which it ended, with the command that the
+    // call which was cut short may have begun.
     ensures fit { LivesFit D.disk }
     // What it acknowledged is kept.
     ensures commands { LivesKeepCommands D.disk }
@@ -154,7 +155,8 @@ pub fn histories<D: SectorDisk>()
 {}
 
 /// There are histories, over real images and frames: with power losses in `format`, between two steps of a
-/// command and in a compaction, a device's fault, refused openings, and frames of both sides.
+/// command and in a compaction, a program that is killed, a device's fault, refused openings and commands,
+/// and frames of both sides, also within a replay window and without replay protection.
 pub fn worked_history()
     ensures { IsWorkedHistory }
 {

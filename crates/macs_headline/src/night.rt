@@ -5,6 +5,7 @@ ghost use Rattle.macs_headline.specs.Binding.{IsNewDisk};
 ghost use Rattle.macs_headline.specs.Endings.{LosesPower};
 ghost use Rattle.macs_headline.specs.Nights.{IsNight, IsRefusedNight};
 
+use macs_aes::Key;
 use macs_config::{Command, Identity};
 use macs_disk::{Fuse, MemDisk, SectorDisk};
 use macs_endpoint::{CommandFault, Endpoint, OpenRefused, ProtectFault, RefillFault, format};
@@ -69,7 +70,7 @@ pub fn a_night<D: PowerLoss>(
     endpoint.facts();
     let installed = endpoint.command(Command::TxInstall {
         an,
-        key,
+        key: Key::Short(key),
         start: 1,
         confidential: true,
         offset: 0,

@@ -1,5 +1,5 @@
 -- The rounds on several blocks: the first AddRoundKey, one more round, the last.
-use Rattle.std.proofs.Common.{◌≡◌, ℕ, suc, ◌+◌, ◌-◌, ◌≤◌, ◌∙◌, List, [], ◌∷◌, map, ap, sym, refl, arith}
+use Rattle.std.proofs.Common.{◌≡◌, ℕ, suc, ◌+◌, ◌-◌, ◌%◌, ◌≤◌, ◌∙◌, ◌⊎◌, List, [], ◌∷◌, map, ap, sym, refl, arith, inl, inr}
 use Rattle.macs_aes.specs.Cipher.{state_after_rounds, cipher, encrypt, mix_columns, round_key, shift_rows, sub_bytes, xor_tables}
 use Rattle.macs_aes.specs.KeyExpansion.{key_words, rounds_of}
 use Rattle.macs_planes.specs.RoundKeys.{keyed}
@@ -26,6 +26,11 @@ pub turned_twice : (p q r : List (List ℕ)) → q ≡ map sub_bytes p → r ≡
 turned_twice p q r eq er = er ∙ ap (λ v. map shift_rows (map shift_rows v)) eq ∙ ap (map shift_rows) (shifted_bytes p)
 
 -- ---- the rounds
+
+-- there is an even number of rounds, two at least
+pub even_rounds : (n : ℕ) → (n ≡ 10) ⊎ (n ≡ 14) → (n % 2 ≡ 0) × (2 ≤ n)
+even_rounds n (inl ten) = (omega (arith, ten), omega (arith, ten))
+even_rounds n (inr fourteen) = (omega (arith, fourteen), omega (arith, fourteen))
 
 first_round : (w : List ℕ) (blocks : List (List ℕ)) → map (λ s. xor_tables s (round_key w 0)) blocks ≡ map (λ b. state_after_rounds w b 0) blocks
 unfolding state_after_rounds

@@ -17,9 +17,9 @@ const LANES: usize = REGISTER_BITS / 16;
 pub const BLOCKS_OF_A_GROUP: usize = 2048 / REGISTER_BITS;
 
 /// A round of so many (FIPS 197, 5.1) on each block, with its key: the last goes without MixColumns. An odd
-/// round leaves the rows for the next to turn, which turns them twice: so rows are moved by fewer steps. It
-/// is one function for all kinds of round, so that SubBytes stands once in the code and the compiler keeps
-/// the planes in registers.
+/// round leaves the rows for the next to turn, which turns them twice: so rows are moved by fewer steps. The
+/// last round is an even one, since a key has 10 rounds or 14. It is one function for all kinds of round, so
+/// that SubBytes is in the code once and the compiler keeps the planes in registers.
 #[inline(always)]
 fn take_round<const N: usize>(planes: &mut Planes<N>, key: &KeyBits, round: usize, rounds: usize)
     ensures odd { round % 2 ≡ 1 → map shift_rows planes.new ≡ keyed (shift_rows (octets_in_words key.now)) (map mix_columns (map shift_rows (map sub_bytes planes.old))) }
@@ -94,7 +94,7 @@ impl<'a> GroupKeys<'a> {
         }
     }
 
-    /// Sixteen blocks, each encrypted by AES-128 under the key (FIPS 197, 5.1).
+    /// Sixteen blocks, each encrypted by AES under the key (FIPS 197, 5.1).
     pub fn encrypt16(&self, blocks: &mut [Block; 16])
         ensures { blocks.new ≡ map (encrypt self.now) blocks.old }
     {
@@ -102,7 +102,7 @@ impl<'a> GroupKeys<'a> {
     }
 }
 
-/// Sixteen blocks, each encrypted by AES-128 under the schedule's key (FIPS 197, 5.1).
+/// Sixteen blocks, each encrypted by AES under the schedule's key (FIPS 197, 5.1).
 pub fn encrypt16(schedule: &Schedule, blocks: &mut [Block; 16])
     ensures { blocks.new ≡ map (encrypt schedule.now) blocks.old }
 {

@@ -1,4 +1,5 @@
-//! AES-128 (FIPS 197, edition of 2001) on planes of bits: several blocks side by side.
+//! AES (FIPS 197, edition of 2001) on planes of bits, under keys of 128 and of 256 bits: several blocks side
+//! by side.
 //!
 //! Bit k of every octet of a block is one word of 16 bits, and the words of several blocks are the
 //! lanes of one vector, a plane. So each step of the cipher is a fixed sequence of shifts, ands and

@@ -1,8 +1,8 @@
 //! Round keys as words of bits, which are the same for all blocks.
 
-ghost use Rattle.std.specs.Prelude.{◌≡◌, ◌<◌, ◌%◌};
+ghost use Rattle.std.specs.Prelude.{◌≡◌, ◌≤◌, ◌%◌};
 ghost use Rattle.macs_aes.specs.Cipher.{round_key, shift_rows};
-ghost use Rattle.macs_aes.specs.KeyExpansion.{key_words};
+ghost use Rattle.macs_aes.specs.KeyExpansion.{key_words, rounds_of};
 ghost use Rattle.macs_planes.specs.RoundKeys.{AreRoundKeys, octets_in_words};
 
 use crate::bits::{bit_word, octets_of};
@@ -11,8 +11,8 @@ use macs_aes::{Block, Schedule};
 /// A round key: bit j of word k is bit k (the least significant first) of octet j.
 pub(crate) type KeyBits = [u16; 8];
 
-/// How many round keys there are: one for each round, and one before the first.
-pub(crate) const ROUND_KEYS: usize = 11;
+/// How many round keys there are at most: one for each of fourteen rounds, and one before the first.
+pub(crate) const ROUND_KEYS: usize = 15;
 
 /// The bits of a round key.
 #[inline(always)]
@@ -42,9 +42,9 @@ fn unturned(block: &Block) -> Block
     ]
 }
 
-/// The bits of the key of a round, 0 to 10; where it is odd, with rows that ShiftRows has still to turn.
+/// The bits of the key of a round, 0 to the number of rounds; where it is odd, with rows that ShiftRows has still to turn.
 fn round_bits(schedule: &Schedule, round: usize) -> KeyBits
-    requires { round < 11 }
+    requires { round ≤ rounds_of schedule.now }
     ensures even { round % 2 ≡ 0 → octets_in_words result ≡ round_key (key_words schedule.now) round }
     ensures odd { round % 2 ≡ 1 → shift_rows (octets_in_words result) ≡ round_key (key_words schedule.now) round }
 {
@@ -56,12 +56,13 @@ fn round_bits(schedule: &Schedule, round: usize) -> KeyBits
     }
 }
 
-/// The bits of all round keys, those of odd rounds with rows that ShiftRows has still to turn.
+/// The bits of all round keys, those of odd rounds with rows that ShiftRows has still to turn. After those of a
+/// short key come zeros.
 pub(crate) fn round_keys(schedule: &Schedule) -> [KeyBits; ROUND_KEYS]
     ensures { AreRoundKeys schedule.now result }
 {
     let mut keys = [[0; 8]; ROUND_KEYS];
-    for round in 0..ROUND_KEYS {
+    for round in 0..schedule.rounds() + 1 {
         keys[round] = round_bits(schedule, round);
     }
     keys

@@ -3,6 +3,7 @@ use Rattle.std.specs.Prelude.{◌≡◌, ℕ, List, ◌++◌, codes}
 use Rattle.std.specs.Fmt.{decimal}
 use Rattle.std.specs.Int.{w32, to_be_bytes}
 use Rattle.hex.specs.Hex.{encode_lower}
+use Rattle.macs_aes.specs.Keys.{octets_of_key}
 use Rattle.macs_frame.specs.Fields.{octets_of}
 use Rattle.macs_frame.specs.First.{IsFirst, NoneHolds}
 use Rattle.macs_frame.specs.Opening.{OpenFaultHolds, Verified, open_faults}
@@ -21,13 +22,13 @@ use Rattle.macs_program.specs.declared.status.Status.TheVariants as ends
 
 -- under the request's key, SCI and offset the fault of its frame holds
 abbrev pub FrameFaultHolds : Request → OpenFault → Type 0
-FrameFaultHolds request = OpenFaultHolds request.frame.items request.key request.sci (octets_of request.offset)
+FrameFaultHolds request = OpenFaultHolds request.frame.items (octets_of_key request.key) request.sci (octets_of request.offset)
 
 -- no fault holds, and under the request's key, SCI and offset its frame is verified as this plain frame; its SecTAG has
 -- this AN and this PN
 pub record OpensRequest (request : Request) (an pn : ℕ) (plain : List ℕ) : Type 0 where
   pub faultless : NoneHolds (FrameFaultHolds request) open_faults
-  pub verified : Verified request.frame.items request.key request.sci (octets_of request.offset) plain
+  pub verified : Verified request.frame.items (octets_of_key request.key) request.sci (octets_of request.offset) plain
   pub association : an ≡ (tag_of request.frame.items).an
   pub number : pn ≡ (tag_of request.frame.items).pn
 

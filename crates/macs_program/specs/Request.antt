@@ -1,6 +1,7 @@
 -- What is asked of `open` by four lines: a key, an SCI, a confidentiality offset and a protected frame.
-use Rattle.std.specs.Prelude.{◌≡◌, ℕ, ◌≤◌, List, [], ◌∷◌, length, codes, Ok}
+use Rattle.std.specs.Prelude.{◌≡◌, ◌⊎◌, ℕ, ◌≤◌, List, [], ◌∷◌, length, codes, Ok}
 use Rattle.hex.specs.Hex.{decode_of}
+use Rattle.macs_aes.specs.Keys.{octets_of_key}
 use Rattle.macs_frame.specs.declared.fields.Offset.{Offset}
 use Rattle.macs_frame.specs.declared.fields.Offset.TheVariants.{Zero, Thirty, Fifty}
 use Rattle.macs_program.specs.Lines.{line_at, lines}
@@ -12,9 +13,13 @@ use Rattle.macs_program.specs.declared.request.InputFault.TheVariants as fault
 abbrev pub SpellsOctets : List ℕ → List ℕ → Type 0
 SpellsOctets line octets = decode_of line ≡ Ok octets
 
--- the line is a key of 16 octets in hex
+-- so many octets are spelled
+abbrev pub SpellsSized : List ℕ → ℕ → List ℕ → Type 0
+SpellsSized line count octets = (length octets ≡ count) × SpellsOctets line octets
+
+-- the line is a key of 16 or of 32 octets in hex
 abbrev pub SpellsKey : List ℕ → List ℕ → Type 0
-SpellsKey line key = (length key ≡ 16) × SpellsOctets line key
+SpellsKey line key = ((length key ≡ 16) ⊎ (length key ≡ 32)) × SpellsOctets line key
 
 -- the line is an SCI of 8 octets in hex
 abbrev pub SpellsSci : List ℕ → List ℕ → Type 0
@@ -37,7 +42,7 @@ IsFourLines input = (length input ≤ 20000) × (length (lines input) ≡ 4)
 -- the four lines of the input are the key, the SCI, the offset and the frame of the request
 pub record Spells (input : List ℕ) (request : Request) : Type 0 where
   pub four : IsFourLines input
-  pub key : SpellsKey (line_at input 0) request.key
+  pub key : SpellsKey (line_at input 0) (octets_of_key request.key)
   pub sci : SpellsSci (line_at input 1) request.sci
   pub offset : SpellsOffset (line_at input 2) request.offset
   pub frame : SpellsOctets (line_at input 3) request.frame.items

@@ -89,6 +89,7 @@ fn refusal_name(refusal: Refusal) -> &'static str
         Refusal::InUse => "InUse",
         Refusal::KeySpent => "KeySpent",
         Refusal::SpentFull => "SpentFull",
+        Refusal::LongKey => "LongKey",
     }
 }
 
@@ -112,6 +113,20 @@ fn outcome_line(at: usize, outcome: Option<Refusal>) -> Line
     line
 }
 
+/// What a command comes to that is not kept: it is refused, or the run ends.
+fn outcome_of(fault: CommandFault) -> Result<Option<Refusal>, DiskFault>
+    ensures refused { IfOk result (λ outcome. answer_of outcome ≡ Err fault) }
+    ensures failed { IfErr result (λ ends. commit_fault ends fault) }
+{
+    match fault {
+        CommandFault::Refused(refusal) => Ok(Some(refusal)),
+        CommandFault::Stopped => Err(DiskFault::Journal(JournalFault::Stopped)),
+        CommandFault::Busy => Err(DiskFault::Busy), // Never: no command is submitted.
+        CommandFault::GenerationsSpent => Err(DiskFault::Journal(JournalFault::GenerationsSpent)),
+        CommandFault::Disk => Err(DiskFault::Journal(JournalFault::Disk)),
+    }
+}
+
 /// Gives a command to the endpoint, which keeps or refuses it.
 fn settle<D: SectorDisk>(
     endpoint: &mut Endpoint<D>,
@@ -124,15 +139,7 @@ fn settle<D: SectorDisk>(
 {
     match endpoint.command(command) {
         Ok(()) => Ok(None),
-        Err(fault) => match fault {
-            CommandFault::Refused(refusal) => Ok(Some(refusal)),
-            CommandFault::Stopped => Err(DiskFault::Journal(JournalFault::Stopped)),
-            CommandFault::Busy => Err(DiskFault::Busy), // Never: no command is submitted.
-            CommandFault::GenerationsSpent => {
-                Err(DiskFault::Journal(JournalFault::GenerationsSpent))
-            }
-            CommandFault::Disk => Err(DiskFault::Journal(JournalFault::Disk)),
-        },
+        Err(fault) => outcome_of(fault),
     }
 }
 

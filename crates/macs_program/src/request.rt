@@ -1,13 +1,15 @@
 //! What is asked of `open`, by four lines of text.
 
 ghost use Rattle.std.specs.Prelude.{◌≡◌, ◌≤◌, ◌↔◌, List, ℕ, length, IfOk, MatchOption};
+ghost use Rattle.macs_aes.specs.Keys.{octets_of_key};
 ghost use Rattle.macs_frame.specs.First.{IsFirst};
 ghost use Rattle.macs_program.specs.Request.{InputFaultHolds, Spells, input_faults};
-ghost use Rattle.macs_program.specs.Request.{SpellsKey, SpellsOctets, SpellsOffset, SpellsSci};
+ghost use Rattle.macs_program.specs.Request.{SpellsKey, SpellsOctets, SpellsOffset, SpellsSci, SpellsSized};
 
 use crate::lines::four_lines;
 use arrayvec::ArrayVec;
 use hex::FromHex;
+use macs_aes::Key;
 use macs_frame::{Offset, Sci};
 
 /// The longest input, in octets.
@@ -22,8 +24,8 @@ pub type SpelledFrame = ArrayVec<u8, MAX_SPELLED>;
 /// A protected frame, and what it is to be opened with. It holds a key, so it is not `Debug`.
 #[derive(Drop)]
 pub struct Request {
-    /// The key of AES-128.
-    pub key: [u8; 16],
+    /// The key that the frame is to be sealed under, of 128 bits or of 256.
+    pub key: Key,
     /// The SCI of the channel that the frame is to be of.
     pub sci: Sci,
     /// How much of the User Data is in the clear where the frame is encrypted.
@@ -37,7 +39,7 @@ pub struct Request {
 pub enum InputFault {
     /// It has more than 20,000 octets, or is not four lines.
     Input,
-    /// The first line is not 32 hex digits.
+    /// The first line is neither 32 hex digits nor 64.
     Key,
     /// The second line is not 16 hex digits.
     Sci,
@@ -65,11 +67,31 @@ impl InputFault {
     }
 }
 
-/// The key that a line spells.
-fn key_of(line: &[u8]) -> Option<[u8; 16]>
-    ensures { MatchOption result ((key : List ℕ) → ¬ SpellsKey line.now key) (SpellsKey line.now) }
+/// The 16 octets that a line spells.
+fn short_key_of(line: &[u8]) -> Option<[u8; 16]>
+    ensures { MatchOption result ((octets : List ℕ) → ¬ SpellsSized line.now 16 octets) (SpellsSized line.now 16) }
 {
     <[u8; 16] as FromHex>::from_hex(line).ok()
+}
+
+/// The 32 octets that a line spells.
+fn long_key_of(line: &[u8]) -> Option<[u8; 32]>
+    ensures { MatchOption result ((octets : List ℕ) → ¬ SpellsSized line.now 32 octets) (SpellsSized line.now 32) }
+{
+    <[u8; 32] as FromHex>::from_hex(line).ok()
+}
+
+/// The key that a line spells.
+fn key_of(line: &[u8]) -> Option<Key>
+    ensures { MatchOption result ((key : List ℕ) → ¬ SpellsKey line.now key) (λ key. SpellsKey line.now (octets_of_key key)) }
+{
+    match short_key_of(line) {
+        Some(short) => Some(Key::Short(short)),
+        None => match long_key_of(line) {
+            Some(long) => Some(Key::Long(long)),
+            None => None,
+        },
+    }
 }
 
 /// The SCI that a line spells.

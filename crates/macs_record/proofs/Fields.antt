@@ -1,5 +1,5 @@
 -- Records from fields that were read.
-use Rattle.std.proofs.Common.{◌≡◌, ℕ, List, Some}
+use Rattle.std.proofs.Common.{◌≡◌, ◌++◌, ◌∷◌, ◌∙◌, ℕ, List, Some, ap, append_assoc, sym}
 use Rattle.macs_frame.specs.declared.fields.Offset.{Offset}
 use Rattle.macs_config.specs.declared.association.Protection.{Protection}
 use Rattle.macs_config.specs.declared.association.RxSa.{RxSa as RxSaFields}
@@ -47,3 +47,19 @@ rx_install sci other_sci an other_an start other_start key offset sa scis ans ke
     let fields = rx_fields key offset sa keys offsets in
     let s = inside sci other_sci scis in
     let a = inside an other_an ans in let n = inside start other_start starts in λ i. Some (RxInstall (s i) (a i) (fields i) (n i))
+
+-- ---- what was read in turn is what the fields are
+
+pub tx_whole : (an : ℕ) (key number last old after_an after_key after_number left : List ℕ) → old ≡ an ∷ after_an → after_an ≡ key ++ after_key
+    → after_key ≡ number ++ after_number → after_number ≡ last ++ left → old ≡ (an ∷ (key ++ (number ++ last))) ++ left
+tx_whole an key number last old after_an after_key after_number left ans keys numbers lasts =
+    let from_key : after_an ≡ (key ++ (number ++ last)) ++ left =
+    keys ∙ ap (λ (xs : List ℕ). key ++ xs) (numbers ∙ ap (λ (xs : List ℕ). number ++ xs) lasts ∙ sym (append_assoc number last left))
+    ∙ sym (append_assoc key (number ++ last) left) in
+    ans ∙ ap (λ (xs : List ℕ). an ∷ xs) from_key
+
+pub rx_whole : (sci : List ℕ) (an : ℕ) (key number last old after_sci after_an after_key after_number left : List ℕ) → old ≡ sci ++ after_sci → after_sci ≡ an ∷ after_an
+    → after_an ≡ key ++ after_key → after_key ≡ number ++ after_number → after_number ≡ last ++ left → old ≡ (sci ++ (an ∷ (key ++ (number ++ last)))) ++ left
+rx_whole sci an key number last old after_sci after_an after_key after_number left scis ans keys numbers lasts =
+    scis ∙ ap (λ (xs : List ℕ). sci ++ xs) (tx_whole an key number last after_sci after_an after_key after_number left ans keys numbers lasts)
+    ∙ sym (append_assoc sci (an ∷ (key ++ (number ++ last))) left)

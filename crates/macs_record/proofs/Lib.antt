@@ -1,4 +1,5 @@
 pub mod Numbers
+pub mod KeyKinds
 pub mod RecordKinds
 pub mod Decoded
 pub mod OneRecord

@@ -1,5 +1,5 @@
 -- A sector is that of one record: its fields are read back from their places.
-use Rattle.std.proofs.Common.{◌≡◌, ◌<◌, ◌^◌, ◌++◌, ◌==◌, ◌∙◌, zero, suc, ℕ, Bool, true, false, List, [], ◌∷◌, if◌then◌else◌, length, get_or, take, drop, replicate, ◌-◌, Option, Some, None, refl, sym, ap, arith, append_assoc}
+use Rattle.std.proofs.Common.{◌≡◌, ◌<◌, ◌^◌, ◌++◌, ◌==◌, ◌∙◌, zero, suc, ℕ, Bool, true, false, List, [], ◌∷◌, if◌then◌else◌, length, get_or, take, drop, replicate, ◌-◌, Option, Some, None, refl, sym, ap, arith, append_assoc, inl, inr}
 use Rattle.std.specs.Int.{from_be_bytes, to_be_bytes, w32, w64}
 use Rattle.std.specs.List.{All, concat}
 use Rattle.std.proofs.lemmas.Bool.{ne_eqb}
@@ -9,9 +9,12 @@ use Rattle.std.proofs.lemmas.Nat.{from_be_bytes-to_be_bytes_4, from_be_bytes-to_
 use Rattle.macs_frame.specs.Fields.{octets_of}
 use Rattle.macs_frame.specs.declared.fields.Offset.{Offset}
 use Rattle.macs_frame.specs.declared.fields.Offset.TheVariants.{Zero, Thirty, Fifty}
+use Rattle.macs_config.specs.Apply.{IsKey}
 use Rattle.macs_config.specs.Association.{is_confidential, offset_of}
 use Rattle.macs_config.specs.declared.association.Protection.{Protection}
 use Rattle.macs_config.specs.declared.association.Protection.TheVariants.{Confidentiality, Integrity}
+use Rattle.macs_config.specs.declared.association.RxSa.{RxSa as RxSaFields}
+use Rattle.macs_config.specs.declared.association.TxSa.{TxSa as TxSaFields}
 use Rattle.macs_config.specs.declared.command.Replay.{Replay}
 use Rattle.macs_config.specs.declared.command.Role.{Role}
 use Rattle.macs_config.specs.declared.command.Role.TheVariants.{Receive, Transmit}
@@ -19,13 +22,15 @@ use Rattle.macs_config.specs.declared.command.SciMode.{SciMode}
 use Rattle.macs_config.specs.declared.command.SciMode.TheVariants.{EndStation, Explicit, Implicit}
 use Rattle.macs_config.specs.declared.command.Validate.{Validate}
 use Rattle.macs_config.specs.declared.command.Validate.TheVariants.{Check, Strict}
-use Rattle.macs_record.specs.Layout.{IsRecord, encoding_octet, fields_of, flag_octet, front_of, kind_of, mode_octet, protection_octets, replay_octets, role_octet, sector_of, validate_octet}
+use Rattle.macs_record.specs.Layout.{IsRecord, by_length, encoding_octet, fields_of, flag_octet, front_of, kind_of, mode_octet, protection_octets, replay_octets, role_octet, sector_of, validate_octet}
 use Rattle.macs_frame.specs.Fields.{IsOctets}
-use Rattle.macs_record.specs.Ranges.{IsEncoding}
+use Rattle.macs_record.specs.Ranges.{IsCeiling, IsEncoding}
+use Rattle.macs_record.specs.declared.key_length.KeyLength.TheVariants.{Short, Long}
 use Rattle.macs_record.specs.declared.kind.Kind.{Kind}
 use Rattle.macs_record.specs.declared.kind.Kind.TheVariants as kinds
 use Rattle.macs_record.specs.declared.record.Record.{Record}
 use Rattle.macs_record.specs.declared.record.Record.TheVariants.{Settings, TxSa, Channel, RxSa, Spent, SetValidate, SetReplay, SetSciMode, TxInstall, TxUse, TxRemove, RxAdd, RxDrop, RxInstall, RxRemove, TxCeiling, RxCeiling}
+use Rattle.macs_record.proofs.KeyKinds.{by_its_length}
 use Rattle.macs_record.proofs.RecordKinds.{one_kind}
 
 -- ---- the fields from their octets
@@ -126,8 +131,8 @@ tx_install_from an key behind =
 abbrev rx_install_from : List ℕ → ℕ → List ℕ → List ℕ → Record
 rx_install_from sci an key behind = RxInstall sci an (record { key = key; offset = offset_from (octet 4 behind) }) (number_4 behind)
 
-abbrev keyed : (List ℕ → List ℕ → Record) → List ℕ → Record
-keyed f octets = f (take 16 octets) (drop 16 octets)
+abbrev keyed : ℕ → (List ℕ → List ℕ → Record) → List ℕ → Record
+keyed size f octets = f (take size octets) (drop size octets)
 
 abbrev named : (List ℕ → List ℕ → Record) → List ℕ → Record
 named f octets = f (take 8 octets) (drop 8 octets)
@@ -135,19 +140,23 @@ named f octets = f (take 8 octets) (drop 8 octets)
 -- the record of this kind whose fields these octets begin with
 unfoldable unread : Kind → List ℕ → Record
 unread kinds.Settings octets = Settings (validate_from (octet 0 octets)) (replay_from (drop 1 octets)) (mode_from (octet 6 octets)) (encoding_from (octet 7 octets))
-unread kinds.TxSa octets = keyed (tx_sa_from (octet 0 octets)) (drop 1 octets)
+unread kinds.TxSa octets = keyed 16 (tx_sa_from (octet 0 octets)) (drop 1 octets)
+unread kinds.TxSaLong octets = keyed 32 (tx_sa_from (octet 0 octets)) (drop 1 octets)
 unread kinds.Channel octets = named (λ (sci behind : List ℕ). Channel sci) octets
-unread kinds.RxSa octets = named (λ (sci behind : List ℕ). keyed (rx_sa_from sci (octet 0 behind)) (drop 1 behind)) octets
+unread kinds.RxSa octets = named (λ (sci behind : List ℕ). keyed 16 (rx_sa_from sci (octet 0 behind)) (drop 1 behind)) octets
+unread kinds.RxSaLong octets = named (λ (sci behind : List ℕ). keyed 32 (rx_sa_from sci (octet 0 behind)) (drop 1 behind)) octets
 unread kinds.Spent octets = Spent (role_from (octet 0 octets)) (chunks (octet 1 octets) (drop 2 octets))
 unread kinds.SetValidate octets = SetValidate (validate_from (octet 0 octets))
 unread kinds.SetReplay octets = SetReplay (replay_from octets)
 unread kinds.SetSciMode octets = SetSciMode (mode_from (octet 0 octets))
-unread kinds.TxInstall octets = keyed (tx_install_from (octet 0 octets)) (drop 1 octets)
+unread kinds.TxInstall octets = keyed 16 (tx_install_from (octet 0 octets)) (drop 1 octets)
+unread kinds.TxInstallLong octets = keyed 32 (tx_install_from (octet 0 octets)) (drop 1 octets)
 unread kinds.TxUse octets = TxUse (octet 0 octets)
 unread kinds.TxRemove octets = TxRemove (octet 0 octets)
 unread kinds.RxAdd octets = named (λ (sci behind : List ℕ). RxAdd sci) octets
 unread kinds.RxDrop octets = named (λ (sci behind : List ℕ). RxDrop sci) octets
-unread kinds.RxInstall octets = named (λ (sci behind : List ℕ). keyed (rx_install_from sci (octet 0 behind)) (drop 1 behind)) octets
+unread kinds.RxInstall octets = named (λ (sci behind : List ℕ). keyed 16 (rx_install_from sci (octet 0 behind)) (drop 1 behind)) octets
+unread kinds.RxInstallLong octets = named (λ (sci behind : List ℕ). keyed 32 (rx_install_from sci (octet 0 behind)) (drop 1 behind)) octets
 unread kinds.RxRemove octets = named (λ (sci behind : List ℕ). RxRemove sci (octet 0 behind)) octets
 unread kinds.TxCeiling octets = TxCeiling (octet 0 octets) (number_8 (drop 1 octets))
 unread kinds.RxCeiling octets = named (λ (sci behind : List ℕ). RxCeiling sci (octet 0 behind) (number_8 (drop 1 behind))) octets
@@ -155,33 +164,65 @@ unread kinds.RxCeiling octets = named (λ (sci behind : List ℕ). RxCeiling sci
 replay_back : (replay : Replay) (rest : List ℕ) → replay.window < 2 ^ 32 → replay_from (replay_octets replay ++ rest) ≡ replay
 replay_back replay rest range = λ i. record { on = flag_back replay.on i; window = from_be_bytes-to_be_bytes_4 replay.window range i }
 
+-- a record with a key of so many octets, from its fields
+module _ (size : ℕ) (rest : List ℕ) where
+  tx_sa_back : (an : ℕ) (sa : TxSaFields) (ceiling : ℕ) → length sa.key ≡ size → IsCeiling ceiling
+      → keyed size (tx_sa_from an) (sa.key ++ (to_be_bytes w64 ceiling ++ protection_octets sa.protection) ++ rest) ≡ TxSa an sa ceiling
+  tx_sa_back an sa ceiling key bound =
+      cut (tx_sa_from an) size sa.key (to_be_bytes w64 ceiling ++ protection_octets sa.protection ++ rest) _ key (append_assoc sa.key _ rest)
+      ∙ (λ i. TxSa an (record { key = sa.key; protection = protection_back sa.protection i }) (from_be_bytes-to_be_bytes_8 ceiling (omega (arith, bound.1)) i))
+
+  rx_sa_back : (sci : List ℕ) (an : ℕ) (sa : RxSaFields) (ceiling : ℕ) → length sci ≡ 8 → length sa.key ≡ size → IsCeiling ceiling
+      → named (λ (sci behind : List ℕ). keyed size (rx_sa_from sci (octet 0 behind)) (drop 1 behind)) (fields_of (RxSa sci an sa ceiling) ++ rest) ≡ RxSa sci an sa ceiling
+  rx_sa_back sci an sa ceiling eight key bound =
+      cut (λ (front behind : List ℕ). keyed size (rx_sa_from front (octet 0 behind)) (drop 1 behind)) 8 sci _ _ eight (append_assoc sci _ rest)
+      ∙ cut (rx_sa_from sci an) size sa.key (to_be_bytes w64 ceiling ++ octets_of sa.offset ∷ rest) _ key (append_assoc sa.key _ rest)
+      ∙ (λ i. RxSa sci an (record { key = sa.key; offset = offset_back sa.offset i }) (from_be_bytes-to_be_bytes_8 ceiling (omega (arith, bound.1)) i))
+
+  tx_install_back : (an : ℕ) (sa : TxSaFields) (start : ℕ) → length sa.key ≡ size → start < 2 ^ 32
+      → keyed size (tx_install_from an) (sa.key ++ (to_be_bytes w32 start ++ protection_octets sa.protection) ++ rest) ≡ TxInstall an sa start
+  tx_install_back an sa start key bound =
+      cut (tx_install_from an) size sa.key (to_be_bytes w32 start ++ protection_octets sa.protection ++ rest) _ key (append_assoc sa.key _ rest)
+      ∙ (λ i. TxInstall an (record { key = sa.key; protection = protection_back sa.protection i }) (from_be_bytes-to_be_bytes_4 start bound i))
+
+  rx_install_back : (sci : List ℕ) (an : ℕ) (sa : RxSaFields) (start : ℕ) → length sci ≡ 8 → length sa.key ≡ size → start < 2 ^ 32
+      → named (λ (sci behind : List ℕ). keyed size (rx_install_from sci (octet 0 behind)) (drop 1 behind)) (fields_of (RxInstall sci an sa start) ++ rest) ≡ RxInstall sci an sa start
+  rx_install_back sci an sa start eight key bound =
+      cut (λ (front behind : List ℕ). keyed size (rx_install_from front (octet 0 behind)) (drop 1 behind)) 8 sci _ _ eight (append_assoc sci _ rest)
+      ∙ cut (rx_install_from sci an) size sa.key (to_be_bytes w32 start ++ octets_of sa.offset ∷ rest) _ key (append_assoc sa.key _ rest)
+      ∙ (λ i. RxInstall sci an (record { key = sa.key; offset = offset_back sa.offset i }) (from_be_bytes-to_be_bytes_4 start bound i))
+
+-- the record of the kind that its key's length says
+by_key : (key octets : List ℕ) (short long : Kind) (r : Record) → IsKey key → (length key ≡ 16 → unread short octets ≡ r) → (length key ≡ 32 → unread long octets ≡ r)
+    → unread (by_length key short long) octets ≡ r
+by_key key octets short long r (inl is) shorts longs = ap (λ (kind : Kind). unread kind octets) (by_its_length Short key short long is) ∙ shorts is.size
+by_key key octets short long r (inr is) shorts longs = ap (λ (kind : Kind). unread kind octets) (by_its_length Long key short long is) ∙ longs is.size
+
 back : (r : Record) (rest : List ℕ) → IsRecord r → unread (kind_of r) (fields_of r ++ rest) ≡ r
 unfolding unread
 back (Settings validate replay mode encoding) rest is =
     λ i. Settings (validate_back validate i) (replay_back replay [] is.0 i) (mode_back mode i) (encoding_back encoding is.1 i)
 back (TxSa an sa ceiling) rest is =
-    cut (tx_sa_from an) 16 sa.key (to_be_bytes w64 ceiling ++ protection_octets sa.protection ++ rest) _ is.1.size (append_assoc sa.key _ rest)
-    ∙ (λ i. TxSa an (record { key = sa.key; protection = protection_back sa.protection i }) (from_be_bytes-to_be_bytes_8 ceiling (omega (arith, is.2.1)) i))
+    by_key sa.key (fields_of (TxSa an sa ceiling) ++ rest) kinds.TxSa kinds.TxSaLong _ is.1
+    (λ size. tx_sa_back 16 rest an sa ceiling size is.2) (λ size. tx_sa_back 32 rest an sa ceiling size is.2)
 back (Channel sci) rest is = cut (λ (front behind : List ℕ). Channel front) 8 sci rest _ is.size refl
 back (RxSa sci an sa ceiling) rest is =
-    cut (λ (front behind : List ℕ). keyed (rx_sa_from front (octet 0 behind)) (drop 1 behind)) 8 sci _ _ is.0.size (append_assoc sci _ rest)
-    ∙ cut (rx_sa_from sci an) 16 sa.key (to_be_bytes w64 ceiling ++ octets_of sa.offset ∷ rest) _ is.2.size (append_assoc sa.key _ rest)
-    ∙ (λ i. RxSa sci an (record { key = sa.key; offset = offset_back sa.offset i }) (from_be_bytes-to_be_bytes_8 ceiling (omega (arith, is.3.1)) i))
+    by_key sa.key (fields_of (RxSa sci an sa ceiling) ++ rest) kinds.RxSa kinds.RxSaLong _ is.2
+    (λ size. rx_sa_back 16 rest sci an sa ceiling is.0.size size is.3) (λ size. rx_sa_back 32 rest sci an sa ceiling is.0.size size is.3)
 back (Spent role fingerprints) rest is = λ i. Spent (role_back role i) (chunks_back fingerprints rest is.2 i)
 back (SetValidate validate) rest is = ap SetValidate (validate_back validate)
 back (SetReplay replay) rest is = ap SetReplay (replay_back replay rest is)
 back (SetSciMode mode) rest is = ap SetSciMode (mode_back mode)
 back (TxInstall an sa start) rest is =
-    cut (tx_install_from an) 16 sa.key (to_be_bytes w32 start ++ protection_octets sa.protection ++ rest) _ is.1.size (append_assoc sa.key _ rest)
-    ∙ (λ i. TxInstall an (record { key = sa.key; protection = protection_back sa.protection i }) (from_be_bytes-to_be_bytes_4 start is.2.1 i))
+    by_key sa.key (fields_of (TxInstall an sa start) ++ rest) kinds.TxInstall kinds.TxInstallLong _ is.1
+    (λ size. tx_install_back 16 rest an sa start size is.2.1) (λ size. tx_install_back 32 rest an sa start size is.2.1)
 back (TxUse an) rest is = refl
 back (TxRemove an) rest is = refl
 back (RxAdd sci) rest is = cut (λ (front behind : List ℕ). RxAdd front) 8 sci rest _ is.size refl
 back (RxDrop sci) rest is = cut (λ (front behind : List ℕ). RxDrop front) 8 sci rest _ is.size refl
 back (RxInstall sci an sa start) rest is =
-    cut (λ (front behind : List ℕ). keyed (rx_install_from front (octet 0 behind)) (drop 1 behind)) 8 sci _ _ is.0.size (append_assoc sci _ rest)
-    ∙ cut (rx_install_from sci an) 16 sa.key (to_be_bytes w32 start ++ octets_of sa.offset ∷ rest) _ is.2.size (append_assoc sa.key _ rest)
-    ∙ (λ i. RxInstall sci an (record { key = sa.key; offset = offset_back sa.offset i }) (from_be_bytes-to_be_bytes_4 start is.3.1 i))
+    by_key sa.key (fields_of (RxInstall sci an sa start) ++ rest) kinds.RxInstall kinds.RxInstallLong _ is.2
+    (λ size. rx_install_back 16 rest sci an sa start is.0.size size is.3.1) (λ size. rx_install_back 32 rest sci an sa start is.0.size size is.3.1)
 back (RxRemove sci an) rest is = cut (λ (front behind : List ℕ). RxRemove front (octet 0 behind)) 8 sci _ _ is.0.size (append_assoc sci _ rest)
 back (TxCeiling an ceiling) rest is = ap (TxCeiling an) (from_be_bytes-to_be_bytes_8 ceiling (omega (arith, is.1.1)))
 back (RxCeiling sci an ceiling) rest is =

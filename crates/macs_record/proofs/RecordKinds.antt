@@ -1,15 +1,20 @@
 -- The kinds of records.
-use Rattle.std.proofs.Common.{◌≡◌, ◌==◌, ◌++◌, ◌∙◌, ℕ, Bool, true, List, [], ◌∷◌, Option, Some, None, IfSome, refl, sym, ap, inl, inr}
+use Rattle.std.proofs.Common.{◌≡◌, ◌==◌, ◌++◌, ◌∙◌, ℕ, Bool, true, false, if◌then◌else◌, List, [], ◌∷◌, length, Option, Some, None, IfSome, refl, sym, ap, inl, inr}
 use Rattle.std.specs.List.{find}
 use Rattle.std.proofs.lemmas.Bool.{cases_Bool, eqb-true}
 use Rattle.macs_config.specs.declared.association.RxSa.{RxSa as RxSaFields}
 use Rattle.macs_config.specs.declared.association.TxSa.{TxSa as TxSaFields}
-use Rattle.macs_record.specs.Layout.{kind_of, record_mark, kind_number, octets_of_kind}
+use Rattle.macs_config.specs.Apply.{IsKey}
+use Rattle.macs_record.specs.Layout.{kind_of, record_mark, kind_number, octets_of_kind, of_length}
+use Rattle.macs_record.specs.Ranges.{IsKeyOf}
+use Rattle.macs_record.specs.declared.key_length.KeyLength.{KeyLength}
+use Rattle.macs_record.specs.declared.key_length.KeyLength.TheVariants.{Short, Long}
 use Rattle.macs_record.specs.declared.kind.Kind.{Kind}
 use Rattle.macs_record.specs.declared.kind.Kind.TheVariants as kinds
 use Rattle.macs_record.specs.declared.kind.TheConstants.{KINDS}
 use Rattle.macs_record.specs.declared.record.Record.{Record}
 use Rattle.macs_record.specs.declared.record.Record.TheVariants.{TxSa, RxSa, TxInstall, RxInstall, RxCeiling}
+use Rattle.macs_record.proofs.KeyKinds.{of_its_kind}
 
 -- ---- the kind of a number
 
@@ -34,6 +39,10 @@ of_its_number kinds.RxInstall = refl
 of_its_number kinds.RxRemove = refl
 of_its_number kinds.TxCeiling = refl
 of_its_number kinds.RxCeiling = refl
+of_its_number kinds.TxSaLong = refl
+of_its_number kinds.RxSaLong = refl
+of_its_number kinds.TxInstallLong = refl
+of_its_number kinds.RxInstallLong = refl
 
 pub one_kind : (a b : Kind) → kind_number a ≡ kind_number b → a ≡ b
 one_kind a b same = let found = sym (of_its_number a) ∙ ap of_number same ∙ of_its_number b in cc
@@ -62,22 +71,65 @@ kind_read (Some kind) number old left of here = here ∙ ap (λ (n : ℕ). recor
 
 -- ---- what is shown of the records of one kind
 
-pub for_tx_sa : (S : Record → Type 0) → ((an : ℕ) (sa : TxSaFields) (ceiling : ℕ) → S (TxSa an sa ceiling)) → (r : Record) → kind_of r ≡ kinds.TxSa → S r
-for_tx_sa S here (TxSa an sa ceiling) kind = here an sa ceiling
-for_tx_sa S here r kind = absurd cc
+-- the kind without the length of the key
+abbrev short_kind : Kind → Kind
+short_kind kinds.TxSaLong = kinds.TxSa
+short_kind kinds.RxSaLong = kinds.RxSa
+short_kind kinds.TxInstallLong = kinds.TxInstall
+short_kind kinds.RxInstallLong = kinds.RxInstall
+short_kind kind = kind
 
-pub for_rx_sa : (S : Record → Type 0) → ((sci : List ℕ) (an : ℕ) (sa : RxSaFields) (ceiling : ℕ) → S (RxSa sci an sa ceiling)) → (r : Record) → kind_of r ≡ kinds.RxSa → S r
-for_rx_sa S here (RxSa sci an sa ceiling) kind = here sci an sa ceiling
-for_rx_sa S here r kind = absurd cc
+-- the kind of a record, were its key short
+abbrev short_kind_of : Record → Kind
+short_kind_of (TxSa an sa ceiling) = kinds.TxSa
+short_kind_of (RxSa sci an sa ceiling) = kinds.RxSa
+short_kind_of (TxInstall an sa start) = kinds.TxInstall
+short_kind_of (RxInstall sci an sa start) = kinds.RxInstall
+short_kind_of r = kind_of r
 
-pub for_tx_install : (S : Record → Type 0) → ((an : ℕ) (sa : TxSaFields) (start : ℕ) → S (TxInstall an sa start)) → (r : Record) → kind_of r ≡ kinds.TxInstall → S r
-for_tx_install S here (TxInstall an sa start) kind = here an sa start
-for_tx_install S here r kind = absurd cc
+either : (test : Bool) (short long kind : Kind) → short_kind short ≡ kind → short_kind long ≡ kind → short_kind (if test then short else long) ≡ kind
+either true short long kind shorts longs = shorts
+either false short long kind shorts longs = longs
 
-pub for_rx_install : (S : Record → Type 0) → ((sci : List ℕ) (an : ℕ) (sa : RxSaFields) (start : ℕ) → S (RxInstall sci an sa start)) → (r : Record) → kind_of r ≡ kinds.RxInstall → S r
-for_rx_install S here (RxInstall sci an sa start) kind = here sci an sa start
-for_rx_install S here r kind = absurd cc
+without_length : (r : Record) → short_kind (kind_of r) ≡ short_kind_of r
+without_length (TxSa an sa ceiling) = either (length sa.key == 16) kinds.TxSa kinds.TxSaLong kinds.TxSa refl refl
+without_length (RxSa sci an sa ceiling) = either (length sa.key == 16) kinds.RxSa kinds.RxSaLong kinds.RxSa refl refl
+without_length (TxInstall an sa start) = either (length sa.key == 16) kinds.TxInstall kinds.TxInstallLong kinds.TxInstall refl refl
+without_length (RxInstall sci an sa start) = either (length sa.key == 16) kinds.RxInstall kinds.RxInstallLong kinds.RxInstall refl refl
+without_length r = refl
+
+of_either : (keys : KeyLength) (short long kind : Kind) → short_kind short ≡ kind → short_kind long ≡ kind → short_kind (of_length keys short long) ≡ kind
+of_either Short short long kind shorts longs = shorts
+of_either Long short long kind shorts longs = longs
+
+-- a record of one of two kinds is of the first, were its key short
+one_of : (keys : KeyLength) (r : Record) (short long kind : Kind) → short_kind short ≡ kind → short_kind long ≡ kind → kind_of r ≡ of_length keys short long
+    → short_kind_of r ≡ kind
+one_of keys r short long kind shorts longs is = sym (without_length r) ∙ ap short_kind is ∙ of_either keys short long kind shorts longs
+
+module _ (keys : KeyLength) where
+  pub for_tx_sa : (S : Record → Type 0) → ((an : ℕ) (sa : TxSaFields) (ceiling : ℕ) → (IsKey sa.key → IsKeyOf keys sa.key) → S (TxSa an sa ceiling))
+      → (r : Record) → kind_of r ≡ of_length keys kinds.TxSa kinds.TxSaLong → S r
+  for_tx_sa S here (TxSa an sa ceiling) kind = here an sa ceiling (λ is. of_its_kind keys sa.key kinds.TxSa kinds.TxSaLong (λ e. cc) is kind)
+  for_tx_sa S here r kind = let is = one_of keys r kinds.TxSa kinds.TxSaLong kinds.TxSa refl refl kind in absurd cc
+
+  pub for_rx_sa : (S : Record → Type 0) → ((sci : List ℕ) (an : ℕ) (sa : RxSaFields) (ceiling : ℕ) → (IsKey sa.key → IsKeyOf keys sa.key) → S (RxSa sci an sa ceiling))
+      → (r : Record) → kind_of r ≡ of_length keys kinds.RxSa kinds.RxSaLong → S r
+  for_rx_sa S here (RxSa sci an sa ceiling) kind = here sci an sa ceiling (λ is. of_its_kind keys sa.key kinds.RxSa kinds.RxSaLong (λ e. cc) is kind)
+  for_rx_sa S here r kind = let is = one_of keys r kinds.RxSa kinds.RxSaLong kinds.RxSa refl refl kind in absurd cc
+
+  pub for_tx_install : (S : Record → Type 0) → ((an : ℕ) (sa : TxSaFields) (start : ℕ) → (IsKey sa.key → IsKeyOf keys sa.key) → S (TxInstall an sa start))
+      → (r : Record) → kind_of r ≡ of_length keys kinds.TxInstall kinds.TxInstallLong → S r
+  for_tx_install S here (TxInstall an sa start) kind =
+      here an sa start (λ is. of_its_kind keys sa.key kinds.TxInstall kinds.TxInstallLong (λ e. cc) is kind)
+  for_tx_install S here r kind = let is = one_of keys r kinds.TxInstall kinds.TxInstallLong kinds.TxInstall refl refl kind in absurd cc
+
+  pub for_rx_install : (S : Record → Type 0) → ((sci : List ℕ) (an : ℕ) (sa : RxSaFields) (start : ℕ) → (IsKey sa.key → IsKeyOf keys sa.key) → S (RxInstall sci an sa start))
+      → (r : Record) → kind_of r ≡ of_length keys kinds.RxInstall kinds.RxInstallLong → S r
+  for_rx_install S here (RxInstall sci an sa start) kind =
+      here sci an sa start (λ is. of_its_kind keys sa.key kinds.RxInstall kinds.RxInstallLong (λ e. cc) is kind)
+  for_rx_install S here r kind = let is = one_of keys r kinds.RxInstall kinds.RxInstallLong kinds.RxInstall refl refl kind in absurd cc
 
 pub for_rx_ceiling : (S : Record → Type 0) → ((sci : List ℕ) (an ceiling : ℕ) → S (RxCeiling sci an ceiling)) → (r : Record) → kind_of r ≡ kinds.RxCeiling → S r
 for_rx_ceiling S here (RxCeiling sci an ceiling) kind = here sci an ceiling
-for_rx_ceiling S here r kind = absurd cc
+for_rx_ceiling S here r kind = let is = sym (without_length r) ∙ ap short_kind kind in absurd cc

@@ -1,9 +1,10 @@
 -- How a record stands in its sector: a mark, its kind, its fields in order without gaps, and zeros. Numbers of several octets
 -- are big-endian.
-use Rattle.std.specs.Prelude.{◌<◌, ◌^◌, ◌++◌, ℕ, Bool, true, false, List, [], ◌∷◌, length, Option, Some, None}
+use Rattle.std.specs.Prelude.{◌<◌, ◌^◌, ◌++◌, ◌==◌, ℕ, Bool, true, false, if◌then◌else◌, List, [], ◌∷◌, length, Option, Some, None}
 use Rattle.std.specs.Int.{to_be_bytes, w32, w64}
 use Rattle.std.specs.List.{concat}
 use Rattle.macs_frame.specs.Fields.{octets_of}
+use Rattle.macs_config.specs.Apply.{IsKey}
 use Rattle.macs_config.specs.Association.{is_confidential, offset_of}
 use Rattle.macs_config.specs.declared.association.Protection.{Protection}
 use Rattle.macs_config.specs.declared.command.Replay.{Replay}
@@ -14,8 +15,10 @@ use Rattle.macs_config.specs.declared.command.SciMode.TheVariants.{Explicit, End
 use Rattle.macs_config.specs.declared.command.Validate.{Validate}
 use Rattle.macs_config.specs.declared.command.Validate.TheVariants.{Strict, Check}
 use Rattle.macs_frame.specs.Fields.{IsAn, IsSci}
-use Rattle.macs_record.specs.Ranges.{IsCeiling, IsEncoding, IsFingerprints, IsRecordKey, IsStart}
+use Rattle.macs_record.specs.Ranges.{IsCeiling, IsEncoding, IsFingerprints, IsStart}
 use Rattle.macs_record.specs.Sectors.{padded_sector}
+use Rattle.macs_record.specs.declared.key_length.KeyLength.{KeyLength}
+use Rattle.macs_record.specs.declared.key_length.KeyLength.TheVariants.{Short, Long}
 use Rattle.macs_record.specs.declared.kind.Kind.{Kind}
 use Rattle.macs_record.specs.declared.kind.Kind.TheVariants as kinds
 use Rattle.macs_record.specs.declared.record.Record.{Record}
@@ -86,23 +89,44 @@ kind_number kinds.RxInstall = 14
 kind_number kinds.RxRemove = 15
 kind_number kinds.TxCeiling = 16
 kind_number kinds.RxCeiling = 17
+kind_number kinds.TxSaLong = 18
+kind_number kinds.RxSaLong = 19
+kind_number kinds.TxInstallLong = 20
+kind_number kinds.RxInstallLong = 21
+
+-- a record of this kind has a key of 32 octets
+abbrev pub is_long_kind : Kind → Bool
+is_long_kind kinds.TxSaLong = true
+is_long_kind kinds.RxSaLong = true
+is_long_kind kinds.TxInstallLong = true
+is_long_kind kinds.RxInstallLong = true
+is_long_kind kind = false
+
+-- of two kinds the one for keys of 16 octets, or the one for keys of 32
+abbrev pub of_length : KeyLength → Kind → Kind → Kind
+of_length Short short long = short
+of_length Long short long = long
+
+-- the same, for this key
+abbrev pub by_length : List ℕ → Kind → Kind → Kind
+by_length key short long = if length key == 16 then short else long
 
 -- the kind of a record
 abbrev pub kind_of : Record → Kind
 kind_of (Settings validate replay mode encoding) = kinds.Settings
-kind_of (TxSa an sa ceiling) = kinds.TxSa
+kind_of (TxSa an sa ceiling) = by_length sa.key kinds.TxSa kinds.TxSaLong
 kind_of (Channel sci) = kinds.Channel
-kind_of (RxSa sci an sa ceiling) = kinds.RxSa
+kind_of (RxSa sci an sa ceiling) = by_length sa.key kinds.RxSa kinds.RxSaLong
 kind_of (Spent role fingerprints) = kinds.Spent
 kind_of (SetValidate validate) = kinds.SetValidate
 kind_of (SetReplay replay) = kinds.SetReplay
 kind_of (SetSciMode mode) = kinds.SetSciMode
-kind_of (TxInstall an sa start) = kinds.TxInstall
+kind_of (TxInstall an sa start) = by_length sa.key kinds.TxInstall kinds.TxInstallLong
 kind_of (TxUse an) = kinds.TxUse
 kind_of (TxRemove an) = kinds.TxRemove
 kind_of (RxAdd sci) = kinds.RxAdd
 kind_of (RxDrop sci) = kinds.RxDrop
-kind_of (RxInstall sci an sa start) = kinds.RxInstall
+kind_of (RxInstall sci an sa start) = by_length sa.key kinds.RxInstall kinds.RxInstallLong
 kind_of (RxRemove sci an) = kinds.RxRemove
 kind_of (TxCeiling an ceiling) = kinds.TxCeiling
 kind_of (RxCeiling sci an ceiling) = kinds.RxCeiling
@@ -161,19 +185,19 @@ sector_of r = padded_sector (front_of r)
 -- the fields of a record are in their ranges
 abbrev pub IsRecord : Record → Type 0
 IsRecord (Settings validate replay mode encoding) = (replay.window < 2 ^ 32) × IsEncoding encoding
-IsRecord (TxSa an sa ceiling) = IsAn an × IsRecordKey sa.key × IsCeiling ceiling
+IsRecord (TxSa an sa ceiling) = IsAn an × IsKey sa.key × IsCeiling ceiling
 IsRecord (Channel sci) = IsSci sci
-IsRecord (RxSa sci an sa ceiling) = IsSci sci × IsAn an × IsRecordKey sa.key × IsCeiling ceiling
+IsRecord (RxSa sci an sa ceiling) = IsSci sci × IsAn an × IsKey sa.key × IsCeiling ceiling
 IsRecord (Spent role fingerprints) = IsFingerprints fingerprints
 IsRecord (SetValidate validate) = Unit {0}
 IsRecord (SetReplay replay) = replay.window < 2 ^ 32
 IsRecord (SetSciMode mode) = Unit {0}
-IsRecord (TxInstall an sa start) = IsAn an × IsRecordKey sa.key × IsStart start
+IsRecord (TxInstall an sa start) = IsAn an × IsKey sa.key × IsStart start
 IsRecord (TxUse an) = IsAn an
 IsRecord (TxRemove an) = IsAn an
 IsRecord (RxAdd sci) = IsSci sci
 IsRecord (RxDrop sci) = IsSci sci
-IsRecord (RxInstall sci an sa start) = IsSci sci × IsAn an × IsRecordKey sa.key × IsStart start
+IsRecord (RxInstall sci an sa start) = IsSci sci × IsAn an × IsKey sa.key × IsStart start
 IsRecord (RxRemove sci an) = IsSci sci × IsAn an
 IsRecord (TxCeiling an ceiling) = IsAn an × IsCeiling ceiling
 IsRecord (RxCeiling sci an ceiling) = IsSci sci × IsAn an × IsCeiling ceiling

@@ -1,10 +1,13 @@
 -- The ranges of a record's fields.
 use Rattle.std.specs.Prelude.{◌≤◌, ◌<◌, ◌^◌, ℕ, List, All, length, Option, Some, None}
 use Rattle.macs_frame.specs.Fields.{IsAn, IsOctets}
+use Rattle.macs_record.specs.declared.key_length.KeyLength.{KeyLength}
+use Rattle.macs_record.specs.declared.key_length.KeyLength.TheVariants.{Short, Long}
 
--- 16 octets, for GCM-AES-128 (IEEE Std 802.1AE-2018, 14.5)
-abbrev pub IsRecordKey : List ℕ → Type 0
-IsRecordKey key = IsOctets 16 key
+-- a key of this length: 16 octets, for GCM-AES-128, or 32, for GCM-AES-256 (IEEE Std 802.1AE-2018, 14.5 and 14.6)
+abbrev pub IsKeyOf : KeyLength → List ℕ → Type 0
+IsKeyOf Short key = IsOctets 16 key
+IsKeyOf Long key = IsOctets 32 key
 
 -- the first packet number of an association
 abbrev pub IsStart : ℕ → Type 0

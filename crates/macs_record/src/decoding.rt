@@ -3,7 +3,7 @@
 ghost use Rattle.std.specs.Prelude.{◌≡◌, ◌≤◌, ◌↔◌, ◌++◌, ℕ, List, IfSome, IsTrue, Ok, Err, Some, true};
 ghost use Rattle.macs_frame.specs.First.{IsFirst};
 ghost use Rattle.macs_record.specs.Decoding.{RecordFaultHolds, IsSectorOf, record_faults};
-ghost use Rattle.macs_record.specs.Layout.{IsRecord, fields_of, has_one_field, kind_of, octets_of_kind};
+ghost use Rattle.macs_record.specs.Layout.{IsRecord, fields_of, has_one_field, kind_of, octets_of_kind, of_length};
 ghost use Rattle.macs_record.specs.declared.kind.Kind.{Kind};
 ghost use Rattle.macs_record.specs.declared.kind.Kind.TheVariants as kinds;
 ghost use Rattle.macs_record.specs.declared.record.Record.{Record};
@@ -11,6 +11,7 @@ ghost use Rattle.macs_record.specs.declared.record.RecordFault.{RecordFault};
 
 use crate::SECTOR;
 use crate::encoding::MARK;
+use crate::key_length::KeyLength;
 use crate::kind::Kind;
 use crate::reading::Reader;
 use crate::record::{Record, RecordFault};
@@ -54,11 +55,15 @@ fn read_fields(kind: Kind, from: &mut Reader<'_>) -> Option<Record>
 {
     match kind {
         Kind::Settings => read_settings(from),
-        Kind::TxSa => read_tx_sa(from),
-        Kind::RxSa => read_rx_sa(from),
+        Kind::TxSa => read_tx_sa(KeyLength::Short, from),
+        Kind::TxSaLong => read_tx_sa(KeyLength::Long, from),
+        Kind::RxSa => read_rx_sa(KeyLength::Short, from),
+        Kind::RxSaLong => read_rx_sa(KeyLength::Long, from),
         Kind::Spent => read_spent(from),
-        Kind::TxInstall => read_tx_install(from),
-        Kind::RxInstall => read_rx_install(from),
+        Kind::TxInstall => read_tx_install(KeyLength::Short, from),
+        Kind::TxInstallLong => read_tx_install(KeyLength::Long, from),
+        Kind::RxInstall => read_rx_install(KeyLength::Short, from),
+        Kind::RxInstallLong => read_rx_install(KeyLength::Long, from),
         Kind::RxRemove => read_rx_remove(from),
         Kind::TxCeiling => read_tx_ceiling(from),
         Kind::RxCeiling => read_rx_ceiling(from),
@@ -104,29 +109,29 @@ fn read_settings(from: &mut Reader<'_>) -> Option<Record>
     })
 }
 
-/// Reads a transmit association of a snapshot.
-fn read_tx_sa(from: &mut Reader<'_>) -> Option<Record>
-    ensures some { IfSome result (λ r. IsRecord r × (kind_of r ≡ kinds.TxSa) × (from.old ≡ fields_of r ++ from.new)) }
-    ensures found { (r : Record) (rest : List ℕ) → IsRecord r → kind_of r ≡ kinds.TxSa → from.old ≡ fields_of r ++ rest
+/// Reads a transmit association of a snapshot, with a key of this length.
+fn read_tx_sa(length: KeyLength, from: &mut Reader<'_>) -> Option<Record>
+    ensures some { IfSome result (λ r. IsRecord r × (kind_of r ≡ of_length length kinds.TxSa kinds.TxSaLong) × (from.old ≡ fields_of r ++ from.new)) }
+    ensures found { (r : Record) (rest : List ℕ) → IsRecord r → kind_of r ≡ of_length length kinds.TxSa kinds.TxSaLong → from.old ≡ fields_of r ++ rest
         → (result ≡ Some r) × (from.new ≡ rest) }
 {
     let an = from.an()?;
-    let key = from.key()?;
+    let key = from.key(length)?;
     let ceiling = from.ceiling()?;
     let protection = from.protection()?;
     let sa = TxSa { key, protection };
     Some(Record::TxSa { an, sa, ceiling })
 }
 
-/// Reads a receive association of a snapshot.
-fn read_rx_sa(from: &mut Reader<'_>) -> Option<Record>
-    ensures some { IfSome result (λ r. IsRecord r × (kind_of r ≡ kinds.RxSa) × (from.old ≡ fields_of r ++ from.new)) }
-    ensures found { (r : Record) (rest : List ℕ) → IsRecord r → kind_of r ≡ kinds.RxSa → from.old ≡ fields_of r ++ rest
+/// Reads a receive association of a snapshot, with a key of this length.
+fn read_rx_sa(length: KeyLength, from: &mut Reader<'_>) -> Option<Record>
+    ensures some { IfSome result (λ r. IsRecord r × (kind_of r ≡ of_length length kinds.RxSa kinds.RxSaLong) × (from.old ≡ fields_of r ++ from.new)) }
+    ensures found { (r : Record) (rest : List ℕ) → IsRecord r → kind_of r ≡ of_length length kinds.RxSa kinds.RxSaLong → from.old ≡ fields_of r ++ rest
         → (result ≡ Some r) × (from.new ≡ rest) }
 {
     let sci = from.sci()?;
     let an = from.an()?;
-    let key = from.key()?;
+    let key = from.key(length)?;
     let ceiling = from.ceiling()?;
     let offset = from.offset()?;
     let sa = RxSa { key, offset };
@@ -149,29 +154,29 @@ fn read_spent(from: &mut Reader<'_>) -> Option<Record>
     Some(Record::Spent { role, fingerprints })
 }
 
-/// Reads a new transmit association.
-fn read_tx_install(from: &mut Reader<'_>) -> Option<Record>
-    ensures some { IfSome result (λ r. IsRecord r × (kind_of r ≡ kinds.TxInstall) × (from.old ≡ fields_of r ++ from.new)) }
-    ensures found { (r : Record) (rest : List ℕ) → IsRecord r → kind_of r ≡ kinds.TxInstall → from.old ≡ fields_of r ++ rest
+/// Reads a new transmit association, with a key of this length.
+fn read_tx_install(length: KeyLength, from: &mut Reader<'_>) -> Option<Record>
+    ensures some { IfSome result (λ r. IsRecord r × (kind_of r ≡ of_length length kinds.TxInstall kinds.TxInstallLong) × (from.old ≡ fields_of r ++ from.new)) }
+    ensures found { (r : Record) (rest : List ℕ) → IsRecord r → kind_of r ≡ of_length length kinds.TxInstall kinds.TxInstallLong → from.old ≡ fields_of r ++ rest
         → (result ≡ Some r) × (from.new ≡ rest) }
 {
     let an = from.an()?;
-    let key = from.key()?;
+    let key = from.key(length)?;
     let start = from.start()?;
     let protection = from.protection()?;
     let sa = TxSa { key, protection };
     Some(Record::TxInstall { an, sa, start })
 }
 
-/// Reads a new receive association.
-fn read_rx_install(from: &mut Reader<'_>) -> Option<Record>
-    ensures some { IfSome result (λ r. IsRecord r × (kind_of r ≡ kinds.RxInstall) × (from.old ≡ fields_of r ++ from.new)) }
-    ensures found { (r : Record) (rest : List ℕ) → IsRecord r → kind_of r ≡ kinds.RxInstall → from.old ≡ fields_of r ++ rest
+/// Reads a new receive association, with a key of this length.
+fn read_rx_install(length: KeyLength, from: &mut Reader<'_>) -> Option<Record>
+    ensures some { IfSome result (λ r. IsRecord r × (kind_of r ≡ of_length length kinds.RxInstall kinds.RxInstallLong) × (from.old ≡ fields_of r ++ from.new)) }
+    ensures found { (r : Record) (rest : List ℕ) → IsRecord r → kind_of r ≡ of_length length kinds.RxInstall kinds.RxInstallLong → from.old ≡ fields_of r ++ rest
         → (result ≡ Some r) × (from.new ≡ rest) }
 {
     let sci = from.sci()?;
     let an = from.an()?;
-    let key = from.key()?;
+    let key = from.key(length)?;
     let start = from.start()?;
     let offset = from.offset()?;
     let sa = RxSa { key, offset };

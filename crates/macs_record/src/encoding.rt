@@ -66,7 +66,7 @@ fn write_tx_sa(an: An, sa: &TxSa, ceiling: Ceiling, to: Writer) -> Writer
     ensures { result ≡ to ++ fields_of (recorded.TxSa an sa.now ceiling) }
 {
     to.an(an)
-        .octets(&sa.key)
+        .octets(sa.key.as_slice())
         .ceiling(ceiling)
         .protection(sa.protection)
 }
@@ -78,7 +78,7 @@ fn write_rx_sa(sci: Sci, an: An, sa: &RxSa, ceiling: Ceiling, to: Writer) -> Wri
 {
     to.sci(sci)
         .an(an)
-        .octets(&sa.key)
+        .octets(sa.key.as_slice())
         .ceiling(ceiling)
         .offset(sa.offset)
 }
@@ -89,7 +89,7 @@ fn write_tx_install(an: An, sa: &TxSa, start: Pn, to: Writer) -> Writer
     ensures { result ≡ to ++ fields_of (recorded.TxInstall an sa.now start) }
 {
     to.an(an)
-        .octets(&sa.key)
+        .octets(sa.key.as_slice())
         .start(start)
         .protection(sa.protection)
 }
@@ -101,7 +101,7 @@ fn write_rx_install(sci: Sci, an: An, sa: &RxSa, start: Pn, to: Writer) -> Write
 {
     to.sci(sci)
         .an(an)
-        .octets(&sa.key)
+        .octets(sa.key.as_slice())
         .start(start)
         .offset(sa.offset)
 }

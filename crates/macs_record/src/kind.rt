@@ -5,7 +5,7 @@ ghost use Rattle.macs_record.specs.Layout.{kind_number};
 ghost use Rattle.macs_record.specs.declared.kind.Kind.{Kind};
 
 /// What a record is of, in the order of its number: first what a snapshot has, then the commands, then
-/// raised ceilings.
+/// raised ceilings, and last the associations and the commands that have a long key.
 #[derive(Clone, Copy)]
 pub enum Kind {
     Settings,
@@ -25,10 +25,14 @@ pub enum Kind {
     RxRemove,
     TxCeiling,
     RxCeiling,
+    TxSaLong,
+    RxSaLong,
+    TxInstallLong,
+    RxInstallLong,
 }
 
 /// Every kind once.
-const KINDS: [Kind; 17] = [
+const KINDS: [Kind; 21] = [
     Kind::Settings,
     Kind::TxSa,
     Kind::Channel,
@@ -46,10 +50,14 @@ const KINDS: [Kind; 17] = [
     Kind::RxRemove,
     Kind::TxCeiling,
     Kind::RxCeiling,
+    Kind::TxSaLong,
+    Kind::RxSaLong,
+    Kind::TxInstallLong,
+    Kind::RxInstallLong,
 ];
 
 impl Kind {
-    /// The number that stands for a kind in a sector, 1 to 17.
+    /// The number that stands for a kind in a sector, 1 to 21.
     pub fn number(self) -> u8
         ensures { result ≡ kind_number self }
     {
@@ -71,6 +79,10 @@ impl Kind {
             Kind::RxRemove => 15,
             Kind::TxCeiling => 16,
             Kind::RxCeiling => 17,
+            Kind::TxSaLong => 18,
+            Kind::RxSaLong => 19,
+            Kind::TxInstallLong => 20,
+            Kind::RxInstallLong => 21,
         }
     }
 

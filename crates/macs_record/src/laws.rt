@@ -4,11 +4,13 @@
 ghost use Rattle.std.specs.Prelude.{◌≡◌, ◌<◌, ◌^◌, List, ℕ, length};
 ghost use Rattle.macs_record.specs.Heads.{Head, IsHead, IsHeadOf, head_sector_of};
 ghost use Rattle.macs_record.specs.Layout.{IsRecord, sector_of};
+ghost use Rattle.macs_config.specs.Apply.{IsKey};
 ghost use Rattle.macs_frame.specs.Fields.{IsAn, IsOctets, IsSci};
-ghost use Rattle.macs_record.specs.Ranges.{IsCeiling, IsEncoding, IsFingerprints, IsRecordKey, IsStart};
+ghost use Rattle.macs_record.specs.Ranges.{IsCeiling, IsEncoding, IsFingerprints, IsStart};
 ghost use Rattle.macs_record.specs.declared.record.Record.{Record};
 
 use crate::{Ceiling, Head, Record};
+use macs_aes::KeyOctets;
 use macs_config::{Fingerprint, Fingerprints, Replay};
 use macs_frame::laws::{an_in_range, octets_in_range, sci_in_range};
 use macs_frame::{An, Pn, Sci};
@@ -92,26 +94,26 @@ fn ceiling_in_range(an: An, ceiling: Ceiling)
 }
 
 /// The number, the key and the ceiling of an association.
-fn sa_in_range(an: An, key: [u8; 16], ceiling: Ceiling)
-    ensures { IsAn an × IsRecordKey key × IsCeiling ceiling }
+fn sa_in_range(an: An, key: KeyOctets, ceiling: Ceiling)
+    ensures { IsAn an × IsKey key × IsCeiling ceiling }
 {
     ceiling_in_range(an, ceiling);
     key_in_range(key);
 }
 
 /// The number, the key and the first packet number of a new association.
-fn install_in_range(an: An, key: [u8; 16], start: Pn)
-    ensures { IsAn an × IsRecordKey key × IsStart start }
+fn install_in_range(an: An, key: KeyOctets, start: Pn)
+    ensures { IsAn an × IsKey key × IsStart start }
 {
     let _numbers = (an.get(), start.get());
     key_in_range(key);
 }
 
-/// A key has 16 octets.
-fn key_in_range(key: [u8; 16])
-    ensures { IsRecordKey key }
+/// A key has 16 or 32 octets.
+fn key_in_range(key: KeyOctets)
+    ensures { IsKey key }
 {
-    octets_in_range(&key);
+    octets_in_range(key.as_slice());
 }
 
 /// A fingerprint has 32 octets.

@@ -7,6 +7,7 @@ mod encoding;
 mod gate;
 mod head;
 mod head_codec;
+mod key_length;
 mod kind;
 pub mod laws;
 mod protection;

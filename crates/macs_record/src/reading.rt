@@ -10,12 +10,14 @@ ghost use Rattle.macs_config.specs.declared.command.Role.{Role};
 ghost use Rattle.macs_config.specs.declared.command.SciMode.{SciMode};
 ghost use Rattle.macs_config.specs.declared.command.Validate.{Validate};
 ghost use Rattle.macs_frame.specs.Fields.{IsAn, IsOctets, IsSci};
-ghost use Rattle.macs_record.specs.Ranges.{IsCeiling, IsEncoding, IsFingerprints, IsRecordKey, IsStart};
+ghost use Rattle.macs_record.specs.Ranges.{IsCeiling, IsEncoding, IsFingerprints, IsKeyOf, IsStart};
 ghost use Rattle.macs_record.specs.Layout.{encoding_octet, fingerprint_octets, flag_octet, mode_octet, protection_octets, replay_octets, role_octet, validate_octet};
 
 use crate::ceiling::Ceiling;
+use crate::key_length::KeyLength;
 use crate::protection::protection;
 use crate::writing::NO_AN;
+use macs_aes::{Key, KeyOctets};
 use macs_config::{Fingerprint, Fingerprints, Protection, Replay, Role, SciMode, Validate};
 use macs_frame::laws::octets_in_range;
 use macs_frame::{An, Offset, Pn, Sci};
@@ -157,12 +159,34 @@ impl<'a> Reader<'a> {
         Some(Sci(self.octets()?))
     }
 
-    pub(crate) fn key(&mut self) -> Option<[u8; 16]>
-        ensures some { IfSome result (λ key. IsRecordKey key × (self.old ≡ key ++ self.new)) }
-        ensures found { (key rest : List ℕ) → IsRecordKey key → self.old ≡ key ++ rest
+    /// A key of this length.
+    pub(crate) fn key(&mut self, length: KeyLength) -> Option<KeyOctets>
+        ensures some { IfSome result (λ key. IsKeyOf length key × (self.old ≡ key ++ self.new)) }
+        ensures found { (key rest : List ℕ) → IsKeyOf length key → self.old ≡ key ++ rest
             → (result ≡ Some key) × (self.new ≡ rest) }
     {
-        self.octets()
+        match length {
+            KeyLength::Short => self.short_key(),
+            KeyLength::Long => self.long_key(),
+        }
+    }
+
+    /// A key of 16 octets.
+    fn short_key(&mut self) -> Option<KeyOctets>
+        ensures some { IfSome result (λ key. IsOctets 16 key × (self.old ≡ key ++ self.new)) }
+        ensures found { (key rest : List ℕ) → IsOctets 16 key → self.old ≡ key ++ rest
+            → (result ≡ Some key) × (self.new ≡ rest) }
+    {
+        Some(KeyOctets::of(Key::Short(self.octets()?)))
+    }
+
+    /// A key of 32 octets.
+    fn long_key(&mut self) -> Option<KeyOctets>
+        ensures some { IfSome result (λ key. IsOctets 32 key × (self.old ≡ key ++ self.new)) }
+        ensures found { (key rest : List ℕ) → IsOctets 32 key → self.old ≡ key ++ rest
+            → (result ≡ Some key) × (self.new ≡ rest) }
+    {
+        Some(KeyOctets::of(Key::Long(self.octets()?)))
     }
 
     pub(crate) fn start(&mut self) -> Option<Pn>

@@ -1,18 +1,21 @@
 //! What a journal keeps.
 
-ghost use Rattle.std.specs.Prelude.{◌≡◌};
+ghost use Rattle.std.specs.Prelude.{◌≡◌, if◌then◌else◌, Some, None};
+ghost use Rattle.macs_aes.specs.Keys.{octets_of_key};
+ghost use Rattle.macs_config.specs.Config.{takes_key, this_edition};
 ghost use Rattle.macs_config.specs.declared.command.Command.TheVariants.{RxInstall, TxInstall};
 ghost use Rattle.macs_record.specs.Commands.{record_of};
-ghost use Rattle.macs_record.specs.Layout.{kind_of};
+ghost use Rattle.macs_record.specs.Layout.{by_length, kind_of};
 
 use crate::ceiling::Ceiling;
 use crate::kind::Kind;
 use crate::protection::protection;
+use macs_aes::{Key, KeyOctets};
 use macs_config::{Command, Fingerprints, Replay, Role, RxSa, SciMode, TxSa, Validate};
 use macs_frame::{An, Offset, Pn, Sci};
 
 /// A record of a journal. Its kinds are of three groups: what a snapshot of a configuration has, the
-/// commands that are not refused for their start or offset, and raised ceilings.
+/// commands that are not refused for their start, offset or key, and raised ceilings.
 #[derive(Drop)]
 pub enum Record {
     /// The settings of a snapshot.
@@ -102,7 +105,7 @@ pub enum RecordFault {
 
 impl Record {
     /// The record of a command, `None` where its start is 0, its offset is none of 0, 30 and 50, or
-    /// not 0 without confidentiality.
+    /// not 0 without confidentiality, and where its key is long.
     pub fn command(command: &Command) -> Option<Record>
         ensures { result ≡ record_of command.now }
     {
@@ -138,19 +141,23 @@ impl Record {
     {
         match self {
             Record::Settings { .. } => Kind::Settings,
-            Record::TxSa { .. } => Kind::TxSa,
+            Record::TxSa { sa, .. } => by_length(sa.key, Kind::TxSa, Kind::TxSaLong),
             Record::Channel { .. } => Kind::Channel,
-            Record::RxSa { .. } => Kind::RxSa,
+            Record::RxSa { sa, .. } => by_length(sa.key, Kind::RxSa, Kind::RxSaLong),
             Record::Spent { .. } => Kind::Spent,
             Record::SetValidate(_) => Kind::SetValidate,
             Record::SetReplay(_) => Kind::SetReplay,
             Record::SetSciMode(_) => Kind::SetSciMode,
-            Record::TxInstall { .. } => Kind::TxInstall,
+            Record::TxInstall { sa, .. } => {
+                by_length(sa.key, Kind::TxInstall, Kind::TxInstallLong)
+            }
             Record::TxUse { .. } => Kind::TxUse,
             Record::TxRemove { .. } => Kind::TxRemove,
             Record::RxAdd { .. } => Kind::RxAdd,
             Record::RxDrop { .. } => Kind::RxDrop,
-            Record::RxInstall { .. } => Kind::RxInstall,
+            Record::RxInstall { sa, .. } => {
+                by_length(sa.key, Kind::RxInstall, Kind::RxInstallLong)
+            }
             Record::RxRemove { .. } => Kind::RxRemove,
             Record::TxCeiling { .. } => Kind::TxCeiling,
             Record::RxCeiling { .. } => Kind::RxCeiling,
@@ -158,23 +165,45 @@ impl Record {
     }
 }
 
+/// The kind of a record with this key: one kind is for short keys, another for long ones.
+fn by_length(key: KeyOctets, short: Kind, long: Kind) -> Kind
+    ensures { result ≡ by_length key short long }
+{
+    match key.get() {
+        Key::Short(_) => short,
+        Key::Long(_) => long,
+    }
+}
+
+/// The key of a command as a record has it, `None` where it is long.
+fn taken_key(key: Key) -> Option<KeyOctets>
+    ensures { result ≡ if takes_key this_edition (octets_of_key key) then Some (octets_of_key key) else None }
+{
+    match key {
+        Key::Short(_) => Some(KeyOctets::of(key)),
+        Key::Long(_) => None,
+    }
+}
+
 /// The record of a command that installs a transmit association.
-fn tx_install(an: An, key: [u8; 16], start: u32, confidential: bool, offset: u8) -> Option<Record>
+fn tx_install(an: An, key: Key, start: u32, confidential: bool, offset: u8) -> Option<Record>
     ensures { result ≡ record_of (TxInstall an key start confidential offset) }
 {
     let offset = Offset::new(offset)?;
     let protection = protection(confidential, offset)?;
     let start = Pn::new(start)?;
+    let key = taken_key(key)?;
     let sa = TxSa { key, protection };
     Some(Record::TxInstall { an, sa, start })
 }
 
 /// The record of a command that installs a receive association.
-fn rx_install(sci: Sci, an: An, key: [u8; 16], start: u32, offset: u8) -> Option<Record>
+fn rx_install(sci: Sci, an: An, key: Key, start: u32, offset: u8) -> Option<Record>
     ensures { result ≡ record_of (RxInstall sci an key start offset) }
 {
     let offset = Offset::new(offset)?;
     let start = Pn::new(start)?;
+    let key = taken_key(key)?;
     let sa = RxSa { key, offset };
     Some(Record::RxInstall { sci, an, sa, start })
 }

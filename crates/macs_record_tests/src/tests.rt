@@ -7,12 +7,15 @@ mod heads;
 mod kinds;
 mod refused;
 
+use macs_aes::Key;
 use macs_frame::{An, Pn, Sci};
 use macs_record::{Ceiling, Record, RecordFault, SECTOR, decode, encode};
 use std::process::Abort;
 
-/// A key, and an SCI with port 00-07, whose octets differ.
-const KEY: [u8; 16] = *b"0123456789abcdef";
+/// A short key, a long one, and an SCI with port 00-07, whose octets differ.
+const KEY: Key = Key::Short(*b"0123456789abcdef");
+
+const LONG_KEY: Key = Key::Long(*b"0123456789abcdefghijklmnopqrstuv");
 
 const SCI: Sci = Sci(*b"peer-A\x00\x07");
 

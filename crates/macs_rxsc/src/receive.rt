@@ -4,6 +4,7 @@ ghost use Rattle.std.specs.Prelude.{◌≡◌, ◌≤◌, ◌<◌, ◌^◌, ℕ,
 ghost use Rattle.std.specs.List.{filter};
 ghost use Rattle.std.specs.Option.{is_some, option_map};
 ghost use Rattle.std.specs.Str.{bytes_eq};
+ghost use Rattle.macs_aes.specs.Keys.{octets_of_key};
 ghost use Rattle.macs_config.specs.Config.{this_edition, is_ascending, put_among};
 ghost use Rattle.macs_config.specs.Tables.{put, put_at};
 ghost use Rattle.macs_rxsc.specs.Receive.{AreOrdered, Numbers, IsOutcome, channel_of, has_channel, new_rx_side, put_numbers, first_numbers, numbers_under_window};
@@ -17,6 +18,7 @@ use crate::need::RxNeed;
 use crate::table::Table;
 use crate::verdict::Verdict;
 use arrayvec::ArrayVec;
+use macs_aes::Key;
 use macs_config::{MAX_CHANNELS, Replay, Validate};
 use macs_frame::{An, FrameBuf, Offset, Sci};
 use macs_gcm::GcmKey;
@@ -120,7 +122,7 @@ impl Rx {
         &mut self,
         sci: Sci,
         an: An,
-        key: &[u8; 16],
+        key: &Key,
         offset: Offset,
         next: u64,
         ceiling: u64,
@@ -132,7 +134,7 @@ impl Rx {
         requires bounded { ceiling ≤ 2 ^ 32 }
         ensures side { rx_side_of self.new ≡ record (rx_side_of self.old) {
           rx = put_at (rx_side_of self.old).rx sci
-              (put ((rx_side_of self.old).rx sci) an (Some (record { key = key.now; offset = offset })));
+              (put ((rx_side_of self.old).rx sci) an (Some (record { key = octets_of_key key.now; offset = offset })));
           numbers = put_numbers (rx_side_of self.old).numbers sci an (Some (first_numbers next));
         } }
         ensures ceilings { ceilings_of self.new

@@ -6,7 +6,7 @@ use Rattle.std.proofs.lemmas.Bool.{and_from, lt-ltb, or_parts}
 use Rattle.std.proofs.lemmas.List.{append-nil, get_or_default, take_all}
 use Rattle.std.proofs.lemmas.List.Concat.{flat_map_single}
 use Rattle.std.proofs.lemmas.List.Folds.{list_any_at}
-use Rattle.macs_config.specs.Config.{Config, Edition, are_distinct, is_among, is_ascending, max_spent}
+use Rattle.macs_config.specs.Config.{Config, Edition, are_distinct, is_among, is_ascending, max_spent, takes_key}
 use Rattle.macs_config.specs.Identity.{Identity}
 use Rattle.macs_config.specs.Snapshot.{are_new}
 use Rattle.macs_config.specs.Tables.{put_at}
@@ -37,7 +37,8 @@ next_is scis i ascend within = record { ascend = ascend; within = within; there 
 module _ (edition : Edition) (identity : Identity) (c : Config) (k : Ceilings) where
   -- ---- transmit associations
 
-  module _ (f : ℕ → Option TxAssociation) (g : ℕ → Option ℕ) (alike : (i : ℕ) → is_some (g i) ≡ is_some (f i)) where
+  module _ (f : ℕ → Option TxAssociation) (g : ℕ → Option ℕ) (alike : (i : ℕ) → is_some (g i) ≡ is_some (f i))
+      (taken : (i : ℕ) (sa : TxAssociation) → f i ≡ Some sa → takes_key edition sa.key ≡ true) where
     abbrev tx-config : ℕ → Config
     tx-config i = record c { tx = below i f }
 
@@ -54,7 +55,8 @@ module _ (edition : Edition) (identity : Identity) (c : Config) (k : Ceilings) w
         become edition identity (tx-config i) _ (tx-config (i + 1)) (tx-ceilings i) _ (tx-ceilings (i + 1)) (recorded.TxSa i sa ceiling ∷ []) 2 2
         (ap (λ (t : ℕ → Option TxAssociation). record c { tx = t }) (below-more f i (Some sa) is_sa))
         (ap (λ (t : ℕ → Option ℕ). record k { tx = t }) (below-more g i (Some ceiling) is_ceiling))
-        (one edition identity (tx-config i) (tx-ceilings i) (recorded.TxSa i sa ceiling) 2 (part.TxSa i sa) refl (ap is_none (below-next f i)) (omega arith))
+        (one edition identity (tx-config i) (tx-ceilings i) (recorded.TxSa i sa ceiling) 2 (part.TxSa i sa) refl
+        (and_from (is_none (below i f i)) (takes_key edition sa.key) (ap is_none (below-next f i)) (taken i sa is_sa)) (omega arith))
     tx-by i None None is_sa is_ceiling same =
         become edition identity (tx-config i) (tx-config i) (tx-config (i + 1)) (tx-ceilings i) (tx-ceilings i) (tx-ceilings (i + 1)) [] 2 2
         (ap (λ (t : ℕ → Option TxAssociation). record c { tx = t }) (below-passed f i is_sa))
@@ -106,7 +108,8 @@ module _ (edition : Edition) (identity : Identity) (c : Config) (k : Ceilings) w
 
   -- of one channel
   module _ (old : List ℕ → ℕ → Option RxAssociation) (held : List ℕ → ℕ → Option ℕ) (sci : List ℕ) (stands : is_among c.channels sci ≡ true)
-      (f : ℕ → Option RxAssociation) (g : ℕ → Option ℕ) (alike : (i : ℕ) → is_some (g i) ≡ is_some (f i)) where
+      (f : ℕ → Option RxAssociation) (g : ℕ → Option ℕ) (alike : (i : ℕ) → is_some (g i) ≡ is_some (f i))
+      (taken : (i : ℕ) (sa : RxAssociation) → f i ≡ Some sa → takes_key edition sa.key ≡ true) where
     abbrev rx-config : ℕ → Config
     rx-config i = record c { rx = put_at old sci (below i f) }
 
@@ -124,7 +127,9 @@ module _ (edition : Edition) (identity : Identity) (c : Config) (k : Ceilings) w
         (ap (λ (t : List ℕ → ℕ → Option RxAssociation). record c { rx = t }) (filled-more f old sci i (Some sa) is_sa))
         (ap (λ (t : List ℕ → ℕ → Option ℕ). record k { rx = t }) (filled-more g held sci i (Some ceiling) is_ceiling))
         (one edition identity (rx-config i) (rx-ceilings i) (recorded.RxSa sci i sa ceiling) 4 (part.RxSa sci i sa) refl
-        (and_from (is_among c.channels sci) (is_none (put_at old sci (below i f) sci i)) stands (ap is_none (filled-next f old sci i))) (omega arith))
+        (and_from (is_among c.channels sci && is_none (put_at old sci (below i f) sci i)) (takes_key edition sa.key)
+        (and_from (is_among c.channels sci) (is_none (put_at old sci (below i f) sci i)) stands (ap is_none (filled-next f old sci i))) (taken i sa is_sa))
+        (omega arith))
     rx-by i None None is_sa is_ceiling same =
         become edition identity (rx-config i) (rx-config i) (rx-config (i + 1)) (rx-ceilings i) (rx-ceilings i) (rx-ceilings (i + 1)) [] 4 4
         (ap (λ (t : List ℕ → ℕ → Option RxAssociation). record c { rx = t }) (filled-passed f old sci i is_sa))
@@ -147,6 +152,7 @@ module _ (edition : Edition) (identity : Identity) (c : Config) (k : Ceilings) w
 
   -- of each channel
   module _ (f : List ℕ → ℕ → Option RxAssociation) (g : List ℕ → ℕ → Option ℕ) (alike : (sci : List ℕ) (i : ℕ) → is_some (g sci i) ≡ is_some (f sci i))
+      (taken : (sci : List ℕ) (i : ℕ) (sa : RxAssociation) → f sci i ≡ Some sa → takes_key edition sa.key ≡ true)
       (ascend : is_ascending c.channels ≡ true) (no_f : (sci : List ℕ) (i : ℕ) → 4 ≤ i → f sci i ≡ None)
       (no_g : (sci : List ℕ) (i : ℕ) → 4 ≤ i → g sci i ≡ None) where
     abbrev among-config : ℕ → Config
@@ -168,7 +174,7 @@ module _ (edition : Edition) (identity : Identity) (c : Config) (k : Ceilings) w
         become edition identity (among-config j) _ (among-config (j + 1)) (among-ceilings j) _ (among-ceilings (j + 1)) _ 4 4
         (ap (λ (t : List ℕ → ℕ → Option RxAssociation). record c { rx = t }) (among-more f (λ an. None) c.channels j sci lt next.there))
         (ap (λ (t : List ℕ → ℕ → Option ℕ). record k { rx = t }) (among-more g (λ an. None) c.channels j sci lt next.there))
-        (rx-channel (among (take j c.channels) f (λ an. None)) (among (take j c.channels) g (λ an. None)) sci stands (f sci) (g sci) (alike sci)
+        (rx-channel (among (take j c.channels) f (λ an. None)) (among (take j c.channels) g (λ an. None)) sci stands (f sci) (g sci) (alike sci) (taken sci)
         (no_f sci) (no_g sci) (λ i. ap (λ (b : Bool). cond b (f sci) (λ an. None) i) free) (λ i. ap (λ (b : Bool). cond b (g sci) (λ an. None) i) free))
 
     pub rx-all : ((sci : List ℕ) → is_among c.channels sci ≡ false → f sci ≡ (λ an. None)) → ((sci : List ℕ) → is_among c.channels sci ≡ false → g sci ≡ (λ an. None))

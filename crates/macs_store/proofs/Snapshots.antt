@@ -64,13 +64,13 @@ module _ (s : Standing) (is : IsConfig s.edition s.identity s.config) (stands : 
   unfolding tx_records rx_records rx_records_of
   sections =
       both s.edition s.identity settled with_tx_side s.config no_ceilings tx_ceilings s.ceilings _ _ 2 2 6
-      (tx-all s.edition s.identity settled no_ceilings s.config.tx s.ceilings.tx stands.tx tx_numbers (λ an past. no_tx_ceiling an (tx_numbers an past)))
+      (tx-all s.edition s.identity settled no_ceilings s.config.tx s.ceilings.tx stands.tx is.tx_taken tx_numbers (λ an past. no_tx_ceiling an (tx_numbers an past)))
       (both s.edition s.identity with_tx_side with_channels s.config tx_ceilings tx_ceilings s.ceilings _ _ 2 3 6
       (lowered s.edition s.identity with_tx_side with_channels tx_ceilings tx_ceilings _ 2 3 3 (omega arith)
       (channels-all s.edition s.identity with_tx_side tx_ceilings s.config.channels is.channels_ascend is.channels_fit is.own_sci_free refl))
       (both s.edition s.identity with_channels with_rx_side s.config tx_ceilings s.ceilings s.ceilings _ _ 3 4 6
       (lowered s.edition s.identity with_channels with_rx_side tx_ceilings s.ceilings _ 3 4 4 (omega arith)
-      (rx-all s.edition s.identity with_channels tx_ceilings s.config.rx s.ceilings.rx stands.rx is.channels_ascend rx_numbers
+      (rx-all s.edition s.identity with_channels tx_ceilings s.config.rx s.ceilings.rx stands.rx is.rx_taken is.channels_ascend rx_numbers
       (λ sci an past. no_rx_ceiling sci an (rx_numbers sci an past)) (λ sci absent. fun_ext (λ an. no_rx sci an absent))
       (λ sci absent. fun_ext (λ an. no_rx_ceiling sci an (no_rx sci an absent))) refl refl))
       (both s.edition s.identity with_rx_side with_spent_tx s.config s.ceilings s.ceilings s.ceilings _ _ 4 5 6

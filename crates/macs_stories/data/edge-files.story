@@ -319,3 +319,24 @@ command-file = Key { at: 1, name: An }
 | command = [{do = "tx-use", an = 4, sci = ""}]
 command-file = Extra { at: 1 }
 | command = [{do = "tx-use", an = 0, sci = ""}, {}]
+
+# Keys of 256 bits, with digits of either case. Which keys an endpoint takes is said when they are applied.
+story keys of 64 digits are read
+command-file = 2
+| [[command]]
+| do = "tx-install"
+| an = 1
+| key = "000102030405060708090a0b0c0d0e0f101112131415161718191a1b1c1d1e1f"
+| start = 1
+| confidential = true
+| offset = 0
+|
+| [[command]]
+| do = "rx-install"
+| sci = "f0761e8dcd3d0001"
+| an = 0
+| key = "000102030405060708090A0B0C0D0E0F101112131415161718191A1B1C1D1E1F"
+| start = 7
+| offset = 30
+file-command 1 = tx-install 1 000102030405060708090a0b0c0d0e0f101112131415161718191a1b1c1d1e1f 1 0
+file-command 2 = rx-install f0761e8dcd3d0001 0 000102030405060708090a0b0c0d0e0f101112131415161718191a1b1c1d1e1f 7 30

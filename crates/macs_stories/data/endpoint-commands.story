@@ -101,3 +101,33 @@ next 0 = none
 next 3 = 4294967296
 numbers b 0 = 9 9
 numbers b 3 = none
+
+# A key of 256 bits. Its first half is a key of 128 bits, which is taken.
+story a long key is refused and nothing is written
+with key=000102030405060708090a0b0c0d0e0f101112131415161718191a1b1c1d1e1f
+use new
+rx-add b
+calls = *
+tx-install 0 $key 1 = refused LongKey
+rx-install b 0 $key 1 = refused LongKey
+submit tx-install 0 $key 1 = 1
+step = done 1 refused LongKey
+submit rx-install b 0 $key 1 = 2
+step = done 2 refused LongKey
+calls = 0
+pending = 0
+next 0 = none
+numbers b 0 = none
+tx-association 0 = none
+rx-association b 0 = none
+spent-tx $key = no
+spent-rx b $key = no
+tx-install 0 000102030405060708090a0b0c0d0e0f 1
+tx-install 1 $key 1 = refused LongKey
+tx-install 0 $key 1 = refused SlotTaken
+spent-tx 000102030405060708090a0b0c0d0e0f = yes
+spent-tx $key = no
+power-loss last
+open
+next 0 = 5
+next 1 = none

@@ -141,6 +141,29 @@ each 4 4 use whole $e
 write 514 head 2 5 0200000000010001 4 6; write 515 gate
 open-store = BadJournal
 
+# A whole snapshot in which a key of 256 bits, 000102030405060708090a0b0c0d0e0f101112131415161718191a1b1c1d1e1f, is spent too.
+setup long spent
+use new
+use whole
+write 524 record spent tx cc8cd41cef907c4d216069122c4b89936211361f9050a717a1e37ad1862e952f 630dcd2966c4336691125448bbb25b4ff412a49c732db2c8abc1b8581bd710dd
+write 526 record spent rx 175c5e3d52f3b9e3b39c1b6284e10a682199ed78cd36d6f2ce05e6120b952bc2 acdbdc3b48684c920ea4415ea3dbff25c7b123304ef80d1283894f0855557eb1
+
+story spent keys of 256 bits are read
+use long spent
+open-store
+tx-ceiling 2 = 77
+spent-tx 000102030405060708090a0b0c0d0e0f101112131415161718191a1b1c1d1e1f = yes
+spent-tx 000102030405060708090a0b0c0d0e0f = no
+spent-rx 12153524c0895e81 000102030405060708090a0b0c0d0e0f101112131415161718191a1b1c1d1e1f = yes
+spent-rx 0909090909090909 000102030405060708090a0b0c0d0e0f101112131415161718191a1b1c1d1e1f = no
+
+story a snapshot with a key of 256 bits is refused
+with at=1 record=tx-association,2,000102030405060708090a0b0c0d0e0f101112131415161718191a1b1c1d1e1f,clear,77
+with at=3 record=rx-association,12153524c0895e81,2,000102030405060708090a0b0c0d0e0f101112131415161718191a1b1c1d1e1f,0,80
+use long spent
+write 516+2*$at record $record
+open-store = BadJournal
+
 story commands are no part of a snapshot
 use new
 write 516 record settings check off 3 explicit

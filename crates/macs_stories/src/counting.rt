@@ -1,11 +1,11 @@
 //! What an endpoint counted.
 
-use crate::answer::Answer;
 use crate::passing::tell_verdict;
-use crate::words::Words;
 use macs_endpoint::Counters;
 use macs_frame::Sci;
 use macs_rxsc::{Kind, Reason, Verdict};
+use macs_story_disk::sci_of;
+use macs_story_text::{Answer, Words, whole};
 use macs_txsc::TxFault;
 
 const TX_FAULTS: [TxFault; 6] = [
@@ -86,11 +86,28 @@ fn tell_received_of(counters: Counters<'_>, sci: Sci, answer: &mut Answer) {
 /// Answers a question about counters; `None` where there is none.
 pub fn ask_counters(counters: Counters<'_>, words: Words<'_>, answer: &mut Answer) -> Option<()> {
     let mut words = words;
-    match words.take() {
+    let told = match words.take() {
+        "received-of" => ask_received_of(counters, &mut words, answer),
+        question => ask_all(counters, question, answer),
+    };
+    whole(told, &words)
+}
+
+/// Answers a question of one word; `None` where there is none.
+fn ask_all(counters: Counters<'_>, question: &str, answer: &mut Answer) -> Option<()> {
+    match question {
         "sent" => tell_sent(counters, answer),
         "received" => tell_received(counters, answer),
-        "received-of" => tell_received_of(counters, words.sci()?, answer),
         _ => return None,
     }
-    if words.is_empty() { Some(()) } else { None }
+    Some(())
+}
+
+fn ask_received_of(
+    counters: Counters<'_>,
+    words: &mut Words<'_>,
+    answer: &mut Answer,
+) -> Option<()> {
+    tell_received_of(counters, sci_of(words)?, answer);
+    Some(())
 }

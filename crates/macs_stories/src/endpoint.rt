@@ -1,21 +1,13 @@
 //! What is done with an endpoint, and what is asked of it.
 
-use crate::answer::Answer;
-use crate::captures::run;
-use crate::commands::command_of;
 use crate::counting::ask_counters;
-use crate::disk::StoryDisk;
-use crate::files::apply;
-use crate::life::Life;
 use crate::passing::pass;
-use crate::questions::{ask_config, tell_identity};
-use crate::serving::serve;
-use crate::tools::Tools;
-use crate::wires::pass_frames;
-use crate::words::{Words, whole};
 use macs_config::Command;
 use macs_endpoint::{CommandFault, Endpoint, RefillFault, Step, StepFault, SubmitFault, Ticket};
 use macs_rxsc::RxNumbers;
+use macs_story_disk::{StoryDisk, an_of, ask_config, command_of, sci_of, tell_identity};
+use macs_story_text::{Answer, Words, whole};
+use std::alloc::Global;
 
 pub type Played = Endpoint<StoryDisk>;
 
@@ -150,25 +142,38 @@ fn tell_numbers(numbers: Option<RxNumbers>, answer: &mut Answer) {
     }
 }
 
+fn ask_next(endpoint: &Played, words: &mut Words<'_>, answer: &mut Answer) -> Option<()> {
+    tell_next(endpoint.next_number(an_of(words)?), answer);
+    Some(())
+}
+
 /// Tells the next and the lowest acceptable number of a receive association.
 fn ask_numbers(endpoint: &Played, words: &mut Words<'_>, answer: &mut Answer) -> Option<()> {
-    let sci = words.sci()?;
-    tell_numbers(endpoint.numbers(sci, words.an()?), answer);
+    let sci = sci_of(words)?;
+    tell_numbers(endpoint.numbers(sci, an_of(words)?), answer);
     Some(())
 }
 
 /// Answers a question; `None` where there is none.
 fn ask(endpoint: &Played, words: Words<'_>, answer: &mut Answer) -> Option<()> {
     let mut words = words;
-    match words.take() {
-        "next" => tell_next(endpoint.next_number(words.an()?), answer),
-        "numbers" => ask_numbers(endpoint, &mut words, answer)?,
+    let told = match words.take() {
+        "next" => ask_next(endpoint, &mut words, answer),
+        "numbers" => ask_numbers(endpoint, &mut words, answer),
+        question => ask_all(endpoint, question, answer),
+    };
+    whole(told, &words)
+}
+
+/// Answers a question of one word; `None` where there is none.
+fn ask_all(endpoint: &Played, question: &str, answer: &mut Answer) -> Option<()> {
+    match question {
         "identity" => tell_identity(endpoint.identity(), answer),
         "stopped" => answer.is(endpoint.is_stopped()),
         "in-hand" => answer.is(endpoint.in_hand().is_some()),
         _ => return None,
     }
-    if words.is_empty() { Some(()) } else { None }
+    Some(())
 }
 
 /// Answers a question about the configuration, or about the counters.
@@ -177,20 +182,16 @@ fn ask_more(endpoint: &Played, words: Words<'_>, answer: &mut Answer) -> bool {
         || ask_counters(endpoint.counters(), words, answer).is_some()
 }
 
-impl Life for Endpoint<StoryDisk> {
-    fn act(&mut self, words: Words<'_>, tools: &mut Tools) -> bool {
-        work(self, words, &mut tools.answer).is_some()
-            || command(self, words, &mut tools.answer).is_some()
-            || pass(self, words, tools.alloc, &mut tools.answer).is_some()
-            || pass_frames(self, words, tools).is_some()
-            || apply(self, words, tools).is_some()
-            || serve(self, words, tools).is_some()
-            || run(self, words, tools).is_some()
-            || ask(self, words, &mut tools.answer).is_some()
-            || ask_more(self, words, &mut tools.answer)
-    }
-
-    fn into_disk(self) -> StoryDisk {
-        Endpoint::into_disk(self)
-    }
+/// Does the act with an endpoint that the words say. Whether there is such an act.
+pub fn act_with_endpoint(
+    endpoint: &mut Played,
+    words: Words<'_>,
+    alloc: Global,
+    answer: &mut Answer,
+) -> bool {
+    work(endpoint, words, answer).is_some()
+        || command(endpoint, words, answer).is_some()
+        || pass(endpoint, words, alloc, answer).is_some()
+        || ask(endpoint, words, answer).is_some()
+        || ask_more(endpoint, words, answer)
 }

@@ -1,12 +1,10 @@
 //! Command files: the text that stands behind an act, and the commands that it says.
 
-use crate::commands::tell_command;
 use crate::endpoint::{Played, give, tell_ran};
-use crate::script::Line;
-use crate::tools::Tools;
-use crate::words::{Words, whole};
 use macs_config::Command;
 use macs_edge::{ConfigFault, commands_of};
+use macs_story_disk::tell_command;
+use macs_story_text::{Answer, Line, Words, whole};
 use std::alloc::Global;
 use toml::Table;
 
@@ -15,66 +13,86 @@ fn read(alloc: Global, table: &Table) -> Result<Vec<Command>, ConfigFault> {
 }
 
 /// Reads a text as a command file, and answers how many commands it has, or its fault.
-fn read_text(text: &str, tools: &mut Tools) {
-    let Ok(table) = toml::table_from_str(tools.alloc, text) else {
-        tools.answer.word("no TOML");
+fn read_text(text: &str, commands: &mut Vec<Command>, alloc: Global, answer: &mut Answer) {
+    let Ok(table) = toml::table_from_str(alloc, text) else {
+        answer.word("no TOML");
         return;
     };
-    match read(tools.alloc, &table) {
-        Ok(commands) => {
-            tools.answer.number(commands.len() as u64);
-            tools.commands = commands;
+    match read(alloc, &table) {
+        Ok(found) => {
+            answer.number(found.len() as u64);
+            *commands = found;
         }
-        Err(fault) => tools.answer.name(&fault),
+        Err(fault) => answer.name(&fault),
     }
 }
 
 /// `command-file`, and lines of text behind it.
-fn read_file(line: Line<'_>, tools: &mut Tools) -> Option<()> {
-    let text = line.behind.text(tools.alloc)?;
-    read_text(text.as_str(), tools);
+fn read_file(
+    line: Line<'_>,
+    commands: &mut Vec<Command>,
+    alloc: Global,
+    answer: &mut Answer,
+) -> Option<()> {
+    let text = line.behind.text(alloc)?;
+    read_text(text.as_str(), commands, alloc, answer);
     Some(())
 }
 
 /// `file-command PLACE`: a command of the file that was read last, by its place from 1 on.
-fn tell(place: u64, tools: &mut Tools) {
+fn tell(words: &mut Words<'_>, commands: &[Command], answer: &mut Answer) -> Option<()> {
+    let place = whole(words.number(), words)?;
     let place = usize::try_from(place.saturating_sub(1)).unwrap_or(usize::MAX);
-    match tools.commands.get(place) {
-        Some(command) => tell_command(*command, &mut tools.answer),
-        None => tools.answer.word("none"),
+    match commands.get(place) {
+        Some(command) => tell_command(*command, answer),
+        None => answer.word("none"),
     }
+    Some(())
 }
 
 /// Does an act with a command file, and answers it; `None` where there is no such act.
-pub fn act(line: Line<'_>, tools: &mut Tools) -> Option<()> {
-    let mut words = Words::new(line.act, line.values);
-    match words.take() {
-        "command-file" if words.is_empty() => read_file(line, tools),
-        "file-command" => {
-            tell(whole(words.number(), &words)?, tools);
-            Some(())
-        }
-        _ => None,
+pub fn act(
+    line: Line<'_>,
+    commands: &mut Vec<Command>,
+    alloc: Global,
+    answer: &mut Answer,
+) -> Option<()> {
+    let mut words = line.words();
+    if words.rest() == "command-file" {
+        return read_file(line, commands, alloc, answer);
     }
+    if words.take() == "file-command" {
+        return tell(&mut words, commands.as_slice(), answer);
+    }
+    None
 }
 
 /// `apply`: gives the commands of the file that was read last, up to the first that is not kept.
 /// How many are kept, and `ok` or why the next one is not.
-pub fn apply(endpoint: &mut Played, words: Words<'_>, tools: &mut Tools) -> Option<()> {
+pub fn apply(
+    endpoint: &mut Played,
+    words: Words<'_>,
+    commands: &[Command],
+    answer: &mut Answer,
+) -> Option<()> {
     if words.rest() != "apply" {
         return None;
     }
+    give_each(endpoint, commands, answer);
+    Some(())
+}
+
+fn give_each(endpoint: &mut Played, commands: &[Command], answer: &mut Answer) {
     let mut kept = 0_u64;
-    for command in tools.commands.as_slice() {
+    for command in commands {
         let told = give(endpoint, *command);
         if told.is_err() {
-            tools.answer.number(kept);
-            tell_ran(told, &mut tools.answer);
-            return Some(());
+            answer.number(kept);
+            tell_ran(told, answer);
+            return;
         }
         kept = kept.saturating_add(1);
     }
-    tools.answer.number(kept);
-    tools.answer.word("ok");
-    Some(())
+    answer.number(kept);
+    answer.word("ok");
 }

@@ -1,5 +1,6 @@
 //! Frames: plain ones of sevens, and those of a peer, sealed as a story runs.
 
+use macs_aes::Key;
 use macs_frame::{An, FrameBuf, MAX_FRAME, MIN_FRAME, Offset, Pn, ScName, Sci, SecTag, seal_frame};
 use macs_gcm::GcmKey;
 
@@ -26,7 +27,7 @@ pub struct Form {
 #[derive(Clone, Copy)]
 pub struct Sealed {
     pub sci: Sci,
-    pub key: [u8; 16],
+    pub key: Key,
     pub an: An,
     pub pn: Pn,
     pub octets: usize,

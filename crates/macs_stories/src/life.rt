@@ -1,49 +1,69 @@
 //! What has the disk from an opening to a power loss or an orderly end: an endpoint, a store or a
 //! journal.
 
-use crate::disk::StoryDisk;
-use crate::script::Line;
-use crate::sectors::lose_power;
 use crate::stage::Stage;
-use crate::tools::Tools;
-use crate::words::Words;
+use crate::tools::{self, Tools};
+use macs_endpoint::Endpoint;
+use macs_store::Store;
+use macs_story_disk::{JournalLife, StoryDisk, act_with_store, power_loss};
+use macs_story_text::{Answer, Line, Words};
+use std::alloc::Global;
 
 /// What has the disk.
 pub trait Life: Drop {
     /// Does the act that the words say. Whether there is such an act.
-    fn act(&mut self, words: Words<'_>, tools: &mut Tools) -> bool;
+    fn act(&mut self, words: Words<'_>, tools: &mut Tools, answer: &mut Answer) -> bool;
 
     /// The disk, as it stands.
     fn into_disk(self) -> StoryDisk;
 }
 
-/// How a life ends.
-#[derive(Clone, Copy)]
-enum End {
-    PowerLoss,
-    Close,
+impl Life for Endpoint<StoryDisk> {
+    fn act(&mut self, words: Words<'_>, tools: &mut Tools, answer: &mut Answer) -> bool {
+        tools::act(self, words, tools, answer)
+    }
+
+    fn into_disk(self) -> StoryDisk {
+        Endpoint::into_disk(self)
+    }
 }
 
-fn end_of(line: Line<'_>) -> Option<End> {
-    let mut words = Words::new(line.act, line.values);
-    match words.take() {
-        "power-loss" => Some(End::PowerLoss),
-        "close" if words.is_empty() => Some(End::Close),
-        _ => None,
+impl Life for Store<StoryDisk> {
+    fn act(&mut self, words: Words<'_>, _tools: &mut Tools, answer: &mut Answer) -> bool {
+        act_with_store(self, words, answer)
     }
+
+    fn into_disk(self) -> StoryDisk {
+        Store::into_disk(self)
+    }
+}
+
+impl Life for JournalLife {
+    fn act(&mut self, words: Words<'_>, _tools: &mut Tools, answer: &mut Answer) -> bool {
+        JournalLife::act(self, words, answer)
+    }
+
+    fn into_disk(self) -> StoryDisk {
+        JournalLife::into_disk(self)
+    }
+}
+
+/// Whether an act ends a life: `close`, or `power-loss` with what it leaves.
+fn is_end(line: Line<'_>) -> bool {
+    let mut words = line.words();
+    words.rest() == "close" || words.take() == "power-loss"
 }
 
 /// The acts of a life up to the one that ends it; `None` where the story ends.
 fn play<'a, L: Life>(rt: &impl Print, life: &mut L, stage: &mut Stage<'a>) -> Option<Line<'a>> {
     for _ in 0..u64::MAX {
         let line = stage.take(rt)?;
-        if end_of(line).is_some() {
+        if is_end(line) {
             return Some(line);
         }
-        let words = Words::new(line.act, line.values);
-        if !life.act(words, &mut stage.tools) {
-            stage.tools.answer.clear();
-            stage.tools.answer.word("no such act");
+        if !life.act(line.words(), &mut stage.tools, &mut stage.answer) {
+            stage.answer.clear();
+            stage.answer.word("no such act");
         }
         stage.judge(rt, line);
     }
@@ -51,24 +71,13 @@ fn play<'a, L: Life>(rt: &impl Print, life: &mut L, stage: &mut Stage<'a>) -> Op
 }
 
 /// What the end of a life leaves on the disk.
-fn end_life(rt: &impl Print, disk: &mut StoryDisk, stage: &mut Stage<'_>, line: Line<'_>) {
-    match end_of(line) {
-        Some(End::PowerLoss) => power_loss(disk, line, &mut stage.tools),
-        _ => stage.tools.answer.word("ok"),
-    }
-    stage.judge(rt, line);
-}
-
-/// A power loss, as its act says.
-pub fn power_loss(disk: &mut StoryDisk, line: Line<'_>, tools: &mut Tools) {
-    let mut words = Words::new(line.act, line.values);
-    words.take();
-    if lose_power(&mut disk.disk, words, tools.alloc) {
-        tools.answer.word("ok");
+fn end_life(disk: &mut StoryDisk, line: Line<'_>, alloc: Global, answer: &mut Answer) {
+    let mut words = line.words();
+    if words.take() == "power-loss" {
+        power_loss(disk, words, alloc, answer);
     } else {
-        tools.answer.word("no such contents");
+        answer.word("ok");
     }
-    disk.restore();
 }
 
 /// Plays a life that has begun, up to its end. The disk as it is left.
@@ -77,7 +86,8 @@ pub fn live<L: Life>(rt: &impl Print, life: L, stage: &mut Stage<'_>) -> StoryDi
     let last = play(rt, &mut life, stage);
     let mut disk = life.into_disk();
     if let Some(line) = last {
-        end_life(rt, &mut disk, stage, line);
+        end_life(&mut disk, line, stage.tools.alloc, &mut stage.answer);
+        stage.judge(rt, line);
     }
     disk
 }

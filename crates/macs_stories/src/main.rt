@@ -7,36 +7,22 @@
 //! is not read, no memory.
 #![tactic(auto)]
 
-mod answer;
-mod blocks;
-mod captures;
-mod commands;
-mod controls;
 mod counting;
-mod disk;
 mod endpoint;
 mod files;
 mod frames;
-mod journal;
 mod life;
 mod passing;
-mod questions;
-mod records;
-mod report;
-mod script;
-mod sectors;
+mod running;
 mod serving;
 mod shelf;
 mod stage;
-mod store;
 mod stories;
 mod tools;
-mod values;
 mod wires;
-mod words;
 
-use crate::report::{Report, Telling};
 use crate::stories::{Source, play};
+use macs_story_text::{Report, Telling};
 use std::process::ExitCode;
 use std::{env, fs};
 

@@ -1,13 +1,12 @@
 //! Frames that an endpoint is given, from either side.
 
-use crate::answer::Answer;
 use crate::endpoint::Played;
 use crate::frames::{Form, Sealed, clear_octets, frame_of, sevens};
-use crate::records::offset_of;
-use crate::words::{Words, whole};
 use macs_endpoint::{ProtectFault, Stopped};
 use macs_frame::{FrameBuf, Offset, Pn};
 use macs_rxsc::Verdict;
+use macs_story_disk::{an_of, key_of, offset_of, pn_of, sci_of};
+use macs_story_text::{Answer, Words, octets_of, whole};
 use std::alloc::Global;
 
 fn protected(endpoint: &mut Played, plain: &[u8], out: &mut FrameBuf) -> Result<Pn, ProtectFault> {
@@ -151,10 +150,10 @@ fn receive_sealed(endpoint: &mut Played, words: &mut Words<'_>, answer: &mut Ans
 }
 
 fn sealed_of(words: &mut Words<'_>) -> Option<Sealed> {
-    let sci = words.sci()?;
-    let key = words.key()?;
-    let an = words.an()?;
-    let pn = words.pn()?;
+    let sci = sci_of(words)?;
+    let key = key_of(words)?;
+    let an = an_of(words)?;
+    let pn = pn_of(words)?;
     let octets = words.length()?;
     Some(Sealed {
         sci,
@@ -180,11 +179,6 @@ fn form_of(words: &mut Words<'_>) -> Option<Form> {
         }
     }
     None
-}
-
-/// The octets that are left of a line, in hex.
-fn octets_of(words: &mut Words<'_>, alloc: Global) -> Option<Vec<u8>> {
-    hex::decode(alloc, words.take_rest()).ok()
 }
 
 /// Passes a frame of sevens, whose length the words say; `None` where there is no such act.

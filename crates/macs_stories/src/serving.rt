@@ -2,29 +2,26 @@
 
 ghost use Rattle.std.specs.Prelude.{false, []};
 
-use crate::answer::Answer;
-use crate::commands::command_of;
 use crate::endpoint::{Played, tell_step, tell_submitted};
 use crate::frames::sevens;
 use crate::passing::{tell_protected, tell_received};
-use crate::script::Line;
-use crate::tools::Tools;
-use crate::words::{Words, whole};
 use macs_endpoint::{Answer as Reply, AnswerSink, Event, EventSource, ServeEnd};
 use macs_frame::FrameBuf;
+use macs_story_disk::command_of;
+use macs_story_text::{Answer, Line, Words, whole};
 use std::alloc::Global;
 use std::collections::VecDeque;
 
 /// Events in their order, and how often one was asked for. It claims nothing.
 #[derive(Drop)]
-pub struct Events {
+struct Events {
     events: VecDeque<Event>,
     asked: u64,
 }
 
 impl Events {
     /// None.
-    pub fn new(alloc: Global) -> Events {
+    fn new(alloc: Global) -> Events {
         Events {
             events: VecDeque::new(alloc),
             asked: 0,
@@ -45,14 +42,14 @@ impl EventSource for Events {
 
 /// What was answered to events, unless there was no memory for it. It claims nothing.
 #[derive(Drop)]
-pub struct Replies {
+struct Replies {
     replies: Vec<Reply>,
     is_cut: bool,
 }
 
 impl Replies {
     /// None.
-    pub fn new(alloc: Global) -> Replies {
+    fn new(alloc: Global) -> Replies {
         Replies {
             replies: Vec::new(alloc),
             is_cut: false,
@@ -68,6 +65,23 @@ impl AnswerSink for Replies {
     fn put(&mut self, answer: Reply) {
         if self.replies.push(answer).is_err() {
             self.is_cut = true;
+        }
+    }
+}
+
+/// The events that wait to be served, and what was answered to those before.
+#[derive(Drop)]
+pub struct Service {
+    events: Events,
+    replies: Replies,
+}
+
+impl Service {
+    /// No event, and no answer.
+    pub fn new(alloc: Global) -> Service {
+        Service {
+            events: Events::new(alloc),
+            replies: Replies::new(alloc),
         }
     }
 }
@@ -110,11 +124,11 @@ fn events_of(text: &str, line: Line<'_>, alloc: Global) -> Option<Events> {
 }
 
 /// `events`, and lines of text behind it: these events wait, and nothing is answered yet.
-fn wait(line: Line<'_>, tools: &mut Tools) -> Option<()> {
-    let text = line.behind.text(tools.alloc)?;
-    tools.events = events_of(text.as_str(), line, tools.alloc)?;
-    tools.replies = Replies::new(tools.alloc);
-    tools.answer.word("ok");
+fn wait(line: Line<'_>, service: &mut Service, alloc: Global, answer: &mut Answer) -> Option<()> {
+    let text = line.behind.text(alloc)?;
+    service.events = events_of(text.as_str(), line, alloc)?;
+    service.replies = Replies::new(alloc);
+    answer.word("ok");
     Some(())
 }
 
@@ -136,44 +150,60 @@ fn tell_reply(reply: &Reply, answer: &mut Answer) {
 }
 
 /// `answered PLACE`: what was answered to an event, by its place from 1 on.
-fn tell(place: u64, tools: &mut Tools) {
+fn tell(words: &mut Words<'_>, replies: &Replies, answer: &mut Answer) -> Option<()> {
+    let place = whole(words.number(), words)?;
     let place = usize::try_from(place.saturating_sub(1)).unwrap_or(usize::MAX);
-    match tools.replies.replies.get(place) {
-        Some(reply) => tell_reply(reply, &mut tools.answer),
-        None => tools.answer.word("none"),
+    match replies.replies.get(place) {
+        Some(reply) => tell_reply(reply, answer),
+        None => answer.word("none"),
     }
+    Some(())
 }
 
 /// Does an act with events, and answers it; `None` where there is no such act.
-pub fn act(line: Line<'_>, tools: &mut Tools) -> Option<()> {
-    let mut words = Words::new(line.act, line.values);
-    match words.take() {
-        "events" if words.is_empty() => wait(line, tools),
-        "answered" => {
-            tell(whole(words.number(), &words)?, tools);
-            Some(())
-        }
-        _ => None,
+pub fn act(
+    line: Line<'_>,
+    service: &mut Service,
+    alloc: Global,
+    answer: &mut Answer,
+) -> Option<()> {
+    let mut words = line.words();
+    if words.rest() == "events" {
+        return wait(line, service, alloc, answer);
+    }
+    if words.take() == "answered" {
+        return tell(&mut words, &service.replies, answer);
+    }
+    None
+}
+
+fn served(endpoint: &mut Played, service: &mut Service, turns: u64) -> ServeEnd {
+    endpoint.serve(&mut service.events, &mut service.replies, turns)
+}
+
+/// Tells how serving ended, how often an event was asked for, and how many answers there are.
+fn tell_served(end: ServeEnd, service: &Service, answer: &mut Answer) {
+    answer.name(&end);
+    answer.number(service.events.asked);
+    answer.number(service.replies.replies.len() as u64);
+    if service.replies.is_cut {
+        answer.word("no memory");
     }
 }
 
-fn served(endpoint: &mut Played, tools: &mut Tools, turns: u64) -> ServeEnd {
-    endpoint.serve(&mut tools.events, &mut tools.replies, turns)
-}
-
-/// `serve TURNS`: how it ended, how often an event was asked for, and how many answers there are.
-pub fn serve(endpoint: &mut Played, words: Words<'_>, tools: &mut Tools) -> Option<()> {
+/// `serve TURNS`: the events that wait are served; `None` where the words say no such act.
+pub fn serve(
+    endpoint: &mut Played,
+    words: Words<'_>,
+    service: &mut Service,
+    answer: &mut Answer,
+) -> Option<()> {
     let mut words = words;
     if words.take() != "serve" {
         return None;
     }
     let turns = whole(words.number(), &words)?;
-    let end = served(endpoint, tools, turns);
-    tools.answer.name(&end);
-    tools.answer.number(tools.events.asked);
-    tools.answer.number(tools.replies.replies.len() as u64);
-    if tools.replies.is_cut {
-        tools.answer.word("no memory");
-    }
+    let end = served(endpoint, service, turns);
+    tell_served(end, service, answer);
     Some(())
 }

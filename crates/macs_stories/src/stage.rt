@@ -1,11 +1,8 @@
 //! What the acts of a story share.
 
-use crate::controls::{Controls, Fuse};
-use crate::report::Report;
-use crate::script::{Line, Script};
 use crate::tools::Tools;
-use crate::words::Words;
-use crate::{captures, files, serving, wires};
+use macs_story_disk::{Controls, Fuse};
+use macs_story_text::{Answer, Line, Report, Script, Words};
 use std::alloc::Global;
 use std::rc::Rc;
 
@@ -15,6 +12,7 @@ pub struct Stage<'a> {
     script: Script<'a>,
     report: Report<'a>,
     controls: Rc<Controls>,
+    pub answer: Answer,
     pub tools: Tools,
 }
 
@@ -30,6 +28,7 @@ impl<'a> Stage<'a> {
             script,
             report,
             controls,
+            answer: Answer::new(alloc),
             tools: Tools::new(alloc),
         }
     }
@@ -39,8 +38,9 @@ impl<'a> Stage<'a> {
     pub fn take(&mut self, rt: &impl Print) -> Option<Line<'a>> {
         for _ in 0..u64::MAX {
             let line = self.script.take()?;
-            self.tools.answer.clear();
-            if !self.control(line) && !self.act_beside(line) {
+            self.answer.clear();
+            if !self.control(line) && self.tools.act(line, &mut self.answer).is_none() {
+                self.answer.clear();
                 return Some(line);
             }
             self.judge(rt, line);
@@ -50,43 +50,20 @@ impl<'a> Stage<'a> {
 
     /// Compares the answer with what is wanted.
     pub fn judge(&mut self, rt: &impl Print, line: Line<'_>) {
-        self.report.judge(rt, line, &self.tools.answer);
+        self.report.judge(rt, line, &self.answer);
     }
 
     /// Does what is said to the disk's controls. Whether the act is one.
     fn control(&mut self, line: Line<'_>) -> bool {
-        let mut words = Words::new(line.act, line.values);
+        let mut words = line.words();
         match words.take() {
-            "fail" => self.fail(&mut words),
+            "fail" => fail(&self.controls, &mut words, &mut self.answer),
             "calls" => {
-                let calls = self.controls.calls();
-                self.tools.answer.number(calls);
+                self.answer.number(self.controls.calls());
                 true
             }
             _ => false,
         }
-    }
-
-    fn fail(&mut self, words: &mut Words<'_>) -> bool {
-        let Some(fuse) = fuse_of(words) else {
-            return false;
-        };
-        self.controls.set(fuse);
-        self.tools.answer.word("ok");
-        true
-    }
-
-    /// Does what is said to a wire, of a command file or of events. Whether the act is one.
-    fn act_beside(&mut self, line: Line<'_>) -> bool {
-        let words = Words::new(line.act, line.values);
-        let is_done = wires::act(words, &mut self.tools).is_some()
-            || files::act(line, &mut self.tools).is_some()
-            || serving::act(line, &mut self.tools).is_some()
-            || captures::act(line, &mut self.tools).is_some();
-        if !is_done {
-            self.tools.answer.clear();
-        }
-        is_done
     }
 
     /// What is printed of the file, also where the file of its disk gave other octets than the disk in memory.
@@ -102,6 +79,16 @@ impl<'a> Stage<'a> {
         }
         report
     }
+}
+
+/// `fail FUSE`: says which device calls fail. Whether there is such a fuse.
+fn fail(controls: &Controls, words: &mut Words<'_>, answer: &mut Answer) -> bool {
+    let Some(fuse) = fuse_of(words) else {
+        return false;
+    };
+    controls.set(fuse);
+    answer.word("ok");
+    true
 }
 
 /// `never`; `N` for the call behind so many more; `N filled`; `N on`.

@@ -1,19 +1,14 @@
 //! The stories of a file, each played on a new disk.
 
-use crate::blocks::{Block, Kind, Place, Play};
-use crate::controls::Controls;
-use crate::disk::StoryDisk;
-use crate::journal::JournalLife;
 use crate::life::live;
-use crate::report::Report;
-use crate::script::{Line, Script};
 use crate::shelf;
 use crate::stage::Stage;
-use crate::words::Words;
 use macs_disk::FileDisk;
 use macs_endpoint::Endpoint;
 use macs_journal::{JournalFault, recover};
 use macs_store::Store;
+use macs_story_disk::{Controls, JournalLife, StoryDisk};
+use macs_story_text::{Block, Kind, Line, Place, Play, Report, Script};
 use std::alloc::Global;
 use std::fs::File;
 use std::rc::Rc;
@@ -38,7 +33,7 @@ enum Opening {
 }
 
 fn opening_of(line: Line<'_>) -> Option<Opening> {
-    match Words::new(line.act, line.values).rest() {
+    match line.words().rest() {
         "open" => Some(Opening::Endpoint),
         "open-store" => Some(Opening::Store),
         "open-journal" => Some(Opening::Journal),
@@ -78,7 +73,7 @@ fn play_to_opening<'a>(
         if opening_of(line).is_some() {
             return Some(line);
         }
-        shelf::play(disk, line, &mut stage.tools);
+        shelf::play(disk, line, stage.tools.alloc, &mut stage.answer);
         stage.judge(rt, line);
     }
     None
@@ -92,14 +87,14 @@ fn refuse(
     stage: &mut Stage<'_>,
     line: Line<'_>,
 ) -> StoryDisk {
-    stage.tools.answer.name(&fault);
+    stage.answer.name(&fault);
     stage.judge(rt, line);
     disk
 }
 
 /// Answers that the disk was opened.
 fn accept(rt: &impl Print, stage: &mut Stage<'_>, line: Line<'_>) {
-    stage.tools.answer.word("ok");
+    stage.answer.word("ok");
     stage.judge(rt, line);
 }
 

@@ -1,39 +1,66 @@
-//! What an act has at hand beside the disk.
+//! What an act has at hand beside the disk, or beside what has the disk.
 
-use crate::answer::Answer;
-use crate::serving::{Events, Replies};
-use crate::wires::Wires;
+use crate::endpoint::{Played, act_with_endpoint};
+use crate::serving::{self, Service};
+use crate::wires::{self, Wires};
+use crate::{files, running};
 use macs_config::Command;
+use macs_story_text::{Answer, Captures, Line, Words, act_with_captures};
 use std::alloc::Global;
 
-/// What an act has at hand beside the disk, or what has the disk.
+/// What an act has at hand beside the disk, or beside what has the disk.
 #[derive(Drop)]
 pub struct Tools {
     pub alloc: Global,
-    pub answer: Answer,
-    pub wires: Wires,
+    wires: Wires,
     /// The commands of the file that was read last.
-    pub commands: Vec<Command>,
-    /// The capture that is read next, and the one that was written last.
-    pub capture: Vec<u8>,
-    pub written: Vec<u8>,
-    /// The events that wait to be served, and what was answered to those before.
-    pub events: Events,
-    pub replies: Replies,
+    commands: Vec<Command>,
+    captures: Captures,
+    service: Service,
 }
 
 impl Tools {
-    /// Empty wires, and no command file.
+    /// Empty wires, no command file, no capture and no events.
     pub fn new(alloc: Global) -> Tools {
         Tools {
             alloc,
-            answer: Answer::new(alloc),
             wires: Wires::new(alloc),
             commands: Vec::new(alloc),
-            capture: Vec::new(alloc),
-            written: Vec::new(alloc),
-            events: Events::new(alloc),
-            replies: Replies::new(alloc),
+            captures: Captures::new(alloc),
+            service: Service::new(alloc),
         }
     }
+
+    /// Does what is said to a wire, of a command file, of a capture or of events; `None` where the act
+    /// is of none of them.
+    pub fn act(&mut self, line: Line<'_>, answer: &mut Answer) -> Option<()> {
+        let alloc = self.alloc;
+        let told = wires::act(&mut self.wires, line.words(), alloc, answer);
+        if told.is_some() {
+            return told;
+        }
+        let told = files::act(line, &mut self.commands, alloc, answer);
+        if told.is_some() {
+            return told;
+        }
+        let told = serving::act(line, &mut self.service, alloc, answer);
+        if told.is_some() {
+            return told;
+        }
+        act_with_captures(line, &mut self.captures, alloc, answer)
+    }
+}
+
+/// Does the act with an endpoint that the words say. Whether there is such an act.
+pub fn act(
+    endpoint: &mut Played,
+    words: Words<'_>,
+    tools: &mut Tools,
+    answer: &mut Answer,
+) -> bool {
+    act_with_endpoint(endpoint, words, tools.alloc, answer)
+        || wires::pass_frames(endpoint, words, &mut tools.wires, answer).is_some()
+        || files::apply(endpoint, words, tools.commands.as_slice(), answer).is_some()
+        || serving::serve(endpoint, words, &mut tools.service, answer).is_some()
+        || running::run(endpoint, words, &mut tools.captures, tools.alloc, answer).is_some()
 }

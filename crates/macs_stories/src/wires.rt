@@ -1,21 +1,16 @@
 //! The two wires of a story, in memory: what waits on them and what they sent, and relays between
 //! them.
 
-use crate::answer::Answer;
 use crate::endpoint::Played;
-use crate::tools::Tools;
-use crate::words::{Words, whole};
 use macs_edge::{FaultWire, Got, MemWire, RelaySummary, Wire, WireFault, relay};
 use macs_endpoint::RefillFault;
 use macs_frame::FrameBuf;
+use macs_story_text::{Answer, Words, filled, frame_at, octets_of, tell_frame, tell_sent, whole};
 use std::alloc::Global;
 use std::mem::replace;
 
 /// A wire in memory behind two that fail calls.
 type Front = FaultWire<FaultWire<MemWire<Global>>>;
-
-/// The longest frame that a story makes for a wire, in octets.
-const LONGEST: usize = 65_536;
 
 /// The numbers of the receive and the send that fail, of the wire before the one in memory, and of
 /// the one before that; 0 for none.
@@ -36,7 +31,7 @@ const NEVER: Fails = Fails {
 
 /// A wire of a story.
 #[derive(Drop)]
-pub struct StoryWire {
+struct StoryWire {
     front: Front,
     fails: Fails,
 }
@@ -72,12 +67,6 @@ impl StoryWire {
 
     fn sent(&self) -> &[Vec<u8>] {
         self.front.inner().inner().sent()
-    }
-
-    /// What it sent in this place, from 0 on.
-    fn sent_at(&self, place: u64) -> Option<&[u8]> {
-        let place = usize::try_from(place).ok()?;
-        Some(self.sent().get(place)?.as_slice())
     }
 }
 
@@ -154,96 +143,19 @@ fn fails_of(words: &mut Words<'_>) -> Option<Fails> {
 
 /// `LENGTH OCTET`: a frame of so many octets, each of which is this one; 7 where none is said. `hex
 /// HEX`; `kept PLACE`.
-fn frame_of(wires: &Wires, words: &mut Words<'_>, alloc: Global) -> Option<Vec<u8>> {
+fn frame_of(kept: &[Vec<u8>], words: &mut Words<'_>, alloc: Global) -> Option<Vec<u8>> {
     let mut front = *words;
     match front.take() {
-        "hex" => hex::decode(alloc, front.take_rest()).ok(),
-        "kept" => kept(wires, whole(front.number(), &front)?, alloc),
+        "hex" => octets_of(&mut front, alloc),
+        "kept" => kept_frame(kept, &mut front, alloc),
         _ => filled(words, alloc),
     }
 }
 
-pub fn filled(words: &mut Words<'_>, alloc: Global) -> Option<Vec<u8>> {
-    let length = usize::try_from(words.number()?).ok()?;
-    let octet = if words.is_empty() { 7 } else { words.octet()? };
-    if length > LONGEST || !words.is_empty() {
-        return None;
-    }
-    let mut frame = Vec::new(alloc);
-    frame.resize(length, octet).ok()?;
-    Some(frame)
-}
-
 /// A frame that was kept, by its place from 0 on.
-fn kept(wires: &Wires, place: u64, alloc: Global) -> Option<Vec<u8>> {
-    let place = usize::try_from(place).ok()?;
-    Vec::from_slice(alloc, wires.kept.get(place)?.as_slice()).ok()
-}
-
-/// Whether each octet is this one.
-fn is_filled(frame: &[u8], octet: u8) -> bool {
-    for one in frame {
-        if *one != octet {
-            return false;
-        }
-    }
-    true
-}
-
-/// Tells a frame: its length, and the octet that it is full of, else its octets in hex.
-pub fn tell_frame(frame: &[u8], answer: &mut Answer) {
-    answer.number(frame.len() as u64);
-    let Some(octet) = frame.first() else {
-        return;
-    };
-    if is_filled(frame, *octet) {
-        answer.number(u64::from(*octet));
-    } else {
-        answer.octets(frame);
-    }
-}
-
-/// The packet number in the SecTAG of a frame.
-fn packet_number(frame: &[u8]) -> Option<u32> {
-    let octets = frame.get(16..20)?;
-    if octets.len() < 4 {
-        return None;
-    }
-    Some(u32::from_be_bytes([octets[0], octets[1], octets[2], octets[3]]))
-}
-
-/// Tells the packet number of a frame; `-` for a frame without one.
-pub fn tell_number(frame: &[u8], answer: &mut Answer) {
-    match packet_number(frame) {
-        Some(number) => answer.number(u64::from(number)),
-        None => answer.word("-"),
-    }
-}
-
-/// The packet numbers of the frames that a wire sent, in their order.
-fn tell_numbers(wire: &StoryWire, answer: &mut Answer) {
-    for frame in wire.sent() {
-        tell_number(frame.as_slice(), answer);
-    }
-    if answer.is_empty() {
-        answer.word("none");
-    }
-}
-
-/// The octet that each frame that a wire sent is full of; `-` for a frame that is not so, or is of
-/// another length.
-fn tell_octets(wire: &StoryWire, length: u64, answer: &mut Answer) {
-    for frame in wire.sent() {
-        let octet = frame.first().copied().unwrap_or(0);
-        if frame.len() as u64 == length && is_filled(frame.as_slice(), octet) {
-            answer.number(u64::from(octet));
-        } else {
-            answer.word("-");
-        }
-    }
-    if answer.is_empty() {
-        answer.word("none");
-    }
+fn kept_frame(kept: &[Vec<u8>], words: &mut Words<'_>, alloc: Global) -> Option<Vec<u8>> {
+    let place = whole(words.number(), words)?;
+    Vec::from_slice(alloc, frame_at(kept, place)?).ok()
 }
 
 fn taken(wire: &mut StoryWire, into: &mut FrameBuf) -> Result<Got, WireFault> {
@@ -259,10 +171,15 @@ fn take(wire: &mut StoryWire, answer: &mut Answer) {
     let mut into = FrameBuf::new();
     into.push(9);
     let told = taken(wire, &mut into);
+    tell_taken(told, into.as_slice(), answer);
+}
+
+/// Tells what was received; octets that are left where none are to be.
+fn tell_taken(told: Result<Got, WireFault>, into: &[u8], answer: &mut Answer) {
     match told {
         Ok(Got::Frame) => {
             answer.word("frame");
-            tell_frame(into.as_slice(), answer);
+            tell_frame(into, answer);
             return;
         }
         Ok(Got::Nothing) => answer.word("nothing"),
@@ -270,67 +187,85 @@ fn take(wire: &mut StoryWire, answer: &mut Answer) {
         Err(fault) => answer.name(&fault),
     }
     if !into.is_empty() {
-        answer.octets(into.as_slice());
+        answer.octets(into);
     }
 }
 
-/// Keeps the frames that a wire sent behind those that are kept. Whether there was memory.
-fn keep(wires: &mut Wires, name: Name, alloc: Global) -> bool {
-    for place in 0..wires.read(name).sent().len() as u64 {
-        let Some(frame) = copied(wires.read(name), place, alloc) else {
-            return false;
-        };
-        if wires.kept.push(frame).is_err() {
+/// Keeps frames behind those that are kept. Whether there was memory.
+fn keep(kept: &mut Vec<Vec<u8>>, frames: &[Vec<u8>], alloc: Global) -> bool {
+    for frame in frames {
+        if !keep_one(kept, frame.as_slice(), alloc) {
             return false;
         }
     }
     true
 }
 
-fn copied(wire: &StoryWire, place: u64, alloc: Global) -> Option<Vec<u8>> {
-    Vec::from_slice(alloc, wire.sent_at(place)?).ok()
+fn keep_one(kept: &mut Vec<Vec<u8>>, frame: &[u8], alloc: Global) -> bool {
+    match Vec::from_slice(alloc, frame) {
+        Ok(frame) => kept.push(frame).is_ok(),
+        Err(_) => false,
+    }
 }
 
-fn tell_sent_frame(wire: &StoryWire, place: u64, answer: &mut Answer) {
-    match wire.sent_at(place) {
-        Some(frame) => tell_frame(frame, answer),
-        None => answer.word("none"),
+fn keep_sent(wires: &mut Wires, name: Name, alloc: Global) -> bool {
+    match name {
+        Name::Controlled => keep(&mut wires.kept, wires.controlled.sent(), alloc),
+        Name::Common => keep(&mut wires.kept, wires.common.sent(), alloc),
     }
 }
 
 /// A new wire, of which these calls fail.
-fn begin(name: Name, words: &mut Words<'_>, tools: &mut Tools) -> Option<()> {
-    let wire = StoryWire::new(tools.alloc, fails_of(words)?);
-    tools.wires.place(name, wire);
-    tools.answer.word("ok");
+fn begin(
+    wires: &mut Wires,
+    name: Name,
+    words: &mut Words<'_>,
+    alloc: Global,
+    answer: &mut Answer,
+) -> Option<()> {
+    wires.place(name, StoryWire::new(alloc, fails_of(words)?));
+    answer.word("ok");
     Some(())
 }
 
-fn push(name: Name, words: &mut Words<'_>, tools: &mut Tools) -> Option<()> {
-    let frame = frame_of(&tools.wires, words, tools.alloc)?;
-    let told = tools.wires.wire(name).push(tools.alloc, frame.as_slice());
-    tools.answer.done(told);
+fn push(
+    wires: &mut Wires,
+    name: Name,
+    words: &mut Words<'_>,
+    alloc: Global,
+    answer: &mut Answer,
+) -> Option<()> {
+    let frame = frame_of(wires.kept.as_slice(), words, alloc)?;
+    answer.done(wires.wire(name).push(alloc, frame.as_slice()));
     Some(())
 }
 
-fn send(name: Name, words: &mut Words<'_>, tools: &mut Tools) -> Option<()> {
-    let frame = frame_of(&tools.wires, words, tools.alloc)?;
-    let told = sent_on(tools.wires.wire(name), frame.as_slice());
-    tools.answer.done(told);
+fn send(
+    wires: &mut Wires,
+    name: Name,
+    words: &mut Words<'_>,
+    alloc: Global,
+    answer: &mut Answer,
+) -> Option<()> {
+    let frame = frame_of(wires.kept.as_slice(), words, alloc)?;
+    answer.done(sent_on(wires.wire(name), frame.as_slice()));
     Some(())
 }
 
 /// Does an act that says no more than its wire; `None` where there is no such act.
-fn handle(act: &str, name: Name, tools: &mut Tools) -> Option<()> {
+fn handle(
+    wires: &mut Wires,
+    act: &str,
+    name: Name,
+    alloc: Global,
+    answer: &mut Answer,
+) -> Option<()> {
     match act {
-        "keep" => {
-            let could = keep(&mut tools.wires, name, tools.alloc);
-            tools.answer.could(could);
-        }
-        "take" => take(tools.wires.wire(name), &mut tools.answer),
+        "keep" => answer.could(keep_sent(wires, name, alloc)),
+        "take" => take(wires.wire(name), answer),
         "mend" => {
-            tools.wires.wire(name).mend(tools.alloc);
-            tools.answer.word("ok");
+            wires.wire(name).mend(alloc);
+            answer.word("ok");
         }
         _ => return None,
     }
@@ -338,38 +273,17 @@ fn handle(act: &str, name: Name, tools: &mut Tools) -> Option<()> {
 }
 
 /// Does an act with a wire, and answers it; `None` where there is no such act.
-pub fn act(words: Words<'_>, tools: &mut Tools) -> Option<()> {
+pub fn act(wires: &mut Wires, words: Words<'_>, alloc: Global, answer: &mut Answer) -> Option<()> {
     let mut words = words;
     let act = words.take();
     let name = name_of(words.take())?;
     match act {
-        "wire" => begin(name, &mut words, tools),
-        "push" => push(name, &mut words, tools),
-        "send" => send(name, &mut words, tools),
-        "keep" | "take" | "mend" => handle(act, name, tools),
-        _ => look(act, name, words, tools),
+        "wire" => begin(wires, name, &mut words, alloc, answer),
+        "push" => push(wires, name, &mut words, alloc, answer),
+        "send" => send(wires, name, &mut words, alloc, answer),
+        "keep" | "take" | "mend" => handle(wires, act, name, alloc, answer),
+        _ => tell_sent(act, words, wires.read(name).sent(), answer),
     }
-}
-
-/// Tells what a wire sent: how many frames, their packet numbers, or one by its place from 0 on.
-fn look(act: &str, name: Name, words: Words<'_>, tools: &mut Tools) -> Option<()> {
-    let mut words = words;
-    let wire = tools.wires.read(name);
-    match act {
-        "sent-frames" => tools.answer.number(wire.sent().len() as u64),
-        "sent-numbers" => tell_numbers(wire, &mut tools.answer),
-        "sent-octets" => tell_octets(wire, whole(words.number(), &words)?, &mut tools.answer),
-        "sent-frame" => {
-            let place = whole(words.number(), &words)?;
-            tell_sent_frame(wire, place, &mut tools.answer);
-        }
-        "sent-number" => {
-            let place = whole(words.number(), &words)?;
-            tell_number(wire.sent_at(place).unwrap_or(&[]), &mut tools.answer);
-        }
-        _ => return None,
-    }
-    Some(())
 }
 
 fn relayed(
@@ -405,15 +319,17 @@ fn tell_relayed(told: Result<RelaySummary, RefillFault>, answer: &mut Answer) {
 
 /// `relay TURNS`: frames pass between the wires through an endpoint; `None` where the words say no
 /// such act.
-pub fn pass_frames(endpoint: &mut Played, words: Words<'_>, tools: &mut Tools) -> Option<()> {
+pub fn pass_frames(
+    endpoint: &mut Played,
+    words: Words<'_>,
+    wires: &mut Wires,
+    answer: &mut Answer,
+) -> Option<()> {
     let mut words = words;
     if words.take() != "relay" {
         return None;
     }
     let turns = whole(words.number(), &words)?;
-    tell_relayed(
-        relayed(endpoint, &mut tools.wires, turns),
-        &mut tools.answer,
-    );
+    tell_relayed(relayed(endpoint, wires, turns), answer);
     Some(())
 }

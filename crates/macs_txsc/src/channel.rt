@@ -2,6 +2,7 @@
 
 ghost use Rattle.std.specs.Prelude.{◌≡◌, ◌≢◌, ◌≤◌, ◌^◌, ◌↔◌, ℕ, [], true, Some, None, IsSome, IfSome, IfOk, IfErr, OnOk, OnErr, Err, ◌+◌, ◌∷◌, ◌&&◌, not, nat_lt, length};
 ghost use Rattle.std.specs.Option.{option_map};
+ghost use Rattle.macs_aes.specs.Keys.{octets_of_key};
 ghost use Rattle.macs_config.specs.Association.{is_end_station, protection_of};
 ghost use Rattle.macs_config.specs.Identity.{is_port_one};
 ghost use Rattle.macs_config.specs.Tables.{put};
@@ -15,6 +16,7 @@ ghost use Rattle.macs_txsc.specs.Value.{ceilings_of, counters_of, tx_side_of};
 use crate::association::Association;
 use crate::counters::TxCounters;
 use crate::fault::TxFault;
+use macs_aes::Key;
 use macs_config::{Protection, SciMode};
 use macs_frame::{
     ASSOCIATIONS, An, END_OF_NUMBERS, FrameBuf, MAX_FRAME, MIN_FRAME, Offset, Pn, ScName, Sci,
@@ -63,7 +65,7 @@ impl Tx {
     pub fn install(
         &mut self,
         an: An,
-        key: &[u8; 16],
+        key: &Key,
         confidential: bool,
         offset: Offset,
         next: u64,
@@ -74,7 +76,7 @@ impl Tx {
         requires ordered { next ≤ ceiling }
         requires bounded { ceiling ≤ 2 ^ 32 }
         ensures side { tx_side_of self.new ≡ record (tx_side_of self.old) {
-          tx = put (tx_side_of self.old).tx an (Some (record { key = key.now; protection = protection_of confidential offset }));
+          tx = put (tx_side_of self.old).tx an (Some (record { key = octets_of_key key.now; protection = protection_of confidential offset }));
           next = put (tx_side_of self.old).next an (Some next);
         } }
         ensures ceilings { ceilings_of self.new ≡ put (ceilings_of self.old) an (Some ceiling) }

@@ -4,6 +4,7 @@ mod channels;
 mod counting;
 mod fixture;
 mod frames;
+mod long_keys;
 mod names;
 mod needs;
 mod published;

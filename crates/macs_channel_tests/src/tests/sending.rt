@@ -4,16 +4,18 @@ mod commanded;
 mod faults;
 mod fixture;
 mod frames;
+mod long_keys;
 mod numbers;
 mod story;
 
+use macs_aes::Key;
 use macs_frame::Offset;
 
 /// The end of the packet numbers.
 const END: u64 = 4_294_967_296;
 
 /// The key of the end station of IEEE Std 802.1AE-2018, Annex C.
-const KEY: u128 = 0x071b_113b_0ca7_43fe_cccf_3d05_1f73_7382;
+const KEY: Key = Key::Short(*b"\x07\x1b\x11\x3b\x0c\xa7\x43\xfe\xcc\xcf\x3d\x05\x1f\x73\x73\x82");
 
 /// Its SCI: its address with port 00-01.
 const STATION: [u8; 8] = [0xf0, 0x76, 0x1e, 0x8d, 0xcd, 0x3d, 0, 1];
@@ -25,7 +27,7 @@ const PLAIN: &[u8] = b"\xe2\x01\x06\xd7\xcd\x0d\xf0\x76\x1e\x8d\xcd\x3d\
 /// What an association is installed with, beside its numbers.
 #[derive(Clone, Copy)]
 struct Security {
-    key: u128,
+    key: Key,
     confidential: bool,
     offset: Offset,
 }

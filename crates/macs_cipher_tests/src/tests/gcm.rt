@@ -7,10 +7,10 @@ mod changed;
 mod single_blocks;
 mod vectors;
 
-use macs_aes::Schedule;
+use macs_aes::{Key, Schedule};
 use macs_gcm::{GcmKey, gctr, open, seal};
 use std::process::Abort;
-use vectors::{BLOCKS, VECTORS};
+use vectors::{BLOCKS, LONG_KEY_VECTORS, SHORT_KEY_VECTORS, Vector};
 
 /// The most octets of a text in these tests.
 const ROOM: usize = 1500;
@@ -72,7 +72,7 @@ fn iv_from(block: u128) -> [u8; 12] {
 /// Additional data and a text, and what they are sealed under.
 #[derive(Clone, Copy)]
 struct Sealing {
-    key: [u8; 16],
+    key: Key,
     iv: [u8; 12],
     aad: Octets,
     text: Octets,
@@ -118,7 +118,7 @@ fn zero_key(rt: HostRuntime) {
     ];
     for (length, tag) in cases {
         let mut sealing = Sealing {
-            key: [0; 16],
+            key: Key::Short([0; 16]),
             iv: [0; 12],
             aad: Octets::from_blocks(&[], 0, 0),
             text: Octets::from_blocks(&[], 0, length),
@@ -155,7 +155,7 @@ fn other_key(rt: HostRuntime) {
     ];
     for (aad_length, text_length, tag) in cases {
         let mut sealing = Sealing {
-            key: 0xfeffe9928665731c6d6a8f9467308308_u128.to_be_bytes(),
+            key: Key::Short(0xfeffe9928665731c6d6a8f9467308308_u128.to_be_bytes()),
             iv: iv_from(0xcafebabefacedbaddecaf88800000000),
             aad: Octets::from_blocks(&AAD, 0, aad_length),
             text: Octets::from_blocks(&PLAINTEXT, 0, text_length),
@@ -164,17 +164,88 @@ fn other_key(rt: HostRuntime) {
     }
 }
 
-/// What vector n seals.
-fn sealing_of(n: u8, aad_length: usize, text_length: usize) -> Sealing {
-    let mut key = [0; 16];
-    fill_by_rule(&mut key, 13, n);
-    let mut iv = [0; 12];
-    fill_by_rule(&mut iv, 17, n.wrapping_mul(2).wrapping_add(1));
-    Sealing {
-        key,
-        iv,
-        aad: Octets::by_rule(11, 5, aad_length),
-        text: Octets::by_rule(7, 3, text_length),
+// The same, test cases 13 and 14: a key of 32 octets.
+#[test]
+fn zero_long_key(rt: HostRuntime) {
+    let ciphertext = [0xcea7403d4d606b6e074ec5d3baf39d18];
+    let cases = [
+        (0, 0x530f8afbc74536b9a963b4f1c4cb738b),
+        (16, 0xd0d1c8a799996bf0265b98b5d48ab919),
+    ];
+    for (length, tag) in cases {
+        let mut sealing = Sealing {
+            key: Key::Long([0; 32]),
+            iv: [0; 12],
+            aad: Octets::from_blocks(&[], 0, 0),
+            text: Octets::from_blocks(&[], 0, length),
+        };
+        sealing.check(&rt, &Octets::from_blocks(&ciphertext, 0, length), tag);
+    }
+}
+
+/// The key of test cases 3 and 4 twice.
+fn doubled_key() -> Key {
+    let half = 0xfeffe9928665731c6d6a8f9467308308_u128.to_be_bytes();
+    let mut octets = [0; 32];
+    for i in 0..32 {
+        octets[i] = half[i % 16];
+    }
+    Key::Long(octets)
+}
+
+const LONG_KEY_CIPHERTEXT: [u128; 4] = [
+    0x522dc1f099567d07f47f37a32a84427d,
+    0x643a8cdcbfe5c0c97598a2bd2555d1aa,
+    0x8cb08e48590dbb3da7b08b1056828838,
+    0xc5f61e6393ba7a0abcc9f662898015ad,
+];
+
+// The same, test cases 15 and 16.
+#[test]
+fn other_long_key(rt: HostRuntime) {
+    let cases = [
+        (0, 64, 0xb094dac5d93471bdec1a502270e3cc6c),
+        (20, 60, 0x76fc6ece0f4e1768cddf8853bb2d551b),
+    ];
+    for (aad_length, text_length, tag) in cases {
+        let mut sealing = Sealing {
+            key: doubled_key(),
+            iv: iv_from(0xcafebabefacedbaddecaf88800000000),
+            aad: Octets::from_blocks(&AAD, 0, aad_length),
+            text: Octets::from_blocks(&PLAINTEXT, 0, text_length),
+        };
+        let ciphertext = Octets::from_blocks(&LONG_KEY_CIPHERTEXT, 0, text_length);
+        sealing.check(&rt, &ciphertext, tag);
+    }
+}
+
+/// The short key of vector n.
+fn short_key(n: u8) -> Key {
+    let mut octets = [0; 16];
+    fill_by_rule(&mut octets, 13, n);
+    Key::Short(octets)
+}
+
+/// The long key of vector n.
+fn long_key(n: u8) -> Key {
+    let mut octets = [0; 32];
+    fill_by_rule(&mut octets, 13, n);
+    Key::Long(octets)
+}
+
+impl Vector {
+    /// Checks vector n under its key.
+    fn check(&self, rt: &impl Abort, n: u8, key: Key) {
+        let mut iv = [0; 12];
+        fill_by_rule(&mut iv, 17, n.wrapping_mul(2).wrapping_add(1));
+        let mut sealing = Sealing {
+            key,
+            iv,
+            aad: Octets::by_rule(11, 5, self.aad_length),
+            text: Octets::by_rule(7, 3, self.text_length),
+        };
+        let ciphertext = Octets::from_blocks(BLOCKS, self.first_block, self.text_length);
+        sealing.check(rt, &ciphertext, self.tag);
     }
 }
 
@@ -182,28 +253,50 @@ fn sealing_of(n: u8, aad_length: usize, text_length: usize) -> Sealing {
 #[test]
 fn many_lengths(rt: HostRuntime) {
     let mut n = 0u8;
-    for vector in VECTORS {
-        let mut sealing = sealing_of(n, vector.aad_length, vector.text_length);
-        let ciphertext = Octets::from_blocks(BLOCKS, vector.first_block, vector.text_length);
-        sealing.check(&rt, &ciphertext, vector.tag);
+    for vector in SHORT_KEY_VECTORS {
+        vector.check(&rt, n, short_key(n));
+        n = n.wrapping_add(1);
+    }
+    assert!(rt; n == 31);
+}
+
+// The same lengths under keys of 32 octets.
+#[test]
+fn many_lengths_under_long_keys(rt: HostRuntime) {
+    let mut n = 0u8;
+    for vector in LONG_KEY_VECTORS {
+        vector.check(&rt, n, long_key(n));
         n = n.wrapping_add(1);
     }
     assert!(rt; n == 31);
 }
 
 // The last 32 bits begin again at zero, and the first 96 stay (SP 800-38D, 6.2): the two counter
-// blocks encrypted by another implementation of AES-128.
+// blocks encrypted by another implementation of AES.
 #[test]
 fn counter_wraps(rt: HostRuntime) {
-    let schedule = Schedule::new(&0xfeffe9928665731c6d6a8f9467308308_u128.to_be_bytes());
-    let mut text = [0; 32];
-    gctr(&schedule, &[0xff; 16], &mut text);
-    let masks = [
-        0xc06388d524637cced312c0961533cd99,
-        0x31316bf8a5a11493d187871e3dbf6768,
+    let cases = [
+        (
+            Key::Short(0xfeffe9928665731c6d6a8f9467308308_u128.to_be_bytes()),
+            [
+                0xc06388d524637cced312c0961533cd99,
+                0x31316bf8a5a11493d187871e3dbf6768,
+            ],
+        ),
+        (
+            doubled_key(),
+            [
+                0x5e5d04d3895c1d6f5e1819ac561fc5ad,
+                0x3d63fe4171b9171b2f12e9f5ebdf688a,
+            ],
+        ),
     ];
-    assert_eq!(rt;
-        text.as_slice(),
-        Octets::from_blocks(&masks, 0, 32).as_slice()
-    );
+    for (key, masks) in cases {
+        let mut text = [0; 32];
+        gctr(&Schedule::of(&key), &[0xff; 16], &mut text);
+        assert_eq!(rt;
+            text.as_slice(),
+            Octets::from_blocks(&masks, 0, 32).as_slice()
+        );
+    }
 }

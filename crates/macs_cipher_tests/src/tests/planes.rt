@@ -1,6 +1,6 @@
 //! Blocks side by side against single blocks, and the steps of one round as FIPS 197 (2001), appendix B, has them.
 
-use macs_aes::{Block, Schedule, encrypt_block};
+use macs_aes::{Block, Key, Schedule, encrypt_block};
 use macs_planes::{Planes, encrypt16};
 use std::process::Abort;
 
@@ -23,6 +23,25 @@ fn sixteen_blocks_are_encrypted_each_by_itself(rt: HostRuntime) {
     let plain = different_blocks();
     let mut blocks = plain;
     encrypt16(&schedule, &mut blocks);
+    for i in 0..16 {
+        assert_eq!(rt; blocks[i], encrypt_block(&schedule, &plain[i]));
+    }
+}
+
+/// The example of appendix C.3 in one place, among other blocks.
+#[test]
+fn sixteen_blocks_are_encrypted_under_a_long_key(rt: HostRuntime) {
+    let mut octets = [0; 32];
+    for i in 0..32u8 {
+        octets[usize::from(i)] = i;
+    }
+    let schedule = Schedule::of(&Key::Long(octets));
+    let mut plain = different_blocks();
+    plain[9] = 0x00112233445566778899aabbccddeeff_u128.to_be_bytes();
+    let mut blocks = plain;
+    encrypt16(&schedule, &mut blocks);
+    let encrypted = 0x8ea2b7ca516745bfeafc49904b496089_u128;
+    assert_eq!(rt; blocks[9], encrypted.to_be_bytes());
     for i in 0..16 {
         assert_eq!(rt; blocks[i], encrypt_block(&schedule, &plain[i]));
     }

@@ -4,6 +4,7 @@ use super::{
     OWN_SCI, an_of, configured, expect_same_associations, identity_of, key_from, peer, rx_install,
     take, tx_install,
 };
+use macs_aes::KeyOctets;
 use macs_config::{
     Command, Config, Identity, Protection, Replay, Role, RxSa, SciMode, TxSa, Validate,
 };
@@ -112,7 +113,7 @@ fn last_rx_install(rt: &impl Abort) -> Command {
 #[test]
 fn installs(rt: HostRuntime) {
     let mut config = configured(&rt);
-    let (an, key) = (an_of(&rt, 3), key_from(48));
+    let (an, key) = (an_of(&rt, 3), KeyOctets::of(key_from(48)));
     take(&rt, &mut config, last_tx_install(&rt));
     let protection = Protection::Confidentiality(Offset::Fifty);
     assert!(rt; config.tx(an) == Some(TxSa { key, protection }));

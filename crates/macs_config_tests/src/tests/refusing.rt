@@ -1,8 +1,8 @@
 //! Every refusal of every command, and which of two comes first.
 
 use super::{
-    OWN_SCI, an_of, configured, expect_same, identity_of, key_from, peer, refuse, rx_install, take,
-    tx_install,
+    OWN_SCI, an_of, configured, expect_same, identity_of, key_from, long_key_from, peer, refuse,
+    rx_install, take, tx_install,
 };
 use macs_config::{Command, Config, Refusal, SciMode};
 use macs_frame::Sci;
@@ -15,9 +15,10 @@ fn expect_refusal(rt: &impl Abort, command: Command, refusal: Refusal) {
     expect_same(rt, &config, &configured(rt));
 }
 
+/// The long key begins with the octets of the one that is spent.
 #[test]
 fn refuses_transmit_installs(rt: HostRuntime) {
-    let (new, old) = (key_from(48), key_from(0));
+    let (new, old, long) = (key_from(48), key_from(0), long_key_from(0));
     let cases = [
         (2, new, 0, false, 0, Refusal::StartRange),
         (2, new, 0, false, 31, Refusal::StartRange),
@@ -31,6 +32,10 @@ fn refuses_transmit_installs(rt: HostRuntime) {
         (0, new, 1, false, 0, Refusal::SlotTaken),
         (0, old, 1, false, 0, Refusal::SlotTaken),
         (2, old, 1, false, 0, Refusal::KeySpent),
+        (2, long, 0, false, 0, Refusal::StartRange),
+        (2, long, 1, false, 30, Refusal::OffsetChoice),
+        (0, long, 1, false, 0, Refusal::SlotTaken),
+        (2, long, 1, false, 0, Refusal::LongKey),
     ];
     for (number, key, start, confidential, offset, refusal) in cases {
         let an = an_of(&rt, number);
@@ -45,9 +50,10 @@ fn refuses_transmit_installs(rt: HostRuntime) {
     }
 }
 
+/// The long key begins with the octets of the one that is spent.
 #[test]
 fn refuses_receive_installs(rt: HostRuntime) {
-    let (new, old) = (key_from(48), key_from(32));
+    let (new, old, long) = (key_from(48), key_from(32), long_key_from(32));
     let cases = [
         (9, 3, new, 0, 0, Refusal::StartRange),
         (9, 3, new, 0, 31, Refusal::StartRange),
@@ -58,6 +64,11 @@ fn refuses_receive_installs(rt: HostRuntime) {
         (9, 2, new, 1, 50, Refusal::SlotTaken),
         (9, 2, old, 1, 0, Refusal::SlotTaken),
         (9, 3, old, 1, 0, Refusal::KeySpent),
+        (9, 3, long, 0, 0, Refusal::StartRange),
+        (9, 3, long, 1, 31, Refusal::OffsetChoice),
+        (6, 3, long, 1, 0, Refusal::NoChannel),
+        (9, 2, long, 1, 0, Refusal::SlotTaken),
+        (9, 3, long, 1, 0, Refusal::LongKey),
     ];
     for (station, number, key, start, offset, refusal) in cases {
         let an = an_of(&rt, number);

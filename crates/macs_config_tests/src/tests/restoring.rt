@@ -1,6 +1,7 @@
 //! Snapshots that are restored, and that are refused.
 
 use super::expect_spent;
+use macs_aes::{Key, KeyOctets};
 use macs_config::{
     Config, Fingerprint, Fingerprints, Identity, Part, Protection, Replay, Role, RxSa, SciMode,
     TxSa, Validate,
@@ -33,12 +34,25 @@ const FIRST_4: Fingerprint = *b"\x50\xe5\xa2\xe6\xc8\x18\x9c\xaa\x7e\x60\x79\x40
 const SECOND_3: Fingerprint = *b"\x79\xfb\x39\x3b\xe2\xb3\xc8\x5f\x96\x63\xef\x96\xd7\x79\x0e\x9b\
 \xd9\x19\x18\x51\x33\x13\x0a\xb1\x47\x65\x8c\xc6\x31\x7c\x37\x10";
 
+/// The SHA-256 of the key of thirty-two octets 1, and of an SCI and it.
+const TX_LONG_1: Fingerprint = *b"\x72\xcd\x6e\x84\x22\xc4\x07\xfb\x6d\x09\x86\x90\xf1\x13\x0b\x7d\
+\xed\x7e\xc2\xf7\xf5\xe1\xd3\x0b\xd9\xd5\x21\xf0\x15\x36\x37\x93";
+
+const FIRST_LONG_1: Fingerprint =
+    *b"\xcf\x60\x4e\x3a\x87\x4e\xf5\xb1\x27\x76\x0b\xb3\x0b\x64\x6f\x71\
+\xe6\xa5\x7b\x39\x69\x84\x6b\xe2\x0d\x42\x11\xf0\x85\xde\xa4\x49";
+
 fn identity(rt: &impl Abort) -> Identity {
     Identity::new(OWN, 100, 65_536).expect(rt, "identity")
 }
 
 fn an(rt: &impl Abort, number: u8) -> An {
     An::new(number).expect(rt, "association number")
+}
+
+/// A key of sixteen octets of this value.
+fn short(octet: u8) -> Key {
+    Key::Short([octet; 16])
 }
 
 fn settings(sci_mode: SciMode, encoding: Option<An>) -> Part {
@@ -55,8 +69,12 @@ fn settings(sci_mode: SciMode, encoding: Option<An>) -> Part {
 
 /// A transmit association whose key is sixteen octets of this value.
 fn tx(rt: &impl Abort, number: u8, octet: u8) -> Part {
+    tx_with_key(rt, number, short(octet))
+}
+
+fn tx_with_key(rt: &impl Abort, number: u8, key: Key) -> Part {
     let sa = TxSa {
-        key: [octet; 16],
+        key: KeyOctets::of(key),
         protection: Protection::Confidentiality(Offset::Thirty),
     };
     Part::TxSa {
@@ -71,8 +89,12 @@ fn channel(sci: Sci) -> Part {
 
 /// A receive association whose key is sixteen octets of this value.
 fn rx(rt: &impl Abort, sci: Sci, number: u8, octet: u8) -> Part {
+    rx_with_key(rt, sci, number, short(octet))
+}
+
+fn rx_with_key(rt: &impl Abort, sci: Sci, number: u8, key: Key) -> Part {
     let sa = RxSa {
-        key: [octet; 16],
+        key: KeyOctets::of(key),
         offset: Offset::Fifty,
     };
     Part::RxSa {
@@ -159,35 +181,41 @@ fn check_settings(rt: &impl Abort, config: &Config) {
 }
 
 /// The transmit association of a number has this key, or there is none.
-fn expect_tx(rt: &impl Abort, config: &Config, number: u8, key: Option<[u8; 16]>) {
+fn expect_tx(rt: &impl Abort, config: &Config, number: u8, key: Option<Key>) {
     let protection = Protection::Confidentiality(Offset::Thirty);
     let found = config.tx(an(rt, number));
     match key {
-        Some(key) => assert!(rt; found == Some(TxSa { key, protection })),
+        Some(key) => {
+            let key = KeyOctets::of(key);
+            assert!(rt; found == Some(TxSa { key, protection }));
+        }
         None => assert!(rt; found.is_none()),
     }
 }
 
 fn check_transmit_side(rt: &impl Abort, config: &Config) {
-    expect_tx(rt, config, 0, Some([2; 16]));
+    expect_tx(rt, config, 0, Some(short(2)));
     expect_tx(rt, config, 1, None);
     expect_tx(rt, config, 2, None);
-    expect_tx(rt, config, 3, Some([1; 16]));
+    expect_tx(rt, config, 3, Some(short(1)));
     expect_spent(rt, config, Role::Transmit, 0, Some(TX_2));
     expect_spent(rt, config, Role::Transmit, 1, Some(made_up(1)));
     expect_spent(rt, config, Role::Transmit, 2, Some(TX_1));
     expect_spent(rt, config, Role::Transmit, 3, None);
     assert!(rt; config.spent_tx() == 3);
-    assert!(rt; config.is_spent_tx(&[1; 16]));
-    assert!(rt; !config.is_spent_tx(&[3; 16]));
+    assert!(rt; config.is_spent_tx(&short(1)));
+    assert!(rt; !config.is_spent_tx(&short(3)));
 }
 
 /// The receive association of a channel and a number has this key, or there is none.
-fn expect_rx(rt: &impl Abort, config: &Config, sci: Sci, number: u8, key: Option<[u8; 16]>) {
+fn expect_rx(rt: &impl Abort, config: &Config, sci: Sci, number: u8, key: Option<Key>) {
     let offset = Offset::Fifty;
     let found = config.rx(sci, an(rt, number));
     match key {
-        Some(key) => assert!(rt; found == Some(RxSa { key, offset })),
+        Some(key) => {
+            let key = KeyOctets::of(key);
+            assert!(rt; found == Some(RxSa { key, offset }));
+        }
         None => assert!(rt; found.is_none()),
     }
 }
@@ -195,15 +223,15 @@ fn expect_rx(rt: &impl Abort, config: &Config, sci: Sci, number: u8, key: Option
 fn check_receive_side(rt: &impl Abort, config: &Config) {
     check_channels(rt, config);
     expect_rx(rt, config, FIRST, 0, None);
-    expect_rx(rt, config, FIRST, 1, Some([4; 16]));
-    expect_rx(rt, config, FIRST, 2, Some([3; 16]));
+    expect_rx(rt, config, FIRST, 1, Some(short(4)));
+    expect_rx(rt, config, FIRST, 2, Some(short(3)));
     expect_rx(rt, config, SECOND, 1, None);
-    expect_rx(rt, config, SECOND, 2, Some([3; 16]));
+    expect_rx(rt, config, SECOND, 2, Some(short(3)));
     expect_spent(rt, config, Role::Receive, 0, Some(FIRST_4));
     expect_spent(rt, config, Role::Receive, 3, Some(FIRST_3));
     assert!(rt; config.spent_rx() == 4);
-    assert!(rt; config.is_spent_rx(SECOND, &[3; 16]));
-    assert!(rt; !config.is_spent_rx(SECOND, &[4; 16]));
+    assert!(rt; config.is_spent_rx(SECOND, &short(3)));
+    assert!(rt; !config.is_spent_rx(SECOND, &short(4)));
 }
 
 fn check_channels(rt: &impl Abort, config: &Config) {
@@ -321,6 +349,25 @@ fn refuses_what_is_not_whole(rt: HostRuntime) {
     let station = settings(SciMode::EndStation, None);
     let other = Identity::new(SECOND, 1, 1).expect(&rt, "identity");
     assert!(rt; Config::restore(&other, &[station]).is_none());
+}
+
+/// A key of 32 octets is refused although it is spent.
+#[test]
+fn refuses_long_keys(rt: HostRuntime) {
+    let long = Key::Long([1; 32]);
+    let parts = [
+        plain(),
+        tx_with_key(&rt, 1, long),
+        spent(Role::Transmit, TX_LONG_1),
+    ];
+    expect_refused(&rt, &parts, "a long key of the transmit side");
+    let parts = [
+        plain(),
+        channel(FIRST),
+        rx_with_key(&rt, FIRST, 1, long),
+        spent(Role::Receive, FIRST_LONG_1),
+    ];
+    expect_refused(&rt, &parts, "a long key of the receive side");
 }
 
 #[test]

@@ -1,10 +1,14 @@
 //! Spent keys: their fingerprints, their order and their limit.
 
 use super::{
-    OWN_SCI, an_of, configured, expect_spent, identity_of, key_from, peer, refuse, rx_install,
-    take, tx_install,
+    OWN_SCI, an_of, configured, expect_spent, identity_of, key_from, long_key_from, peer, refuse,
+    rx_install, take, tx_install,
 };
-use macs_config::{Command, Config, Refusal, Role};
+use macs_aes::Key;
+use macs_config::{
+    Command, Config, Fingerprint, Fingerprints, Part, Refusal, Replay, Role, SciMode, Validate,
+};
+use std::process::Abort;
 
 /// The SHA-256 of the octets 00 to 0f.
 const LOW_KEY: &[u8; 32] = b"\xbe\x45\xcb\x26\x05\xbf\x36\xbe\xbd\xe6\x84\x84\x1a\x28\xf0\xfd\
@@ -22,6 +26,15 @@ const TENTH_LOW_KEY: &[u8; 32] = b"\xd7\xe1\x01\x4c\x4d\x07\x4b\x3a\xae\x18\x63\
 const ELEVENTH_LOW_KEY: &[u8; 32] =
     b"\x5b\xe5\xce\x24\xe5\xb8\xcd\x64\xce\x67\x42\xbc\xa2\x9f\x63\x9c\
 \xd0\x70\xe0\xc7\xb9\x02\x12\xfe\xf8\xef\x1f\xc0\x3d\x03\xd6\x3a";
+
+/// The SHA-256 of the octets 00 to 1f.
+const LONG_KEY: &[u8; 32] = b"\x63\x0d\xcd\x29\x66\xc4\x33\x66\x91\x12\x54\x48\xbb\xb2\x5b\x4f\
+\xf4\x12\xa4\x9c\x73\x2d\xb2\xc8\xab\xc1\xb8\x58\x1b\xd7\x10\xdd";
+
+/// The SHA-256 of the SCI 02-00-00-00-00-0a, port 00-07, and the octets 00 to 1f.
+const TENTH_LONG_KEY: &[u8; 32] =
+    b"\x7b\x25\x42\x43\x27\x33\xcc\x17\x38\x21\xbd\x15\xae\x97\x17\xd2\
+\x29\xd8\x32\x2c\xc7\xdc\xa0\x95\x15\x3e\x44\xb9\x69\xdd\x4d\xd0";
 
 #[test]
 fn keeps_fingerprints_in_order(rt: HostRuntime) {
@@ -62,13 +75,56 @@ fn spends_for_good(rt: HostRuntime) {
     );
 }
 
+/// A configuration in which one key is spent on either side.
+fn restored_with(rt: &impl Abort, transmit: Fingerprint, receive: Fingerprint) -> Config {
+    let settings = Part::Settings {
+        validate: Validate::Strict,
+        replay: Replay {
+            on: true,
+            window: 0,
+        },
+        sci_mode: SciMode::Explicit,
+        encoding: None,
+    };
+    let transmit = Part::Spent {
+        role: Role::Transmit,
+        fingerprints: Fingerprints::new(transmit),
+    };
+    let receive = Part::Spent {
+        role: Role::Receive,
+        fingerprints: Fingerprints::new(receive),
+    };
+    let parts = [settings, transmit, receive];
+    Config::restore(&identity_of(rt, OWN_SCI), &parts).expect(rt, "restored")
+}
+
+/// A long key is found by all its octets, and refused as spent before it is refused as long.
+#[test]
+fn knows_long_keys(rt: HostRuntime) {
+    let mut config = restored_with(&rt, *LONG_KEY, *TENTH_LONG_KEY);
+    let (spent, new) = (long_key_from(0), long_key_from(1));
+    assert!(rt; config.is_spent_tx(&spent));
+    assert!(rt; !config.is_spent_tx(&new));
+    assert!(rt; !config.is_spent_tx(&key_from(0)));
+    assert!(rt; config.is_spent_rx(peer(10), &spent));
+    assert!(rt; !config.is_spent_rx(peer(11), &spent));
+    assert!(rt; !config.is_spent_rx(peer(10), &key_from(0)));
+    take(&rt, &mut config, Command::RxAdd { sci: peer(10) });
+    for (key, refusal) in [(spent, Refusal::KeySpent), (new, Refusal::LongKey)] {
+        refuse(&rt, &mut config, tx_install(&rt, 0, key), refusal);
+        let install = rx_install(&rt, peer(10), 0, key);
+        refuse(&rt, &mut config, install, refusal);
+    }
+    assert_eq!(rt; (config.spent_tx(), config.spent_rx()), (1, 1));
+}
+
 /// The key of a place among as many as may be spent, and one more.
-fn numbered_key(place: u16) -> [u8; 16] {
+fn numbered_key(place: u16) -> Key {
     let [high, low] = place.to_be_bytes();
-    let mut key = [0; 16];
-    key[0] = high;
-    key[15] = low;
-    key
+    let mut octets = [0; 16];
+    octets[0] = high;
+    octets[15] = low;
+    Key::Short(octets)
 }
 
 #[test]
@@ -88,6 +144,8 @@ fn fills_the_transmit_side(rt: HostRuntime) {
         tx_install(&rt, 0, new),
         Refusal::SpentFull,
     );
+    let long = tx_install(&rt, 0, long_key_from(0));
+    refuse(&rt, &mut config, long, Refusal::SpentFull);
     assert_eq!(rt; config.spent_tx(), 512);
     take(&rt, &mut config, Command::RxAdd { sci: peer(9) });
     take(&rt, &mut config, rx_install(&rt, peer(9), 0, new));
@@ -120,5 +178,7 @@ fn fills_the_receive_side(rt: HostRuntime) {
         rx_install(&rt, sci, 3, new),
         Refusal::SpentFull,
     );
+    let long = rx_install(&rt, sci, 3, long_key_from(0));
+    refuse(&rt, &mut config, long, Refusal::SpentFull);
     take(&rt, &mut config, tx_install(&rt, 3, new));
 }

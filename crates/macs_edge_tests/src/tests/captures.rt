@@ -5,6 +5,7 @@ mod faults;
 mod frames;
 mod memory;
 
+use macs_aes::Key;
 use macs_config::{Command, Identity};
 use macs_disk::{MemDisk, SectorDisk};
 use macs_edge::{RunFault, Summary, run_protect, run_validate};
@@ -32,7 +33,9 @@ const OWN: Sci = Sci([2, 0, 0, 0, 0, 1, 0, 1]);
 /// The SCI of the sender of the published frame, and the key of its association 2.
 const PEER: Sci = Sci([0x12, 0x15, 0x35, 0x24, 0xc0, 0x89, 0x5e, 0x81]);
 
-const PEER_KEY: u128 = 0xad7a_2bd0_3eac_835a_6f62_0fdc_b506_b345;
+const PEER_KEY: Key = Key::Short(
+    *b"\xad\x7a\x2b\xd0\x3e\xac\x83\x5a\x6f\x62\x0f\xdc\xb5\x06\xb3\x45",
+);
 
 /// The published frame (IEEE Std 802.1AE-2018, Annex C) with integrity protection, number b2c28465.
 const SEALED: [u8; 86] = *b"\xd6\x09\xb1\xf0\x56\x63\x7a\x0d\x46\xdf\x99\x8d\
@@ -171,7 +174,7 @@ pub(super) fn sending<D: SectorDisk + Drop>(rt: &impl Abort, disk: D) -> Endpoin
     let mut endpoint = opened(rt, disk);
     let install = Command::TxInstall {
         an,
-        key: [7; 16],
+        key: Key::Short([7; 16]),
         start: 1,
         confidential: true,
         offset: 0,
@@ -192,7 +195,7 @@ fn receiving<D: SectorDisk + Drop>(rt: &impl Abort, disk: D) -> Endpoint<D> {
     let install = Command::RxInstall {
         sci: PEER,
         an: number_of(rt, 2),
-        key: PEER_KEY.to_be_bytes(),
+        key: PEER_KEY,
         start: 1,
         offset: 0,
     };

@@ -23,7 +23,7 @@ const KEYS: &str =
     r#"mode="check" on=true window=0 an=0 key="000102030405060708090a0b0c0d0e0f" start=1 confidential=true offset=0 sci="12153524c0895e81""#;
 
 /// Values that are wrong at every key, and are no word: 60 of them. Numbers that no key takes; floats; dates
-/// and times; texts that are neither a mode nor 16 or 32 hex digits; arrays; tables.
+/// and times; texts that are neither a mode nor 16, 32 or 64 hex digits; arrays; tables.
 const WRONG: &str = r#"4294967296
 4294967297
 9223372036854775807
@@ -73,7 +73,7 @@ nan
 "000102030405060708090a0b0c0d0e0"
 "000102030405060708090a0b0c0d0e0f0"
 "000102030405060708090A0B0C0D0E0G"
-"000102030405060708090a0b0c0d0e0f000102030405060708090a0b0c0d0e0f"
+"000102030405060708090a0b0c0d0e0f000102030405060708090a0b0c0d0e0"
 []
 [0]
 ["strict"]
@@ -85,7 +85,7 @@ nan
 {do = "tx-use", an = 0}
 {x = {y = {z = {}}}}"#;
 
-/// Values that are wrong at one key, or at a key of one word: 45 lines.
+/// Values that are wrong at one key, or at a key of one word: 47 lines.
 const WRONG_HERE: &str = r#"* an 4
 * an 5
 * an +4
@@ -118,6 +118,7 @@ const WRONG_HERE: &str = r#"* an 4
 * mode true
 * mode "12153524c0895e81"
 * mode "000102030405060708090a0b0c0d0e0f"
+* mode "000102030405060708090a0b0c0d0e0f000102030405060708090a0b0c0d0e0f"
 set-validate mode "explicit"
 set-validate mode "end-station"
 set-validate mode "implicit"
@@ -126,6 +127,7 @@ set-sci-mode mode "check"
 * sci 0
 * sci true
 * sci "000102030405060708090a0b0c0d0e0f"
+* sci "000102030405060708090a0b0c0d0e0f000102030405060708090a0b0c0d0e0f"
 * sci "strict"
 * key 0
 * key true
@@ -376,7 +378,7 @@ fn refuse_value_here(rt: &impl Abort, alloc: Global, line: &str, wrong: &str) ->
     0
 }
 
-/// Values that are wrong at one key, at 114 keys of words, in the four forms.
+/// Values that are wrong at one key, at 120 keys of words, in the four forms.
 #[test]
 fn a_value_of_another_key_is_told(rt: HostRuntime) {
     let mut files = 0_usize;
@@ -386,7 +388,7 @@ fn a_value_of_another_key_is_told(rt: HostRuntime) {
             files = files.saturating_add(more);
         }
     }
-    assert!(rt; files == 456);
+    assert!(rt; files == 480);
 }
 
 /// What stands beside a line that is no word.

@@ -4,6 +4,7 @@ use super::{
     CASES, Case, END_STATION, INTEGRITY, PADDED, Security, THIRTY, change, cut_or_padded,
     used_buffer,
 };
+use macs_aes::Key;
 use macs_frame::{FrameBuf, Offset, OpenFault, ScName, Sci, TagFault, open_parts, read_tag};
 use macs_gcm::GcmKey;
 use std::process::Abort;
@@ -62,7 +63,7 @@ struct Refusal {
 impl Refusal {
     fn security(&self) -> Security {
         Security {
-            key: self.key.to_be_bytes(),
+            key: Key::Short(self.key.to_be_bytes()),
             sci: self.sci,
             offset: self.case.offset,
         }

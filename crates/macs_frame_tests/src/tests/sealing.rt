@@ -1,6 +1,7 @@
 //! Frames that are sealed against frames from outside, and opened again.
 
 use super::{CASES, Case, Fields, INTEGRITY, Naming, Security, cut_or_padded};
+use macs_aes::Key;
 use macs_frame::{FrameBuf, Offset, OpenFault, write_tag};
 use std::process::Abort;
 
@@ -107,7 +108,7 @@ fn writes_tags(rt: HostRuntime) {
 
 /// What frames of the least and the greatest lengths are protected under.
 const SECURITY: Security = Security {
-    key: [7; 16],
+    key: Key::Short([7; 16]),
     sci: 0x0909_0909_0909_0909,
     offset: Offset::Thirty,
 };

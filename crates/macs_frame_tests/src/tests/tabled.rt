@@ -2,6 +2,7 @@
 
 use super::vectors::{GROUPS, Group, LENGTHS};
 use super::{Fields, Security};
+use macs_aes::Key;
 use macs_frame::{FrameBuf, MIN_FRAME, Offset, OpenFault, TagFault};
 use std::process::Abort;
 
@@ -23,13 +24,18 @@ fn plain_of(rt: &impl Abort, user_data: u16) -> FrameBuf {
     plain
 }
 
-/// The key of a frame: octet i is 13 i + number.
-fn key_of(number: u8) -> [u8; 16] {
-    let mut key = [number; 16];
-    for i in 0..16u8 {
-        key[usize::from(i)] = i.wrapping_mul(13).wrapping_add(number);
+/// The key of a frame: octet i is 13 i + number. It has 32 octets where the number is 2 modulo 3, else 16.
+fn key_of(number: u8) -> Key {
+    let mut octets = [0; 32];
+    for i in 0..32u8 {
+        octets[usize::from(i)] = i.wrapping_mul(13).wrapping_add(number);
     }
-    key
+    if number % 3 == 2 {
+        return Key::Long(octets);
+    }
+    let mut front = [0; 16];
+    front.copy_from_slice(&octets[..16]);
+    Key::Short(front)
 }
 
 /// So many octets of the blocks.

@@ -14,8 +14,8 @@ struct Row {
     counts: Counts,
 }
 
-/// No mark (4 octets) or no kind (0, and 18 to 255).
-const NO_KIND: u32 = 4 * 255 + 239;
+/// No mark (4 octets) or no kind (0, and 22 to 255).
+const NO_KIND: u32 = 4 * 255 + 235;
 
 /// Worked out from the layout. The summands of each count, in this order:
 /// - records: the mark, the kinds that fit what stands behind them, the field values in range, the zeros behind the
@@ -27,23 +27,23 @@ const NO_KIND: u32 = 4 * 255 + 239;
 const SNAPSHOT: &[Row] = &[
     Row {
         front: b"MREC\x01\x01\x01\x01\x02\x03\x04\x02\x03",
-        counts: [4 + 6 + 1_036 + 499, NO_KIND, 6 + 1_012, 5 + 255 * 499],
+        counts: [4 + 6 + 1_036 + 499, NO_KIND, 10 + 1_012, 5 + 255 * 499],
     },
     Row {
         front: b"MREC\x02\x010123456789abcdef\0\0\0\0\x01\x02\x03\x04\x01\x1e",
-        counts: [4 + 1 + 5_132 + 480, NO_KIND, 8 + 1_780, 8 + 255 * 480],
+        counts: [4 + 1 + 5_132 + 480, NO_KIND, 12 + 1_780, 8 + 255 * 480],
     },
     Row {
         front: b"MREC\x03peer-A\x00\x07",
-        counts: [4 + 4 + 2_048 + 499, NO_KIND, 13, 255 * 499],
+        counts: [4 + 4 + 2_048 + 499, NO_KIND, 17, 255 * 499],
     },
     Row {
         front: b"MREC\x04peer-A\x00\x07\x020123456789abcdef\0\0\0\0\x01\x02\x03\x04\x1e",
-        counts: [4 + 1 + 7_179 + 473, NO_KIND, 12 + 1_525, 4 + 255 * 473],
+        counts: [4 + 1 + 7_179 + 473, NO_KIND, 16 + 1_525, 4 + 255 * 473],
     },
     Row {
         front: b"MREC\x05\x01\x02the first of the fingerprints 01the last one of the fingerprints",
-        counts: [4 + 1 + 16_400 + 441, NO_KIND, 8 + 495, 8 + 1 + 255 * 441],
+        counts: [4 + 1 + 16_400 + 441, NO_KIND, 12 + 495, 8 + 1 + 255 * 441],
     },
 ];
 
@@ -51,27 +51,27 @@ const SNAPSHOT: &[Row] = &[
 const TRANSMIT: &[Row] = &[
     Row {
         front: b"MREC\x06\x01",
-        counts: [4 + 10 + 2 + 506, NO_KIND, 7 + 254, 255 * 506],
+        counts: [4 + 10 + 2 + 506, NO_KIND, 11 + 254, 255 * 506],
     },
     Row {
         front: b"MREC\x07\x01\x01\x02\x03\x04",
-        counts: [4 + 7 + 1_026 + 502, NO_KIND, 6 + 254, 4 + 255 * 502],
+        counts: [4 + 7 + 1_026 + 502, NO_KIND, 10 + 254, 4 + 255 * 502],
     },
     Row {
         front: b"MREC\x08\x02",
-        counts: [4 + 7 + 3 + 506, NO_KIND, 10 + 253, 255 * 506],
+        counts: [4 + 7 + 3 + 506, NO_KIND, 14 + 253, 255 * 506],
     },
     Row {
         front: b"MREC\x09\x010123456789abcdef\x01\x02\x03\x04\x01\x1e",
-        counts: [4 + 1 + 5_128 + 484, NO_KIND, 8 + 760, 8 + 255 * 484],
+        counts: [4 + 1 + 5_128 + 484, NO_KIND, 12 + 760, 8 + 255 * 484],
     },
     Row {
         front: b"MREC\x0a\x03",
-        counts: [4 + 6 + 4 + 506, NO_KIND, 11 + 252, 255 * 506],
+        counts: [4 + 6 + 4 + 506, NO_KIND, 15 + 252, 255 * 506],
     },
     Row {
         front: b"MREC\x0b\x00",
-        counts: [4 + 10 + 4 + 506, NO_KIND, 7 + 252, 255 * 506],
+        counts: [4 + 10 + 4 + 506, NO_KIND, 11 + 252, 255 * 506],
     },
 ];
 
@@ -79,19 +79,19 @@ const TRANSMIT: &[Row] = &[
 const RECEIVE: &[Row] = &[
     Row {
         front: b"MREC\x0cpeer-A\x00\x07",
-        counts: [4 + 4 + 2_048 + 499, NO_KIND, 13, 255 * 499],
+        counts: [4 + 4 + 2_048 + 499, NO_KIND, 17, 255 * 499],
     },
     Row {
         front: b"MREC\x0dpeer-A\x00\x07",
-        counts: [4 + 4 + 2_048 + 499, NO_KIND, 13, 255 * 499],
+        counts: [4 + 4 + 2_048 + 499, NO_KIND, 17, 255 * 499],
     },
     Row {
         front: b"MREC\x0epeer-A\x00\x07\x020123456789abcdef\x01\x02\x03\x04\x32",
-        counts: [4 + 1 + 7_175 + 477, NO_KIND, 12 + 505, 4 + 255 * 477],
+        counts: [4 + 1 + 7_175 + 477, NO_KIND, 16 + 505, 4 + 255 * 477],
     },
     Row {
         front: b"MREC\x0fpeer-A\x00\x07\x02",
-        counts: [4 + 1 + 2_052 + 498, NO_KIND, 13 + 252, 3 + 255 * 498],
+        counts: [4 + 1 + 2_052 + 498, NO_KIND, 17 + 252, 3 + 255 * 498],
     },
 ];
 
@@ -99,11 +99,31 @@ const RECEIVE: &[Row] = &[
 const CEILINGS: &[Row] = &[
     Row {
         front: b"MREC\x10\x02\0\0\0\0\0\0\0\x09",
-        counts: [4 + 1 + 1_031 + 498, NO_KIND, 10 + 1_273, 6 + 255 * 498],
+        counts: [4 + 1 + 1_031 + 498, NO_KIND, 14 + 1_273, 6 + 255 * 498],
     },
     Row {
         front: b"MREC\x11peer-A\x00\x07\x02\0\0\0\x01\0\0\0\0",
-        counts: [4 + 1 + 2_060 + 490, NO_KIND, 12 + 2_292, 4 + 255 * 490],
+        counts: [4 + 1 + 2_060 + 490, NO_KIND, 16 + 2_292, 4 + 255 * 490],
+    },
+];
+
+/// Of associations and commands with a long key, as `SNAPSHOT`.
+const LONG_KEYS: &[Row] = &[
+    Row {
+        front: b"MREC\x12\x010123456789abcdefghijklmnopqrstuv\0\0\0\0\x01\x02\x03\x04\x01\x1e",
+        counts: [4 + 1 + 9_228 + 464, NO_KIND, 12 + 1_780, 8 + 255 * 464],
+    },
+    Row {
+        front: b"MREC\x13peer-A\x00\x07\x020123456789abcdefghijklmnopqrstuv\0\0\0\0\x01\x02\x03\x04\x1e",
+        counts: [4 + 1 + 11_275 + 457, NO_KIND, 16 + 1_525, 4 + 255 * 457],
+    },
+    Row {
+        front: b"MREC\x14\x010123456789abcdefghijklmnopqrstuv\x01\x02\x03\x04\x01\x1e",
+        counts: [4 + 1 + 9_224 + 468, NO_KIND, 12 + 760, 8 + 255 * 468],
+    },
+    Row {
+        front: b"MREC\x15peer-A\x00\x07\x020123456789abcdefghijklmnopqrstuv\x01\x02\x03\x04\x32",
+        counts: [4 + 1 + 11_271 + 461, NO_KIND, 16 + 505, 4 + 255 * 461],
     },
 ];
 
@@ -156,23 +176,29 @@ fn answers_to(rt: &impl Abort, rows: &[Row]) -> Counts {
 /// 5 * 512 * 256 = 655,360 sectors.
 #[test]
 fn each_octet_of_a_snapshot(rt: HostRuntime) {
-    assert!(rt; answers_to(&rt, SNAPSHOT) == [34_220, 6_295, 4_859, 609_986]);
+    assert!(rt; answers_to(&rt, SNAPSHOT) == [34_220, 6_275, 4_879, 609_986]);
 }
 
 /// 6 * 512 * 256 = 786,432 sectors.
 #[test]
 fn each_octet_of_settings_and_transmit_commands(rt: HostRuntime) {
-    assert!(rt; answers_to(&rt, TRANSMIT) == [9_242, 7_554, 2_074, 767_562]);
+    assert!(rt; answers_to(&rt, TRANSMIT) == [9_242, 7_530, 2_098, 767_562]);
 }
 
 /// 4 * 512 * 256 = 524,288 sectors.
 #[test]
 fn each_octet_of_receive_commands(rt: HostRuntime) {
-    assert!(rt; answers_to(&rt, RECEIVE) == [15_322, 5_036, 808, 503_122]);
+    assert!(rt; answers_to(&rt, RECEIVE) == [15_322, 5_020, 824, 503_122]);
 }
 
-/// 2 * 512 * 256 = 262,144 sectors; with those above 2,228,224, of which 62,873 are records.
+/// 2 * 512 * 256 = 262,144 sectors.
 #[test]
 fn each_octet_of_ceilings(rt: HostRuntime) {
-    assert!(rt; answers_to(&rt, CEILINGS) == [4_089, 2_518, 3_587, 251_950]);
+    assert!(rt; answers_to(&rt, CEILINGS) == [4_089, 2_510, 3_595, 251_950]);
+}
+
+/// 4 * 512 * 256 = 524,288 sectors; with those above 2,752,512, of which 105,741 are records.
+#[test]
+fn each_octet_of_records_with_a_long_key(rt: HostRuntime) {
+    assert!(rt; answers_to(&rt, LONG_KEYS) == [42_868, 5_020, 4_626, 471_774]);
 }

@@ -1,6 +1,6 @@
 //! Commands as records.
 
-use super::{KEY, SCI, an_of, sector_of};
+use super::{KEY, LONG_KEY, SCI, an_of, sector_of};
 use macs_config::{Command, SciMode, Validate};
 use macs_record::{Record, encode};
 use std::process::Abort;
@@ -163,4 +163,25 @@ fn receive_associations(rt: HostRuntime) {
     for &(start, offset) in RX_INSTALL_NOT_KEPT {
         is_not_kept(&rt, rx_install(&rt, start, offset));
     }
+}
+
+/// An install with a long key has no record.
+#[test]
+fn long_keys(rt: HostRuntime) {
+    let transmit = Command::TxInstall {
+        an: an_of(&rt, 1),
+        key: LONG_KEY,
+        start: 1,
+        confidential: true,
+        offset: 0,
+    };
+    is_not_kept(&rt, transmit);
+    let receive = Command::RxInstall {
+        sci: SCI,
+        an: an_of(&rt, 2),
+        key: LONG_KEY,
+        start: 1,
+        offset: 0,
+    };
+    is_not_kept(&rt, receive);
 }

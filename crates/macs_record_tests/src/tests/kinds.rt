@@ -1,6 +1,7 @@
 //! Each kind of record with its fields at the least and the greatest that they may be.
 
-use super::{KEY, SCI, an_of, ceiling_of, pn_of, stands_as};
+use super::{KEY, LONG_KEY, SCI, an_of, ceiling_of, pn_of, stands_as};
+use macs_aes::{Key, KeyOctets};
 use macs_config::{Fingerprints, Protection, Replay, Role, RxSa, SciMode, TxSa, Validate};
 use macs_frame::{Offset, Sci};
 use macs_record::{Ceiling, Record};
@@ -10,9 +11,13 @@ const LEAST_SCI: Sci = Sci([0; 8]);
 
 const GREATEST_SCI: Sci = Sci([0xff; 8]);
 
-const LEAST_KEY: [u8; 16] = [0; 16];
+const LEAST_KEY: Key = Key::Short([0; 16]);
 
-const GREATEST_KEY: [u8; 16] = [0xff; 16];
+const GREATEST_KEY: Key = Key::Short([0xff; 16]);
+
+const LEAST_LONG_KEY: Key = Key::Long([0; 32]);
+
+const GREATEST_LONG_KEY: Key = Key::Long([0xff; 32]);
 
 const MAX_CEILING: u64 = 1 << 32;
 
@@ -56,16 +61,13 @@ fn settings(rt: HostRuntime) {
 }
 
 /// A transmit association of a snapshot.
-fn tx_sa(
-    rt: &impl Abort,
-    number: u8,
-    key: [u8; 16],
-    ceiling: u64,
-    protection: Protection,
-) -> Record {
+fn tx_sa(rt: &impl Abort, number: u8, key: Key, ceiling: u64, protection: Protection) -> Record {
     Record::TxSa {
         an: an_of(rt, number),
-        sa: TxSa { key, protection },
+        sa: TxSa {
+            key: KeyOctets::of(key),
+            protection,
+        },
         ceiling: ceiling_of(rt, ceiling),
     }
 }
@@ -131,6 +133,14 @@ fn channel(rt: HostRuntime) {
     );
 }
 
+/// What a receive association is configured with.
+fn rx_association(key: Key, offset: Offset) -> RxSa {
+    RxSa {
+        key: KeyOctets::of(key),
+        offset,
+    }
+}
+
 /// A receive association of a snapshot.
 fn rx_sa(rt: &impl Abort, sci: Sci, number: u8, sa: RxSa, ceiling: u64) -> Record {
     Record::RxSa {
@@ -143,28 +153,19 @@ fn rx_sa(rt: &impl Abort, sci: Sci, number: u8, sa: RxSa, ceiling: u64) -> Recor
 
 #[test]
 fn receive_association(rt: HostRuntime) {
-    let sa = RxSa {
-        key: LEAST_KEY,
-        offset: Offset::Zero,
-    };
+    let sa = rx_association(LEAST_KEY, Offset::Zero);
     stands_as(
         &rt,
         &rx_sa(&rt, LEAST_SCI, 0, sa, 1),
         b"MREC\x04\0\0\0\0\0\0\0\0\x00\0\0\0\0\0\0\0\0\0\0\0\0\0\0\0\0\x00\x00\x00\x00\x00\x00\x00\x01\x00",
     );
-    let sa = RxSa {
-        key: GREATEST_KEY,
-        offset: Offset::Fifty,
-    };
+    let sa = rx_association(GREATEST_KEY, Offset::Fifty);
     stands_as(
         &rt,
         &rx_sa(&rt, GREATEST_SCI, 3, sa, MAX_CEILING),
         b"MREC\x04\xff\xff\xff\xff\xff\xff\xff\xff\x03\xff\xff\xff\xff\xff\xff\xff\xff\xff\xff\xff\xff\xff\xff\xff\xff\x00\x00\x00\x01\x00\x00\x00\x00\x32",
     );
-    let sa = RxSa {
-        key: KEY,
-        offset: Offset::Thirty,
-    };
+    let sa = rx_association(KEY, Offset::Thirty);
     stands_as(
         &rt,
         &rx_sa(&rt, SCI, 2, sa, 0x0102_0304),
@@ -263,16 +264,13 @@ fn sci_mode(rt: HostRuntime) {
 }
 
 /// A new transmit association.
-fn tx_install(
-    rt: &impl Abort,
-    number: u8,
-    key: [u8; 16],
-    start: u32,
-    protection: Protection,
-) -> Record {
+fn tx_install(rt: &impl Abort, number: u8, key: Key, start: u32, protection: Protection) -> Record {
     Record::TxInstall {
         an: an_of(rt, number),
-        sa: TxSa { key, protection },
+        sa: TxSa {
+            key: KeyOctets::of(key),
+            protection,
+        },
         start: pn_of(rt, start),
     }
 }
@@ -360,28 +358,19 @@ fn rx_install(rt: &impl Abort, sci: Sci, number: u8, sa: RxSa, start: u32) -> Re
 
 #[test]
 fn new_receive_association(rt: HostRuntime) {
-    let sa = RxSa {
-        key: LEAST_KEY,
-        offset: Offset::Zero,
-    };
+    let sa = rx_association(LEAST_KEY, Offset::Zero);
     stands_as(
         &rt,
         &rx_install(&rt, LEAST_SCI, 0, sa, 1),
         b"MREC\x0e\0\0\0\0\0\0\0\0\x00\0\0\0\0\0\0\0\0\0\0\0\0\0\0\0\0\x00\x00\x00\x01\x00",
     );
-    let sa = RxSa {
-        key: GREATEST_KEY,
-        offset: Offset::Fifty,
-    };
+    let sa = rx_association(GREATEST_KEY, Offset::Fifty);
     stands_as(
         &rt,
         &rx_install(&rt, GREATEST_SCI, 3, sa, u32::MAX),
         b"MREC\x0e\xff\xff\xff\xff\xff\xff\xff\xff\x03\xff\xff\xff\xff\xff\xff\xff\xff\xff\xff\xff\xff\xff\xff\xff\xff\xff\xff\xff\xff\x32",
     );
-    let sa = RxSa {
-        key: KEY,
-        offset: Offset::Thirty,
-    };
+    let sa = rx_association(KEY, Offset::Thirty);
     stands_as(
         &rt,
         &rx_install(&rt, SCI, 1, sa, 0x0102_0304),
@@ -475,4 +464,122 @@ fn ceilings(rt: HostRuntime) {
     for number in [1, 4_294_967_296] {
         assert!(rt; ceiling_of(&rt, number).get() == number);
     }
+}
+
+#[test]
+fn transmit_association_with_a_long_key(rt: HostRuntime) {
+    stands_as(
+        &rt,
+        &tx_sa(&rt, 0, LEAST_LONG_KEY, 1, Protection::Integrity),
+        b"MREC\x12\x00\0\0\0\0\0\0\0\0\0\0\0\0\0\0\0\0\0\0\0\0\0\0\0\0\0\0\0\0\0\0\0\0\x00\x00\x00\x00\x00\x00\x00\x01\x00\x00",
+    );
+    stands_as(
+        &rt,
+        &tx_sa(
+            &rt,
+            3,
+            GREATEST_LONG_KEY,
+            MAX_CEILING,
+            Protection::Confidentiality(Offset::Fifty),
+        ),
+        b"MREC\x12\x03\
+        \xff\xff\xff\xff\xff\xff\xff\xff\xff\xff\xff\xff\xff\xff\xff\xff\
+        \xff\xff\xff\xff\xff\xff\xff\xff\xff\xff\xff\xff\xff\xff\xff\xff\
+        \x00\x00\x00\x01\x00\x00\x00\x00\x01\x32",
+    );
+    stands_as(
+        &rt,
+        &tx_sa(
+            &rt,
+            2,
+            LONG_KEY,
+            0x0102_0304,
+            Protection::Confidentiality(Offset::Thirty),
+        ),
+        b"MREC\x12\x020123456789abcdefghijklmnopqrstuv\x00\x00\x00\x00\x01\x02\x03\x04\x01\x1e",
+    );
+}
+
+#[test]
+fn receive_association_with_a_long_key(rt: HostRuntime) {
+    let sa = rx_association(LEAST_LONG_KEY, Offset::Zero);
+    stands_as(
+        &rt,
+        &rx_sa(&rt, LEAST_SCI, 0, sa, 1),
+        b"MREC\x13\0\0\0\0\0\0\0\0\x00\0\0\0\0\0\0\0\0\0\0\0\0\0\0\0\0\0\0\0\0\0\0\0\0\0\0\0\0\0\0\0\0\x00\x00\x00\x00\x00\x00\x00\x01\x00",
+    );
+    let sa = rx_association(GREATEST_LONG_KEY, Offset::Fifty);
+    stands_as(
+        &rt,
+        &rx_sa(&rt, GREATEST_SCI, 3, sa, MAX_CEILING),
+        b"MREC\x13\xff\xff\xff\xff\xff\xff\xff\xff\x03\
+        \xff\xff\xff\xff\xff\xff\xff\xff\xff\xff\xff\xff\xff\xff\xff\xff\
+        \xff\xff\xff\xff\xff\xff\xff\xff\xff\xff\xff\xff\xff\xff\xff\xff\
+        \x00\x00\x00\x01\x00\x00\x00\x00\x32",
+    );
+    let sa = rx_association(LONG_KEY, Offset::Thirty);
+    stands_as(
+        &rt,
+        &rx_sa(&rt, SCI, 2, sa, 0x0102_0304),
+        b"MREC\x13peer-A\x00\x07\x020123456789abcdefghijklmnopqrstuv\x00\x00\x00\x00\x01\x02\x03\x04\x1e",
+    );
+}
+
+#[test]
+fn new_transmit_association_with_a_long_key(rt: HostRuntime) {
+    stands_as(
+        &rt,
+        &tx_install(&rt, 0, LEAST_LONG_KEY, 1, Protection::Integrity),
+        b"MREC\x14\x00\0\0\0\0\0\0\0\0\0\0\0\0\0\0\0\0\0\0\0\0\0\0\0\0\0\0\0\0\0\0\0\0\x00\x00\x00\x01\x00\x00",
+    );
+    stands_as(
+        &rt,
+        &tx_install(
+            &rt,
+            3,
+            GREATEST_LONG_KEY,
+            u32::MAX,
+            Protection::Confidentiality(Offset::Fifty),
+        ),
+        b"MREC\x14\x03\
+        \xff\xff\xff\xff\xff\xff\xff\xff\xff\xff\xff\xff\xff\xff\xff\xff\
+        \xff\xff\xff\xff\xff\xff\xff\xff\xff\xff\xff\xff\xff\xff\xff\xff\
+        \xff\xff\xff\xff\x01\x32",
+    );
+    stands_as(
+        &rt,
+        &tx_install(
+            &rt,
+            1,
+            LONG_KEY,
+            0x0102_0304,
+            Protection::Confidentiality(Offset::Zero),
+        ),
+        b"MREC\x14\x010123456789abcdefghijklmnopqrstuv\x01\x02\x03\x04\x01\x00",
+    );
+}
+
+#[test]
+fn new_receive_association_with_a_long_key(rt: HostRuntime) {
+    let sa = rx_association(LEAST_LONG_KEY, Offset::Zero);
+    stands_as(
+        &rt,
+        &rx_install(&rt, LEAST_SCI, 0, sa, 1),
+        b"MREC\x15\0\0\0\0\0\0\0\0\x00\0\0\0\0\0\0\0\0\0\0\0\0\0\0\0\0\0\0\0\0\0\0\0\0\0\0\0\0\0\0\0\0\x00\x00\x00\x01\x00",
+    );
+    let sa = rx_association(GREATEST_LONG_KEY, Offset::Fifty);
+    stands_as(
+        &rt,
+        &rx_install(&rt, GREATEST_SCI, 3, sa, u32::MAX),
+        b"MREC\x15\xff\xff\xff\xff\xff\xff\xff\xff\x03\
+        \xff\xff\xff\xff\xff\xff\xff\xff\xff\xff\xff\xff\xff\xff\xff\xff\
+        \xff\xff\xff\xff\xff\xff\xff\xff\xff\xff\xff\xff\xff\xff\xff\xff\
+        \xff\xff\xff\xff\x32",
+    );
+    let sa = rx_association(LONG_KEY, Offset::Thirty);
+    stands_as(
+        &rt,
+        &rx_install(&rt, SCI, 1, sa, 0x0102_0304),
+        b"MREC\x15peer-A\x00\x07\x010123456789abcdefghijklmnopqrstuv\x01\x02\x03\x04\x1e",
+    );
 }

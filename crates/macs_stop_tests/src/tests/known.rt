@@ -2,6 +2,7 @@
 
 use super::frames::PEER;
 use super::script::{KEYS, PEER_NUMBER};
+use macs_aes::Key;
 use macs_config::{Config, Identity, Role};
 use macs_disk::SectorDisk;
 use macs_endpoint::Endpoint;
@@ -92,7 +93,7 @@ impl Passed {
     fn sends_above<D: SectorDisk>(&self, rt: &impl Abort, endpoint: &Endpoint<D>) -> bool {
         for an in An::all() {
             if let Some(association) = endpoint.config().tx(an) {
-                let place = place_of(rt, &association.key);
+                let place = place_of(rt, association.key.get());
                 let next = endpoint.next_number(an).expect(rt, "a next number");
                 assert!(rt; place < self.sent.len());
                 if next <= u64::from(self.sent[place]) {
@@ -113,9 +114,9 @@ impl Passed {
 }
 
 /// The place of a key among those of the script.
-fn place_of(rt: &impl Abort, key: &[u8; 16]) -> usize {
+fn place_of(rt: &impl Abort, key: Key) -> usize {
     for place in 0..KEYS.len() {
-        if KEYS[place] == *key {
+        if KEYS[place] == key {
             return place;
         }
     }
@@ -126,7 +127,7 @@ fn place_of(rt: &impl Abort, key: &[u8; 16]) -> usize {
 fn place_of_key(rt: &impl Abort, config: &Config) -> usize {
     let encoding = config.encoding().expect(rt, "an encoding association");
     let association = config.tx(encoding).expect(rt, "an association");
-    place_of(rt, &association.key)
+    place_of(rt, association.key.get())
 }
 
 /// Whether two configurations are the same in all that their readers tell.

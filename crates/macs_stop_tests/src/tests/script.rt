@@ -1,15 +1,16 @@
 //! The script: what an endpoint is asked for, from a blank disk on.
 
 use super::frames::PEER;
+use macs_aes::Key;
 use macs_config::{Command, Refusal};
 use macs_frame::An;
 use std::process::Abort;
 
 /// The keys of the two transmit associations that the script installs.
-pub(super) const KEYS: [[u8; 16]; 2] = [[1; 16], [2; 16]];
+pub(super) const KEYS: [Key; 2] = [Key::Short([1; 16]), Key::Short([2; 16])];
 
 /// The key of the peer's association.
-pub(super) const PEER_KEY: [u8; 16] = [3; 16];
+pub(super) const PEER_KEY: Key = Key::Short([3; 16]);
 
 /// The number of the peer's association.
 pub(super) const PEER_NUMBER: u8 = 2;
@@ -66,7 +67,7 @@ fn number_of(rt: &impl Abort, association: u8) -> An {
     An::new(association).expect(rt, "association number")
 }
 
-fn key_at(rt: &impl Abort, place: usize) -> [u8; 16] {
+fn key_at(rt: &impl Abort, place: usize) -> Key {
     assert!(rt; place < KEYS.len());
     KEYS[place]
 }

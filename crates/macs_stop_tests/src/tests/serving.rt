@@ -3,6 +3,7 @@
 
 ghost use Rattle.std.specs.Prelude.{true};
 
+use macs_aes::Key;
 use macs_config::{Command, Identity};
 use macs_disk::{MemDisk, SectorDisk};
 use macs_endpoint::{
@@ -104,7 +105,7 @@ fn plain(rt: &impl Abort) -> FrameBuf {
 fn install(an: An) -> Command {
     Command::TxInstall {
         an,
-        key: [1; 16],
+        key: Key::Short([1; 16]),
         start: 1,
         confidential: true,
         offset: 0,

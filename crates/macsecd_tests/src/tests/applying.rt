@@ -79,6 +79,68 @@ fn commands_are_kept_or_refused(rt: HostRuntime) -> Result<(), Fail> {
     play(&rt, rt.alloc(), "story-apply", APPLIED)
 }
 
+/// Keys of 256 bits on either side, and then a key of 128 bits.
+const LONG_KEYS: &str = "[[command]]
+do = 'tx-install'
+an = 0
+key = '000102030405060708090a0b0c0d0e0f101112131415161718191a1b1c1d1e1f'
+start = 1
+confidential = true
+offset = 0
+
+[[command]]
+do = 'rx-add'
+sci = 'ffffffffffff0001'
+
+[[command]]
+do = 'rx-install'
+sci = 'ffffffffffff0001'
+an = 3
+key = '000102030405060708090a0b0c0d0e0f101112131415161718191a1b1c1d1e1f'
+start = 5
+offset = 0
+
+[[command]]
+do = 'tx-install'
+an = 0
+key = '000102030405060708090a0b0c0d0e0f'
+start = 1
+confidential = true
+offset = 0
+";
+
+const LONG_LINES: &str = "1 refused LongKey\n2 ok\n3 refused LongKey\n4 ok\n";
+
+/// Only the key of 128 bits is spent.
+const LONG_SHOWN: &str = "sci 12153524c0895e81
+blocks tx 4 rx 4
+validate strict
+replay on window 0
+sci-mode explicit
+encoding none
+tx 0 confidential offset 0 next 5
+channel ffffffffffff0001
+spent tx 1 rx 0
+";
+
+const LONG_REFUSED: &[Step] = &[
+    Run(
+        &["format", "story-long/disk", "12153524C0895E81", "4", "4"],
+        FORMATTED,
+    ),
+    Text("story-long/keys.toml", LONG_KEYS),
+    Run(
+        &["apply", "story-long/disk", "story-long/keys.toml"],
+        Outcome::Refused(LONG_LINES),
+    ),
+    Run(&["show", "story-long/disk"], Outcome::Done(LONG_SHOWN)),
+];
+
+#[test]
+fn long_keys_are_refused(rt: HostRuntime) -> Result<(), Fail> {
+    play(&rt, rt.alloc(), "story-long", LONG_REFUSED)
+}
+
 /// Both sides, with each setting changed.
 const BOTH_SIDES: &str = "[[command]]
 do = 'set-validate'

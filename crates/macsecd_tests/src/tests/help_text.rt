@@ -19,7 +19,7 @@ status: 0 done, 2 usage, 3 refused, 4 disk, 5 input, wire, output or memory
 pub const OPEN_TEXT: &str = "usage: macsecd [open]
 
 Opens one protected frame. Standard input has four lines:
-  the key                       32 hex digits
+  the key                       32 hex digits, or 64
   the SCI                       16 hex digits
   the confidentiality offset    0, 30 or 50
   the protected frame           hex, from the destination address to the ICV
@@ -67,7 +67,7 @@ each once it is kept: '1 ok', '2 refused KeySpent' and so on.
            rx-drop        sci
            rx-install     sci, an, key, start, offset
            rx-remove      sci, an
-         an = 0 to 3, key = \"32 hex digits\", sci = \"16 hex digits\",
+         an = 0 to 3, key = \"32 or 64 hex digits\", sci = \"16 hex digits\",
          start = 1 to 4294967295, offset = 0, 30 or 50
 A refused command changes nothing, and the next one is applied.
 

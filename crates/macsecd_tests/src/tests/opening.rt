@@ -9,6 +9,10 @@ use std::test::Fail;
 const THIRTY: &str =
     "d609b1f056637a0d46df998d88e52e2ab2c2846512153524c0895e8108000f101112131415161718191a1b1c1d1e1f202122232425262728292a5336d822fe1be2f143309d7fc85a1c340ee2c2e685dc66cea1fe0d09";
 
+/// A frame under the key of FIPS 197, C.3, as tools/channel_vectors.py has it.
+const LONG: &str =
+    "d609b1f056637a0d46df998d88e52e00b2c2846512153524c0895e8164fc41d9a019c6be9830655049b8cb68bb2b2eca5a62046baa3b83004291a14d473d13697e5a23825fce5b1617fb3e0797319f44036e3edf3765b0e7d23f7d3e";
+
 /// Key, SCI, offset and frame, and what they come to.
 const FRAMES: &[([&str; 4], Outcome)] = &[
     ([KEY, SCI, "0", INTEGRITY], OPENED),
@@ -46,6 +50,27 @@ const FRAMES: &[([&str; 4], Outcome)] = &[
         Outcome::Done(
             "valid an=0 pn=76d457ed plain=e20106d7cd0df0761e8dcd3d08000f101112131415161718191a1b1c1d1e1f202122232425262728292a2b2c2d2e2f30313233340004\n",
         ),
+    ),
+    // Keys of 256 bits: the first one sealed the frame, the second differs in its last bit.
+    (
+        [
+            "000102030405060708090a0b0c0d0e0f101112131415161718191a1b1c1d1e1f",
+            SCI,
+            "0",
+            LONG,
+        ],
+        Outcome::Done(
+            "valid an=2 pn=b2c28465 plain=d609b1f056637a0d46df998d08000f101112131415161718191a1b1c1d1e1f202122232425262728292a2b2c2d2e2f303132333435363738393a0002\n",
+        ),
+    ),
+    (
+        [
+            "000102030405060708090a0b0c0d0e0f101112131415161718191a1b1c1d1e1e",
+            SCI,
+            "0",
+            LONG,
+        ],
+        Outcome::Refused("not valid\n"),
     ),
     // Each refusal.
     (

@@ -2,6 +2,7 @@
 
 use super::END;
 use super::frames::number_of;
+use macs_aes::Key;
 use macs_frame::{FrameBuf, Offset, Sci};
 use macs_rxsc::{Rx, Verdict};
 use std::process::Abort;
@@ -27,7 +28,7 @@ pub(super) fn install(
     rx: &mut Rx,
     sci: [u8; 8],
     association: u8,
-    key: u128,
+    key: &Key,
     offset: Offset,
     next: u64,
     ceiling: u64,
@@ -39,7 +40,7 @@ pub(super) fn install(
     assert!(rt; 1 <= next);
     assert!(rt; next <= ceiling);
     assert!(rt; ceiling <= END);
-    rx.install(Sci(sci), an, &key.to_be_bytes(), offset, next, ceiling);
+    rx.install(Sci(sci), an, key, offset, next, ceiling);
 }
 
 /// An association that stands goes.

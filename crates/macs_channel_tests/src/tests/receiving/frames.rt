@@ -1,6 +1,7 @@
 //! Frames: of IEEE Std 802.1AE-2018, Annex C, by Python's `cryptography`, and sealed as a test
 //! runs. A line of a frame is its addresses, its SecTAG, its Secure Data or its ICV.
 
+use macs_aes::Key;
 use macs_frame::{An, FrameBuf, MAX_FRAME, MIN_FRAME, Offset, Pn, ScName, Sci, SecTag, seal_frame};
 use macs_gcm::{GcmKey, seal};
 use std::process::Abort;
@@ -9,13 +10,17 @@ use std::process::Abort;
 pub(super) const CHANNEL: [u8; 8] = [0x12, 0x15, 0x35, 0x24, 0xc0, 0x89, 0x5e, 0x81];
 
 /// The key of its association 2.
-pub(super) const CHANNEL_KEY: u128 = 0xad7a_2bd0_3eac_835a_6f62_0fdc_b506_b345;
+pub(super) const CHANNEL_KEY: Key = Key::Short(
+    *b"\xad\x7a\x2b\xd0\x3e\xac\x83\x5a\x6f\x62\x0f\xdc\xb5\x06\xb3\x45",
+);
 
 /// The SCI of an end station: its address with port 00-01.
 pub(super) const STATION: [u8; 8] = [0xf0, 0x76, 0x1e, 0x8d, 0xcd, 0x3d, 0, 1];
 
 /// The key of its association 0.
-pub(super) const STATION_KEY: u128 = 0x071b_113b_0ca7_43fe_cccf_3d05_1f73_7382;
+pub(super) const STATION_KEY: Key = Key::Short(
+    *b"\x07\x1b\x11\x3b\x0c\xa7\x43\xfe\xcc\xcf\x3d\x05\x1f\x73\x73\x82",
+);
 
 /// Annex C: integrity protection of a frame of the channel, under association 2.
 pub(super) const INTEGRITY: &[u8] = b"\xd6\x09\xb1\xf0\x56\x63\x7a\x0d\x46\xdf\x99\x8d\
@@ -222,7 +227,7 @@ fn sealed(rt: &impl Abort, tag: &SecTag, sci: [u8; 8], octets: usize) -> FrameBu
     assert!(rt; plain.len() >= MIN_FRAME);
     assert!(rt; plain.len() <= MAX_FRAME - tag.name.overhead());
     assert!(rt; tag.encrypted == tag.changed);
-    let key = GcmKey::new(&CHANNEL_KEY.to_be_bytes());
+    let key = GcmKey::new(&CHANNEL_KEY);
     let mut frame = FrameBuf::new();
     seal_frame(&key, Sci(sci), tag, Offset::Zero, plain, &mut frame);
     frame
@@ -235,7 +240,7 @@ fn with_long_sl(rt: &impl Abort) -> FrameBuf {
     const IV: [u8; 12] = [0x12, 0x15, 0x35, 0x24, 0xc0, 0x89, 0x5e, 0x81, 0, 0, 0, 5];
     let mut frame = copied(rt, BEFORE);
     append(rt, &mut frame, &[7; 50]);
-    let key = GcmKey::new(&CHANNEL_KEY.to_be_bytes());
+    let key = GcmKey::new(&CHANNEL_KEY);
     let icv = seal(&key, &IV, frame.as_slice(), &mut []);
     append(rt, &mut frame, &icv);
     frame

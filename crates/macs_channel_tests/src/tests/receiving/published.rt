@@ -97,7 +97,7 @@ fn expect_at_offset(rt: &impl Abort, frame: &'static [u8], offset: Offset, verdi
     let given = if verdict == OK { OFFSET_PLAIN } else { &[] };
     let mut rx = Rx::new();
     add(rt, &mut rx, CHANNEL);
-    install(rt, &mut rx, CHANNEL, 2, CHANNEL_KEY, offset, 1, 9);
+    install(rt, &mut rx, CHANNEL, 2, &CHANNEL_KEY, offset, 1, 9);
     let source = Source::These(frame);
     take(
         rt,

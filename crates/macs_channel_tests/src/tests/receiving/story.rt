@@ -2,6 +2,7 @@
 
 use super::fixture::{add, drop_channel, install, need_of, numbers_of, raise, receive, remove};
 use super::frames::{CHANNEL, CHANNEL_KEY, Change, PLAIN, Security, Source, frame_of, numbered};
+use macs_aes::Key;
 use macs_config::Validate;
 use macs_frame::{FrameBuf, Offset, Sci};
 use macs_rxsc::{Rx, Verdict};
@@ -19,7 +20,7 @@ pub(super) enum Step {
     Add([u8; 8]),
     Drop([u8; 8]),
     /// A new association, by its key, its next number and its ceiling.
-    Install([u8; 8], u8, u128, u64, u64),
+    Install([u8; 8], u8, Key, u64, u64),
     Remove([u8; 8], u8),
     /// With blocks of this size the first need is of this association and this number, and is served.
     Raise(u32, [u8; 8], u8, u32),
@@ -69,7 +70,7 @@ pub(super) fn ready(rt: &impl Abort, next: u64, ceiling: u64) -> Rx {
         &mut rx,
         CHANNEL,
         2,
-        CHANNEL_KEY,
+        &CHANNEL_KEY,
         Offset::Zero,
         next,
         ceiling,
@@ -86,7 +87,7 @@ pub(super) fn take(rt: &impl Abort, rx: &mut Rx, step: Step) {
         Step::Add(sci) => add(rt, rx, sci),
         Step::Drop(sci) => drop_channel(rt, rx, sci),
         Step::Install(sci, association, key, next, ceiling) => {
-            install(rt, rx, sci, association, key, Offset::Zero, next, ceiling)
+            install(rt, rx, sci, association, &key, Offset::Zero, next, ceiling)
         }
         Step::Remove(sci, association) => remove(rt, rx, sci, association),
         Step::Raise(block, sci, association, number) => {
@@ -131,7 +132,7 @@ fn expect_verdict(rt: &impl Abort, rx: &mut Rx, frame: &[u8], verdict: Verdict, 
 }
 
 /// What is given, if anything is: this is the frame that is delivered.
-fn given(verdict: Verdict, delivered: &[u8]) -> &[u8] {
+pub(super) fn given(verdict: Verdict, delivered: &[u8]) -> &[u8] {
     match verdict {
         Verdict::Delivered(_) => delivered,
         _ => &[],

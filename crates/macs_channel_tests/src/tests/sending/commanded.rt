@@ -43,7 +43,7 @@ fn expect_reply(
 fn install_of(case: &Case, an: An, start: u32) -> Command {
     Command::TxInstall {
         an,
-        key: case.security.key.to_be_bytes(),
+        key: case.security.key,
         start,
         confidential: case.security.confidential,
         offset: case.security.offset.get(),
@@ -75,7 +75,7 @@ fn channel_of(config: &Config) -> Tx {
 fn security_of(rt: &impl Abort, config: &Config, an: An) -> Security {
     let TxSa { key, protection } = config.tx(an).expect(rt, "association");
     Security {
-        key: u128::from_be_bytes(key),
+        key: key.get(),
         confidential: protection.is_confidential(),
         offset: protection.offset(),
     }

@@ -48,7 +48,7 @@ pub(super) fn install(
     assert!(rt; ceiling <= END);
     tx.install(
         an,
-        &security.key.to_be_bytes(),
+        &security.key,
         security.confidential,
         security.offset,
         next,

@@ -1,12 +1,13 @@
 //! One bit changed anywhere in the tag, the additional data or the text.
 
 use super::{Octets, Sealing};
+use macs_aes::Key;
 use std::process::Abort;
 
 /// Additional data of 20 octets and a text of 33.
 fn sealing() -> Sealing {
     Sealing {
-        key: [7; 16],
+        key: Key::Short([7; 16]),
         iv: [9; 12],
         aad: Octets::by_rule(11, 5, 20),
         text: Octets::by_rule(7, 3, 33),

@@ -75,7 +75,7 @@ pub(super) fn published_sender(rt: &impl Abort, alloc: Global) -> Endpoint<MemDi
     let mut endpoint = opened(rt, formatted(rt, alloc, PEER, 4));
     let install = Command::TxInstall {
         an,
-        key: PEER_KEY.to_be_bytes(),
+        key: PEER_KEY,
         start: 0xb2c2_8465,
         confidential: false,
         offset: 0,

@@ -6,6 +6,7 @@ use super::{
     summary,
 };
 use linked_list_allocator::LocalHeap;
+use macs_aes::Key;
 use macs_config::Command;
 use macs_disk::MemDisk;
 use macs_edge::RunFault;
@@ -24,7 +25,7 @@ fn receiver_of_all(rt: &impl Abort, alloc: Global) -> Endpoint<MemDisk> {
     let install = Command::RxInstall {
         sci: OWN,
         an: number_of(rt, 0),
-        key: [7; 16],
+        key: Key::Short([7; 16]),
         start: 1,
         offset: 0,
     };

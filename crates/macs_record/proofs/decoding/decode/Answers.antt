@@ -1,9 +1,9 @@
-use Rattle.std.proofs.Common.{rules, ◌≡◌, List, ℕ, Ok, length, refl, sym, subst, ap}
+use Rattle.std.proofs.Common.{rules, ◌≡◌, List, ℕ, Ok, Some, length, refl, sym, subst, ap}
 use Rattle.macs_frame.specs.First.{IsFirst, NoneHolds}
 use Rattle.macs_frame.proofs.FirstRefusal.{exactly_first, exactly_none}
 use Rattle.macs_record.specs.Decoding.{RecordFaultHolds, IsSectorOf, record_faults}
 use Rattle.macs_record.specs.declared.record.RecordFault.TheVariants.{Field, Rest}
-use Rattle.macs_record.proofs.Decoded.{begins, exactly, first_field, first_rest, is_sector, no_fault}
+use Rattle.macs_record.proofs.Decoded.{all_zeros, begins, exactly, first_field, first_rest, is_sector, no_fault, read_once}
 use Rattle.macs_record.proofs.decoding.decode.Goals as goal
 
 pub returns-in_default-read_fields-clause-fault : goal.returns-in_default-read_fields-clause-fault
@@ -37,3 +37,12 @@ returns-else-is_zero-clause-fault c =
     c.in-Some-read_fields.ensures.some c.in-Some.ensures.found c.in-Some-read_fields.ensures.found
     (λ zeros. let yes = c.is_zero.ensures.1 zeros in let no = c.if-is_zero.false in cc) in
     exactly_first (RecordFaultHolds c.args.sector.now) record_faults _ Rest refl (subst (λ (s : List ℕ). IsFirst (RecordFaultHolds s) record_faults Rest) c.new-reader.ensures first)
+
+pub returns-else-is_zero-clause-exactly : goal.returns-else-is_zero-clause-exactly
+returns-else-is_zero-clause-exactly c = λ r. (
+  (λ same. absurd cc),
+  (λ there.
+      let once = read_once c.in-Some.kind c.new-reader.result c.read_kind.new.from c.read_fields.new.from (Some c.in-Some-read_fields.value)
+      c.in-Some.ensures.found c.in-Some-read_fields.ensures.found r (subst (IsSectorOf r) (sym c.new-reader.ensures) there) in
+      let yes = c.is_zero.ensures.1 (all_zeros c.read_fields.new.from _ once.1) in let no = c.if-is_zero.false in absurd cc),
+)

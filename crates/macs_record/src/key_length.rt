@@ -1,0 +1,10 @@
+//! The two lengths of keys: a record with a key has a kind for each.
+
+/// How long the key of a record is.
+#[derive(Clone, Copy)]
+pub(crate) enum KeyLength {
+    /// 16 octets.
+    Short,
+    /// 32 octets.
+    Long,
+}
