@@ -29,6 +29,7 @@ pub mod Logged
 pub mod Moments
 pub mod Tickets
 pub mod RefusedDays
+pub mod ServedDays
 pub mod Ours
 pub mod Built
 pub mod Nights

@@ -6,10 +6,10 @@ use Rattle.macs_config.specs.declared.command.Command.{Command}
 use Rattle.macs_disk.specs.Disk.{Disk, now}
 use Rattle.macs_journal.specs.declared.fault.JournalFault.{JournalFault}
 use Rattle.macs_journal.specs.declared.recovery.RecoverRefused.{RecoverRefused}
-use Rattle.macs_endpoint.specs.Lives.{Transition, exchange_of}
+use Rattle.macs_endpoint.specs.Lives.{Lives, Transition, exchange_of}
 use Rattle.macs_endpoint.specs.State.{Advanced, Advances, Call, Commands, Protects, Protected, Ran, Reply, Submits, Submitted}
 use Rattle.macs_endpoint.specs.Step.{Exchange}
-use Rattle.macs_endpoint.specs.Value.{EndpointValue}
+use Rattle.macs_endpoint.specs.Value.{EndpointValue, device_in}
 use Rattle.macs_headline.specs.Binding.{HasHistory}
 use Rattle.macs_headline.specs.Deeds.{Chain, Deed, Formatting, Link, Living, Refusing}
 use Rattle.macs_headline.specs.History.{Formats, Refuses, Serves}
@@ -33,6 +33,14 @@ exchanges_of_day install select plain out day =
 -- a deed, and the disk after it
 abbrev pub link_of : {D : Type 0} → Deed D → D → Link D
 link_of deed after = record { deed = deed; after = after }
+
+-- An endpoint answered these calls and gave its disk back, as their contracts say.
+pub record IsServedDay {D : Type 0} (disk_of : D → Disk) (first : EndpointValue D) (install select : Command) (plain out : List ℕ) (day : Day D) : Type 0 where
+  pub turns : List (Transition D)
+  pub last : EndpointValue D
+  pub called : map exchange_of turns ≡ exchanges_of_day install select plain out day
+  pub lives : Lives disk_of first turns last
+  pub given : day.disk ≡ device_in last
 
 -- A disk was formatted and opened, and an endpoint, which began with what stood there, answered these calls and gave the disk back: all as their
 -- contracts say. That is the history of the disk.

@@ -2,7 +2,7 @@
 
 ghost use Rattle.std.specs.Prelude.{◌≡◌, ◌<◌, ◌⊎◌, true, IfErr, IfOk};
 ghost use Rattle.macs_headline.specs.Binding.{IsNewDisk};
-ghost use Rattle.macs_headline.specs.Days.{IsDay, IsRefusedDay};
+ghost use Rattle.macs_headline.specs.Days.{IsDay, IsRefusedDay, IsServedDay};
 
 use macs_config::{Command, Identity};
 use macs_disk::SectorDisk;
@@ -43,7 +43,22 @@ pub fn a_day<D: SectorDisk>(
     ensures refused { IfErr result (λ refused. IsRefusedDay D.disk disk identity.now refused) }
 {
     let formatted = format(&mut disk, identity);
-    let mut endpoint = Endpoint::open(disk)?;
+    let endpoint = Endpoint::open(disk)?;
+    Ok(serve_day(endpoint, install, select, plain, out, formatted))
+}
+
+/// The calls of the endpoint that was opened.
+fn serve_day<D: SectorDisk>(
+    mut endpoint: Endpoint<D>,
+    install: Command,
+    select: Command,
+    plain: &[u8],
+    out: &mut FrameBuf,
+    formatted: Result<(), JournalFault>,
+) -> Day<D>
+    ensures served { IsServedDay D.disk endpoint install select plain.now out.new.items result }
+    ensures formatted { result.formatted ≡ formatted }
+{
     endpoint.facts();
     let installed = endpoint.command(install);
     endpoint.facts();
@@ -54,7 +69,7 @@ pub fn a_day<D: SectorDisk>(
     let sent = endpoint.protect(plain, out);
     endpoint.facts();
     let went_on = endpoint.step();
-    Ok(Day {
+    Day {
         formatted,
         installed,
         submitted,
@@ -62,5 +77,5 @@ pub fn a_day<D: SectorDisk>(
         sent,
         went_on,
         disk: endpoint.into_disk(),
-    })
+    }
 }

@@ -1,5 +1,6 @@
 -- An answer from what opening the frame said, over the key and the octets that it was called with.
 use Rattle.std.proofs.Common.{◌≡◌, ℕ, List, subst}
+use Rattle.macs_aes.specs.Keys.{octets_of_key}
 use Rattle.macs_frame.specs.Fields.{octets_of}
 use Rattle.macs_frame.specs.First.{IsFirst, NoneHolds}
 use Rattle.macs_frame.specs.Opening.{OpenFaultHolds, Verified, open_faults}
@@ -18,7 +19,7 @@ at_same P key other_key frame other_frame same_key same_frame held =
     subst (λ (f : List ℕ). P other_key f) same_frame at_key
 
 -- a frame that was verified, with no fault that holds, is opened
-pub opens : (request : Request) (key frame plain : List ℕ) (an pn : ℕ) → key ≡ request.key → frame ≡ request.frame.items
+pub opens : (request : Request) (key frame plain : List ℕ) (an pn : ℕ) → key ≡ octets_of_key request.key → frame ≡ request.frame.items
     → ((fault : OpenFault) → ¬ IsFirst (OpenFaultHolds frame key request.sci (octets_of request.offset)) open_faults fault)
     → Verified frame key request.sci (octets_of request.offset) plain → an ≡ (tag_of frame).an → pn ≡ (tag_of frame).pn
     → OpensRequest request an pn plain
@@ -33,7 +34,7 @@ opens request key frame plain an pn same_key same_frame none verified associatio
     }
 
 -- a frame is refused for the fault that was the first
-pub refused : (request : Request) (key frame : List ℕ) (fault : OpenFault) → key ≡ request.key → frame ≡ request.frame.items
+pub refused : (request : Request) (key frame : List ℕ) (fault : OpenFault) → key ≡ octets_of_key request.key → frame ≡ request.frame.items
     → IsFirst (OpenFaultHolds frame key request.sci (octets_of request.offset)) open_faults fault
     → AnswersRequest request (Refused fault)
 refused request key frame fault same_key same_frame first =
