@@ -1,5 +1,5 @@
 -- How a run of the program ends.
-use Rattle.std.specs.Prelude.{◌≡◌, ◌⊎◌, true, ℕ, List, Option, option_map, IfSome, codes, ⊤}
+use Rattle.std.specs.Prelude.{◌≡◌, ◌⊎◌, true, ℕ, List, Option, option_map, IfSome, codes}
 use Rattle.std.specs.Io.KnownBytes.{Appends}
 use Rattle.clap.specs.Words.{Text, subcommand_of, takes}
 use Rattle.macs_config.specs.Identity.{Identity}
@@ -64,12 +64,6 @@ Replies state_of words input before after status =
 abbrev pub HasPrinted : Action → Option (List ℕ) → Option (List ℕ) → Type 0
 HasPrinted (Apply disk file) before after = (outcomes : List (Option Refusal)) × Appends before after (outcome_lines 1 outcomes)
 HasPrinted action before after = after ≡ before
-
--- the action is done with an endpoint that is opened
-abbrev pub OpensEndpoint : Action → Type 0
-OpensEndpoint Open = ⊥
-OpensEndpoint (Format disk sci tx_block rx_block block is_over) = ⊥
-OpensEndpoint action = ⊤
 
 -- a value of the action is none that it takes
 abbrev pub WrongValues : Action → Type 0

@@ -1,11 +1,11 @@
 //! The program over its words, a reader and two writers.
 
-ghost use Rattle.std.specs.Prelude.{◌≡◌, ◌≢◌, ◌⊎◌, ◌++◌, ◌∷◌, ℕ, List, Option, [], true, take, IfErr, IfOk, IfSome, OnOk, string_bytes};
+ghost use Rattle.std.specs.Prelude.{◌≡◌, ◌≢◌, ◌⊎◌, ◌++◌, ◌∷◌, ℕ, List, [], true, take, IfErr, IfOk, IfSome, OnOk, string_bytes};
 ghost use Rattle.std.specs.Io.KnownBytes.{Appends};
 ghost use Rattle.clap.specs.Words.{subcommand_of, takes};
 ghost use Rattle.macs_program.specs.Answer.{answer_text};
 ghost use Rattle.macs_program.specs.Failing.{failure_status};
-ghost use Rattle.macs_program.specs.Run.{Does, HasPrinted, HasWrongValues, OpensEndpoint, Prints, Replies, WrongValues, code_of};
+ghost use Rattle.macs_program.specs.Run.{Does, HasPrinted, HasWrongValues, Prints, Replies, WrongValues, code_of};
 ghost use Rattle.macs_words.specs.Words.{AsksForNothing, Names, macsecd, texts};
 ghost use Rattle.macs_words.specs.declared.action.Action.{Action};
 ghost use Rattle.macs_program.specs.declared.status.Status.{Status};
@@ -70,46 +70,6 @@ fn open_input<R: Read, W: Write>(
     Ok(answer.status())
 }
 
-/// Does what an action asks for that opens an endpoint.
-fn perform_with_endpoint<T: Files + Net, W: Write>(
-    rt: &T,
-    alloc: Global,
-    action: Action,
-    out: &mut W,
-) -> Result<Status, Failure>
-where
-    T::File: CaptureFile,
-    requires { OpensEndpoint action }
-    ensures does { (input : Option (List ℕ)) → IfOk result (Does T.File.file action.entry input (W.contents out.old) (W.contents out.new)) }
-    ensures status { IfOk result (λ status. (status ≡ Status.Done) ⊎ (status ≡ Status.Refused)) }
-    ensures usage { IfErr result (λ failure. failure_status failure ≡ Status.Usage
-        → WrongValues action.entry × (out.new ≡ out.old)) }
-    ensures disk { IfErr result (λ failure. failure_status failure ≡ Status.Disk
-        → HasPrinted action.entry (W.contents out.old) (W.contents out.new)) }
-{
-    match action {
-        Action::Apply { disk, file } => apply(rt, alloc, disk, file, out),
-        Action::Show { disk } => show(rt, alloc, disk, out),
-        Action::Protect {
-            disk,
-            input: from,
-            output: to,
-        } => pass(rt, alloc, Direction::Protect, disk, from, to, out),
-        Action::Validate {
-            disk,
-            input: from,
-            output: to,
-        } => pass(rt, alloc, Direction::Validate, disk, from, to, out),
-        Action::Relay {
-            disk,
-            controlled,
-            common,
-            turns,
-        } => relay(rt, alloc, disk, controlled, common, turns, out),
-        _ => unreachable!(),
-    }
-}
-
 /// Does what an action asks for.
 fn perform<T: Files + Net, R: Read, W: Write>(
     rt: &T,
@@ -140,7 +100,24 @@ where
         } => format(
             rt, alloc, disk, sci, tx_block, rx_block, block, is_over, out,
         ),
-        _ => perform_with_endpoint(rt, alloc, action, out),
+        Action::Apply { disk, file } => apply(rt, alloc, disk, file, out),
+        Action::Show { disk } => show(rt, alloc, disk, out),
+        Action::Protect {
+            disk,
+            input: from,
+            output: to,
+        } => pass(rt, alloc, Direction::Protect, disk, from, to, out),
+        Action::Validate {
+            disk,
+            input: from,
+            output: to,
+        } => pass(rt, alloc, Direction::Validate, disk, from, to, out),
+        Action::Relay {
+            disk,
+            controlled,
+            common,
+            turns,
+        } => relay(rt, alloc, disk, controlled, common, turns, out),
     }
 }
 
