@@ -296,7 +296,7 @@ resumes_range edition old new up ranged = record {
   same = refl;
   nexts = λ an m is. rises_range old.identity.tx_block (old.next an) (new.next an) m (up.next an) (λ n is. ranged.nexts an n is) is;
   hand = λ c is. absurd (none_some new.in_hand c up.idle is);
-  queue = subst (AreCommands new.edition) (sym up.waiting) tt;
+  queue = subst AreCommands (sym up.waiting) tt;
 }
 
 restart_range : (edition : Edition) (old new : State) → Restart old new → IsRanged edition old → IsRanged new.edition new

@@ -3,6 +3,7 @@
 ghost use Rattle.std.specs.Prelude.{◌<◌, ◌^◌, All};
 ghost use Rattle.macs_headline.specs.Example.{peer_frame};
 
+use macs_aes::Key;
 use macs_frame::laws::octets_in_range;
 use macs_frame::{An, FrameBuf, Offset, Pn, ScName, Sci, SecTag, seal_frame};
 use macs_gcm::GcmKey;
@@ -21,7 +22,7 @@ pub(crate) fn peer_frame_in_range()
     };
     let mut frame = FrameBuf::new();
     seal_frame(
-        &GcmKey::new(&[2; 16]),
+        &GcmKey::new(&Key::Short([2; 16])),
         sci,
         &tag,
         Offset::Zero,

@@ -115,7 +115,6 @@ step = done 1 refused LongKey
 submit rx-install b 0 $key 1 = 2
 step = done 2 refused LongKey
 calls = 0
-pending = 0
 next 0 = none
 numbers b 0 = none
 tx-association 0 = none
