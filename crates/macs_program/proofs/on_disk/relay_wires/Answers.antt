@@ -7,7 +7,7 @@ returns-clause-printed g c =
     IfOk-weaker c.relay_frames.result _ _ (λ status done. let (summary, relays, printed, is) = done in (
       summary,
       comes-to _ c.args.turns summary _ _
-      (between-new _ c.args.turns summary _ _ _ _ _ _ c.in_ok-controlled.ensures.fresh c.in_ok-common.ensures.fresh relays),
+          (between-new _ c.args.turns summary _ _ _ _ _ _ c.in_ok-controlled.ensures.fresh c.in_ok-common.ensures.fresh relays),
       printed,
       is,
     )) c.relay_frames.ensures.printed
