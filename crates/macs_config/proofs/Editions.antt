@@ -64,7 +64,7 @@ module _ (small large : Edition) (up_to : IsUpTo small large) where
   not_refused identity c (TxInstall an key start confidential offset) is =
       let install = TxInstall an key start confidential offset in
       last_by ((StartRange, has_wrong_start install) ∷ (OffsetChoice, has_wrong_offset install) ∷ (SlotTaken, is_slot_taken c install)
-          ∷ (KeySpent, is_key_spent c install) ∷ (SpentFull, are_spent_full c install) ∷ [])
+      ∷ (KeySpent, is_key_spent c install) ∷ (SpentFull, are_spent_full c install) ∷ [])
       (is_long_key small install) (is_long_key large install) (not_long (octets_of_key key)) is
   not_refused identity c (TxUse an) is = is
   not_refused identity c (TxRemove an) is = is
@@ -75,7 +75,7 @@ module _ (small large : Edition) (up_to : IsUpTo small large) where
   not_refused identity c (RxInstall sci an key start offset) is =
       let install = RxInstall sci an key start offset in
       last_by ((StartRange, has_wrong_start install) ∷ (OffsetChoice, has_wrong_offset install) ∷ (NoChannel, has_no_channel c install)
-          ∷ (SlotTaken, is_slot_taken c install) ∷ (KeySpent, is_key_spent c install) ∷ (SpentFull, are_spent_full c install) ∷ [])
+      ∷ (SlotTaken, is_slot_taken c install) ∷ (KeySpent, is_key_spent c install) ∷ (SpentFull, are_spent_full c install) ∷ [])
       (is_long_key small install) (is_long_key large install) (not_long (octets_of_key key)) is
   not_refused identity c (RxRemove sci an) is = is
 

@@ -198,11 +198,7 @@ fn is_wrong_offset(confidential: bool, octets: u8) -> bool
 }
 
 /// What a new key of these octets spends among those of its side, or what keeps it from being spent.
-fn check_key(
-    spent: &SpentKeys,
-    octets: &[u8],
-    fingerprint: Fingerprint,
-) -> Result<Checked, Refusal>
+fn check_key(spent: &SpentKeys, octets: &[u8], fingerprint: Fingerprint) -> Result<Checked, Refusal>
     ensures { result ≡ answer_or_refusal (if is_spent spent.now fingerprint then Some KeySpent
         else if nat_le max_spent (length spent.now) then Some SpentFull
         else if not (takes_key this_edition octets.now) then Some LongKey else None) (Some fingerprint) }

@@ -66,7 +66,6 @@ impl<D: SectorDisk> Endpoint<D> {
     }
 
     /// The endpoint that begins with what stands in a store that was opened and has nothing in hand.
-    #[inline(never)]
     fn over(store: Store<D>) -> Endpoint<D>
         requires { IsIdle store }
         ensures { Begins store result }

@@ -15,7 +15,6 @@ use crate::failure::{DiskFault, Failure};
 use crate::whole_writes::WholeWrites;
 use macs_config::Command;
 use macs_disk::{DiskFile, FileDisk};
-use macs_endpoint::Endpoint;
 use macs_pcap::{ReaderSource, WriterSink};
 use std::alloc::Global;
 use std::fs::{OpenFile, OpenOptions};
@@ -61,10 +60,9 @@ pub fn is_printed_to<T: Files>(rt: &T, path: &str) -> bool {
     }
 }
 
-/// The endpoint on the disk in a file. It fails as `Memory`, or as `Disk` with `File` or `Length`, where
-/// the file is no disk, or standard output goes there; then as `Disk` with the fault of the journal, where no
-/// endpoint is found on it.
-pub fn open_endpoint<T: Files>(rt: &T, path: &str) -> Result<Endpoint<FileDisk<T::File>>, Failure>
+/// The disk in a file. It fails as `Memory`, or as `Disk` with `File` or `Length`, where the file is no disk,
+/// or standard output goes there.
+pub fn open_disk<T: Files>(rt: &T, path: &str) -> Result<FileDisk<T::File>, Failure>
 where
     T::File: DiskFile,
     ensures { IfErr result (λ failure. (failure ≡ Failure.Memory)
@@ -74,10 +72,7 @@ where
         return Err(Failure::Disk(DiskFault::File));
     }
     let disk = FileDisk::open(rt, path)?;
-    match Endpoint::open(disk) {
-        Ok(endpoint) => Ok(endpoint),
-        Err(refused) => Err(Failure::from(refused.fault)),
-    }
+    Ok(disk)
 }
 
 /// The commands of a file that is open, of which no more is read than can be of use.

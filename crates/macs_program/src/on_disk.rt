@@ -1,4 +1,7 @@
 //! What each subcommand does that has a disk file.
+//!
+//! An endpoint is large. It stays where its opening answers it, and each subcommand has it in a call of its own, so that
+//! the stack holds one at a time.
 
 ghost use Rattle.std.specs.Prelude.{◌≡◌, ◌≢◌, ◌⊎◌, ◌↔◌, List, Option, codes, option_map, Err, IfErr, IfOk};
 ghost use Rattle.std.specs.Io.KnownBytes.{Appends};
@@ -13,7 +16,7 @@ ghost use Rattle.macs_program.specs.Addresses.{AddressFaultHolds, SpellsBoth, ad
 ghost use Rattle.macs_program.specs.Applying.{outcome_lines, outcomes_status};
 ghost use Rattle.macs_program.specs.Failing.{failure_status};
 ghost use Rattle.macs_program.specs.NewDisks.{Formats};
-ghost use Rattle.macs_program.specs.Relaying.{ComesTo, IsAfterAddresses, IsOfRelay, Relays};
+ghost use Rattle.macs_program.specs.Relaying.{ComesTo, IsAfterAddresses, IsOfRelay};
 ghost use Rattle.macs_program.specs.Showing.{line, show_text};
 ghost use Rattle.macs_program.specs.Summing.{relay_line, summary_line};
 ghost use Rattle.macs_program.specs.Values.{SpellsIdentity, SpellsLayout, ValueFaultHolds};
@@ -25,14 +28,14 @@ use crate::applying::apply_commands;
 use crate::capture_file::CaptureFile;
 use crate::capturing::{Direction, pass_frames};
 use crate::failure::Failure;
-use crate::files::{commands_of_file, make_capture, open_capture, open_endpoint};
+use crate::files::{commands_of_file, make_capture, open_capture, open_disk};
 use crate::new_disk::{NewFile, format_disk};
 use crate::output::print;
 use crate::relaying::{bind, relay_frames};
 use crate::showing::show_lines;
 use crate::status::Status;
 use crate::values::given_by;
-use macs_disk::{DiskFile, SectorDisk};
+use macs_disk::{DiskFile, FileDisk, SectorDisk};
 use macs_endpoint::Endpoint;
 use macs_words::WireEnds;
 use std::alloc::Global;
@@ -92,6 +95,7 @@ fn apply_file<T: Files, D: SectorDisk, W: Write>(
 }
 
 /// `apply`: applies the commands of a file.
+#[inline(never)]
 pub fn apply<T: Files, W: Write>(
     rt: &T,
     alloc: Global,
@@ -108,8 +112,11 @@ where
     ensures lines { IfErr result (λ failure. failure ≢ Failure.Output
         → (outcomes : List (Option Refusal)) × Appends (W.contents out.old) (W.contents out.new) (outcome_lines 1 outcomes)) }
 {
-    let mut endpoint = open_endpoint(rt, disk)?;
-    apply_file(rt, alloc, &mut endpoint, file, out)
+    let disk = open_disk(rt, disk)?;
+    match &mut Endpoint::open(disk) {
+        Ok(endpoint) => apply_file(rt, alloc, endpoint, file, out),
+        Err(refused) => Err(Failure::from(refused.fault)),
+    }
 }
 
 /// Prints the configuration and the packet numbers of an endpoint.
@@ -129,6 +136,7 @@ fn show_endpoint<D: SectorDisk, W: Write>(
 }
 
 /// `show`: prints the configuration and the packet numbers.
+#[inline(never)]
 pub fn show<T: Files, W: Write>(
     rt: &T,
     alloc: Global,
@@ -142,8 +150,11 @@ where
     ensures failed { IfErr result (λ failure. failure_status failure ≢ Status.Usage) }
     ensures silent { IfErr result (λ failure. failure ≢ Failure.Output → out.new ≡ out.old) }
 {
-    let endpoint = open_endpoint(rt, disk)?;
-    show_endpoint(alloc, &endpoint, out)
+    let disk = open_disk(rt, disk)?;
+    match &mut Endpoint::open(disk) {
+        Ok(endpoint) => show_endpoint(alloc, endpoint, out),
+        Err(refused) => Err(Failure::from(refused.fault)),
+    }
 }
 
 /// Takes a capture through an endpoint into another one.
@@ -169,6 +180,7 @@ where
 }
 
 /// `protect` and `validate`: takes a capture through an endpoint.
+#[inline(never)]
 pub fn pass<T: Files, W: Write>(
     rt: &T,
     alloc: Global,
@@ -185,20 +197,23 @@ where
     ensures failed { IfErr result (λ failure. failure_status failure ≢ Status.Usage) }
     ensures silent { IfErr result (λ failure. failure ≢ Failure.Output → out.new ≡ out.old) }
 {
-    let mut endpoint = open_endpoint(rt, disk)?;
-    pass_between(rt, alloc, &mut endpoint, direction, from, to, out)
+    let disk = open_disk(rt, disk)?;
+    match &mut Endpoint::open(disk) {
+        Ok(endpoint) => pass_between(rt, alloc, endpoint, direction, from, to, out),
+        Err(refused) => Err(Failure::from(refused.fault)),
+    }
 }
 
 /// Relays frames through an endpoint between two wires, which are bound from left to right.
-fn relay_wires<N: Net, D: SectorDisk, W: Write>(
+fn relay_wires<N: Net, F: DiskFile, W: Write>(
     net: &N,
     alloc: Global,
-    endpoint: &mut Endpoint<D>,
+    endpoint: &mut Endpoint<FileDisk<F>>,
     addresses: Addresses,
     turns: u64,
     out: &mut W,
 ) -> Result<Status, Failure>
-    ensures printed { IfOk result (λ status. (summary : RelaySummary) × Relays D.disk turns endpoint.old summary endpoint.new
+    ensures printed { IfOk result (λ status. (summary : RelaySummary) × ComesTo F.file turns summary
         × Appends (W.contents out.old) (W.contents out.new) (relay_line summary) × (status ≡ Status.Done)) }
     ensures failed { IfErr result IsAfterAddresses }
     ensures silent { IfErr result (λ failure. failure ≢ Failure.Output → out.new ≡ out.old) }
@@ -209,6 +224,7 @@ fn relay_wires<N: Net, D: SectorDisk, W: Write>(
 }
 
 /// Relays frames through the endpoint on a disk between two wires.
+#[inline(never)]
 fn relay_over<T: Files + Net, W: Write>(
     rt: &T,
     alloc: Global,
@@ -224,8 +240,11 @@ where
     ensures failed { IfErr result IsAfterAddresses }
     ensures silent { IfErr result (λ failure. failure ≢ Failure.Output → out.new ≡ out.old) }
 {
-    let mut endpoint = open_endpoint(rt, disk)?;
-    relay_wires(rt, alloc, &mut endpoint, addresses, turns, out)
+    let disk = open_disk(rt, disk)?;
+    match &mut Endpoint::open(disk) {
+        Ok(endpoint) => relay_wires(rt, alloc, endpoint, addresses, turns, out),
+        Err(refused) => Err(Failure::from(refused.fault)),
+    }
 }
 
 /// `relay`: relays frames between two wires, the first of which is the controlled side.

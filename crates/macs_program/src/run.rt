@@ -53,6 +53,7 @@ pub fn line_of<A: Allocator>(alloc: A, answer: &Answer) -> Result<String<A>, All
 }
 
 /// `open`: reads an input, and prints the answer to it.
+#[inline(never)]
 fn open_input<R: Read, W: Write>(
     alloc: Global,
     input: &mut R,

@@ -118,15 +118,7 @@ impl Rx {
     ///
     /// `next` is its next and lowest acceptable packet number, and only frames with numbers below
     /// `ceiling` are delivered as verified: 1 to 2^32 both, `next` not above `ceiling`.
-    pub fn install(
-        &mut self,
-        sci: Sci,
-        an: An,
-        key: &Key,
-        offset: Offset,
-        next: u64,
-        ceiling: u64,
-    )
+    pub fn install(&mut self, sci: Sci, an: An, key: &Key, offset: Offset, next: u64, ceiling: u64)
         requires stands { has_channel (rx_side_of self.old) sci ≡ true }
         requires empty { (rx_side_of self.old).rx sci an ≡ None }
         requires numbered { 1 ≤ next }
