@@ -16,7 +16,7 @@ ghost use Rattle.macs_program.specs.Addresses.{AddressFaultHolds, SpellsBoth, ad
 ghost use Rattle.macs_program.specs.Applying.{outcome_lines, outcomes_status};
 ghost use Rattle.macs_program.specs.Failing.{failure_status};
 ghost use Rattle.macs_program.specs.NewDisks.{Formats};
-ghost use Rattle.macs_program.specs.Relaying.{ComesTo, IsAfterAddresses, IsOfRelay};
+ghost use Rattle.macs_program.specs.Relaying.{ComesTo, IsAfterAddresses, IsOfRelay, Relays};
 ghost use Rattle.macs_program.specs.Showing.{line, show_text};
 ghost use Rattle.macs_program.specs.Summing.{relay_line, summary_line};
 ghost use Rattle.macs_program.specs.Values.{SpellsIdentity, SpellsLayout, ValueFaultHolds};
@@ -35,7 +35,7 @@ use crate::relaying::{bind, relay_frames};
 use crate::showing::show_lines;
 use crate::status::Status;
 use crate::values::given_by;
-use macs_disk::{DiskFile, FileDisk, SectorDisk};
+use macs_disk::{DiskFile, SectorDisk};
 use macs_endpoint::Endpoint;
 use macs_words::WireEnds;
 use std::alloc::Global;
@@ -205,15 +205,15 @@ where
 }
 
 /// Relays frames through an endpoint between two wires, which are bound from left to right.
-fn relay_wires<N: Net, F: DiskFile, W: Write>(
+fn relay_wires<N: Net, D: SectorDisk, W: Write>(
     net: &N,
     alloc: Global,
-    endpoint: &mut Endpoint<FileDisk<F>>,
+    endpoint: &mut Endpoint<D>,
     addresses: Addresses,
     turns: u64,
     out: &mut W,
 ) -> Result<Status, Failure>
-    ensures printed { IfOk result (λ status. (summary : RelaySummary) × ComesTo F.file turns summary
+    ensures printed { IfOk result (λ status. (summary : RelaySummary) × Relays D.disk turns endpoint.old summary endpoint.new
         × Appends (W.contents out.old) (W.contents out.new) (relay_line summary) × (status ≡ Status.Done)) }
     ensures failed { IfErr result IsAfterAddresses }
     ensures silent { IfErr result (λ failure. failure ≢ Failure.Output → out.new ≡ out.old) }
@@ -241,10 +241,12 @@ where
     ensures silent { IfErr result (λ failure. failure ≢ Failure.Output → out.new ≡ out.old) }
 {
     let disk = open_disk(rt, disk)?;
-    match &mut Endpoint::open(disk) {
-        Ok(endpoint) => relay_wires(rt, alloc, endpoint, addresses, turns, out),
-        Err(refused) => Err(Failure::from(refused.fault)),
-    }
+    let mut opened = Endpoint::open(disk);
+    let endpoint = match &mut opened {
+        Ok(endpoint) => endpoint,
+        Err(refused) => return Err(Failure::from(refused.fault)),
+    };
+    relay_wires(rt, alloc, endpoint, addresses, turns, out)
 }
 
 /// `relay`: relays frames between two wires, the first of which is the controlled side.

@@ -1,13 +1,12 @@
 use Rattle.std.proofs.lemmas.Result.{IfErr-weaker, IfOk-weaker}
-use Rattle.macs_program.proofs.Relayed.{between-new, comes-to, ends-behind}
+use Rattle.macs_program.proofs.Relayed.{between-new, ends-behind}
 use Rattle.macs_program.proofs.on_disk.relay_wires.Goals as goal
 
 pub returns-clause-printed : goal.returns-clause-printed
 returns-clause-printed g c =
     IfOk-weaker c.relay_frames.result _ _ (λ status done. let (summary, relays, printed, is) = done in (
       summary,
-      comes-to _ c.args.turns summary _ _
-          (between-new _ c.args.turns summary _ _ _ _ _ _ c.in_ok-controlled.ensures.fresh c.in_ok-common.ensures.fresh relays),
+      between-new _ c.args.turns summary _ _ _ _ _ _ c.in_ok-controlled.ensures.fresh c.in_ok-common.ensures.fresh relays,
       printed,
       is,
     )) c.relay_frames.ensures.printed
