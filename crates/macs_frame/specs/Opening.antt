@@ -18,7 +18,7 @@ clear_of encrypted offset octets = if encrypted then take offset octets else oct
 abbrev pub hidden_of : Bool → ℕ → List ℕ → List ℕ
 hidden_of encrypted offset octets = if encrypted then drop offset octets else []
 
--- the initialisation vector: SCI, then PN (14.5)
+-- the initialisation vector: SCI, then PN (14.5 and 14.6)
 abbrev pub iv_of : List ℕ → ℕ → List ℕ
 iv_of sci number = sci ++ to_be_bytes w32 number
 
@@ -30,7 +30,7 @@ secure_data frame parts = slice_range frame parts.start parts.end
 abbrev pub icv_of : List ℕ → Parts → List ℕ
 icv_of frame parts = slice_range frame parts.end (parts.end + 16)
 
--- what is authenticated and not encrypted: the addresses, the SecTAG and the Secure Data in the clear (14.5)
+-- what is authenticated and not encrypted: the addresses, the SecTAG and the Secure Data in the clear (14.5 and 14.6)
 abbrev pub additional_data : List ℕ → ℕ → Parts → List ℕ
 additional_data frame offset parts =
     take parts.start frame ++ clear_of parts.tag.encrypted offset (secure_data frame parts)

@@ -108,7 +108,7 @@ impl Pn {
 }
 
 /// The confidentiality offset: how many octets of User Data stay in the clear where the rest is
-/// encrypted (14.5).
+/// encrypted (14.5 and 14.6).
 #[derive(Debug, Clone, Copy, PartialEq, Eq)]
 pub enum Offset {
     Zero,

@@ -1,4 +1,4 @@
-//! Opening a protected frame (IEEE Std 802.1AE-2018, 10.6 and 14.5).
+//! Opening a protected frame (IEEE Std 802.1AE-2018, 10.6, 14.5 and 14.6).
 
 ghost use Rattle.std.specs.Prelude.{◌≡◌, ◌≢◌, ◌<◌, ◌≤◌, ◌+◌, ◌^◌, ◌++◌, ◌↔◌, List, ℕ, [], ◌∷◌, length, take, drop, slice_range, IsTrue, IfOk, IsSomeAnd, OnOk, OnErr};
 ghost use Rattle.std.specs.Bool.{OnFalse, OnTrue};

@@ -8,7 +8,7 @@ ghost use Rattle.macs_frame.specs.Opening.{clear_of, hidden_of, iv_of};
 use crate::fields::{Offset, Pn, Sci};
 use crate::tag::{FrameBuf, SecTag};
 
-/// The initialisation vector of a frame (14.5).
+/// The initialisation vector of a frame (14.5 and 14.6).
 pub(crate) fn iv_of(sci: Sci, number: Pn) -> [u8; 12]
     ensures { result ≡ iv_of sci number }
 {
@@ -18,7 +18,7 @@ pub(crate) fn iv_of(sci: Sci, number: Pn) -> [u8; 12]
 }
 
 /// Of the octets from `start` up to `end` behind a SecTAG, where those in the clear end; the others
-/// are encrypted (14.5).
+/// are encrypted (14.5 and 14.6).
 pub(crate) fn clear_end(tag: &SecTag, offset: Offset, start: usize, end: usize) -> usize
     requires { start ≤ end }
     ensures low { start ≤ result }

@@ -320,6 +320,17 @@ command-file = Key { at: 1, name: An }
 command-file = Extra { at: 1 }
 | command = [{do = "tx-use", an = 0, sci = ""}, {}]
 
+# A key of 128 or 256 bits has 32 or 64 digits: 48 are none, nor are 34 or 62.
+story keys of other lengths are none
+command-file = Key { at: 1, name: Key }
+| command = [{do = "tx-install", an = 0, key = "000102030405060708090a0b0c0d0e0f1011121314151617", start = 1, confidential = true, offset = 0}]
+command-file = Key { at: 1, name: Key }
+| command = [{do = "rx-install", sci = "12153524c0895e81", an = 0, key = "000102030405060708090a0b0c0d0e0f1011121314151617", start = 1, offset = 0}]
+command-file = Key { at: 1, name: Key }
+| command = [{do = "tx-install", an = 0, key = "000102030405060708090a0b0c0d0e0f10", start = 1, confidential = true, offset = 0}]
+command-file = Key { at: 1, name: Key }
+| command = [{do = "tx-install", an = 0, key = "000102030405060708090a0b0c0d0e0f101112131415161718191a1b1c1d1e", start = 1, confidential = true, offset = 0}]
+
 # Keys of 256 bits, with digits of either case. Which keys an endpoint takes is said when they are applied.
 story keys of 64 digits are read
 command-file = 2

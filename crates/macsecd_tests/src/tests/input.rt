@@ -90,6 +90,15 @@ const WRONG_LINES: &[([&str; 4], Outcome)] = &[
         ],
         KEY_FAULT,
     ),
+    (
+        [
+            "ad7a2bd03eac835a6f620fdcb506b345ad7a2bd03eac835a\r",
+            SCI,
+            "0",
+            INTEGRITY,
+        ],
+        KEY_FAULT,
+    ),
     ([KEY, "", "0", INTEGRITY], SCI_FAULT),
     ([KEY, "12153524c0895e8", "0", INTEGRITY], SCI_FAULT),
     ([KEY, "12153524c0895e8100", "0", INTEGRITY], SCI_FAULT),
