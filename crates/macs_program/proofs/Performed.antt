@@ -41,7 +41,7 @@ module _ {F W : Type 0} (state_of : F → FileState) (contents : W → Option (L
   Silent = IfErr result (λ failure. failure ≢ Output → new ≡ old)
 
   no-usage : (action : Action) → NoUsage → IfErr result (λ failure. failure_status failure ≡ ends.Usage → WrongValues action × (new ≡ old))
-  no-usage action other = IfErr-weaker result _ _ (λ failure no usage. absurd (no usage)) other
+  no-usage action other = IfErr-weaker result _ _ (λ failure never usage. absurd (never usage)) other
 
   kept : Silent → IfErr result (λ failure. failure_status failure ≡ ends.Disk → contents new ≡ contents old)
   kept silent = IfErr-weaker result _ _ (λ failure still disk. ap contents (still (of-disk failure disk))) silent
