@@ -1,5 +1,5 @@
 -- A frame that waited is settled behind a refill as it would have been at once.
-use Rattle.std.proofs.Common.{◌≡◌, ◌<◌, ◌+◌, ◌/◌, ◌==◌, ◌||◌, ◌⊎◌, inl, inr, ℕ, Bool, true, false, cond, List, [], ◌∷◌, Option, Some, None, IsSome, Ok, Err, refl, sym, ◌∙◌, ap, subst, arith}
+use Rattle.std.proofs.Common.{◌≡◌, ◌≢◌, ◌<◌, ◌+◌, ◌/◌, ◌==◌, ◌||◌, ◌⊎◌, inl, inr, ℕ, Bool, true, false, cond, List, [], ◌∷◌, Option, Some, None, IsSome, Result, Ok, Err, IfOk, refl, sym, ◌∙◌, ap, subst, arith}
 use Rattle.std.specs.Prelude.{max, IsSomeAnd}
 use Rattle.std.specs.Option.{option_and_then}
 use Rattle.std.proofs.Math.Nat.{le-max_right, max-eq_left}
@@ -29,10 +29,11 @@ use Rattle.macs_endpoint.specs.State.{Advanced, Call, Logs, Protects, Protected,
 use Rattle.macs_endpoint.specs.Step.{ArriveStep, IsStopped, RunningStep, Step, state_after_delivery, state_after_hold}
 use Rattle.macs_endpoint.specs.Value.{EndpointValue, IsSoundEndpoint, state_of}
 use Rattle.macs_endpoint.specs.declared.fault.ProtectFault.TheVariants as protect
+use Rattle.macs_endpoint.specs.declared.fault.RefillFault.{RefillFault}
 use Rattle.macs_endpoint.specs.declared.fault.Stopped.{Stopped}
 use Rattle.macs_endpoint.proofs.Rooms.{below-delivered, room-numbered, room-refilled}
 use Rattle.macs_endpoint.proofs.Seen.{below-again}
-use Rattle.macs_edge.specs.Settling.{HandsInAgain, IsSettled, Means, Settles, Waits, call_on, is_passed}
+use Rattle.macs_edge.specs.Settling.{HandsInAgain, IsSettled, Means, Settles, Waits, call_on, ending_of, is_passed}
 use Rattle.macs_edge.specs.declared.settling.Outcome.{Outcome}
 use Rattle.macs_edge.specs.declared.settling.Outcome.TheVariants as outcome
 use Rattle.macs_edge.specs.declared.settling.Side.{Side}
@@ -451,18 +452,37 @@ module _ {D : Type 0} (disk_of : D → Disk) where
     dropped_again side frame first out what waits one (reply, two, means) (inr (inr is)) =
         absurd (not_stopped side frame reply (subst (λ (w : Outcome). Means (call_on side frame) reply out w) is means) two)
 
+-- an answer settles the frame, unless it waits
+pub ended : {D : Type 0} (disk_of : D → Disk) (old new : EndpointValue D) (call : Call) (out : List ℕ) (what : Outcome) → what ≢ outcome.Waiting → IsSoundEndpoint old
+    → (reply : Reply) × IsCall disk_of old call reply new × Means call reply out what
+    → IfOk (ending_of what) (λ passes. IsSettled disk_of old call (cond passes (Some out) None) new)
+ended disk_of old new call out outcome.Passed moves sound (reply, is, settles) = at_once disk_of old new call reply (Some out) sound is settles
+ended disk_of old new call out outcome.Dropped moves sound (reply, is, settles) = at_once disk_of old new call reply None sound is settles
+ended disk_of old new call out outcome.Waiting moves sound answered = absurd (moves refl)
+ended disk_of old new call out outcome.Stopped moves sound answered = tt
+
 -- what is handed in again is settled
-pub settled-behind : {D : Type 0} (disk_of : D → Disk) (old waiting new : EndpointValue D) (side : Side) (frame out : List ℕ) (first : Reply) (what : Outcome)
+settled-behind : {D : Type 0} (disk_of : D → Disk) (old waiting filled new : EndpointValue D) (side : Side) (frame out : List ℕ) (first reply : Reply) (what : Outcome)
     → IsSoundEndpoint old → IsCall disk_of old (call_on side frame) first waiting → Waits first
-    → HandsInAgain disk_of waiting (call_on side frame) (Ok what) out new
+    → IsSoundEndpoint waiting → IsCall disk_of waiting Refills (Refilled (Ok tt)) filled
+    → IsSoundEndpoint filled → IsCall disk_of filled (call_on side frame) reply new → Means (call_on side frame) reply out what
     → IsSettled disk_of old (call_on side frame) (cond (is_passed what) (Some out) None) new
-settled-behind disk_of old waiting new side frame out first outcome.Passed sound one waits (filled, reply, sound_waiting, refills, sound_filled, two, settles) =
+settled-behind disk_of old waiting filled new side frame out first reply outcome.Passed sound one waits sound_waiting refills sound_filled two settles =
     settled_again disk_of old waiting filled new sound sound_waiting sound_filled refills side frame first reply (Some out) waits one two settles
-settled-behind disk_of old waiting new side frame out first outcome.Dropped sound one waits (filled, reply, sound_waiting, refills, sound_filled, two, means) =
+settled-behind disk_of old waiting filled new side frame out first reply outcome.Dropped sound one waits sound_waiting refills sound_filled two means =
     dropped_again disk_of old waiting filled new sound sound_waiting sound_filled refills side frame first out outcome.Dropped waits one (reply, two, means) (inl refl)
-settled-behind disk_of old waiting new side frame out first outcome.Waiting sound one waits (filled, reply, sound_waiting, refills, sound_filled, two, means) =
+settled-behind disk_of old waiting filled new side frame out first reply outcome.Waiting sound one waits sound_waiting refills sound_filled two means =
     dropped_again disk_of old waiting filled new sound sound_waiting sound_filled refills side frame first out outcome.Waiting waits one (reply, two, means)
     (inr (inl refl))
-settled-behind disk_of old waiting new side frame out first outcome.Stopped sound one waits (filled, reply, sound_waiting, refills, sound_filled, two, means) =
+settled-behind disk_of old waiting filled new side frame out first reply outcome.Stopped sound one waits sound_waiting refills sound_filled two means =
     dropped_again disk_of old waiting filled new sound sound_waiting sound_filled refills side frame first out outcome.Stopped waits one (reply, two, means)
     (inr (inr refl))
+
+-- and so where the refill was made
+pub settled-at_last : {D : Type 0} (disk_of : D → Disk) (old waiting new : EndpointValue D) (side : Side) (frame out : List ℕ) (first : Reply) (result : Result Bool RefillFault)
+    → IsSoundEndpoint old → IsCall disk_of old (call_on side frame) first waiting → Waits first
+    → HandsInAgain disk_of waiting (call_on side frame) result out new
+    → IfOk result (λ passes. IsSettled disk_of old (call_on side frame) (cond passes (Some out) None) new)
+settled-at_last disk_of old waiting new side frame out first (Err fault) sound one waits again = tt
+settled-at_last disk_of old waiting new side frame out first (Ok passes) sound one waits (what, filled, reply, is, sound_waiting, refills, sound_filled, two, means) =
+    rw is (settled-behind disk_of old waiting filled new side frame out first reply what sound one waits sound_waiting refills sound_filled two means)

@@ -1,5 +1,5 @@
 -- A frame that is handed in and not settled.
-use Rattle.std.proofs.Common.{[], ◌∷◌, Err, refl}
+use Rattle.std.proofs.Common.{Bool, List, ℕ, [], ◌∷◌, Result, Ok, Err, IfErr, refl}
 use Rattle.macs_disk.specs.Disk.{Disk}
 use Rattle.macs_endpoint.specs.Calls.{IsCall}
 use Rattle.macs_endpoint.specs.State.{Call, Refilled, Refills, Reply}
@@ -7,7 +7,9 @@ use Rattle.macs_endpoint.specs.Step.{IsStopped}
 use Rattle.macs_endpoint.specs.Value.{EndpointValue, IsSoundEndpoint}
 use Rattle.macs_endpoint.specs.declared.fault.RefillFault.{RefillFault}
 use Rattle.macs_endpoint.specs.declared.fault.RefillFault.TheVariants as refill
-use Rattle.macs_edge.specs.Settling.{Halts, Waits}
+use Rattle.macs_edge.specs.Settling.{Halts, HandsInAgain, Means, Waits, ending_of}
+use Rattle.macs_edge.specs.declared.settling.Outcome.{Outcome}
+use Rattle.macs_edge.specs.declared.settling.Outcome.TheVariants as outcome
 
 module _ {D : Type 0} (disk_of : D → Disk) (old : EndpointValue D) (call : Call) (reply : Reply) (sound : IsSoundEndpoint old) where
   -- the endpoint is stopped
@@ -26,3 +28,19 @@ module _ {D : Type 0} (disk_of : D → Disk) (old : EndpointValue D) (call : Cal
     lives = (sound, one, (sound_waiting, two, refl));
     handed = (refl, waits, refl, refl);
   }
+
+module _ {D : Type 0} (disk_of : D → Disk) (old : EndpointValue D) (call : Call) (sound : IsSoundEndpoint old) where
+  -- of the answers that do not wait this one alone ends the run
+  pub halts-at_once : (new : EndpointValue D) (out : List ℕ) (what : Outcome) → (reply : Reply) × IsCall disk_of old call reply new × Means call reply out what
+      → IfErr (ending_of what) (λ fault. Halts disk_of old call fault new)
+  halts-at_once new out outcome.Passed answered = tt
+  halts-at_once new out outcome.Dropped answered = tt
+  halts-at_once new out outcome.Waiting answered = tt
+  halts-at_once new out outcome.Stopped (reply, is, stopped) = halts-stopped disk_of old call reply sound new is stopped
+
+  -- and of those that wait the refill that is refused
+  pub halts-behind : (waiting new : EndpointValue D) (out : List ℕ) (first : Reply) (result : Result Bool RefillFault) → IsCall disk_of old call first waiting → Waits first
+      → HandsInAgain disk_of waiting call result out new → IfErr result (λ fault. Halts disk_of old call fault new)
+  halts-behind waiting new out first (Ok passes) one waits again = tt
+  halts-behind waiting new out first (Err fault) one waits (sound_waiting, refused) =
+      halts-refused disk_of old call first sound waiting new fault sound_waiting one waits refused

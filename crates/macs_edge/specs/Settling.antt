@@ -86,9 +86,17 @@ is_passed outcome.Dropped = false
 is_passed outcome.Waiting = false
 is_passed outcome.Stopped = false
 
--- A refill is made, and behind it the frame is handed in again; or the refill is refused
-abbrev pub HandsInAgain : {D : Type 0} → (D → Disk) → EndpointValue D → Call → Result Outcome RefillFault → List ℕ → EndpointValue D → Type 0
-HandsInAgain {D} disk_of old call (Ok what) out new =
-    (filled : EndpointValue D) × (reply : Reply) × IsSoundEndpoint old × IsCall disk_of old Refills (Refilled (Ok tt)) filled
+-- how handing a frame in ends by an answer, unless it waits
+abbrev pub ending_of : Outcome → Result Bool RefillFault
+ending_of outcome.Passed = Ok true
+ending_of outcome.Dropped = Ok false
+ending_of outcome.Waiting = Ok false
+ending_of outcome.Stopped = Err refill.Stopped
+
+-- A refill is made, and behind it the frame is handed in again, and whether it passes is answered; or the refill is refused
+abbrev pub HandsInAgain : {D : Type 0} → (D → Disk) → EndpointValue D → Call → Result Bool RefillFault → List ℕ → EndpointValue D → Type 0
+HandsInAgain {D} disk_of old call (Ok passes) out new =
+    (what : Outcome) × (filled : EndpointValue D) × (reply : Reply) × (passes ≡ is_passed what)
+    × IsSoundEndpoint old × IsCall disk_of old Refills (Refilled (Ok tt)) filled
     × IsSoundEndpoint filled × IsCall disk_of filled call reply new × Means call reply out what
 HandsInAgain disk_of old call (Err fault) out new = IsSoundEndpoint old × IsCall disk_of old Refills (Refilled (Err fault)) new

@@ -3,7 +3,7 @@
 ghost use Rattle.std.specs.Prelude.{◌≡◌, ◌<◌, ◌^◌, Bool, true, false, if◌then◌else◌, Some, None, IfOk, IfErr};
 ghost use Rattle.macs_endpoint.specs.Calls.{IsCall};
 ghost use Rattle.macs_endpoint.specs.State.{Reply};
-ghost use Rattle.macs_edge.specs.Settling.{Halts, HandsInAgain, IsSettled, Means, call_on, is_passed};
+ghost use Rattle.macs_edge.specs.Settling.{Halts, HandsInAgain, IsSettled, Means, call_on, ending_of, is_passed};
 
 use macs_disk::SectorDisk;
 use macs_endpoint::{Endpoint, ProtectFault, RefillFault};
@@ -66,27 +66,39 @@ fn passes(outcome: Outcome) -> bool
     matches!(outcome, Outcome::Passed)
 }
 
-/// Reserves the packet numbers that a frame waits for, and hands it in again.
+/// How handing a frame in ends by an answer, unless it waits: whether the frame passes, or that the
+/// endpoint is stopped.
+fn ending_of(outcome: Outcome) -> Result<bool, RefillFault>
+    ensures { result ≡ ending_of outcome }
+{
+    match outcome {
+        Outcome::Passed => Ok(true),
+        Outcome::Dropped | Outcome::Waiting => Ok(false),
+        Outcome::Stopped => Err(RefillFault::Stopped),
+    }
+}
+
+/// Reserves the packet numbers that a frame waits for, hands it in again, and says whether it passes. It
+/// does not wait again.
 fn hand_in_again<D: SectorDisk>(
     endpoint: &mut Endpoint<D>,
     side: Side,
     frame: &[u8],
     out: &mut FrameBuf,
-) -> Result<Outcome, RefillFault>
+) -> Result<bool, RefillFault>
     ensures { HandsInAgain D.disk endpoint.old (call_on side frame.now) result out.new.items endpoint.new }
 {
     endpoint.facts();
     match endpoint.refill() {
         Ok(()) => {
             endpoint.facts();
-            Ok(hand_in(endpoint, side, frame, out))
+            Ok(passes(hand_in(endpoint, side, frame, out)))
         }
         Err(fault) => Err(fault),
     }
 }
 
-/// Hands a frame in, and once more after a refill where it waits; and says whether a frame passes. A
-/// frame that waited does not wait again.
+/// Hands a frame in, and once more after a refill where it waits; and says whether a frame passes.
 pub(crate) fn settle<D: SectorDisk>(
     endpoint: &mut Endpoint<D>,
     side: Side,
@@ -99,13 +111,9 @@ pub(crate) fn settle<D: SectorDisk>(
         Halts D.disk endpoint.old (call_on side frame.now) fault endpoint.new) }
 {
     endpoint.facts();
-    match hand_in(endpoint, side, frame, out) {
-        Outcome::Passed => Ok(true),
-        Outcome::Dropped => Ok(false),
-        Outcome::Stopped => Err(RefillFault::Stopped),
-        Outcome::Waiting => match hand_in_again(endpoint, side, frame, out) {
-            Ok(outcome) => Ok(passes(outcome)),
-            Err(fault) => Err(fault),
-        },
+    let first = hand_in(endpoint, side, frame, out);
+    match first {
+        Outcome::Waiting => hand_in_again(endpoint, side, frame, out),
+        _ => ending_of(first),
     }
 }

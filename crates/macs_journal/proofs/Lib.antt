@@ -7,6 +7,7 @@ pub mod Ready
 pub mod Spared
 pub mod Untouched
 pub mod Appends
+pub mod AppendCalls
 pub mod Holding
 pub mod OpenGates
 pub mod HeadOpened

@@ -7,6 +7,7 @@ pub mod FirstFault
 pub mod HexDigits
 pub mod Looks
 pub mod Opened
+pub mod Performed
 pub mod Printing
 pub mod Relayed
 pub mod Shown

@@ -1,5 +1,5 @@
 -- How a run of the program ends.
-use Rattle.std.specs.Prelude.{◌≡◌, ◌⊎◌, true, ℕ, List, Option, option_map, IfSome, codes}
+use Rattle.std.specs.Prelude.{◌≡◌, ◌≢◌, ◌⊎◌, true, ℕ, List, Option, option_map, IfErr, IfOk, IfSome, Result, codes}
 use Rattle.std.specs.Io.KnownBytes.{Appends}
 use Rattle.clap.specs.Words.{Text, subcommand_of, takes}
 use Rattle.macs_config.specs.Identity.{Identity}
@@ -12,6 +12,7 @@ use Rattle.macs_endpoint.specs.State.{State}
 use Rattle.macs_program.specs.Addresses.{AddressFaultHolds, SpellsBoth}
 use Rattle.macs_program.specs.Answer.{Answers, answer_status, answer_text}
 use Rattle.macs_program.specs.Applying.{outcome_lines, outcomes_status}
+use Rattle.macs_program.specs.Failing.{failure_status}
 use Rattle.macs_words.specs.Help.{topic_text}
 use Rattle.macs_program.specs.NewDisks.{Formats}
 use Rattle.macs_program.specs.Relaying.{ComesTo}
@@ -24,6 +25,7 @@ use Rattle.macs_words.specs.declared.action.Action.TheVariants.{Open, Format, Ap
 use Rattle.macs_program.specs.declared.addresses.AddressFault.{AddressFault}
 use Rattle.macs_program.specs.declared.answer.Answer.{Answer}
 use Rattle.macs_program.specs.declared.capturing.Direction.TheVariants as direction
+use Rattle.macs_program.specs.declared.failure.Failure.{Failure}
 use Rattle.macs_words.specs.declared.help.Topic.{Topic}
 use Rattle.macs_program.specs.declared.status.Status.{Status}
 use Rattle.macs_program.specs.declared.status.Status.TheVariants as ends
@@ -71,6 +73,15 @@ WrongValues (Format disk sci tx_block rx_block block is_over) =
     (fault : ValueFault) × ValueFaultHolds sci.now tx_block rx_block (option_map (λ text. text.now) block) fault
 WrongValues (Relay disk controlled common turns) = (fault : AddressFault) × AddressFaultHolds controlled common fault
 WrongValues action = ⊥
+
+-- An action is done, with a status of these two, or fails. A failure that is told as wrong usage is that of a wrong value, and nothing was
+-- printed; one of the disk is that of another action than `open`
+pub record Performs {F W : Type 0} (state_of : F → FileState) (contents : W → Option (List ℕ)) (action : Action) (input : Option (List ℕ)) (old : W)
+    (result : Result Status Failure) (new : W) : Type 0 where
+  pub does : IfOk result (Does state_of action input (contents old) (contents new))
+  pub status : IfOk result (λ end. (end ≡ ends.Done) ⊎ (end ≡ ends.Refused))
+  pub usage : IfErr result (λ failure. failure_status failure ≡ ends.Usage → WrongValues action × (new ≡ old))
+  pub disk : IfErr result (λ failure. failure_status failure ≡ ends.Disk → (action ≢ Open) × HasPrinted action (contents old) (contents new))
 
 -- the words name an action with such a value
 abbrev pub HasWrongValues : List Text → Type 0

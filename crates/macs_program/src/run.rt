@@ -5,7 +5,7 @@ ghost use Rattle.std.specs.Io.KnownBytes.{Appends};
 ghost use Rattle.clap.specs.Words.{subcommand_of, takes};
 ghost use Rattle.macs_program.specs.Answer.{answer_text};
 ghost use Rattle.macs_program.specs.Failing.{failure_status};
-ghost use Rattle.macs_program.specs.Run.{Does, HasPrinted, HasWrongValues, Prints, Replies, WrongValues, code_of};
+ghost use Rattle.macs_program.specs.Run.{HasPrinted, HasWrongValues, Performs, Prints, Replies, code_of};
 ghost use Rattle.macs_words.specs.Words.{AsksForNothing, Names, macsecd, texts};
 ghost use Rattle.macs_words.specs.declared.action.Action.{Action};
 ghost use Rattle.macs_program.specs.declared.status.Status.{Status};
@@ -80,12 +80,7 @@ fn perform<T: Files + Net, R: Read, W: Write>(
 ) -> Result<Status, Failure>
 where
     T::File: CaptureFile,
-    ensures does { IfOk result (Does T.File.file action.entry (R.remaining input.old) (W.contents out.old) (W.contents out.new)) }
-    ensures status { IfOk result (λ status. (status ≡ Status.Done) ⊎ (status ≡ Status.Refused)) }
-    ensures usage { IfErr result (λ failure. failure_status failure ≡ Status.Usage
-        → WrongValues action.entry × (out.new ≡ out.old)) }
-    ensures disk { IfErr result (λ failure. failure_status failure ≡ Status.Disk → (action.entry ≢ Action.Open)
-        × HasPrinted action.entry (W.contents out.old) (W.contents out.new)) }
+    ensures performs { Performs T.File.file W.contents action.entry (R.remaining input.old) out.old result out.new }
     ensures unread { action.entry ≢ Action.Open → input.new ≡ input.old }
 {
     match action {

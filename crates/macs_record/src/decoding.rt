@@ -79,16 +79,96 @@ fn read_one_field(kind: Kind, from: &mut Reader<'_>) -> Option<Record>
         → (result ≡ Some r) × (from.new ≡ rest) }
 {
     match kind {
-        Kind::Channel => Some(Record::Channel { sci: from.sci()? }),
-        Kind::SetValidate => Some(Record::SetValidate(from.validate()?)),
-        Kind::SetReplay => Some(Record::SetReplay(from.replay()?)),
-        Kind::SetSciMode => Some(Record::SetSciMode(from.sci_mode()?)),
-        Kind::TxUse => Some(Record::TxUse { an: from.an()? }),
-        Kind::TxRemove => Some(Record::TxRemove { an: from.an()? }),
-        Kind::RxAdd => Some(Record::RxAdd { sci: from.sci()? }),
-        Kind::RxDrop => Some(Record::RxDrop { sci: from.sci()? }),
+        Kind::Channel => read_channel(from),
+        Kind::SetValidate => read_set_validate(from),
+        Kind::SetReplay => read_set_replay(from),
+        Kind::SetSciMode => read_set_sci_mode(from),
+        Kind::TxUse => read_tx_use(from),
+        Kind::TxRemove => read_tx_remove(from),
+        Kind::RxAdd => read_rx_add(from),
+        Kind::RxDrop => read_rx_drop(from),
         _ => None,
     }
+}
+
+/// Reads a receive channel of a snapshot.
+fn read_channel(from: &mut Reader<'_>) -> Option<Record>
+    ensures some { IfSome result (λ r. IsRecord r × (kind_of r ≡ kinds.Channel) × (from.old ≡ fields_of r ++ from.new)) }
+    ensures found { (r : Record) (rest : List ℕ) → IsRecord r → kind_of r ≡ kinds.Channel → from.old ≡ fields_of r ++ rest
+        → (result ≡ Some r) × (from.new ≡ rest) }
+{
+    let sci = from.sci()?;
+    Some(Record::Channel { sci })
+}
+
+/// Reads how frames are validated from now on.
+fn read_set_validate(from: &mut Reader<'_>) -> Option<Record>
+    ensures some { IfSome result (λ r. IsRecord r × (kind_of r ≡ kinds.SetValidate) × (from.old ≡ fields_of r ++ from.new)) }
+    ensures found { (r : Record) (rest : List ℕ) → IsRecord r → kind_of r ≡ kinds.SetValidate → from.old ≡ fields_of r ++ rest
+        → (result ≡ Some r) × (from.new ≡ rest) }
+{
+    let validate = from.validate()?;
+    Some(Record::SetValidate(validate))
+}
+
+/// Reads the replay protection from now on.
+fn read_set_replay(from: &mut Reader<'_>) -> Option<Record>
+    ensures some { IfSome result (λ r. IsRecord r × (kind_of r ≡ kinds.SetReplay) × (from.old ≡ fields_of r ++ from.new)) }
+    ensures found { (r : Record) (rest : List ℕ) → IsRecord r → kind_of r ≡ kinds.SetReplay → from.old ≡ fields_of r ++ rest
+        → (result ≡ Some r) × (from.new ≡ rest) }
+{
+    let replay = from.replay()?;
+    Some(Record::SetReplay(replay))
+}
+
+/// Reads how frames name their channel from now on.
+fn read_set_sci_mode(from: &mut Reader<'_>) -> Option<Record>
+    ensures some { IfSome result (λ r. IsRecord r × (kind_of r ≡ kinds.SetSciMode) × (from.old ≡ fields_of r ++ from.new)) }
+    ensures found { (r : Record) (rest : List ℕ) → IsRecord r → kind_of r ≡ kinds.SetSciMode → from.old ≡ fields_of r ++ rest
+        → (result ≡ Some r) × (from.new ≡ rest) }
+{
+    let sci_mode = from.sci_mode()?;
+    Some(Record::SetSciMode(sci_mode))
+}
+
+/// Reads the transmit association that encodes from now on.
+fn read_tx_use(from: &mut Reader<'_>) -> Option<Record>
+    ensures some { IfSome result (λ r. IsRecord r × (kind_of r ≡ kinds.TxUse) × (from.old ≡ fields_of r ++ from.new)) }
+    ensures found { (r : Record) (rest : List ℕ) → IsRecord r → kind_of r ≡ kinds.TxUse → from.old ≡ fields_of r ++ rest
+        → (result ≡ Some r) × (from.new ≡ rest) }
+{
+    let an = from.an()?;
+    Some(Record::TxUse { an })
+}
+
+/// Reads a transmit association that goes.
+fn read_tx_remove(from: &mut Reader<'_>) -> Option<Record>
+    ensures some { IfSome result (λ r. IsRecord r × (kind_of r ≡ kinds.TxRemove) × (from.old ≡ fields_of r ++ from.new)) }
+    ensures found { (r : Record) (rest : List ℕ) → IsRecord r → kind_of r ≡ kinds.TxRemove → from.old ≡ fields_of r ++ rest
+        → (result ≡ Some r) × (from.new ≡ rest) }
+{
+    let an = from.an()?;
+    Some(Record::TxRemove { an })
+}
+
+/// Reads a new receive channel.
+fn read_rx_add(from: &mut Reader<'_>) -> Option<Record>
+    ensures some { IfSome result (λ r. IsRecord r × (kind_of r ≡ kinds.RxAdd) × (from.old ≡ fields_of r ++ from.new)) }
+    ensures found { (r : Record) (rest : List ℕ) → IsRecord r → kind_of r ≡ kinds.RxAdd → from.old ≡ fields_of r ++ rest
+        → (result ≡ Some r) × (from.new ≡ rest) }
+{
+    let sci = from.sci()?;
+    Some(Record::RxAdd { sci })
+}
+
+/// Reads a receive channel that goes.
+fn read_rx_drop(from: &mut Reader<'_>) -> Option<Record>
+    ensures some { IfSome result (λ r. IsRecord r × (kind_of r ≡ kinds.RxDrop) × (from.old ≡ fields_of r ++ from.new)) }
+    ensures found { (r : Record) (rest : List ℕ) → IsRecord r → kind_of r ≡ kinds.RxDrop → from.old ≡ fields_of r ++ rest
+        → (result ≡ Some r) × (from.new ≡ rest) }
+{
+    let sci = from.sci()?;
+    Some(Record::RxDrop { sci })
 }
 
 /// Reads the settings of a snapshot.

@@ -8,7 +8,7 @@ use crate::SECTOR;
 use crate::ceiling::Ceiling;
 use crate::record::Record;
 use crate::writing::Writer;
-use macs_config::{RxSa, TxSa};
+use macs_config::{Fingerprints, Replay, Role, RxSa, SciMode, TxSa, Validate};
 use macs_frame::{An, Pn, Sci};
 
 /// What the sector of a record begins with.
@@ -34,11 +34,7 @@ fn write_fields(value: &Record, to: Writer) -> Writer
             replay,
             sci_mode,
             encoding,
-        } => to
-            .validate(*validate)
-            .replay(*replay)
-            .sci_mode(*sci_mode)
-            .encoding(*encoding),
+        } => write_settings(*validate, *replay, *sci_mode, *encoding, to),
         Record::TxSa { an, sa, ceiling } => write_tx_sa(*an, sa, *ceiling, to),
         Record::Channel { sci } | Record::RxAdd { sci } | Record::RxDrop { sci } => to.sci(*sci),
         Record::RxSa {
@@ -47,17 +43,34 @@ fn write_fields(value: &Record, to: Writer) -> Writer
             sa,
             ceiling,
         } => write_rx_sa(*sci, *an, sa, *ceiling, to),
-        Record::Spent { role, fingerprints } => to.role(*role).fingerprints(fingerprints),
+        Record::Spent { role, fingerprints } => write_spent(*role, fingerprints, to),
         Record::SetValidate(validate) => to.validate(*validate),
         Record::SetReplay(replay) => to.replay(*replay),
         Record::SetSciMode(sci_mode) => to.sci_mode(*sci_mode),
         Record::TxInstall { an, sa, start } => write_tx_install(*an, sa, *start, to),
         Record::TxUse { an } | Record::TxRemove { an } => to.an(*an),
         Record::RxInstall { sci, an, sa, start } => write_rx_install(*sci, *an, sa, *start, to),
-        Record::RxRemove { sci, an } => to.sci(*sci).an(*an),
-        Record::TxCeiling { an, ceiling } => to.an(*an).ceiling(*ceiling),
-        Record::RxCeiling { sci, an, ceiling } => to.sci(*sci).an(*an).ceiling(*ceiling),
+        Record::RxRemove { sci, an } => write_rx_remove(*sci, *an, to),
+        Record::TxCeiling { an, ceiling } => write_tx_ceiling(*an, *ceiling, to),
+        Record::RxCeiling { sci, an, ceiling } => write_rx_ceiling(*sci, *an, *ceiling, to),
     }
+}
+
+/// Writes the settings of a snapshot.
+fn write_settings(
+    validate: Validate,
+    replay: Replay,
+    sci_mode: SciMode,
+    encoding: Option<An>,
+    to: Writer,
+) -> Writer
+    requires room { length to ≤ 5 }
+    ensures { result ≡ to ++ fields_of (recorded.Settings validate replay sci_mode encoding) }
+{
+    to.validate(validate)
+        .replay(replay)
+        .sci_mode(sci_mode)
+        .encoding(encoding)
 }
 
 /// Writes a transmit association of a snapshot.
@@ -83,6 +96,14 @@ fn write_rx_sa(sci: Sci, an: An, sa: &RxSa, ceiling: Ceiling, to: Writer) -> Wri
         .offset(sa.offset)
 }
 
+/// Writes spent keys of a snapshot.
+fn write_spent(role: Role, fingerprints: &Fingerprints, to: Writer) -> Writer
+    requires room { length to ≤ 5 }
+    ensures { result ≡ to ++ fields_of (recorded.Spent role fingerprints.now) }
+{
+    to.role(role).fingerprints(fingerprints)
+}
+
 /// Writes a new transmit association.
 fn write_tx_install(an: An, sa: &TxSa, start: Pn, to: Writer) -> Writer
     requires room { length to ≤ 5 }
@@ -104,4 +125,28 @@ fn write_rx_install(sci: Sci, an: An, sa: &RxSa, start: Pn, to: Writer) -> Write
         .octets(sa.key.as_slice())
         .start(start)
         .offset(sa.offset)
+}
+
+/// Writes a receive association that goes.
+fn write_rx_remove(sci: Sci, an: An, to: Writer) -> Writer
+    requires room { length to ≤ 5 }
+    ensures { result ≡ to ++ fields_of (recorded.RxRemove sci an) }
+{
+    to.sci(sci).an(an)
+}
+
+/// Writes the raised ceiling of a transmit association.
+fn write_tx_ceiling(an: An, ceiling: Ceiling, to: Writer) -> Writer
+    requires room { length to ≤ 5 }
+    ensures { result ≡ to ++ fields_of (recorded.TxCeiling an ceiling) }
+{
+    to.an(an).ceiling(ceiling)
+}
+
+/// Writes the raised ceiling of a receive association.
+fn write_rx_ceiling(sci: Sci, an: An, ceiling: Ceiling, to: Writer) -> Writer
+    requires room { length to ≤ 5 }
+    ensures { result ≡ to ++ fields_of (recorded.RxCeiling sci an ceiling) }
+{
+    to.sci(sci).an(an).ceiling(ceiling)
 }

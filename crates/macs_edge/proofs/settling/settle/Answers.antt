@@ -1,30 +1,26 @@
 use Rattle.macs_edge.specs.Settling.{call_on}
-use Rattle.macs_edge.proofs.Again.{at_once, settled-behind}
-use Rattle.macs_edge.proofs.Halting.{halts-refused, halts-stopped}
+use Rattle.macs_edge.proofs.Again.{ended, settled-at_last}
+use Rattle.macs_edge.proofs.Halting.{halts-at_once, halts-behind}
 use Rattle.macs_edge.proofs.settling.settle.Goals as goal
 
-pub returns-in-Passed-clause-settled : goal.returns-in-Passed-clause-settled
-returns-in-Passed-clause-settled g c =
-    let (reply, call, settles) = c.in-Passed.ensures in
-    at_once g.D.SectorDisk.disk _ _ (call_on c.args.side c.args.frame.now) reply _ c.facts.ensures call settles
-
-pub returns-in-Dropped-clause-settled : goal.returns-in-Dropped-clause-settled
-returns-in-Dropped-clause-settled g c =
-    let (reply, call, settles) = c.in-Dropped.ensures in
-    at_once g.D.SectorDisk.disk _ _ (call_on c.args.side c.args.frame.now) reply _ c.facts.ensures call settles
-
-pub returns-in-Stopped-clause-fault : goal.returns-in-Stopped-clause-fault
-returns-in-Stopped-clause-fault g c =
-    let (reply, call, stopped) = c.in-Stopped.ensures in
-    halts-stopped g.D.SectorDisk.disk _ (call_on c.args.side c.args.frame.now) reply c.facts.ensures _ call stopped
-
-pub returns-in-Ok-clause-settled : goal.returns-in-Ok-clause-settled
-returns-in-Ok-clause-settled g c =
+pub returns-in-Waiting-clause-settled : goal.returns-in-Waiting-clause-settled
+returns-in-Waiting-clause-settled g c =
     let (first, one, waits) = c.in-Waiting.ensures in
-    rw c.passes.ensures (settled-behind g.D.SectorDisk.disk _ _ _ c.args.side c.args.frame.now _ first _ c.facts.ensures one waits c.in-Ok.ensures)
+    settled-at_last g.D.SectorDisk.disk c.args.endpoint.now c.hand_in-first.new.endpoint c.hand_in_again.new.endpoint c.args.side c.args.frame.now
+    c.hand_in_again.new.out.items first c.hand_in_again.result c.facts.ensures one waits c.hand_in_again.ensures
 
-pub returns-in-Err-clause-fault : goal.returns-in-Err-clause-fault
-returns-in-Err-clause-fault g c =
+pub returns-in-Waiting-clause-fault : goal.returns-in-Waiting-clause-fault
+returns-in-Waiting-clause-fault g c =
     let (first, one, waits) = c.in-Waiting.ensures in
-    let (sound, refused) = c.in-Err.ensures in
-    halts-refused g.D.SectorDisk.disk _ (call_on c.args.side c.args.frame.now) first c.facts.ensures _ _ _ sound one waits refused
+    halts-behind g.D.SectorDisk.disk c.args.endpoint.now (call_on c.args.side c.args.frame.now) c.facts.ensures c.hand_in-first.new.endpoint
+    c.hand_in_again.new.endpoint c.hand_in_again.new.out.items first c.hand_in_again.result one waits c.hand_in_again.ensures
+
+pub returns-in_default-clause-settled : goal.returns-in_default-clause-settled
+returns-in_default-clause-settled g c =
+    rw c.ending_of.ensures (ended g.D.SectorDisk.disk c.args.endpoint.now c.hand_in-first.new.endpoint (call_on c.args.side c.args.frame.now)
+    c.hand_in-first.new.out.items c.hand_in-first.result c.in_default.not-Waiting c.facts.ensures c.hand_in-first.ensures)
+
+pub returns-in_default-clause-fault : goal.returns-in_default-clause-fault
+returns-in_default-clause-fault g c =
+    rw c.ending_of.ensures (halts-at_once g.D.SectorDisk.disk c.args.endpoint.now (call_on c.args.side c.args.frame.now) c.facts.ensures
+    c.hand_in-first.new.endpoint c.hand_in-first.new.out.items c.hand_in-first.result c.hand_in-first.ensures)

@@ -16,12 +16,12 @@ returns-in-Some-clause-replied g c =
 pub returns-clause-replied : goal.returns-clause-replied
 returns-clause-replied g c =
     let known = taken_without_fault (texts c.args.words.now) c.in_ok-action.ensures.refused in
-    IfOk-weaker c.perform.result _ _ (λ status done. inr (known, c.in_ok-action.action, c.in_ok-action.ensures.read, done)) c.perform.ensures.does
+    IfOk-weaker c.perform.result _ _ (λ status done. inr (known, c.in_ok-action.action, c.in_ok-action.ensures.read, done)) c.perform.ensures.performs.does
 
 pub returns-clause-disk : goal.returns-clause-disk
 returns-clause-disk g c =
     let known = taken_without_fault (texts c.args.words.now) c.in_ok-action.ensures.refused in
-    IfErr-weaker c.perform.result _ _ (λ failure other disk. (known, c.in_ok-action.action, c.in_ok-action.ensures.read, (other disk).0, (other disk).1)) c.perform.ensures.disk
+    IfErr-weaker c.perform.result _ _ (λ failure other disk. (known, c.in_ok-action.action, c.in_ok-action.ensures.read, (other disk).0, (other disk).1)) c.perform.ensures.performs.disk
 
 pub returns-in_err-action-clause-usage : goal.returns-in_err-action-clause-usage
 returns-in_err-action-clause-usage g c =
@@ -31,9 +31,12 @@ returns-in_err-action-clause-usage g c =
 
 pub returns-clause-usage : goal.returns-clause-usage
 returns-clause-usage g c =
-    IfErr-weaker c.perform.result _ _ (λ failure wrong usage. (inr (c.in_ok-action.action, c.in_ok-action.ensures.read, (wrong usage).0), (wrong usage).1)) c.perform.ensures.usage
+    IfErr-weaker c.perform.result _ _ (λ failure wrong usage. (inr (c.in_ok-action.action, c.in_ok-action.ensures.read, (wrong usage).0), (wrong usage).1)) c.perform.ensures.performs.usage
 
 pub returns-clause-unread : goal.returns-clause-unread
 returns-clause-unread g c = λ refused.
     let known = taken_without_fault (texts c.args.words.now) c.in_ok-action.ensures.refused in
     c.perform.ensures.unread (λ is. refused (known, subst (λ (a : Action). Names (subcommand_of macsecd (texts c.args.words.now)) a) is c.in_ok-action.ensures.read))
+
+pub returns-clause-status : goal.returns-clause-status
+returns-clause-status g c = c.perform.ensures.performs.status

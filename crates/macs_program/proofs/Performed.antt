@@ -1,0 +1,116 @@
+-- What each subcommand comes to, as the doing of an action.
+use Rattle.std.proofs.Common.{Bor, ◌≡◌, ◌≢◌, ◌⊎◌, inl, inr, ℕ, List, Bool, true, false, if◌then◌else◌, Option, IfSome, Result, IfErr, IfOk, refl, sym, ◌∙◌, ap}
+use Rattle.std.specs.Io.KnownBytes.{Appends}
+use Rattle.std.specs.List.{list_any}
+use Rattle.std.specs.Prelude.{is_some}
+use Rattle.std.proofs.lemmas.Result.{IfErr-weaker, IfOk-weaker}
+use Rattle.macs_config.specs.declared.refusal.Refusal.{Refusal}
+use Rattle.macs_disk.specs.Files.{FileState}
+use Rattle.macs_program.specs.Applying.{outcome_lines, outcomes_status}
+use Rattle.macs_program.specs.Failing.{failure_status}
+use Rattle.macs_program.specs.Run.{Does, HasPrinted, Performs, Prints, WrongValues}
+use Rattle.macs_program.specs.declared.failure.Failure.{Failure}
+use Rattle.macs_program.specs.declared.failure.Failure.TheVariants.{Output}
+use Rattle.macs_program.specs.declared.status.Status.{Status}
+use Rattle.macs_program.specs.declared.status.Status.TheVariants as ends
+use Rattle.macs_words.specs.declared.action.Action.{Action}
+use Rattle.macs_words.specs.declared.action.Action.TheVariants.{Open, Format, Apply, Show, Protect, Validate, Relay}
+use Rattle.macs_words.specs.declared.action.WireEnds.{WireEnds}
+
+-- a failure of the disk is none of the output
+of-disk : (failure : Failure) → failure_status failure ≡ ends.Disk → failure ≢ Output
+of-disk failure disk is = let e = sym disk ∙ ap failure_status is in cc
+
+done-or-refused : (refused : Bool) → ((if refused then ends.Refused else ends.Done) ≡ ends.Done) ⊎ ((if refused then ends.Refused else ends.Done) ≡ ends.Refused)
+done-or-refused true = inr refl
+done-or-refused false = inl refl
+
+applied-status : (outcomes : List (Option Refusal)) (status : Status) → status ≡ outcomes_status outcomes → (status ≡ ends.Done) ⊎ (status ≡ ends.Refused)
+applied-status outcomes status is = elim (done-or-refused (list_any is_some outcomes)) [
+  | inl done ↦ inl (is ∙ done)
+  | inr refused ↦ inr (is ∙ refused)
+]
+
+module _ {F W : Type 0} (state_of : F → FileState) (contents : W → Option (List ℕ)) (input : Option (List ℕ)) (old : W) (result : Result Status Failure) (new : W) where
+  -- it is not told as wrong usage
+  abbrev NoUsage : Type 0
+  NoUsage = IfErr result (λ failure. failure_status failure ≢ ends.Usage)
+
+  -- nothing is printed by a failure, unless it is one of the output
+  abbrev Silent : Type 0
+  Silent = IfErr result (λ failure. failure ≢ Output → new ≡ old)
+
+  no-usage : (action : Action) → NoUsage → IfErr result (λ failure. failure_status failure ≡ ends.Usage → WrongValues action × (new ≡ old))
+  no-usage action other = IfErr-weaker result _ _ (λ failure never usage. absurd (never usage)) other
+
+  kept : Silent → IfErr result (λ failure. failure_status failure ≡ ends.Disk → contents new ≡ contents old)
+  kept silent = IfErr-weaker result _ _ (λ failure still disk. ap contents (still (of-disk failure disk))) silent
+
+  pub opens : IfOk result (λ status. IfSome input (λ octets. Prints octets (contents old) (contents new) status))
+      → IfOk result (λ status. (status ≡ ends.Done) ⊎ (status ≡ ends.Refused)) → IfErr result (λ failure. failure_status failure ≡ ends.Fault)
+      → Performs state_of contents Open input old result new
+  opens printed status failed = record {
+    does = printed;
+    status = status;
+    usage = IfErr-weaker result _ _ (λ failure fault usage. absurd (let e = sym fault ∙ usage in cc)) failed;
+    disk = IfErr-weaker result _ _ (λ failure fault disk. absurd (let e = sym fault ∙ disk in cc)) failed;
+  }
+
+  pub formats : (disk sci : Bor (List ℕ)) (tx_block rx_block : ℕ) (block : Option (Bor (List ℕ))) (is_over : Bool)
+      → IfOk result (Does state_of (Format disk sci tx_block rx_block block is_over) input (contents old) (contents new))
+      → IfErr result (λ failure. failure_status failure ≡ ends.Usage → WrongValues (Format disk sci tx_block rx_block block is_over) × (new ≡ old)) → Silent
+      → Performs state_of contents (Format disk sci tx_block rx_block block is_over) input old result new
+  formats disk sci tx_block rx_block block is_over done usage silent = record {
+    does = done;
+    status = IfOk-weaker result _ _ (λ status all. let (identity, sci_is, layout, layout_is, formatted, printed, is) = all in inl is) done;
+    usage = usage;
+    disk = IfErr-weaker result _ _ (λ failure same disk. ((λ is. absurd cc), same disk)) (kept silent);
+  }
+
+  pub applies : (disk file : Bor (List ℕ)) → IfOk result (Does state_of (Apply disk file) input (contents old) (contents new)) → NoUsage
+      → IfErr result (λ failure. failure ≢ Output → (outcomes : List (Option Refusal)) × Appends (contents old) (contents new) (outcome_lines 1 outcomes))
+      → Performs state_of contents (Apply disk file) input old result new
+  applies disk file done other lines = record {
+    does = done;
+    status = IfOk-weaker result _ _ (λ status all. let (outcomes, printed, is) = all in applied-status outcomes status is) done;
+    usage = no-usage (Apply disk file) other;
+    disk = IfErr-weaker result _ _ (λ failure printed disk. ((λ is. absurd cc), printed (of-disk failure disk))) lines;
+  }
+
+  pub shows : (disk : Bor (List ℕ)) → IfOk result (Does state_of (Show disk) input (contents old) (contents new)) → NoUsage → Silent
+      → Performs state_of contents (Show disk) input old result new
+  shows disk done other silent = record {
+    does = done;
+    status = IfOk-weaker result _ _ (λ status all. let (s, printed, is) = all in inl is) done;
+    usage = no-usage (Show disk) other;
+    disk = IfErr-weaker result _ _ (λ failure same disk. ((λ is. absurd cc), same disk)) (kept silent);
+  }
+
+  pub protects : (disk from to : Bor (List ℕ)) → IfOk result (Does state_of (Protect disk from to) input (contents old) (contents new)) → NoUsage → Silent
+      → Performs state_of contents (Protect disk from to) input old result new
+  protects disk from to done other silent = record {
+    does = done;
+    status = IfOk-weaker result _ _ (λ status all. let (summary, printed, is) = all in inl is) done;
+    usage = no-usage (Protect disk from to) other;
+    disk = IfErr-weaker result _ _ (λ failure same disk. ((λ is. absurd cc), same disk)) (kept silent);
+  }
+
+  pub validates : (disk from to : Bor (List ℕ)) → IfOk result (Does state_of (Validate disk from to) input (contents old) (contents new)) → NoUsage → Silent
+      → Performs state_of contents (Validate disk from to) input old result new
+  validates disk from to done other silent = record {
+    does = done;
+    status = IfOk-weaker result _ _ (λ status all. let (summary, printed, is) = all in inl is) done;
+    usage = no-usage (Validate disk from to) other;
+    disk = IfErr-weaker result _ _ (λ failure same disk. ((λ is. absurd cc), same disk)) (kept silent);
+  }
+
+  pub relays : (disk : Bor (List ℕ)) (controlled common : WireEnds) (turns : ℕ)
+      → IfOk result (Does state_of (Relay disk controlled common turns) input (contents old) (contents new))
+      → IfErr result (λ failure. failure_status failure ≡ ends.Usage → WrongValues (Relay disk controlled common turns) × (new ≡ old)) → Silent
+      → Performs state_of contents (Relay disk controlled common turns) input old result new
+  relays disk controlled common turns done usage silent = record {
+    does = done;
+    status = IfOk-weaker result _ _ (λ status all. let (summary, comes, spelled, printed, is) = all in inl is) done;
+    usage = usage;
+    disk = IfErr-weaker result _ _ (λ failure same disk. ((λ is. absurd cc), same disk)) (kept silent);
+  }
