@@ -36,6 +36,13 @@ pub record Begins {D : Type 0} (store : StoreValue D) (e : EndpointValue D) : Ty
   pub rx_counters : rxsc.counters_of e.rx ≡ counting.no_counts
   pub channel_counters : rxsc.channel_counters_of e.rx ≡ new_channel_counters (standing_in store).config.channels
 
+-- what comes of an opened store, or of a refusal, which stays as it was
+abbrev pub BeginsOpened : {D : Type 0} → Result (StoreValue D) (RecoverRefused D) → Result (EndpointValue D) (RecoverRefused D) → Type 0
+BeginsOpened (Ok store) (Ok e) = Begins store e
+BeginsOpened (Ok store) (Err left) = ⊥
+BeginsOpened (Err refused) (Ok e) = ⊥
+BeginsOpened (Err refused) (Err left) = left ≡ refused
+
 -- A disk is opened to this endpoint. It is in the state of one that begins with what stands in its store, after whatever logs, no work is in
 -- hand, and nothing is counted. On an honest disk the disk stood for that, and holds it.
 pub record Opens {D : Type 0} (disk_of : D → Disk) (disk : D) (e : EndpointValue D) : Type 0 where

@@ -1,13 +1,13 @@
 //! An endpoint: its channels and its store.
 
-ghost use Rattle.std.specs.Prelude.{◌≡◌, [], IsOk, false};
+ghost use Rattle.std.specs.Prelude.{◌≡◌, [], IfOk, IsOk, false};
 ghost use Rattle.std.specs.Option.{option_map};
 ghost use Rattle.macs_config.specs.Value.{config_of};
 ghost use Rattle.macs_rxsc.specs.Receive.{Numbers};
 ghost use Rattle.macs_store.specs.Standing.{accept};
 ghost use Rattle.macs_store.specs.Value.{IsIdle, standing_in};
 ghost use Rattle.macs_endpoint.specs.Calls.{IsCall};
-ghost use Rattle.macs_endpoint.specs.Opening.{Begins, IsOpening};
+ghost use Rattle.macs_endpoint.specs.Opening.{Begins, BeginsOpened, IsOpening};
 ghost use Rattle.macs_endpoint.specs.Keeping.{KeepsCommand};
 ghost use Rattle.macs_endpoint.specs.Parts.{endpoint_of};
 ghost use Rattle.macs_endpoint.specs.Value.{EndpointValue, IsSoundEndpoint, device_in, is_stopped, state_of};
@@ -55,11 +55,20 @@ impl<D: SectorDisk> Endpoint<D> {
     /// Opens a disk: makes sure of what reads give by one sync, and then only reads. The packet numbers
     /// of each association begin at its ceiling, and nothing is counted. Refused as `TooSmall`, then as
     /// `Disk` at the first call that fails, `NotFormatted` and `BadJournal`; the disk is given back.
-    #[inline(never)]
+    #[inline(always)] // Else it has a place of its own for the endpoint, beside its caller's.
     pub fn open(disk: D) -> Result<Endpoint<D>, OpenRefused<D>>
         ensures { IsOpening D.disk disk result }
     {
-        match Store::open(disk) {
+        Endpoint::begun(Store::open(disk))
+    }
+
+    /// What comes of an opened store that has nothing in hand, or of a refusal.
+    #[inline(never)] // What it takes of the stack is not there while the disk is read.
+    fn begun(opened: Result<Store<D>, OpenRefused<D>>) -> Result<Endpoint<D>, OpenRefused<D>>
+        requires { IfOk opened IsIdle }
+        ensures { BeginsOpened opened result }
+    {
+        match opened {
             Ok(store) => Ok(Endpoint::over(store)),
             Err(refused) => Err(refused),
         }

@@ -1,7 +1,8 @@
 //! What each subcommand does that has a disk file.
 //!
 //! An endpoint is large. It stays where its opening answers it, and each subcommand has it in a call of its own, so that
-//! the stack holds one at a time.
+//! the stack holds one at a time. What a subcommand does with it is a function that is not inlined: else the compiler
+//! has a second place for it.
 
 ghost use Rattle.std.specs.Prelude.{◌≡◌, ◌≢◌, ◌⊎◌, ◌↔◌, List, Option, codes, option_map, Err, IfErr, IfOk};
 ghost use Rattle.std.specs.Io.KnownBytes.{Appends};
@@ -76,6 +77,7 @@ where
 }
 
 /// Applies the commands of a file to an endpoint.
+#[inline(never)]
 fn apply_file<T: Files, D: SectorDisk, W: Write>(
     rt: &T,
     alloc: Global,
@@ -120,6 +122,7 @@ where
 }
 
 /// Prints the configuration and the packet numbers of an endpoint.
+#[inline(never)]
 fn show_endpoint<D: SectorDisk, W: Write>(
     alloc: Global,
     endpoint: &Endpoint<D>,
@@ -158,6 +161,7 @@ where
 }
 
 /// Takes a capture through an endpoint into another one.
+#[inline(never)]
 fn pass_between<T: Files, D: SectorDisk, W: Write>(
     rt: &T,
     alloc: Global,
@@ -205,6 +209,7 @@ where
 }
 
 /// Relays frames through an endpoint between two wires, which are bound from left to right.
+#[inline(never)]
 fn relay_wires<N: Net, D: SectorDisk, W: Write>(
     net: &N,
     alloc: Global,

@@ -37,7 +37,6 @@ impl Model for Standing {
 
 impl Standing {
     /// What a disk is formatted with.
-    #[inline(never)]
     pub(crate) fn new(identity: &Identity) -> Standing
         ensures { standing_of result ≡ new_standing this_edition identity.now }
     {
