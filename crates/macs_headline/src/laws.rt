@@ -17,7 +17,7 @@ ghost use Rattle.macs_headline.specs.Binding.{FramesAreDeliveredOnce, FramesAreW
 ghost use Rattle.macs_headline.specs.Binding.{FusesChangeNone, IsNewDisk, LargerGoOn, LivesAreMoments, LivesFit, LivesKeepCommands, LivesKeepTickets};
 ghost use Rattle.macs_headline.specs.Binding.{NewDeedsAreHistories};
 ghost use Rattle.macs_headline.specs.Binding.{NewDisksHaveHistories, OpeningsFind, PassedOnHaveHistories, RefusalsAreFailures, SettledHaveHistories};
-ghost use Rattle.macs_headline.specs.Commands.{CommandsKept};
+ghost use Rattle.macs_headline.specs.Commands.{CommandsKept, InHandWasGiven};
 ghost use Rattle.macs_headline.specs.Deliveries.{DeliveredBelow, DeliveriesAreVerified, GivenOnce, NeverOkAgain, OthersAreBare};
 ghost use Rattle.macs_headline.specs.Endings.{DroppedPassOn, EndsAreEarlier, KillingsPassOn, LosesPower, PassedOnAgain, PowerLossesPassOn};
 ghost use Rattle.macs_headline.specs.Endings.{ReadsPassOn, SyncsPassOn, WritesBackAsSyncs, WrittenBackPassOn};
@@ -71,6 +71,8 @@ pub fn headline()
     ensures skips_few_received { (sectors : ℕ) → SkipsFewReceived sectors }
     // An opening finds a prefix of the accepted commands that holds every acknowledged one.
     ensures commands_kept { (sectors : ℕ) → CommandsKept sectors }
+    // What is in hand where a life ends was given to a call of that life.
+    ensures in_hand_was_given { (sectors : ℕ) → InHandWasGiven sectors }
     // In one life tickets are given in order from 1, each is answered at most once, in order, and none is lost.
     ensures tickets_kept { (sectors : ℕ) → TicketsKept sectors }
     // Each frame is the protected frame of that moment, and its number joins those that were used.

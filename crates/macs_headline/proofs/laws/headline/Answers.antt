@@ -1,6 +1,7 @@
 use Rattle.macs_headline.proofs.Answered.{answers-are-held, delivered-below, given-once, moments-are-histories, never-ok-again, written-below, written-once}
 use Rattle.macs_headline.proofs.Commands.{commands-kept}
 use Rattle.macs_headline.proofs.Deliveries.{deliveries-are-verified, others-are-bare}
+use Rattle.macs_headline.proofs.HandedIn.{in-hand-was-given}
 use Rattle.macs_headline.proofs.Identities.{identity-was-given}
 use Rattle.macs_headline.proofs.Logged.{logs-are-answers}
 use Rattle.macs_headline.proofs.Logs.{nothing-forgotten}
@@ -57,6 +58,9 @@ returns-clause-skips_few c = skips-few
 
 pub returns-clause-commands_kept : goal.returns-clause-commands_kept
 returns-clause-commands_kept c = commands-kept
+
+pub returns-clause-in_hand_was_given : goal.returns-clause-in_hand_was_given
+returns-clause-in_hand_was_given c = in-hand-was-given
 
 pub returns-clause-tickets_kept : goal.returns-clause-tickets_kept
 returns-clause-tickets_kept c = tickets-kept
