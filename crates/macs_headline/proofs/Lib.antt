@@ -27,6 +27,7 @@ pub mod Living
 pub mod Chains
 pub mod Answered
 pub mod Logged
+pub mod Configurations
 pub mod Moments
 pub mod Tickets
 pub mod RefusedDays

@@ -2,6 +2,7 @@ pub mod History
 pub mod Moments
 pub mod Numbers
 pub mod Commands
+pub mod Configurations
 pub mod Tickets
 pub mod Answered
 pub mod Frames

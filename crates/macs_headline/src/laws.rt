@@ -18,6 +18,7 @@ ghost use Rattle.macs_headline.specs.Binding.{FusesChangeNone, IsNewDisk, Larger
 ghost use Rattle.macs_headline.specs.Binding.{NewDeedsAreHistories};
 ghost use Rattle.macs_headline.specs.Binding.{NewDisksHaveHistories, OpeningsFind, PassedOnHaveHistories, RefusalsAreFailures, SettledHaveHistories};
 ghost use Rattle.macs_headline.specs.Commands.{CommandsKept, InHandWasGiven};
+ghost use Rattle.macs_headline.specs.Configurations.{ConfigurationIs};
 ghost use Rattle.macs_headline.specs.Deliveries.{DeliveredBelow, DeliveriesAreVerified, GivenOnce, NeverOkAgain, OthersAreBare};
 ghost use Rattle.macs_headline.specs.Endings.{DroppedPassOn, EndsAreEarlier, KillingsPassOn, LosesPower, PassedOnAgain, PowerLossesPassOn};
 ghost use Rattle.macs_headline.specs.Endings.{ReadsPassOn, SyncsPassOn, WritesBackAsSyncs, WrittenBackPassOn};
@@ -73,6 +74,8 @@ pub fn headline()
     ensures commands_kept { (sectors : ℕ) → CommandsKept sectors }
     // What is in hand where a life ends was given to a call of that life.
     ensures in_hand_was_given { (sectors : ℕ) → InHandWasGiven sectors }
+    // Over all lives: it finds what the kept commands of each make of the first configuration, and the identity of the `format` that answered Ok.
+    ensures configuration_is { (sectors : ℕ) → ConfigurationIs sectors }
     // In one life tickets are given in order from 1, each is answered at most once, in order, and none is lost.
     ensures tickets_kept { (sectors : ℕ) → TicketsKept sectors }
     // Each frame is the protected frame of that moment, and its number joins those that were used.

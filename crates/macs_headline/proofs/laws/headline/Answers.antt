@@ -1,5 +1,6 @@
 use Rattle.macs_headline.proofs.Answered.{answers-are-held, delivered-below, given-once, moments-are-histories, never-ok-again, written-below, written-once}
 use Rattle.macs_headline.proofs.Commands.{commands-kept}
+use Rattle.macs_headline.proofs.Configurations.{configuration-is}
 use Rattle.macs_headline.proofs.Deliveries.{deliveries-are-verified, others-are-bare}
 use Rattle.macs_headline.proofs.HandedIn.{in-hand-was-given}
 use Rattle.macs_headline.proofs.Identities.{identity-was-given}
@@ -61,6 +62,9 @@ returns-clause-commands_kept c = commands-kept
 
 pub returns-clause-in_hand_was_given : goal.returns-clause-in_hand_was_given
 returns-clause-in_hand_was_given c = in-hand-was-given
+
+pub returns-clause-configuration_is : goal.returns-clause-configuration_is
+returns-clause-configuration_is c = configuration-is
 
 pub returns-clause-tickets_kept : goal.returns-clause-tickets_kept
 returns-clause-tickets_kept c = tickets-kept
