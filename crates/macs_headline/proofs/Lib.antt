@@ -16,6 +16,7 @@ pub mod Commands
 pub mod HandedIn
 pub mod Ranges
 pub mod Deliveries
+pub mod Received
 pub mod Cuts
 pub mod Unbegun
 pub mod Losses

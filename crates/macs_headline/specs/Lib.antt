@@ -7,6 +7,7 @@ pub mod Tickets
 pub mod Answered
 pub mod Frames
 pub mod Deliveries
+pub mod Received
 pub mod Logged
 pub mod Openings
 pub mod Deeds

@@ -27,6 +27,7 @@ ghost use Rattle.macs_headline.specs.Frames.{FramesAreStandard, WrittenBelow, Wr
 ghost use Rattle.macs_headline.specs.Logged.{LogsAreAnswers};
 ghost use Rattle.macs_headline.specs.Numbers.{GivenApart, GivenBelow, NothingForgotten, OkApart, SkipsFew, SkipsFewReceived};
 ghost use Rattle.macs_headline.specs.Numbers.{UsedBelow, UsedOnce, UsedOnceAtEnd};
+ghost use Rattle.macs_headline.specs.Received.{HeldAreAhead, SeenAreVerified, UnverifiedAreSettled};
 ghost use Rattle.macs_headline.specs.Tickets.{TicketsKept};
 ghost use Rattle.macs_headline.specs.Openings.{IdentityWasGiven, RefusedForDisk, RefusedForDiskOrBlank};
 
@@ -84,6 +85,12 @@ pub fn headline()
     ensures deliveries_are_verified { (sectors : ℕ) → DeliveriesAreVerified sectors }
     // Each other answer gives nothing that was hidden, and leaves what was used and delivered as it was.
     ensures others_are_bare { (sectors : ℕ) → OthersAreBare sectors }
+    // A frame that does not verify is discarded, or delivered under Check with C clear, by the first step that settles it.
+    ensures unverified_are_settled { (sectors : ℕ) → UnverifiedAreSettled sectors }
+    // A frame that is held back verifies, and its number is not below the next one.
+    ensures held_are_ahead { (sectors : ℕ) → HeldAreAhead sectors }
+    // The greatest number that was seen on an association is that of a frame that verified there.
+    ensures seen_are_verified { (sectors : ℕ) → SeenAreVerified sectors }
     // After `format` has answered Ok an opening is refused for the disk alone.
     ensures refused_for_disk { (sectors : ℕ) → RefusedForDisk sectors }
     // Before that it may also find no journal.

@@ -9,6 +9,7 @@ use Rattle.macs_headline.proofs.Logs.{nothing-forgotten}
 use Rattle.macs_headline.proofs.Numbers.{given-apart, given-below, ok-apart, skips-few, skips-few-received, used-below, used-once, used-once-at-end}
 use Rattle.macs_headline.proofs.Openings.{refused-for-disk, refused-for-disk-or-blank}
 use Rattle.macs_headline.proofs.Ranges.{frames-are-standard}
+use Rattle.macs_headline.proofs.Received.{held-are-ahead, seen-are-verified, unverified-are-settled}
 use Rattle.macs_headline.proofs.Tickets.{tickets-kept}
 use Rattle.macs_headline.proofs.laws.headline.Goals as goal
 
@@ -83,6 +84,15 @@ returns-clause-written_once c = written-once
 
 pub returns-clause-others_are_bare : goal.returns-clause-others_are_bare
 returns-clause-others_are_bare c = others-are-bare
+
+pub returns-clause-unverified_are_settled : goal.returns-clause-unverified_are_settled
+returns-clause-unverified_are_settled c = unverified-are-settled
+
+pub returns-clause-held_are_ahead : goal.returns-clause-held_are_ahead
+returns-clause-held_are_ahead c = held-are-ahead
+
+pub returns-clause-seen_are_verified : goal.returns-clause-seen_are_verified
+returns-clause-seen_are_verified c = seen-are-verified
 
 pub returns-clause-refused_for_disk : goal.returns-clause-refused_for_disk
 returns-clause-refused_for_disk c = refused-for-disk
