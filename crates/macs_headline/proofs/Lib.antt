@@ -17,6 +17,7 @@ pub mod HandedIn
 pub mod Ranges
 pub mod Deliveries
 pub mod Received
+pub mod Refused
 pub mod Cuts
 pub mod Unbegun
 pub mod Losses

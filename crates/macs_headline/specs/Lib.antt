@@ -8,6 +8,7 @@ pub mod Answered
 pub mod Frames
 pub mod Deliveries
 pub mod Received
+pub mod Refused
 pub mod Logged
 pub mod Openings
 pub mod Deeds

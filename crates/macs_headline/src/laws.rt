@@ -28,6 +28,7 @@ ghost use Rattle.macs_headline.specs.Logged.{LogsAreAnswers};
 ghost use Rattle.macs_headline.specs.Numbers.{GivenApart, GivenBelow, NothingForgotten, OkApart, SkipsFew, SkipsFewReceived};
 ghost use Rattle.macs_headline.specs.Numbers.{UsedBelow, UsedOnce, UsedOnceAtEnd};
 ghost use Rattle.macs_headline.specs.Received.{HeldAreAhead, SeenAreVerified, UnverifiedAreSettled};
+ghost use Rattle.macs_headline.specs.Refused.{RefusalsAreExact};
 ghost use Rattle.macs_headline.specs.Tickets.{TicketsKept};
 ghost use Rattle.macs_headline.specs.Openings.{IdentityWasGiven, RefusedForDisk, RefusedForDiskOrBlank};
 
@@ -91,6 +92,8 @@ pub fn headline()
     ensures held_are_ahead { (sectors : ℕ) → HeldAreAhead sectors }
     // The greatest number that was seen on an association is that of a frame that verified there.
     ensures seen_are_verified { (sectors : ℕ) → SeenAreVerified sectors }
+    // A call is refused for the first reason that holds, and changes nothing then.
+    ensures refusals_are_exact { (sectors : ℕ) → RefusalsAreExact sectors }
     // After `format` has answered Ok an opening is refused for the disk alone.
     ensures refused_for_disk { (sectors : ℕ) → RefusedForDisk sectors }
     // Before that it may also find no journal.

@@ -10,6 +10,7 @@ use Rattle.macs_headline.proofs.Numbers.{given-apart, given-below, ok-apart, ski
 use Rattle.macs_headline.proofs.Openings.{refused-for-disk, refused-for-disk-or-blank}
 use Rattle.macs_headline.proofs.Ranges.{frames-are-standard}
 use Rattle.macs_headline.proofs.Received.{held-are-ahead, seen-are-verified, unverified-are-settled}
+use Rattle.macs_headline.proofs.Refused.{refusals-are-exact}
 use Rattle.macs_headline.proofs.Tickets.{tickets-kept}
 use Rattle.macs_headline.proofs.laws.headline.Goals as goal
 
@@ -93,6 +94,9 @@ returns-clause-held_are_ahead c = held-are-ahead
 
 pub returns-clause-seen_are_verified : goal.returns-clause-seen_are_verified
 returns-clause-seen_are_verified c = seen-are-verified
+
+pub returns-clause-refusals_are_exact : goal.returns-clause-refusals_are_exact
+returns-clause-refusals_are_exact c = refusals-are-exact
 
 pub returns-clause-refused_for_disk : goal.returns-clause-refused_for_disk
 returns-clause-refused_for_disk c = refused-for-disk
