@@ -18,6 +18,7 @@ pub mod Ranges
 pub mod Deliveries
 pub mod Received
 pub mod Refused
+pub mod Stopping
 pub mod Cuts
 pub mod Unbegun
 pub mod Losses

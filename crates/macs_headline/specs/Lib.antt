@@ -9,6 +9,7 @@ pub mod Frames
 pub mod Deliveries
 pub mod Received
 pub mod Refused
+pub mod Stopping
 pub mod Logged
 pub mod Openings
 pub mod Deeds

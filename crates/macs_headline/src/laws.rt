@@ -29,6 +29,7 @@ ghost use Rattle.macs_headline.specs.Numbers.{GivenApart, GivenBelow, NothingFor
 ghost use Rattle.macs_headline.specs.Numbers.{UsedBelow, UsedOnce, UsedOnceAtEnd};
 ghost use Rattle.macs_headline.specs.Received.{HeldAreAhead, SeenAreVerified, UnverifiedAreSettled};
 ghost use Rattle.macs_headline.specs.Refused.{RefusalsAreExact};
+ghost use Rattle.macs_headline.specs.Stopping.{StoppedStays};
 ghost use Rattle.macs_headline.specs.Tickets.{TicketsKept};
 ghost use Rattle.macs_headline.specs.Openings.{IdentityWasGiven, RefusedForDisk, RefusedForDiskOrBlank};
 
@@ -94,6 +95,8 @@ pub fn headline()
     ensures seen_are_verified { (sectors : ℕ) → SeenAreVerified sectors }
     // A call is refused for the first reason that holds, and changes nothing then.
     ensures refusals_are_exact { (sectors : ℕ) → RefusalsAreExact sectors }
+    // After a device fault each call is answered that the endpoint is stopped, and changes nothing; before one none is.
+    ensures stopped_stays { (sectors : ℕ) → StoppedStays sectors }
     // After `format` has answered Ok an opening is refused for the disk alone.
     ensures refused_for_disk { (sectors : ℕ) → RefusedForDisk sectors }
     // Before that it may also find no journal.

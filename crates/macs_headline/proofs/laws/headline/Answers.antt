@@ -11,6 +11,7 @@ use Rattle.macs_headline.proofs.Openings.{refused-for-disk, refused-for-disk-or-
 use Rattle.macs_headline.proofs.Ranges.{frames-are-standard}
 use Rattle.macs_headline.proofs.Received.{held-are-ahead, seen-are-verified, unverified-are-settled}
 use Rattle.macs_headline.proofs.Refused.{refusals-are-exact}
+use Rattle.macs_headline.proofs.Stopping.{stopped-stays}
 use Rattle.macs_headline.proofs.Tickets.{tickets-kept}
 use Rattle.macs_headline.proofs.laws.headline.Goals as goal
 
@@ -97,6 +98,9 @@ returns-clause-seen_are_verified c = seen-are-verified
 
 pub returns-clause-refusals_are_exact : goal.returns-clause-refusals_are_exact
 returns-clause-refusals_are_exact c = refusals-are-exact
+
+pub returns-clause-stopped_stays : goal.returns-clause-stopped_stays
+returns-clause-stopped_stays c = stopped-stays
 
 pub returns-clause-refused_for_disk : goal.returns-clause-refused_for_disk
 returns-clause-refused_for_disk c = refused-for-disk
