@@ -31,7 +31,7 @@ ghost use Rattle.macs_headline.specs.Received.{HeldAreAhead, SeenAreVerified, Un
 ghost use Rattle.macs_headline.specs.Refused.{RefusalsAreExact};
 ghost use Rattle.macs_headline.specs.Stopping.{StoppedStays};
 ghost use Rattle.macs_headline.specs.Tickets.{TicketsKept};
-ghost use Rattle.macs_headline.specs.Openings.{IdentityWasGiven, RefusedForDisk, RefusedForDiskOrBlank};
+ghost use Rattle.macs_headline.specs.Openings.{IdentityWasGiven, NothingChanges, RefusedForDisk, RefusedForDiskOrBlank};
 
 use crate::example::peer_frame_in_range;
 use macs_disk::laws::a_file_is_left_as_its_disk;
@@ -101,6 +101,8 @@ pub fn headline()
     ensures refused_for_disk { (sectors : ℕ) → RefusedForDisk sectors }
     // Before that it may also find no journal.
     ensures refused_for_disk_or_blank { (sectors : ℕ) → RefusedForDiskOrBlank sectors }
+    // A refused opening, and a `format` of a formatted disk, change nothing.
+    ensures nothing_changes { (sectors : ℕ) → NothingChanges sectors }
     // An opening finds an identity that some `format` was given.
     ensures identity_was_given { (sectors : ℕ) → IdentityWasGiven sectors }
 {}

@@ -7,7 +7,7 @@ use Rattle.macs_headline.proofs.Identities.{identity-was-given}
 use Rattle.macs_headline.proofs.Logged.{logs-are-answers}
 use Rattle.macs_headline.proofs.Logs.{nothing-forgotten}
 use Rattle.macs_headline.proofs.Numbers.{given-apart, given-below, ok-apart, skips-few, skips-few-received, used-below, used-once, used-once-at-end}
-use Rattle.macs_headline.proofs.Openings.{refused-for-disk, refused-for-disk-or-blank}
+use Rattle.macs_headline.proofs.Openings.{nothing-changes, refused-for-disk, refused-for-disk-or-blank}
 use Rattle.macs_headline.proofs.Ranges.{frames-are-standard}
 use Rattle.macs_headline.proofs.Received.{held-are-ahead, seen-are-verified, unverified-are-settled}
 use Rattle.macs_headline.proofs.Refused.{refusals-are-exact}
@@ -107,6 +107,9 @@ returns-clause-refused_for_disk c = refused-for-disk
 
 pub returns-clause-refused_for_disk_or_blank : goal.returns-clause-refused_for_disk_or_blank
 returns-clause-refused_for_disk_or_blank c = refused-for-disk-or-blank
+
+pub returns-clause-nothing_changes : goal.returns-clause-nothing_changes
+returns-clause-nothing_changes c = nothing-changes
 
 pub returns-clause-identity_was_given : goal.returns-clause-identity_was_given
 returns-clause-identity_was_given c = identity-was-given
