@@ -14,7 +14,7 @@ ghost use Rattle.macs_journal.specs.Areas.{least_sectors};
 ghost use Rattle.macs_headline.specs.Answered.{AnswersAreHeld, MomentsAreHistories};
 ghost use Rattle.macs_headline.specs.Binding.{CallsAreDeeds, ChainsAnswer, ChainsKeepSizes, DeedsAreHistories, EndsAreCuts};
 ghost use Rattle.macs_headline.specs.Binding.{FramesAreDeliveredOnce, FramesAreWrittenOnce};
-ghost use Rattle.macs_headline.specs.Binding.{FusesChangeNone, IsNewDisk, LargerGoOn, LivesAreMoments, LivesFit, LivesKeepCommands, LivesKeepTickets};
+ghost use Rattle.macs_headline.specs.Binding.{FusesChangeNone, IsNewDisk, LargerFind, LargerGoOn, LivesAreMoments, LivesFit, LivesKeepCommands, LivesKeepTickets};
 ghost use Rattle.macs_headline.specs.Binding.{NewDeedsAreHistories};
 ghost use Rattle.macs_headline.specs.Binding.{NewDisksHaveHistories, OpeningsFind, PassedOnHaveHistories, RefusalsAreFailures, SettledHaveHistories};
 ghost use Rattle.macs_headline.specs.Commands.{CommandsKept, InHandWasGiven};
@@ -114,6 +114,8 @@ pub fn beginnings()
     ensures settled { SettledHaveHistories }
     // A program of a larger edition goes on from the history that those of a smaller one made.
     ensures larger { LargerGoOn }
+    // And it finds, in each image, what is found after that history.
+    ensures found { LargerFind }
     // The next disk over the same medium has the history of the one before.
     ensures passed_on { PassedOnHaveHistories }
     // So has a disk with a fuse before it, and one without.
