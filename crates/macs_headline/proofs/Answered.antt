@@ -163,7 +163,7 @@ given-once sectors s m on zero_window frame out kind new d step earlier given wa
       answered = before;
       delivery = earlier_delivery sectors (lives_at m) s.logs earlier was given verified before;
       other = λ same_sci same_key same_pn.
-          given-apart sectors s m on zero_window (Receives frame) (Received (Ok (Delivered kind)) out) new (delivery_of s frame kind out new d) (step, d.logged)
+          given-apart sectors s m on zero_window (Receives frame) (Received (Ok (Delivered kind)) out) new (delivery_of s frame kind out new d) step d.logged
           (was_given sectors (lives_at m) s.logs earlier was given verified before d.sci d.sa.key (tag_of frame).pn same_sci same_key same_pn);
     }
 
@@ -175,7 +175,7 @@ never-ok-again sectors s m frame out new d step earlier given was verified among
       answered = before;
       delivery = earlier_delivery sectors m.lives logs earlier was given verified before;
       other = λ same_sci same_key same_pn.
-          ok-apart sectors s m (Receives frame) (Received (Ok (Delivered AsOk)) out) new (delivery_of s frame AsOk out new d) (step, d.logged) refl
+          ok-apart sectors s m (Receives frame) (Received (Ok (Delivered AsOk)) out) new (delivery_of s frame AsOk out new d) step d.logged refl
           (was_given sectors m.lives logs earlier was given verified before d.sci d.sa.key (tag_of frame).pn same_sci same_key same_pn);
     }
 

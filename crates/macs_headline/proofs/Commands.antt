@@ -27,7 +27,7 @@ use Rattle.macs_endpoint.specs.declared.queue.Waiting.{Waiting}
 use Rattle.macs_endpoint.specs.Restart.{Restart, opened_state}
 use Rattle.macs_endpoint.specs.State.{Advanced, Advances, Call, Commands, Protects, Protected, Ran, Received, Receives, Refilled, Refills, Reply, State, Submits, Submitted}
 use Rattle.macs_endpoint.specs.Step.{AdvanceStep, CommandStep, Ends, Exchange, IsStopped, ProtectStep, ReceiveStep, RefillStep, RunningStep, Step, Steps, SubmitStep, TakesUp}
-use Rattle.macs_headline.specs.Commands.{CommandsKept, CommandsMake, FindsPrefix, acknowledged_by, acknowledged_commands, acknowledged_from, waiting_after, without_first}
+use Rattle.macs_headline.specs.Commands.{CommandsKept, CommandsMake, FindsPrefix, acknowledged_by, acknowledged_commands, acknowledged_from, waiting_after, waiting_from, without_first}
 use Rattle.macs_headline.specs.History.{logs_of, state_at_end}
 use Rattle.macs_headline.proofs.Effects.{Core}
 use Rattle.macs_headline.proofs.Sound.{end-core, end-edition}
@@ -220,6 +220,15 @@ by_stopped old call reply new h is = unchanged old new is
 by_step : (old : State) (call : Call) (reply : Reply) (new : State) → Step old call reply new → IsMadeByCall old new call reply
 by_step old call reply new (inl (stopped, answer, is)) = by_stopped old call reply new answer is
 by_step old call reply new (inr (running, h)) = by_call old call reply new h
+
+-- the commands that wait after these calls
+pub waits-from : (waiting : List Waiting) (old : State) (exchanges : List Exchange) (new : State) → old.waiting ≡ waiting → Steps old exchanges new
+    → new.waiting ≡ waiting_from waiting exchanges
+waits-from waiting old [] new same steps = ap (λ (s : State). s.waiting) steps ∙ same
+waits-from waiting old (e ∷ es) new same steps =
+    let mid = steps.0 in
+    waits-from (waiting_after waiting e.call e.reply) mid es new
+    ((by_step old e.call e.reply mid steps.1).waiting ∙ ap (λ (w : List Waiting). waiting_after w e.call e.reply) same) steps.2
 
 -- these commands lead from a state to a state, whatever waits there
 record IsLedBy (old new : State) (commands : List Command) : Type 0 where

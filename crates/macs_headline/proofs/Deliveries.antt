@@ -45,7 +45,11 @@ delivered s frame out kind new is (inr (running, inr (a, there, inr (is_verdict,
     record {
       sci = a.sci;
       sa = a.sa;
+      named = there.is_channel;
       association = ap (s.config.rx a.sci) (sym there.is_an) ∙ there.is_association;
+      numbers = a.numbers;
+      are_numbers = ap (s.numbers a.sci) (sym there.is_an) ∙ there.are_numbers;
+      in_time = sym one ∙ ap (λ (pn : ℕ). delivery_kind a.numbers pn) there.is_pn;
       verified = subst (Verified frame a.sa.key a.sci (octets_of a.sa.offset)) (sym is_out) there.verified;
       only = λ other verified. verified_once frame a.sa.key a.sci (octets_of a.sa.offset) other out verified
           (subst (Verified frame a.sa.key a.sci (octets_of a.sa.offset)) (sym is_out) there.verified);

@@ -6,11 +6,11 @@ use Rattle.macs_config.specs.Identity.{Identity}
 use Rattle.macs_disk.specs.States.{Image}
 use Rattle.macs_store.specs.Found.{StandingIs}
 use Rattle.macs_store.specs.Standing.{Standing}
-use Rattle.std.specs.Prelude.{Ok}
-use Rattle.macs_endpoint.specs.Restart.{Restart, opened_state}
-use Rattle.macs_endpoint.specs.State.{State}
+use Rattle.std.specs.Prelude.{Ok, Option}
+use Rattle.macs_endpoint.specs.Restart.{Fits, Restart, opened_state}
+use Rattle.macs_endpoint.specs.State.{Call, State}
 use Rattle.macs_endpoint.specs.Step.{Exchange, Steps}
-use Rattle.macs_headline.specs.History.{Blank, FitsPast, FormatLeads, Formats, Formatted, LeadOn, Leads, Life, Past, Refuses, Serves, logs_of, state_at_end}
+use Rattle.macs_headline.specs.History.{Blank, FitsPast, FormatLeads, Formats, Formatted, IsLifeSoFar, LeadOn, Leads, Life, Past, Refuses, Serves, logs_of, state_at_end}
 use Rattle.macs_headline.specs.Openings.{IdentityWasGiven}
 use Rattle.macs_headline.proofs.Effects.{Commanded, Core, Effect, Given, Held, NoEffect, Sent, core, effect-of}
 use Rattle.macs_headline.proofs.Histories.{fits-restart, found-new}
@@ -36,6 +36,18 @@ by_restart : (old new : State) → Restart old new → new.identity ≡ old.iden
 by_restart old new (inl up) = up.identity
 by_restart old new (inr (c, mid, hand, makes, up)) = up.identity ∙ ap (λ (s : State). s.identity) makes.2
 
+module _ (sectors : ℕ) where
+  -- an image that fits a state is found under its identity
+  pub identity-found : (edition : Edition) (image : Image) (s : State) (found : Standing) → Fits edition sectors image s
+      → StandingIs edition sectors image (Ok found) → found.identity ≡ s.identity
+  identity-found edition image s found fits is = by_restart s (opened_state found s.logs) (fits-restart edition sectors image s found fits is)
+
+  -- a life ends under the identity that its opening found
+  pub identity-of-life : (past : Past) (edition : Edition) (image : Image) (exchanges : List Exchange) (last : State) (cut : Option Call)
+      (life : IsLifeSoFar sectors past edition image exchanges last) → (state_at_end last cut).identity ≡ life.found.identity
+  identity-of-life past edition image exchanges last cut life =
+      ap (λ (c : Core). c.identity) (end-core last cut) ∙ by_steps (opened_state life.found (logs_of past)) exchanges last life.steps
+
 -- ---- identities that lives were given
 
 module _ (sectors : ℕ) (WasGiven : Identity → Type 0) where
@@ -50,7 +62,7 @@ module _ (sectors : ℕ) (WasGiven : Identity → Type 0) where
       let new = found-new edition sectors image identities found fits is in
       subst (λ (s : Standing). WasGiven s.identity) new.2 (are new.0 new.1)
   found_is (Formatted s) edition image found fits is are =
-      subst WasGiven (sym (by_restart s (opened_state found s.logs) (fits-restart edition sectors image s found fits is))) are
+      subst WasGiven (sym (identity-found sectors edition image s found fits is)) are
 
   by_format : (old : Past) (edition : Edition) (identity : Identity) (is_ok : Bool) (new : Past) → FormatLeads old edition identity is_ok new → WasGiven identity
       → Are old → Are new
@@ -71,9 +83,7 @@ module _ (sectors : ℕ) (WasGiven : Identity → Type 0) where
   by_life old (Formats edition identity is_ok) new h given are = by_format old edition identity is_ok new h (given edition identity is_ok refl) are
   by_life old (Refuses edition image fault) new h given are = subst Are (sym h.2) are
   by_life old (Serves edition image exchanges cut) new (last, life, cut_in_range, is) given are =
-      let end = state_at_end last cut in
-      let same : end.identity ≡ life.found.identity =
-      ap (λ (c : Core). c.identity) (end-core last cut) ∙ by_steps (opened_state life.found (logs_of old)) exchanges last life.steps in
+      let same = identity-of-life sectors old edition image exchanges last cut life in
       subst Are (sym is) (subst WasGiven (sym same) (found_is old edition image life.found life.fits life.is_found are))
 
   by_lives : (old : Past) (lives : List Life) (new : Past) → LeadOn sectors old lives new → ((life : Life) → Contains lives life → IsGivenBy life) → Are old → Are new

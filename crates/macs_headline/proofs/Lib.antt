@@ -13,8 +13,12 @@ pub mod Numbers
 pub mod Openings
 pub mod Identities
 pub mod Commands
+pub mod HandedIn
 pub mod Ranges
 pub mod Deliveries
+pub mod Received
+pub mod Refused
+pub mod Stopping
 pub mod Cuts
 pub mod Unbegun
 pub mod Losses
@@ -26,6 +30,7 @@ pub mod Living
 pub mod Chains
 pub mod Answered
 pub mod Logged
+pub mod Configurations
 pub mod Moments
 pub mod Tickets
 pub mod RefusedDays

@@ -244,9 +244,9 @@ module _ (sectors : ℕ) where
   used-once-at-end lives past history = past_apart past (sound-history sectors lives past history)
 
   pub given-apart : GivenApart sectors
-  given-apart s m on zero_window call reply new d delivers was =
+  given-apart s m on zero_window call reply new d step grows was =
       let is = sound-moment sectors s m in
-      let a = added s.edition (core s) (core new) d (effect-of s call reply new delivers.0) delivers.1 in
+      let a = added s.edition (core s) (core new) d (effect-of s call reply new step) grows in
       let here = is.rx.below (d.sci, a.an) (d.sci, d.key) (pair_is (core s) d a) in
       let is_m : here.0 ≡ a.n.next =
       some_one (option_map (λ (n : Numbers). n.next) (s.numbers d.sci a.an)) here.0 a.n.next here.1 (ap (option_map (λ (n : Numbers). n.next)) a.is_n) in
@@ -256,11 +256,11 @@ module _ (sectors : ℕ) where
       omega (arith, is_m, low, near, over, zero_window)
 
   pub ok-apart : OkApart sectors
-  ok-apart s m call reply new d delivers ok was =
+  ok-apart s m call reply new d step grows ok was =
       let logs = logs_of m.past in
       let opened = opened_state m.life.found logs in
       let floor = floor-steps (IsGiven logs.given) opened m.exchanges s m.life.steps (floor-opening m.life.found logs (sound-opened sectors s m).rx) in
-      let a = added s.edition (core s) (core new) d (effect-of s call reply new delivers.0) delivers.1 in
+      let a = added s.edition (core s) (core new) d (effect-of s call reply new step) grows in
       let here = floor.below (d.sci, a.an) (d.sci, d.key) (pair_is (core s) d a) in
       let is_m : here.0 ≡ a.n.lowest =
       some_one (option_map (λ (n : Numbers). n.lowest) (s.numbers d.sci a.an)) here.0 a.n.lowest here.1 (ap (option_map (λ (n : Numbers). n.lowest)) a.is_n) in

@@ -1,12 +1,12 @@
 -- A history to which programs of an edition led is one that a program of a larger edition goes on from.
-use Rattle.std.proofs.Common.{◌≡◌, inl, inr, ℕ, sym, subst, arith}
+use Rattle.std.proofs.Common.{◌≡◌, inl, inr, ℕ, refl, sym, subst, arith}
 use Rattle.macs_config.specs.Config.{Edition, IsUpTo}
 use Rattle.macs_disk.specs.States.{Image}
 use Rattle.macs_store.specs.Standing.{Standing, new_standing}
 use Rattle.macs_store.proofs.LargerEditions.{larger-finds, of-edition}
 use Rattle.macs_endpoint.specs.Restart.{Fits, Restart, Resumes, opened_state}
 use Rattle.macs_endpoint.specs.State.{Logs, State}
-use Rattle.macs_headline.specs.Binding.{LargerGoOn}
+use Rattle.macs_headline.specs.Binding.{LargerFind, LargerGoOn}
 use Rattle.macs_headline.specs.History.{Blank, FitsPast, Formatted, Past}
 
 -- an edition is up to one that another is up to
@@ -58,3 +58,19 @@ older small large up_to disk lives h = record {
   history = h.history;
   images = λ image left. larger_past small large up_to disk.sectors h.past image (h.images image left);
 }
+
+-- what the larger edition finds in an image of such a disk
+pub larger-find : LargerFind
+larger-find small large up_to disk lives h image found left is = (
+  record {
+    lives = lives;
+    history = h.history;
+    edition = large;
+    image = image;
+    fits = larger_past small large up_to disk.sectors h.past image (h.images image left);
+    is_found = is;
+  },
+  refl,
+  refl,
+  refl,
+)

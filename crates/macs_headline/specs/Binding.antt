@@ -66,6 +66,12 @@ SettledHaveHistories = (edition : Edition) (disk : Disk) (lives : List Life) (pa
 abbrev pub LargerGoOn : Type 0
 LargerGoOn = (small large : Edition) → IsUpTo small large → (disk : Disk) (lives : List Life) → HasHistory small disk lives → HasHistory large disk lives
 
+-- so what a larger edition finds there, in each image that a power loss may leave, is what an opening finds after that history
+abbrev pub LargerFind : Type 0
+LargerFind = (small large : Edition) → IsUpTo small large → (disk : Disk) (lives : List Life) (h : HasHistory small disk lives)
+    → (image : Image) (found : Standing) → MayLeave disk image → StandingIs large disk.sectors image (Ok found)
+    → (f : IsFoundAfter disk.sectors h.past found) × (f.lives ≡ lives) × (f.edition ≡ large) × (f.image ≡ image)
+
 -- the disk to which a medium is passed on has the history of the disk before it
 abbrev pub PassedOnHaveHistories : Type 0
 PassedOnHaveHistories = (edition : Edition) (old new : Disk) (lives : List Life) → HasHistory edition old lives → IsPassedOn old old.clock new

@@ -1,5 +1,5 @@
 -- The headline on commands.
-use Rattle.std.specs.Prelude.{◌≡◌, ◌==◌, ◌++◌, if◌then◌else◌, ℕ, List, [], ◌∷◌, option_to_list, Option, Ok}
+use Rattle.std.specs.Prelude.{◌≡◌, ◌⊎◌, ◌==◌, ◌++◌, if◌then◌else◌, ℕ, List, [], ◌∷◌, Contains, option_to_list, Option, Some, Ok, Err}
 use Rattle.macs_config.specs.Apply.{apply}
 use Rattle.macs_config.specs.Config.{Config, Edition}
 use Rattle.macs_config.specs.Identity.{Identity}
@@ -7,10 +7,11 @@ use Rattle.macs_config.specs.declared.command.Command.{Command}
 use Rattle.macs_disk.specs.States.{Image}
 use Rattle.macs_store.specs.Found.{StandingIs}
 use Rattle.macs_store.specs.Standing.{Standing}
-use Rattle.macs_endpoint.specs.Queue.{with_waiting}
+use Rattle.macs_endpoint.specs.Queue.{first_command, with_waiting}
 use Rattle.macs_endpoint.specs.Restart.{Fits}
 use Rattle.macs_endpoint.specs.State.{Advanced, Advances, Call, Commands, Ran, Reply, State, Submits, Submitted}
 use Rattle.macs_endpoint.specs.Step.{Exchange}
+use Rattle.macs_endpoint.specs.declared.fault.CommandFault.TheVariants as ran
 use Rattle.macs_endpoint.specs.declared.progress.Step.TheVariants.{Done}
 use Rattle.macs_endpoint.specs.declared.queue.Waiting.{Waiting}
 use Rattle.macs_headline.specs.History.{state_at_end}
@@ -53,6 +54,35 @@ acknowledged_commands exchanges = acknowledged_from [] exchanges
 -- those whose work on the disk began: the acknowledged ones, and then the one that is in hand at the end of the life, if one is
 abbrev pub accepted_commands : List Exchange → (in_hand : Option Command) → List Command
 accepted_commands exchanges in_hand = acknowledged_commands exchanges ++ option_to_list in_hand
+
+-- ---- the command in hand
+
+-- those that wait after these calls, where these waited at first
+abbrev pub waiting_from : List Waiting → List Exchange → List Waiting
+waiting_from waiting [] = waiting
+waiting_from waiting (e ∷ exchanges) = waiting_from (waiting_after waiting e.call e.reply) exchanges
+
+-- those that wait after the calls of a life, in which none waits at first
+abbrev pub waiting_at_end : List Exchange → List Waiting
+waiting_at_end exchanges = waiting_from [] exchanges
+
+-- `command` was given this command, and answered that a device call failed
+abbrev pub failing : Command → Exchange
+failing command = record { call = Commands command; reply = Ran (Err ran.Disk) }
+
+-- A call of this life was given the command, and work on it may have begun: it is the first of those that wait at the end; or none waits there, and it was
+-- given to `command`, which answered Disk or is the call that was cut short.
+abbrev pub WasHandedIn : List Exchange → (cut : Option Call) → Command → Type 0
+WasHandedIn exchanges cut command =
+    (first_command (waiting_at_end exchanges) ≡ Some command)
+    ⊎ ((waiting_at_end exchanges ≡ []) × (Contains exchanges (failing command) ⊎ (cut ≡ Some (Commands command))))
+
+-- At whatever moment a life ends, in the midst of a call or not: what is in hand there was so given to a call of that life.
+abbrev pub InHandWasGiven : ℕ → Type 0
+InHandWasGiven sectors = (last : State) (m : Moment sectors last) (cut : Option Call) (command : Command)
+    → (state_at_end last cut).in_hand ≡ Some command → WasHandedIn m.exchanges cut command
+
+-- ---- what commands make
 
 -- each of these is accepted at its turn, and they make new of old
 abbrev pub CommandsMake : Edition → Identity → (old : Config) → List Command → (new : Config) → Type 0

@@ -4,12 +4,13 @@ use Rattle.macs_frame.specs.Fields.{octets_of}
 use Rattle.macs_frame.specs.Opening.{Verified, bare_frame}
 use Rattle.macs_frame.specs.Tag.{tag_of}
 use Rattle.macs_config.specs.declared.association.RxSa.{RxSa}
+use Rattle.macs_rxsc.specs.Receive.{Numbers, channel_of, delivery_kind}
 use Rattle.macs_rxsc.specs.declared.verdict.Kind.{Kind}
 use Rattle.macs_rxsc.specs.declared.verdict.Kind.TheVariants.{Delayed, Ok as AsOk, Untagged}
 use Rattle.macs_rxsc.specs.declared.verdict.Verdict.{Verdict}
 use Rattle.macs_rxsc.specs.declared.verdict.Verdict.TheVariants.{Delivered}
 use Rattle.macs_endpoint.specs.declared.fault.Stopped.{Stopped}
-use Rattle.macs_endpoint.specs.State.{Logs, Receives, Received, State}
+use Rattle.macs_endpoint.specs.State.{Logs, Receives, Received, State, rx_side}
 use Rattle.macs_endpoint.specs.Step.{Exchange, Step}
 use Rattle.macs_store.specs.Standing.{Standing}
 use Rattle.macs_headline.specs.Answered.{WasAnswered, exchanges_of_lives, lives_at}
@@ -25,12 +26,17 @@ IsVerifiedKind AsOk = Unit {0}
 IsVerifiedKind Delayed = Unit {0}
 IsVerifiedKind kind = ⊥
 
--- A frame verifies (IEEE Std 802.1AE-2018, clause 10) under the key, the SCI and the offset of an association of that moment, which has the number
--- that its tag names; it gives its plain frame and no other; and its packet number joins those that were delivered.
+-- A frame verifies (IEEE Std 802.1AE-2018, clause 10) under the key, the SCI and the offset of the association of that moment that its tag names, by
+-- channel and number; it is Delayed where its packet number is below the lowest acceptable one there, else Ok; it gives its plain frame and no other; and
+-- its packet number joins those that were delivered.
 pub record IsVerifiedDelivery (s : State) (frame : List ℕ) (kind : Kind) (out : List ℕ) (new : State) : Type 0 where
   pub sci : List ℕ
   pub sa : RxSa
+  pub named : channel_of (rx_side s) frame ≡ Some sci
   pub association : s.config.rx sci (tag_of frame).an ≡ Some sa
+  pub numbers : Numbers
+  pub are_numbers : s.numbers sci (tag_of frame).an ≡ Some numbers
+  pub in_time : kind ≡ delivery_kind numbers (tag_of frame).pn
   pub verified : Verified frame sa.key sci (octets_of sa.offset) out
   pub only : (other : List ℕ) → Verified frame sa.key sci (octets_of sa.offset) other → other ≡ out
   pub logged : new.logs.given ≡ record { sci = sci; key = sa.key; pn = (tag_of frame).pn; kind = kind } ∷ s.logs.given

@@ -110,10 +110,11 @@ unguard = SetReplay false 3
 abbrev pub guard : Command
 guard = SetReplay true 3
 
--- each key again, for an association of another number
+-- each of the two keys that are installed, once more, for an association of another number: the own key for association 1
 abbrev pub install_own_again : Command
 install_own_again = TxInstall 1 (Short own_key) 1 true 0
 
+-- the peer's key for association 1
 abbrev pub install_peer_again : Command
 install_peer_again = RxInstall peer_sci 1 (Short peer_key) 1 0
 

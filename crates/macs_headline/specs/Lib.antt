@@ -2,10 +2,14 @@ pub mod History
 pub mod Moments
 pub mod Numbers
 pub mod Commands
+pub mod Configurations
 pub mod Tickets
 pub mod Answered
 pub mod Frames
 pub mod Deliveries
+pub mod Received
+pub mod Refused
+pub mod Stopping
 pub mod Logged
 pub mod Openings
 pub mod Deeds

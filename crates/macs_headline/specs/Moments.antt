@@ -1,12 +1,12 @@
 -- Moments of a history: a life under way, and an opening after it.
-use Rattle.std.specs.Prelude.{◌≡◌, ℕ, List, ◌∷◌, Contains, Ok}
+use Rattle.std.specs.Prelude.{ℕ, List, Contains, Ok}
 use Rattle.macs_config.specs.Config.{Edition}
 use Rattle.macs_disk.specs.States.{Image}
 use Rattle.macs_rxsc.specs.declared.verdict.Kind.{Kind}
 use Rattle.macs_store.specs.Found.{StandingIs}
 use Rattle.macs_store.specs.Standing.{Standing}
-use Rattle.macs_endpoint.specs.State.{Call, Delivery, Logs, Reply, State}
-use Rattle.macs_endpoint.specs.Step.{Exchange, Step}
+use Rattle.macs_endpoint.specs.State.{Logs, State}
+use Rattle.macs_endpoint.specs.Step.{Exchange}
 use Rattle.macs_headline.specs.History.{FitsPast, IsHistory, IsLifeSoFar, Life, Past}
 
 -- A moment of a history: behind these lives one is under way, in which the endpoint is in this state.
@@ -38,7 +38,3 @@ WasUsed logs key pn = Contains logs.used (record { key = key; pn = pn })
 -- a frame with this packet number was delivered as Ok or Delayed, on an association of this SCI and key
 abbrev pub WasGiven : Logs → (sci key : List ℕ) (pn : ℕ) → Type 0
 WasGiven logs sci key pn = (kind : Kind) × Contains logs.given (record { sci = sci; key = key; pn = pn; kind = kind })
-
--- a call delivers a frame as Ok or Delayed
-abbrev pub Delivers : State → Call → Reply → State → Delivery → Type 0
-Delivers old call reply new d = Step old call reply new × (new.logs.given ≡ d ∷ old.logs.given)

@@ -1,5 +1,5 @@
 -- The headline on packet numbers.
-use Rattle.std.specs.Prelude.{◌≡◌, ◌≢◌, ◌<◌, ◌≤◌, ◌+◌, ◌/◌, ◌^◌, ◌++◌, ℕ, max, min, true, List, AllPairs, Some, None, IsSomeAnd, Ok}
+use Rattle.std.specs.Prelude.{◌≡◌, ◌≢◌, ◌<◌, ◌≤◌, ◌+◌, ◌/◌, ◌^◌, ◌++◌, ℕ, max, min, true, List, ◌∷◌, AllPairs, Some, None, IsSomeAnd, Ok}
 use Rattle.macs_config.specs.Config.{Edition, is_spent, rx_fingerprint, tx_fingerprint}
 use Rattle.macs_config.specs.declared.association.RxSa.{RxSa}
 use Rattle.macs_config.specs.declared.association.TxSa.{TxSa}
@@ -10,8 +10,9 @@ use Rattle.macs_store.specs.Found.{StandingIs}
 use Rattle.macs_store.specs.Standing.{Standing}
 use Rattle.macs_endpoint.specs.Restart.{Fits, opened_state}
 use Rattle.macs_endpoint.specs.State.{Call, Delivery, Logs, Reply, State, Use}
+use Rattle.macs_endpoint.specs.Step.{Step}
 use Rattle.macs_headline.specs.History.{IsHistory, LeadOn, Life, Past, logs_of}
-use Rattle.macs_headline.specs.Moments.{Delivers, IsFoundAfter, Moment, WasGiven, WasUsed}
+use Rattle.macs_headline.specs.Moments.{IsFoundAfter, Moment, WasGiven, WasUsed}
 
 -- ---- nothing is forgotten
 
@@ -44,12 +45,13 @@ UsedOnceAtEnd sectors = (lives : List Life) (past : Past) → IsHistory sectors 
 -- the same SCI and key.
 abbrev pub GivenApart : ℕ → Type 0
 GivenApart sectors = (s : State) → Moment sectors s → s.config.replay.on ≡ true → s.config.replay.window ≡ 0
-    → (call : Call) (reply : Reply) (new : State) (d : Delivery) → Delivers s call reply new d → ¬ WasGiven s.logs d.sci d.key d.pn
+    → (call : Call) (reply : Reply) (new : State) (d : Delivery) → Step s call reply new → new.logs.given ≡ d ∷ s.logs.given
+    → ¬ WasGiven s.logs d.sci d.key d.pn
 
 -- Whatever the window, no call delivers as Ok what was delivered before this life on an association of the same SCI and key.
 abbrev pub OkApart : ℕ → Type 0
 OkApart sectors = (s : State) (m : Moment sectors s) (call : Call) (reply : Reply) (new : State) (d : Delivery)
-    → Delivers s call reply new d → d.kind ≡ AsOk → ¬ WasGiven (logs_of m.past) d.sci d.key d.pn
+    → Step s call reply new → new.logs.given ≡ d ∷ s.logs.given → d.kind ≡ AsOk → ¬ WasGiven (logs_of m.past) d.sci d.key d.pn
 
 -- ---- what is found is above what was used
 

@@ -14,10 +14,11 @@ ghost use Rattle.macs_journal.specs.Areas.{least_sectors};
 ghost use Rattle.macs_headline.specs.Answered.{AnswersAreHeld, MomentsAreHistories};
 ghost use Rattle.macs_headline.specs.Binding.{CallsAreDeeds, ChainsAnswer, ChainsKeepSizes, DeedsAreHistories, EndsAreCuts};
 ghost use Rattle.macs_headline.specs.Binding.{FramesAreDeliveredOnce, FramesAreWrittenOnce};
-ghost use Rattle.macs_headline.specs.Binding.{FusesChangeNone, IsNewDisk, LargerGoOn, LivesAreMoments, LivesFit, LivesKeepCommands, LivesKeepTickets};
+ghost use Rattle.macs_headline.specs.Binding.{FusesChangeNone, IsNewDisk, LargerFind, LargerGoOn, LivesAreMoments, LivesFit, LivesKeepCommands, LivesKeepTickets};
 ghost use Rattle.macs_headline.specs.Binding.{NewDeedsAreHistories};
 ghost use Rattle.macs_headline.specs.Binding.{NewDisksHaveHistories, OpeningsFind, PassedOnHaveHistories, RefusalsAreFailures, SettledHaveHistories};
-ghost use Rattle.macs_headline.specs.Commands.{CommandsKept};
+ghost use Rattle.macs_headline.specs.Commands.{CommandsKept, InHandWasGiven};
+ghost use Rattle.macs_headline.specs.Configurations.{ConfigurationIs};
 ghost use Rattle.macs_headline.specs.Deliveries.{DeliveredBelow, DeliveriesAreVerified, GivenOnce, NeverOkAgain, OthersAreBare};
 ghost use Rattle.macs_headline.specs.Endings.{DroppedPassOn, EndsAreEarlier, KillingsPassOn, LosesPower, PassedOnAgain, PowerLossesPassOn};
 ghost use Rattle.macs_headline.specs.Endings.{ReadsPassOn, SyncsPassOn, WritesBackAsSyncs, WrittenBackPassOn};
@@ -26,8 +27,11 @@ ghost use Rattle.macs_headline.specs.Frames.{FramesAreStandard, WrittenBelow, Wr
 ghost use Rattle.macs_headline.specs.Logged.{LogsAreAnswers};
 ghost use Rattle.macs_headline.specs.Numbers.{GivenApart, GivenBelow, NothingForgotten, OkApart, SkipsFew, SkipsFewReceived};
 ghost use Rattle.macs_headline.specs.Numbers.{UsedBelow, UsedOnce, UsedOnceAtEnd};
+ghost use Rattle.macs_headline.specs.Received.{HeldAreAhead, SeenAreVerified, UnverifiedAreSettled};
+ghost use Rattle.macs_headline.specs.Refused.{RefusalsAreExact};
+ghost use Rattle.macs_headline.specs.Stopping.{StoppedStays};
 ghost use Rattle.macs_headline.specs.Tickets.{TicketsKept};
-ghost use Rattle.macs_headline.specs.Openings.{IdentityWasGiven, RefusedForDisk, RefusedForDiskOrBlank};
+ghost use Rattle.macs_headline.specs.Openings.{IdentityWasGiven, NothingChanges, RefusedForDisk, RefusedForDiskOrBlank};
 
 use crate::example::peer_frame_in_range;
 use macs_disk::laws::a_file_is_left_as_its_disk;
@@ -71,6 +75,10 @@ pub fn headline()
     ensures skips_few_received { (sectors : ℕ) → SkipsFewReceived sectors }
     // An opening finds a prefix of the accepted commands that holds every acknowledged one.
     ensures commands_kept { (sectors : ℕ) → CommandsKept sectors }
+    // What is in hand where a life ends was given to a call of that life.
+    ensures in_hand_was_given { (sectors : ℕ) → InHandWasGiven sectors }
+    // Over all lives: it finds what the kept commands of each make of the first configuration, and the identity of the `format` that answered Ok.
+    ensures configuration_is { (sectors : ℕ) → ConfigurationIs sectors }
     // In one life tickets are given in order from 1, each is answered at most once, in order, and none is lost.
     ensures tickets_kept { (sectors : ℕ) → TicketsKept sectors }
     // Each frame is the protected frame of that moment, and its number joins those that were used.
@@ -79,10 +87,22 @@ pub fn headline()
     ensures deliveries_are_verified { (sectors : ℕ) → DeliveriesAreVerified sectors }
     // Each other answer gives nothing that was hidden, and leaves what was used and delivered as it was.
     ensures others_are_bare { (sectors : ℕ) → OthersAreBare sectors }
+    // A frame that does not verify is discarded, or delivered under Check with C clear, by the first step that settles it.
+    ensures unverified_are_settled { (sectors : ℕ) → UnverifiedAreSettled sectors }
+    // A frame that is held back verifies, and its number is not below the next one.
+    ensures held_are_ahead { (sectors : ℕ) → HeldAreAhead sectors }
+    // The greatest number that was seen on an association is that of a frame that verified there.
+    ensures seen_are_verified { (sectors : ℕ) → SeenAreVerified sectors }
+    // A call is refused for the first reason that holds, and changes nothing then.
+    ensures refusals_are_exact { (sectors : ℕ) → RefusalsAreExact sectors }
+    // After a device fault each call is answered that the endpoint is stopped, and changes nothing; before one none is.
+    ensures stopped_stays { (sectors : ℕ) → StoppedStays sectors }
     // After `format` has answered Ok an opening is refused for the disk alone.
     ensures refused_for_disk { (sectors : ℕ) → RefusedForDisk sectors }
     // Before that it may also find no journal.
     ensures refused_for_disk_or_blank { (sectors : ℕ) → RefusedForDiskOrBlank sectors }
+    // A refused opening, and a `format` of a formatted disk, change nothing.
+    ensures nothing_changes { (sectors : ℕ) → NothingChanges sectors }
     // An opening finds an identity that some `format` was given.
     ensures identity_was_given { (sectors : ℕ) → IdentityWasGiven sectors }
 {}
@@ -94,6 +114,8 @@ pub fn beginnings()
     ensures settled { SettledHaveHistories }
     // A program of a larger edition goes on from the history that those of a smaller one made.
     ensures larger { LargerGoOn }
+    // And it finds, in each image, what is found after that history.
+    ensures found { LargerFind }
     // The next disk over the same medium has the history of the one before.
     ensures passed_on { PassedOnHaveHistories }
     // So has a disk with a fuse before it, and one without.

@@ -1,5 +1,5 @@
 use Rattle.macs_headline.proofs.Chains.{fuses-change-none, new-disks, passed-on, settled-disks}
-use Rattle.macs_headline.proofs.Older.{older}
+use Rattle.macs_headline.proofs.Older.{larger-find, older}
 use Rattle.macs_headline.proofs.laws.beginnings.Goals as goal
 
 pub returns-clause-new : goal.returns-clause-new
@@ -10,6 +10,9 @@ returns-clause-settled c = settled-disks
 
 pub returns-clause-larger : goal.returns-clause-larger
 returns-clause-larger c = older
+
+pub returns-clause-found : goal.returns-clause-found
+returns-clause-found c = larger-find
 
 pub returns-clause-passed_on : goal.returns-clause-passed_on
 returns-clause-passed_on c = passed-on

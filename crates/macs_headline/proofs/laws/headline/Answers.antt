@@ -1,12 +1,17 @@
 use Rattle.macs_headline.proofs.Answered.{answers-are-held, delivered-below, given-once, moments-are-histories, never-ok-again, written-below, written-once}
 use Rattle.macs_headline.proofs.Commands.{commands-kept}
+use Rattle.macs_headline.proofs.Configurations.{configuration-is}
 use Rattle.macs_headline.proofs.Deliveries.{deliveries-are-verified, others-are-bare}
+use Rattle.macs_headline.proofs.HandedIn.{in-hand-was-given}
 use Rattle.macs_headline.proofs.Identities.{identity-was-given}
 use Rattle.macs_headline.proofs.Logged.{logs-are-answers}
 use Rattle.macs_headline.proofs.Logs.{nothing-forgotten}
 use Rattle.macs_headline.proofs.Numbers.{given-apart, given-below, ok-apart, skips-few, skips-few-received, used-below, used-once, used-once-at-end}
-use Rattle.macs_headline.proofs.Openings.{refused-for-disk, refused-for-disk-or-blank}
+use Rattle.macs_headline.proofs.Openings.{nothing-changes, refused-for-disk, refused-for-disk-or-blank}
 use Rattle.macs_headline.proofs.Ranges.{frames-are-standard}
+use Rattle.macs_headline.proofs.Received.{held-are-ahead, seen-are-verified, unverified-are-settled}
+use Rattle.macs_headline.proofs.Refused.{refusals-are-exact}
+use Rattle.macs_headline.proofs.Stopping.{stopped-stays}
 use Rattle.macs_headline.proofs.Tickets.{tickets-kept}
 use Rattle.macs_headline.proofs.laws.headline.Goals as goal
 
@@ -58,6 +63,12 @@ returns-clause-skips_few c = skips-few
 pub returns-clause-commands_kept : goal.returns-clause-commands_kept
 returns-clause-commands_kept c = commands-kept
 
+pub returns-clause-in_hand_was_given : goal.returns-clause-in_hand_was_given
+returns-clause-in_hand_was_given c = in-hand-was-given
+
+pub returns-clause-configuration_is : goal.returns-clause-configuration_is
+returns-clause-configuration_is c = configuration-is
+
 pub returns-clause-tickets_kept : goal.returns-clause-tickets_kept
 returns-clause-tickets_kept c = tickets-kept
 
@@ -76,11 +87,29 @@ returns-clause-written_once c = written-once
 pub returns-clause-others_are_bare : goal.returns-clause-others_are_bare
 returns-clause-others_are_bare c = others-are-bare
 
+pub returns-clause-unverified_are_settled : goal.returns-clause-unverified_are_settled
+returns-clause-unverified_are_settled c = unverified-are-settled
+
+pub returns-clause-held_are_ahead : goal.returns-clause-held_are_ahead
+returns-clause-held_are_ahead c = held-are-ahead
+
+pub returns-clause-seen_are_verified : goal.returns-clause-seen_are_verified
+returns-clause-seen_are_verified c = seen-are-verified
+
+pub returns-clause-refusals_are_exact : goal.returns-clause-refusals_are_exact
+returns-clause-refusals_are_exact c = refusals-are-exact
+
+pub returns-clause-stopped_stays : goal.returns-clause-stopped_stays
+returns-clause-stopped_stays c = stopped-stays
+
 pub returns-clause-refused_for_disk : goal.returns-clause-refused_for_disk
 returns-clause-refused_for_disk c = refused-for-disk
 
 pub returns-clause-refused_for_disk_or_blank : goal.returns-clause-refused_for_disk_or_blank
 returns-clause-refused_for_disk_or_blank c = refused-for-disk-or-blank
+
+pub returns-clause-nothing_changes : goal.returns-clause-nothing_changes
+returns-clause-nothing_changes c = nothing-changes
 
 pub returns-clause-identity_was_given : goal.returns-clause-identity_was_given
 returns-clause-identity_was_given c = identity-was-given

@@ -1,0 +1,45 @@
+-- The headline on configurations: what is found after all lives, counted from the first configuration.
+use Rattle.std.specs.Prelude.{◌≡◌, ℕ, true, List, [], ◌∷◌, Contains, Option, Some, Ok}
+use Rattle.macs_config.specs.Config.{Config, Edition, default}
+use Rattle.macs_config.specs.Identity.{Identity}
+use Rattle.macs_config.specs.declared.command.Command.{Command}
+use Rattle.macs_disk.specs.States.{Image}
+use Rattle.macs_store.specs.Found.{StandingIs}
+use Rattle.macs_store.specs.Standing.{Standing}
+use Rattle.macs_endpoint.specs.State.{Call}
+use Rattle.macs_endpoint.specs.Step.{Exchange}
+use Rattle.macs_headline.specs.Commands.{CommandsMake, IsPrefix, WasHandedIn, accepted_commands, acknowledged_commands}
+use Rattle.macs_headline.specs.History.{Formats, Life, Past, Refuses, Serves}
+use Rattle.macs_headline.specs.Moments.{IsFoundAfter}
+
+-- The commands of a life that are kept: a prefix of those that were accepted that holds every acknowledged one. The one in hand at its end, if one was,
+-- was given to a call of this life.
+pub record AreKept (exchanges : List Exchange) (cut : Option Call) (kept : List Command) : Type 0 where
+  pub in_hand : Option Command
+  pub handed_in : (command : Command) → in_hand ≡ Some command → WasHandedIn exchanges cut command
+  pub acknowledged : IsPrefix (acknowledged_commands exchanges) kept
+  pub accepted : IsPrefix kept (accepted_commands exchanges in_hand)
+
+-- on a disk of so many sectors this image stands for the configuration
+abbrev pub StandsFor : ℕ → Edition → Image → Config → Type 0
+StandsFor sectors edition image config = (found : Standing) × StandingIs edition sectors image (Ok found) × (found.config ≡ config)
+
+-- These lives make new of a configuration. Each in which an endpoint served opened an image that stands for the configuration so far, and makes of it what the
+-- commands make that are kept of this life, which its edition accepts at their turns. A `format` and an opening that is refused make nothing.
+abbrev pub LivesMake : ℕ → Identity → (old : Config) → List Life → (new : Config) → Type 0
+LivesMake sectors identity old [] new = new ≡ old
+LivesMake sectors identity old (Formats edition given is_ok ∷ lives) new = LivesMake sectors identity old lives new
+LivesMake sectors identity old (Refuses edition image fault ∷ lives) new = LivesMake sectors identity old lives new
+LivesMake sectors identity old (Serves edition image exchanges cut ∷ lives) new =
+    StandsFor sectors edition image old × (kept : List Command) × AreKept exchanges cut kept
+    × (mid : Config) × CommandsMake edition identity old kept mid × LivesMake sectors identity mid lives new
+
+-- What is found after lives has the identity that a `format` was given which answered Ok, where one did; and it is the configuration that the lives make of
+-- the one that an endpoint is formatted with.
+pub record IsMadeByLives (sectors : ℕ) (lives : List Life) (found : Standing) : Type 0 where
+  pub identity : (edition : Edition) (given : Identity) → Contains lives (Formats edition given true) → found.identity ≡ given
+  pub made : LivesMake sectors found.identity default lives found.config
+
+-- Whatever edition opens the disk after a history, it finds such a configuration in every image that it may come upon.
+abbrev pub ConfigurationIs : ℕ → Type 0
+ConfigurationIs sectors = (past : Past) (found : Standing) (f : IsFoundAfter sectors past found) → IsMadeByLives sectors f.lives found

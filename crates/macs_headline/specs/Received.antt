@@ -1,0 +1,93 @@
+-- The headline on frames that are received and do not verify, on those that are held back, and on what a frame that verifies has shown.
+use Rattle.std.specs.Prelude.{◌≡◌, ◌≢◌, ◌≤◌, ◌⊎◌, Bool, true, false, ℕ, List, [], Option, Some, Ok}
+use Rattle.macs_config.specs.declared.association.RxSa.{RxSa}
+use Rattle.macs_config.specs.declared.command.Validate.{Validate}
+use Rattle.macs_config.specs.declared.command.Validate.TheVariants.{Check, Strict}
+use Rattle.macs_frame.specs.Fields.{octets_of}
+use Rattle.macs_frame.specs.First.{IsFirst}
+use Rattle.macs_frame.specs.Opening.{Verified}
+use Rattle.macs_frame.specs.Tag.{changed, control, tag_of}
+use Rattle.macs_frame.specs.declared.tag.TagFault.TheVariants.{Runt as IsRunt, Oversize as IsOversize, NoTag as HasNoTag, BadTag as HasBadTag, ForKay as IsForKay}
+use Rattle.macs_rxsc.specs.Receive.{BelowLowest, NoAssociation, NoChannel, NotVerified, Numbers, RxSide, RxStep, RxStepHolds, Tag, channel_of, rx_steps}
+use Rattle.macs_rxsc.specs.declared.verdict.Kind.{Kind}
+use Rattle.macs_rxsc.specs.declared.verdict.Kind.TheVariants.{Invalid, UnknownSci, Untagged, UnusedSa}
+use Rattle.macs_rxsc.specs.declared.verdict.Reason.{Reason}
+use Rattle.macs_rxsc.specs.declared.verdict.Reason.TheVariants.{BadTag, ForKay, Late, NoSci, NoTag, NotUsingSa, NotValid, Oversize, Runt}
+use Rattle.macs_rxsc.specs.declared.verdict.Verdict.{Verdict}
+use Rattle.macs_rxsc.specs.declared.verdict.Verdict.TheVariants.{Delivered, Discarded, HeldBack}
+use Rattle.macs_endpoint.specs.State.{Call, Receives, Received, Reply, State, rx_side}
+use Rattle.macs_endpoint.specs.Step.{Step}
+use Rattle.macs_headline.specs.Deliveries.{IsVerifiedAnswer}
+use Rattle.macs_headline.specs.Moments.{Moment}
+
+-- ---- frames that do not verify
+
+-- Discarded for this reason where validation is strict or C is set; delivered as this kind where validation is Check and C is clear.
+abbrev pub IsDiscardedUnless : Validate → (is_changed : Bool) → Reason → Kind → Verdict → Type 0
+IsDiscardedUnless validate is_changed reason kind verdict =
+    (((validate ≡ Strict) ⊎ (is_changed ≡ true)) × (verdict ≡ Discarded reason))
+    ⊎ ((validate ≡ Check) × (is_changed ≡ false) × (verdict ≡ Delivered kind))
+
+-- the verdict on a frame that one of the first nine steps settles (IEEE Std 802.1AE-2018, 10.6)
+abbrev pub IsVerdictOf : RxSide → List ℕ → RxStep → Verdict → Type 0
+IsVerdictOf side frame (Tag IsRunt) verdict = verdict ≡ Discarded Runt
+IsVerdictOf side frame (Tag IsOversize) verdict = verdict ≡ Discarded Oversize
+IsVerdictOf side frame (Tag HasNoTag) verdict =
+    ((side.validate ≡ Strict) × (verdict ≡ Discarded NoTag)) ⊎ ((side.validate ≡ Check) × (verdict ≡ Delivered Untagged))
+IsVerdictOf side frame (Tag HasBadTag) verdict = verdict ≡ Discarded BadTag
+IsVerdictOf side frame (Tag IsForKay) verdict = verdict ≡ Discarded ForKay
+IsVerdictOf side frame NoChannel verdict = IsDiscardedUnless side.validate (changed (control frame)) NoSci UnknownSci verdict
+IsVerdictOf side frame NoAssociation verdict = IsDiscardedUnless side.validate (changed (control frame)) NotUsingSa UnusedSa verdict
+IsVerdictOf side frame BelowLowest verdict = verdict ≡ Discarded Late
+IsVerdictOf side frame NotVerified verdict = IsDiscardedUnless side.validate (changed (control frame)) NotValid Invalid verdict
+
+-- A frame that is neither delivered as verified nor held back is settled by the first of these steps that holds of it, and nothing changes.
+abbrev pub UnverifiedAreSettled : ℕ → Type 0
+UnverifiedAreSettled sectors = (s : State) → Moment sectors s → (frame out : List ℕ) (verdict : Verdict) (new : State)
+    → ¬ IsVerifiedAnswer (Ok verdict) → verdict ≢ HeldBack → Step s (Receives frame) (Received (Ok verdict) out) new
+    → ((step : RxStep) × IsFirst (RxStepHolds (rx_side s) frame) rx_steps step × IsVerdictOf (rx_side s) frame step verdict) × (new ≡ s)
+
+-- ---- frames that are held back
+
+-- A frame verifies under the association of that moment that its tag names, by channel and number, and its packet number is not below the next one there.
+pub record IsAhead (s : State) (frame : List ℕ) : Type 0 where
+  pub sci : List ℕ
+  pub sa : RxSa
+  pub plain : List ℕ
+  pub numbers : Numbers
+  pub named : channel_of (rx_side s) frame ≡ Some sci
+  pub association : s.config.rx sci (tag_of frame).an ≡ Some sa
+  pub are_numbers : s.numbers sci (tag_of frame).an ≡ Some numbers
+  pub verified : Verified frame sa.key sci (octets_of sa.offset) plain
+  pub ahead : numbers.next ≤ (tag_of frame).pn
+
+-- each frame that is held back is such a one
+abbrev pub HeldAreAhead : ℕ → Type 0
+HeldAreAhead sectors = (s : State) → Moment sectors s → (frame out : List ℕ) (new : State) → Step s (Receives frame) (Received (Ok HeldBack) out) new
+    → IsAhead s frame
+
+-- ---- what was seen
+
+-- A call is given a frame that verifies under the association of this SCI and number, which its tag names, and has this packet number.
+pub record IsSeenBy (s : State) (call : Call) (sci : List ℕ) (an pn : ℕ) : Type 0 where
+  pub frame : List ℕ
+  pub received : call ≡ Receives frame
+  pub named : channel_of (rx_side s) frame ≡ Some sci
+  pub is_an : (tag_of frame).an ≡ an
+  pub is_pn : (tag_of frame).pn ≡ pn
+  pub sa : RxSa
+  pub association : s.config.rx sci an ≡ Some sa
+  pub plain : List ℕ
+  pub verified : Verified frame sa.key sci (octets_of sa.offset) plain
+
+-- of these numbers of associations, this is the greatest that was seen on one
+abbrev pub WasSeen : (List ℕ → ℕ → Option Numbers) → List ℕ → ℕ → ℕ → Type 0
+WasSeen numbers sci an pn = (n : Numbers) × (numbers sci an ≡ Some n) × (n.seen ≡ Some pn)
+
+-- At an opening none was seen. Later the greatest number that was seen on an association was so before the last call, or is that of a frame that this call
+-- was given and that verifies there.
+abbrev pub SeenAreVerified : ℕ → Type 0
+SeenAreVerified sectors = (s : State) (m : Moment sectors s) (sci : List ℕ) (an pn : ℕ)
+    → (m.exchanges ≡ [] → ¬ WasSeen s.numbers sci an pn)
+    × ((call : Call) (reply : Reply) (new : State) → Step s call reply new → WasSeen new.numbers sci an pn
+    → WasSeen s.numbers sci an pn ⊎ IsSeenBy s call sci an pn)

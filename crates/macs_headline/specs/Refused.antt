@@ -1,0 +1,60 @@
+-- The headline on calls that are refused: for the first reason that holds, and for none that does not.
+use Rattle.std.specs.Prelude.{◌≡◌, ◌≢◌, ◌⊎◌, ◌<◌, ◌≤◌, ℕ, List, [], ◌∷◌, length, Option, Some, None, Ok, Err}
+use Rattle.macs_frame.specs.First.{first}
+use Rattle.macs_config.specs.Apply.{refusal_of}
+use Rattle.macs_config.specs.declared.command.Command.{Command}
+use Rattle.macs_config.specs.declared.refusal.Refusal.{Refusal}
+use Rattle.macs_txsc.specs.Transmit.{tx_faults}
+use Rattle.macs_txsc.specs.declared.fault.TxFault.{TxFault}
+use Rattle.macs_txsc.specs.declared.fault.TxFault.TheVariants.{NoNumber}
+use Rattle.macs_endpoint.specs.Queue.{last_ticket, queue_length}
+use Rattle.macs_endpoint.specs.State.{Advanced, Advances, Call, Commands, Protects, Protected, Ran, Refilled, Refills, Reply, State, Submits, Submitted, tx_side}
+use Rattle.macs_endpoint.specs.Step.{Step, state_without_first}
+use Rattle.macs_endpoint.specs.declared.fault.CommandFault.TheVariants as ran
+use Rattle.macs_endpoint.specs.declared.fault.ProtectFault.TheVariants as protect
+use Rattle.macs_endpoint.specs.declared.fault.RefillFault.TheVariants as refill
+use Rattle.macs_endpoint.specs.declared.fault.StepFault.TheVariants as step
+use Rattle.macs_endpoint.specs.declared.fault.SubmitFault.TheVariants as submit
+use Rattle.macs_endpoint.specs.declared.progress.Step.TheVariants.{Done}
+use Rattle.macs_endpoint.specs.declared.queue.Waiting.{Waiting}
+use Rattle.macs_headline.specs.Moments.{Moment}
+
+-- the first reason to refuse a command in this state, if there is one
+abbrev pub refusal_at : State → Command → Option Refusal
+refusal_at s command = refusal_of s.edition s.identity s.config command
+
+-- the first of the faults of a plain frame that are looked for before its number is known to be reserved, if one holds
+abbrev pub fault_at : State → List ℕ → Option TxFault
+fault_at s plain = first (tx_faults (tx_side s) plain)
+
+-- What an answer says of reasons, and what a refusal leaves. A command is refused for the first reason that holds, is done only where none does, and is
+-- answered Busy only where one waits; the first that waits is refused so where it is not in hand, and leaves the queue. A plain frame is refused for its
+-- first fault, or for want of a number where it has none; nothing is in `out` then. A refusal changes nothing else.
+abbrev pub IsExact : State → Call → Reply → State → Type 0
+IsExact old (Commands command) (Ran (Ok done)) new = (old.waiting ≡ []) × (refusal_at old command ≡ None)
+IsExact old (Commands command) (Ran (Err ran.Busy)) new = (old.waiting ≢ []) × (new ≡ old)
+IsExact old (Commands command) (Ran (Err (ran.Refused refusal))) new = (old.waiting ≡ []) × (refusal_at old command ≡ Some refusal) × (new ≡ old)
+IsExact old (Commands command) (Ran (Err ran.GenerationsSpent)) new = (old.waiting ≡ []) × (refusal_at old command ≡ None) × (new ≡ old)
+IsExact old Refills (Refilled (Err refill.Busy)) new = (old.waiting ≢ []) × (new ≡ old)
+IsExact old Refills (Refilled (Err refill.GenerationsSpent)) new = (old.waiting ≡ []) × (new ≡ old)
+IsExact old (Submits command) (Submitted (Err submit.QueueFull)) new = (queue_length ≤ length old.waiting) × (new ≡ old)
+IsExact old (Submits command) (Submitted (Err submit.TicketsSpent)) new =
+    (length old.waiting < queue_length) × (last_ticket ≤ old.tickets) × (new ≡ old)
+IsExact old Advances (Advanced (Ok (Done ticket (Ok done)))) new =
+    (w : Waiting) × (rest : List Waiting) × (old.waiting ≡ w ∷ rest) × (ticket ≡ w.ticket) × (refusal_at old w.command ≡ None)
+IsExact old Advances (Advanced (Ok (Done ticket (Err (ran.Refused refusal))))) new =
+    (w : Waiting) × (rest : List Waiting) × (old.waiting ≡ w ∷ rest) × (ticket ≡ w.ticket) × (old.in_hand ≡ None)
+    × (refusal_at old w.command ≡ Some refusal) × (new ≡ state_without_first old rest)
+IsExact old Advances (Advanced (Ok (Done ticket (Err ran.GenerationsSpent)))) new =
+    (w : Waiting) × (rest : List Waiting) × (old.waiting ≡ w ∷ rest) × (ticket ≡ w.ticket) × (old.in_hand ≡ None)
+    × (refusal_at old w.command ≡ None) × (new ≡ state_without_first old rest)
+IsExact old Advances (Advanced (Ok (Done ticket (Err fault)))) new = ⊥
+IsExact old Advances (Advanced (Err step.GenerationsSpent)) new = new ≡ old
+IsExact old (Protects plain) (Protected (Ok pn) out) new = fault_at old plain ≡ None
+IsExact old (Protects plain) (Protected (Err (protect.Tx fault)) out) new =
+    ((fault_at old plain ≡ Some fault) ⊎ ((fault_at old plain ≡ None) × (fault ≡ NoNumber))) × (out ≡ []) × (new ≡ old)
+IsExact old call reply new = Unit {0}
+
+-- so it is of each call at each moment
+abbrev pub RefusalsAreExact : ℕ → Type 0
+RefusalsAreExact sectors = (s : State) → Moment sectors s → (call : Call) (reply : Reply) (new : State) → Step s call reply new → IsExact s call reply new
