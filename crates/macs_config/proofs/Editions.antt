@@ -3,7 +3,7 @@ use Rattle.std.proofs.Common.{◌≡◌, ◌∙◌, ℕ, Bool, true, false, cond
 use Rattle.std.proofs.lemmas.Bool.{and_from, and_parts, leb-false, lt-leb, ltb-true, lt-ltb, not-false}
 use Rattle.macs_aes.specs.Keys.{octets_of_key}
 use Rattle.macs_frame.specs.First.{first}
-use Rattle.macs_config.specs.Apply.{apply, are_spent_full, config_after, has_no_channel, has_wrong_offset, has_wrong_start, is_key_spent, is_long_key, is_slot_taken, refusal_of}
+use Rattle.macs_config.specs.Apply.{apply, are_channels_full, are_spent_full, config_after, has_no_channel, has_wrong_offset, has_wrong_start, is_channel_taken, is_in_use, is_key_spent, is_long_key, is_own_sci, is_slot_empty, is_slot_taken, is_wrong_end_station, refusal_of}
 use Rattle.macs_config.specs.Config.{Config, Edition, IsConfig, IsUpTo, default, has_channel, takes_key}
 use Rattle.macs_config.specs.Identity.{Identity}
 use Rattle.macs_config.specs.Snapshot.{are_ordered, whole_config, may_follow, place_of, config_of_parts, config_with_part, config_with_parts}
@@ -12,7 +12,7 @@ use Rattle.macs_config.specs.declared.command.Command.TheVariants.{RxAdd, RxDrop
 use Rattle.macs_config.specs.declared.part.Part.{Part}
 use Rattle.macs_config.specs.declared.part.Part.TheVariants.{Settings, TxSa, Channel, RxSa, Spent}
 use Rattle.macs_config.specs.declared.refusal.Refusal.{Refusal}
-use Rattle.macs_config.specs.declared.refusal.Refusal.TheVariants.{ChannelTaken, ChannelsFull, KeySpent, LongKey, NoChannel, OffsetChoice, OwnSci, SlotTaken, SpentFull, StartRange}
+use Rattle.macs_config.specs.declared.refusal.Refusal.TheVariants.{ChannelTaken, ChannelsFull, EndStationSci, InUse, KeySpent, LongKey, NoChannel, OffsetChoice, OwnSci, SlotEmpty, SlotTaken, SpentFull, StartRange}
 use Rattle.macs_config.proofs.Kept.{applied_by}
 use Rattle.macs_config.proofs.Refused.{taken_by}
 
@@ -156,3 +156,44 @@ module _ (small large : Edition) (up_to : IsUpTo small large) where
     spent_once = is.spent_once;
     spent_fit = is.spent_fit;
   }
+
+-- ---- an edition that takes each key
+
+-- the last refusal is none where its test fails
+last-never : (start offset own station none taken full slot empty encoding spent keys long : Bool) → long ≡ false
+    → ¬ (first ((StartRange, start) ∷ (OffsetChoice, offset) ∷ (OwnSci, own) ∷ (EndStationSci, station) ∷ (NoChannel, none) ∷ (ChannelTaken, taken)
+    ∷ (ChannelsFull, full) ∷ (SlotTaken, slot) ∷ (SlotEmpty, empty) ∷ (InUse, encoding) ∷ (KeySpent, spent) ∷ (SpentFull, keys) ∷ (LongKey, long) ∷ []) ≡ Some LongKey)
+last-never true offset own station none taken full slot empty encoding spent keys long fails is = cc
+last-never false true own station none taken full slot empty encoding spent keys long fails is = cc
+last-never false false true station none taken full slot empty encoding spent keys long fails is = cc
+last-never false false false true none taken full slot empty encoding spent keys long fails is = cc
+last-never false false false false true taken full slot empty encoding spent keys long fails is = cc
+last-never false false false false false true full slot empty encoding spent keys long fails is = cc
+last-never false false false false false false true slot empty encoding spent keys long fails is = cc
+last-never false false false false false false false true empty encoding spent keys long fails is = cc
+last-never false false false false false false false false true encoding spent keys long fails is = cc
+last-never false false false false false false false false false true spent keys long fails is = cc
+last-never false false false false false false false false false false true keys long fails is = cc
+last-never false false false false false false false false false false false true long fails is = cc
+last-never false false false false false false false false false false false false true fails is = cc
+last-never false false false false false false false false false false false false false fails is = cc
+
+module _ (edition : Edition) (fits : (key : List ℕ) → not (takes_key edition key) ≡ false) where
+  none-long : (command : Command) → is_long_key edition command ≡ false
+  none-long (SetValidate validate) = refl
+  none-long (SetReplay on window) = refl
+  none-long (SetSciMode mode) = refl
+  none-long (TxInstall an key start confidential offset) = fits (octets_of_key key)
+  none-long (TxUse an) = refl
+  none-long (TxRemove an) = refl
+  none-long (RxAdd sci) = refl
+  none-long (RxDrop sci) = refl
+  none-long (RxInstall sci an key start offset) = fits (octets_of_key key)
+  none-long (RxRemove sci an) = refl
+
+  -- where each key is taken, none is refused for its length
+  pub never-long : (identity : Identity) (c : Config) (command : Command) → ¬ (refusal_of edition identity c command ≡ Some LongKey)
+  never-long identity c command =
+      last-never (has_wrong_start command) (has_wrong_offset command) (is_own_sci identity command) (is_wrong_end_station identity command)
+      (has_no_channel c command) (is_channel_taken c command) (are_channels_full edition c command) (is_slot_taken c command)
+      (is_slot_empty c command) (is_in_use c command) (is_key_spent c command) (are_spent_full c command) (is_long_key edition command) (none-long command)

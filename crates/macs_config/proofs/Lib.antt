@@ -7,6 +7,7 @@ pub mod Tables
 pub mod Keyed
 pub mod Lent
 pub mod Sides
+pub mod Judging
 pub mod Kept
 pub mod Replayed
 pub mod Listed

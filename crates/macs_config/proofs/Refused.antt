@@ -1,5 +1,5 @@
 -- What is refused by exactly the first refusal.
-use Rattle.std.proofs.Common.{◌≡◌, ◌∙◌, ◌↔◌, Option, Some, None, Result, Ok, Err, IfOk, refl, ap, subst, sym}
+use Rattle.std.proofs.Common.{◌≡◌, ◌∙◌, ◌↔◌, Option, Some, None, Result, Ok, Err, IfOk, OnOk, refl, ap, subst, sym}
 use Rattle.macs_config.specs.Apply.{answer_or_refusal}
 use Rattle.macs_config.specs.Config.{Config}
 use Rattle.macs_config.specs.declared.refusal.Refusal.{Refusal}
@@ -11,6 +11,10 @@ unless_refused (Some first) answer refusal = (λ e. cc, λ e. cc)
 unless_answered : {X : Type 0} (first : Option Refusal) (answer : X) → IfOk (answer_or_refusal first answer) (λ x. x ≡ answer)
 unless_answered None answer = refl
 unless_answered (Some refusal) answer = tt
+
+unless_none : {X : Type 0} (first : Option Refusal) (answer : X) → OnOk (answer_or_refusal first answer) (first ≡ None)
+unless_none None answer = refl
+unless_none (Some refusal) answer = tt
 
 -- where nothing is refused, there is the answer
 pub taken_by : {X : Type 0} (first : Option Refusal) (answer : X) → first ≡ None → answer_or_refusal first answer ≡ Ok answer
@@ -24,7 +28,11 @@ module _ {X : Type 0} (first : Option Refusal) (answer : X) (result : Result X R
       let by_first = unless_refused first answer refusal in
       (λ e. by_first.1 (sym is ∙ e), λ e. is ∙ by_first.0 e)
 
-  -- and otherwise there is the answer
+  -- and otherwise there is none
+  pub none_unless : OnOk result (first ≡ None)
+  none_unless = subst (λ (r : Result X Refusal). OnOk r (first ≡ None)) (sym is) (unless_none first answer)
+
+  -- and the answer
   pub answered_unless : IfOk result (λ x. x ≡ answer)
   answered_unless = subst (λ (r : Result X Refusal). IfOk r (λ x. x ≡ answer)) (sym is) (unless_answered first answer)
 

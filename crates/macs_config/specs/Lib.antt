@@ -8,3 +8,4 @@ pub mod Snapshot
 pub mod Value
 pub mod Places
 pub mod Filter
+pub mod Judged

@@ -13,7 +13,7 @@ pub enum Protection {
 }
 
 impl Protection {
-    ghost use Rattle.std.specs.Prelude.{◌≡◌};
+    ghost use Rattle.std.specs.Prelude.{◌≡◌, ◌↔◌, Some};
     ghost use Rattle.macs_config.specs.Association.{is_confidential, offset_of, protection_of};
 
     /// With confidentiality at this offset, or without: then the offset says nothing.
@@ -24,6 +24,19 @@ impl Protection {
             Protection::Confidentiality(offset)
         } else {
             Protection::Integrity
+        }
+    }
+
+    /// With confidentiality at this offset, or without. `None` for an offset other than 0 without
+    /// confidentiality.
+    pub fn chosen(confidential: bool, offset: Offset) -> Option<Protection>
+        ensures { (protection : Protection) → (result ≡ Some protection)
+            ↔ ((confidential ≡ is_confidential protection) × (offset ≡ offset_of protection)) }
+    {
+        if confidential || offset == Offset::Zero {
+            Some(Protection::new(confidential, offset))
+        } else {
+            None
         }
     }
 

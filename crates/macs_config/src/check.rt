@@ -1,15 +1,16 @@
 //! Whether a command may be applied.
 
-ghost use Rattle.std.specs.Prelude.{◌≡◌, ◌==◌, ◌||◌, ◌&&◌, Some, None, not, length, nat_le, if◌then◌else◌, is_none};
-ghost use Rattle.macs_aes.specs.Keys.{octets_of_key};
-ghost use Rattle.macs_config.specs.Apply.{fingerprint_of, offset_at, refusal_of, answer_or_refusal};
-ghost use Rattle.macs_config.specs.Config.{is_spent, max_spent, rx_fingerprint, takes_key, this_edition, tx_fingerprint};
+ghost use Rattle.std.specs.Prelude.{◌≡◌, Some, None, not, length, nat_le, if◌then◌else◌};
+ghost use Rattle.macs_config.specs.Apply.{refusal_of, answer_or_refusal};
+ghost use Rattle.macs_config.specs.Config.{is_spent, max_spent, takes_key, this_edition};
 ghost use Rattle.macs_config.specs.Identity.{is_port_one};
+ghost use Rattle.macs_config.specs.Judged.{IsJudged, asked_by};
 ghost use Rattle.macs_config.specs.Value.{config_in};
 ghost use Rattle.macs_config.specs.declared.command.Command.TheVariants.{SetSciMode, TxInstall, TxUse, TxRemove, RxAdd, RxDrop, RxInstall, RxRemove};
 ghost use Rattle.macs_config.specs.declared.refusal.Refusal.TheVariants.{KeySpent, LongKey, SpentFull};
 
-use crate::checked::Checked;
+use crate::association::{Protection, RxSa, TxSa};
+use crate::checked::{Checked, Judged};
 use crate::command::{Command, SciMode};
 use crate::contents::{Contents, MAX_CHANNELS};
 use crate::edition::takes_key;
@@ -17,23 +18,26 @@ use crate::fingerprint::{Fingerprint, rx_fingerprint, tx_fingerprint};
 use crate::identity::Identity;
 use crate::refusal::Refusal;
 use crate::spent_keys::{MAX_SPENT, SpentKeys};
-use macs_aes::Key;
-use macs_frame::{An, Offset, Sci};
+use macs_aes::{Key, KeyOctets};
+use macs_frame::{An, Offset, Pn, Sci};
 
 /// The port of an end station's SCI (IEEE Std 802.1AE-2018, 9.5).
 const END_STATION_PORT: [u8; 2] = [0, 1];
 
-/// What a command spends, or its first refusal in the order of `Refusal`.
+/// What is judged of a command, or its first refusal in the order of `Refusal`.
 pub(crate) fn check(
     contents: &Contents,
     identity: &Identity,
     command: &Command,
 ) -> Result<Checked, Refusal>
-    ensures { result ≡ answer_or_refusal (refusal_of this_edition identity.now (config_in contents.now) command.now) (fingerprint_of command.now) }
+    ensures { result ≡ answer_or_refusal (refusal_of this_edition identity.now (config_in contents.now) command.now) command.now }
 {
     match *command {
-        Command::SetValidate(_) | Command::SetReplay { .. } => Ok(Checked::new(None)),
-        Command::SetSciMode(mode) => without_key(sci_mode_refusal(identity, mode)),
+        Command::SetValidate(validate) => Ok(Checked::of(Judged::SetValidate(validate))),
+        Command::SetReplay { on, window } => Ok(Checked::of(Judged::SetReplay { on, window })),
+        Command::SetSciMode(mode) => {
+            unless_refused(sci_mode_refusal(identity, mode), Judged::SetSciMode(mode))
+        }
         Command::TxInstall {
             an,
             key,
@@ -41,10 +45,19 @@ pub(crate) fn check(
             confidential,
             offset,
         } => check_tx_install(contents, an, &key, start, confidential, offset),
-        Command::TxUse { an } => without_key(tx_use_refusal(contents, an)),
-        Command::TxRemove { an } => without_key(tx_remove_refusal(contents, an)),
-        Command::RxAdd { sci } => without_key(rx_add_refusal(contents, identity, sci)),
-        Command::RxDrop { sci } => without_key(rx_drop_refusal(contents, sci)),
+        Command::TxUse { an } => unless_refused(tx_use_refusal(contents, an), Judged::TxUse { an }),
+        Command::TxRemove { an } => {
+            unless_refused(tx_remove_refusal(contents, an), Judged::TxRemove { an })
+        }
+        Command::RxAdd { sci } => {
+            unless_refused(
+                rx_add_refusal(contents, identity, sci),
+                Judged::RxAdd { sci },
+            )
+        }
+        Command::RxDrop { sci } => {
+            unless_refused(rx_drop_refusal(contents, sci), Judged::RxDrop { sci })
+        }
         Command::RxInstall {
             sci,
             an,
@@ -52,17 +65,23 @@ pub(crate) fn check(
             start,
             offset,
         } => check_rx_install(contents, sci, an, &key, start, offset),
-        Command::RxRemove { sci, an } => without_key(rx_remove_refusal(contents, sci, an)),
+        Command::RxRemove { sci, an } => {
+            unless_refused(
+                rx_remove_refusal(contents, sci, an),
+                Judged::RxRemove { sci, an },
+            )
+        }
     }
 }
 
 /// What the check of a command that spends no key answers.
-fn without_key(refusal: Option<Refusal>) -> Result<Checked, Refusal>
-    ensures { result ≡ answer_or_refusal refusal None }
+fn unless_refused(refusal: Option<Refusal>, judged: Judged) -> Result<Checked, Refusal>
+    requires { IsJudged judged }
+    ensures { result ≡ answer_or_refusal refusal (asked_by judged) }
 {
     match refusal {
         Some(refusal) => Err(refusal),
-        None => Ok(Checked::new(None)),
+        None => Ok(Checked::of(judged)),
     }
 }
 
@@ -93,18 +112,33 @@ fn check_tx_install(
     offset: u8,
 ) -> Result<Checked, Refusal>
     ensures { (identity : _) → result ≡ answer_or_refusal (refusal_of this_edition identity (config_in contents.now)
-        (TxInstall an key.now start confidential offset)) (Some (tx_fingerprint (octets_of_key key.now))) }
+        (TxInstall an key.now start confidential offset)) (TxInstall an key.now start confidential offset) }
 {
-    if start == 0 {
-        Err(Refusal::StartRange)
-    } else if is_wrong_offset(confidential, offset) {
-        Err(Refusal::OffsetChoice)
-    } else if contents.tx[an.get() as usize].is_some() {
-        Err(Refusal::SlotTaken)
-    } else {
-        let octets = key.as_slice();
-        check_key(&contents.spent_tx, octets, tx_fingerprint(octets))
+    let Some(start) = Pn::new(start) else {
+        return Err(Refusal::StartRange);
+    };
+    let Some(offset) = Offset::new(offset) else {
+        return Err(Refusal::OffsetChoice);
+    };
+    let Some(protection) = Protection::chosen(confidential, offset) else {
+        return Err(Refusal::OffsetChoice);
+    };
+    if contents.tx[an.get() as usize].is_some() {
+        return Err(Refusal::SlotTaken);
     }
+    let octets = key.as_slice();
+    let fingerprint = tx_fingerprint(octets);
+    if let Some(refusal) = key_refusal(&contents.spent_tx, octets, &fingerprint) {
+        return Err(refusal);
+    }
+    let key = KeyOctets::of(*key);
+    let sa = TxSa { key, protection };
+    Ok(Checked::of(Judged::TxInstall {
+        an,
+        sa,
+        start,
+        fingerprint,
+    }))
 }
 
 fn tx_use_refusal(contents: &Contents, an: An) -> Option<Refusal>
@@ -162,20 +196,34 @@ fn check_rx_install(
     offset: u8,
 ) -> Result<Checked, Refusal>
     ensures { (identity : _) → result ≡ answer_or_refusal (refusal_of this_edition identity (config_in contents.now)
-        (RxInstall sci an key.now start offset)) (Some (rx_fingerprint sci (octets_of_key key.now))) }
+        (RxInstall sci an key.now start offset)) (RxInstall sci an key.now start offset) }
 {
-    if start == 0 {
-        Err(Refusal::StartRange)
-    } else if is_wrong_offset(true, offset) {
-        Err(Refusal::OffsetChoice)
-    } else if !contents.has_channel(sci) {
-        Err(Refusal::NoChannel)
-    } else if contents.rx(sci, an).is_some() {
-        Err(Refusal::SlotTaken)
-    } else {
-        let octets = key.as_slice();
-        check_key(&contents.spent_rx, octets, rx_fingerprint(sci, octets))
+    let Some(start) = Pn::new(start) else {
+        return Err(Refusal::StartRange);
+    };
+    let Some(offset) = Offset::new(offset) else {
+        return Err(Refusal::OffsetChoice);
+    };
+    if !contents.has_channel(sci) {
+        return Err(Refusal::NoChannel);
     }
+    if contents.rx(sci, an).is_some() {
+        return Err(Refusal::SlotTaken);
+    }
+    let octets = key.as_slice();
+    let fingerprint = rx_fingerprint(sci, octets);
+    if let Some(refusal) = key_refusal(&contents.spent_rx, octets, &fingerprint) {
+        return Err(refusal);
+    }
+    let key = KeyOctets::of(*key);
+    let sa = RxSa { key, offset };
+    Ok(Checked::of(Judged::RxInstall {
+        sci,
+        an,
+        sa,
+        start,
+        fingerprint,
+    }))
 }
 
 fn rx_remove_refusal(contents: &Contents, sci: Sci, an: An) -> Option<Refusal>
@@ -190,26 +238,19 @@ fn rx_remove_refusal(contents: &Contents, sci: Sci, an: An) -> Option<Refusal>
     }
 }
 
-/// Whether so many octets are no confidentiality offset, or not 0 without confidentiality.
-fn is_wrong_offset(confidential: bool, octets: u8) -> bool
-    ensures { result ≡ (is_none (offset_at octets) || (not confidential && not (octets == 0))) }
-{
-    Offset::new(octets).is_none() || (!confidential && octets != 0)
-}
-
-/// What a new key of these octets spends among those of its side, or what keeps it from being spent.
-fn check_key(spent: &SpentKeys, octets: &[u8], fingerprint: Fingerprint) -> Result<Checked, Refusal>
-    ensures { result ≡ answer_or_refusal (if is_spent spent.now fingerprint then Some KeySpent
+/// What keeps a key of these octets, and its fingerprint, from being spent among those of its side.
+fn key_refusal(spent: &SpentKeys, octets: &[u8], fingerprint: &Fingerprint) -> Option<Refusal>
+    ensures { result ≡ (if is_spent spent.now fingerprint.now then Some KeySpent
         else if nat_le max_spent (length spent.now) then Some SpentFull
-        else if not (takes_key this_edition octets.now) then Some LongKey else None) (Some fingerprint) }
+        else if not (takes_key this_edition octets.now) then Some LongKey else None) }
 {
-    if spent.contains(&fingerprint) {
-        Err(Refusal::KeySpent)
+    if spent.contains(fingerprint) {
+        Some(Refusal::KeySpent)
     } else if spent.len() >= MAX_SPENT {
-        Err(Refusal::SpentFull)
+        Some(Refusal::SpentFull)
     } else if !takes_key(octets) {
-        Err(Refusal::LongKey)
+        Some(Refusal::LongKey)
     } else {
-        Ok(Checked::new(Some(fingerprint)))
+        None
     }
 }

@@ -3,7 +3,7 @@
 ghost use Rattle.std.specs.Prelude.{◌≡◌, ◌≤◌, ◌↔◌, ℕ, List, false, if◌then◌else◌, length, slice_get, IfSome, None, Some, Ok, Err, IfOk, OnOk, OnErr};
 ghost use Rattle.std.specs.Option.{option_map};
 ghost use Rattle.macs_aes.specs.Keys.{octets_of_key};
-ghost use Rattle.macs_config.specs.Apply.{apply, fingerprint_of, refusal_of};
+ghost use Rattle.macs_config.specs.Apply.{apply, refusal_of};
 ghost use Rattle.macs_config.specs.Config.{IsConfig, default, has_channel, is_spent, rx_fingerprint, spent_of, this_edition, tx_fingerprint};
 ghost use Rattle.macs_config.specs.Snapshot.{config_of_listed, config_of_parts};
 ghost use Rattle.macs_config.specs.Value.{config_of};
@@ -91,24 +91,24 @@ impl Config {
         is_restored
     }
 
-    /// What a command that may be applied spends, or the first refusal in the order of `Refusal`.
+    /// What is judged of a command that may be applied, or the first refusal in the order of `Refusal`. An install
+    /// hashes its key here, and nowhere after it.
     pub fn check(&self, command: &Command) -> Result<Checked, Refusal>
         ensures refused { (refusal : Refusal) → (result ≡ Err refusal)
             ↔ (refusal_of this_edition self.now.identity (config_of self.now) command.now ≡ Some refusal) }
         ensures fits { OnOk result (refusal_of this_edition self.now.identity (config_of self.now) command.now ≡ None) }
-        ensures spends { IfOk result (λ checked. checked ≡ fingerprint_of command.now) }
+        ensures checked { IfOk result (λ checked. checked ≡ command.now) }
     {
         check(&self.contents, &self.identity, command)
     }
 
-    /// Applies a command that this configuration does not refuse, by what its check found.
-    pub fn apply_checked(&mut self, command: &Command, checked: Checked)
-        requires fits { refusal_of this_edition self.old.identity (config_of self.old) command.now ≡ None }
-        requires checked { checked ≡ fingerprint_of command.now }
-        ensures applied { apply this_edition self.old.identity (config_of self.old) command.now ≡ Ok (config_of self.new) }
+    /// Applies a command that this configuration does not refuse, as its check judged it.
+    pub fn apply_checked(&mut self, checked: &Checked)
+        requires { refusal_of this_edition self.old.identity (config_of self.old) checked.now ≡ None }
+        ensures applied { apply this_edition self.old.identity (config_of self.old) checked.now ≡ Ok (config_of self.new) }
         ensures identity { self.new.identity ≡ self.old.identity }
     {
-        change(&mut self.contents, command, &checked);
+        change(&mut self.contents, checked.judged());
     }
 
     /// Applies a command. A refusal, the first in the order of `Refusal`, changes nothing.
@@ -121,7 +121,7 @@ impl Config {
         ensures same { OnErr result (self.new ≡ self.old) }
     {
         let checked = self.check(command)?;
-        self.apply_checked(command, checked);
+        self.apply_checked(&checked);
         Ok(())
     }
 

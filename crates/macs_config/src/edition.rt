@@ -8,7 +8,7 @@ ghost use Rattle.macs_config.specs.Config.{takes_key, this_edition};
 const KEY_OCTETS: usize = 16;
 
 /// Whether this edition takes a key of these octets.
-pub(crate) fn takes_key(octets: &[u8]) -> bool
+pub fn takes_key(octets: &[u8]) -> bool
     ensures { result ≡ takes_key this_edition octets.now }
 {
     octets.len() == KEY_OCTETS

@@ -1,16 +1,17 @@
 //! Laws of the definitions, for the layers above. Where a law speaks of a value behind a reference, its
 //! body reads the fields: that is how a proof learns their ranges.
 
-ghost use Rattle.std.specs.Prelude.{◌≡◌, ◌<◌, ◌^◌, ◌++◌, ℕ, List, Some, Ok};
+ghost use Rattle.std.specs.Prelude.{◌≡◌, ◌<◌, ◌^◌, ◌++◌, ℕ, List, true, Some, Ok};
 ghost use Rattle.macs_aes.specs.Keys.{octets_of_key};
 ghost use Rattle.macs_frame.specs.Fields.{IsAn, IsSci};
-ghost use Rattle.macs_config.specs.Apply.{IsCommand, IsKey, apply, spent_by};
+ghost use Rattle.macs_config.specs.Apply.{IsCommand, IsKey, apply, refusal_of, spent_by};
 ghost use Rattle.macs_config.specs.Config.{Config, Edition, IsConfig, IsUpTo, default, spent_of};
 ghost use Rattle.macs_config.specs.Identity.{Identity, IsIdentity};
 ghost use Rattle.macs_config.specs.Snapshot.{config_of_parts};
 ghost use Rattle.macs_config.specs.declared.command.Command.{Command};
 ghost use Rattle.macs_config.specs.declared.command.Role.{Role};
 ghost use Rattle.macs_config.specs.declared.part.Part.{Part};
+ghost use Rattle.macs_config.specs.declared.refusal.Refusal.TheVariants.{LongKey};
 
 use crate::{Command, Identity};
 use macs_aes::Key;
@@ -124,4 +125,10 @@ pub fn larger_restores()
 pub fn larger_has()
     ensures { (small large : Edition) → IsUpTo small large
         → (identity : Identity) (c : Config) → IsConfig small identity c → IsConfig large identity c }
+{}
+
+/// An edition that takes long keys refuses no command for its key's length.
+pub fn long_keys_taken()
+    ensures { (edition : Edition) (identity : Identity) (c : Config) (command : Command) → edition.long_keys ≡ true
+        → ¬ (refusal_of edition identity c command ≡ Some LongKey) }
 {}

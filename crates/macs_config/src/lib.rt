@@ -20,10 +20,11 @@ mod restore;
 mod spent_keys;
 
 pub use association::{Protection, RxSa, TxSa};
-pub use checked::Checked;
+pub use checked::{Checked, Judged, key_of};
 pub use command::{Command, Replay, Role, SciMode, Validate};
 pub use config::Config;
 pub use contents::MAX_CHANNELS;
+pub use edition::takes_key;
 pub use fingerprint::Fingerprint;
 pub use identity::Identity;
 pub use part::{Fingerprints, MAX_FINGERPRINTS, Part};

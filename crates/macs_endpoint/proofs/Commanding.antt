@@ -1,8 +1,8 @@
 -- A command that does not wait: it is kept and followed, or refused, or cut short.
 use Rattle.std.proofs.Common.{◌≡◌, ◌≤◌, ◌+◌, [], inl, inr, ℕ, true, false, not, ◌&&◌, if◌then◌else◌, List, Option, Some, None, Result, Ok, Err, is_ok, IsOk, refl, sym, ◌∙◌, ap, subst, arith}
-use Rattle.macs_config.specs.Apply.{IsCommand, answer_or_refusal, apply, config_after, refusal_of}
+use Rattle.macs_config.specs.Apply.{IsCommand, apply}
 use Rattle.macs_config.specs.Config.{Config, this_edition}
-use Rattle.macs_config.specs.Identity.{Identity, IsIdentity}
+use Rattle.macs_config.specs.Identity.{IsIdentity}
 use Rattle.macs_config.specs.declared.command.Command.{Command}
 use Rattle.macs_config.specs.declared.refusal.Refusal.{Refusal}
 use Rattle.macs_disk.specs.Disk.{IsHonest}
@@ -48,13 +48,6 @@ use Rattle.macs_endpoint.proofs.InHand.{at-rest, kept-backed}
 pub by_accepted : (s : Standing) (command : Command) (result : Result Config Refusal) → IsOk (standing_or_refusal s command result) → IsOk result
 by_accepted s command (Ok config) is = refl
 by_accepted s command (Err refusal) is = absurd cc
-
--- what is refused is not applied
-pub refused-by : (identity other : Identity) (config same : Config) (command : Command) (refusal : Refusal) → other ≡ identity → same ≡ config
-    → refusal_of this_edition other same command ≡ Some refusal → apply this_edition identity config command ≡ Err refusal
-refused-by identity other config same command refusal is_identity is_config is =
-    (λ i. apply this_edition (sym is_identity i) (sym is_config i) command)
-    ∙ ap (λ (o : Option Refusal). answer_or_refusal o (config_after same command)) is
 
 -- a command is in hand while it is kept
 during-held : (s : State) (command : Command) → s.waiting ≡ [] → s.stopped ≡ false → Accepts s command

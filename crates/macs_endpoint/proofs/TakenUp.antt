@@ -52,7 +52,7 @@ front-is waiting head first others popped waits =
 
 -- ---- what the store says of it
 
-refused_by : (s : Standing) (command : Command) (result : Result Config Refusal) (refusal : Refusal)
+pub refused_by : (s : Standing) (command : Command) (result : Result Config Refusal) (refusal : Refusal)
     → standing_or_refusal s command result ≡ Err refusal → result ≡ Err refusal
 refused_by s command (Ok config) refusal is = absurd cc
 refused_by s command (Err other) refusal is = let same : other ≡ refusal = cc in ap Err same

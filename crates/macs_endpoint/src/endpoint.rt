@@ -2,6 +2,7 @@
 
 ghost use Rattle.std.specs.Prelude.{◌≡◌, [], IfOk, IsOk, false};
 ghost use Rattle.std.specs.Option.{option_map};
+ghost use Rattle.macs_config.specs.Apply.{IsCommand};
 ghost use Rattle.macs_config.specs.Value.{config_of};
 ghost use Rattle.macs_rxsc.specs.Receive.{Numbers};
 ghost use Rattle.macs_store.specs.Standing.{accept};
@@ -20,7 +21,7 @@ use crate::queue::Queue;
 use crate::refilling::Raise;
 use crate::turn::Turn;
 use macs_config::laws::{command_in_range, identity_in_range};
-use macs_config::{Command, Config, Identity};
+use macs_config::{Checked, Command, Config, Identity};
 use macs_disk::SectorDisk;
 use macs_frame::laws::octets_in_range;
 use macs_frame::{An, FrameBuf, Pn, Sci};
@@ -36,7 +37,7 @@ pub struct Endpoint<D: SectorDisk> {
     pub(crate) store: Store<D>,
     pub(crate) channels: Channels,
     /// The command whose call or whose work on the disk began and did not end; after a device fault it stays.
-    pub(crate) in_hand: Option<Command>,
+    pub(crate) in_hand: Option<Checked>,
     /// The ceiling that is being raised.
     pub(crate) reserving: Option<Raise>,
     pub(crate) queue: Queue,
@@ -109,48 +110,52 @@ impl<D: SectorDisk> Endpoint<D> {
         if !self.queue.is_empty() {
             return Err(CommandFault::Busy);
         }
-        if let Err(refusal) = self.store.config().check(&command) {
-            self.turn = Turn::Reservation;
-            return Err(CommandFault::Refused(refusal));
+        match self.store.check(&command) {
+            Ok(checked) => self.keep(&checked),
+            Err(refusal) => {
+                self.turn = Turn::Reservation;
+                Err(CommandFault::Refused(refusal))
+            }
         }
-        self.keep(command)
     }
 
-    /// Finishes a reservation that is in hand, and then keeps a command that is accepted. No submitted command waits.
-    fn keep(&mut self, command: Command) -> Result<(), CommandFault>
+    /// Finishes a reservation that is in hand, and then keeps a command that is accepted, as its check judged it:
+    /// what is reserved changes no configuration. No submitted command waits.
+    fn keep(&mut self, checked: &Checked) -> Result<(), CommandFault>
         requires running { is_stopped self.old ≡ false }
         requires none { self.old.waiting ≡ [] }
-        requires accepted { IsOk (accept (standing_in self.old.store) command) }
-        ensures { KeepsCommand D.disk self.old command result self.new }
+        requires in_range { IsCommand checked.now }
+        requires accepted { IsOk (accept (standing_in self.old.store) checked.now) }
+        ensures { KeepsCommand D.disk self.old checked.now result self.new }
     {
-        command_in_range(&command);
         self.facts();
         if self.finish_reservation().is_err() {
-            self.in_hand = Some(command);
+            self.in_hand = Some(*checked);
             self.turn = Turn::Reservation;
             return Err(CommandFault::Disk);
         }
-        self.commit(command)
+        self.commit(checked)
     }
 
-    /// Keeps a command that is accepted, and follows it. No work is in hand, and no submitted command waits.
-    fn commit(&mut self, command: Command) -> Result<(), CommandFault>
+    /// Keeps a command that is accepted, as its check judged it, and follows it. No work is in hand, and no submitted
+    /// command waits.
+    fn commit(&mut self, checked: &Checked) -> Result<(), CommandFault>
         requires running { is_stopped self.old ≡ false }
         requires idle { IsIdle self.old.store }
         requires none { self.old.waiting ≡ [] }
-        requires accepted { IsOk (accept (standing_in self.old.store) command) }
-        ensures { KeepsCommand D.disk self.old command result self.new }
+        requires in_range { IsCommand checked.now }
+        requires accepted { IsOk (accept (standing_in self.old.store) checked.now) }
+        ensures { KeepsCommand D.disk self.old checked.now result self.new }
     {
-        command_in_range(&command);
         self.turn = Turn::Reservation;
-        match self.store.commit(&command) {
+        match self.store.commit_checked(checked) {
             Ok(()) => {
-                self.channels.follow(&command, &self.store);
+                self.channels.follow(checked, &self.store);
                 Ok(())
             }
             Err(fault) => match fault {
                 CommitFault::Disk => {
-                    self.in_hand = Some(command);
+                    self.in_hand = Some(*checked);
                     Err(CommandFault::Disk)
                 }
                 _ => Err(CommandFault::GenerationsSpent),
@@ -206,7 +211,8 @@ impl<D: SectorDisk> Endpoint<D> {
     pub fn in_hand(&self) -> Option<Command>
         ensures { result ≡ (state_of self.now no_logs).in_hand }
     {
-        self.in_hand
+        let checked = self.in_hand?;
+        Some(checked.command())
     }
 
     /// The configuration.

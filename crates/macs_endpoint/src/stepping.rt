@@ -132,9 +132,14 @@ impl<D: SectorDisk> Endpoint<D> {
         ensures { StartsFirst D.disk self.old first result self.new }
     {
         command_in_range(&first.command);
-        self.store.start_commit(&first.command)?;
-        self.in_hand = Some(first.command);
-        Ok(())
+        match self.store.check(&first.command) {
+            Ok(checked) => {
+                self.store.start_checked(&checked)?;
+                self.in_hand = Some(checked);
+                Ok(())
+            }
+            Err(refusal) => Err(CommitFault::Refused(refusal)),
+        }
     }
 
     /// The next device call of a reservation in hand. With the last one the ceiling is raised.
@@ -168,8 +173,8 @@ impl<D: SectorDisk> Endpoint<D> {
             Ok(progress) => match progress {
                 JournalStep::Finished => {
                     let done = self.queue.pop();
-                    self.channels.follow(&done.command, &self.store);
-                    self.in_hand = None;
+                    let checked = self.in_hand.take().unwrap();
+                    self.channels.follow(&checked, &self.store);
                     self.turn = Turn::Reservation;
                     Ok(Step::Done(done.ticket, Ok(())))
                 }

@@ -4,15 +4,18 @@ use Rattle.std.proofs.lemmas.Bool.{eq-eqb, ne_eqb}
 use Rattle.macs_frame.specs.Fields.{octets_of}
 use Rattle.macs_frame.specs.declared.fields.Offset.{Offset}
 use Rattle.macs_frame.specs.declared.fields.Offset.TheVariants.{Zero, Thirty, Fifty}
-use Rattle.macs_config.specs.Apply.{offset_or_zero, offset_at}
+use Rattle.macs_config.specs.Apply.{has_wrong_offset, has_wrong_start, is_long_key, offset_or_zero, offset_at}
 use Rattle.macs_aes.specs.Keys.{octets_of_key}
 use Rattle.macs_aes.specs.declared.keys.Key.{Key}
 use Rattle.macs_config.specs.Config.{takes_key, this_edition}
 use Rattle.macs_config.specs.Association.{is_confidential, offset_of, protection_of}
 use Rattle.macs_config.specs.declared.association.Protection.{Protection}
 use Rattle.macs_config.specs.declared.association.Protection.TheVariants.{Confidentiality, Integrity}
+use Rattle.macs_config.specs.Judged.{IsJudged, asked_by, judged_of, judged_of-asked_by}
+use Rattle.macs_config.specs.declared.checked.Judged.{Judged}
+use Rattle.macs_config.specs.declared.command.Command.{Command}
 use Rattle.macs_config.specs.declared.command.Command.TheVariants as command
-use Rattle.macs_record.specs.Commands.{record_of}
+use Rattle.macs_record.specs.Commands.{record_judged, record_of, record_of_accepted}
 use Rattle.macs_record.specs.declared.record.Record.{Record}
 use Rattle.macs_record.specs.declared.record.Record.TheVariants.{RxInstall, TxInstall}
 
@@ -126,3 +129,29 @@ module _ (sci : List ℕ) (an : ℕ) (key : Key) (start octets : ℕ) where
     pub rx_record : (octets_of : List ℕ) → takes_key this_edition (octets_of_key key) ≡ true → octets_of ≡ octets_of_key key
         → Some (RxInstall sci an (record { key = octets_of; offset = offset }) start) ≡ rx_asked
     rx_record octets_of t k = (λ i. Some (RxInstall sci an (record { key = k i; offset = offset }) start)) ∙ sym (rx_value (Some offset) false true (sym e) z t)
+
+-- ---- commands that were judged
+
+recorded-as : (asked : Command) → record_of_accepted asked ≡ record_judged (judged_of asked)
+recorded-as (command.SetValidate validate) = refl
+recorded-as (command.SetReplay on window) = refl
+recorded-as (command.SetSciMode mode) = refl
+recorded-as (command.TxInstall an key start confidential offset) = refl
+recorded-as (command.TxUse an) = refl
+recorded-as (command.TxRemove an) = refl
+recorded-as (command.RxAdd sci) = refl
+recorded-as (command.RxDrop sci) = refl
+recorded-as (command.RxInstall sci an key start offset) = refl
+recorded-as (command.RxRemove sci an) = refl
+
+right-recorded : (start offset long : Bool) (r : Record) → start ≡ false → offset ≡ false → long ≡ false
+    → Some r ≡ (if start || offset || long then None else Some r)
+right-recorded start offset long r s o l = sym (λ i. if s i || o i || l i then None else Some r)
+
+-- what was judged has the record of its command
+pub judged-recorded : (j : Judged) → IsJudged j → Some (record_judged j) ≡ record_of (asked_by j)
+judged-recorded j is =
+    ap (λ (j : Judged). Some (record_judged j)) (sym (judged_of-asked_by j is))
+    ∙ ap (λ (r : Record). Some r) (sym (recorded-as (asked_by j)))
+    ∙ right-recorded (has_wrong_start (asked_by j)) (has_wrong_offset (asked_by j)) (is_long_key this_edition (asked_by j)) (record_of_accepted (asked_by j))
+    is.1 is.2 is.3

@@ -4,6 +4,8 @@ use Rattle.macs_aes.specs.Keys.{octets_of_key}
 use Rattle.macs_config.specs.Apply.{offset_or_zero, offset_at, has_wrong_offset, has_wrong_start, is_long_key}
 use Rattle.macs_config.specs.Association.{protection_of}
 use Rattle.macs_config.specs.Config.{this_edition}
+use Rattle.macs_config.specs.declared.checked.Judged.{Judged}
+use Rattle.macs_config.specs.declared.checked.Judged.TheVariants as judged
 use Rattle.macs_config.specs.declared.command.Command.{Command}
 use Rattle.macs_config.specs.declared.command.Command.TheVariants as command
 use Rattle.macs_record.specs.declared.record.Record.{Record}
@@ -27,3 +29,16 @@ record_of_accepted (command.RxRemove sci an) = RxRemove sci an
 -- a command has a record unless its start is 0, its offset is no choice, or its key is longer than is taken
 abbrev pub record_of : Command → Option Record
 record_of asked = if has_wrong_start asked || has_wrong_offset asked || is_long_key this_edition asked then None else Some (record_of_accepted asked)
+
+-- the record of a command, by what its check judged
+abbrev pub record_judged : Judged → Record
+record_judged (judged.SetValidate validate) = SetValidate validate
+record_judged (judged.SetReplay on window) = SetReplay (record { on = on; window = window })
+record_judged (judged.SetSciMode mode) = SetSciMode mode
+record_judged (judged.TxInstall an sa start fingerprint) = TxInstall an sa start
+record_judged (judged.TxUse an) = TxUse an
+record_judged (judged.TxRemove an) = TxRemove an
+record_judged (judged.RxAdd sci) = RxAdd sci
+record_judged (judged.RxDrop sci) = RxDrop sci
+record_judged (judged.RxInstall sci an sa start fingerprint) = RxInstall sci an sa start
+record_judged (judged.RxRemove sci an) = RxRemove sci an

@@ -94,14 +94,6 @@ kind_number kinds.RxSaLong = 19
 kind_number kinds.TxInstallLong = 20
 kind_number kinds.RxInstallLong = 21
 
--- a record of this kind has a key of 32 octets
-abbrev pub is_long_kind : Kind → Bool
-is_long_kind kinds.TxSaLong = true
-is_long_kind kinds.RxSaLong = true
-is_long_kind kinds.TxInstallLong = true
-is_long_kind kinds.RxInstallLong = true
-is_long_kind kind = false
-
 -- of two kinds the one for keys of 16 octets, or the one for keys of 32
 abbrev pub of_length : KeyLength → Kind → Kind → Kind
 of_length Short short long = short

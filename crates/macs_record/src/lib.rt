@@ -10,7 +10,6 @@ mod head_codec;
 mod key_length;
 mod kind;
 pub mod laws;
-mod protection;
 mod reading;
 mod record;
 mod writing;

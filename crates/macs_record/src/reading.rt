@@ -15,7 +15,6 @@ ghost use Rattle.macs_record.specs.Layout.{encoding_octet, fingerprint_octets, f
 
 use crate::ceiling::Ceiling;
 use crate::key_length::KeyLength;
-use crate::protection::protection;
 use crate::writing::NO_AN;
 use macs_aes::{Key, KeyOctets};
 use macs_config::{Fingerprint, Fingerprints, Protection, Replay, Role, SciMode, Validate};
@@ -221,7 +220,7 @@ impl<'a> Reader<'a> {
     {
         let confidential = self.flag()?;
         let offset = self.offset()?;
-        protection(confidential, offset)
+        Protection::chosen(confidential, offset)
     }
 
     pub(crate) fn role(&mut self) -> Option<Role>

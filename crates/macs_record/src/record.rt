@@ -4,14 +4,16 @@ ghost use Rattle.std.specs.Prelude.{◌≡◌, if◌then◌else◌, Some, None};
 ghost use Rattle.macs_aes.specs.Keys.{octets_of_key};
 ghost use Rattle.macs_config.specs.Config.{takes_key, this_edition};
 ghost use Rattle.macs_config.specs.declared.command.Command.TheVariants.{RxInstall, TxInstall};
-ghost use Rattle.macs_record.specs.Commands.{record_of};
+ghost use Rattle.macs_record.specs.Commands.{record_judged, record_of};
 ghost use Rattle.macs_record.specs.Layout.{by_length, kind_of};
 
 use crate::ceiling::Ceiling;
 use crate::kind::Kind;
-use crate::protection::protection;
 use macs_aes::{Key, KeyOctets};
-use macs_config::{Command, Fingerprints, Replay, Role, RxSa, SciMode, TxSa, Validate};
+use macs_config::{
+    Checked, Command, Fingerprints, Judged, Protection, Replay, Role, RxSa, SciMode, TxSa,
+    Validate, takes_key,
+};
 use macs_frame::{An, Offset, Pn, Sci};
 
 /// A record of a journal. Its kinds are of three groups: what a snapshot of a configuration has, the
@@ -135,6 +137,13 @@ impl Record {
         }
     }
 
+    /// The record of a command that was checked.
+    pub fn of(checked: &Checked) -> Record
+        ensures { Some result ≡ record_of checked.now }
+    {
+        record_judged(checked.judged())
+    }
+
     /// Its kind.
     pub fn kind(&self) -> Kind
         ensures { result ≡ kind_of self.now }
@@ -165,6 +174,30 @@ impl Record {
     }
 }
 
+/// The record of a command, by what its check judged.
+fn record_judged(judged: &Judged) -> Record
+    ensures { result ≡ record_judged judged.now }
+{
+    match *judged {
+        Judged::SetValidate(validate) => Record::SetValidate(validate),
+        Judged::SetReplay { on, window } => Record::SetReplay(Replay { on, window }),
+        Judged::SetSciMode(sci_mode) => Record::SetSciMode(sci_mode),
+        Judged::TxInstall { an, sa, start, .. } => Record::TxInstall { an, sa, start },
+        Judged::TxUse { an } => Record::TxUse { an },
+        Judged::TxRemove { an } => Record::TxRemove { an },
+        Judged::RxAdd { sci } => Record::RxAdd { sci },
+        Judged::RxDrop { sci } => Record::RxDrop { sci },
+        Judged::RxInstall {
+            sci,
+            an,
+            sa,
+            start,
+            ..
+        } => Record::RxInstall { sci, an, sa, start },
+        Judged::RxRemove { sci, an } => Record::RxRemove { sci, an },
+    }
+}
+
 /// The kind of a record with this key: one kind is for short keys, another for long ones.
 fn by_length(key: KeyOctets, short: Kind, long: Kind) -> Kind
     ensures { result ≡ by_length key short long }
@@ -175,13 +208,14 @@ fn by_length(key: KeyOctets, short: Kind, long: Kind) -> Kind
     }
 }
 
-/// The key of a command as a record has it, `None` where it is long.
+/// The key of a command as a record has it, `None` where this edition does not take it.
 fn taken_key(key: Key) -> Option<KeyOctets>
     ensures { result ≡ if takes_key this_edition (octets_of_key key) then Some (octets_of_key key) else None }
 {
-    match key {
-        Key::Short(_) => Some(KeyOctets::of(key)),
-        Key::Long(_) => None,
+    if takes_key(key.as_slice()) {
+        Some(KeyOctets::of(key))
+    } else {
+        None
     }
 }
 
@@ -190,7 +224,7 @@ fn tx_install(an: An, key: Key, start: u32, confidential: bool, offset: u8) -> O
     ensures { result ≡ record_of (TxInstall an key start confidential offset) }
 {
     let offset = Offset::new(offset)?;
-    let protection = protection(confidential, offset)?;
+    let protection = Protection::chosen(confidential, offset)?;
     let start = Pn::new(start)?;
     let key = taken_key(key)?;
     let sa = TxSa { key, protection };

@@ -8,9 +8,10 @@ ghost use Rattle.macs_rxsc.specs.Needs.{Need, need_of};
 ghost use Rattle.macs_rxsc.specs.Value.{packet_numbers, sa_of, association_under};
 
 use crate::need::RxNeed;
+use crate::policy::Policy;
 use crate::settling::settle;
 use crate::verdict::{Kind, Reason, Verdict};
-use macs_config::{Replay, Validate};
+use macs_config::Replay;
 use macs_frame::{An, END_OF_NUMBERS, FrameBuf, Offset, Parts, Pn, Sci, open_parts};
 use macs_gcm::GcmKey;
 
@@ -101,16 +102,15 @@ impl Association {
     pub(crate) fn receive(
         &mut self,
         sci: Sci,
-        validate: Validate,
-        replay: Replay,
+        policy: Policy,
         frame: &[u8],
         parts: &Parts,
         out: &mut FrameBuf,
     ) -> Verdict
         requires read { Tag frame.now parts.now × (¬ IsForKay frame.now) }
         requires empty { out.old.items ≡ [] }
-        ensures verdict { (side : RxSide) (ceilings : List ℕ → ℕ → Option ℕ) → side.validate ≡ validate
-            → side.replay ≡ replay → channel_of side frame.now ≡ Some sci
+        ensures verdict { (side : RxSide) (ceilings : List ℕ → ℕ → Option ℕ) → side.validate ≡ policy.validate
+            → side.replay ≡ policy.replay → channel_of side frame.now ≡ Some sci
             → side.rx sci (tag_of frame.now).an ≡ Some (sa_of self.old)
             → side.numbers sci (tag_of frame.now).an ≡ Some (packet_numbers self.old)
             → ceilings sci (tag_of frame.now).an ≡ Some self.old.ceiling
@@ -123,13 +123,20 @@ impl Association {
         ensures ceiling { self.new.ceiling ≡ self.old.ceiling }
     {
         let pn = parts.tag.pn;
-        if self.is_late(replay, pn) {
+        if self.is_late(policy.replay, pn) {
             return Verdict::Discarded(Reason::Late);
         }
         if !open_parts(&self.key, sci, self.offset, frame, parts, out) {
-            return settle(validate, Reason::NotValid, Kind::Invalid, frame, parts, out);
+            return settle(
+                policy.validate,
+                Reason::NotValid,
+                Kind::Invalid,
+                frame,
+                parts,
+                out,
+            );
         }
-        match self.arrive(pn, replay.window) {
+        match self.arrive(pn, policy.replay.window) {
             Some(kind) => Verdict::Delivered(kind),
             None => {
                 out.clear();

@@ -14,9 +14,9 @@ ghost use Rattle.macs_rxsc.specs.declared.association.Association.{Association};
 use crate::association::{Association, RxNumbers, slide};
 use crate::counters::ChannelCounters;
 use crate::need::RxNeed;
+use crate::policy::Policy;
 use crate::settling::settle;
 use crate::verdict::{Kind, Reason, Verdict};
-use macs_config::{Replay, Validate};
 use macs_frame::{ASSOCIATIONS, An, FrameBuf, Parts, Sci};
 
 /// A receive channel: its SCI, its associations by their numbers, and what was counted for it.
@@ -81,37 +81,29 @@ impl Channel {
     /// empty before. The verdict is counted.
     pub(crate) fn receive(
         &mut self,
-        validate: Validate,
-        replay: Replay,
+        policy: Policy,
         frame: &[u8],
         parts: &Parts,
         out: &mut FrameBuf,
     ) -> Verdict
         requires read { Tag frame.now parts.now × (¬ IsForKay frame.now) }
         requires empty { out.old.items ≡ [] }
-        ensures verdict { ChannelReceives validate replay self.old self.new frame.now result out.new.items }
+        ensures verdict { ChannelReceives policy.validate policy.replay self.old self.new frame.now result out.new.items }
         ensures sci { self.new.sci ≡ self.old.sci }
         ensures sas { sas_in (Some self.new) ≡ sas_in (Some self.old) }
         ensures ceilings { ceilings_in (Some self.new) ≡ ceilings_in (Some self.old) }
         ensures counters { self.new.counters ≡ channel_counters_after_verdict result self.old.counters }
     {
-        let verdict = self.decide(validate, replay, frame, parts, out);
+        let verdict = self.decide(policy, frame, parts, out);
         self.counters.count(verdict);
         verdict
     }
 
     /// What becomes of a frame, as `receive` says; nothing is counted.
-    fn decide(
-        &mut self,
-        validate: Validate,
-        replay: Replay,
-        frame: &[u8],
-        parts: &Parts,
-        out: &mut FrameBuf,
-    ) -> Verdict
+    fn decide(&mut self, policy: Policy, frame: &[u8], parts: &Parts, out: &mut FrameBuf) -> Verdict
         requires read { Tag frame.now parts.now × (¬ IsForKay frame.now) }
         requires empty { out.old.items ≡ [] }
-        ensures verdict { ChannelReceives validate replay self.old self.new frame.now result out.new.items }
+        ensures verdict { ChannelReceives policy.validate policy.replay self.old self.new frame.now result out.new.items }
         ensures sci { self.new.sci ≡ self.old.sci }
         ensures sas { sas_in (Some self.new) ≡ sas_in (Some self.old) }
         ensures ceilings { ceilings_in (Some self.new) ≡ ceilings_in (Some self.old) }
@@ -119,9 +111,9 @@ impl Channel {
     {
         let an = parts.tag.an;
         match &mut self.associations[an.get() as usize] {
-            Some(association) => association.receive(self.sci, validate, replay, frame, parts, out),
+            Some(association) => association.receive(self.sci, policy, frame, parts, out),
             None => settle(
-                validate,
+                policy.validate,
                 Reason::NotUsingSa,
                 Kind::UnusedSa,
                 frame,

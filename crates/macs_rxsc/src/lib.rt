@@ -7,6 +7,7 @@ mod channel;
 mod counters;
 pub mod laws;
 mod need;
+mod policy;
 mod receive;
 mod settling;
 mod table;

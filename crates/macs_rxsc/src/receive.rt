@@ -15,6 +15,7 @@ ghost use Rattle.macs_rxsc.specs.Value.{ceilings_of, channel_counters_of, counte
 use crate::association::{Association, RxNumbers};
 use crate::counters::RxCounters;
 use crate::need::RxNeed;
+use crate::policy::Policy;
 use crate::table::Table;
 use crate::verdict::Verdict;
 use arrayvec::ArrayVec;
@@ -27,8 +28,7 @@ use std::marker::Model;
 /// The receive channels, by ascending SCI, and how their frames are validated.
 #[derive(Drop)]
 pub struct Rx {
-    validate: Validate,
-    replay: Replay,
+    policy: Policy,
     table: Table,
     counters: RxCounters,
 }
@@ -39,10 +39,10 @@ impl Model for Rx {
 
     ghost Value = { RxValue };
 
-    ghost view = { λ r. record { validate = r.validate; replay = r.replay; channels = r.table.channels.items; counters = r.counters } };
+    ghost view = { λ r. record { validate = r.policy.validate; replay = r.policy.replay; channels = r.table.channels.items; counters = r.counters } };
 
     ghost invariant = { λ r. IsSoundRx (record
-        { validate = r.validate; replay = r.replay; channels = r.table.channels.items; counters = r.counters }) };
+        { validate = r.policy.validate; replay = r.policy.replay; channels = r.table.channels.items; counters = r.counters }) };
 }
 
 impl Rx {
@@ -54,10 +54,12 @@ impl Rx {
         ensures channel_counters { channel_counters_of result ≡ (λ sci. None) }
     {
         Rx {
-            validate: Validate::Strict,
-            replay: Replay {
-                on: true,
-                window: 0,
+            policy: Policy {
+                validate: Validate::Strict,
+                replay: Replay {
+                    on: true,
+                    window: 0,
+                },
             },
             table: Table {
                 channels: ArrayVec::new(),
@@ -80,8 +82,8 @@ impl Rx {
         ensures counters { counters_of self.new ≡ counters_of self.old }
         ensures channel_counters { channel_counters_of self.new ≡ channel_counters_of self.old }
     {
-        self.validate = validate;
-        self.replay = Replay { on, window };
+        let replay = Replay { on, window };
+        self.policy = Policy { validate, replay };
         self.table.slide(window);
     }
 
@@ -219,7 +221,7 @@ impl Rx {
         ensures channel_counters { channel_counters_of self.new
             ≡ counters_after_verdict_at (channel_of (rx_side_of self.old) frame.now) result (channel_counters_of self.old) }
     {
-        let verdict = self.table.receive(self.validate, self.replay, frame, out);
+        let verdict = self.table.receive(self.policy, frame, out);
         self.counters.count(verdict);
         verdict
     }

@@ -20,10 +20,11 @@ ghost use Rattle.macs_rxsc.specs.declared.channel.Channel.{Channel};
 use crate::association::Association;
 use crate::channel::Channel;
 use crate::need::RxNeed;
+use crate::policy::Policy;
 use crate::settling::{refuse, settle};
 use crate::verdict::{Kind, Reason, Verdict};
 use arrayvec::ArrayVec;
-use macs_config::{MAX_CHANNELS, Replay, Validate};
+use macs_config::MAX_CHANNELS;
 use macs_frame::{An, FrameBuf, Parts, ScName, Sci, end_station_sci, read_tag};
 
 /// The receive channels that stand, by ascending SCI.
@@ -182,19 +183,13 @@ impl Table {
     }
 
     /// What becomes of a frame from the common side. The verdict is counted for its channel.
-    pub(crate) fn receive(
-        &mut self,
-        validate: Validate,
-        replay: Replay,
-        frame: &[u8],
-        out: &mut FrameBuf,
-    ) -> Verdict
-        ensures { TableReceives validate replay self.old.channels.items self.new.channels.items frame.now result out.new.items }
+    pub(crate) fn receive(&mut self, policy: Policy, frame: &[u8], out: &mut FrameBuf) -> Verdict
+        ensures { TableReceives policy.validate policy.replay self.old.channels.items self.new.channels.items frame.now result out.new.items }
     {
         out.clear();
         match read_tag(frame) {
-            Ok(parts) => self.receive_tagged(validate, replay, frame, &parts, out),
-            Err(fault) => refuse(validate, fault, frame, out),
+            Ok(parts) => self.receive_tagged(policy, frame, &parts, out),
+            Err(fault) => refuse(policy.validate, fault, frame, out),
         }
     }
 
@@ -202,19 +197,25 @@ impl Table {
     /// empty before.
     fn receive_tagged(
         &mut self,
-        validate: Validate,
-        replay: Replay,
+        policy: Policy,
         frame: &[u8],
         parts: &Parts,
         out: &mut FrameBuf,
     ) -> Verdict
         requires read { Tag frame.now parts.now × (¬ IsForKay frame.now) }
         requires empty { out.old.items ≡ [] }
-        ensures { TableReceives validate replay self.old.channels.items self.new.channels.items frame.now result out.new.items }
+        ensures { TableReceives policy.validate policy.replay self.old.channels.items self.new.channels.items frame.now result out.new.items }
     {
         match place_named(self.channels.as_slice(), frame, parts.tag.name) {
-            Some(place) => self.channels[place].receive(validate, replay, frame, parts, out),
-            None => settle(validate, Reason::NoSci, Kind::UnknownSci, frame, parts, out),
+            Some(place) => self.channels[place].receive(policy, frame, parts, out),
+            None => settle(
+                policy.validate,
+                Reason::NoSci,
+                Kind::UnknownSci,
+                frame,
+                parts,
+                out,
+            ),
         }
     }
 }

@@ -5,7 +5,7 @@ pub mod Keeping
 pub mod Compacting
 mod InHand
 mod Turns
-mod StartedCommands
+pub mod StartedCommands
 pub mod EachStep
 pub mod ToTheEnd
 pub mod OneStanding

@@ -1,11 +1,13 @@
 -- A store in memory, the work that it has in hand, and what stands on its disk.
-use Rattle.std.specs.Prelude.{◌≡◌, ◌+◌, ℕ, Bool, false, Option, Some, length, IsSome}
+use Rattle.std.specs.Prelude.{◌≡◌, ◌+◌, ℕ, Bool, false, Option, Some, length, IfSome, IsSome}
 use Rattle.macs_config.specs.Config.{this_edition}
+use Rattle.macs_config.specs.declared.command.Command.{Command}
 use Rattle.macs_disk.specs.Disk as disk
 use Rattle.macs_journal.specs.Found.{Content, content_with_record}
 use Rattle.macs_journal.specs.Stepping.{RenewsWith, IsAppendHand}
 use Rattle.macs_journal.specs.Value.{HoldsWith, JournalValue, left_of}
 use Rattle.macs_journal.specs.Value as journal
+use Rattle.macs_record.specs.Commands.{record_of}
 use Rattle.macs_store.specs.Replay.{meaning_of, standing_after_record}
 use Rattle.macs_store.specs.Snapshot.{snapshot}
 use Rattle.macs_store.specs.Standing.{Standing}
@@ -99,6 +101,12 @@ FitsHand j standing Empty = journal.IsIdle j
 FitsHand j standing (Renewing r) =
     (journal.is_stopped j ≡ false) × IsSome (standing_after_record standing r) × RenewsWith j.place j.hand (snapshot standing)
 FitsHand j standing (Appending r) = (journal.is_stopped j ≡ false) × IsSome (standing_after_record standing r) × IsAppendHand j.hand
+
+-- what was judged beside the work in hand is of the command whose record is in hand
+abbrev pub IsOfHand : Hand → Option Command → Type 0
+IsOfHand Empty checked = Unit {0}
+IsOfHand (Renewing r) checked = IfSome checked (λ command. record_of command ≡ Some r)
+IsOfHand (Appending r) checked = IfSome checked (λ command. record_of command ≡ Some r)
 
 -- ---- on its disk
 

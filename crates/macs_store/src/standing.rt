@@ -1,12 +1,14 @@
 //! What a journal's records stand for.
 
-ghost use Rattle.std.specs.Prelude.{◌≡◌, ◌≤◌, ◌↔◌, List, true, false, if◌then◌else◌, Some, None, IsSome, Ok, Err, IsOk, IfOk, OnOk, OnErr, length};
-ghost use Rattle.macs_config.specs.Apply.{apply, fingerprint_of};
+ghost use Rattle.std.specs.Prelude.{◌≡◌, ◌≤◌, ◌↔◌, List, true, false, if◌then◌else◌, Some, None, IfSome, IsSome, Ok, Err, IsOk, IfOk, OnOk, OnErr, length};
+ghost use Rattle.macs_config.specs.Apply.{apply};
 ghost use Rattle.macs_config.specs.Config as spec;
 ghost use Rattle.macs_config.specs.Config.{this_edition};
+ghost use Rattle.macs_config.specs.Judged.{asked_by};
 ghost use Rattle.macs_config.specs.Snapshot.{config_of_parts};
 ghost use Rattle.macs_config.specs.Value.{config_of};
 ghost use Rattle.macs_config.specs.declared.part.Part.{Part};
+ghost use Rattle.macs_record.specs.Commands.{record_of};
 ghost use Rattle.macs_store.specs.Replay.{standing_after_record, standing_after_records, snapshot_parts, replay_of, is_raise, snapshot_of, ceilings_with_records};
 ghost use Rattle.macs_store.specs.Standing.{IsStanding, accept, ceilings_after, new_standing, no_ceilings, standing_with_rx_ceiling, standing_with_tx_ceiling};
 ghost use Rattle.macs_store.specs.Table.{StandingValue, table_ceilings, table_scis, standing_of};
@@ -14,7 +16,7 @@ ghost use Rattle.macs_store.specs.Table.{StandingValue, table_ceilings, table_sc
 use crate::ahead::ahead;
 use crate::reading::{Snapshot, command_of};
 use crate::table::CeilingTable;
-use macs_config::{Checked, Command, Config, Identity, Refusal};
+use macs_config::{Checked, Command, Config, Identity, Judged, Refusal};
 use macs_frame::{An, Sci};
 use macs_record::{Ceiling, Record};
 use std::marker::Model;
@@ -99,6 +101,21 @@ impl Standing {
         }
     }
 
+    /// Goes on with a record that follows from what stands: that of a command as its check judged it, and a
+    /// raised ceiling where nothing was judged.
+    pub(crate) fn keep(&mut self, value: &Record, checked: Option<Checked>)
+        requires follows { IsSome (standing_after_record (standing_of self.old) value.now) }
+        requires checked { IfSome checked (λ command. record_of command ≡ Some value.now) }
+        ensures { standing_after_record (standing_of self.old) value.now ≡ Some (standing_of self.new) }
+    {
+        match checked {
+            Some(checked) => self.accept_checked(&checked),
+            None => {
+                self.follow(value);
+            }
+        }
+    }
+
     /// Goes on with a raised ceiling of a transmit association, and answers whether it is one.
     fn follow_tx(&mut self, an: An, ceiling: Ceiling) -> bool
         ensures fits { result ≡ is_raise ((standing_of self.old).ceilings.tx an) ceiling }
@@ -139,10 +156,10 @@ impl Standing {
         self.ceilings.put_rx(sci, an, Some(ceiling));
     }
 
-    /// What a command that fits the configuration spends, or the first refusal in the order of `Refusal`.
+    /// What is judged of a command that fits the configuration, or the first refusal in the order of `Refusal`.
     pub(crate) fn check(&self, command: &Command) -> Result<Checked, Refusal>
         ensures fits { OnOk result (IsOk (accept (standing_of self.now) command.now)) }
-        ensures spends { IfOk result (λ checked. checked ≡ fingerprint_of command.now) }
+        ensures checked { IfOk result (λ checked. checked ≡ command.now) }
         ensures refused { (refusal : Refusal) → (result ≡ Err refusal) ↔ (accept (standing_of self.now) command.now ≡ Err refusal) }
     {
         self.config.check(command)
@@ -155,18 +172,17 @@ impl Standing {
         ensures same { OnErr result (self.new ≡ self.old) }
     {
         let checked = self.check(command)?;
-        self.accept_checked(command, checked);
+        self.accept_checked(&checked);
         Ok(())
     }
 
-    /// Applies a command that fits the configuration, by what its check found.
-    pub(crate) fn accept_checked(&mut self, command: &Command, checked: Checked)
-        requires fits { IsOk (accept (standing_of self.old) command.now) }
-        requires checked { checked ≡ fingerprint_of command.now }
-        ensures { accept (standing_of self.old) command.now ≡ Ok (standing_of self.new) }
+    /// Applies a command that fits the configuration, as its check judged it.
+    fn accept_checked(&mut self, checked: &Checked)
+        requires { IsOk (accept (standing_of self.old) checked.now) }
+        ensures { accept (standing_of self.old) checked.now ≡ Ok (standing_of self.new) }
     {
-        self.config.apply_checked(command, checked);
-        adjust(&self.config, &mut self.ceilings, command);
+        self.config.apply_checked(checked);
+        adjust(&self.config, &mut self.ceilings, checked.judged());
     }
 }
 
@@ -195,29 +211,29 @@ fn ceilings_in(config: &Config, records: &[Record]) -> CeilingTable
 }
 
 /// What becomes of the ceilings by a command that made this configuration.
-fn adjust(config: &Config, ceilings: &mut CeilingTable, command: &Command)
-    requires applied { (old : spec.Config) × (table_scis ceilings.old ≡ old.channels)
-        × (apply this_edition config.now.identity old command.now ≡ Ok (config_of config.now)) }
-    ensures ceilings { table_ceilings ceilings.new ≡ ceilings_after config.now.identity command.now (table_ceilings ceilings.old) }
+fn adjust(config: &Config, ceilings: &mut CeilingTable, judged: &Judged)
+    requires { (old : spec.Config) × (table_scis ceilings.old ≡ old.channels)
+        × (apply this_edition config.now.identity old (asked_by judged.now) ≡ Ok (config_of config.now)) }
+    ensures ceilings { table_ceilings ceilings.new ≡ ceilings_after config.now.identity (asked_by judged.now) (table_ceilings ceilings.old) }
     ensures channels { table_scis ceilings.new ≡ (config_of config.now).channels }
 {
-    match *command {
-        Command::SetValidate(_)
-        | Command::SetReplay { .. }
-        | Command::SetSciMode(_)
-        | Command::TxUse { .. } => {}
-        Command::TxInstall { an, start, .. } => {
-            let ceiling = ahead(u64::from(start), config.identity().tx_block());
+    match *judged {
+        Judged::SetValidate(_)
+        | Judged::SetReplay { .. }
+        | Judged::SetSciMode(_)
+        | Judged::TxUse { .. } => {}
+        Judged::TxInstall { an, start, .. } => {
+            let ceiling = ahead(u64::from(start.get()), config.identity().tx_block());
             ceilings.put_tx(an, Some(ceiling));
         }
-        Command::TxRemove { an } => ceilings.put_tx(an, None),
-        Command::RxAdd { .. } | Command::RxDrop { .. } => {
+        Judged::TxRemove { an } => ceilings.put_tx(an, None),
+        Judged::RxAdd { .. } | Judged::RxDrop { .. } => {
             ceilings.keep(config.channels().as_slice());
         }
-        Command::RxInstall { sci, an, start, .. } => {
-            ceilings.put_rx(sci, an, Some(ahead(u64::from(start), 0)));
+        Judged::RxInstall { sci, an, start, .. } => {
+            ceilings.put_rx(sci, an, Some(ahead(u64::from(start.get()), 0)));
         }
-        Command::RxRemove { sci, an } => ceilings.put_rx(sci, an, None),
+        Judged::RxRemove { sci, an } => ceilings.put_rx(sci, an, None),
     }
 }
 

@@ -1,15 +1,16 @@
 //! What a store keeps, one device call at a time.
 
-ghost use Rattle.std.specs.Prelude.{◌≡◌, ◌<◌, ◌≤◌, ◌^◌, if◌then◌else◌, IfSome, IsSome, Ok, Err, true, false};
+ghost use Rattle.std.specs.Prelude.{◌≡◌, ◌<◌, ◌≤◌, ◌^◌, if◌then◌else◌, IfSome, IsOk, IsSome, Some, Ok, Err, true, false};
 ghost use Rattle.macs_config.specs.Numbers.{block_beyond};
 ghost use Rattle.macs_journal.specs.Stepping as journal_steps;
 ghost use Rattle.macs_journal.specs.Stepping.{Renews, RenewsWith};
 ghost use Rattle.macs_journal.specs.Value as journal_value;
 ghost use Rattle.macs_journal.specs.declared.fault.JournalFault.TheVariants.{Stopped};
 ghost use Rattle.macs_journal.specs.declared.work.JournalStep.TheVariants.{Idle};
+ghost use Rattle.macs_record.specs.Commands.{record_of};
 ghost use Rattle.macs_store.specs.Replay.{standing_after_record};
 ghost use Rattle.macs_store.specs.Snapshot.{snapshot};
-ghost use Rattle.macs_store.specs.Standing.{standing_with_rx_raised, standing_with_tx_raised};
+ghost use Rattle.macs_store.specs.Standing.{accept, standing_with_rx_raised, standing_with_tx_raised};
 ghost use Rattle.macs_store.specs.Stepping.{Finishes, IsAppending, IsRenewing};
 ghost use Rattle.macs_store.specs.Stepping.{Starts, StartsCommit, StartsRecord, Steps};
 ghost use Rattle.macs_store.specs.Table.{standing_of};
@@ -21,7 +22,7 @@ use crate::hand::Hand;
 use crate::snapshot::SnapshotRecords;
 use crate::standing::Standing;
 use crate::store::Store;
-use macs_config::Command;
+use macs_config::{Checked, Command};
 use macs_disk::SectorDisk;
 use macs_frame::{An, Pn, Sci};
 use macs_journal::{Journal, JournalFault, JournalStep};
@@ -39,11 +40,23 @@ impl<D: SectorDisk> Store<D> {
         if self.is_stopped() {
             return Err(CommitFault::Stopped);
         }
-        if let Err(refusal) = self.standing.check(command) {
-            return Err(CommitFault::Refused(refusal));
+        match self.standing.check(command) {
+            Ok(checked) => self.start_checked(&checked),
+            Err(refusal) => Err(CommitFault::Refused(refusal)),
         }
-        let value = Record::command(command).unwrap();
-        match self.start(value) {
+    }
+
+    /// Takes a command in hand that the configuration does not refuse, as its check judged it, and makes no device
+    /// call. No work is in hand before, and no device call failed. Refused as `GenerationsSpent` where all 256 slots
+    /// are used and the generation is 2^64 - 1; then nothing changes.
+    pub fn start_checked(&mut self, checked: &Checked) -> Result<(), CommitFault>
+        requires idle { IsIdle self.old }
+        requires running { is_stopped self.old ≡ false }
+        requires fits { IsOk (accept (standing_in self.old) checked.now) }
+        ensures { StartsCommit D.disk self.old checked.now result self.new }
+    {
+        let value = Record::of(checked);
+        match self.start(value, Some(*checked)) {
             Ok(()) => Ok(()),
             Err(_) => Err(CommitFault::GenerationsSpent),
         }
@@ -61,7 +74,7 @@ impl<D: SectorDisk> Store<D> {
     {
         let old = self.tx_ceiling(an).unwrap();
         let ceiling = ahead(old.get(), self.identity().tx_block());
-        self.start(Record::TxCeiling { an, ceiling })
+        self.start(Record::TxCeiling { an, ceiling }, None)
     }
 
     /// Takes in hand that the ceiling of a receive association is raised to a block beyond a packet number, to 2^32
@@ -75,23 +88,26 @@ impl<D: SectorDisk> Store<D> {
         ensures { Starts D.disk self.old (standing_with_rx_raised (standing_in self.old) sci an pn) result self.new }
     {
         let ceiling = ahead(u64::from(pn.get()), self.identity().rx_block());
-        self.start(Record::RxCeiling { sci, an, ceiling })
+        self.start(Record::RxCeiling { sci, an, ceiling }, None)
     }
 
-    /// Takes a record in hand that follows from what stands. Where all 256 slots are used the journal is to begin anew
-    /// first.
-    fn start(&mut self, value: Record) -> Result<(), JournalFault>
+    /// Takes a record in hand that follows from what stands, and where it is a command's, what its check judged.
+    /// Where all 256 slots are used the journal is to begin anew first.
+    fn start(&mut self, value: Record, checked: Option<Checked>) -> Result<(), JournalFault>
         requires idle { IsIdle self.old }
         requires follows { IsSome (standing_after_record (standing_in self.old) value) }
+        requires checked { IfSome checked (λ command. record_of command ≡ Some value) }
         ensures { StartsRecord D.disk self.old value result self.new }
     {
         if self.journal.is_full() {
             self.standing.facts();
             start_renewal(&mut self.journal, &self.standing)?;
             self.hand = Hand::Renewing(value);
+            self.checked = checked;
         } else {
             self.journal.start_append(&value)?;
             self.hand = Hand::Appending(value);
+            self.checked = checked;
         }
         Ok(())
     }
@@ -170,7 +186,8 @@ impl<D: SectorDisk> Store<D> {
         }
     }
 
-    /// The next device call of an append. Behind the last one what stands is what the record makes of it.
+    /// The next device call of an append. Behind the last one what stands is what the record makes of it: a command
+    /// is applied as its check judged it, since what stands has not changed.
     fn step_append(&mut self) -> Result<JournalStep, JournalFault>
         requires appending { IsAppending self.old.hand }
         ensures { Steps D.disk self.old result self.new }
@@ -179,7 +196,7 @@ impl<D: SectorDisk> Store<D> {
             Ok(step) => match step {
                 JournalStep::Finished => {
                     if let Hand::Appending(value) = replace(&mut self.hand, Hand::Empty) {
-                        self.standing.follow(&value);
+                        self.standing.keep(&value, self.checked);
                     }
                     Ok(JournalStep::Finished)
                 }

@@ -1,17 +1,17 @@
 //! What an endpoint keeps, in memory and on its disk.
 
-ghost use Rattle.std.specs.Prelude.{◌≡◌, ◌<◌, ◌^◌, ◌↔◌, IsSome, IsTrue, IfSome};
+ghost use Rattle.std.specs.Prelude.{◌≡◌, ◌<◌, ◌^◌, ◌↔◌, false, Err, IfOk, IsOk, IsSome, IsTrue, IfSome, OnOk};
 ghost use Rattle.macs_config.specs.Value.{config_of};
 ghost use Rattle.macs_store.specs.Keeps.{Commits, Keeps};
 ghost use Rattle.macs_store.specs.Table.{standing_of};
-ghost use Rattle.macs_store.specs.Value.{FitsHand, IsIdle, StoreValue, device_in, is_stopped, standing_in};
+ghost use Rattle.macs_store.specs.Value.{FitsHand, IsIdle, IsOfHand, StoreValue, device_in, is_stopped, standing_in};
 ghost use Rattle.macs_config.specs.Numbers.{block_beyond};
-ghost use Rattle.macs_store.specs.Standing.{IsStanding, standing_with_rx_raised, standing_with_tx_raised};
+ghost use Rattle.macs_store.specs.Standing.{IsStanding, accept, standing_with_rx_raised, standing_with_tx_raised};
 
 use crate::fault::CommitFault;
 use crate::hand::Hand;
 use crate::standing::Standing;
-use macs_config::{Command, Config, Identity};
+use macs_config::{Checked, Command, Config, Identity, Refusal};
 use macs_disk::SectorDisk;
 use macs_frame::{An, Pn, Sci};
 use macs_journal::{Journal, JournalFault};
@@ -27,6 +27,8 @@ pub struct Store<D: SectorDisk> {
     pub(crate) journal: Journal<D>,
     pub(crate) standing: Standing,
     pub(crate) hand: Hand,
+    /// What the check of the command in hand judged; `None` where a ceiling is being raised.
+    pub(crate) checked: Option<Checked>,
 }
 
 impl<D: SectorDisk> Model for Store<D> {
@@ -34,10 +36,20 @@ impl<D: SectorDisk> Model for Store<D> {
 
     ghost view = { λ s. record { journal = s.journal; held = s.standing; hand = s.hand } };
 
-    ghost invariant = { λ s. FitsHand s.journal (standing_of s.standing) s.hand };
+    ghost invariant = { λ s. FitsHand s.journal (standing_of s.standing) s.hand × IsOfHand s.hand s.checked };
 }
 
 impl<D: SectorDisk> Store<D> {
+    /// What is judged of a command that the configuration does not refuse, or the first refusal in the order of
+    /// `Refusal`. It serves while the configuration stands: raised ceilings leave it as it is.
+    pub fn check(&self, command: &Command) -> Result<Checked, Refusal>
+        ensures fits { OnOk result (IsOk (accept (standing_in self.now) command.now)) }
+        ensures checked { IfOk result (λ checked. checked ≡ command.now) }
+        ensures refused { (refusal : Refusal) → (result ≡ Err refusal) ↔ (accept (standing_in self.now) command.now ≡ Err refusal) }
+    {
+        self.standing.check(command)
+    }
+
     /// Keeps a command and applies it. No work is in hand. Refused as `Stopped`, then as `Refused` with the first
     /// refusal that holds, then as `GenerationsSpent`; these change nothing. `Disk` at the first device call that
     /// fails: the configuration stands as it was, and after a power loss it is found with the command or without.
@@ -46,6 +58,21 @@ impl<D: SectorDisk> Store<D> {
         ensures { Commits D.disk self.old command.now result self.new }
     {
         self.start_commit(command)?;
+        match self.finish() {
+            Ok(()) => Ok(()),
+            Err(_) => Err(CommitFault::Disk),
+        }
+    }
+
+    /// Keeps a command that the configuration does not refuse, and applies it, as its check judged it. No work is in
+    /// hand, and no device call failed. Refused as `GenerationsSpent`, which changes nothing, and as `Disk` as `commit`.
+    pub fn commit_checked(&mut self, checked: &Checked) -> Result<(), CommitFault>
+        requires idle { IsIdle self.old }
+        requires running { is_stopped self.old ≡ false }
+        requires fits { IsOk (accept (standing_in self.old) checked.now) }
+        ensures { Commits D.disk self.old checked.now result self.new }
+    {
+        self.start_checked(checked)?;
         match self.finish() {
             Ok(()) => Ok(()),
             Err(_) => Err(CommitFault::Disk),

@@ -40,40 +40,40 @@ finish_reservation-requires-clause-work g c = none-kept c.args.self.now c.facts.
 pub invariant_of-self : goal.invariant_of-self
 invariant_of-self g c =
     let at = (goal.at.invariant_of-self g c).After-finish_reservation in
-    let halted = stopped g.D.SectorDisk.disk c.args.self.now c.args.command c.command_in_range.ensures c.requires.running c.requires.none (free g at) c.requires.accepted
+    let halted = stopped g.D.SectorDisk.disk c.args.self.now c.args.checked.now c.requires.in_range c.requires.running c.requires.none (free g at) c.requires.accepted
     c.finish_reservation.new.self (cut g at (sym c.is_err.ensures.value ∙ c.if-is_err.true)) in
-    cut-short-kept _ c.args.command c.self.invariant (ap (λ (e : EndpointValue g.row.D.Denot). is_stopped e) c.self.view_is ∙ halted)
+    cut-short-kept _ c.args.checked.now c.self.invariant (ap (λ (e : EndpointValue g.row.D.Denot). is_stopped e) c.self.view_is ∙ halted)
 
 pub returns-then-is_err : goal.returns-then-is_err
 returns-then-is_err g c =
     let at = (goal.at.returns-then-is_err g c).After-finish_reservation in
     let d = g.D.SectorDisk.disk in
     let e = c.args.self.now in
-    subst (λ (x : EndpointValue g.row.D.Denot). KeepsCommand d e c.args.command (Err Disk) (record x { in_hand = Some c.args.command; turn = Reservation }))
+    subst (λ (x : EndpointValue g.row.D.Denot). KeepsCommand d e c.args.checked.now (Err Disk) (record x { in_hand = Some c.args.checked.now; turn = Reservation }))
     (sym c.self.view_is)
-    (cut-before d e c.args.command c.command_in_range.ensures c.requires.running c.requires.none (free g at) c.requires.accepted
+    (cut-before d e c.args.checked.now c.requires.in_range c.requires.running c.requires.none (free g at) c.requires.accepted
     c.finish_reservation.new.self (cut g at (sym c.is_err.ensures.value ∙ c.if-is_err.true)))
 
 pub commit-requires-clause-running : goal.commit-requires-clause-running
 commit-requires-clause-running g c =
     let at = (goal.at.commit-requires-clause-running g c).After-finish_reservation in
-    behind-running g.D.SectorDisk.disk c.args.self.now c.args.command c.command_in_range.ensures c.requires.running c.requires.none (free g at) c.requires.accepted
+    behind-running g.D.SectorDisk.disk c.args.self.now c.args.checked.now c.requires.in_range c.requires.running c.requires.none (free g at) c.requires.accepted
     c.finish_reservation.new.self (ended g at (sym c.is_err.ensures.value ∙ c.if-is_err.false))
 
 pub commit-requires-clause-none : goal.commit-requires-clause-none
 commit-requires-clause-none g c =
     let at = (goal.at.commit-requires-clause-none g c).After-finish_reservation in
-    behind-none g.D.SectorDisk.disk c.args.self.now c.args.command c.command_in_range.ensures c.requires.running c.requires.none (free g at) c.requires.accepted
+    behind-none g.D.SectorDisk.disk c.args.self.now c.args.checked.now c.requires.in_range c.requires.running c.requires.none (free g at) c.requires.accepted
     c.finish_reservation.new.self (ended g at (sym c.is_err.ensures.value ∙ c.if-is_err.false))
 
 pub commit-requires-clause-accepted : goal.commit-requires-clause-accepted
 commit-requires-clause-accepted g c =
     let at = (goal.at.commit-requires-clause-accepted g c).After-finish_reservation in
-    behind-accepted g.D.SectorDisk.disk c.args.self.now c.args.command c.command_in_range.ensures c.requires.running c.requires.none (free g at) c.requires.accepted
+    behind-accepted g.D.SectorDisk.disk c.args.self.now c.args.checked.now c.requires.in_range c.requires.running c.requires.none (free g at) c.requires.accepted
     c.finish_reservation.new.self (ended g at (sym c.is_err.ensures.value ∙ c.if-is_err.false))
 
 pub returns : goal.returns
 returns g c =
     let at = (goal.at.returns g c).After-finish_reservation in
-    behind-keeps g.D.SectorDisk.disk c.args.self.now c.args.command c.command_in_range.ensures c.requires.running c.requires.none (free g at) c.requires.accepted
+    behind-keeps g.D.SectorDisk.disk c.args.self.now c.args.checked.now c.requires.in_range c.requires.running c.requires.none (free g at) c.requires.accepted
     c.finish_reservation.new.self (ended g at (sym c.is_err.ensures.value ∙ c.if-is_err.false)) c.commit.result c.commit.new.self c.commit.ensures

@@ -17,11 +17,11 @@ use Rattle.macs_rxsc.proofs.association.Association.receive.Goals as goal
 use Rattle.macs_rxsc.proofs.association.Association.receive.Goals.{After-is_late, After-arrive}
 
 -- the test, over the frame's tag
-tested : (c : After-is_late) → c.is_late.result ≡ (c.args.replay.on && nat_lt (tag_of c.args.frame.now).pn c.args.self.now.lowest)
-tested c = c.is_late.ensures ∙ ap (λ (t : SecTag). c.args.replay.on && nat_lt t.pn c.args.self.now.lowest) c.requires.read.0.reading.tag
+tested : (c : After-is_late) → c.is_late.result ≡ (c.args.policy.replay.on && nat_lt (tag_of c.args.frame.now).pn c.args.self.now.lowest)
+tested c = c.is_late.ensures ∙ ap (λ (t : SecTag). c.args.policy.replay.on && nat_lt t.pn c.args.self.now.lowest) c.requires.read.0.reading.tag
 
-in_time : (c : After-is_late) → c.is_late.result ≡ false → (side : RxSide) → side.replay ≡ c.args.replay → side.replay.on ≡ true → ¬ ((tag_of c.args.frame.now).pn < c.args.self.now.lowest)
-in_time c fails side r on = in_time_by c.args.replay.on (tag_of c.args.frame.now).pn c.args.self.now.lowest (sym (tested c) ∙ fails) (sym (ap (λ (p : Replay). p.on) r) ∙ on)
+in_time : (c : After-is_late) → c.is_late.result ≡ false → (side : RxSide) → side.replay ≡ c.args.policy.replay → side.replay.on ≡ true → ¬ ((tag_of c.args.frame.now).pn < c.args.self.now.lowest)
+in_time c fails side r on = in_time_by c.args.policy.replay.on (tag_of c.args.frame.now).pn c.args.self.now.lowest (sym (tested c) ∙ fails) (sym (ap (λ (p : Replay). p.on) r) ∙ on)
 
 pub returns-then-is_late-clause-verdict : goal.returns-then-is_late-clause-verdict
 returns-then-is_late-clause-verdict c = λ side ceilings v r ch rx nu ce.
@@ -39,7 +39,7 @@ returns-then-not-open_parts-clause-verdict c = λ side ceilings v r ch rx nu ce.
     let opens = (verified_by_its_parts c.args.frame.now c.args.self.now.key c.args.sci (octets_of c.args.self.now.offset) c.args.parts.now plain c.requires.read.0 c.requires.read.1).0 found in
     let yes = c.open_parts.ensures.exactly.1 (plain, opens) in
     cc in
-    settles_bare side ceilings c.args.frame.now NotVerified NotValid Invalid c.args.validate
+    settles_bare side ceilings c.args.frame.now NotVerified NotValid Invalid c.args.policy.validate
     (first_not_verified side c.args.frame.now c.args.parts.now c.requires.read c.args.sci ch (sa_of c.args.self.now) (packet_numbers c.args.self.now) rx nu
     (in_time path c.if-is_late.false side r) closed)
     refl refl v _ _ _ c.settle.ensures.verdict c.settle.ensures.given (put_numbers-same side.numbers c.args.sci _ _ nu)
@@ -54,12 +54,12 @@ kinds c =
     c.arrive.ensures.kind
     ∙ ap (λ (t : SecTag). cond (nat_lt t.pn c.args.self.now.ceiling) (Some (delivery_kind (packet_numbers c.args.self.now) t.pn)) None) c.requires.read.0.reading.tag
 
-moved : (c : After-arrive) (side : RxSide) → side.replay ≡ c.args.replay
+moved : (c : After-arrive) (side : RxSide) → side.replay ≡ c.args.policy.replay
     → packet_numbers c.arrive.new.self ≡ cond (nat_lt (tag_of c.args.frame.now).pn c.args.self.now.ceiling)
     (numbers_after_delivery side.replay.window (packet_numbers c.args.self.now) (tag_of c.args.frame.now).pn) (numbers_after_hold (packet_numbers c.args.self.now) (tag_of c.args.frame.now).pn)
 moved c side r =
     c.arrive.ensures.numbers
-    ∙ ap (λ (t : SecTag). cond (nat_lt t.pn c.args.self.now.ceiling) (numbers_after_delivery c.args.replay.window (packet_numbers c.args.self.now) t.pn) (numbers_after_hold (packet_numbers c.args.self.now) t.pn)) c.requires.read.0.reading.tag
+    ∙ ap (λ (t : SecTag). cond (nat_lt t.pn c.args.self.now.ceiling) (numbers_after_delivery c.args.policy.replay.window (packet_numbers c.args.self.now) t.pn) (numbers_after_hold (packet_numbers c.args.self.now) t.pn)) c.requires.read.0.reading.tag
     ∙ ap (λ (p : Replay). cond (nat_lt (tag_of c.args.frame.now).pn c.args.self.now.ceiling)
     (numbers_after_delivery p.window (packet_numbers c.args.self.now) (tag_of c.args.frame.now).pn) (numbers_after_hold (packet_numbers c.args.self.now) (tag_of c.args.frame.now).pn)) (sym r)
 

@@ -16,7 +16,7 @@ refuse-requires-clause-fault c = (c.read_tag.ensures.fault c.in-Err.fault).0 c.i
 
 pub returns-in-Err : goal.returns-in-Err
 returns-in-Err c =
-    let side = rx_side_in c.args.validate c.args.replay c.args.self.now.channels.items in
+    let side = rx_side_in c.args.policy.validate c.args.policy.replay c.args.self.now.channels.items in
     let verdict = c.refuse.ensures.verdict side refl in
     record {
       outcome = settles side (ceilings_among c.args.self.now.channels.items) c.args.frame.now (TagStep c.in-Err.fault)
@@ -26,5 +26,5 @@ returns-in-Err c =
       ceilings = refl;
       counters = sym (uncounted (channel_of side c.args.frame.now) c.refuse.result (counters_among c.args.self.now.channels.items)
           (λ (k : ChannelCounters). ap (λ (v : Verdict). channel_counters_after_verdict v k) verdict
-          ∙ tag_uncounted side c.args.frame.now c.in-Err.fault c.args.validate refl k));
+          ∙ tag_uncounted side c.args.frame.now c.in-Err.fault c.args.policy.validate refl k));
     }

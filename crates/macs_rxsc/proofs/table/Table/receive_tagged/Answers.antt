@@ -35,7 +35,7 @@ stands c = (found c).2
 was : (c : After-receive) → old c ≡ get_or c.args.self.now.channels.items c.in-Some.place (old c)
 was c = lent_old c.args.self.now.channels.items c.deref_mut.result.now c.in-Some.place c.index-deref_mut-place.result c.deref_mut.ensures.value c.index-deref_mut-place.is
 
-channel_is : (c : After-receive) → channel_of (rx_side_in c.args.validate c.args.replay c.args.self.now.channels.items) c.args.frame.now ≡ Some (sci c)
+channel_is : (c : After-receive) → channel_of (rx_side_in c.args.policy.validate c.args.policy.replay c.args.self.now.channels.items) c.args.frame.now ≡ Some (sci c)
 unfolding sci
 channel_is c = (found c).3
 
@@ -45,31 +45,31 @@ returns-in-Some c =
     let items = c.args.self.now.channels.items in
     let new = c.receive.new.self in
     let received = c.receive.ensures in
-    let side = rx_side_in c.args.validate c.args.replay items in
+    let side = rx_side_in c.args.policy.validate c.args.policy.replay items in
     let same = there items c.in-Some.place (old p) new (sci p) (stands p) (was p) received.sci in
     let here = ap (channel_at items) same ∙ at_old items c.in-Some.place (old p) new (sci p) (stands p) (was p) received.sci in
     let outcome = received.verdict side (ceilings_among items) refl refl (channel_is p ∙ ap Some (sym same)) (ap sas_in here) (ap numbers_in here) (ap ceilings_in here) in
-    subst (λ (xs : List Channel). TableReceives c.args.validate c.args.replay items xs c.args.frame.now c.receive.result c.receive.new.out.items)
+    subst (λ (xs : List Channel). TableReceives c.args.policy.validate c.args.policy.replay items xs c.args.frame.now c.receive.result c.receive.new.out.items)
     (sym (lent items c.deref_mut.result.now c.in-Some.place new c.deref_mut.ensures.value)) (record {
       outcome = subst (λ (n : List ℕ → ℕ → Option Numbers). IsOutcome side (ceilings_among items) c.args.frame.now
           (record { verdict = c.receive.result; given = c.receive.new.out.items; numbers = n }))
           (numbers-changed items c.in-Some.place (old p) new (sci p) (stands p) (was p) received.sci) outcome;
-      side = shown-numbers items c.in-Some.place (old p) new (sci p) (stands p) (was p) received.sci c.args.validate c.args.replay received.sas;
+      side = shown-numbers items c.in-Some.place (old p) new (sci p) (stands p) (was p) received.sci c.args.policy.validate c.args.policy.replay received.sas;
       ceilings = ceilings-kept items c.in-Some.place (old p) new (sci p) (stands p) (was p) received.sci received.ceilings;
       counters = counters-counted items c.in-Some.place (old p) new (sci p) (stands p) (was p) received.sci c.receive.result c.receive.ensures.counters
           ∙ ap (λ (o : Option (List ℕ)). counters_after_verdict_at o c.receive.result (counters_among items)) (sym (channel_is p));
     })
 
-absent : (c : After-place_named) → c.place_named.result ≡ None → channel_of (rx_side_in c.args.validate c.args.replay c.args.self.now.channels.items) c.args.frame.now ≡ None
+absent : (c : After-place_named) → c.place_named.result ≡ None → channel_of (rx_side_in c.args.policy.validate c.args.policy.replay c.args.self.now.channels.items) c.args.frame.now ≡ None
 absent c none = named_none c.args.self.now.channels.items _ (sym none
     ∙ named_at c.args.self.now.channels.items c.as_slice.result.now c.args.frame.now c.args.parts.now.tag c.place_named.result c.as_slice.ensures.value c.requires.read.0.reading.tag c.place_named.ensures)
 
 pub returns-in-None : goal.returns-in-None
 returns-in-None c =
     let p = (goal.at.returns-in-None c).After-place_named in
-    let side = rx_side_in c.args.validate c.args.replay c.args.self.now.channels.items in
+    let side = rx_side_in c.args.policy.validate c.args.policy.replay c.args.self.now.channels.items in
     record {
-      outcome = settles_bare side (ceilings_among c.args.self.now.channels.items) c.args.frame.now NoChannel NoSci UnknownSci c.args.validate
+      outcome = settles_bare side (ceilings_among c.args.self.now.channels.items) c.args.frame.now NoChannel NoSci UnknownSci c.args.policy.validate
           (first_no_channel side c.args.frame.now c.args.parts.now c.requires.read (absent p c.in-None.is))
           refl refl refl _ _ _ c.settle.ensures.verdict c.settle.ensures.given refl;
       side = refl;

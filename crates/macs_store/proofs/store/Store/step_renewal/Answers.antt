@@ -17,7 +17,7 @@ module _ (g : Over) (c : After-step_with_snapshot g) where
   old = record { journal = c.self.inside.journal; held = c.self.inside.standing; hand = c.self.inside.hand }
 
   fits : FitsHand c.self.inside.journal (standing_of c.self.inside.standing) c.self.inside.hand
-  fits = c.self.invariant
+  fits = c.self.invariant.0
 
   is : IsRenewing c.self.inside.hand
   is = rw (← c.self.view_is) at c.requires.renewing
@@ -31,7 +31,7 @@ module _ (g : Over) (c : In-Renewing g) where
   hand_is = sym c.replace.ensures.value ∙ c.in-Renewing.is
 
   its : FitsHand c.self.inside.journal (standing_of c.self.inside.standing) (Renewing c.in-Renewing.value)
-  its = fits-renewal g.D.SectorDisk.disk was c.self.invariant c.in-Renewing.value hand_is
+  its = fits-renewal g.D.SectorDisk.disk was c.self.invariant.0 c.in-Renewing.value hand_is
 
   last : journal.Steps g.D.SectorDisk.disk c.self.inside.journal (snapshot (standing_of c.self.inside.standing)) (Ok Finished) c.step_with_snapshot.new.journal
   last =

@@ -1,0 +1,281 @@
+-- What the check of a command judges, and what it makes of a configuration.
+use Rattle.std.proofs.Common.{◌≡◌, ◌==◌, ◌∙◌, ◌↔◌, if◌then◌else◌, [], ◌∷◌, ◌||◌, ◌&&◌, ◌<◌, ℕ, List, Bool, true, false, not, nat_le, length, get_or, Option, Some, None, is_none, is_some, Result, Ok, Err, refl, sym, ap, arith}
+use Rattle.std.proofs.lemmas.Bool.{eq-eqb, ne_eqb}
+use Rattle.std.proofs.lemmas.List.{get_or_default}
+use Rattle.macs_aes.specs.Keys.{HasItsLength, key_of_octets, key_of_octets-octets_of_key, octets_of_key}
+use Rattle.macs_aes.specs.declared.keys.Key.{Key}
+use Rattle.macs_frame.specs.Fields.{octets_of}
+use Rattle.macs_frame.specs.First.{first}
+use Rattle.macs_frame.specs.declared.fields.Offset.{Offset}
+use Rattle.macs_frame.specs.declared.fields.Offset.TheVariants.{Zero, Thirty, Fifty}
+use Rattle.macs_config.specs.Apply.{answer_or_refusal, config_after, offset_at, refusal_of}
+use Rattle.macs_config.specs.Association.{is_confidential, offset_of}
+use Rattle.macs_config.specs.Config.{Config, has_channel, is_spent, max_spent, rx_fingerprint, takes_key, this_edition, tx_fingerprint}
+use Rattle.macs_config.specs.Identity.{Identity}
+use Rattle.macs_config.specs.Judged.{IsJudged, asked_by, config_changed, judged_of, judged_of-asked_by, octets-back}
+use Rattle.macs_config.specs.declared.association.Protection.{Protection}
+use Rattle.macs_config.specs.declared.association.TxSa.{TxSa}
+use Rattle.macs_config.specs.declared.association.Protection.TheVariants.{Confidentiality, Integrity}
+use Rattle.macs_config.specs.declared.checked.Judged.{Judged}
+use Rattle.macs_config.specs.declared.checked.Judged.TheVariants as judged
+use Rattle.macs_config.specs.declared.command.Command.{Command}
+use Rattle.macs_config.specs.declared.command.Command.TheVariants.{SetValidate, SetReplay, SetSciMode, TxInstall, TxUse, TxRemove, RxAdd, RxDrop, RxInstall, RxRemove}
+use Rattle.macs_config.specs.declared.refusal.Refusal.{Refusal}
+use Rattle.macs_config.specs.declared.refusal.Refusal.TheVariants.{StartRange, OffsetChoice, OwnSci, EndStationSci, NoChannel, ChannelTaken, ChannelsFull, SlotTaken, SlotEmpty, InUse, KeySpent, SpentFull, LongKey}
+
+-- ---- what it makes of a configuration
+
+changed-after : (c : Config) (command : Command) → config_after c command ≡ config_changed c (judged_of command)
+changed-after c (SetValidate validate) = refl
+changed-after c (SetReplay on window) = refl
+changed-after c (SetSciMode mode) = refl
+changed-after c (TxInstall an key start confidential offset) = refl
+changed-after c (TxUse an) = refl
+changed-after c (TxRemove an) = refl
+changed-after c (RxAdd sci) = refl
+changed-after c (RxDrop sci) = refl
+changed-after c (RxInstall sci an key start offset) = refl
+changed-after c (RxRemove sci an) = refl
+
+-- the change by what was judged is that of the command
+pub changed-is : (c : Config) (j : Judged) → IsJudged j → config_changed c j ≡ config_after c (asked_by j)
+changed-is c j is = sym (changed-after c (asked_by j) ∙ ap (config_changed c) (judged_of-asked_by j is))
+
+-- ---- what is read
+
+pub no-start : (start : ℕ) → (0 < start → ⊥) → (start == 0) ≡ true
+no-start start is = eq-eqb start 0 (omega arith)
+
+pub a-start : (start : ℕ) → 0 < start → (start == 0) ≡ false
+a-start start is = ne_eqb start 0 (λ e. omega arith)
+
+-- an offset is a choice with confidentiality, and 0 without
+abbrev is_wrong : Bool → ℕ → Bool
+is_wrong confidential octets = not confidential && not (octets == 0)
+
+no-protection-of : (confidential : Bool) (offset : Offset)
+    → ((p : Protection) → (None ≡ Some p) ↔ ((confidential ≡ is_confidential p) × (offset ≡ offset_of p)))
+    → is_wrong confidential (octets_of offset) ≡ true
+no-protection-of true offset none = let e = (none (Confidentiality offset)).1 (refl, refl) in cc
+no-protection-of false Zero none = let e = (none Integrity).1 (refl, refl) in cc
+no-protection-of false Thirty none = refl
+no-protection-of false Fifty none = refl
+
+a-protection-of : (p : Protection) → is_wrong (is_confidential p) (octets_of (offset_of p)) ≡ false
+a-protection-of Integrity = refl
+a-protection-of (Confidentiality offset) = refl
+
+right-offset : (offset : Offset) → is_none (offset_at (octets_of offset)) ≡ false
+right-offset Zero = refl
+right-offset Thirty = refl
+right-offset Fifty = refl
+
+right-protection : (p : Protection) → (is_none (offset_at (octets_of (offset_of p))) || is_wrong (is_confidential p) (octets_of (offset_of p))) ≡ false
+right-protection Integrity = refl
+right-protection (Confidentiality Zero) = refl
+right-protection (Confidentiality Thirty) = refl
+right-protection (Confidentiality Fifty) = refl
+
+module _ (confidential : Bool) (octets : ℕ) where
+  -- no offset has so many octets
+  pub no-offset : None ≡ offset_at octets → (is_none (offset_at octets) || is_wrong confidential octets) ≡ true
+  no-offset is = sym (ap (λ (o : Option Offset). is_none o || is_wrong confidential octets) is)
+
+  module _ (offset : Offset) (is : octets ≡ octets_of offset) where
+    chosen : (is_none (offset_at octets) || is_wrong confidential octets) ≡ is_wrong confidential (octets_of offset)
+    chosen =
+        ap (λ (n : ℕ). is_none (offset_at n) || is_wrong confidential n) is
+        ∙ ap (λ (none : Bool). none || is_wrong confidential (octets_of offset)) (right-offset offset)
+
+    pub no-protection : ((p : Protection) → (None ≡ Some p) ↔ ((confidential ≡ is_confidential p) × (offset ≡ offset_of p)))
+        → (is_none (offset_at octets) || is_wrong confidential octets) ≡ true
+    no-protection none = chosen ∙ no-protection-of confidential offset none
+
+    pub a-protection : (p : Protection) → confidential ≡ is_confidential p → offset ≡ offset_of p
+        → (is_none (offset_at octets) || is_wrong confidential octets) ≡ false
+    a-protection p hidden clear = chosen ∙ (λ i. is_wrong (hidden i) (octets_of (clear i))) ∙ a-protection-of p
+
+pub an-offset : (octets : ℕ) (offset : Offset) → octets ≡ octets_of offset → is_none (offset_at octets) ≡ false
+an-offset octets offset is = ap (λ (n : ℕ). is_none (offset_at n)) is ∙ right-offset offset
+
+-- what is at a place of the table, by a read with any default
+pub slot-is : (tx : List (Option TxSa)) (place an : ℕ) (other : Option TxSa) (result test : Bool) → place < length tx → place ≡ an
+    → result ≡ is_some (get_or tx place other) → result ≡ test → is_some (get_or tx an None) ≡ test
+slot-is tx place an other result test within same is holds =
+    ap (λ (n : ℕ). is_some (get_or tx n None)) (sym same)
+    ∙ ap is_some (sym (get_or_default tx place other None within))
+    ∙ sym is ∙ holds
+
+-- ---- what is answered
+
+-- what a key is refused as
+abbrev pub key_refused : Bool → Bool → Bool → Option Refusal
+key_refused spent full long = if spent then Some KeySpent else if full then Some SpentFull else if long then Some LongKey else None
+
+module _ (command : Command) where
+  -- what a check answers by the tests that an install can fail
+  abbrev answer_by : Bool → Bool → Bool → Bool → Bool → Bool → Bool → Result Command Refusal
+  answer_by start offset none taken spent full long = answer_or_refusal (first (
+      (StartRange, start) ∷ (OffsetChoice, offset) ∷ (OwnSci, false) ∷ (EndStationSci, false) ∷ (NoChannel, none) ∷ (ChannelTaken, false)
+      ∷ (ChannelsFull, false) ∷ (SlotTaken, taken) ∷ (SlotEmpty, false) ∷ (InUse, false) ∷ (KeySpent, spent) ∷ (SpentFull, full) ∷ (LongKey, long) ∷ [])) command
+
+  refused-as : (spent full long : Bool) (refusal : Refusal) → Some refusal ≡ key_refused spent full long
+      → Err refusal ≡ answer_by false false false false spent full long
+  refused-as true full long refusal is = ap Err (let same : refusal ≡ KeySpent = cc in same)
+  refused-as false true long refusal is = ap Err (let same : refusal ≡ SpentFull = cc in same)
+  refused-as false false true refusal is = ap Err (let same : refusal ≡ LongKey = cc in same)
+  refused-as false false false refusal is = cc
+
+  taken-as : (spent full long : Bool) → None ≡ key_refused spent full long → Ok command ≡ answer_by false false false false spent full long
+  taken-as true full long is = cc
+  taken-as false true long is = cc
+  taken-as false false true is = cc
+  taken-as false false false is = refl
+
+  module _ (start offset none taken spent full long : Bool) where
+    by-start : start ≡ true → Err StartRange ≡ answer_by start offset none taken spent full long
+    by-start is = sym (λ i. answer_by (is i) offset none taken spent full long)
+
+    module _ (above : start ≡ false) where
+      by-offset : offset ≡ true → Err OffsetChoice ≡ answer_by start offset none taken spent full long
+      by-offset is = sym (λ i. answer_by (above i) (is i) none taken spent full long)
+
+      module _ (right : offset ≡ false) where
+        by-channel : none ≡ true → Err NoChannel ≡ answer_by start offset none taken spent full long
+        by-channel is = sym (λ i. answer_by (above i) (right i) (is i) taken spent full long)
+
+        module _ (there : none ≡ false) where
+          by-slot : taken ≡ true → Err SlotTaken ≡ answer_by start offset none taken spent full long
+          by-slot is = sym (λ i. answer_by (above i) (right i) (there i) (is i) spent full long)
+
+          module _ (free : taken ≡ false) where
+            all-pass : answer_by false false false false spent full long ≡ answer_by start offset none taken spent full long
+            all-pass = sym (λ i. answer_by (above i) (right i) (there i) (free i) spent full long)
+
+            by-key : (refusal : Refusal) → Some refusal ≡ key_refused spent full long → Err refusal ≡ answer_by start offset none taken spent full long
+            by-key refusal is = refused-as spent full long refusal is ∙ all-pass
+
+            by-none : None ≡ key_refused spent full long → Ok command ≡ answer_by start offset none taken spent full long
+            by-none is = taken-as spent full long is ∙ all-pass
+
+-- a key that is refused as nothing is taken
+key-taken : (spent full long : Bool) → None ≡ key_refused spent full long → long ≡ false
+key-taken true full long is = cc
+key-taken false true long is = cc
+key-taken false false true is = cc
+key-taken false false false is = refl
+
+-- ---- a transmit install
+
+module _ (identity : Identity) (c : Config) (an : ℕ) (key : Key) (start : ℕ) (confidential : Bool) (octets : ℕ) where
+  abbrev tx_asked : Command
+  tx_asked = TxInstall an key start confidential octets
+
+  abbrev tx_wrong : Bool
+  tx_wrong = is_none (offset_at octets) || (not confidential && not (octets == 0))
+
+  abbrev tx_spent : Bool
+  tx_spent = is_spent c.spent_tx (tx_fingerprint (octets_of_key key))
+
+  abbrev tx_full : Bool
+  tx_full = nat_le max_spent (length c.spent_tx)
+
+  abbrev tx_long : Bool
+  tx_long = not (takes_key this_edition (octets_of_key key))
+
+  abbrev tx_answer : Result Command Refusal
+  tx_answer = answer_or_refusal (refusal_of this_edition identity c tx_asked) tx_asked
+
+  pub tx-no-start : (start == 0) ≡ true → Err StartRange ≡ tx_answer
+  tx-no-start = by-start tx_asked (start == 0) tx_wrong false (is_some (c.tx an)) tx_spent tx_full tx_long
+
+  module _ (above : (start == 0) ≡ false) where
+    pub tx-no-offset : tx_wrong ≡ true → Err OffsetChoice ≡ tx_answer
+    tx-no-offset = by-offset tx_asked (start == 0) tx_wrong false (is_some (c.tx an)) tx_spent tx_full tx_long above
+
+    module _ (right : tx_wrong ≡ false) where
+      pub tx-no-slot : is_some (c.tx an) ≡ true → Err SlotTaken ≡ tx_answer
+      tx-no-slot = by-slot tx_asked (start == 0) tx_wrong false (is_some (c.tx an)) tx_spent tx_full tx_long above right refl
+
+      module _ (free : is_some (c.tx an) ≡ false) where
+        pub tx-no-key : (refusal : Refusal) → Some refusal ≡ key_refused tx_spent tx_full tx_long → Err refusal ≡ tx_answer
+        tx-no-key = by-key tx_asked (start == 0) tx_wrong false (is_some (c.tx an)) tx_spent tx_full tx_long above right refl free
+
+        pub tx-passes : None ≡ key_refused tx_spent tx_full tx_long → Ok tx_asked ≡ tx_answer
+        tx-passes = by-none tx_asked (start == 0) tx_wrong false (is_some (c.tx an)) tx_spent tx_full tx_long above right refl free
+
+-- what was judged of it
+module _ (an : ℕ) (key : Key) (size : HasItsLength key) (start : ℕ) (p : Protection) where
+  pub tx-judged : (spent full : Bool) → 0 < start → None ≡ key_refused spent full (not (takes_key this_edition (octets_of_key key)))
+      → IsJudged (judged.TxInstall an (record { key = octets_of_key key; protection = p }) start (tx_fingerprint (octets_of_key key)))
+  tx-judged spent full above unrefused = (
+    ap (λ (k : List ℕ). Some (tx_fingerprint k)) (sym (octets-back (octets_of_key key))),
+    a-start start above,
+    right-protection p,
+    ap (λ (k : List ℕ). not (takes_key this_edition k)) (octets-back (octets_of_key key)) ∙ key-taken spent full _ unrefused,
+  )
+
+  pub tx-asked : (from : ℕ) (confidential : Bool) (octets : ℕ) → start ≡ from → confidential ≡ is_confidential p → octets ≡ octets_of (offset_of p)
+      → asked_by (judged.TxInstall an (record { key = octets_of_key key; protection = p }) start (tx_fingerprint (octets_of_key key)))
+      ≡ TxInstall an key from confidential octets
+  tx-asked from confidential octets first hidden clear =
+      λ i. TxInstall an (key_of_octets-octets_of_key key size i) (first i) (sym hidden i) (sym clear i)
+
+-- ---- a receive install
+
+module _ (identity : Identity) (c : Config) (sci : List ℕ) (an : ℕ) (key : Key) (start octets : ℕ) where
+  abbrev rx_asked : Command
+  rx_asked = RxInstall sci an key start octets
+
+  abbrev rx_spent : Bool
+  rx_spent = is_spent c.spent_rx (rx_fingerprint sci (octets_of_key key))
+
+  abbrev rx_full : Bool
+  rx_full = nat_le max_spent (length c.spent_rx)
+
+  abbrev rx_long : Bool
+  rx_long = not (takes_key this_edition (octets_of_key key))
+
+  abbrev rx_none : Bool
+  rx_none = not (has_channel c sci)
+
+  abbrev rx_answer : Result Command Refusal
+  rx_answer = answer_or_refusal (refusal_of this_edition identity c rx_asked) rx_asked
+
+  pub rx-no-start : (start == 0) ≡ true → Err StartRange ≡ rx_answer
+  rx-no-start = by-start rx_asked (start == 0) (is_none (offset_at octets)) rx_none (is_some (c.rx sci an)) rx_spent rx_full rx_long
+
+  module _ (above : (start == 0) ≡ false) where
+    pub rx-no-offset : is_none (offset_at octets) ≡ true → Err OffsetChoice ≡ rx_answer
+    rx-no-offset = by-offset rx_asked (start == 0) (is_none (offset_at octets)) rx_none (is_some (c.rx sci an)) rx_spent rx_full rx_long above
+
+    module _ (right : is_none (offset_at octets) ≡ false) where
+      pub rx-no-channel : rx_none ≡ true → Err NoChannel ≡ rx_answer
+      rx-no-channel = by-channel rx_asked (start == 0) (is_none (offset_at octets)) rx_none (is_some (c.rx sci an)) rx_spent rx_full rx_long above right
+
+      module _ (there : rx_none ≡ false) where
+        pub rx-no-slot : is_some (c.rx sci an) ≡ true → Err SlotTaken ≡ rx_answer
+        rx-no-slot = by-slot rx_asked (start == 0) (is_none (offset_at octets)) rx_none (is_some (c.rx sci an)) rx_spent rx_full rx_long above right there
+
+        module _ (free : is_some (c.rx sci an) ≡ false) where
+          pub rx-no-key : (refusal : Refusal) → Some refusal ≡ key_refused rx_spent rx_full rx_long → Err refusal ≡ rx_answer
+          rx-no-key = by-key rx_asked (start == 0) (is_none (offset_at octets)) rx_none (is_some (c.rx sci an)) rx_spent rx_full rx_long above right there free
+
+          pub rx-passes : None ≡ key_refused rx_spent rx_full rx_long → Ok rx_asked ≡ rx_answer
+          rx-passes = by-none rx_asked (start == 0) (is_none (offset_at octets)) rx_none (is_some (c.rx sci an)) rx_spent rx_full rx_long above right there free
+
+-- what was judged of it
+module _ (sci : List ℕ) (an : ℕ) (key : Key) (size : HasItsLength key) (start : ℕ) (offset : Offset) where
+  pub rx-judged : (spent full : Bool) → 0 < start → None ≡ key_refused spent full (not (takes_key this_edition (octets_of_key key)))
+      → IsJudged (judged.RxInstall sci an (record { key = octets_of_key key; offset = offset }) start (rx_fingerprint sci (octets_of_key key)))
+  rx-judged spent full above unrefused = (
+    ap (λ (k : List ℕ). Some (rx_fingerprint sci k)) (sym (octets-back (octets_of_key key))),
+    a-start start above,
+    right-offset offset,
+    ap (λ (k : List ℕ). not (takes_key this_edition k)) (octets-back (octets_of_key key)) ∙ key-taken spent full _ unrefused,
+  )
+
+  pub rx-asked : (from octets : ℕ) → start ≡ from → octets ≡ octets_of offset
+      → asked_by (judged.RxInstall sci an (record { key = octets_of_key key; offset = offset }) start (rx_fingerprint sci (octets_of_key key)))
+      ≡ RxInstall sci an key from octets
+  rx-asked from octets first clear = λ i. RxInstall sci an (key_of_octets-octets_of_key key size i) (first i) (sym clear i)
