@@ -2,7 +2,7 @@
 use Rattle.std.proofs.Common.{◌≡◌, ◌==◌, ◌∙◌, ◌↔◌, if◌then◌else◌, [], ◌∷◌, ◌||◌, ◌&&◌, ◌<◌, ℕ, List, Bool, true, false, not, nat_le, length, get_or, Option, Some, None, is_none, is_some, Result, Ok, Err, refl, sym, ap, arith}
 use Rattle.std.proofs.lemmas.Bool.{eq-eqb, ne_eqb}
 use Rattle.std.proofs.lemmas.List.{get_or_default}
-use Rattle.macs_aes.specs.Keys.{HasItsLength, key_of_octets, key_of_octets-octets_of_key, octets_of_key}
+use Rattle.macs_aes.specs.Keys.{HasItsLength, key_of_octets-octets_of_key, octets_of_key}
 use Rattle.macs_aes.specs.declared.keys.Key.{Key}
 use Rattle.macs_frame.specs.Fields.{octets_of}
 use Rattle.macs_frame.specs.First.{first}

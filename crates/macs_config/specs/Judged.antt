@@ -2,7 +2,6 @@
 use Rattle.std.proofs.Common.{◌≡◌, ap, refl, ℕ, Bool, true, false, if◌then◌else◌, ◌==◌, List, [], ◌∷◌, ◌++◌, length, Option, Some, None, not, bytes_eq}
 use Rattle.std.specs.List.{filter}
 use Rattle.macs_aes.specs.Keys.{key_of_octets, octets_of_key}
-use Rattle.macs_aes.specs.declared.keys.Key.{Key}
 use Rattle.macs_aes.specs.declared.keys.Key.TheVariants.{Long, Short}
 use Rattle.macs_frame.specs.Fields.{octets_of}
 use Rattle.macs_frame.specs.declared.fields.Offset.{Offset}

@@ -11,7 +11,7 @@ use Rattle.macs_rxsc.specs.Receive.{RxSide}
 use Rattle.macs_rxsc.specs.Value as rxsc
 use Rattle.macs_store.specs.Value.{standing_in}
 use Rattle.macs_store.specs.Standing.{accept}
-use Rattle.macs_endpoint.proofs.Following.{numbers-after, rx-installed, rx-ordered, rx-stands, tx-installed, tx-ordered, tx-stands}
+use Rattle.macs_endpoint.proofs.Following.{numbers-after, tx-installed, tx-ordered, tx-stands}
 use Rattle.macs_endpoint.proofs.channels.Channels.follow_judged.Goals as goal
 
 -- a setting of the receive side

@@ -3,11 +3,9 @@ use Rattle.macs_aes.specs.Keys.{key_of_octets}
 use Rattle.macs_frame.specs.Fields.{octets_of}
 use Rattle.macs_config.specs.Judged.{asked_by}
 use Rattle.macs_config.specs.declared.checked.Judged.{Judged}
-use Rattle.macs_rxsc.specs.Receive.{RxSide}
-use Rattle.macs_rxsc.specs.Value as rxsc
 use Rattle.macs_store.specs.Value.{standing_in}
 use Rattle.macs_store.specs.Standing.{accept}
-use Rattle.macs_endpoint.proofs.Following.{numbers-after, rx-installed, rx-ordered, rx-stands, tx-installed, tx-ordered, tx-stands}
+use Rattle.macs_endpoint.proofs.Following.{rx-installed, rx-ordered, rx-stands}
 use Rattle.macs_endpoint.proofs.channels.Channels.follow_rx.Goals as goal
 
 pub install_rx-requires-clause-stands : goal.install_rx-requires-clause-stands
