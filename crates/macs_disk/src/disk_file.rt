@@ -9,11 +9,14 @@ ghost use Rattle.macs_disk.specs.Files.{WritesFile, unknown_file};
 use libc::{POSIX_FADV_DONTNEED, POSIX_FADV_WILLNEED, posix_fadvise};
 use std::fs::File;
 use std::io;
-use std::os::fd::AsRawFd;
+use std::os::fd::{AsRawFd, RawFd};
 use std::os::unix::fs::FileExt;
 
-/// How many octets the longest disk of a journal has in its file: 1,029 blocks of 4,096.
-const LONGEST_DISK: i64 = 4_214_784;
+/// How many octets a journal's first area has in the file of a packed disk: 514 sectors.
+const PACKED_AREA: i64 = 263_168;
+
+/// The same of a spaced disk: 514 blocks of 4,096 octets.
+const SPACED_AREA: i64 = 2_105_344;
 
 /// An open file, as a disk uses it. Tests put files in its place whose calls fail.
 ///
@@ -97,13 +100,14 @@ impl DiskFile for File {
     }
 
     // The kernel drops the file's pages that are neither dirty nor under way to the device, from octet 0
-    // to the end. Then it is asked for as many as a disk of a journal has, since an opening reads most of
-    // them, a sector at a time; where it does not read ahead, the opening only takes longer.
+    // to the end.
     fn reread(&mut self) -> io::Result<()> {
         let file = self.as_raw_fd();
         match posix_fadvise(file, 0, 0, POSIX_FADV_DONTNEED) {
             0 => {
-                let _ = posix_fadvise(file, 0, LONGEST_DISK, POSIX_FADV_WILLNEED);
+                if let Ok(size) = self.size() {
+                    read_ahead(file, size);
+                }
                 Ok(())
             }
             error => Err(io::Error::from_raw_os_error(error)),
@@ -111,4 +115,17 @@ impl DiskFile for File {
     }
 
     ghost sound = { λ _ behaves. no-claim behaves };
+}
+
+/// Asks the kernel for what an opening of a journal reads first: the heads of the second area, and then the
+/// first area, whose sectors follow one another. Where the second is the current one, the kernel reads ahead
+/// by itself. Where it never does, the opening only takes longer.
+fn read_ahead(file: RawFd, size: u64) {
+    let area = if size < SPACED_AREA as u64 {
+        PACKED_AREA
+    } else {
+        SPACED_AREA
+    };
+    let _ = posix_fadvise(file, area, 2 * 4_096, POSIX_FADV_WILLNEED);
+    let _ = posix_fadvise(file, 0, area, POSIX_FADV_WILLNEED);
 }
