@@ -9,8 +9,8 @@ use Rattle.macs_config.specs.Config.{is_spent}
 use Rattle.macs_config.specs.Filter.{IsFilter, has_flag}
 use Rattle.macs_config.proofs.Spent.{among-append}
 
-stays : (row mask k : ℕ) → bit_at row k ≡ 1 → bit_at (bit_or row mask) k ≡ 1
-stays row mask k is = omega (arith, bit_at_or row mask k, bit_at-lt mask k, is)
+stays : (bits mask k : ℕ) → bit_at bits k ≡ 1 → bit_at (bit_or bits mask) k ≡ 1
+stays bits mask k is = omega (arith, bit_at_or bits mask k, bit_at-lt mask k, is)
 
 module _ (rows : List ℕ) (at mask : ℕ) (within : at < length rows) where
   abbrev more : List ℕ
@@ -19,12 +19,12 @@ module _ (rows : List ℕ) (at mask : ℕ) (within : at < length rows) where
   row_at : get_or more at 0 ≡ bit_or (get_or rows at 0) mask
   row_at = get_or-set_same rows at (bit_or (get_or rows at 0) mask) 0 within
 
-  bit_kept : (row k : ℕ) → bit_at (get_or rows row 0) k ≡ 1 → bit_at (get_or more row 0) k ≡ 1
-  bit_kept row k is = elim (cases_eq row at) [
+  bit_kept : (place k : ℕ) → bit_at (get_or rows place 0) k ≡ 1 → bit_at (get_or more place 0) k ≡ 1
+  bit_kept place k is = elim (cases_eq place at) [
     | inl same ↦
         ap (λ n. bit_at (get_or more n 0) k) same ∙ ap (λ n. bit_at n k) row_at
         ∙ stays (get_or rows at 0) mask k (ap (λ n. bit_at (get_or rows n 0) k) (sym same) ∙ is)
-    | inr other ↦ ap (λ n. bit_at n k) (get_or-set_other rows at row (bit_or (get_or rows at 0) mask) 0 other) ∙ is
+    | inr other ↦ ap (λ n. bit_at n k) (get_or-set_other rows at place (bit_or (get_or rows at 0) mask) 0 other) ∙ is
   ]
 
   -- what was set stays set

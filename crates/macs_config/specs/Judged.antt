@@ -66,8 +66,9 @@ config_changed c (judged.RxInstall sci an sa start fingerprint) = record c {
 }
 config_changed c (judged.RxRemove sci an) = record c { rx = put_at c.rx sci (put (c.rx sci) an None) }
 
--- ---- and back: what is judged of a command that is not refused
+-- ---- and back
 
+-- what is judged of a command that is not refused
 abbrev pub judged_of : Command → Judged
 judged_of (SetValidate validate) = judged.SetValidate validate
 judged_of (SetReplay on window) = judged.SetReplay on window
