@@ -118,14 +118,15 @@ impl DiskFile for File {
 }
 
 /// Asks the kernel for what an opening of a journal reads first: the heads of the second area, and then the
-/// first area, whose sectors follow one another. Where the second is the current one, the kernel reads ahead
-/// by itself. Where it never does, the opening only takes longer.
+/// first area. Where the second is the current one the kernel reads it ahead by itself, which is slow where it
+/// is spaced, and then it is asked for as well. Where the kernel never reads ahead, the opening only takes
+/// longer.
 fn read_ahead(file: RawFd, size: u64) {
-    let area = if size < SPACED_AREA as u64 {
-        PACKED_AREA
+    let (area, front) = if size < SPACED_AREA as u64 {
+        (PACKED_AREA, PACKED_AREA)
     } else {
-        SPACED_AREA
+        (SPACED_AREA, 2 * SPACED_AREA)
     };
     let _ = posix_fadvise(file, area, 2 * 4_096, POSIX_FADV_WILLNEED);
-    let _ = posix_fadvise(file, 0, area, POSIX_FADV_WILLNEED);
+    let _ = posix_fadvise(file, 0, front, POSIX_FADV_WILLNEED);
 }
