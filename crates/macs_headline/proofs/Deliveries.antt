@@ -1,5 +1,5 @@
 -- Frames that are delivered as verified.
-use Rattle.std.proofs.Common.{◌≡◌, inl, inr, ℕ, Bool, true, false, cond, List, ◌∷◌, Ok, Err, refl, sym, ◌∙◌, ap, subst}
+use Rattle.std.proofs.Common.{◌≡◌, ◌≤◌, inl, inr, ℕ, Bool, true, false, cond, List, ◌∷◌, Ok, Err, refl, sym, ◌∙◌, ap, subst}
 use Rattle.macs_frame.specs.Fields.{octets_of}
 use Rattle.macs_frame.specs.Opening.{Verified}
 use Rattle.macs_frame.proofs.Readings.{verified_once}
@@ -16,6 +16,7 @@ use Rattle.macs_rxsc.specs.declared.verdict.Verdict.TheVariants.{Delivered, Disc
 use Rattle.macs_endpoint.specs.State.{Received, Receives, State, rx_side}
 use Rattle.macs_endpoint.specs.Step.{Step}
 use Rattle.macs_headline.specs.Deliveries.{DeliveriesAreVerified, IsVerifiedAnswer, IsVerifiedDelivery, IsVerifiedKind, OthersAreBare, out_after}
+use Rattle.macs_headline.proofs.Effects.{arrives-in-time}
 use Rattle.macs_headline.proofs.Places.{put_rx-this}
 
 unverified : (b : Bool) (reason : Reason) (kind other : Kind) → IsVerifiedKind kind → (IsVerifiedKind other → ⊥)
@@ -51,6 +52,7 @@ delivered s frame out kind new is (inr (running, inr (a, there, inr (is_verdict,
       numbers = a.numbers;
       are_numbers = ap (s.numbers a.sci) (sym there.is_an) ∙ there.are_numbers;
       in_time = sym one ∙ ap (λ (pn : ℕ). delivery_kind a.numbers pn) there.is_pn;
+      guarded = λ on. subst (λ (pn : ℕ). a.numbers.lowest ≤ pn) there.is_pn (arrives-in-time (rx_side s) frame a there on);
       verified = subst (Verified frame a.sa.key a.sci (octets_of a.sa.offset)) (sym is_out) there.verified;
       only = λ other verified. verified_once frame a.sa.key a.sci (octets_of a.sa.offset) other out verified
           (subst (Verified frame a.sa.key a.sci (octets_of a.sa.offset)) (sym is_out) there.verified);

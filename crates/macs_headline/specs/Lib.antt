@@ -7,6 +7,7 @@ pub mod Tickets
 pub mod Answered
 pub mod Frames
 pub mod Deliveries
+pub mod Windows
 pub mod Received
 pub mod Refused
 pub mod Stopping

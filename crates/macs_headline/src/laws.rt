@@ -31,6 +31,7 @@ ghost use Rattle.macs_headline.specs.Received.{HeldAreAhead, SeenAreVerified, Un
 ghost use Rattle.macs_headline.specs.Refused.{RefusalsAreExact};
 ghost use Rattle.macs_headline.specs.Stopping.{StoppedStays};
 ghost use Rattle.macs_headline.specs.Tickets.{TicketsKept};
+ghost use Rattle.macs_headline.specs.Windows.{WindowsAreKept};
 ghost use Rattle.macs_headline.specs.Openings.{IdentityWasGiven, NothingChanges, RefusedForDisk, RefusedForDiskOrBlank};
 
 use crate::example::peer_frame_in_range;
@@ -89,6 +90,8 @@ pub fn headline()
     ensures others_are_bare { (sectors : ℕ) → OthersAreBare sectors }
     // A frame that does not verify is discarded, or delivered under Check with C clear, by the first step that settles it.
     ensures unverified_are_settled { (sectors : ℕ) → UnverifiedAreSettled sectors }
+    // The lowest acceptable number of an association is at most the next one, and no further below it than the window.
+    ensures windows_are_kept { (sectors : ℕ) → WindowsAreKept sectors }
     // A frame that is held back verifies, and its number is not below the next one.
     ensures held_are_ahead { (sectors : ℕ) → HeldAreAhead sectors }
     // The greatest number that was seen on an association is that of a frame that verified there.

@@ -6,7 +6,7 @@ use Rattle.macs_headline.proofs.HandedIn.{in-hand-was-given}
 use Rattle.macs_headline.proofs.Identities.{identity-was-given}
 use Rattle.macs_headline.proofs.Logged.{logs-are-answers}
 use Rattle.macs_headline.proofs.Logs.{nothing-forgotten}
-use Rattle.macs_headline.proofs.Numbers.{given-apart, given-below, ok-apart, skips-few, skips-few-received, used-below, used-once, used-once-at-end}
+use Rattle.macs_headline.proofs.Numbers.{given-apart, given-below, ok-apart, skips-few, skips-few-received, used-below, used-once, used-once-at-end, windows-are-kept}
 use Rattle.macs_headline.proofs.Openings.{nothing-changes, refused-for-disk, refused-for-disk-or-blank}
 use Rattle.macs_headline.proofs.Ranges.{frames-are-standard}
 use Rattle.macs_headline.proofs.Received.{held-are-ahead, seen-are-verified, unverified-are-settled}
@@ -95,6 +95,9 @@ returns-clause-held_are_ahead c = held-are-ahead
 
 pub returns-clause-seen_are_verified : goal.returns-clause-seen_are_verified
 returns-clause-seen_are_verified c = seen-are-verified
+
+pub returns-clause-windows_are_kept : goal.returns-clause-windows_are_kept
+returns-clause-windows_are_kept c = windows-are-kept
 
 pub returns-clause-refusals_are_exact : goal.returns-clause-refusals_are_exact
 returns-clause-refusals_are_exact c = refusals-are-exact
