@@ -17,6 +17,7 @@ pub mod HandedIn
 pub mod Ranges
 pub mod Deliveries
 pub mod Received
+pub mod Steps
 pub mod Refused
 pub mod Stopping
 pub mod Cuts

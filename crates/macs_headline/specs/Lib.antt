@@ -9,6 +9,7 @@ pub mod Frames
 pub mod Deliveries
 pub mod Windows
 pub mod Received
+pub mod Steps
 pub mod Refused
 pub mod Stopping
 pub mod Logged

@@ -29,6 +29,7 @@ ghost use Rattle.macs_headline.specs.Numbers.{GivenApart, GivenBelow, NothingFor
 ghost use Rattle.macs_headline.specs.Numbers.{UsedBelow, UsedOnce, UsedOnceAtEnd};
 ghost use Rattle.macs_headline.specs.Received.{HeldAreAhead, SeenAreVerified, UnverifiedAreSettled};
 ghost use Rattle.macs_headline.specs.Refused.{RefusalsAreExact};
+ghost use Rattle.macs_headline.specs.Steps.{StepsAreOne};
 ghost use Rattle.macs_headline.specs.Stopping.{StoppedStays};
 ghost use Rattle.macs_headline.specs.Tickets.{TicketsKept};
 ghost use Rattle.macs_headline.specs.Windows.{WindowsAreKept};
@@ -96,6 +97,8 @@ pub fn headline()
     ensures held_are_ahead { (sectors : ℕ) → HeldAreAhead sectors }
     // The greatest number that was seen on an association is that of a frame that verified there.
     ensures seen_are_verified { (sectors : ℕ) → SeenAreVerified sectors }
+    // The state before a call, the call and its answer settle the state after it.
+    ensures steps_are_one { StepsAreOne }
     // A call is refused for the first reason that holds, and changes nothing then.
     ensures refusals_are_exact { (sectors : ℕ) → RefusalsAreExact sectors }
     // After a device fault each call is answered that the endpoint is stopped, and changes nothing; before one none is.

@@ -11,6 +11,7 @@ use Rattle.macs_headline.proofs.Openings.{nothing-changes, refused-for-disk, ref
 use Rattle.macs_headline.proofs.Ranges.{frames-are-standard}
 use Rattle.macs_headline.proofs.Received.{held-are-ahead, seen-are-verified, unverified-are-settled}
 use Rattle.macs_headline.proofs.Refused.{refusals-are-exact}
+use Rattle.macs_headline.proofs.Steps.{steps-are-one}
 use Rattle.macs_headline.proofs.Stopping.{stopped-stays}
 use Rattle.macs_headline.proofs.Tickets.{tickets-kept}
 use Rattle.macs_headline.proofs.laws.headline.Goals as goal
@@ -98,6 +99,9 @@ returns-clause-seen_are_verified c = seen-are-verified
 
 pub returns-clause-windows_are_kept : goal.returns-clause-windows_are_kept
 returns-clause-windows_are_kept c = windows-are-kept
+
+pub returns-clause-steps_are_one : goal.returns-clause-steps_are_one
+returns-clause-steps_are_one c = steps-are-one
 
 pub returns-clause-refusals_are_exact : goal.returns-clause-refusals_are_exact
 returns-clause-refusals_are_exact c = refusals-are-exact
