@@ -16,7 +16,7 @@ use Rattle.macs_endpoint.specs.declared.fault.StepFault.TheVariants as advance
 use Rattle.macs_endpoint.specs.declared.fault.SubmitFault.{SubmitFault}
 use Rattle.macs_endpoint.specs.declared.fault.SubmitFault.TheVariants as submit
 use Rattle.macs_endpoint.specs.declared.progress.Step.{Step as Progress}
-use Rattle.macs_endpoint.specs.declared.progress.Step.TheVariants.{Done}
+use Rattle.macs_endpoint.specs.declared.progress.Step.TheVariants.{Done, Idle, Reserved}
 use Rattle.macs_endpoint.specs.declared.queue.Waiting.{Waiting}
 use Rattle.macs_endpoint.specs.State.{Accepts, Advanced, Advances, Call, Commands, Protects, Protected, Ran, Receives, Refilled, Refills, Reply, State, Submits, Submitted}
 use Rattle.macs_endpoint.specs.Step.{AdvanceStep, CommandStep, Ends, IsStopped, Makes, ProtectStep, RefillStep, RunningStep, Step, SubmitStep, state_without_first}
@@ -51,21 +51,21 @@ by_command : (old : State) (c : Command) (result : Result (Unit {0}) CommandFaul
     → IsExact old (Commands c) (Ran result) new
 by_command old c (Ok done) new (none, makes) = (none, made_for old c new makes)
 by_command old c (Err ran.Stopped) new h = absurd h
-by_command old c (Err ran.Disk) new h = tt
+by_command old c (Err ran.Disk) new (none, accepts, is) = (none, accepted_for old c accepts, is)
 by_command old c (Err ran.Busy) new (some, is) = (some, is)
 by_command old c (Err (ran.Refused refusal)) new (none, why, is) = (none, refused_for old c refusal why, is)
 by_command old c (Err ran.GenerationsSpent) new (none, accepts, is) = (none, accepted_for old c accepts, is)
 
 by_refill : (old : State) (result : Result (Unit {0}) RefillFault) (new : State) → RefillStep old result new → IsExact old Refills (Refilled result) new
-by_refill old (Ok done) new h = tt
+by_refill old (Ok done) new (none, is) = (none, is)
 by_refill old (Err refill.Stopped) new h = absurd h
-by_refill old (Err refill.Disk) new h = tt
+by_refill old (Err refill.Disk) new (none, is) = (none, is)
 by_refill old (Err refill.Busy) new (some, is) = (some, is)
 by_refill old (Err refill.GenerationsSpent) new (none, is) = (none, is)
 
 by_submit : (old : State) (c : Command) (result : Result ℕ SubmitFault) (new : State) → SubmitStep old c result new
     → IsExact old (Submits c) (Submitted result) new
-by_submit old c (Ok ticket) new h = tt
+by_submit old c (Ok ticket) new (few, left, is_ticket, is) = (few, left, is)
 by_submit old c (Err submit.QueueFull) new (many, is) = (many, is)
 by_submit old c (Err submit.TicketsSpent) new (few, spent, is) = (few, spent, is)
 by_submit old c (Err submit.Stopped) new h = absurd h
@@ -81,6 +81,8 @@ by_end old w rest ticket (Err ran.GenerationsSpent) new waiting is_ticket (idle,
 by_end old w rest ticket (Err fault) new waiting is_ticket h = absurd h
 
 by_advance : (old : State) (result : Result Progress StepFault) (new : State) → AdvanceStep old result new → IsExact old Advances (Advanced result) new
+by_advance old (Ok Idle) new is = is
+by_advance old (Ok Reserved) new is = is
 by_advance old (Ok (Done ticket result)) new (w, rest, waiting, is_ticket, ends) = by_end old w rest ticket result new waiting is_ticket ends
 by_advance old (Err advance.GenerationsSpent) new is = is
 by_advance old (Err advance.Stopped) new h = absurd h
