@@ -19,6 +19,7 @@ pub mod Deliveries
 pub mod Received
 pub mod Steps
 pub mod Refused
+pub mod Begun
 pub mod Stopping
 pub mod Cuts
 pub mod Unbegun

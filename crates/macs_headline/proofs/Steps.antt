@@ -1,5 +1,5 @@
 -- One state comes after a call with its answer.
-use Rattle.std.proofs.Common.{◌≡◌, inl, inr, ℕ, true, List, [], ◌∷◌, Result, Ok, Err, sym, ◌∙◌, ap, subst}
+use Rattle.std.proofs.Common.{◌≡◌, inl, inr, ℕ, List, [], ◌∷◌, Result, Ok, Err, sym, ◌∙◌, ap, subst}
 use Rattle.std.proofs.lemmas.Bool.{false≢true}
 use Rattle.macs_config.specs.Config.{Config}
 use Rattle.macs_config.specs.declared.command.Command.{Command}
@@ -25,7 +25,7 @@ use Rattle.macs_endpoint.specs.declared.progress.Step.{Step as Progress}
 use Rattle.macs_endpoint.specs.declared.progress.Step.TheVariants.{Done, Idle, Reserved, Worked}
 use Rattle.macs_endpoint.specs.declared.queue.Waiting.{Waiting}
 use Rattle.macs_endpoint.specs.State.{Advanced, Advances, Call, Commands, Protects, Protected, Ran, Received, Receives, Refilled, Refills, Reply, State, Submits, Submitted, rx_side, state_after_fault, state_with_in_hand}
-use Rattle.macs_endpoint.specs.Step.{AdvanceStep, CommandStep, Ends, Makes, ProtectStep, ReceiveStep, RefillStep, RunningStep, Step, SubmitStep, TakesUp, state_after_command, state_after_delivery, state_after_frame, state_after_hold, state_without_first}
+use Rattle.macs_endpoint.specs.Step.{AdvanceStep, CommandStep, Ends, Makes, ProtectStep, ReceiveStep, RefillStep, RunningStep, SubmitStep, TakesUp, state_after_command, state_after_delivery, state_after_frame, state_after_hold, state_without_first}
 use Rattle.macs_headline.specs.Steps.{AreOne, StepsAreOne, state_but_hand}
 
 -- two that are one

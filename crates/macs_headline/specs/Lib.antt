@@ -11,6 +11,7 @@ pub mod Windows
 pub mod Received
 pub mod Steps
 pub mod Refused
+pub mod Begun
 pub mod Stopping
 pub mod Logged
 pub mod Openings

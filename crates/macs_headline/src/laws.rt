@@ -17,6 +17,7 @@ ghost use Rattle.macs_headline.specs.Binding.{FramesAreDeliveredOnce, FramesAreW
 ghost use Rattle.macs_headline.specs.Binding.{FusesChangeNone, IsNewDisk, LargerFind, LargerGoOn, LivesAreMoments, LivesFit, LivesKeepCommands, LivesKeepTickets};
 ghost use Rattle.macs_headline.specs.Binding.{NewDeedsAreHistories};
 ghost use Rattle.macs_headline.specs.Binding.{NewDisksHaveHistories, OpeningsFind, PassedOnHaveHistories, RefusalsAreFailures, SettledHaveHistories};
+ghost use Rattle.macs_headline.specs.Begun.{InHandWasBegun};
 ghost use Rattle.macs_headline.specs.Commands.{CommandsKept, InHandWasGiven};
 ghost use Rattle.macs_headline.specs.Configurations.{ConfigurationIs};
 ghost use Rattle.macs_headline.specs.Deliveries.{DeliveredBelow, DeliveriesAreVerified, GivenOnce, NeverOkAgain, OthersAreBare};
@@ -79,6 +80,8 @@ pub fn headline()
     ensures commands_kept { (sectors : ℕ) → CommandsKept sectors }
     // What is in hand where a life ends was given to a call of that life.
     ensures in_hand_was_given { (sectors : ℕ) → InHandWasGiven sectors }
+    // It is accepted, and work on it began in a step or in `command`, and in no other call.
+    ensures in_hand_was_begun { (sectors : ℕ) → InHandWasBegun sectors }
     // Over all lives: it finds what the kept commands of each make of the first configuration, and the identity of the `format` that answered Ok.
     ensures configuration_is { (sectors : ℕ) → ConfigurationIs sectors }
     // In one life tickets are given in order from 1, each is answered at most once, in order, and none is lost.

@@ -1,4 +1,5 @@
 use Rattle.macs_headline.proofs.Answered.{answers-are-held, delivered-below, given-once, moments-are-histories, never-ok-again, written-below, written-once}
+use Rattle.macs_headline.proofs.Begun.{in-hand-was-begun}
 use Rattle.macs_headline.proofs.Commands.{commands-kept}
 use Rattle.macs_headline.proofs.Configurations.{configuration-is}
 use Rattle.macs_headline.proofs.Deliveries.{deliveries-are-verified, others-are-bare}
@@ -66,6 +67,9 @@ returns-clause-commands_kept c = commands-kept
 
 pub returns-clause-in_hand_was_given : goal.returns-clause-in_hand_was_given
 returns-clause-in_hand_was_given c = in-hand-was-given
+
+pub returns-clause-in_hand_was_begun : goal.returns-clause-in_hand_was_begun
+returns-clause-in_hand_was_begun c = in-hand-was-begun
 
 pub returns-clause-configuration_is : goal.returns-clause-configuration_is
 returns-clause-configuration_is c = configuration-is
