@@ -13,6 +13,7 @@ pub mod Numbers
 pub mod Openings
 pub mod Identities
 pub mod Commands
+pub mod FoundOnce
 pub mod HandedIn
 pub mod Ranges
 pub mod Deliveries

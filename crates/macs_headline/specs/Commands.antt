@@ -1,5 +1,5 @@
 -- The headline on commands.
-use Rattle.std.specs.Prelude.{◌≡◌, ◌⊎◌, ◌==◌, ◌++◌, if◌then◌else◌, ℕ, List, [], ◌∷◌, Contains, option_to_list, Option, Some, Ok, Err}
+use Rattle.std.specs.Prelude.{◌≡◌, ◌⊎◌, ◌==◌, ◌++◌, if◌then◌else◌, ℕ, List, [], ◌∷◌, Contains, option_to_list, Option, Some, None, Ok, Err}
 use Rattle.macs_config.specs.Apply.{apply}
 use Rattle.macs_config.specs.Config.{Config, Edition}
 use Rattle.macs_config.specs.Identity.{Identity}
@@ -104,6 +104,11 @@ pub record FindsPrefix (before : Standing) (exchanges : List Exchange) (in_hand 
   pub acknowledged : IsPrefix (acknowledged_commands exchanges) kept
   pub accepted : IsPrefix kept (accepted_commands exchanges in_hand)
   pub made : CommandsMake before.edition before.identity before.config kept after.config
+
+-- Where nothing was in hand at its end, one configuration is found after a life, under one identity: each acknowledged command took effect, and no other did.
+abbrev pub FindsOne : Type 0
+FindsOne = (before a b : Standing) (exchanges : List Exchange) → FindsPrefix before exchanges None a → FindsPrefix before exchanges None b
+    → (a.config ≡ b.config) × (a.identity ≡ b.identity)
 
 -- At whatever moment a life ends, in the midst of a call or not, and whatever edition opens the disk next: in every image that it may come
 -- upon it finds such a prefix.

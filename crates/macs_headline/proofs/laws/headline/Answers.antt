@@ -3,6 +3,7 @@ use Rattle.macs_headline.proofs.Begun.{in-hand-was-begun}
 use Rattle.macs_headline.proofs.Commands.{commands-kept}
 use Rattle.macs_headline.proofs.Configurations.{configuration-is}
 use Rattle.macs_headline.proofs.Deliveries.{deliveries-are-verified, others-are-bare}
+use Rattle.macs_headline.proofs.FoundOnce.{finds-one}
 use Rattle.macs_headline.proofs.HandedIn.{in-hand-was-given}
 use Rattle.macs_headline.proofs.Identities.{identity-was-given}
 use Rattle.macs_headline.proofs.Logged.{logs-are-answers}
@@ -70,6 +71,9 @@ returns-clause-in_hand_was_given c = in-hand-was-given
 
 pub returns-clause-in_hand_was_begun : goal.returns-clause-in_hand_was_begun
 returns-clause-in_hand_was_begun c = in-hand-was-begun
+
+pub returns-clause-finds_one : goal.returns-clause-finds_one
+returns-clause-finds_one c = finds-one
 
 pub returns-clause-configuration_is : goal.returns-clause-configuration_is
 returns-clause-configuration_is c = configuration-is
