@@ -28,6 +28,7 @@ pub mod Losses
 pub mod Endings
 pub mod Older
 pub mod Refusals
+pub mod FormatsOnce
 pub mod Formats
 pub mod Living
 pub mod Chains

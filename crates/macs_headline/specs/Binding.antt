@@ -1,5 +1,5 @@
 -- What binds the program to the headline: whatever is done with a disk that has a history is one, and a disk that is new has the empty one.
-use Rattle.std.specs.Prelude.{◌≡◌, ◌⊎◌, ◌↔◌, ◌≤◌, true, ◌++◌, ℕ, List, [], ◌∷◌, map, Contains, Option, Some, None, Result, Ok, Err}
+use Rattle.std.specs.Prelude.{◌≡◌, ◌⊎◌, ◌↔◌, ◌≤◌, true, false, ◌++◌, ℕ, List, [], ◌∷◌, map, Contains, Option, Some, None, Result, Ok, Err}
 use Rattle.macs_frame.specs.Tag.{tag_of}
 use Rattle.macs_config.specs.Config.{Edition, IsUpTo, this_edition}
 use Rattle.macs_config.specs.Identity.{Identity}
@@ -30,9 +30,9 @@ use Rattle.macs_endpoint.specs.Value.{EndpointValue, IsSoundEndpoint, device_in,
 use Rattle.macs_headline.specs.Commands.{FindsPrefix}
 use Rattle.macs_headline.specs.Answered.{exchanges_of_lives, lives_at}
 use Rattle.macs_headline.specs.Deliveries.{IsOtherDelivery, IsVerifiedDelivery, IsVerifiedKind, delivering}
-use Rattle.macs_headline.specs.Deeds.{Chain, Does, Formatting, FormattingCut, IsPassedOn, Link, Living, LivesFrom, OpeningCut, PassingOn, Refusing, disk_after_opening, lives_of_links}
+use Rattle.macs_headline.specs.Deeds.{Chain, Deed, Does, Formatting, FormattingCut, IsPassedOn, Link, Living, LivesFrom, OpeningCut, PassingOn, Refusing, disk_after_opening, lives_of_links}
 use Rattle.macs_headline.specs.Frames.{IsOtherFrame, IsStandardFrame, writing}
-use Rattle.macs_headline.specs.History.{FitsPast, Formats, IsHistory, Life, Past, Serves, logs_of, state_at_end}
+use Rattle.macs_headline.specs.History.{FitsPast, Formats, IsHistory, Life, Past, Refuses, Serves, logs_of, state_at_end}
 use Rattle.macs_headline.specs.Moments.{IsFoundAfter, Moment}
 use Rattle.macs_headline.specs.Numbers.{HasNoneTwice}
 use Rattle.macs_headline.specs.Tickets.{AreTicketsKept}
@@ -104,6 +104,17 @@ abbrev pub ChainsAnswer : {D : Type 0} → (D → Disk) → Type 0
 ChainsAnswer {D} disk_of = (old : D) (links : List (Link D)) (link : Link D) (first last : EndpointValue D) (turns : List (Transition D)) (cut : Option Call)
     (turn : Transition D) → Contains links link → link.deed ≡ Living first turns last cut → Contains turns turn
     → Contains (exchanges_of_lives (lives_of_links disk_of old links)) (exchange_of turn)
+
+-- What a chain's lives tell of a deed: a `format` with whether it answered Ok, and an opening that was refused with its fault.
+pub record IsTold {D : Type 0} (lives : List Life) (deed : Deed D) : Type 0 where
+  pub formatted : (identity : Identity) → deed ≡ Formatting identity (Ok tt) → Contains lives (Formats this_edition identity true)
+  pub not_formatted : (identity : Identity) (fault : JournalFault) → deed ≡ Formatting identity (Err fault)
+      → Contains lives (Formats this_edition identity false)
+  pub refused : (fault : JournalFault) → deed ≡ Refusing fault → (image : Image) × Contains lives (Refuses this_edition image fault)
+
+-- so each deed of a chain is told
+abbrev pub ChainsTell : {D : Type 0} → (D → Disk) → Type 0
+ChainsTell {D} disk_of = (old : D) (links : List (Link D)) (link : Link D) → Contains links link → IsTold (lives_of_links disk_of old links) link.deed
 
 -- An endpoint that opened this image is at a moment of a history: after these lives, and after these calls of its own.
 pub record IsAtMoment {D : Type 0} (sectors : ℕ) (lives : List Life) (image : Image) (turns : List (Transition D)) (first last : EndpointValue D) : Type 0 where

@@ -15,6 +15,7 @@ pub mod Begun
 pub mod Stopping
 pub mod Logged
 pub mod Openings
+pub mod Formats
 pub mod Deeds
 pub mod Endings
 pub mod Binding

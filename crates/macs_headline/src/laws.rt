@@ -12,7 +12,7 @@ ghost use Rattle.macs_disk.specs.declared.file.FileDisk.{FileDisk};
 ghost use Rattle.macs_disk.specs.declared.layout.Layout.{Layout};
 ghost use Rattle.macs_journal.specs.Areas.{least_sectors};
 ghost use Rattle.macs_headline.specs.Answered.{AnswersAreHeld, MomentsAreHistories};
-ghost use Rattle.macs_headline.specs.Binding.{CallsAreDeeds, ChainsAnswer, ChainsKeepSizes, DeedsAreHistories, EndsAreCuts};
+ghost use Rattle.macs_headline.specs.Binding.{CallsAreDeeds, ChainsAnswer, ChainsKeepSizes, ChainsTell, DeedsAreHistories, EndsAreCuts};
 ghost use Rattle.macs_headline.specs.Binding.{FramesAreDeliveredOnce, FramesAreWrittenOnce};
 ghost use Rattle.macs_headline.specs.Binding.{FusesChangeNone, IsNewDisk, LargerFind, LargerGoOn, LivesAreMoments, LivesFit, LivesKeepCommands, LivesKeepTickets};
 ghost use Rattle.macs_headline.specs.Binding.{NewDeedsAreHistories};
@@ -24,6 +24,7 @@ ghost use Rattle.macs_headline.specs.Deliveries.{DeliveredBelow, DeliveriesAreVe
 ghost use Rattle.macs_headline.specs.Endings.{DroppedPassOn, EndsAreEarlier, KillingsPassOn, LosesPower, PassedOnAgain, PowerLossesPassOn};
 ghost use Rattle.macs_headline.specs.Endings.{ReadsPassOn, SyncsPassOn, WritesBackAsSyncs, WrittenBackPassOn};
 ghost use Rattle.macs_headline.specs.ExampleLives.{IsWorkedHistory};
+ghost use Rattle.macs_headline.specs.Formats.{FormatsOnce, RefusedByHistory};
 ghost use Rattle.macs_headline.specs.Frames.{FramesAreStandard, WrittenBelow, WrittenOnce};
 ghost use Rattle.macs_headline.specs.Logged.{LogsAreAnswers};
 ghost use Rattle.macs_headline.specs.Numbers.{GivenApart, GivenBelow, NothingForgotten, OkApart, SkipsFew, SkipsFewReceived};
@@ -112,6 +113,10 @@ pub fn headline()
     ensures refused_for_disk { (sectors : ℕ) → RefusedForDisk sectors }
     // Before that it may also find no journal.
     ensures refused_for_disk_or_blank { (sectors : ℕ) → RefusedForDiskOrBlank sectors }
+    // So it is over the lives of a history: as not formatted only where none of them formatted the disk for sure.
+    ensures refused_by_history { (sectors : ℕ) → RefusedByHistory sectors }
+    // And `format` answers Ok once at most, and after no opening that succeeded.
+    ensures formats_once { (sectors : ℕ) → FormatsOnce sectors }
     // A refused opening, and a `format` of a formatted disk, change nothing.
     ensures nothing_changes { (sectors : ℕ) → NothingChanges sectors }
     // An opening finds an identity that some `format` was given.
@@ -164,6 +169,8 @@ pub fn histories<D: SectorDisk>()
     ensures sizes { ChainsKeepSizes D.disk }
     // What their endpoints answered is among what the lives answered.
     ensures answers { ChainsAnswer D.disk }
+    // And so is what `format` answered, and for what an opening was refused.
+    ensures told { ChainsTell D.disk }
     // From a disk that is new they are one.
     ensures from_new { NewDeedsAreHistories D.disk }
     // An opening finds what may be found after the history.

@@ -3,6 +3,7 @@ use Rattle.macs_headline.proofs.Begun.{in-hand-was-begun}
 use Rattle.macs_headline.proofs.Commands.{commands-kept}
 use Rattle.macs_headline.proofs.Configurations.{configuration-is}
 use Rattle.macs_headline.proofs.Deliveries.{deliveries-are-verified, others-are-bare}
+use Rattle.macs_headline.proofs.FormatsOnce.{formats-once, refused-by-history}
 use Rattle.macs_headline.proofs.FoundOnce.{finds-one}
 use Rattle.macs_headline.proofs.HandedIn.{in-hand-was-given}
 use Rattle.macs_headline.proofs.Identities.{identity-was-given}
@@ -122,6 +123,12 @@ returns-clause-refused_for_disk c = refused-for-disk
 
 pub returns-clause-refused_for_disk_or_blank : goal.returns-clause-refused_for_disk_or_blank
 returns-clause-refused_for_disk_or_blank c = refused-for-disk-or-blank
+
+pub returns-clause-formats_once : goal.returns-clause-formats_once
+returns-clause-formats_once c = formats-once
+
+pub returns-clause-refused_by_history : goal.returns-clause-refused_by_history
+returns-clause-refused_by_history c = refused-by-history
 
 pub returns-clause-nothing_changes : goal.returns-clause-nothing_changes
 returns-clause-nothing_changes c = nothing-changes
