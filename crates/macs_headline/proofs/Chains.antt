@@ -167,7 +167,7 @@ calls-are-deeds disk_of = record {
 -- ---- what they answered
 
 -- what all these lives answered, and all those
-exchanges-on : (lives more : List Life) (e : Exchange) → Contains (exchanges_of_lives lives) e ⊎ Contains (exchanges_of_lives more) e
+pub exchanges-on : (lives more : List Life) (e : Exchange) → Contains (exchanges_of_lives lives) e ⊎ Contains (exchanges_of_lives more) e
     → Contains (exchanges_of_lives (lives ++ more)) e
 exchanges-on [] more e (inl among) = absurd (contains-none e among)
 exchanges-on [] more e (inr among) = among

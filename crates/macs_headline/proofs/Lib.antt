@@ -34,6 +34,7 @@ pub mod Living
 pub mod Chains
 pub mod Answered
 pub mod Logged
+pub mod GoingOn
 pub mod Configurations
 pub mod Moments
 pub mod Tickets

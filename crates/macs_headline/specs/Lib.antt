@@ -14,6 +14,7 @@ pub mod Refused
 pub mod Begun
 pub mod Stopping
 pub mod Logged
+pub mod GoingOn
 pub mod Openings
 pub mod Formats
 pub mod Deeds

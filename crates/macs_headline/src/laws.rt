@@ -26,12 +26,13 @@ ghost use Rattle.macs_headline.specs.Endings.{ReadsPassOn, SyncsPassOn, WritesBa
 ghost use Rattle.macs_headline.specs.ExampleLives.{IsWorkedHistory};
 ghost use Rattle.macs_headline.specs.Formats.{FormatsOnce, RefusedByHistory};
 ghost use Rattle.macs_headline.specs.Frames.{FramesAreStandard, WrittenBelow, WrittenOnce};
+ghost use Rattle.macs_headline.specs.GoingOn.{LivesGoOn};
 ghost use Rattle.macs_headline.specs.Logged.{LogsAreAnswers};
 ghost use Rattle.macs_headline.specs.Numbers.{GivenApart, GivenBelow, NothingForgotten, OkApart, SkipsFew, SkipsFewReceived};
 ghost use Rattle.macs_headline.specs.Numbers.{UsedBelow, UsedOnce, UsedOnceAtEnd};
 ghost use Rattle.macs_headline.specs.Received.{HeldAreAhead, SeenAreVerified, UnverifiedAreSettled};
 ghost use Rattle.macs_headline.specs.Refused.{RefusalsAreExact};
-ghost use Rattle.macs_headline.specs.Steps.{StepsAreOne};
+ghost use Rattle.macs_headline.specs.Steps.{StepsAreOne, StepsAreTaken};
 ghost use Rattle.macs_headline.specs.Stopping.{StoppedStays};
 ghost use Rattle.macs_headline.specs.Tickets.{TicketsKept};
 ghost use Rattle.macs_headline.specs.Windows.{WindowsAreKept};
@@ -50,6 +51,9 @@ pub fn headline()
     ensures nothing_forgotten { (sectors : ℕ) → NothingForgotten sectors }
     // The lives up to a moment are a history.
     ensures moments_are_histories { (sectors : ℕ) → MomentsAreHistories sectors }
+    // They go on with each step, and each end of a life, of programs of any edition.
+    ensures lives_go_on { (sectors : ℕ) → LivesGoOn sectors }
+    ensures steps_are_taken { StepsAreTaken }
     // What any life answered was answered at a moment of the history, and what it used and delivered is held.
     ensures answers_are_held { (sectors : ℕ) → AnswersAreHeld sectors }
     // And nothing else is: what was used and delivered is what some life answered.

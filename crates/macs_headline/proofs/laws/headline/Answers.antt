@@ -5,6 +5,7 @@ use Rattle.macs_headline.proofs.Configurations.{configuration-is}
 use Rattle.macs_headline.proofs.Deliveries.{deliveries-are-verified, others-are-bare}
 use Rattle.macs_headline.proofs.FormatsOnce.{formats-once, refused-by-history}
 use Rattle.macs_headline.proofs.FoundOnce.{finds-one}
+use Rattle.macs_headline.proofs.GoingOn.{lives-go-on}
 use Rattle.macs_headline.proofs.HandedIn.{in-hand-was-given}
 use Rattle.macs_headline.proofs.Identities.{identity-was-given}
 use Rattle.macs_headline.proofs.Logged.{logs-are-answers}
@@ -14,7 +15,7 @@ use Rattle.macs_headline.proofs.Openings.{nothing-changes, refused-for-disk, ref
 use Rattle.macs_headline.proofs.Ranges.{frames-are-standard}
 use Rattle.macs_headline.proofs.Received.{held-are-ahead, seen-are-verified, unverified-are-settled}
 use Rattle.macs_headline.proofs.Refused.{refusals-are-exact}
-use Rattle.macs_headline.proofs.Steps.{steps-are-one}
+use Rattle.macs_headline.proofs.Steps.{steps-are-one, steps-are-taken}
 use Rattle.macs_headline.proofs.Stopping.{stopped-stays}
 use Rattle.macs_headline.proofs.Tickets.{tickets-kept}
 use Rattle.macs_headline.proofs.laws.headline.Goals as goal
@@ -24,6 +25,12 @@ returns-clause-nothing_forgotten c = nothing-forgotten
 
 pub returns-clause-moments_are_histories : goal.returns-clause-moments_are_histories
 returns-clause-moments_are_histories c = moments-are-histories
+
+pub returns-clause-lives_go_on : goal.returns-clause-lives_go_on
+returns-clause-lives_go_on c = lives-go-on
+
+pub returns-clause-steps_are_taken : goal.returns-clause-steps_are_taken
+returns-clause-steps_are_taken c = steps-are-taken
 
 pub returns-clause-logs_are_answers : goal.returns-clause-logs_are_answers
 returns-clause-logs_are_answers c = logs-are-answers
