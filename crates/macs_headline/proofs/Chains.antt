@@ -11,7 +11,7 @@ use Rattle.macs_endpoint.specs.State.{Call}
 use Rattle.macs_endpoint.specs.Step.{Exchange}
 use Rattle.macs_endpoint.specs.Value.{EndpointValue, IsSoundEndpoint}
 use Rattle.macs_headline.specs.Answered.{exchanges_in, exchanges_of_lives}
-use Rattle.macs_headline.specs.Binding.{CallsAreDeeds, ChainsAnswer, ChainsKeepSizes, ChainsTell, DeedsAreHistories, FusesChangeNone, HasHistory, NewDeedsAreHistories, NewDisksHaveHistories, PassedOnHaveHistories, SettledHaveHistories}
+use Rattle.macs_headline.specs.Binding.{CallsAreDeeds, ChainsAnswer, ChainsKeepSizes, ChainsTell, DeedsAreHistories, FusesChangeNone, HasHistory, NewDeedsAreHistories, NewDisksHaveHistories, PassedOnHaveHistories, SettledHaveHistories, TheseAreNew}
 use Rattle.macs_headline.specs.Deeds.{Chain, Deed, Does, Formatting, FormattingCut, IsPassedOn, Link, Living, OpeningCut, PassingOn, Refusing, lives_of_deed, lives_of_links}
 use Rattle.macs_headline.specs.History.{Blank, FitsPast, Formats, IsHistory, LeadOn, Life, Past, Refuses}
 use Rattle.macs_headline.proofs.Formats.{format-answered, format-cut}
@@ -25,6 +25,10 @@ lead-on sectors [] more old mid new first rest = subst (λ (p : Past). LeadOn se
 lead-on sectors (life ∷ lives) more old mid new (next, leads, first) rest = (next, leads, lead-on sectors lives more next mid new first rest)
 
 -- ---- disks that have a history
+
+-- these are new
+pub these-are-new : TheseAreNew
+these-are-new disk honest large closed = record { honest = honest; large = large; closed = closed }
 
 -- a disk that is new
 pub new-disks : NewDisksHaveHistories

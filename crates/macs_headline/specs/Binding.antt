@@ -14,7 +14,7 @@ use Rattle.macs_journal.specs.declared.recovery.RecoverRefused.{RecoverRefused}
 use Rattle.macs_store.specs.Found.{StandingIs}
 use Rattle.macs_store.specs.Standing.{Standing}
 use Rattle.macs_store.specs.Value.{standing_in}
-use Rattle.macs_endpoint.specs.Advancing.{Piece, ToKeep, next_piece}
+use Rattle.macs_endpoint.specs.Advancing.{Piece, ToKeep, ToRaise, next_piece}
 use Rattle.macs_endpoint.specs.Calls.{IsCall}
 use Rattle.macs_endpoint.specs.Formatting.{IsFormat}
 use Rattle.macs_endpoint.specs.Lives.{Transition, exchange_of}
@@ -52,6 +52,10 @@ pub record HasHistory (edition : Edition) (disk : Disk) (lives : List Life) : Ty
   pub images : (image : Image) → MayLeave disk image → FitsPast edition disk.sectors past image
 
 -- ---- where a history begins, and which disks have it
+
+-- Each honest disk of 1,028 sectors or more whose head gates are closed in every image is new, whatever else is on it or pending.
+abbrev pub TheseAreNew : Type 0
+TheseAreNew = (disk : Disk) → IsHonest disk → least_sectors ≤ disk.sectors → ((image : Image) → MayLeave disk image → IsNotFormatted image) → IsNewDisk disk
 
 -- a disk that is new has the history in which nothing was done
 abbrev pub NewDisksHaveHistories : Type 0
@@ -165,6 +169,16 @@ LivesFit {D} disk_of = (disk new : D) (before : List Life) (first last : Endpoin
     → (at : IsAtMoment (disk_of disk).sectors before (now (disk_of disk)).seen turns first last)
     × ((later : Edition) → IsUpTo this_edition later → (image : Image) → MayLeave (disk_of new) image
     → Fits later (disk_of disk).sectors image (state_left last at.logs cut))
+
+-- Where a ceiling is being raised, or to raise one is the next piece of work, a step that is cut short begins no command: each image that the disk may leave
+-- then fits the state before the step, to this edition and to each larger one.
+abbrev pub LivesFitUnbegun : {D : Type 0} → (D → Disk) → Type 0
+LivesFitUnbegun {D} disk_of = (disk new : D) (before : List Life) (first last : EndpointValue D) (turns : List (Transition D))
+    → HasHistory this_edition (disk_of disk) before → Does disk_of disk (Living first turns last (Some Advances)) new
+    → (raise : Raise) → (last.reserving ≡ Some raise) ⊎ (next_piece last ≡ Some (ToRaise raise))
+    → (at : IsAtMoment (disk_of disk).sectors before (now (disk_of disk)).seen turns first last)
+    × ((later : Edition) → IsUpTo this_edition later → (image : Image) → MayLeave (disk_of new) image
+    → Fits later (disk_of disk).sectors image (state_of last at.logs))
 
 -- Each image that the disk may leave after a life stands, to this edition and to each larger one, for the configuration after a prefix of the
 -- life's accepted commands that holds every acknowledged one.

@@ -14,7 +14,8 @@ ghost use Rattle.macs_journal.specs.Areas.{least_sectors};
 ghost use Rattle.macs_headline.specs.Answered.{AnswersAreHeld, MomentsAreHistories};
 ghost use Rattle.macs_headline.specs.Binding.{CallsAreDeeds, ChainsAnswer, ChainsKeepSizes, ChainsTell, DeedsAreHistories, EndsAreCuts};
 ghost use Rattle.macs_headline.specs.Binding.{FramesAreDeliveredOnce, FramesAreWrittenOnce};
-ghost use Rattle.macs_headline.specs.Binding.{FusesChangeNone, IsNewDisk, LargerFind, LargerGoOn, LivesAreMoments, LivesFit, LivesKeepCommands, LivesKeepTickets};
+ghost use Rattle.macs_headline.specs.Binding.{FusesChangeNone, IsNewDisk, LargerFind, LargerGoOn, LivesAreMoments, LivesFit, LivesFitUnbegun, LivesKeepCommands};
+ghost use Rattle.macs_headline.specs.Binding.{LivesKeepTickets, TheseAreNew};
 ghost use Rattle.macs_headline.specs.Binding.{NewDeedsAreHistories};
 ghost use Rattle.macs_headline.specs.Binding.{NewDisksHaveHistories, OpeningsFind, PassedOnHaveHistories, RefusalsAreFailures, SettledHaveHistories};
 ghost use Rattle.macs_headline.specs.Begun.{InHandWasBegun};
@@ -130,6 +131,8 @@ pub fn headline()
 /// Where a history begins, and which disks have it.
 pub fn beginnings()
     ensures new { NewDisksHaveHistories }
+    // New is each honest disk that is large enough and shows no open head gate.
+    ensures as_new { TheseAreNew }
     // One with nothing pending has each history after which a program may come upon what is on it.
     ensures settled { SettledHaveHistories }
     // A program of a larger edition goes on from the history that those of a smaller one made.
@@ -188,6 +191,8 @@ pub fn histories<D: SectorDisk>()
     // What is left after it is opened as a restart of the state in which it ended, with the command that the
     // call which was cut short may have begun.
     ensures fit { LivesFit D.disk }
+    // It has begun none where a ceiling is being raised, or where to raise one is next.
+    ensures fit_unbegun { LivesFitUnbegun D.disk }
     // What it acknowledged is kept.
     ensures commands { LivesKeepCommands D.disk }
     // Its tickets are kept, on every disk.
