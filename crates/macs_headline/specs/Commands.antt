@@ -106,9 +106,14 @@ pub record FindsPrefix (before : Standing) (exchanges : List Exchange) (in_hand 
   pub made : CommandsMake before.edition before.identity before.config kept after.config
 
 -- Where nothing was in hand at its end, one configuration is found after a life, under one identity: each acknowledged command took effect, and no other did.
-abbrev pub FindsOne : Type 0
-FindsOne = (before a b : Standing) (exchanges : List Exchange) → FindsPrefix before exchanges None a → FindsPrefix before exchanges None b
-    → (a.config ≡ b.config) × (a.identity ≡ b.identity)
+-- Where a command was in hand, it is that configuration, or what the command makes of it.
+pub record FindsOne : Type 0 where
+  pub none_in_hand : (before a b : Standing) (exchanges : List Exchange) → FindsPrefix before exchanges None a → FindsPrefix before exchanges None b
+      → (a.config ≡ b.config) × (a.identity ≡ b.identity)
+  pub one_in_hand : (before without after : Standing) (exchanges : List Exchange) (command : Command) → FindsPrefix before exchanges None without
+      → FindsPrefix before exchanges (Some command) after
+      → ((after.config ≡ without.config) ⊎ (apply before.edition before.identity without.config command ≡ Ok after.config))
+      × (after.identity ≡ without.identity)
 
 -- At whatever moment a life ends, in the midst of a call or not, and whatever edition opens the disk next: in every image that it may come
 -- upon it finds such a prefix.

@@ -84,7 +84,7 @@ pub fn headline()
     ensures skips_few_received { (sectors : ℕ) → SkipsFewReceived sectors }
     // An opening finds a prefix of the accepted commands that holds every acknowledged one.
     ensures commands_kept { (sectors : ℕ) → CommandsKept sectors }
-    // Where nothing was in hand, that is one configuration.
+    // Where nothing was in hand, that is one configuration; where a command was, that one or what the command makes of it.
     ensures finds_one { FindsOne }
     // What is in hand where a life ends was given to a call of that life.
     ensures in_hand_was_given { (sectors : ℕ) → InHandWasGiven sectors }
