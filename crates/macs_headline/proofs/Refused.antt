@@ -15,11 +15,11 @@ use Rattle.macs_endpoint.specs.declared.fault.StepFault.TheVariants as advance
 use Rattle.macs_endpoint.specs.declared.fault.SubmitFault.{SubmitFault}
 use Rattle.macs_endpoint.specs.declared.fault.SubmitFault.TheVariants as submit
 use Rattle.macs_endpoint.specs.declared.progress.Step.{Step as Progress}
-use Rattle.macs_endpoint.specs.declared.progress.Step.TheVariants.{Done, Idle, Reserved}
+use Rattle.macs_endpoint.specs.declared.progress.Step.TheVariants.{Done, Idle, Reserved, Worked}
 use Rattle.macs_endpoint.specs.declared.queue.Waiting.{Waiting}
 use Rattle.macs_endpoint.specs.State.{Advanced, Advances, Call, Commands, Protects, Protected, Ran, Receives, Refilled, Refills, Reply, State, Submits, Submitted}
-use Rattle.macs_endpoint.specs.Step.{AdvanceStep, CommandStep, Ends, IsStopped, Makes, ProtectStep, RefillStep, RunningStep, Step, SubmitStep, state_without_first}
-use Rattle.macs_headline.specs.Refused.{IsExact, RefusalsAreExact, refusal_at}
+use Rattle.macs_endpoint.specs.Step.{AdvanceStep, CommandStep, Ends, IsStopped, Makes, ProtectStep, RefillStep, RunningStep, Step, SubmitStep, TakesUp, state_without_first}
+use Rattle.macs_headline.specs.Refused.{IsExact, RefusalsAreExact, TakesFirst, refusal_at}
 use Rattle.macs_headline.proofs.Accepted.{accepted, no-refusal}
 
 -- ---- reasons
@@ -71,13 +71,21 @@ by_end old w rest ticket (Err ran.GenerationsSpent) new waiting is_ticket (idle,
     (w, rest, waiting, is_ticket, idle, no-refusal old.edition old.identity old.config w.command accepts, is)
 by_end old w rest ticket (Err fault) new waiting is_ticket h = absurd h
 
+-- a command that is taken up has none
+takes_first : (old new : State) → TakesUp old new → TakesFirst old new
+takes_first old new (w, rest, waiting, idle, accepts, is) =
+    (w, rest, waiting, idle, no-refusal old.edition old.identity old.config w.command accepts, is)
+
 by_advance : (old : State) (result : Result Progress StepFault) (new : State) → AdvanceStep old result new → IsExact old Advances (Advanced result) new
 by_advance old (Ok Idle) new is = is
 by_advance old (Ok Reserved) new is = is
+by_advance old (Ok Worked) new (inl is) = inl is
+by_advance old (Ok Worked) new (inr takes) = inr (takes_first old new takes)
 by_advance old (Ok (Done ticket result)) new (w, rest, waiting, is_ticket, ends) = by_end old w rest ticket result new waiting is_ticket ends
 by_advance old (Err advance.GenerationsSpent) new is = is
+by_advance old (Err advance.Disk) new (inl is) = inl is
+by_advance old (Err advance.Disk) new (inr (mid, takes, is)) = inr (mid, takes_first old mid takes, is)
 by_advance old (Err advance.Stopped) new h = absurd h
-by_advance old result new h = tt
 
 by_protect : (old : State) (plain : List ℕ) (result : Result ℕ ProtectFault) (out : List ℕ) (new : State) → ProtectStep old plain result out new
     → IsExact old (Protects plain) (Protected result out) new

@@ -15,7 +15,7 @@ use Rattle.macs_endpoint.specs.declared.fault.ProtectFault.TheVariants as protec
 use Rattle.macs_endpoint.specs.declared.fault.RefillFault.TheVariants as refill
 use Rattle.macs_endpoint.specs.declared.fault.StepFault.TheVariants as step
 use Rattle.macs_endpoint.specs.declared.fault.SubmitFault.TheVariants as submit
-use Rattle.macs_endpoint.specs.declared.progress.Step.TheVariants.{Done, Idle, Reserved}
+use Rattle.macs_endpoint.specs.declared.progress.Step.TheVariants.{Done, Idle, Reserved, Worked}
 use Rattle.macs_endpoint.specs.declared.queue.Waiting.{Waiting}
 use Rattle.macs_headline.specs.Moments.{Moment}
 
@@ -27,9 +27,15 @@ refusal_at s command = refusal_of s.edition s.identity s.config command
 abbrev pub fault_at : State → List ℕ → Option TxFault
 fault_at s plain = first (tx_faults (tx_side s) plain)
 
+-- The first command that waits is taken in hand: none was, and no reason holds to refuse it.
+abbrev pub TakesFirst : State → State → Type 0
+TakesFirst old new = (w : Waiting) × (rest : List Waiting) × (old.waiting ≡ w ∷ rest) × (old.in_hand ≡ None) × (refusal_at old w.command ≡ None)
+    × (new ≡ state_with_in_hand old w.command)
+
 -- What an answer says of reasons, and what a refusal leaves. A command is refused for the first reason that holds, is done only where none does, and is
 -- answered Busy where one waits, and there alone; only one that is not refused is in hand after a device fault. The first that waits is refused so where it
--- is not in hand, and leaves the queue. A refill is Busy where one waits, and there alone. A step that finds no work, or ends a reservation, changes nothing.
+-- is not in hand, and leaves the queue. A refill is Busy where one waits, and there alone. A step that finds no work, or ends a reservation, changes nothing;
+-- one that goes on with work, or whose device call fails, may have taken the first that waits in hand.
 -- A plain frame is refused for its first fault, or for want of a number where it has none; nothing is in `out` then. A refusal changes nothing else.
 abbrev pub IsExact : State → Call → Reply → State → Type 0
 IsExact old (Commands command) (Ran (Ok done)) new = (old.waiting ≡ []) × (refusal_at old command ≡ None)
@@ -49,6 +55,8 @@ IsExact old (Submits command) (Submitted (Ok ticket)) new =
     (length old.waiting < queue_length) × (old.tickets < last_ticket) × (new ≡ state_with_waiting old command)
 IsExact old Advances (Advanced (Ok Idle)) new = new ≡ old
 IsExact old Advances (Advanced (Ok Reserved)) new = new ≡ old
+IsExact old Advances (Advanced (Ok Worked)) new = (new ≡ old) ⊎ TakesFirst old new
+IsExact old Advances (Advanced (Err step.Disk)) new = (new ≡ state_after_fault old) ⊎ ((mid : State) × TakesFirst old mid × (new ≡ state_after_fault mid))
 IsExact old Advances (Advanced (Ok (Done ticket (Ok done)))) new =
     (w : Waiting) × (rest : List Waiting) × (old.waiting ≡ w ∷ rest) × (ticket ≡ w.ticket) × (refusal_at old w.command ≡ None)
 IsExact old Advances (Advanced (Ok (Done ticket (Err (ran.Refused refusal))))) new =
