@@ -13,7 +13,7 @@ use Rattle.macs_rxsc.specs.declared.verdict.Verdict.{Verdict}
 use Rattle.macs_rxsc.specs.declared.verdict.Verdict.TheVariants.{Delivered}
 use Rattle.macs_endpoint.specs.Calls.{IsInRange}
 use Rattle.macs_endpoint.specs.Restart.{opened_state}
-use Rattle.macs_endpoint.specs.State.{Advanced, Advances, Call, Commands, Delivery, Logs, Protects, Protected, Ran, Received, Receives, Refilled, Refills, Reply, State, Submits, Submitted, Use, no_logs}
+use Rattle.macs_endpoint.specs.State.{Advanced, Advances, Call, Commands, Delivery, Logs, Protects, Protected, Ran, Received, Receives, Refilled, Refills, Reply, State, Submits, Submitted, Use}
 use Rattle.macs_endpoint.specs.Step.{AdvanceStep, CommandStep, Ends, Exchange, ProtectStep, ReceiveStep, RefillStep, RunningStep, Step, Steps, SubmitStep, TakesUp}
 use Rattle.macs_endpoint.specs.declared.fault.CommandFault.{CommandFault}
 use Rattle.macs_endpoint.specs.declared.fault.CommandFault.TheVariants as ran
@@ -34,7 +34,6 @@ use Rattle.macs_headline.specs.Deliveries.{IsVerifiedKind, delivering}
 use Rattle.macs_headline.specs.Frames.{writing}
 use Rattle.macs_headline.specs.History.{Blank, FormatLeads, Formats, Formatted, IsHistory, IsLifeSoFar, LeadOn, Leads, Life, Past, Refuses, Serves, logs_of}
 use Rattle.macs_headline.specs.Logged.{AreAnswers, LogsAreAnswers, WasDelivered, WasWritten}
-use Rattle.macs_headline.specs.Moments.{Moment}
 use Rattle.macs_headline.specs.Numbers.{AreHeldIn}
 use Rattle.macs_headline.proofs.Answered.{held-later, history-on, life-begun, life-on, one-on}
 use Rattle.macs_headline.proofs.Deliveries.{delivered, verified-kind}

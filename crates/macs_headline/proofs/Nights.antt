@@ -1,5 +1,5 @@
 -- A night: two frames under one key have two numbers, though power was lost between them.
-use Rattle.std.proofs.Common.{◌≡◌, ◌≢◌, ◌≤◌, ◌+◌, arith, ◌++◌, inl, inr, ℕ, List, [], ◌∷◌, Option, None, Result, Ok, Err, is_ok, refl, sym, ◌∙◌, ap, subst, le_refl, map}
+use Rattle.std.proofs.Common.{◌≡◌, ◌≢◌, ◌≤◌, ◌+◌, arith, ◌++◌, inl, inr, ℕ, List, [], ◌∷◌, None, Result, Ok, Err, is_ok, refl, sym, ◌∙◌, ap, subst, le_refl, map}
 use Rattle.std.specs.Prelude.{Contains}
 use Rattle.std.specs.List.{AllByRecursion}
 use Rattle.macs_frame.specs.Fields.{octets_of}
@@ -33,7 +33,6 @@ use Rattle.macs_headline.specs.Deeds.{Formatting, Link, Living, LivesFrom, Passi
 use Rattle.macs_headline.specs.Endings.{LosesPower}
 use Rattle.macs_headline.specs.Frames.{IsStandardFrame, writing}
 use Rattle.macs_headline.specs.History.{Formats, Life, Serves}
-use Rattle.macs_headline.specs.Moments.{Moment}
 use Rattle.macs_headline.specs.Nights.{IsNightFrame, IsRefusedEvening, IsRefusedMorning, night_install}
 use Rattle.macs_headline.proofs.Built.{blank-is-new}
 use Rattle.macs_headline.proofs.Chains.{deeds-are-histories, fuse-now, new-deeds-are-histories}

@@ -99,7 +99,7 @@ put_alike : (f : Numbers → ℕ) (table : List ℕ → ℕ → Option Numbers) 
 put_alike f table at number sci an old new is same = elim (cases_place sci an at number) [
   | inl here ↦
       ap (option_map f) (put_rx-this table at number sci an (Some new) here.0 here.1) ∙ ap (λ (k : ℕ). Some k) same
-          ∙ sym (ap (option_map f) (ap (λ (x : List ℕ). table x an) here.0 ∙ ap (λ (k : ℕ). table at k) here.1 ∙ is))
+      ∙ sym (ap (option_map f) (ap (λ (x : List ℕ). table x an) here.0 ∙ ap (λ (k : ℕ). table at k) here.1 ∙ is))
   | inr apart ↦ ap (option_map f) (put_rx-that table at number sci an (Some new) apart)
 ]
 

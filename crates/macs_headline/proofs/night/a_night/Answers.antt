@@ -1,4 +1,4 @@
-use Rattle.std.proofs.Common.{inl, inr, refl}
+use Rattle.std.proofs.Common.{inl, inr}
 use Rattle.std.proofs.lemmas.Result.{err_from_is_err_and}
 use Rattle.macs_headline.proofs.Nights.{evening-frame, morning-frame, numbers-apart, refused-again, refused-first}
 use Rattle.macs_headline.proofs.night.a_night.Goals as goal
