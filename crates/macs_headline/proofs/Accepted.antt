@@ -1,14 +1,15 @@
 -- What it says of a command that it is accepted.
-use Rattle.std.proofs.Common.{◌≡◌, ℕ, Bool, true, false, cond, bytes_eq, List, [], ◌∷◌, ◌++◌, Some, None, Ok, refl, sym, ◌∙◌}
+use Rattle.std.proofs.Common.{◌≡◌, ℕ, Bool, true, false, cond, bytes_eq, List, [], ◌∷◌, ◌++◌, Option, Some, None, Ok, is_ok, refl, sym, ◌∙◌}
 use Rattle.std.proofs.lemmas.Bool.{false≢true, or_left}
 use Rattle.macs_aes.specs.Keys.{octets_of_key}
 use Rattle.macs_aes.specs.declared.keys.Key.{Key}
 use Rattle.macs_frame.specs.First.{first}
-use Rattle.macs_config.specs.Apply.{apply, config_after, has_wrong_start, is_slot_taken, refusal_of, refusals}
+use Rattle.macs_config.specs.Apply.{answer_or_refusal, apply, config_after, has_wrong_start, is_slot_taken, refusal_of, refusals}
 use Rattle.macs_config.specs.Config.{Config, Edition, is_spent, rx_fingerprint, tx_fingerprint}
 use Rattle.macs_config.specs.Identity.{Identity}
 use Rattle.macs_config.specs.declared.command.Command.{Command}
 use Rattle.macs_config.specs.declared.command.Command.TheVariants.{RxInstall, TxInstall}
+use Rattle.macs_config.specs.declared.refusal.Refusal.{Refusal}
 use Rattle.macs_config.proofs.Channels.{bytes_eq-itself}
 use Rattle.macs_config.proofs.Kept.{applied_by}
 use Rattle.macs_config.proofs.Spent.{among-behind}
@@ -33,6 +34,15 @@ pub accepted : (edition : Edition) (identity : Identity) (c : Config) (command :
 accepted edition identity c command new is =
     let made = applied_by (refusal_of edition identity c command) (config_after c command) new is in
     (made.0, sym made.1)
+
+accepted_by : (why : Option Refusal) (config : Config) → is_ok (answer_or_refusal why config) ≡ true → why ≡ None
+accepted_by None config is = refl
+accepted_by (Some refusal) config is = absurd (cc)
+
+-- no reason holds to refuse it
+pub no-refusal : (edition : Edition) (identity : Identity) (c : Config) (command : Command) → is_ok (apply edition identity c command) ≡ true
+    → refusal_of edition identity c command ≡ None
+no-refusal edition identity c command is = accepted_by (refusal_of edition identity c command) (config_after c command) is
 
 module _ (edition : Edition) (identity : Identity) (c : Config) (command : Command) (is : refusal_of edition identity c command ≡ None) where
   tests : NoTest (refusals edition identity c command)

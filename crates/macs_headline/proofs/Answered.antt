@@ -66,9 +66,10 @@ one-on before edition image done e rest cut later lives there =
 
 -- ---- one answer
 
-module _ (sectors : ℕ) (lives : List Life) (x : Exchange) where
+module _ (sectors : ℕ) (lives : List Life) (x : Exchange) (whole : Contains (exchanges_of_lives lives) x) where
   abbrev pub held-later : (old new : Logs) → AreHeldIn old new → WasAnswered sectors lives x old → WasAnswered sectors lives x new
   held-later old new more was = record {
+    among = was.among;
     at = was.at;
     moment = was.moment;
     rest = was.rest;
@@ -89,6 +90,7 @@ module _ (sectors : ℕ) (lives : List Life) (x : Exchange) where
     by_steps done old life [] new steps in_range there among = absurd (contains-none _ among)
     by_steps done old life (e ∷ exchanges) new steps in_range there among = elim (contains-cases e exchanges x among) [
       | inl here ↦ record {
+        among = whole;
         at = old;
         moment = record { lives = before; past = past; history = history; edition = edition; image = image; exchanges = done; life = life };
         rest = exchanges;
@@ -124,7 +126,7 @@ module _ (sectors : ℕ) (lives : List Life) (x : Exchange) where
   ]
 
 pub answers-are-held : (sectors : ℕ) → AnswersAreHeld sectors
-answers-are-held sectors lives past history e among = by_lives sectors lives e [] (Blank []) refl lives past history refl among
+answers-are-held sectors lives past history e among = by_lives sectors lives e among [] (Blank []) refl lives past history refl among
 
 pub moments-are-histories : (sectors : ℕ) → MomentsAreHistories sectors
 moments-are-histories sectors s m =

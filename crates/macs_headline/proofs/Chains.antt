@@ -1,5 +1,5 @@
 -- Deeds, one after another, are lives.
-use Rattle.std.proofs.Common.{◌≡◌, ◌≤◌, ap, ◌++◌, ◌∙◌, ◌⊎◌, inl, inr, ℕ, List, [], ◌∷◌, map, Option, Some, None, refl, sym, subst, arith}
+use Rattle.std.proofs.Common.{◌≡◌, ◌≤◌, ap, ◌++◌, ◌∙◌, ◌⊎◌, inl, inr, ℕ, true, false, List, [], ◌∷◌, map, Option, Some, None, Ok, Err, refl, sym, subst, arith}
 use Rattle.macs_config.specs.Config.{Edition, this_edition}
 use Rattle.macs_disk.specs.Disk.{Disk, IsHonest, MayLeave, now}
 use Rattle.macs_disk.specs.Fused.{fused_disk}
@@ -11,12 +11,12 @@ use Rattle.macs_endpoint.specs.State.{Call}
 use Rattle.macs_endpoint.specs.Step.{Exchange}
 use Rattle.macs_endpoint.specs.Value.{EndpointValue, IsSoundEndpoint}
 use Rattle.macs_headline.specs.Answered.{exchanges_in, exchanges_of_lives}
-use Rattle.macs_headline.specs.Binding.{CallsAreDeeds, ChainsAnswer, ChainsKeepSizes, DeedsAreHistories, FusesChangeNone, HasHistory, NewDeedsAreHistories, NewDisksHaveHistories, PassedOnHaveHistories, SettledHaveHistories}
+use Rattle.macs_headline.specs.Binding.{CallsAreDeeds, ChainsAnswer, ChainsKeepSizes, ChainsTell, DeedsAreHistories, FusesChangeNone, HasHistory, NewDeedsAreHistories, NewDisksHaveHistories, PassedOnHaveHistories, SettledHaveHistories, TheseAreNew}
 use Rattle.macs_headline.specs.Deeds.{Chain, Deed, Does, Formatting, FormattingCut, IsPassedOn, Link, Living, OpeningCut, PassingOn, Refusing, lives_of_deed, lives_of_links}
-use Rattle.macs_headline.specs.History.{Blank, FitsPast, IsHistory, LeadOn, Life, Past}
+use Rattle.macs_headline.specs.History.{Blank, FitsPast, Formats, IsHistory, LeadOn, Life, Past, Refuses}
 use Rattle.macs_headline.proofs.Formats.{format-answered, format-cut}
 use Rattle.macs_headline.proofs.Living.{life-cut, life-ended, opening-cut, opening-refused}
-use Rattle.macs_headline.proofs.Lists.{contains-rear, contains-cases, contains-either, contains-front, contains-map, contains-none}
+use Rattle.macs_headline.proofs.Lists.{contains-rear, contains-cases, contains-either, contains-first, contains-front, contains-map, contains-none}
 use Rattle.macs_headline.proofs.Losses.{IsCovered, LeadTo, lead-nowhere, one-image}
 
 -- lives, and then more
@@ -25,6 +25,10 @@ lead-on sectors [] more old mid new first rest = subst (λ (p : Past). LeadOn se
 lead-on sectors (life ∷ lives) more old mid new (next, leads, first) rest = (next, leads, lead-on sectors lives more next mid new first rest)
 
 -- ---- disks that have a history
+
+-- these are new
+pub these-are-new : TheseAreNew
+these-are-new disk honest large closed = record { honest = honest; large = large; closed = closed }
 
 -- a disk that is new
 pub new-disks : NewDisksHaveHistories
@@ -167,7 +171,7 @@ calls-are-deeds disk_of = record {
 -- ---- what they answered
 
 -- what all these lives answered, and all those
-exchanges-on : (lives more : List Life) (e : Exchange) → Contains (exchanges_of_lives lives) e ⊎ Contains (exchanges_of_lives more) e
+pub exchanges-on : (lives more : List Life) (e : Exchange) → Contains (exchanges_of_lives lives) e ⊎ Contains (exchanges_of_lives more) e
     → Contains (exchanges_of_lives (lives ++ more)) e
 exchanges-on [] more e (inl among) = absurd (contains-none e among)
 exchanges-on [] more e (inr among) = among
@@ -196,3 +200,40 @@ module _ {D : Type 0} (disk_of : D → Disk) where
             (inl (by_one (now (disk_of old)).seen next.deed first last turns cut turn (ap (λ (l : Link D). l.deed) (sym is) ∙ same) here))
         | inr later ↦ exchanges-on lives more (exchange_of turn) (inr (chains-answer next.after links link first last turns cut turn later same here))
       ]
+
+  -- the lives of a deed are among those of its chain
+  deed_lives : (old : D) (links : List (Link D)) (link : Link D) → Contains links link
+      → (seen : Image) × ((life : Life) → Contains (lives_of_deed seen link.deed) life → Contains (lives_of_links disk_of old links) life)
+  deed_lives old [] link among = absurd (contains-none link among)
+  deed_lives old (next ∷ links) link among =
+      let seen = (now (disk_of old)).seen in
+      let more = lives_of_links disk_of next.after links in
+      elim (contains-cases next links link among) [
+        | inl is ↦ (
+          seen,
+          λ life has. contains-front (lives_of_deed seen next.deed) more life (subst (λ (l : Link D). Contains (lives_of_deed seen l.deed) life) is has),
+        )
+        | inr later ↦
+            let there = deed_lives next.after links link later in
+            (there.0, λ life has. contains-rear (lives_of_deed seen next.deed) more life (there.1 life has))
+      ]
+
+  -- so is this one
+  one_life : (old : D) (links : List (Link D)) (link : Link D) → Contains links link → (deed : Deed D) → link.deed ≡ deed
+      → (seen : Image) × ((life : Life) → Contains (lives_of_deed seen deed) life → Contains (lives_of_links disk_of old links) life)
+  one_life old links link among deed same =
+      let there = deed_lives old links link among in
+      (there.0, λ life has. there.1 life (subst (λ (d : Deed D). Contains (lives_of_deed there.0 d) life) (sym same) has))
+
+  pub chains-tell : ChainsTell disk_of
+  chains-tell old links link among = record {
+    formatted = λ identity same.
+        let there = one_life old links link among (Formatting identity (Ok tt)) same in
+        there.1 (Formats this_edition identity true) (contains-first (Formats this_edition identity true) []);
+    not_formatted = λ identity fault same.
+        let there = one_life old links link among (Formatting identity (Err fault)) same in
+        there.1 (Formats this_edition identity false) (contains-first (Formats this_edition identity false) []);
+    refused = λ fault same.
+        let there = one_life old links link among (Refusing fault) same in
+        (there.0, there.1 (Refuses this_edition there.0 fault) (contains-first (Refuses this_edition there.0 fault) []));
+  }

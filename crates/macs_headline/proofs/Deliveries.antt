@@ -1,12 +1,12 @@
 -- Frames that are delivered as verified.
-use Rattle.std.proofs.Common.{◌≡◌, inl, inr, ℕ, Bool, true, false, cond, List, ◌∷◌, Ok, Err, refl, sym, ◌∙◌, ap, subst}
+use Rattle.std.proofs.Common.{◌≡◌, ◌≤◌, inl, inr, ℕ, Bool, true, false, cond, List, ◌∷◌, Ok, Err, refl, sym, ◌∙◌, ap, subst}
 use Rattle.macs_frame.specs.Fields.{octets_of}
 use Rattle.macs_frame.specs.Opening.{Verified}
 use Rattle.macs_frame.proofs.Readings.{verified_once}
-use Rattle.macs_frame.specs.Tag.{changed, control}
+use Rattle.macs_frame.specs.Tag.{changed, control, tag_of}
 use Rattle.macs_frame.specs.declared.tag.TagFault.TheVariants.{Runt as IsRunt, Oversize as IsOversize, NoTag as HasNoTag, BadTag as HasBadTag, ForKay as IsForKay}
-use Rattle.std.specs.Prelude.{◌||◌, nat_lt}
-use Rattle.macs_rxsc.specs.Receive.{BelowLowest, NoAssociation, NoChannel, NotVerified, RxSide, RxStep, Tag, delivery_kind, given_at, is_strict, verdict_at}
+use Rattle.std.specs.Prelude.{◌||◌, nat_lt, Some}
+use Rattle.macs_rxsc.specs.Receive.{BelowLowest, NoAssociation, NoChannel, NotVerified, RxSide, RxStep, Tag, delivery_kind, given_at, is_strict, numbers_after_delivery, verdict_at}
 use Rattle.macs_rxsc.specs.declared.verdict.Kind.{Kind}
 use Rattle.macs_rxsc.specs.declared.verdict.Kind.TheVariants.{Delayed, Ok as AsOk, Invalid, UnknownSci, Untagged, UnusedSa}
 use Rattle.macs_rxsc.specs.declared.verdict.Reason.{Reason}
@@ -16,6 +16,8 @@ use Rattle.macs_rxsc.specs.declared.verdict.Verdict.TheVariants.{Delivered, Disc
 use Rattle.macs_endpoint.specs.State.{Received, Receives, State, rx_side}
 use Rattle.macs_endpoint.specs.Step.{Step}
 use Rattle.macs_headline.specs.Deliveries.{DeliveriesAreVerified, IsVerifiedAnswer, IsVerifiedDelivery, IsVerifiedKind, OthersAreBare, out_after}
+use Rattle.macs_headline.proofs.Effects.{arrives-in-time}
+use Rattle.macs_headline.proofs.Places.{put_rx-this}
 
 unverified : (b : Bool) (reason : Reason) (kind other : Kind) → IsVerifiedKind kind → (IsVerifiedKind other → ⊥)
     → Delivered kind ≡ cond b (Discarded reason) (Delivered other) → ⊥
@@ -50,9 +52,13 @@ delivered s frame out kind new is (inr (running, inr (a, there, inr (is_verdict,
       numbers = a.numbers;
       are_numbers = ap (s.numbers a.sci) (sym there.is_an) ∙ there.are_numbers;
       in_time = sym one ∙ ap (λ (pn : ℕ). delivery_kind a.numbers pn) there.is_pn;
+      guarded = λ on. subst (λ (pn : ℕ). a.numbers.lowest ≤ pn) there.is_pn (arrives-in-time (rx_side s) frame a there on);
       verified = subst (Verified frame a.sa.key a.sci (octets_of a.sa.offset)) (sym is_out) there.verified;
       only = λ other verified. verified_once frame a.sa.key a.sci (octets_of a.sa.offset) other out verified
           (subst (Verified frame a.sa.key a.sci (octets_of a.sa.offset)) (sym is_out) there.verified);
+      moved = ap (λ (t : State). t.numbers a.sci (tag_of frame).an) same
+          ∙ put_rx-this s.numbers a.sci a.an a.sci (tag_of frame).an (Some (numbers_after_delivery s.config.replay.window a.numbers a.pn)) refl (sym there.is_an)
+          ∙ ap (λ (pn : ℕ). Some (numbers_after_delivery s.config.replay.window a.numbers pn)) there.is_pn;
       logged = ap (λ (t : State). t.logs.given) same ∙ (λ i. record { sci = a.sci; key = a.sa.key; pn = there.is_pn i; kind = one i } ∷ s.logs.given);
     }
 

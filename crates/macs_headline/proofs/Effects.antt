@@ -102,8 +102,8 @@ outgoing_is side (Some an) o is = outgoing_by side an (side.tx an) (side.next an
 -- ---- what comes in
 
 -- a frame that arrives is not late where replay protection is on
-in_time : (side : RxSide) (frame : List ℕ) (a : Arrival) → Arrives side frame a → side.replay.on ≡ true → a.numbers.lowest ≤ a.pn
-in_time side frame a there on =
+pub arrives-in-time : (side : RxSide) (frame : List ℕ) (a : Arrival) → Arrives side frame a → side.replay.on ≡ true → a.numbers.lowest ≤ a.pn
+arrives-in-time side frame a there on =
     let not_late = there.unsettled.1.1.1.1.1.1.1.0 in
     let are : numbers_of side frame ≡ Some a.numbers =
     ap (option_and_then (λ sci. side.numbers sci (tag_of frame).an)) there.is_channel ∙ ap (λ (an : ℕ). side.numbers a.sci an) (sym there.is_an) ∙ there.are_numbers in
@@ -166,7 +166,7 @@ by_receive : (old : State) (frame : List ℕ) (result : Result Verdict Stopped) 
 by_receive old frame (Ok verdict) out new (inl (step, is_first, is_verdict, is_out, is)) = NoEffect (ap core is)
 by_receive old frame (Ok verdict) out new (inr (a, there, inl (is_verdict, above, is_out, is))) = Held a.sci a.an a.numbers a.pn there.are_numbers (ap core is)
 by_receive old frame (Ok verdict) out new (inr (a, there, inr (is_verdict, is_out, is))) =
-    Given a.sci a.an a.sa a.numbers a.pn there.is_association there.are_numbers (in_time (rx_side old) frame a there) (ap core is)
+    Given a.sci a.an a.sa a.numbers a.pn there.is_association there.are_numbers (arrives-in-time (rx_side old) frame a there) (ap core is)
 by_receive old frame (Err stopped) out new h = absurd h
 
 by_call : (old : State) (call : Call) (reply : Reply) (new : State) → RunningStep old call reply new → Effect old.edition (core old) (core new)

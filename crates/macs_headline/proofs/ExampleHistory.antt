@@ -21,7 +21,7 @@ use Rattle.macs_headline.specs.Example.{add_peer, check_only, example_identity, 
 use Rattle.macs_headline.specs.ExampleCuts.{append_in_hand, killed_disk, place_behind}
 use Rattle.macs_headline.specs.ExampleDisk.{checked, cut_image, ended_content, ended_image, last_content, last_image, new_image, served_image}
 use Rattle.macs_headline.specs.ExampleStanding.{checked_standing, full_standing, last_standing, served_config}
-use Rattle.macs_headline.specs.ExampleLives.{IsWorkedHistory, early_lives, example_lives, first_exchanges, fourth_exchanges, obeyed, second_exchanges, third_exchanges}
+use Rattle.macs_headline.specs.ExampleLives.{IsWorkedHistory, early_lives, example_lives, first_exchanges, fourth_exchanges, last_exchanges, obeyed, second_exchanges, third_exchanges}
 use Rattle.macs_headline.specs.Binding.{HasHistory}
 use Rattle.macs_headline.specs.History.{Blank, Formatted, IsHistory, IsLifeSoFar, formatted_state}
 use Rattle.macs_headline.proofs.Chains.{lead-on}
@@ -32,7 +32,7 @@ use Rattle.macs_headline.proofs.ExampleFits.{fits-cut, fits-killed, fits-last, f
 use Rattle.macs_headline.proofs.ExampleFrames.{arrival, peer-arrives, peer-late}
 use Rattle.macs_headline.proofs.ExampleImages.{checked-is, cut-is, cut-stands, ended-found, full-slots, larger, last-found, last-is, new-generation, new-is, served-is, served-is-config, served_standing, unfinished-is}
 use Rattle.macs_headline.proofs.ExampleRecords.{key-range, peer-range}
-use Rattle.macs_headline.proofs.ExampleStates.{after_delay, after_delivery, after_hold, before_frame, c1, c2, c3, c4, c5, first_end, fourth_end, last_state, late_numbers, outgoing, s0, s1, s2, s3, s4, s5, s6, s7, s8, s9, s10, s11, s12, s13, s14, s15, s16, s17, second_end, t0, t1, t2, t3, t4, third_end, u0, u1, u2, unguarded_config, v0, v1, waits}
+use Rattle.macs_headline.proofs.ExampleStates.{after_delay, after_delivery, after_hold, before_frame, c1, c2, c3, c4, c5, first_end, fourth_end, last_config, last_state, late_numbers, outgoing, s0, s1, s2, s3, s4, s5, s6, s7, s8, s9, s10, s11, s12, s13, s14, s15, s16, s17, second_end, t0, t1, t2, t3, t4, third_end, u0, u1, u2, unguarded_config, v0, v1, waits, x0, x1}
 
 -- the same call, with the same answer, that changes nothing
 same_steps : (n : ℕ) (s : State) (e : Exchange) → Step s e.call e.reply s → Steps s (replicate n e) s
@@ -310,6 +310,26 @@ fourth_steps = (
   ),
 )
 
+-- A program of a later edition sends a frame and sets the window.
+last_steps : Steps x0 last_exchanges last_state
+last_steps = (
+  x0,
+  inr (refl, (inr (refl, refl), refl, refl)),
+  (
+    x0,
+    inr (refl, (refl, refl)),
+    (
+      x1,
+      inr (refl, (refl, (outgoing 17, refl, refl, refl, refl))),
+      (
+        last_state,
+        inr (refl, (refl, (last_config, refl, refl))),
+        refl,
+      ),
+    ),
+  ),
+)
+
 -- ---- the lives
 
 abbrev AreInRange : List Exchange → Type 0
@@ -380,13 +400,13 @@ module _ (peer : All (λ octet. octet < 2 ^ 8) (peer_frame 5)) where
     steps = fourth_steps;
   }
 
-  last_life : IsLifeSoFar example_sectors (Formatted fourth_end) later_edition ended_image [] last_state
+  last_life : IsLifeSoFar example_sectors (Formatted fourth_end) later_edition ended_image last_exchanges last_state
   last_life = record {
     fits = larger-fits this_edition later_edition larger example_sectors ended_image fourth_end (fits-killed ended_image (inr ended-found));
     found = checked_standing later_edition;
     is_found = larger-finds this_edition later_edition larger example_sectors ended_image (checked_standing this_edition) (checked-is ended_image ended-found);
-    in_range = tt;
-    steps = refl;
+    in_range = (plain_range, (tt, (plain_range, (omega arith, tt))));
+    steps = last_steps;
   }
 
   -- all but the last
@@ -459,4 +479,6 @@ module _ (peer : All (λ octet. octet < 2 ^ 8) (peer_frame 5)) where
     read = refl;
     early = early_disk;
     older = older this_edition later_edition larger killed_disk early_lives early_disk;
+    found_without = last-is last_image last-found;
+    finds = larger-finds this_edition later_edition larger example_sectors ended_image (checked_standing this_edition) (checked-is ended_image ended-found);
   }

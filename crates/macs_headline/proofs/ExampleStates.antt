@@ -176,7 +176,17 @@ fourth_end = state_with_in_hand v1 check_only
 abbrev pub fourth_followed : State
 fourth_followed = state_after_command fourth_end check_only (checked_standing this_edition).config
 
--- ---- the last opening
+-- ---- the last life
+
+abbrev pub x0 : State
+x0 = opened_state (checked_standing later_edition) u2.logs
+
+abbrev pub x1 : State
+x1 = state_after_frame x0 (outgoing 17)
+
+-- the configuration after it
+abbrev pub last_config : Config
+last_config = config_after (checked_standing later_edition).config guard
 
 abbrev pub last_state : State
-last_state = opened_state (checked_standing later_edition) u2.logs
+last_state = state_after_command x1 guard last_config

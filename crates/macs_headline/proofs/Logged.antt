@@ -13,7 +13,7 @@ use Rattle.macs_rxsc.specs.declared.verdict.Verdict.{Verdict}
 use Rattle.macs_rxsc.specs.declared.verdict.Verdict.TheVariants.{Delivered}
 use Rattle.macs_endpoint.specs.Calls.{IsInRange}
 use Rattle.macs_endpoint.specs.Restart.{opened_state}
-use Rattle.macs_endpoint.specs.State.{Advanced, Advances, Call, Commands, Delivery, Logs, Protects, Protected, Ran, Received, Receives, Refilled, Refills, Reply, State, Submits, Submitted, Use, no_logs}
+use Rattle.macs_endpoint.specs.State.{Advanced, Advances, Call, Commands, Delivery, Logs, Protects, Protected, Ran, Received, Receives, Refilled, Refills, Reply, State, Submits, Submitted, Use}
 use Rattle.macs_endpoint.specs.Step.{AdvanceStep, CommandStep, Ends, Exchange, ProtectStep, ReceiveStep, RefillStep, RunningStep, Step, Steps, SubmitStep, TakesUp}
 use Rattle.macs_endpoint.specs.declared.fault.CommandFault.{CommandFault}
 use Rattle.macs_endpoint.specs.declared.fault.CommandFault.TheVariants as ran
@@ -29,16 +29,16 @@ use Rattle.macs_endpoint.specs.declared.fault.SubmitFault.TheVariants as submit
 use Rattle.macs_endpoint.specs.declared.progress.Step.{Step as Progress}
 use Rattle.macs_endpoint.specs.declared.progress.Step.TheVariants.{Done, Worked}
 use Rattle.macs_endpoint.specs.declared.queue.Waiting.{Waiting}
-use Rattle.macs_headline.specs.Answered.{WasAnswered}
+use Rattle.macs_headline.specs.Answered.{WasAnswered, exchanges_of_lives}
 use Rattle.macs_headline.specs.Deliveries.{IsVerifiedKind, delivering}
 use Rattle.macs_headline.specs.Frames.{writing}
 use Rattle.macs_headline.specs.History.{Blank, FormatLeads, Formats, Formatted, IsHistory, IsLifeSoFar, LeadOn, Leads, Life, Past, Refuses, Serves, logs_of}
 use Rattle.macs_headline.specs.Logged.{AreAnswers, LogsAreAnswers, WasDelivered, WasWritten}
-use Rattle.macs_headline.specs.Moments.{Moment}
 use Rattle.macs_headline.specs.Numbers.{AreHeldIn}
 use Rattle.macs_headline.proofs.Answered.{held-later, history-on, life-begun, life-on, one-on}
 use Rattle.macs_headline.proofs.Deliveries.{delivered, verified-kind}
-use Rattle.macs_headline.proofs.Lists.{contains-cases, contains-none}
+use Rattle.macs_headline.proofs.Chains.{exchanges-on}
+use Rattle.macs_headline.proofs.Lists.{contains-cases, contains-first, contains-front, contains-none, contains-rear}
 use Rattle.macs_headline.proofs.Logs.{logs_in, steps-hold}
 use Rattle.macs_headline.proofs.Ranges.{frames-are-standard}
 use Rattle.macs_headline.proofs.Sound.{end-core}
@@ -130,7 +130,7 @@ module _ (sectors : ℕ) (lives : List Life) where
   written_later old new held u was = record {
     plain = was.plain;
     out = was.out;
-    answered = held-later sectors lives (writing was.plain u.pn was.out) old new held was.answered;
+    answered = held-later sectors lives (writing was.plain u.pn was.out) was.answered.among old new held was.answered;
     frame = was.frame;
     key = was.key;
   }
@@ -140,7 +140,7 @@ module _ (sectors : ℕ) (lives : List Life) where
     frame = was.frame;
     out = was.out;
     is_verified = was.is_verified;
-    answered = held-later sectors lives (delivering was.frame d.kind was.out) old new held was.answered;
+    answered = held-later sectors lives (delivering was.frame d.kind was.out) was.answered.among old new held was.answered;
     delivery = was.delivery;
     sci = was.sci;
     key = was.key;
@@ -153,9 +153,17 @@ module _ (sectors : ℕ) (lives : List Life) where
     abbrev IsNext : List Exchange → List Exchange → Exchange → Type 0
     IsNext done rest e = before ++ Serves edition image (done ++ e ∷ rest) cut ∷ later ≡ lives
 
+    -- it is among the answers
+    among_answers : (done rest : List Exchange) (e : Exchange) → IsNext done rest e → Contains (exchanges_of_lives lives) e
+    among_answers done rest e there =
+        subst (λ (all : List Life). Contains (exchanges_of_lives all) e) there
+        (exchanges-on before (Serves edition image (done ++ e ∷ rest) cut ∷ later) e
+        (inr (contains-front (done ++ e ∷ rest) (exchanges_of_lives later) e (contains-rear done (e ∷ rest) e (contains-first e rest)))))
+
     abbrev this : (done rest : List Exchange) (old : State) (life : IsLifeSoFar sectors past edition image done old) (e : Exchange) (new : State)
         → Step old e.call e.reply new → IsNext done rest e → WasAnswered sectors lives e new.logs
     this done rest old life e new step there = record {
+      among = among_answers done rest e there;
       at = old;
       moment = record { lives = before; past = past; history = history; edition = edition; image = image; exchanges = done; life = life };
       rest = rest;

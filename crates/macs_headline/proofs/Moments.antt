@@ -23,7 +23,7 @@ use Rattle.macs_endpoint.specs.Restart.{Fits, state_during, state_taking_alone, 
 use Rattle.macs_endpoint.specs.State.{Advances, Call, Commands, Logs, Protects, Protected, Received, Receives, Refills, State, Submits, no_logs, state_with_in_hand}
 use Rattle.macs_endpoint.specs.declared.queue.Waiting.{Waiting}
 use Rattle.macs_endpoint.specs.Value.{EndpointValue, IsSoundEndpoint, disk_in, state_of}
-use Rattle.macs_headline.specs.Binding.{FramesAreDeliveredOnce, FramesAreWrittenOnce, EndsAreCuts, HasHistory, IsAtMoment, LivesAreMoments, LivesFit, LivesKeepCommands, OpeningsFind}
+use Rattle.macs_headline.specs.Binding.{FramesAreDeliveredOnce, FramesAreWrittenOnce, EndsAreCuts, HasHistory, IsAtMoment, LivesAreMoments, LivesFit, LivesFitUnbegun, LivesKeepCommands, OpeningsFind}
 use Rattle.macs_headline.specs.Binding.{cut_beginning, state_left}
 use Rattle.macs_endpoint.specs.Step.{Step}
 use Rattle.macs_headline.specs.Answered.{exchanges_of_lives}
@@ -42,6 +42,7 @@ use Rattle.macs_headline.proofs.Endings.{ends-are-earlier}
 use Rattle.macs_headline.proofs.Living.{IsAlive, alive, covered-cut, covered-life, covered-unbegun}
 use Rattle.macs_headline.proofs.Losses.{IsCovered}
 use Rattle.macs_headline.proofs.Older.{larger-fits}
+use Rattle.macs_headline.proofs.Unbegun.{IsToKeep}
 use Rattle.macs_headline.proofs.Ranges.{frames-are-standard}
 use Rattle.macs_headline.proofs.Sound.{sound-effect}
 
@@ -248,6 +249,19 @@ module _ {D : Type 0} (disk_of : D → Disk) (sound : (it : D) → IsHonest (dis
   fits_left cut new does later up_to image left =
       larger-fits this_edition later up_to sectors image (state_left last living.logs cut) ((covered_left cut new does).images image left)
 
+  -- a step in which no command begins
+  none_to_keep : (raise : Raise) → (last.reserving ≡ Some raise) ⊎ (next_piece last ≡ Some (ToRaise raise)) → ¬ IsToKeep last
+  none_to_keep raise (inl raised) (first, free, next) = some_raise raise (sym raised ∙ free)
+  none_to_keep raise (inr begins) (first, free, next) = raise_is raise first (sym begins ∙ next)
+
+  fits_before : (new : D) → Does disk_of disk (Living first turns last (Some Advances)) new → (raise : Raise)
+      → (last.reserving ≡ Some raise) ⊎ (next_piece last ≡ Some (ToRaise raise)) → (later : Edition) → IsUpTo this_edition later
+      → (image : Image) → MayLeave (disk_of new) image → Fits later sectors image (state_of last living.logs)
+  fits_before new (as_lived, kept, reply, after, is, passed) raise raises later up_to image left =
+      larger-fits this_edition later up_to sectors image (state_of last living.logs)
+      ((covered-unbegun disk_of sound sectors h.past disk first turns last covered lived kept Advances reply after is new passed
+      (none_to_keep raise raises) refl).images image left)
+
   -- what is found there
   kept_commands : (cut : Option Call) (new : D) → Does disk_of disk (Living first turns last cut) new → (later : Edition) → IsUpTo this_edition later
       → (image : Image) (after : Standing) → MayLeave (disk_of new) image → StandingIs later sectors image (Ok after)
@@ -302,6 +316,12 @@ module _ {D : Type 0} (disk_of : D → Disk) (sound : (it : D) → IsHonest (dis
   lives-fit disk new before first last turns cut h does =
       let lived = lived_of disk_of disk new first last turns cut does in
       (at_moment disk_of sound disk before h first last turns lived, fits_left disk_of sound disk before h first last turns lived cut new does)
+
+  pub lives-fit-unbegun : LivesFitUnbegun disk_of
+  lives-fit-unbegun disk new before first last turns h does raise raises = (
+    at_moment disk_of sound disk before h first last turns does.0,
+    fits_before disk_of sound disk before h first last turns does.0 new does raise raises,
+  )
 
   pub frames-are-written-once : FramesAreWrittenOnce disk_of
   frames-are-written-once disk before first last after turns plain pn out h lived call =

@@ -1,5 +1,5 @@
 -- A night: two frames under one key have two numbers, though power was lost between them.
-use Rattle.std.proofs.Common.{◌≡◌, ◌≢◌, ◌≤◌, ◌+◌, arith, ◌++◌, inl, inr, ℕ, List, [], ◌∷◌, Option, None, Result, Ok, Err, is_ok, refl, sym, ◌∙◌, ap, subst, le_refl, map}
+use Rattle.std.proofs.Common.{◌≡◌, ◌≢◌, ◌≤◌, ◌+◌, arith, ◌++◌, inl, inr, ℕ, List, [], ◌∷◌, None, Result, Ok, Err, is_ok, refl, sym, ◌∙◌, ap, subst, le_refl, map}
 use Rattle.std.specs.Prelude.{Contains}
 use Rattle.std.specs.List.{AllByRecursion}
 use Rattle.macs_frame.specs.Fields.{octets_of}
@@ -33,14 +33,15 @@ use Rattle.macs_headline.specs.Deeds.{Formatting, Link, Living, LivesFrom, Passi
 use Rattle.macs_headline.specs.Endings.{LosesPower}
 use Rattle.macs_headline.specs.Frames.{IsStandardFrame, writing}
 use Rattle.macs_headline.specs.History.{Formats, Life, Serves}
-use Rattle.macs_headline.specs.Moments.{Moment}
-use Rattle.macs_headline.specs.Nights.{IsNightFrame, IsRefusedNight, night_install}
+use Rattle.macs_headline.specs.Nights.{IsNightFrame, IsRefusedEvening, IsRefusedMorning, night_install}
 use Rattle.macs_headline.proofs.Built.{blank-is-new}
 use Rattle.macs_headline.proofs.Chains.{deeds-are-histories, fuse-now, new-deeds-are-histories}
 use Rattle.macs_headline.proofs.Endings.{power-losses-pass-on}
 use Rattle.macs_headline.proofs.Lists.{all-on, contains-first, contains-later}
 use Rattle.macs_headline.proofs.Losses.{loses-power}
 use Rattle.macs_headline.proofs.Moments.{frames-are-written-once}
+use Rattle.macs_headline.proofs.RefusedDays.{day-failed, is-refused-day}
+use Rattle.macs_headline.proofs.Refusals.{refusals-are-failures}
 use Rattle.macs_headline.proofs.Ours.{AreOurCalls, IsOurLife, IsOurs, our-answer, our-moment}
 
 -- ---- power losses that are played
@@ -106,10 +107,13 @@ module _ (identity : Identity) (an : ℕ) (key : List ℕ) where
 -- ---- the night
 
 -- the first opening was refused
-pub refused-first : {D : Type 0} (disk_of : D → Disk) (identity : Identity) (old mid : D) (formatted : Result (Unit {0}) JournalFault)
-    → IsFormat disk_of old identity formatted mid → (refused : RecoverRefused D) → IsOpening disk_of mid (Err refused) → IsRefusedNight disk_of old refused
-refused-first disk_of identity old mid formatted format refused opening =
-    record { links = record { deed = Formatting identity formatted; after = mid } ∷ []; chain = (format, (opening, refl)) }
+pub refused-first : {D : Type 0} (disk_of : D → Disk) (sound : (it : D) → IsHonest (disk_of it) → IsSound (now (disk_of it))) (identity : Identity) (old mid : D)
+    → IsNewDisk (disk_of old) → (formatted : Result (Unit {0}) JournalFault) → IsFormat disk_of old identity formatted mid
+    → (refused : RecoverRefused D) → IsOpening disk_of mid (Err refused) → IsRefusedEvening disk_of old identity refused
+refused-first disk_of sound identity old mid is_new formatted format refused opening = record {
+  day = is-refused-day disk_of sound old identity formatted mid refused is_new format opening;
+  failed = day-failed disk_of sound old is_new identity mid refused.disk refused.fault opening formatted format;
+}
 
 module _ {D : Type 0} (disk_of : D → Disk) (sound : (it : D) → IsHonest (disk_of it) → IsSound (now (disk_of it))) (identity : Identity) (an : ℕ) (key : List ℕ)
     (old mid : D) (is_new : IsNewDisk (disk_of old)) (formatted : Result (Unit {0}) JournalFault) (format : IsFormat disk_of old identity formatted mid)
@@ -151,29 +155,7 @@ module _ {D : Type 0} (disk_of : D → Disk) (sound : (it : D) → IsHonest (dis
       (subst (AreOurCalls identity an key) (sym w.at.calls) (inl refl, (inr refl, tt))))
       w.standard
 
-  -- the second one was
-  pub refused-again : (left : D) → left ≡ device_in three → (lost : D) → LosesPower (disk_of left) (disk_of left).clock (disk_of lost)
-      → (refused : RecoverRefused D) → IsOpening disk_of lost (Err refused) → IsRefusedNight disk_of old refused
-  refused-again left gave lost loses refused opening_again = record {
-    links =
-        record { deed = Formatting identity formatted; after = mid }
-        ∷ record { deed = Living first with_frame three None; after = left }
-        ∷ record { deed = PassingOn; after = lost }
-        ∷ [];
-    chain = (
-      format,
-      (
-        ((opening, (kept, install, (kept_one, choose, (kept_two, protect, refl)))), gave),
-        (power-losses-pass-on (disk_of left) (disk_of lost) (disk_of left).clock loses, (opening_again, refl)),
-      ),
-    );
-  }
-
-  module _ (left : D) (gave : left ≡ device_in three) (lost : D) (loses : LosesPower (disk_of left) (disk_of left).clock (disk_of lost))
-      (again four five : EndpointValue D) (opening_again : IsOpening disk_of lost (Ok again))
-      (kept_again : IsSoundEndpoint again) (refilled : Result (Unit {0}) RefillFault) (refill : IsCall disk_of again Refills (Refilled refilled) four)
-      (morning : List ℕ) (sent_again : Result ℕ ProtectFault) (second : List ℕ)
-      (protect_again : IsCall disk_of four (Protects morning) (Protected sent_again second) five) where
+  module _ (left : D) (gave : left ≡ device_in three) (lost : D) (loses : LosesPower (disk_of left) (disk_of left).clock (disk_of lost)) where
     abbrev evening_life : Life
     evening_life = Serves this_edition (now (disk_of mid)).seen (map exchange_of with_frame) None
 
@@ -189,53 +171,86 @@ module _ {D : Type 0} (disk_of : D → Disk) (sound : (it : D) → IsHonest (dis
       (power-losses-pass-on (disk_of left) (disk_of lost) (disk_of left).clock loses, refl),
     )
 
-    abbrev refills : List (Transition D)
-    refills = record { call = Refills; reply = Refilled refilled; after = four } ∷ []
+    -- the second opening was refused
+    pub refused-again : (refused : RecoverRefused D) → IsOpening disk_of lost (Err refused) → IsRefusedMorning disk_of old identity an key evening out refused
+    refused-again refused opening_again = record {
+      formatted = formatted;
+      installed = installed;
+      chosen = chosen;
+      sent = sent;
+      between = mid;
+      first = first;
+      turns = with_frame;
+      last = three;
+      called = refl;
+      left = left;
+      lost = lost;
+      loses = loses;
+      chain = (
+        format,
+        (
+          ((opening, (kept, install, (kept_one, choose, (kept_two, protect, refl)))), gave),
+          (power-losses-pass-on (disk_of left) (disk_of lost) (disk_of left).clock loses, (opening_again, refl)),
+        ),
+      );
+      for_disk = elim (refusals-are-failures disk_of sound lost both refused has_both opening_again) [
+        | inl disk ↦ disk.0
+        | inr blank ↦ absurd (blank.2 this_edition (now (disk_of mid)).seen (map exchange_of with_frame) None
+            (contains-later (Formats this_edition identity (is_ok formatted)) (evening_life ∷ []) evening_life (contains-first evening_life [])))
+      ];
+    }
 
-    lived_again : LivesFrom disk_of lost again refills four
-    lived_again = (opening_again, (kept_again, refill, refl))
+    module _ (again four five : EndpointValue D) (opening_again : IsOpening disk_of lost (Ok again))
+        (kept_again : IsSoundEndpoint again) (refilled : Result (Unit {0}) RefillFault) (refill : IsCall disk_of again Refills (Refilled refilled) four)
+        (morning : List ℕ) (sent_again : Result ℕ ProtectFault) (second : List ℕ)
+        (protect_again : IsCall disk_of four (Protects morning) (Protected sent_again second) five) where
+      abbrev refills : List (Transition D)
+      refills = record { call = Refills; reply = Refilled refilled; after = four } ∷ []
 
-    written : (pn : ℕ) → sent_again ≡ Ok pn
-        → IsWrittenOnce (disk_of lost).sectors both (now (disk_of lost)).seen refills again four five morning pn second
-    written pn is =
-        frames-are-written-once disk_of sound lost both again four five refills morning pn second has_both lived_again
-        (subst (λ (r : Result ℕ ProtectFault). IsCall disk_of four (Protects morning) (Protected r second) five) is protect_again)
+      lived_again : LivesFrom disk_of lost again refills four
+      lived_again = (opening_again, (kept_again, refill, refl))
 
-    module _ (pn : ℕ) (is : sent_again ≡ Ok pn) where
-      abbrev w : IsWrittenOnce (disk_of lost).sectors both (now (disk_of lost)).seen refills again four five morning pn second
-      w = written pn is
+      written : (pn : ℕ) → sent_again ≡ Ok pn
+          → IsWrittenOnce (disk_of lost).sectors both (now (disk_of lost)).seen refills again four five morning pn second
+      written pn is =
+          frames-are-written-once disk_of sound lost both again four five refills morning pn second has_both lived_again
+          (subst (λ (r : Result ℕ ProtectFault). IsCall disk_of four (Protects morning) (Protected r second) five) is protect_again)
 
-      both_ours : AllByRecursion (IsOurLife identity an key) w.at.moment.lives
-      both_ours = subst (AllByRecursion (IsOurLife identity an key)) (sym w.at.after_lives) (refl, ((inl refl, (inr refl, (tt, tt))), tt))
+      module _ (pn : ℕ) (is : sent_again ≡ Ok pn) where
+        abbrev w : IsWrittenOnce (disk_of lost).sectors both (now (disk_of lost)).seen refills again four five morning pn second
+        w = written pn is
 
-      refills_ours : AreOurCalls identity an key w.at.moment.exchanges
-      refills_ours = subst (AreOurCalls identity an key) (sym w.at.calls) (tt, tt)
+        both_ours : AllByRecursion (IsOurLife identity an key) w.at.moment.lives
+        both_ours = subst (AllByRecursion (IsOurLife identity an key)) (sym w.at.after_lives) (refl, ((inl refl, (inr refl, (tt, tt))), tt))
 
-      now_ours : IsOurs identity an key (state_of four w.at.logs)
-      now_ours = our-moment identity an key (disk_of lost).sectors (state_of four w.at.logs) w.at.moment both_ours refills_ours
+        refills_ours : AreOurCalls identity an key w.at.moment.exchanges
+        refills_ours = subst (AreOurCalls identity an key) (sym w.at.calls) (tt, tt)
 
-      -- the frame of the morning
-      pub morning-frame : IsNightFrame identity an key morning pn second
-      morning-frame = night-frame identity an key (state_of four w.at.logs) morning pn second (state_of five w.later) now_ours w.standard
+        now_ours : IsOurs identity an key (state_of four w.at.logs)
+        now_ours = our-moment identity an key (disk_of lost).sectors (state_of four w.at.logs) w.at.moment both_ours refills_ours
 
-      -- and that of the evening has another number
-      pub numbers-apart : (number : ℕ) → sent ≡ Ok number → number ≢ pn
-      numbers-apart number was =
-          let e = writing evening number out in
-          let m = w.at.moment in
-          let lives = lives_at m in
-          let frame : Exchange = record { call = Protects evening; reply = Protected sent out } in
-          let installing : Exchange = record { call = Commands (night_install an key); reply = Ran installed } in
-          let choosing : Exchange = record { call = Commands (TxUse an); reply = Ran chosen } in
-          let same : frame ≡ e = λ i. record { call = Protects evening; reply = Protected (was i) out } in
-          let rest = m.exchanges ++ [] in
-          let front : Contains (frame ∷ rest) e = subst (Contains (frame ∷ rest)) same (contains-first frame rest) in
-          let here : Contains (exchanges_of_lives (both ++ Serves m.edition m.image m.exchanges None ∷ [])) e =
-          contains-later installing (choosing ∷ frame ∷ rest) e (contains-later choosing (frame ∷ rest) e front) in
-          let among : Contains (exchanges_of_lives lives) e =
-          subst (λ (lives : List Life). Contains (exchanges_of_lives (lives ++ Serves m.edition m.image m.exchanges None ∷ [])) e) (sym w.at.after_lives) here in
-          let other = w.others evening number out among in
-          let ours = our-answer identity an key (disk_of lost).sectors lives e w.at.logs other.answered
-          (all-on (IsOurLife identity an key) m.lives (Serves m.edition m.image m.exchanges None) both_ours refills_ours) in
-          other.other (key-is identity an key other.answered.at evening number out other.answered.after ours other.frame
-          ∙ sym (key-is identity an key (state_of four w.at.logs) morning pn second (state_of five w.later) now_ours w.standard))
+        -- the frame of the morning
+        pub morning-frame : IsNightFrame identity an key morning pn second
+        morning-frame = night-frame identity an key (state_of four w.at.logs) morning pn second (state_of five w.later) now_ours w.standard
+
+        -- and that of the evening has another number
+        pub numbers-apart : (number : ℕ) → sent ≡ Ok number → number ≢ pn
+        numbers-apart number was =
+            let e = writing evening number out in
+            let m = w.at.moment in
+            let lives = lives_at m in
+            let frame : Exchange = record { call = Protects evening; reply = Protected sent out } in
+            let installing : Exchange = record { call = Commands (night_install an key); reply = Ran installed } in
+            let choosing : Exchange = record { call = Commands (TxUse an); reply = Ran chosen } in
+            let same : frame ≡ e = λ i. record { call = Protects evening; reply = Protected (was i) out } in
+            let rest = m.exchanges ++ [] in
+            let front : Contains (frame ∷ rest) e = subst (Contains (frame ∷ rest)) same (contains-first frame rest) in
+            let here : Contains (exchanges_of_lives (both ++ Serves m.edition m.image m.exchanges None ∷ [])) e =
+            contains-later installing (choosing ∷ frame ∷ rest) e (contains-later choosing (frame ∷ rest) e front) in
+            let among : Contains (exchanges_of_lives lives) e =
+            subst (λ (lives : List Life). Contains (exchanges_of_lives (lives ++ Serves m.edition m.image m.exchanges None ∷ [])) e) (sym w.at.after_lives) here in
+            let other = w.others evening number out among in
+            let ours = our-answer identity an key (disk_of lost).sectors lives e w.at.logs other.answered
+            (all-on (IsOurLife identity an key) m.lives (Serves m.edition m.image m.exchanges None) both_ours refills_ours) in
+            other.other (key-is identity an key other.answered.at evening number out other.answered.after ours other.frame
+            ∙ sym (key-is identity an key (state_of four w.at.logs) morning pn second (state_of five w.later) now_ours w.standard))

@@ -20,6 +20,7 @@ use Rattle.macs_endpoint.specs.Restart.{Restart, RxRises, opened_state, rx_limit
 use Rattle.macs_headline.specs.History.{Blank, Formatted, Past, logs_of}
 use Rattle.macs_headline.specs.Moments.{IsFoundAfter, Moment, WasGiven, WasUsed}
 use Rattle.macs_headline.specs.Numbers.{GivenApart, GivenBelow, HasNoneTwice, IsBeyondRx, IsBeyondTx, IsMoved, OkApart, SkipsFew, SkipsFewReceived, UsedBelow, UsedOnce, UsedOnceAtEnd}
+use Rattle.macs_headline.specs.Windows.{WindowsAreKept}
 use Rattle.macs_headline.proofs.Lists.{pairs-none}
 use Rattle.macs_headline.proofs.Ledger.{ledger-kept, some_one}
 use Rattle.macs_headline.proofs.Places.{cases_place, cases_sci, put-that, put-this, put_at-that, put_at-this, put_rx-that, put_rx-this}
@@ -251,7 +252,7 @@ module _ (sectors : ℕ) where
       let is_m : here.0 ≡ a.n.next =
       some_one (option_map (λ (n : Numbers). n.next) (s.numbers d.sci a.an)) here.0 a.n.next here.1 (ap (option_map (λ (n : Numbers). n.next)) a.is_n) in
       let low : d.pn < here.0 = here.2 d.pn was in
-      let near : a.n.next ≤ a.n.lowest + s.config.replay.window = is.window d.sci a.an a.n a.is_n in
+      let near : a.n.next ≤ a.n.lowest + s.config.replay.window = (is.window d.sci a.an a.n a.is_n).1 in
       let over : a.n.lowest ≤ d.pn = a.in_time on in
       omega (arith, is_m, low, near, over, zero_window)
 
@@ -267,6 +268,9 @@ module _ (sectors : ℕ) where
       let low : d.pn < here.0 = here.2 d.pn was in
       let over : a.n.lowest ≤ d.pn = ok_above a.n d.pn (sym a.is_kind ∙ ok) in
       omega (arith, is_m, low, over)
+
+  pub windows-are-kept : WindowsAreKept sectors
+  windows-are-kept s m = (sound-moment sectors s m).window
 
   found_sound : (past : Past) (found : Standing) → IsFoundAfter sectors past found → IsSound (core (opened_state found (logs_of past)))
   found_sound past found is = sound-opening sectors past is.edition is.image found is.fits is.is_found (sound-history sectors is.lives past is.history)

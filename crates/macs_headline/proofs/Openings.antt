@@ -1,5 +1,5 @@
 -- The headline on openings that are refused, and on lives that change nothing.
-use Rattle.std.proofs.Common.{◌≡◌, ◌⊎◌, ◌↔◌, inl, inr, ℕ, true, false, List, Result, Err, sym, ap, subst}
+use Rattle.std.proofs.Common.{◌≡◌, ◌⊎◌, inl, inr, ℕ, Bool, true, false, List, Result, Err, sym, ap, subst}
 use Rattle.macs_config.specs.Config.{Edition}
 use Rattle.macs_config.specs.Identity.{Identity}
 use Rattle.macs_disk.specs.States.{Image}
@@ -10,8 +10,8 @@ use Rattle.macs_store.specs.Standing.{Standing, new_standing}
 use Rattle.macs_store.proofs.OneStanding.{one_standing}
 use Rattle.macs_endpoint.specs.State.{State}
 use Rattle.macs_endpoint.specs.Restart.{Fits}
-use Rattle.macs_headline.specs.History.{Blank, FitsPast, Formats, Formatted, Past, Refuses, Serves, logs_of}
-use Rattle.macs_headline.specs.Openings.{NothingChanges, RefusedForDisk, RefusedForDiskOrBlank}
+use Rattle.macs_headline.specs.History.{Blank, FitsPast, Formats, Formatted, Leads, Past, logs_of}
+use Rattle.macs_headline.specs.Openings.{AreAsBefore, NothingChanges, RefusedForDisk, RefusedForDiskOrBlank}
 use Rattle.macs_headline.proofs.Histories.{found-or-refused}
 
 same_fault : (a b : JournalFault) → ◌≡◌ {A = Result Standing JournalFault} (Err a) (Err b) → a ≡ b
@@ -37,16 +37,20 @@ module _ (sectors : ℕ) where
   pub refused-for-disk-or-blank : RefusedForDiskOrBlank sectors
   refused-for-disk-or-blank identities edition image fault new leads = for_blank identities edition image fault leads.0 leads.1
 
-  no_other : (old new : Past) → new ≡ old
-      → ((later : Edition) (image : Image) → FitsPast later sectors new image ↔ FitsPast later sectors old image) × (logs_of new ≡ logs_of old)
-  no_other old new is = (
-    λ later image. (λ fits. subst (λ (p : Past). FitsPast later sectors p image) is fits, λ fits. subst (λ (p : Past). FitsPast later sectors p image) (sym is) fits),
-    ap logs_of is,
-  )
+  no_other : (old new : Past) → new ≡ old → AreAsBefore sectors old new
+  no_other old new is = record {
+    images = λ later image.
+        (λ fits. subst (λ (p : Past). FitsPast later sectors p image) is fits, λ fits. subst (λ (p : Past). FitsPast later sectors p image) (sym is) fits);
+    logs = ap logs_of is;
+  }
+
+  by_format : (s : State) (edition : Edition) (identity : Identity) (is_ok : Bool) (new : Past) → Leads sectors (Formatted s) (Formats edition identity is_ok) new
+      → AreAsBefore sectors (Formatted s) new
+  by_format s edition identity true new leads = absurd leads
+  by_format s edition identity false new leads = no_other (Formatted s) new leads
 
   pub nothing-changes : NothingChanges sectors
-  nothing-changes old (Refuses edition image fault) new idle leads = no_other old new leads.2
-  nothing-changes (Formatted s) (Formats edition identity true) new idle leads = absurd leads
-  nothing-changes (Formatted s) (Formats edition identity false) new idle leads = no_other (Formatted s) new leads
-  nothing-changes (Blank identities) (Formats edition identity is_ok) new idle leads = absurd idle
-  nothing-changes old (Serves edition image exchanges cut) new idle leads = absurd idle
+  nothing-changes = record {
+    refused = λ old edition image fault new leads. no_other old new leads.2;
+    formatted = by_format;
+  }

@@ -24,7 +24,7 @@ use Rattle.macs_endpoint.specs.declared.fault.RefillFault.TheVariants as refill
 use Rattle.macs_endpoint.specs.Restart.{Restart, opened_state}
 use Rattle.macs_endpoint.specs.State.{Call, Commands, Logs, Protects, Protected, Ran, Refilled, Refills, Reply, State, no_logs}
 use Rattle.macs_endpoint.specs.Step.{CommandStep, Exchange, ProtectStep, RefillStep, RunningStep, Step, Steps}
-use Rattle.macs_headline.specs.History.{Blank, FitsPast, FormatLeads, Formats, Formatted, IsLifeSoFar, LeadOn, Leads, Life, Past, Refuses, Serves, logs_of, state_at_end}
+use Rattle.macs_headline.specs.History.{Blank, FitsPast, FormatLeads, Formats, Formatted, IsLifeSoFar, LeadOn, Leads, Life, Past, Refuses, Serves, logs_of}
 use Rattle.macs_headline.specs.Answered.{WasAnswered}
 use Rattle.macs_headline.specs.Moments.{Moment}
 use Rattle.macs_headline.specs.Nights.{night_install}

@@ -200,6 +200,7 @@ module _ (edition : Edition) where
           most = below;
           frame = is_out;
           logged = ap (λ (s : State). s.logs.used) is;
+          next = ap (λ (s : State). s.next o.an) is ∙ put-this old.next o.an o.an (Some (o.pn + 1)) refl;
         }),
         subst (IsRanged edition) (sym is) (record {
           same = ranged.same;

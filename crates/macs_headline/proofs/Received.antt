@@ -93,6 +93,16 @@ settled_unheld side frame NoAssociation is = unheld (is_strict side.validate || 
 settled_unheld side frame BelowLowest is = absurd (cc)
 settled_unheld side frame NotVerified is = unheld (is_strict side.validate || changed (control frame)) NotValid Invalid is
 
+-- what is the same of numbers that are changed at one place is the same everywhere
+put_alike : (f : Numbers → ℕ) (table : List ℕ → ℕ → Option Numbers) (at : List ℕ) (number : ℕ) (sci : List ℕ) (an : ℕ) (old new : Numbers)
+    → table at number ≡ Some old → f new ≡ f old → option_map f (put_rx table at number (Some new) sci an) ≡ option_map f (table sci an)
+put_alike f table at number sci an old new is same = elim (cases_place sci an at number) [
+  | inl here ↦
+      ap (option_map f) (put_rx-this table at number sci an (Some new) here.0 here.1) ∙ ap (λ (k : ℕ). Some k) same
+      ∙ sym (ap (option_map f) (ap (λ (x : List ℕ). table x an) here.0 ∙ ap (λ (k : ℕ). table at k) here.1 ∙ is))
+  | inr apart ↦ ap (option_map f) (put_rx-that table at number sci an (Some new) apart)
+]
+
 pub held-are-ahead : (sectors : ℕ) → HeldAreAhead sectors
 held-are-ahead sectors s m frame out new (inl (stopped, answer, same)) = absurd answer
 held-are-ahead sectors s m frame out new (inr (running, inl (step, first, is_verdict, is_out, same))) = absurd (settled_unheld (rx_side s) frame step is_verdict)
@@ -106,6 +116,10 @@ held-are-ahead sectors s m frame out new (inr (running, inr (a, there, inl (is_v
   are_numbers = ap (s.numbers a.sci) (sym there.is_an) ∙ there.are_numbers;
   verified = there.verified;
   ahead = subst (λ (n : ℕ). a.numbers.next ≤ n) there.is_pn above;
+  next = λ at an. ap (λ (t : State). option_map (λ (n : Numbers). n.next) (t.numbers at an)) same
+      ∙ put_alike (λ (n : Numbers). n.next) s.numbers a.sci a.an at an a.numbers (numbers_after_hold a.numbers a.pn) there.are_numbers refl;
+  lowest = λ at an. ap (λ (t : State). option_map (λ (n : Numbers). n.lowest) (t.numbers at an)) same
+      ∙ put_alike (λ (n : Numbers). n.lowest) s.numbers a.sci a.an at an a.numbers (numbers_after_hold a.numbers a.pn) there.are_numbers refl;
 }
 held-are-ahead sectors s m frame out new (inr (running, inr (a, there, inr (is_verdict, is_out, same)))) = absurd (cc)
 

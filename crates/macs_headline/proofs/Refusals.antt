@@ -20,13 +20,13 @@ use Rattle.macs_headline.proofs.Losses.{IsCovered, covered-seen}
 use Rattle.macs_headline.proofs.Openings.{refused-for-disk-or-blank}
 
 -- a life after which the disk is formatted for sure: a `format` that answered Ok, or an opening that was not refused
-abbrev IsFormatting : Life → Type 0
+abbrev pub IsFormatting : Life → Type 0
 IsFormatting (Formats edition identity true) = Unit {0}
 IsFormatting (Serves edition image exchanges cut) = Unit {0}
 IsFormatting life = ⊥
 
 -- the disk is formatted for sure
-abbrev IsFormatted : Past → Type 0
+abbrev pub IsFormatted : Past → Type 0
 IsFormatted (Blank identities) = ⊥
 IsFormatted (Formatted s) = Unit {0}
 
@@ -56,11 +56,11 @@ module _ (sectors : ℕ) where
   stay old [] new same is = subst IsFormatted (sym same) is
   stay old (life ∷ lives) new h is = stay h.0 lives new h.2 (stays old life h.0 h.1 is)
 
-  formatted_by : (old : Past) (lives : List Life) (new : Past) (life : Life) → LeadOn sectors old lives new → Contains lives life → IsFormatting life → IsFormatted new
-  formatted_by old [] new life h among is = absurd (contains-none _ among)
-  formatted_by old (first ∷ lives) new life h among is = elim (contains-cases first lives life among) [
+  pub formatted-by : (old : Past) (lives : List Life) (new : Past) (life : Life) → LeadOn sectors old lives new → Contains lives life → IsFormatting life → IsFormatted new
+  formatted-by old [] new life h among is = absurd (contains-none _ among)
+  formatted-by old (first ∷ lives) new life h among is = elim (contains-cases first lives life among) [
     | inl here ↦ stay h.0 lives new h.2 (formats old first h.0 h.1 (subst IsFormatting here is))
-    | inr later ↦ formatted_by h.0 lives new life h.2 later is
+    | inr later ↦ formatted-by h.0 lives new life h.2 later is
   ]
 
 fits_one : (sectors : ℕ) (s : State) (image : Image) → FitsPast this_edition sectors (Formatted s) image → (s : State) × Fits this_edition sectors image s
@@ -91,7 +91,7 @@ refusals-are-failures disk_of sound disk before refused h opening =
       | inl for_disk ↦ inl (for_disk, subst (λ (at : JournalFault). FailsWith old new at) for_disk opening.refused.fails)
       | inr blank ↦
           let never : (life : Life) → Contains before life → ¬ IsFormatting life =
-          (λ life among is. blank.1 (formatted_by old.sectors (Blank []) before h.past life h.history among is)) in
+          (λ life among is. blank.1 (formatted-by old.sectors (Blank []) before h.past life h.history among is)) in
           inr (
             blank.0,
             λ edition identity among. never (Formats edition identity true) among tt,

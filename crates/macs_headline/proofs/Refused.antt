@@ -1,6 +1,5 @@
 -- Calls are refused for the first reason that holds.
-use Rattle.std.proofs.Common.{◌≡◌, inl, inr, ℕ, true, List, ◌∷◌, Option, Some, None, Result, Ok, Err, refl, ap}
-use Rattle.std.specs.Prelude.{is_ok}
+use Rattle.std.proofs.Common.{◌≡◌, inl, inr, ℕ, List, ◌∷◌, Option, Some, None, Result, Ok, Err, ap}
 use Rattle.macs_config.specs.Apply.{answer_or_refusal, apply, config_after, refusal_of}
 use Rattle.macs_config.specs.Config.{Config}
 use Rattle.macs_config.specs.declared.command.Command.{Command}
@@ -16,12 +15,12 @@ use Rattle.macs_endpoint.specs.declared.fault.StepFault.TheVariants as advance
 use Rattle.macs_endpoint.specs.declared.fault.SubmitFault.{SubmitFault}
 use Rattle.macs_endpoint.specs.declared.fault.SubmitFault.TheVariants as submit
 use Rattle.macs_endpoint.specs.declared.progress.Step.{Step as Progress}
-use Rattle.macs_endpoint.specs.declared.progress.Step.TheVariants.{Done}
+use Rattle.macs_endpoint.specs.declared.progress.Step.TheVariants.{Done, Idle, Reserved, Worked}
 use Rattle.macs_endpoint.specs.declared.queue.Waiting.{Waiting}
-use Rattle.macs_endpoint.specs.State.{Accepts, Advanced, Advances, Call, Commands, Protects, Protected, Ran, Receives, Refilled, Refills, Reply, State, Submits, Submitted}
-use Rattle.macs_endpoint.specs.Step.{AdvanceStep, CommandStep, Ends, IsStopped, Makes, ProtectStep, RefillStep, RunningStep, Step, SubmitStep, state_without_first}
-use Rattle.macs_headline.specs.Refused.{IsExact, RefusalsAreExact, refusal_at}
-use Rattle.macs_headline.proofs.Accepted.{accepted}
+use Rattle.macs_endpoint.specs.State.{Advanced, Advances, Call, Commands, Protects, Protected, Ran, Receives, Refilled, Refills, Reply, State, Submits, Submitted}
+use Rattle.macs_endpoint.specs.Step.{AdvanceStep, CommandStep, Ends, IsStopped, Makes, ProtectStep, RefillStep, RunningStep, Step, SubmitStep, TakesUp, state_without_first}
+use Rattle.macs_headline.specs.Refused.{IsExact, RefusalsAreExact, TakesFirst, refusal_at}
+use Rattle.macs_headline.proofs.Accepted.{accepted, no-refusal}
 
 -- ---- reasons
 
@@ -33,15 +32,7 @@ refused_by (Some first) config refusal is = let one : first ≡ refusal = cc in 
 refused_for : (s : State) (c : Command) (refusal : Refusal) → apply s.edition s.identity s.config c ≡ Err refusal → refusal_at s c ≡ Some refusal
 refused_for s c refusal is = refused_by (refusal_of s.edition s.identity s.config c) (config_after s.config c) refusal is
 
-accepted_by : (why : Option Refusal) (config : Config) → is_ok (answer_or_refusal why config) ≡ true → why ≡ None
-accepted_by None config is = refl
-accepted_by (Some first) config is = absurd (cc)
-
--- one that is accepted has none
-accepted_for : (s : State) (c : Command) → Accepts s c → refusal_at s c ≡ None
-accepted_for s c is = accepted_by (refusal_of s.edition s.identity s.config c) (config_after s.config c) is
-
--- nor has one that takes effect
+-- one that takes effect has none
 made_for : (s : State) (c : Command) (new : State) → Makes s c new → refusal_at s c ≡ None
 made_for s c new makes = (accepted s.edition s.identity s.config c makes.0 makes.1).0
 
@@ -51,21 +42,21 @@ by_command : (old : State) (c : Command) (result : Result (Unit {0}) CommandFaul
     → IsExact old (Commands c) (Ran result) new
 by_command old c (Ok done) new (none, makes) = (none, made_for old c new makes)
 by_command old c (Err ran.Stopped) new h = absurd h
-by_command old c (Err ran.Disk) new h = tt
+by_command old c (Err ran.Disk) new (none, accepts, is) = (none, no-refusal old.edition old.identity old.config c accepts, is)
 by_command old c (Err ran.Busy) new (some, is) = (some, is)
 by_command old c (Err (ran.Refused refusal)) new (none, why, is) = (none, refused_for old c refusal why, is)
-by_command old c (Err ran.GenerationsSpent) new (none, accepts, is) = (none, accepted_for old c accepts, is)
+by_command old c (Err ran.GenerationsSpent) new (none, accepts, is) = (none, no-refusal old.edition old.identity old.config c accepts, is)
 
 by_refill : (old : State) (result : Result (Unit {0}) RefillFault) (new : State) → RefillStep old result new → IsExact old Refills (Refilled result) new
-by_refill old (Ok done) new h = tt
+by_refill old (Ok done) new (none, is) = (none, is)
 by_refill old (Err refill.Stopped) new h = absurd h
-by_refill old (Err refill.Disk) new h = tt
+by_refill old (Err refill.Disk) new (none, is) = (none, is)
 by_refill old (Err refill.Busy) new (some, is) = (some, is)
 by_refill old (Err refill.GenerationsSpent) new (none, is) = (none, is)
 
 by_submit : (old : State) (c : Command) (result : Result ℕ SubmitFault) (new : State) → SubmitStep old c result new
     → IsExact old (Submits c) (Submitted result) new
-by_submit old c (Ok ticket) new h = tt
+by_submit old c (Ok ticket) new (few, left, is_ticket, is) = (few, left, is)
 by_submit old c (Err submit.QueueFull) new (many, is) = (many, is)
 by_submit old c (Err submit.TicketsSpent) new (few, spent, is) = (few, spent, is)
 by_submit old c (Err submit.Stopped) new h = absurd h
@@ -77,14 +68,24 @@ by_end old w rest ticket (Ok done) new waiting is_ticket makes =
 by_end old w rest ticket (Err (ran.Refused refusal)) new waiting is_ticket (idle, why, is) =
     (w, rest, waiting, is_ticket, idle, refused_for old w.command refusal why, is)
 by_end old w rest ticket (Err ran.GenerationsSpent) new waiting is_ticket (idle, accepts, is) =
-    (w, rest, waiting, is_ticket, idle, accepted_for old w.command accepts, is)
+    (w, rest, waiting, is_ticket, idle, no-refusal old.edition old.identity old.config w.command accepts, is)
 by_end old w rest ticket (Err fault) new waiting is_ticket h = absurd h
 
+-- a command that is taken up has none
+takes_first : (old new : State) → TakesUp old new → TakesFirst old new
+takes_first old new (w, rest, waiting, idle, accepts, is) =
+    (w, rest, waiting, idle, no-refusal old.edition old.identity old.config w.command accepts, is)
+
 by_advance : (old : State) (result : Result Progress StepFault) (new : State) → AdvanceStep old result new → IsExact old Advances (Advanced result) new
+by_advance old (Ok Idle) new is = is
+by_advance old (Ok Reserved) new is = is
+by_advance old (Ok Worked) new (inl is) = inl is
+by_advance old (Ok Worked) new (inr takes) = inr (takes_first old new takes)
 by_advance old (Ok (Done ticket result)) new (w, rest, waiting, is_ticket, ends) = by_end old w rest ticket result new waiting is_ticket ends
 by_advance old (Err advance.GenerationsSpent) new is = is
+by_advance old (Err advance.Disk) new (inl is) = inl is
+by_advance old (Err advance.Disk) new (inr (mid, takes, is)) = inr (mid, takes_first old mid takes, is)
 by_advance old (Err advance.Stopped) new h = absurd h
-by_advance old result new h = tt
 
 by_protect : (old : State) (plain : List ℕ) (result : Result ℕ ProtectFault) (out : List ℕ) (new : State) → ProtectStep old plain result out new
     → IsExact old (Protects plain) (Protected result out) new

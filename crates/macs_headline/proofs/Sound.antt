@@ -12,6 +12,7 @@ use Rattle.macs_endpoint.specs.Step.{Exchange, Steps}
 use Rattle.macs_endpoint.specs.Restart.{Restart, Resumes, RxRises, TxRises, state_during, state_taking, state_taking_alone, state_taking_first}
 use Rattle.macs_endpoint.specs.declared.queue.Waiting.{Waiting}
 use Rattle.macs_headline.specs.History.{formatted_state, state_at_end}
+use Rattle.macs_headline.specs.Windows.{IsWithinWindow}
 use Rattle.macs_headline.proofs.Lists.{contains-none, pairs-none}
 use Rattle.macs_headline.proofs.Ledger.{ledger-kept, some_one}
 use Rattle.macs_headline.proofs.Effects.{Commanded, Core, Effect, core, effect-of}
@@ -114,11 +115,11 @@ rx_rise block (Some n) new m up is =
     let low : n.next ≤ up.0 = up.2 in
     (up.0, ap (option_map (λ (n : Numbers). n.next)) up.1, omega (arith, one, low))
 
-rx_level : (block window : ℕ) (old new : Option Numbers) (n : Numbers) → RxRises block old new → new ≡ Some n → n.next ≤ n.lowest + window
+rx_level : (block window : ℕ) (old new : Option Numbers) (n : Numbers) → RxRises block old new → new ≡ Some n → IsWithinWindow window n
 rx_level block window None new n up is = absurd (cc)
 rx_level block window (Some m) new n up is =
     let one : first_numbers up.0 ≡ n = some_one new _ n up.1 is in
-    subst (λ (n : Numbers). n.next ≤ n.lowest + window) one (omega arith)
+    subst (λ (n : Numbers). IsWithinWindow window n) one (omega arith, omega arith)
 
 raised : (c : Core) (next : ℕ → Option ℕ) (numbers : List ℕ → ℕ → Option Numbers) → ((an : ℕ) → TxRises c.identity.tx_block (c.next an) (next an))
     → ((sci : List ℕ) (an : ℕ) → RxRises c.identity.rx_block (c.numbers sci an) (numbers sci an))

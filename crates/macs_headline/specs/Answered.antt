@@ -23,9 +23,10 @@ lives_at m = m.lives ++ Serves m.edition m.image m.exchanges None ∷ []
 abbrev pub MomentsAreHistories : ℕ → Type 0
 MomentsAreHistories sectors = (s : State) (m : Moment sectors s) → IsHistory sectors (lives_at m) (Formatted s)
 
--- In these lives a call was answered so. It was at this moment of them: after the lives and the calls before it. It was a step of the endpoint, and
+-- In these lives a call was answered so: it is among their answers. It was at this moment of them: after the lives and the calls before it. It was a step of the endpoint, and
 -- these logs hold all that was used and delivered by then.
 pub record WasAnswered (sectors : ℕ) (lives : List Life) (e : Exchange) (logs : Logs) : Type 0 where
+  pub among : Contains (exchanges_of_lives lives) e
   pub at : State
   pub moment : Moment sectors at
   pub rest : List Exchange

@@ -1,5 +1,5 @@
 -- What binds the program to the headline: whatever is done with a disk that has a history is one, and a disk that is new has the empty one.
-use Rattle.std.specs.Prelude.{◌≡◌, ◌⊎◌, ◌↔◌, ◌≤◌, true, ◌++◌, ℕ, List, [], ◌∷◌, map, Contains, Option, Some, None, Result, Ok, Err}
+use Rattle.std.specs.Prelude.{◌≡◌, ◌⊎◌, ◌↔◌, ◌≤◌, true, false, ◌++◌, ℕ, List, [], ◌∷◌, map, Contains, Option, Some, None, Result, Ok, Err}
 use Rattle.macs_frame.specs.Tag.{tag_of}
 use Rattle.macs_config.specs.Config.{Edition, IsUpTo, this_edition}
 use Rattle.macs_config.specs.Identity.{Identity}
@@ -14,7 +14,7 @@ use Rattle.macs_journal.specs.declared.recovery.RecoverRefused.{RecoverRefused}
 use Rattle.macs_store.specs.Found.{StandingIs}
 use Rattle.macs_store.specs.Standing.{Standing}
 use Rattle.macs_store.specs.Value.{standing_in}
-use Rattle.macs_endpoint.specs.Advancing.{Piece, ToKeep, next_piece}
+use Rattle.macs_endpoint.specs.Advancing.{Piece, ToKeep, ToRaise, next_piece}
 use Rattle.macs_endpoint.specs.Calls.{IsCall}
 use Rattle.macs_endpoint.specs.Formatting.{IsFormat}
 use Rattle.macs_endpoint.specs.Lives.{Transition, exchange_of}
@@ -30,9 +30,9 @@ use Rattle.macs_endpoint.specs.Value.{EndpointValue, IsSoundEndpoint, device_in,
 use Rattle.macs_headline.specs.Commands.{FindsPrefix}
 use Rattle.macs_headline.specs.Answered.{exchanges_of_lives, lives_at}
 use Rattle.macs_headline.specs.Deliveries.{IsOtherDelivery, IsVerifiedDelivery, IsVerifiedKind, delivering}
-use Rattle.macs_headline.specs.Deeds.{Chain, Does, Formatting, FormattingCut, IsPassedOn, Link, Living, LivesFrom, OpeningCut, PassingOn, Refusing, disk_after_opening, lives_of_links}
+use Rattle.macs_headline.specs.Deeds.{Chain, Deed, Does, Formatting, FormattingCut, IsPassedOn, Link, Living, LivesFrom, OpeningCut, PassingOn, Refusing, disk_after_opening, lives_of_links}
 use Rattle.macs_headline.specs.Frames.{IsOtherFrame, IsStandardFrame, writing}
-use Rattle.macs_headline.specs.History.{FitsPast, Formats, IsHistory, Life, Past, Serves, logs_of, state_at_end}
+use Rattle.macs_headline.specs.History.{FitsPast, Formats, IsHistory, Life, Past, Refuses, Serves, logs_of, state_at_end}
 use Rattle.macs_headline.specs.Moments.{IsFoundAfter, Moment}
 use Rattle.macs_headline.specs.Numbers.{HasNoneTwice}
 use Rattle.macs_headline.specs.Tickets.{AreTicketsKept}
@@ -52,6 +52,10 @@ pub record HasHistory (edition : Edition) (disk : Disk) (lives : List Life) : Ty
   pub images : (image : Image) → MayLeave disk image → FitsPast edition disk.sectors past image
 
 -- ---- where a history begins, and which disks have it
+
+-- Each honest disk of 1,028 sectors or more whose head gates are closed in every image is new, whatever else is on it or pending.
+abbrev pub TheseAreNew : Type 0
+TheseAreNew = (disk : Disk) → IsHonest disk → least_sectors ≤ disk.sectors → ((image : Image) → MayLeave disk image → IsNotFormatted image) → IsNewDisk disk
 
 -- a disk that is new has the history in which nothing was done
 abbrev pub NewDisksHaveHistories : Type 0
@@ -105,6 +109,17 @@ ChainsAnswer {D} disk_of = (old : D) (links : List (Link D)) (link : Link D) (fi
     (turn : Transition D) → Contains links link → link.deed ≡ Living first turns last cut → Contains turns turn
     → Contains (exchanges_of_lives (lives_of_links disk_of old links)) (exchange_of turn)
 
+-- What a chain's lives tell of a deed: a `format` with whether it answered Ok, and an opening that was refused with its fault.
+pub record IsTold {D : Type 0} (lives : List Life) (deed : Deed D) : Type 0 where
+  pub formatted : (identity : Identity) → deed ≡ Formatting identity (Ok tt) → Contains lives (Formats this_edition identity true)
+  pub not_formatted : (identity : Identity) (fault : JournalFault) → deed ≡ Formatting identity (Err fault)
+      → Contains lives (Formats this_edition identity false)
+  pub refused : (fault : JournalFault) → deed ≡ Refusing fault → (image : Image) × Contains lives (Refuses this_edition image fault)
+
+-- so each deed of a chain is told
+abbrev pub ChainsTell : {D : Type 0} → (D → Disk) → Type 0
+ChainsTell {D} disk_of = (old : D) (links : List (Link D)) (link : Link D) → Contains links link → IsTold (lives_of_links disk_of old links) link.deed
+
 -- An endpoint that opened this image is at a moment of a history: after these lives, and after these calls of its own.
 pub record IsAtMoment {D : Type 0} (sectors : ℕ) (lives : List Life) (image : Image) (turns : List (Transition D)) (first last : EndpointValue D) : Type 0 where
   pub logs : Logs
@@ -154,6 +169,16 @@ LivesFit {D} disk_of = (disk new : D) (before : List Life) (first last : Endpoin
     → (at : IsAtMoment (disk_of disk).sectors before (now (disk_of disk)).seen turns first last)
     × ((later : Edition) → IsUpTo this_edition later → (image : Image) → MayLeave (disk_of new) image
     → Fits later (disk_of disk).sectors image (state_left last at.logs cut))
+
+-- Where a ceiling is being raised, or to raise one is the next piece of work, a step that is cut short begins no command: each image that the disk may leave
+-- then fits the state before the step, to this edition and to each larger one.
+abbrev pub LivesFitUnbegun : {D : Type 0} → (D → Disk) → Type 0
+LivesFitUnbegun {D} disk_of = (disk new : D) (before : List Life) (first last : EndpointValue D) (turns : List (Transition D))
+    → HasHistory this_edition (disk_of disk) before → Does disk_of disk (Living first turns last (Some Advances)) new
+    → (raise : Raise) → (last.reserving ≡ Some raise) ⊎ (next_piece last ≡ Some (ToRaise raise))
+    → (at : IsAtMoment (disk_of disk).sectors before (now (disk_of disk)).seen turns first last)
+    × ((later : Edition) → IsUpTo this_edition later → (image : Image) → MayLeave (disk_of new) image
+    → Fits later (disk_of disk).sectors image (state_of last at.logs))
 
 -- Each image that the disk may leave after a life stands, to this edition and to each larger one, for the configuration after a prefix of the
 -- life's accepted commands that holds every acknowledged one.

@@ -1,5 +1,5 @@
 -- The headline on commands.
-use Rattle.std.specs.Prelude.{◌≡◌, ◌⊎◌, ◌==◌, ◌++◌, if◌then◌else◌, ℕ, List, [], ◌∷◌, Contains, option_to_list, Option, Some, Ok, Err}
+use Rattle.std.specs.Prelude.{◌≡◌, ◌⊎◌, ◌==◌, ◌++◌, if◌then◌else◌, ℕ, List, [], ◌∷◌, Contains, option_to_list, Option, Some, None, Ok, Err}
 use Rattle.macs_config.specs.Apply.{apply}
 use Rattle.macs_config.specs.Config.{Config, Edition}
 use Rattle.macs_config.specs.Identity.{Identity}
@@ -104,6 +104,16 @@ pub record FindsPrefix (before : Standing) (exchanges : List Exchange) (in_hand 
   pub acknowledged : IsPrefix (acknowledged_commands exchanges) kept
   pub accepted : IsPrefix kept (accepted_commands exchanges in_hand)
   pub made : CommandsMake before.edition before.identity before.config kept after.config
+
+-- Where nothing was in hand at its end, one configuration is found after a life, under one identity: each acknowledged command took effect, and no other did.
+-- Where a command was in hand, it is that configuration, or what the command makes of it.
+pub record FindsOne : Type 0 where
+  pub none_in_hand : (before a b : Standing) (exchanges : List Exchange) → FindsPrefix before exchanges None a → FindsPrefix before exchanges None b
+      → (a.config ≡ b.config) × (a.identity ≡ b.identity)
+  pub one_in_hand : (before without after : Standing) (exchanges : List Exchange) (command : Command) → FindsPrefix before exchanges None without
+      → FindsPrefix before exchanges (Some command) after
+      → ((after.config ≡ without.config) ⊎ (apply before.edition before.identity without.config command ≡ Ok after.config))
+      × (after.identity ≡ without.identity)
 
 -- At whatever moment a life ends, in the midst of a call or not, and whatever edition opens the disk next: in every image that it may come
 -- upon it finds such a prefix.

@@ -1,10 +1,10 @@
 -- The headline on frames that are received.
-use Rattle.std.specs.Prelude.{◌≡◌, ◌≢◌, true, ℕ, List, [], ◌∷◌, Contains, Some, Result, Ok}
+use Rattle.std.specs.Prelude.{◌≡◌, ◌≢◌, ◌≤◌, true, ℕ, List, [], ◌∷◌, Contains, Some, Result, Ok}
 use Rattle.macs_frame.specs.Fields.{octets_of}
 use Rattle.macs_frame.specs.Opening.{Verified, bare_frame}
 use Rattle.macs_frame.specs.Tag.{tag_of}
 use Rattle.macs_config.specs.declared.association.RxSa.{RxSa}
-use Rattle.macs_rxsc.specs.Receive.{Numbers, channel_of, delivery_kind}
+use Rattle.macs_rxsc.specs.Receive.{Numbers, channel_of, delivery_kind, numbers_after_delivery}
 use Rattle.macs_rxsc.specs.declared.verdict.Kind.{Kind}
 use Rattle.macs_rxsc.specs.declared.verdict.Kind.TheVariants.{Delayed, Ok as AsOk, Untagged}
 use Rattle.macs_rxsc.specs.declared.verdict.Verdict.{Verdict}
@@ -27,8 +27,8 @@ IsVerifiedKind Delayed = Unit {0}
 IsVerifiedKind kind = ⊥
 
 -- A frame verifies (IEEE Std 802.1AE-2018, clause 10) under the key, the SCI and the offset of the association of that moment that its tag names, by
--- channel and number; it is Delayed where its packet number is below the lowest acceptable one there, else Ok; it gives its plain frame and no other; and
--- its packet number joins those that were delivered.
+-- channel and number; it is Delayed where its packet number is below the lowest acceptable one there, else Ok, and where replay protection is on it is not
+-- below that (10.6); it gives its plain frame and no other; and its packet number joins those that were delivered, and moves those of the association.
 pub record IsVerifiedDelivery (s : State) (frame : List ℕ) (kind : Kind) (out : List ℕ) (new : State) : Type 0 where
   pub sci : List ℕ
   pub sa : RxSa
@@ -37,8 +37,10 @@ pub record IsVerifiedDelivery (s : State) (frame : List ℕ) (kind : Kind) (out 
   pub numbers : Numbers
   pub are_numbers : s.numbers sci (tag_of frame).an ≡ Some numbers
   pub in_time : kind ≡ delivery_kind numbers (tag_of frame).pn
+  pub guarded : s.config.replay.on ≡ true → numbers.lowest ≤ (tag_of frame).pn
   pub verified : Verified frame sa.key sci (octets_of sa.offset) out
   pub only : (other : List ℕ) → Verified frame sa.key sci (octets_of sa.offset) other → other ≡ out
+  pub moved : new.numbers sci (tag_of frame).an ≡ Some (numbers_after_delivery s.config.replay.window numbers (tag_of frame).pn)
   pub logged : new.logs.given ≡ record { sci = sci; key = sa.key; pn = (tag_of frame).pn; kind = kind } ∷ s.logs.given
 
 -- each frame that is delivered as Ok or Delayed is so delivered

@@ -18,7 +18,7 @@ use Rattle.macs_rxsc.specs.declared.verdict.Kind.TheVariants.{Delayed, Ok as AsO
 use Rattle.macs_rxsc.specs.declared.verdict.Reason.TheVariants.{Late}
 use Rattle.macs_rxsc.specs.declared.verdict.Verdict.{Verdict}
 use Rattle.macs_rxsc.specs.declared.verdict.Verdict.TheVariants.{Delivered, Discarded, HeldBack}
-use Rattle.macs_store.specs.Found.{StandsFor}
+use Rattle.macs_store.specs.Found.{StandingIs, StandsFor}
 use Rattle.macs_endpoint.specs.State.{Advanced, Advances, Call, Commands, Delivery, Protects, Protected, Ran, Received, Receives, Refilled, Refills, Reply, State, Submits, Submitted, Use}
 use Rattle.macs_endpoint.specs.Step.{Exchange}
 use Rattle.macs_endpoint.specs.declared.fault.CommandFault.TheVariants as ran
@@ -28,7 +28,7 @@ use Rattle.macs_endpoint.specs.declared.progress.Step.TheVariants.{Done, Reserve
 use Rattle.macs_headline.specs.Example.{add_peer, check_only, example_identity, example_plain, example_sectors, guard, install_own, install_own_again, install_peer, install_peer_again, later_edition, narrow, own_frame, own_key, peer_frame, peer_key, peer_sci, remove_peer, stay_strict, unguard, use_own, widen}
 use Rattle.macs_headline.specs.ExampleCuts.{append_in_hand, compacting_disk, compaction_in_hand, killed_disk, place_behind, torn_image, widening_disk, working_disk}
 use Rattle.macs_headline.specs.ExampleDisk.{anew_content, anew_image, checked, cut_image, ended_content, ended_image, narrow_content, full_content, last_content, last_image, new_image, served_content, served_image, widened}
-use Rattle.macs_headline.specs.ExampleStanding.{full_standing}
+use Rattle.macs_headline.specs.ExampleStanding.{checked_standing, full_standing, last_standing}
 use Rattle.macs_headline.specs.Binding.{HasHistory}
 use Rattle.macs_headline.specs.Deeds.{IsPassedOn}
 use Rattle.macs_headline.specs.History.{Formats, Formatted, IsHistory, Life, Refuses, Serves}
@@ -115,8 +115,12 @@ third_exchanges =
 abbrev pub fourth_exchanges : List Exchange
 fourth_exchanges = submitted 1 check_only ∷ worked ∷ worked ∷ worked ∷ []
 
+-- A program of a later edition goes on: frame 17 goes out, and the replay window is set once more.
+abbrev pub last_exchanges : List Exchange
+last_exchanges = unsent (protect.Tx NoNumber) ∷ refilled ∷ sent 17 ∷ obeyed guard ∷ []
+
 -- `format` cut short, an opening that finds nothing, `format`, an opening that a failed device call refuses; the four lives, with a `format`
--- by mistake between them; and an opening by a later edition
+-- by mistake between them; and a life of a later edition
 abbrev pub example_lives : List Life
 example_lives =
     Formats this_edition example_identity false
@@ -128,10 +132,10 @@ example_lives =
     ∷ Formats this_edition example_identity false
     ∷ Serves this_edition (cut_image 2) third_exchanges None
     ∷ Serves this_edition last_image fourth_exchanges (Some Advances)
-    ∷ Serves later_edition ended_image [] None
+    ∷ Serves later_edition ended_image last_exchanges None
     ∷ []
 
--- all but that opening
+-- all but that life
 abbrev pub early_lives : List Life
 early_lives = take 9 example_lives
 
@@ -143,14 +147,15 @@ own_use pn = record { key = own_key; pn = pn }
 abbrev pub peer_delivery : Kind → Delivery
 peer_delivery kind = record { sci = peer_sci; key = peer_key; pn = 5; kind = kind }
 
--- This is a history: eight frames went out under one key, one frame was delivered twice in one life and once in the next, and the journal began anew.
+-- This is a history: nine frames went out under one key, one frame was delivered twice in one life and once in the next, and the journal began anew.
 -- Where a life was cut short its disk had work in hand, as a journal has it, and was left so: a power loss may leave the image that the next life
 -- opens, and the killed program left what reads give, with the gate pending. While the journal begins anew its disk stands for what it stood for,
--- however many bodies are written. Before the later edition opens it, its disk has this history to both editions.
+-- however many bodies are written. Before the later edition opens it, its disk has this history to both editions. The life before the last found the disk
+-- without the command that failed, and the last one finds it.
 pub record IsWorkedHistory : Type 0 where
   pub last : State
   pub history : IsHistory example_sectors example_lives (Formatted last)
-  pub used : last.logs.used ≡ map own_use (13 ∷ 9 ∷ 6 ∷ 5 ∷ 4 ∷ 3 ∷ 2 ∷ 1 ∷ [])
+  pub used : last.logs.used ≡ map own_use (17 ∷ 13 ∷ 9 ∷ 6 ∷ 5 ∷ 4 ∷ 3 ∷ 2 ∷ 1 ∷ [])
   pub given : last.logs.given ≡ map peer_delivery (Delayed ∷ AsOk ∷ AsOk ∷ [])
   pub widening : IsHolding widening_disk (place_behind narrow_content) (append_in_hand widened) narrow_content served_content
   pub left_open : MayLeave widening_disk served_image
@@ -166,3 +171,5 @@ pub record IsWorkedHistory : Type 0 where
   pub read : (now killed_disk).seen ≡ ended_image
   pub early : HasHistory this_edition killed_disk early_lives
   pub older : HasHistory later_edition killed_disk early_lives
+  pub found_without : StandingIs this_edition example_sectors last_image (Ok (last_standing this_edition))
+  pub finds : StandingIs later_edition example_sectors ended_image (Ok (checked_standing later_edition))

@@ -1,5 +1,5 @@
 -- The headline on frames.
-use Rattle.std.specs.Prelude.{◌≡◌, ◌≢◌, ◌<◌, ◌≤◌, ◌^◌, ℕ, List, ◌∷◌, Contains, Some, Ok}
+use Rattle.std.specs.Prelude.{◌≡◌, ◌≢◌, ◌<◌, ◌≤◌, ◌+◌, ◌^◌, ℕ, List, ◌∷◌, Contains, Some, Ok}
 use Rattle.macs_frame.specs.Fields.{octets_of}
 use Rattle.macs_frame.specs.Protection.{protected_frame}
 use Rattle.macs_config.specs.Association.{is_confidential, offset_of}
@@ -14,7 +14,7 @@ use Rattle.macs_headline.specs.Moments.{IsFoundAfter, Moment}
 use Rattle.macs_headline.specs.Numbers.{IsBeyondTx}
 
 -- A frame is the standard's (IEEE Std 802.1AE-2018, clauses 9 and 10): the protected frame of the plain one under the encoding association
--- of that moment, with its mode and its next packet number, 1 to 2^32 - 1; and the number joins those that were used.
+-- of that moment, with its mode and its next packet number, 1 to 2^32 - 1; the number joins those that were used, and the next one is one more.
 pub record IsStandardFrame (s : State) (plain : List ℕ) (pn : ℕ) (out : List ℕ) (new : State) : Type 0 where
   pub an : ℕ
   pub sa : TxSa
@@ -33,6 +33,7 @@ pub record IsStandardFrame (s : State) (plain : List ℕ) (pn : ℕ) (out : List
       })
       (octets_of (offset_of sa.protection)) plain
   pub logged : new.logs.used ≡ record { key = sa.key; pn = pn } ∷ s.logs.used
+  pub next : new.next an ≡ Some (pn + 1)
 
 -- each frame that is written is the standard's
 abbrev pub FramesAreStandard : ℕ → Type 0

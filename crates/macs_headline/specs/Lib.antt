@@ -7,11 +7,16 @@ pub mod Tickets
 pub mod Answered
 pub mod Frames
 pub mod Deliveries
+pub mod Windows
 pub mod Received
+pub mod Steps
 pub mod Refused
+pub mod Begun
 pub mod Stopping
 pub mod Logged
+pub mod GoingOn
 pub mod Openings
+pub mod Formats
 pub mod Deeds
 pub mod Endings
 pub mod Binding

@@ -1,15 +1,23 @@
 -- A night of an endpoint: power is lost between two frames under one key.
-use Rattle.std.specs.Prelude.{◌≡◌, ◌≢◌, ◌<◌, ◌≤◌, ◌^◌, ◌++◌, ℕ, true, List, [], ◌∷◌, Ok}
+use Rattle.std.specs.Prelude.{◌≡◌, ◌≢◌, ◌⊎◌, ◌<◌, ◌≤◌, ◌^◌, ℕ, true, List, [], ◌∷◌, map, None, Result, Ok}
 use Rattle.macs_frame.specs.Protection.{protected_frame}
 use Rattle.macs_frame.specs.declared.tag.ScName.TheVariants.{Explicit}
 use Rattle.macs_aes.specs.declared.keys.Key.TheVariants.{Short}
 use Rattle.macs_config.specs.Identity.{Identity}
 use Rattle.macs_config.specs.declared.command.Command.{Command}
-use Rattle.macs_config.specs.declared.command.Command.TheVariants.{TxInstall}
+use Rattle.macs_config.specs.declared.command.Command.TheVariants.{TxInstall, TxUse}
 use Rattle.macs_disk.specs.Disk.{Disk}
+use Rattle.macs_journal.specs.declared.fault.JournalFault.{JournalFault}
+use Rattle.macs_journal.specs.declared.fault.JournalFault.TheVariants.{Disk as DiskFault}
 use Rattle.macs_journal.specs.declared.recovery.RecoverRefused.{RecoverRefused}
-use Rattle.macs_headline.specs.Days.{link_of}
-use Rattle.macs_headline.specs.Deeds.{Chain, Link, Refusing}
+use Rattle.macs_endpoint.specs.Lives.{Transition, exchange_of}
+use Rattle.macs_endpoint.specs.State.{Commands, Protected, Protects, Ran}
+use Rattle.macs_endpoint.specs.Value.{EndpointValue}
+use Rattle.macs_endpoint.specs.declared.fault.CommandFault.{CommandFault}
+use Rattle.macs_endpoint.specs.declared.fault.ProtectFault.{ProtectFault}
+use Rattle.macs_headline.specs.Days.{IsRefusedDay, exchange_with, link_of}
+use Rattle.macs_headline.specs.Deeds.{Chain, Formatting, Living, PassingOn, Refusing}
+use Rattle.macs_headline.specs.Endings.{LosesPower}
 use Rattle.macs_headline.specs.declared.night.Night.{Night}
 
 -- an association of this number and key of 16 octets, from packet number 1, under which User Data are encrypted whole
@@ -30,7 +38,40 @@ pub record IsNight {D : Type 0} (identity : Identity) (an : ℕ) (key evening fi
   pub behind : (pn : ℕ) → night.sent_again ≡ Ok pn → IsNightFrame identity an key morning pn second
   pub apart : (one other : ℕ) → night.sent ≡ Ok one → night.sent_again ≡ Ok other → one ≢ other
 
--- Some deeds led to an opening that was refused for this fault, and the disk was given back.
-pub record IsRefusedNight {D : Type 0} (disk_of : D → Disk) (old : D) (refused : RecoverRefused D) : Type 0 where
-  pub links : List (Link D)
-  pub chain : Chain disk_of old (links ++ link_of (Refusing refused.fault) refused.disk ∷ []) refused.disk
+-- ---- an opening that is refused
+
+-- The disk was formatted, and its first opening was refused: then a device call failed, or the disk is worn.
+pub record IsRefusedEvening {D : Type 0} (disk_of : D → Disk) (old : D) (identity : Identity) (refused : RecoverRefused D) : Type 0 where
+  pub day : IsRefusedDay disk_of old identity refused
+  pub failed : ((disk_of old).failures < (disk_of refused.disk).failures) ⊎ ((disk_of refused.disk).worn ≡ true)
+
+-- The disk was formatted and opened, the endpoint answered its three calls and gave the disk back, power was lost, and the second opening was refused as Disk.
+pub record IsRefusedMorning {D : Type 0} (disk_of : D → Disk) (old : D) (identity : Identity) (an : ℕ) (key evening out : List ℕ) (refused : RecoverRefused D)
+    : Type 0 where
+  pub formatted : Result (Unit {0}) JournalFault
+  pub installed : Result (Unit {0}) CommandFault
+  pub chosen : Result (Unit {0}) CommandFault
+  pub sent : Result ℕ ProtectFault
+  pub between : D
+  pub first : EndpointValue D
+  pub turns : List (Transition D)
+  pub last : EndpointValue D
+  pub called : map exchange_of turns ≡
+      exchange_with (Commands (night_install an key)) (Ran installed) ∷ exchange_with (Commands (TxUse an)) (Ran chosen)
+      ∷ exchange_with (Protects evening) (Protected sent out) ∷ []
+  pub left : D
+  pub lost : D
+  pub loses : LosesPower (disk_of left) (disk_of left).clock (disk_of lost)
+  pub chain : Chain disk_of old (
+      link_of (Formatting identity formatted) between
+      ∷ link_of (Living first turns last None) left
+      ∷ link_of PassingOn lost
+      ∷ link_of (Refusing refused.fault) refused.disk
+      ∷ []
+      ) refused.disk
+  pub for_disk : refused.fault ≡ DiskFault
+
+-- the one or the other
+abbrev pub IsRefusedNight : {D : Type 0} → (D → Disk) → D → Identity → (an : ℕ) → (key evening out : List ℕ) → RecoverRefused D → Type 0
+IsRefusedNight disk_of old identity an key evening out refused =
+    IsRefusedEvening disk_of old identity refused ⊎ IsRefusedMorning disk_of old identity an key evening out refused

@@ -7,7 +7,7 @@ use Rattle.macs_journal.specs.declared.fault.JournalFault.{JournalFault}
 use Rattle.macs_journal.specs.declared.fault.JournalFault.TheVariants.{Disk, NotFormatted}
 use Rattle.macs_store.specs.Standing.{Standing}
 use Rattle.macs_endpoint.specs.State.{State}
-use Rattle.macs_headline.specs.History.{Blank, FitsPast, Formats, Formatted, Leads, Life, Past, Refuses, logs_of}
+use Rattle.macs_headline.specs.History.{Blank, FitsPast, Formats, Formatted, Leads, Past, Refuses, logs_of}
 use Rattle.macs_headline.specs.Moments.{IsFoundAfter}
 
 -- once `format` has answered Ok, only for a device call that failed
@@ -20,17 +20,17 @@ abbrev pub RefusedForDiskOrBlank : ℕ → Type 0
 RefusedForDiskOrBlank sectors = (identities : List Identity) (edition : Edition) (image : Image) (fault : JournalFault) (new : Past)
     → Leads sectors (Blank identities) (Refuses edition image fault) new → (fault ≡ Disk) ⊎ (fault ≡ NotFormatted)
 
--- A life that changes nothing: an opening that is refused, or a `format` of a disk that is formatted.
-abbrev pub IsIdle : Past → Life → Type 0
-IsIdle old (Refuses edition image fault) = Unit {0}
-IsIdle (Formatted s) (Formats edition identity is_ok) = Unit {0}
-IsIdle old life = ⊥
+-- A program of any edition may come upon the same images later, and upon no others; and what was used and delivered is the same.
+pub record AreAsBefore (sectors : ℕ) (old new : Past) : Type 0 where
+  pub images : (later : Edition) (image : Image) → FitsPast later sectors new image ↔ FitsPast later sectors old image
+  pub logs : logs_of new ≡ logs_of old
 
--- Later a program of any edition may come upon what it might have come upon before such a life, and upon nothing else; and what was used and delivered
--- is the same.
-abbrev pub NothingChanges : ℕ → Type 0
-NothingChanges sectors = (old : Past) (life : Life) (new : Past) → IsIdle old life → Leads sectors old life new
-    → ((later : Edition) (image : Image) → FitsPast later sectors new image ↔ FitsPast later sectors old image) × (logs_of new ≡ logs_of old)
+-- so it is after an opening that was refused, and after a `format` of a disk that is formatted, whatever edition either was of
+pub record NothingChanges (sectors : ℕ) : Type 0 where
+  pub refused : (old : Past) (edition : Edition) (image : Image) (fault : JournalFault) (new : Past) → Leads sectors old (Refuses edition image fault) new
+      → AreAsBefore sectors old new
+  pub formatted : (s : State) (edition : Edition) (identity : Identity) (is_ok : Bool) (new : Past)
+      → Leads sectors (Formatted s) (Formats edition identity is_ok) new → AreAsBefore sectors (Formatted s) new
 
 -- The identity that an opening finds is one that a `format` of the history was given.
 abbrev pub IdentityWasGiven : ℕ → Type 0

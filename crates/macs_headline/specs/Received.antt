@@ -1,5 +1,6 @@
 -- The headline on frames that are received and do not verify, on those that are held back, and on what a frame that verifies has shown.
 use Rattle.std.specs.Prelude.{◌≡◌, ◌≢◌, ◌≤◌, ◌⊎◌, Bool, true, false, ℕ, List, [], Option, Some, Ok}
+use Rattle.std.specs.Option.{option_map}
 use Rattle.macs_config.specs.declared.association.RxSa.{RxSa}
 use Rattle.macs_config.specs.declared.command.Validate.{Validate}
 use Rattle.macs_config.specs.declared.command.Validate.TheVariants.{Check, Strict}
@@ -50,7 +51,8 @@ UnverifiedAreSettled sectors = (s : State) → Moment sectors s → (frame out :
 -- ---- frames that are held back
 
 -- A frame verifies under the association of that moment that its tag names, by channel and number, and its packet number is not below the next one there.
-pub record IsAhead (s : State) (frame : List ℕ) : Type 0 where
+-- No next number and no lowest acceptable one moves.
+pub record IsAhead (s : State) (frame : List ℕ) (new : State) : Type 0 where
   pub sci : List ℕ
   pub sa : RxSa
   pub plain : List ℕ
@@ -60,11 +62,13 @@ pub record IsAhead (s : State) (frame : List ℕ) : Type 0 where
   pub are_numbers : s.numbers sci (tag_of frame).an ≡ Some numbers
   pub verified : Verified frame sa.key sci (octets_of sa.offset) plain
   pub ahead : numbers.next ≤ (tag_of frame).pn
+  pub next : (at : List ℕ) (an : ℕ) → option_map (λ (n : Numbers). n.next) (new.numbers at an) ≡ option_map (λ (n : Numbers). n.next) (s.numbers at an)
+  pub lowest : (at : List ℕ) (an : ℕ) → option_map (λ (n : Numbers). n.lowest) (new.numbers at an) ≡ option_map (λ (n : Numbers). n.lowest) (s.numbers at an)
 
 -- each frame that is held back is such a one
 abbrev pub HeldAreAhead : ℕ → Type 0
 HeldAreAhead sectors = (s : State) → Moment sectors s → (frame out : List ℕ) (new : State) → Step s (Receives frame) (Received (Ok HeldBack) out) new
-    → IsAhead s frame
+    → IsAhead s frame new
 
 -- ---- what was seen
 

@@ -8,14 +8,14 @@ use Rattle.macs_txsc.specs.Transmit.{tx_faults}
 use Rattle.macs_txsc.specs.declared.fault.TxFault.{TxFault}
 use Rattle.macs_txsc.specs.declared.fault.TxFault.TheVariants.{NoNumber}
 use Rattle.macs_endpoint.specs.Queue.{last_ticket, queue_length}
-use Rattle.macs_endpoint.specs.State.{Advanced, Advances, Call, Commands, Protects, Protected, Ran, Refilled, Refills, Reply, State, Submits, Submitted, tx_side}
-use Rattle.macs_endpoint.specs.Step.{Step, state_without_first}
+use Rattle.macs_endpoint.specs.State.{Advanced, Advances, Call, Commands, Protects, Protected, Ran, Refilled, Refills, Reply, State, Submits, Submitted, state_after_fault, state_with_in_hand, tx_side}
+use Rattle.macs_endpoint.specs.Step.{Step, state_with_waiting, state_without_first}
 use Rattle.macs_endpoint.specs.declared.fault.CommandFault.TheVariants as ran
 use Rattle.macs_endpoint.specs.declared.fault.ProtectFault.TheVariants as protect
 use Rattle.macs_endpoint.specs.declared.fault.RefillFault.TheVariants as refill
 use Rattle.macs_endpoint.specs.declared.fault.StepFault.TheVariants as step
 use Rattle.macs_endpoint.specs.declared.fault.SubmitFault.TheVariants as submit
-use Rattle.macs_endpoint.specs.declared.progress.Step.TheVariants.{Done}
+use Rattle.macs_endpoint.specs.declared.progress.Step.TheVariants.{Done, Idle, Reserved, Worked}
 use Rattle.macs_endpoint.specs.declared.queue.Waiting.{Waiting}
 use Rattle.macs_headline.specs.Moments.{Moment}
 
@@ -27,19 +27,36 @@ refusal_at s command = refusal_of s.edition s.identity s.config command
 abbrev pub fault_at : State → List ℕ → Option TxFault
 fault_at s plain = first (tx_faults (tx_side s) plain)
 
+-- The first command that waits is taken in hand: none was, and no reason holds to refuse it.
+abbrev pub TakesFirst : State → State → Type 0
+TakesFirst old new = (w : Waiting) × (rest : List Waiting) × (old.waiting ≡ w ∷ rest) × (old.in_hand ≡ None) × (refusal_at old w.command ≡ None)
+    × (new ≡ state_with_in_hand old w.command)
+
 -- What an answer says of reasons, and what a refusal leaves. A command is refused for the first reason that holds, is done only where none does, and is
--- answered Busy only where one waits; the first that waits is refused so where it is not in hand, and leaves the queue. A plain frame is refused for its
--- first fault, or for want of a number where it has none; nothing is in `out` then. A refusal changes nothing else.
+-- answered Busy where one waits, and there alone; only one that is not refused is in hand after a device fault. The first that waits is refused so where it
+-- is not in hand, and leaves the queue. A refill is Busy where one waits, and there alone. A step that finds no work, or ends a reservation, changes nothing;
+-- one that goes on with work, or whose device call fails, may have taken the first that waits in hand.
+-- A plain frame is refused for its first fault, or for want of a number where it has none; nothing is in `out` then. A refusal changes nothing else.
 abbrev pub IsExact : State → Call → Reply → State → Type 0
 IsExact old (Commands command) (Ran (Ok done)) new = (old.waiting ≡ []) × (refusal_at old command ≡ None)
 IsExact old (Commands command) (Ran (Err ran.Busy)) new = (old.waiting ≢ []) × (new ≡ old)
 IsExact old (Commands command) (Ran (Err (ran.Refused refusal))) new = (old.waiting ≡ []) × (refusal_at old command ≡ Some refusal) × (new ≡ old)
 IsExact old (Commands command) (Ran (Err ran.GenerationsSpent)) new = (old.waiting ≡ []) × (refusal_at old command ≡ None) × (new ≡ old)
+IsExact old (Commands command) (Ran (Err ran.Disk)) new =
+    (old.waiting ≡ []) × (refusal_at old command ≡ None) × (new ≡ state_after_fault (state_with_in_hand old command))
+IsExact old Refills (Refilled (Ok done)) new = (old.waiting ≡ []) × (new ≡ old)
+IsExact old Refills (Refilled (Err refill.Disk)) new = (old.waiting ≡ []) × (new ≡ state_after_fault old)
 IsExact old Refills (Refilled (Err refill.Busy)) new = (old.waiting ≢ []) × (new ≡ old)
 IsExact old Refills (Refilled (Err refill.GenerationsSpent)) new = (old.waiting ≡ []) × (new ≡ old)
 IsExact old (Submits command) (Submitted (Err submit.QueueFull)) new = (queue_length ≤ length old.waiting) × (new ≡ old)
 IsExact old (Submits command) (Submitted (Err submit.TicketsSpent)) new =
     (length old.waiting < queue_length) × (last_ticket ≤ old.tickets) × (new ≡ old)
+IsExact old (Submits command) (Submitted (Ok ticket)) new =
+    (length old.waiting < queue_length) × (old.tickets < last_ticket) × (new ≡ state_with_waiting old command)
+IsExact old Advances (Advanced (Ok Idle)) new = new ≡ old
+IsExact old Advances (Advanced (Ok Reserved)) new = new ≡ old
+IsExact old Advances (Advanced (Ok Worked)) new = (new ≡ old) ⊎ TakesFirst old new
+IsExact old Advances (Advanced (Err step.Disk)) new = (new ≡ state_after_fault old) ⊎ ((mid : State) × TakesFirst old mid × (new ≡ state_after_fault mid))
 IsExact old Advances (Advanced (Ok (Done ticket (Ok done)))) new =
     (w : Waiting) × (rest : List Waiting) × (old.waiting ≡ w ∷ rest) × (ticket ≡ w.ticket) × (refusal_at old w.command ≡ None)
 IsExact old Advances (Advanced (Ok (Done ticket (Err (ran.Refused refusal))))) new =

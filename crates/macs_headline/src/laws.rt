@@ -12,25 +12,31 @@ ghost use Rattle.macs_disk.specs.declared.file.FileDisk.{FileDisk};
 ghost use Rattle.macs_disk.specs.declared.layout.Layout.{Layout};
 ghost use Rattle.macs_journal.specs.Areas.{least_sectors};
 ghost use Rattle.macs_headline.specs.Answered.{AnswersAreHeld, MomentsAreHistories};
-ghost use Rattle.macs_headline.specs.Binding.{CallsAreDeeds, ChainsAnswer, ChainsKeepSizes, DeedsAreHistories, EndsAreCuts};
+ghost use Rattle.macs_headline.specs.Binding.{CallsAreDeeds, ChainsAnswer, ChainsKeepSizes, ChainsTell, DeedsAreHistories, EndsAreCuts};
 ghost use Rattle.macs_headline.specs.Binding.{FramesAreDeliveredOnce, FramesAreWrittenOnce};
-ghost use Rattle.macs_headline.specs.Binding.{FusesChangeNone, IsNewDisk, LargerFind, LargerGoOn, LivesAreMoments, LivesFit, LivesKeepCommands, LivesKeepTickets};
+ghost use Rattle.macs_headline.specs.Binding.{FusesChangeNone, IsNewDisk, LargerFind, LargerGoOn, LivesAreMoments, LivesFit, LivesFitUnbegun, LivesKeepCommands};
+ghost use Rattle.macs_headline.specs.Binding.{LivesKeepTickets, TheseAreNew};
 ghost use Rattle.macs_headline.specs.Binding.{NewDeedsAreHistories};
 ghost use Rattle.macs_headline.specs.Binding.{NewDisksHaveHistories, OpeningsFind, PassedOnHaveHistories, RefusalsAreFailures, SettledHaveHistories};
-ghost use Rattle.macs_headline.specs.Commands.{CommandsKept, InHandWasGiven};
+ghost use Rattle.macs_headline.specs.Begun.{InHandWasBegun};
+ghost use Rattle.macs_headline.specs.Commands.{CommandsKept, FindsOne, InHandWasGiven};
 ghost use Rattle.macs_headline.specs.Configurations.{ConfigurationIs};
 ghost use Rattle.macs_headline.specs.Deliveries.{DeliveredBelow, DeliveriesAreVerified, GivenOnce, NeverOkAgain, OthersAreBare};
 ghost use Rattle.macs_headline.specs.Endings.{DroppedPassOn, EndsAreEarlier, KillingsPassOn, LosesPower, PassedOnAgain, PowerLossesPassOn};
 ghost use Rattle.macs_headline.specs.Endings.{ReadsPassOn, SyncsPassOn, WritesBackAsSyncs, WrittenBackPassOn};
 ghost use Rattle.macs_headline.specs.ExampleLives.{IsWorkedHistory};
+ghost use Rattle.macs_headline.specs.Formats.{FormatsOnce, RefusedByHistory};
 ghost use Rattle.macs_headline.specs.Frames.{FramesAreStandard, WrittenBelow, WrittenOnce};
+ghost use Rattle.macs_headline.specs.GoingOn.{LivesGoOn};
 ghost use Rattle.macs_headline.specs.Logged.{LogsAreAnswers};
 ghost use Rattle.macs_headline.specs.Numbers.{GivenApart, GivenBelow, NothingForgotten, OkApart, SkipsFew, SkipsFewReceived};
 ghost use Rattle.macs_headline.specs.Numbers.{UsedBelow, UsedOnce, UsedOnceAtEnd};
 ghost use Rattle.macs_headline.specs.Received.{HeldAreAhead, SeenAreVerified, UnverifiedAreSettled};
 ghost use Rattle.macs_headline.specs.Refused.{RefusalsAreExact};
+ghost use Rattle.macs_headline.specs.Steps.{StepsAreOne, StepsAreTaken};
 ghost use Rattle.macs_headline.specs.Stopping.{StoppedStays};
 ghost use Rattle.macs_headline.specs.Tickets.{TicketsKept};
+ghost use Rattle.macs_headline.specs.Windows.{WindowsAreKept};
 ghost use Rattle.macs_headline.specs.Openings.{IdentityWasGiven, NothingChanges, RefusedForDisk, RefusedForDiskOrBlank};
 
 use crate::example::peer_frame_in_range;
@@ -46,6 +52,9 @@ pub fn headline()
     ensures nothing_forgotten { (sectors : ℕ) → NothingForgotten sectors }
     // The lives up to a moment are a history.
     ensures moments_are_histories { (sectors : ℕ) → MomentsAreHistories sectors }
+    // They go on with each step, and each end of a life, of programs of any edition.
+    ensures lives_go_on { (sectors : ℕ) → LivesGoOn sectors }
+    ensures steps_are_taken { StepsAreTaken }
     // What any life answered was answered at a moment of the history, and what it used and delivered is held.
     ensures answers_are_held { (sectors : ℕ) → AnswersAreHeld sectors }
     // And nothing else is: what was used and delivered is what some life answered.
@@ -75,8 +84,12 @@ pub fn headline()
     ensures skips_few_received { (sectors : ℕ) → SkipsFewReceived sectors }
     // An opening finds a prefix of the accepted commands that holds every acknowledged one.
     ensures commands_kept { (sectors : ℕ) → CommandsKept sectors }
+    // Where nothing was in hand, that is one configuration; where a command was, that one or what the command makes of it.
+    ensures finds_one { FindsOne }
     // What is in hand where a life ends was given to a call of that life.
     ensures in_hand_was_given { (sectors : ℕ) → InHandWasGiven sectors }
+    // It is accepted, and work on it began in a step or in `command`, and in no other call.
+    ensures in_hand_was_begun { (sectors : ℕ) → InHandWasBegun sectors }
     // Over all lives: it finds what the kept commands of each make of the first configuration, and the identity of the `format` that answered Ok.
     ensures configuration_is { (sectors : ℕ) → ConfigurationIs sectors }
     // In one life tickets are given in order from 1, each is answered at most once, in order, and none is lost.
@@ -89,10 +102,14 @@ pub fn headline()
     ensures others_are_bare { (sectors : ℕ) → OthersAreBare sectors }
     // A frame that does not verify is discarded, or delivered under Check with C clear, by the first step that settles it.
     ensures unverified_are_settled { (sectors : ℕ) → UnverifiedAreSettled sectors }
+    // The lowest acceptable number of an association is at most the next one, and no further below it than the window.
+    ensures windows_are_kept { (sectors : ℕ) → WindowsAreKept sectors }
     // A frame that is held back verifies, and its number is not below the next one.
     ensures held_are_ahead { (sectors : ℕ) → HeldAreAhead sectors }
     // The greatest number that was seen on an association is that of a frame that verified there.
     ensures seen_are_verified { (sectors : ℕ) → SeenAreVerified sectors }
+    // The state before a call, the call and its answer settle the state after it.
+    ensures steps_are_one { StepsAreOne }
     // A call is refused for the first reason that holds, and changes nothing then.
     ensures refusals_are_exact { (sectors : ℕ) → RefusalsAreExact sectors }
     // After a device fault each call is answered that the endpoint is stopped, and changes nothing; before one none is.
@@ -101,6 +118,10 @@ pub fn headline()
     ensures refused_for_disk { (sectors : ℕ) → RefusedForDisk sectors }
     // Before that it may also find no journal.
     ensures refused_for_disk_or_blank { (sectors : ℕ) → RefusedForDiskOrBlank sectors }
+    // So it is over the lives of a history: as not formatted only where none of them formatted the disk for sure.
+    ensures refused_by_history { (sectors : ℕ) → RefusedByHistory sectors }
+    // And `format` answers Ok once at most, and after no opening that succeeded.
+    ensures formats_once { (sectors : ℕ) → FormatsOnce sectors }
     // A refused opening, and a `format` of a formatted disk, change nothing.
     ensures nothing_changes { (sectors : ℕ) → NothingChanges sectors }
     // An opening finds an identity that some `format` was given.
@@ -110,6 +131,8 @@ pub fn headline()
 /// Where a history begins, and which disks have it.
 pub fn beginnings()
     ensures new { NewDisksHaveHistories }
+    // New is each honest disk that is large enough and shows no open head gate.
+    ensures as_new { TheseAreNew }
     // One with nothing pending has each history after which a program may come upon what is on it.
     ensures settled { SettledHaveHistories }
     // A program of a larger edition goes on from the history that those of a smaller one made.
@@ -153,6 +176,8 @@ pub fn histories<D: SectorDisk>()
     ensures sizes { ChainsKeepSizes D.disk }
     // What their endpoints answered is among what the lives answered.
     ensures answers { ChainsAnswer D.disk }
+    // And so is what `format` answered, and for what an opening was refused.
+    ensures told { ChainsTell D.disk }
     // From a disk that is new they are one.
     ensures from_new { NewDeedsAreHistories D.disk }
     // An opening finds what may be found after the history.
@@ -166,6 +191,8 @@ pub fn histories<D: SectorDisk>()
     // What is left after it is opened as a restart of the state in which it ended, with the command that the
     // call which was cut short may have begun.
     ensures fit { LivesFit D.disk }
+    // It has begun none where a ceiling is being raised, or where to raise one is next.
+    ensures fit_unbegun { LivesFitUnbegun D.disk }
     // What it acknowledged is kept.
     ensures commands { LivesKeepCommands D.disk }
     // Its tickets are kept, on every disk.

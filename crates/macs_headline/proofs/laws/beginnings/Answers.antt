@@ -1,9 +1,12 @@
-use Rattle.macs_headline.proofs.Chains.{fuses-change-none, new-disks, passed-on, settled-disks}
+use Rattle.macs_headline.proofs.Chains.{fuses-change-none, new-disks, passed-on, settled-disks, these-are-new}
 use Rattle.macs_headline.proofs.Older.{larger-find, older}
 use Rattle.macs_headline.proofs.laws.beginnings.Goals as goal
 
 pub returns-clause-new : goal.returns-clause-new
 returns-clause-new c = new-disks
+
+pub returns-clause-as_new : goal.returns-clause-as_new
+returns-clause-as_new c = these-are-new
 
 pub returns-clause-settled : goal.returns-clause-settled
 returns-clause-settled c = settled-disks

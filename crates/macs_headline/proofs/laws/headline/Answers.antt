@@ -1,16 +1,21 @@
 use Rattle.macs_headline.proofs.Answered.{answers-are-held, delivered-below, given-once, moments-are-histories, never-ok-again, written-below, written-once}
+use Rattle.macs_headline.proofs.Begun.{in-hand-was-begun}
 use Rattle.macs_headline.proofs.Commands.{commands-kept}
 use Rattle.macs_headline.proofs.Configurations.{configuration-is}
 use Rattle.macs_headline.proofs.Deliveries.{deliveries-are-verified, others-are-bare}
+use Rattle.macs_headline.proofs.FormatsOnce.{formats-once, refused-by-history}
+use Rattle.macs_headline.proofs.FoundOnce.{finds-one}
+use Rattle.macs_headline.proofs.GoingOn.{lives-go-on}
 use Rattle.macs_headline.proofs.HandedIn.{in-hand-was-given}
 use Rattle.macs_headline.proofs.Identities.{identity-was-given}
 use Rattle.macs_headline.proofs.Logged.{logs-are-answers}
 use Rattle.macs_headline.proofs.Logs.{nothing-forgotten}
-use Rattle.macs_headline.proofs.Numbers.{given-apart, given-below, ok-apart, skips-few, skips-few-received, used-below, used-once, used-once-at-end}
+use Rattle.macs_headline.proofs.Numbers.{given-apart, given-below, ok-apart, skips-few, skips-few-received, used-below, used-once, used-once-at-end, windows-are-kept}
 use Rattle.macs_headline.proofs.Openings.{nothing-changes, refused-for-disk, refused-for-disk-or-blank}
 use Rattle.macs_headline.proofs.Ranges.{frames-are-standard}
 use Rattle.macs_headline.proofs.Received.{held-are-ahead, seen-are-verified, unverified-are-settled}
 use Rattle.macs_headline.proofs.Refused.{refusals-are-exact}
+use Rattle.macs_headline.proofs.Steps.{steps-are-one, steps-are-taken}
 use Rattle.macs_headline.proofs.Stopping.{stopped-stays}
 use Rattle.macs_headline.proofs.Tickets.{tickets-kept}
 use Rattle.macs_headline.proofs.laws.headline.Goals as goal
@@ -20,6 +25,12 @@ returns-clause-nothing_forgotten c = nothing-forgotten
 
 pub returns-clause-moments_are_histories : goal.returns-clause-moments_are_histories
 returns-clause-moments_are_histories c = moments-are-histories
+
+pub returns-clause-lives_go_on : goal.returns-clause-lives_go_on
+returns-clause-lives_go_on c = lives-go-on
+
+pub returns-clause-steps_are_taken : goal.returns-clause-steps_are_taken
+returns-clause-steps_are_taken c = steps-are-taken
 
 pub returns-clause-logs_are_answers : goal.returns-clause-logs_are_answers
 returns-clause-logs_are_answers c = logs-are-answers
@@ -66,6 +77,12 @@ returns-clause-commands_kept c = commands-kept
 pub returns-clause-in_hand_was_given : goal.returns-clause-in_hand_was_given
 returns-clause-in_hand_was_given c = in-hand-was-given
 
+pub returns-clause-in_hand_was_begun : goal.returns-clause-in_hand_was_begun
+returns-clause-in_hand_was_begun c = in-hand-was-begun
+
+pub returns-clause-finds_one : goal.returns-clause-finds_one
+returns-clause-finds_one c = finds-one
+
 pub returns-clause-configuration_is : goal.returns-clause-configuration_is
 returns-clause-configuration_is c = configuration-is
 
@@ -96,6 +113,12 @@ returns-clause-held_are_ahead c = held-are-ahead
 pub returns-clause-seen_are_verified : goal.returns-clause-seen_are_verified
 returns-clause-seen_are_verified c = seen-are-verified
 
+pub returns-clause-windows_are_kept : goal.returns-clause-windows_are_kept
+returns-clause-windows_are_kept c = windows-are-kept
+
+pub returns-clause-steps_are_one : goal.returns-clause-steps_are_one
+returns-clause-steps_are_one c = steps-are-one
+
 pub returns-clause-refusals_are_exact : goal.returns-clause-refusals_are_exact
 returns-clause-refusals_are_exact c = refusals-are-exact
 
@@ -107,6 +130,12 @@ returns-clause-refused_for_disk c = refused-for-disk
 
 pub returns-clause-refused_for_disk_or_blank : goal.returns-clause-refused_for_disk_or_blank
 returns-clause-refused_for_disk_or_blank c = refused-for-disk-or-blank
+
+pub returns-clause-formats_once : goal.returns-clause-formats_once
+returns-clause-formats_once c = formats-once
+
+pub returns-clause-refused_by_history : goal.returns-clause-refused_by_history
+returns-clause-refused_by_history c = refused-by-history
 
 pub returns-clause-nothing_changes : goal.returns-clause-nothing_changes
 returns-clause-nothing_changes c = nothing-changes

@@ -1,5 +1,5 @@
-use Rattle.macs_headline.proofs.Chains.{calls-are-deeds, chains-answer, chains-keep-sizes, deeds-are-histories, new-deeds-are-histories}
-use Rattle.macs_headline.proofs.Moments.{ends-are-cuts, frames-are-delivered-once, frames-are-written-once, lives-are-moments, lives-fit, lives-keep-commands, openings-find}
+use Rattle.macs_headline.proofs.Chains.{calls-are-deeds, chains-answer, chains-keep-sizes, chains-tell, deeds-are-histories, new-deeds-are-histories}
+use Rattle.macs_headline.proofs.Moments.{ends-are-cuts, frames-are-delivered-once, frames-are-written-once, lives-are-moments, lives-fit, lives-fit-unbegun, lives-keep-commands, openings-find}
 use Rattle.macs_headline.proofs.Refusals.{refusals-are-failures}
 use Rattle.macs_headline.proofs.Tickets.{lives-keep-tickets}
 use Rattle.macs_headline.proofs.laws.histories.Goals as goal
@@ -9,6 +9,9 @@ returns-clause-sizes g c = chains-keep-sizes g.D.SectorDisk.disk g.met.D.SectorD
 
 pub returns-clause-fit : goal.returns-clause-fit
 returns-clause-fit g c = lives-fit g.D.SectorDisk.disk g.met.D.SectorDisk.sound
+
+pub returns-clause-fit_unbegun : goal.returns-clause-fit_unbegun
+returns-clause-fit_unbegun g c = lives-fit-unbegun g.D.SectorDisk.disk g.met.D.SectorDisk.sound
 
 pub returns-clause-whole : goal.returns-clause-whole
 returns-clause-whole g c = deeds-are-histories g.D.SectorDisk.disk g.met.D.SectorDisk.sound
@@ -42,6 +45,9 @@ returns-clause-found g c = openings-find g.D.SectorDisk.disk g.met.D.SectorDisk.
 
 pub returns-clause-tickets : goal.returns-clause-tickets
 returns-clause-tickets g c = lives-keep-tickets g.D.SectorDisk.disk
+
+pub returns-clause-told : goal.returns-clause-told
+returns-clause-told g c = chains-tell g.D.SectorDisk.disk
 
 pub returns-clause-answers : goal.returns-clause-answers
 returns-clause-answers g c = chains-answer g.D.SectorDisk.disk

@@ -1,0 +1,28 @@
+-- The headline on the command in hand: where work on it may have begun, and that it is accepted.
+use Rattle.std.specs.Prelude.{◌≡◌, ◌⊎◌, ℕ, List, [], Option, Some, None}
+use Rattle.macs_config.specs.declared.command.Command.{Command}
+use Rattle.macs_endpoint.specs.Queue.{first_command}
+use Rattle.macs_endpoint.specs.State.{Advances, Call, Commands, State}
+use Rattle.macs_endpoint.specs.Step.{Exchange}
+use Rattle.macs_endpoint.specs.declared.queue.Waiting.{Waiting}
+use Rattle.macs_headline.specs.Commands.{waiting_at_end}
+use Rattle.macs_headline.specs.History.{state_at_end}
+use Rattle.macs_headline.specs.Moments.{Moment}
+use Rattle.macs_headline.specs.Refused.{refusal_at}
+
+-- Work on the command may begin in this call, where these wait: in a step, on the first of them; and in `command`, on the one that it is given, where none
+-- waits. In no other call.
+abbrev pub MayBegin : Option Call → List Waiting → Command → Type 0
+MayBegin (Some Advances) waiting command = first_command waiting ≡ Some command
+MayBegin (Some (Commands given)) [] command = given ≡ command
+MayBegin cut waiting command = ⊥
+
+-- A command was in hand after the last answer, or work on it may have begun in the call that was cut short; and no reason holds to refuse it.
+pub record WasBegun (exchanges : List Exchange) (last : State) (cut : Option Call) (command : Command) : Type 0 where
+  pub begun : (last.in_hand ≡ Some command) ⊎ MayBegin cut (waiting_at_end exchanges) command
+  pub accepted : refusal_at last command ≡ None
+
+-- so it is of what is in hand at whatever moment a life ends, in the midst of a call or not
+abbrev pub InHandWasBegun : ℕ → Type 0
+InHandWasBegun sectors = (last : State) (m : Moment sectors last) (cut : Option Call) (command : Command)
+    → (state_at_end last cut).in_hand ≡ Some command → WasBegun m.exchanges last cut command
