@@ -2,7 +2,7 @@
 use Rattle.std.proofs.Common.{◌≡◌, ◌==◌, ◌∙◌, ◌↔◌, if◌then◌else◌, [], ◌∷◌, ◌||◌, ◌&&◌, ◌<◌, ℕ, List, Bool, true, false, not, nat_le, length, get_or, Option, Some, None, is_none, is_some, Result, Ok, Err, refl, sym, ap, arith}
 use Rattle.std.proofs.lemmas.Bool.{eq-eqb, ne_eqb}
 use Rattle.std.proofs.lemmas.List.{get_or_default}
-use Rattle.macs_aes.specs.Keys.{HasItsLength, key_of_octets-octets_of_key, octets_of_key}
+use Rattle.macs_aes.specs.Keys.{HasItsLength, key_of_octets, key_of_octets-octets_of_key, octets_of_key}
 use Rattle.macs_aes.specs.declared.keys.Key.{Key}
 use Rattle.macs_frame.specs.Fields.{octets_of}
 use Rattle.macs_frame.specs.First.{first}
@@ -12,8 +12,9 @@ use Rattle.macs_config.specs.Apply.{answer_or_refusal, config_after, offset_at, 
 use Rattle.macs_config.specs.Association.{is_confidential, offset_of}
 use Rattle.macs_config.specs.Config.{Config, has_channel, is_spent, max_spent, rx_fingerprint, takes_key, this_edition, tx_fingerprint}
 use Rattle.macs_config.specs.Identity.{Identity}
-use Rattle.macs_config.specs.Judged.{IsJudged, asked_by, config_changed, judged_of, judged_of-asked_by, octets-back}
+use Rattle.macs_config.specs.Judged.{IsJudged, asked_by, config_changed, judged_of, judged_of-asked_by, octets-back, rx_install, tx_install}
 use Rattle.macs_config.specs.declared.association.Protection.{Protection}
+use Rattle.macs_config.specs.declared.association.RxSa.{RxSa}
 use Rattle.macs_config.specs.declared.association.TxSa.{TxSa}
 use Rattle.macs_config.specs.declared.association.Protection.TheVariants.{Confidentiality, Integrity}
 use Rattle.macs_config.specs.declared.checked.Judged.{Judged}
@@ -65,12 +66,12 @@ a-protection-of : (p : Protection) → is_wrong (is_confidential p) (octets_of (
 a-protection-of Integrity = refl
 a-protection-of (Confidentiality offset) = refl
 
-right-offset : (offset : Offset) → is_none (offset_at (octets_of offset)) ≡ false
+pub right-offset : (offset : Offset) → is_none (offset_at (octets_of offset)) ≡ false
 right-offset Zero = refl
 right-offset Thirty = refl
 right-offset Fifty = refl
 
-right-protection : (p : Protection) → (is_none (offset_at (octets_of (offset_of p))) || is_wrong (is_confidential p) (octets_of (offset_of p))) ≡ false
+pub right-protection : (p : Protection) → (is_none (offset_at (octets_of (offset_of p))) || is_wrong (is_confidential p) (octets_of (offset_of p))) ≡ false
 right-protection Integrity = refl
 right-protection (Confidentiality Zero) = refl
 right-protection (Confidentiality Thirty) = refl
@@ -204,22 +205,25 @@ module _ (identity : Identity) (c : Config) (an : ℕ) (key : Key) (start : ℕ)
         pub tx-passes : None ≡ key_refused tx_spent tx_full tx_long → Ok tx_asked ≡ tx_answer
         tx-passes = by-none tx_asked (start == 0) tx_wrong false (is_some (c.tx an)) tx_spent tx_full tx_long above right refl free
 
--- what was judged of it
-module _ (an : ℕ) (key : Key) (size : HasItsLength key) (start : ℕ) (p : Protection) where
-  pub tx-judged : (spent full : Bool) → 0 < start → None ≡ key_refused spent full (not (takes_key this_edition (octets_of_key key)))
-      → IsJudged (judged.TxInstall an (record { key = octets_of_key key; protection = p }) start (tx_fingerprint (octets_of_key key)))
-  tx-judged spent full above unrefused = (
-    ap (λ (k : List ℕ). Some (tx_fingerprint k)) (sym (octets-back (octets_of_key key))),
+module _ (an : ℕ) (sa : TxSa) (start : ℕ) where
+  -- what was judged of it
+  pub tx-judged : (fingerprint : List ℕ) (spent full : Bool) → 0 < start → fingerprint ≡ tx_fingerprint sa.key
+      → None ≡ key_refused spent full (not (takes_key this_edition (octets_of_key (key_of_octets sa.key))))
+      → IsJudged (judged.TxInstall an sa start fingerprint)
+  tx-judged fingerprint spent full above is unrefused = (
+    ap Some (is ∙ ap tx_fingerprint (sym (octets-back sa.key))),
     a-start start above,
-    right-protection p,
-    ap (λ (k : List ℕ). not (takes_key this_edition k)) (octets-back (octets_of_key key)) ∙ key-taken spent full _ unrefused,
+    right-protection sa.protection,
+    key-taken spent full _ unrefused,
   )
 
-  pub tx-asked : (from : ℕ) (confidential : Bool) (octets : ℕ) → start ≡ from → confidential ≡ is_confidential p → octets ≡ octets_of (offset_of p)
-      → asked_by (judged.TxInstall an (record { key = octets_of_key key; protection = p }) start (tx_fingerprint (octets_of_key key)))
-      ≡ TxInstall an key from confidential octets
-  tx-asked from confidential octets first hidden clear =
-      λ i. TxInstall an (key_of_octets-octets_of_key key size i) (first i) (sym hidden i) (sym clear i)
+  -- the command that asked for it
+  pub tx-asked : (key : Key) → HasItsLength key → (from : ℕ) (confidential : Bool) (octets : ℕ) → sa.key ≡ octets_of_key key → start ≡ from
+      → confidential ≡ is_confidential sa.protection → octets ≡ octets_of (offset_of sa.protection)
+      → tx_install an sa start ≡ TxInstall an key from confidential octets
+  tx-asked key size from confidential octets of first hidden clear =
+      let back = ap key_of_octets of ∙ key_of_octets-octets_of_key key size in
+      λ i. TxInstall an (back i) (first i) (sym hidden i) (sym clear i)
 
 -- ---- a receive install
 
@@ -264,18 +268,21 @@ module _ (identity : Identity) (c : Config) (sci : List ℕ) (an : ℕ) (key : K
           pub rx-passes : None ≡ key_refused rx_spent rx_full rx_long → Ok rx_asked ≡ rx_answer
           rx-passes = by-none rx_asked (start == 0) (is_none (offset_at octets)) rx_none (is_some (c.rx sci an)) rx_spent rx_full rx_long above right there free
 
--- what was judged of it
-module _ (sci : List ℕ) (an : ℕ) (key : Key) (size : HasItsLength key) (start : ℕ) (offset : Offset) where
-  pub rx-judged : (spent full : Bool) → 0 < start → None ≡ key_refused spent full (not (takes_key this_edition (octets_of_key key)))
-      → IsJudged (judged.RxInstall sci an (record { key = octets_of_key key; offset = offset }) start (rx_fingerprint sci (octets_of_key key)))
-  rx-judged spent full above unrefused = (
-    ap (λ (k : List ℕ). Some (rx_fingerprint sci k)) (sym (octets-back (octets_of_key key))),
+module _ (sci : List ℕ) (an : ℕ) (sa : RxSa) (start : ℕ) where
+  -- what was judged of it
+  pub rx-judged : (fingerprint : List ℕ) (spent full : Bool) → 0 < start → fingerprint ≡ rx_fingerprint sci sa.key
+      → None ≡ key_refused spent full (not (takes_key this_edition (octets_of_key (key_of_octets sa.key))))
+      → IsJudged (judged.RxInstall sci an sa start fingerprint)
+  rx-judged fingerprint spent full above is unrefused = (
+    ap Some (is ∙ ap (rx_fingerprint sci) (sym (octets-back sa.key))),
     a-start start above,
-    right-offset offset,
-    ap (λ (k : List ℕ). not (takes_key this_edition k)) (octets-back (octets_of_key key)) ∙ key-taken spent full _ unrefused,
+    right-offset sa.offset,
+    key-taken spent full _ unrefused,
   )
 
-  pub rx-asked : (from octets : ℕ) → start ≡ from → octets ≡ octets_of offset
-      → asked_by (judged.RxInstall sci an (record { key = octets_of_key key; offset = offset }) start (rx_fingerprint sci (octets_of_key key)))
-      ≡ RxInstall sci an key from octets
-  rx-asked from octets first clear = λ i. RxInstall sci an (key_of_octets-octets_of_key key size i) (first i) (sym clear i)
+  -- the command that asked for it
+  pub rx-asked : (key : Key) → HasItsLength key → (from octets : ℕ) → sa.key ≡ octets_of_key key → start ≡ from → octets ≡ octets_of sa.offset
+      → rx_install sci an sa start ≡ RxInstall sci an key from octets
+  rx-asked key size from octets of first clear =
+      let back = ap key_of_octets of ∙ key_of_octets-octets_of_key key size in
+      λ i. RxInstall sci an (back i) (first i) (sym clear i)

@@ -12,23 +12,32 @@ use Rattle.macs_config.specs.Config.{Config, put_among, rx_fingerprint, this_edi
 use Rattle.macs_config.specs.Tables.{put, put_at}
 use Rattle.macs_config.specs.declared.association.Protection.{Protection}
 use Rattle.macs_config.specs.declared.association.Protection.TheVariants.{Integrity, Confidentiality}
+use Rattle.macs_config.specs.declared.association.RxSa.{RxSa}
+use Rattle.macs_config.specs.declared.association.TxSa.{TxSa}
 use Rattle.macs_config.specs.declared.checked.Judged.{Judged}
 use Rattle.macs_config.specs.declared.checked.Judged.TheVariants as judged
 use Rattle.macs_config.specs.declared.command.Command.{Command}
 use Rattle.macs_config.specs.declared.command.Command.TheVariants.{SetValidate, SetReplay, SetSciMode, TxInstall, TxUse, TxRemove, RxAdd, RxDrop, RxInstall, RxRemove}
+
+-- the command that installs a transmit association, with its first packet number
+abbrev pub tx_install : ℕ → TxSa → ℕ → Command
+tx_install an sa start = TxInstall an (key_of_octets sa.key) start (is_confidential sa.protection) (octets_of (offset_of sa.protection))
+
+-- the command that installs a receive association of a channel, with its first packet number
+abbrev pub rx_install : List ℕ → ℕ → RxSa → ℕ → Command
+rx_install sci an sa start = RxInstall sci an (key_of_octets sa.key) start (octets_of sa.offset)
 
 -- the command
 abbrev pub asked_by : Judged → Command
 asked_by (judged.SetValidate validate) = SetValidate validate
 asked_by (judged.SetReplay on window) = SetReplay on window
 asked_by (judged.SetSciMode mode) = SetSciMode mode
-asked_by (judged.TxInstall an sa start fingerprint) =
-    TxInstall an (key_of_octets sa.key) start (is_confidential sa.protection) (octets_of (offset_of sa.protection))
+asked_by (judged.TxInstall an sa start fingerprint) = tx_install an sa start
 asked_by (judged.TxUse an) = TxUse an
 asked_by (judged.TxRemove an) = TxRemove an
 asked_by (judged.RxAdd sci) = RxAdd sci
 asked_by (judged.RxDrop sci) = RxDrop sci
-asked_by (judged.RxInstall sci an sa start fingerprint) = RxInstall sci an (key_of_octets sa.key) start (octets_of sa.offset)
+asked_by (judged.RxInstall sci an sa start fingerprint) = rx_install sci an sa start
 asked_by (judged.RxRemove sci an) = RxRemove sci an
 
 -- the fingerprint that is kept for it, if it installs

@@ -4,7 +4,7 @@ ghost use Rattle.std.specs.Prelude.{◌≡◌, Some, None, not, length, nat_le, 
 ghost use Rattle.macs_config.specs.Apply.{refusal_of, answer_or_refusal};
 ghost use Rattle.macs_config.specs.Config.{is_spent, max_spent, takes_key, this_edition};
 ghost use Rattle.macs_config.specs.Identity.{is_port_one};
-ghost use Rattle.macs_config.specs.Judged.{IsJudged, asked_by};
+ghost use Rattle.macs_config.specs.Judged.{IsJudged, asked_by, rx_install, tx_install};
 ghost use Rattle.macs_config.specs.Value.{config_in};
 ghost use Rattle.macs_config.specs.declared.command.Command.TheVariants.{SetSciMode, TxInstall, TxUse, TxRemove, RxAdd, RxDrop, RxInstall, RxRemove};
 ghost use Rattle.macs_config.specs.declared.refusal.Refusal.TheVariants.{KeySpent, LongKey, SpentFull};
@@ -123,16 +123,25 @@ fn check_tx_install(
     let Some(protection) = Protection::chosen(confidential, offset) else {
         return Err(Refusal::OffsetChoice);
     };
+    let _octets = key.as_slice(); // Whether it is short or long goes by their number.
+    let key = KeyOctets::of(*key);
+    check_tx(contents, an, TxSa { key, protection }, start)
+}
+
+/// What is judged of an install of a transmit association.
+pub(crate) fn check_tx(contents: &Contents, an: An, sa: TxSa, start: Pn) -> Result<Checked, Refusal>
+    ensures { (identity : _) → result ≡ answer_or_refusal (refusal_of this_edition identity (config_in contents.now)
+        (tx_install an sa start)) (tx_install an sa start) }
+{
+    let _number = start.get(); // It is above 0.
     if contents.tx[an.get() as usize].is_some() {
         return Err(Refusal::SlotTaken);
     }
-    let octets = key.as_slice();
+    let octets = sa.key.as_slice();
     let fingerprint = tx_fingerprint(octets);
     if let Some(refusal) = key_refusal(&contents.spent_tx, octets, &fingerprint) {
         return Err(refusal);
     }
-    let key = KeyOctets::of(*key);
-    let sa = TxSa { key, protection };
     Ok(Checked::of(Judged::TxInstall {
         an,
         sa,
@@ -204,19 +213,34 @@ fn check_rx_install(
     let Some(offset) = Offset::new(offset) else {
         return Err(Refusal::OffsetChoice);
     };
+    let _octets = key.as_slice(); // Whether it is short or long goes by their number.
+    let key = KeyOctets::of(*key);
+    check_rx(contents, sci, an, RxSa { key, offset }, start)
+}
+
+/// What is judged of an install of a receive association.
+pub(crate) fn check_rx(
+    contents: &Contents,
+    sci: Sci,
+    an: An,
+    sa: RxSa,
+    start: Pn,
+) -> Result<Checked, Refusal>
+    ensures { (identity : _) → result ≡ answer_or_refusal (refusal_of this_edition identity (config_in contents.now)
+        (rx_install sci an sa start)) (rx_install sci an sa start) }
+{
+    let _number = start.get(); // It is above 0.
     if !contents.has_channel(sci) {
         return Err(Refusal::NoChannel);
     }
     if contents.rx(sci, an).is_some() {
         return Err(Refusal::SlotTaken);
     }
-    let octets = key.as_slice();
+    let octets = sa.key.as_slice();
     let fingerprint = rx_fingerprint(sci, octets);
     if let Some(refusal) = key_refusal(&contents.spent_rx, octets, &fingerprint) {
         return Err(refusal);
     }
-    let key = KeyOctets::of(*key);
-    let sa = RxSa { key, offset };
     Ok(Checked::of(Judged::RxInstall {
         sci,
         an,

@@ -137,7 +137,7 @@ fn asked_by(judged: &Judged) -> Command
 }
 
 /// The key that an association has.
-pub fn key_of(octets: KeyOctets) -> Key
+fn key_of(octets: KeyOctets) -> Key
     ensures { result ≡ key_of_octets octets }
 {
     let key = octets.get();

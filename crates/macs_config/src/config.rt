@@ -3,14 +3,15 @@
 ghost use Rattle.std.specs.Prelude.{◌≡◌, ◌≤◌, ◌↔◌, ℕ, List, false, if◌then◌else◌, length, slice_get, IfSome, None, Some, Ok, Err, IfOk, OnOk, OnErr};
 ghost use Rattle.std.specs.Option.{option_map};
 ghost use Rattle.macs_aes.specs.Keys.{octets_of_key};
-ghost use Rattle.macs_config.specs.Apply.{apply, refusal_of};
+ghost use Rattle.macs_config.specs.Apply.{answer_or_refusal, apply, refusal_of};
 ghost use Rattle.macs_config.specs.Config.{IsConfig, default, has_channel, is_spent, rx_fingerprint, spent_of, this_edition, tx_fingerprint};
+ghost use Rattle.macs_config.specs.Judged.{rx_install, tx_install};
 ghost use Rattle.macs_config.specs.Snapshot.{config_of_listed, config_of_parts};
 ghost use Rattle.macs_config.specs.Value.{config_of};
 
 use crate::association::{RxSa, TxSa};
 use crate::change::change;
-use crate::check::check;
+use crate::check::{check, check_rx, check_tx};
 use crate::checked::Checked;
 use crate::command::{Command, Replay, Role, SciMode, Validate};
 use crate::contents::{Contents, MAX_CHANNELS};
@@ -22,7 +23,7 @@ use crate::refusal::Refusal;
 use crate::restore::restore;
 use arrayvec::ArrayVec;
 use macs_aes::Key;
-use macs_frame::{An, Sci};
+use macs_frame::{An, Pn, Sci};
 use std::marker::Model;
 
 /// The configuration of an endpoint: what its operator has commanded, and which keys are spent. It
@@ -100,6 +101,22 @@ impl Config {
         ensures checked { IfOk result (λ checked. checked ≡ command.now) }
     {
         check(&self.contents, &self.identity, command)
+    }
+
+    /// What `check` judges of the command that installs this transmit association.
+    pub fn check_tx(&self, an: An, sa: TxSa, start: Pn) -> Result<Checked, Refusal>
+        ensures { result ≡ answer_or_refusal (refusal_of this_edition self.now.identity (config_of self.now)
+            (tx_install an sa start)) (tx_install an sa start) }
+    {
+        check_tx(&self.contents, an, sa, start)
+    }
+
+    /// What `check` judges of the command that installs this receive association.
+    pub fn check_rx(&self, sci: Sci, an: An, sa: RxSa, start: Pn) -> Result<Checked, Refusal>
+        ensures { result ≡ answer_or_refusal (refusal_of this_edition self.now.identity (config_of self.now)
+            (rx_install sci an sa start)) (rx_install sci an sa start) }
+    {
+        check_rx(&self.contents, sci, an, sa, start)
     }
 
     /// Applies a command that this configuration does not refuse, as its check judged it.

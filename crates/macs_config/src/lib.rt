@@ -20,7 +20,7 @@ mod restore;
 mod spent_keys;
 
 pub use association::{Protection, RxSa, TxSa};
-pub use checked::{Checked, Judged, key_of};
+pub use checked::{Checked, Judged};
 pub use command::{Command, Replay, Role, SciMode, Validate};
 pub use config::Config;
 pub use contents::MAX_CHANNELS;

@@ -9,12 +9,13 @@ ghost use Rattle.macs_config.specs.Snapshot.{config_of_parts};
 ghost use Rattle.macs_config.specs.Value.{config_of};
 ghost use Rattle.macs_config.specs.declared.part.Part.{Part};
 ghost use Rattle.macs_record.specs.Commands.{record_of};
-ghost use Rattle.macs_store.specs.Replay.{standing_after_record, standing_after_records, snapshot_parts, replay_of, is_raise, snapshot_of, ceilings_with_records};
+ghost use Rattle.macs_store.specs.Commands.{command_of};
+ghost use Rattle.macs_store.specs.Replay.{standing_after_command, standing_after_record, standing_after_records, snapshot_parts, replay_of, is_raise, snapshot_of, ceilings_with_records};
 ghost use Rattle.macs_store.specs.Standing.{IsStanding, accept, ceilings_after, new_standing, no_ceilings, standing_with_rx_ceiling, standing_with_tx_ceiling};
 ghost use Rattle.macs_store.specs.Table.{StandingValue, table_ceilings, table_scis, standing_of};
 
 use crate::ahead::ahead;
-use crate::reading::{Snapshot, command_of};
+use crate::reading::{Snapshot, plain_command_of};
 use crate::table::CeilingTable;
 use macs_config::{Checked, Command, Config, Identity, Judged, Refusal};
 use macs_frame::{An, Sci};
@@ -94,10 +95,28 @@ impl Standing {
         match value {
             Record::TxCeiling { an, ceiling } => self.follow_tx(*an, *ceiling),
             Record::RxCeiling { sci, an, ceiling } => self.follow_rx(*sci, *an, *ceiling),
-            _ => match command_of(value) {
-                Some(command) => self.accept(&command).is_ok(),
+            _ => match self.judge(value) {
+                Some(checked) => {
+                    self.accept_checked(&checked);
+                    true
+                }
                 None => false,
             },
+        }
+    }
+
+    /// What is judged of the command that a record keeps; `None` where it keeps none, and where the configuration
+    /// refuses the command.
+    fn judge(&self, value: &Record) -> Option<Checked>
+        ensures fits { IfSome result (λ command. (command_of value.now ≡ Some command) × IsOk (accept (standing_of self.now) command)) }
+        ensures refused { result ≡ None → standing_after_command (standing_of self.now) (command_of value.now) ≡ None }
+    {
+        match value {
+            Record::TxInstall { an, sa, start } => self.config.check_tx(*an, *sa, *start).ok(),
+            Record::RxInstall { sci, an, sa, start } => {
+                self.config.check_rx(*sci, *an, *sa, *start).ok()
+            }
+            _ => self.config.check(&plain_command_of(value)?).ok(),
         }
     }
 
@@ -163,17 +182,6 @@ impl Standing {
         ensures refused { (refusal : Refusal) → (result ≡ Err refusal) ↔ (accept (standing_of self.now) command.now ≡ Err refusal) }
     {
         self.config.check(command)
-    }
-
-    /// Applies a command. A refusal, the first in the order of `Refusal`, changes nothing.
-    fn accept(&mut self, command: &Command) -> Result<(), Refusal>
-        ensures accepted { OnOk result (accept (standing_of self.old) command.now ≡ Ok (standing_of self.new)) }
-        ensures refused { (refusal : Refusal) → (result ≡ Err refusal) ↔ (accept (standing_of self.old) command.now ≡ Err refusal) }
-        ensures same { OnErr result (self.new ≡ self.old) }
-    {
-        let checked = self.check(command)?;
-        self.accept_checked(&checked);
-        Ok(())
     }
 
     /// Applies a command that fits the configuration, as its check judged it.
