@@ -16,14 +16,16 @@ use Rattle.macs_config.specs.declared.command.SciMode.TheVariants.{Explicit, End
 use Rattle.macs_config.specs.declared.command.Role.{Role}
 use Rattle.macs_config.specs.declared.command.Role.TheVariants.{Transmit, Receive}
 
--- what an edition of the product takes: how many receive channels, and whether keys of 32 octets beside those of 16
+-- what an edition of the product takes: how many receive channels, whether keys of 32 octets beside those of 16, and whether areas of
+-- format two beside those of format one
 pub record Edition : Type 0 where
   pub channels : ℕ
   pub long_keys : Bool
+  pub format_two : Bool
 
--- at most 8 receive channels, and keys of 16 octets alone
+-- at most 8 receive channels, keys of 16 octets alone, and areas of format one alone
 abbrev pub first_edition : Edition
-first_edition = record { channels = 8; long_keys = false }
+first_edition = record { channels = 8; long_keys = false; format_two = false }
 
 -- the edition that this program is of
 abbrev pub this_edition : Edition
@@ -33,6 +35,7 @@ this_edition = first_edition
 pub record IsUpTo (small large : Edition) : Type 0 where
   pub channels : small.channels ≤ large.channels
   pub long_keys : small.long_keys ≡ true → large.long_keys ≡ true
+  pub format_two : small.format_two ≡ true → large.format_two ≡ true
 
 -- an edition takes a key of so many octets: 16, for GCM-AES-128 (IEEE Std 802.1AE-2018, 14.5), or where it takes long keys also 32,
 -- for GCM-AES-256 (14.6)

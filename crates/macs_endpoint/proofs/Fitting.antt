@@ -194,7 +194,7 @@ rx_rises block (Some numbers) (Some ceiling) within = (ceiling, refl, within.0, 
 pub resumed : (s : State) (c : Ceilings) → AreAhead s.identity s.next s.numbers c
     → Resumes s (opened_state (record { edition = s.edition; identity = s.identity; config = s.config; ceilings = c }) s.logs)
 resumed s c are = record {
-  edition = record { channels = omega arith; long_keys = λ is. is };
+  edition = record { channels = omega arith; long_keys = λ is. is; format_two = λ is. is };
   identity = refl;
   config = refl;
   next = λ an. tx_rises s.identity.tx_block (s.next an) (c.tx an) (are.tx_ahead an);

@@ -10,7 +10,7 @@ use Rattle.macs_disk.specs.Disk.{MayLeave, Works, now}
 use Rattle.macs_disk.specs.States.{DiskState, Image, IsImage, IsSector, put_sector, settled_state, state_after_write}
 use Rattle.macs_disk.proofs.Images.{put-other, put-same}
 use Rattle.macs_record.specs.Gates.{open_gate, open_mark}
-use Rattle.macs_record.specs.Heads.{Head, IsHead, head_mark, head_octets, head_sector_of, layout_version}
+use Rattle.macs_record.specs.Heads.{Head, IsHead, head_mark, head_octets, head_sector_of, version_of}
 use Rattle.macs_record.specs.Layout.{IsRecord, front_of, sector_of}
 use Rattle.macs_record.specs.Sectors.{padded_sector}
 use Rattle.macs_record.specs.declared.record.Record.{Record}
@@ -340,13 +340,13 @@ head_octets_range =
     let rx = to_be_bytes w32 head.identity.rx_block in
     let count = to_be_bytes w32 head.count in
     let generation = to_be_bytes w64 head.generation in
-    let version = to_be_bytes w32 layout_version in
+    let version = to_be_bytes w32 (version_of head.format) in
     let sci = head.identity.sci in
     let blocks = All-append IsOctet tx rx (word-range head.identity.tx_block) (word-range head.identity.rx_block) in
     let identity = All-append IsOctet sci (tx ++ rx) head-range.sci.each blocks in
     let counted = All-append IsOctet count (sci ++ (tx ++ rx)) (word-range head.count) identity in
     let generated = All-append IsOctet generation (count ++ (sci ++ (tx ++ rx))) (double_range head.generation) counted in
-    let versioned = All-append IsOctet version (generation ++ (count ++ (sci ++ (tx ++ rx)))) (word-range layout_version) generated in
+    let versioned = All-append IsOctet version (generation ++ (count ++ (sci ++ (tx ++ rx)))) (word-range (version_of head.format)) generated in
     All-append IsOctet head_mark (version ++ (generation ++ (count ++ (sci ++ (tx ++ rx)))))
     (All-from_recursion IsOctet head_mark (small_octets head_mark refl)) versioned
 

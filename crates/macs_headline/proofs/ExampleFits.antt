@@ -59,7 +59,7 @@ fits-served = record {
     refl,
     (served_config, refl, refl),
     record {
-      edition = record { channels = omega arith; long_keys = λ is. is };
+      edition = record { channels = omega arith; long_keys = λ is. is; format_two = λ is. is };
       identity = refl;
       config = refl;
       next = λ an. tx_first (an == 0);
@@ -90,7 +90,7 @@ fits-cut = record {
   found = full_standing;
   is_found = cut-is;
   restart = inl (record {
-    edition = record { channels = omega arith; long_keys = λ is. is };
+    edition = record { channels = omega arith; long_keys = λ is. is; format_two = λ is. is };
     identity = refl;
     config = refl;
     next = λ an. tx_second (an == 0);
@@ -120,7 +120,7 @@ fits-last = record {
   found = last_standing this_edition;
   is_found = last-is last_image last-found;
   restart = inl (record {
-    edition = record { channels = omega arith; long_keys = λ is. is };
+    edition = record { channels = omega arith; long_keys = λ is. is; format_two = λ is. is };
     identity = refl;
     config = refl;
     next = λ an. tx_third (an == 0);
@@ -148,7 +148,7 @@ fits-killed image (inl found) = record {
   found = last_standing this_edition;
   is_found = last-is image found;
   restart = inl (record {
-    edition = record { channels = omega arith; long_keys = λ is. is };
+    edition = record { channels = omega arith; long_keys = λ is. is; format_two = λ is. is };
     identity = refl;
     config = refl;
     next = λ an. tx_fourth (an == 0);
@@ -169,7 +169,7 @@ fits-killed image (inr found) = record {
     refl,
     ((checked_standing this_edition).config, refl, refl),
     record {
-      edition = record { channels = omega arith; long_keys = λ is. is };
+      edition = record { channels = omega arith; long_keys = λ is. is; format_two = λ is. is };
       identity = refl;
       config = refl;
       next = λ an. tx_fourth (an == 0);

@@ -285,10 +285,10 @@ ended_is edition =
 last_meaning : (edition : Edition) → IsConfig edition example_identity served_config → meaning_of edition last_content ≡ Some (last_standing edition)
 last_meaning edition is =
     meaning-more edition third_records anew_content (full_to edition) (last_standing edition) (omega arith)
-    (meaning-anew edition full_content full_snapshot (full_to edition) (snapshot_meaning edition is)) (ap Some (ended_is edition))
+    (meaning-anew edition full_content full_snapshot (full_to edition) refl (snapshot_meaning edition is)) (ap Some (ended_is edition))
 
 pub larger : IsUpTo this_edition later_edition
-larger = record { channels = omega arith; long_keys = λ is. refl }
+larger = record { channels = omega arith; long_keys = λ is. refl; format_two = λ is. refl }
 
 -- what images stand for that hold that journal, or the one with a record more
 pub last-is : (image : Image) → HasJournal image last_content → StandingIs this_edition example_sectors image (Ok (last_standing this_edition))

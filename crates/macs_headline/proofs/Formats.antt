@@ -31,7 +31,7 @@ new-fits sectors image identity is = record {
   found = new_standing this_edition identity;
   is_found = is;
   restart = inl (record {
-    edition = record { channels = omega arith; long_keys = λ is. is };
+    edition = record { channels = omega arith; long_keys = λ is. is; format_two = λ is. is };
     identity = refl;
     config = refl;
     next = λ an. refl;

@@ -14,6 +14,7 @@ up_through : (small mid large : Edition) → IsUpTo small mid → IsUpTo mid lar
 up_through small mid large first second = record {
   channels = (let low = first.channels in let high = second.channels in omega (arith, low, high));
   long_keys = λ is. second.long_keys (first.long_keys is);
+  format_two = λ is. second.format_two (first.format_two is);
 }
 
 module _ (small large : Edition) (up_to : IsUpTo small large) where

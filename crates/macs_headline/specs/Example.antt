@@ -20,7 +20,7 @@ example_sectors = 1028
 
 -- an edition that takes more
 abbrev pub later_edition : Edition
-later_edition = record { channels = 32; long_keys = true }
+later_edition = record { channels = 32; long_keys = true; format_two = true }
 
 -- 02-00-00-00-00-01, port 00-01
 abbrev pub own_sci : List ℕ

@@ -4,6 +4,7 @@ use Rattle.macs_config.specs.Identity.{Identity}
 use Rattle.macs_disk.specs.Disk.{Disk, IsHonest, Works, now}
 use Rattle.macs_disk.specs.Runs.{LeavesNothingNew}
 use Rattle.macs_disk.specs.States.{state_after_sync}
+use Rattle.macs_record.specs.declared.format.Format.{Format}
 use Rattle.macs_record.specs.declared.record.Record.{Record}
 use Rattle.macs_journal.specs.Areas.{least_sectors}
 use Rattle.macs_journal.specs.Found.{JournalIs}
@@ -45,12 +46,14 @@ pub record IsRefused {D : Type 0} (disk_of : D → Disk) (Found : JournalFault �
   pub from_first : IsHonest (disk_of left) → StandsFromFirst (disk_of disk) (disk_of left)
   pub any_moment : IsHonest (disk_of left) → LeavesNothingNew (disk_of disk) (disk_of left)
 
--- A journal is recovered, and these are its records. It runs and has nothing in hand, its head has this identity and count, and its records
--- fill the slots that are used, those of the snapshot first. On an honest disk this is what the disk stood for, and the journal holds it.
-pub record Recovers {D : Type 0} (disk_of : D → Disk) (disk : D) (journal : JournalValue D) (identity : Identity) (count : ℕ) (records : List Record) : Type 0 where
+-- A journal is recovered, and these are its records. It runs and has nothing in hand, its head has this format, identity and count, and its
+-- records fill the slots that are used, those of the snapshot first. On an honest disk this is what the disk stood for, and the journal holds it.
+pub record Recovers {D : Type 0} (disk_of : D → Disk) (disk : D) (journal : JournalValue D) (format : Format) (identity : Identity) (count : ℕ)
+    (records : List Record) : Type 0 where
   pub device : IsOpened (disk_of disk) (disk_in disk_of journal)
   pub running : is_stopped journal ≡ false
   pub idle : IsIdle journal
+  pub form : format ≡ (content_of journal records).head.format
   pub whose : identity ≡ (content_of journal records).head.identity
   pub counted : count ≡ (content_of journal records).head.count
   pub used : length records ≡ used_slots journal
@@ -66,10 +69,10 @@ IsNoJournal disk_of disk fault = JournalIs (disk_of disk).sectors (now (disk_of 
 -- The journal of a disk is recovered with the first records of a room, or refused for what stands on the disk, or for a device call that
 -- failed.
 abbrev pub IsRecoveryInto : {D : Type 0} → (D → Disk) → D → Result (Found D) (RecoverRefused D) → List Record → Type 0
-IsRecoveryInto disk_of disk (Ok found) room = Recovers disk_of disk found.journal found.identity found.count (take found.used room)
+IsRecoveryInto disk_of disk (Ok found) room = Recovers disk_of disk found.journal found.format found.identity found.count (take found.used room)
 IsRecoveryInto disk_of disk (Err refused) room = IsRefused disk_of (IsNoJournal disk_of disk) disk refused.disk refused.fault
 
 -- the same, with the records in the answer
 abbrev pub IsRecovery : {D : Type 0} → (D → Disk) → D → Result (Recovered D) (RecoverRefused D) → Type 0
-IsRecovery disk_of disk (Ok r) = Recovers disk_of disk r.journal r.identity r.count r.records.items
+IsRecovery disk_of disk (Ok r) = Recovers disk_of disk r.journal r.format r.identity r.count r.records.items
 IsRecovery disk_of disk (Err refused) = IsRefused disk_of (IsNoJournal disk_of disk) disk refused.disk refused.fault

@@ -11,9 +11,9 @@ use Rattle.macs_journal.specs.Found.{Content, HasJournal, IsGateOpen}
 abbrev pub last_generation : ℕ
 last_generation = 2 ^ 64 - 1
 
--- the head of the next generation, with a snapshot of so many records
+-- the head of the next generation, of the same format, with a snapshot of so many records
 abbrev pub next_head : Head → ℕ → Head
-next_head head count = record { generation = head.generation + 1; count = count; identity = head.identity }
+next_head head count = record { format = head.format; generation = head.generation + 1; count = count; identity = head.identity }
 
 -- the content of a journal that begins anew with these records
 abbrev pub compacted : Content → List Record → Content

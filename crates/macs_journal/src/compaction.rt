@@ -59,14 +59,14 @@ impl<D: SectorDisk> Journal<D> {
     }
 }
 
-/// The head of the next generation, `None` behind the last.
+/// The head of the next generation, of the same format; `None` after the last.
 pub(crate) fn next_head(head: &Head, count: u32) -> Option<Head>
     requires { (1 ≤ count) × (count ≤ slots) }
     ensures value { IfSome result (λ next. next ≡ next_head head.now count) }
     ensures spent { result ≡ None ↔ (head.now.generation ≡ last_generation) }
 {
     let generation = head.generation().checked_add(1)?;
-    Head::new(generation, count, head.identity())
+    Head::new(head.format(), generation, count, head.identity())
 }
 
 /// Writes these records into an area under this head, while the other area is current.

@@ -19,7 +19,7 @@ use crate::gates::close_gates;
 use crate::opening::open_head;
 use macs_config::Identity;
 use macs_disk::{DeviceFault, SectorDisk};
-use macs_record::{Head, Record, SECTOR, is_open};
+use macs_record::{Format, Head, Record, SECTOR, is_open};
 
 /// Makes a journal of a disk that has none: its one record is the settings that an endpoint begins
 /// with. Of the first area it writes the bodies of the head and of that record, the head gate, and the
@@ -86,5 +86,5 @@ fn fill<D: SectorDisk>(disk: &mut D, identity: &Identity) -> Result<(), DeviceFa
 fn first_head(identity: &Identity) -> Head
     ensures { result ≡ first_head identity.now }
 {
-    Head::new(1, 1, *identity).unwrap()
+    Head::new(Format::One, 1, 1, *identity).unwrap()
 }

@@ -1,10 +1,13 @@
 -- A sector is that of one head: its fields are read back from their places.
-use Rattle.std.proofs.Common.{◌≡◌, ◌++◌, ◌∙◌, ◌-◌, ℕ, List, length, take, drop, replicate, sym, ap, arith, append_assoc}
+use Rattle.std.proofs.Common.{◌≡◌, ◌++◌, ◌∙◌, ◌==◌, ◌-◌, ℕ, if◌then◌else◌, List, length, take, drop, replicate, refl, sym, ap, arith, append_assoc}
 use Rattle.std.specs.Int.{from_be_bytes, to_be_bytes, w32, w64}
 use Rattle.std.proofs.lemmas.Nat.{from_be_bytes-to_be_bytes_4, from_be_bytes-to_be_bytes_8}
 use Rattle.macs_config.specs.Identity.{Identity, IsBlock}
-use Rattle.macs_record.specs.Heads.{Head, IsHead, IsHeadOf, head_octets, identity_octets}
+use Rattle.macs_record.specs.Heads.{Head, IsHead, IsHeadOf, head_octets, identity_octets, version_of}
 use Rattle.macs_frame.specs.Fields.{IsSci}
+use Rattle.macs_record.specs.declared.format.Format.{Format}
+use Rattle.macs_record.specs.declared.format.Format.TheVariants.{One, Two}
+use Rattle.macs_record.proofs.HeadVersions.{small_version}
 use Rattle.macs_record.proofs.OneRecord.{cut}
 
 abbrev identity_from : List ℕ → List ℕ → Identity
@@ -17,9 +20,21 @@ identity_from sci blocks = record {
 abbrev identity_at : List ℕ → Identity
 identity_at octets = identity_from (take 8 octets) (drop 8 octets)
 
+-- the format of a version
+abbrev format_from : ℕ → Format
+format_from version = if version == 1 then One else Two
+
+format_read : (format : Format) → format_from (version_of format) ≡ format
+format_read One = refl
+format_read Two = refl
+
+format_back : (format : Format) → format_from (from_be_bytes w32 (to_be_bytes w32 (version_of format))) ≡ format
+format_back format = ap format_from (from_be_bytes-to_be_bytes_4 (version_of format) (small_version format)) ∙ format_read format
+
 -- what stands in the places of a head's fields
 unfoldable head_at : List ℕ → Head
 head_at sector = record {
+  format = format_from (from_be_bytes w32 (take 4 (drop 8 sector)));
   generation = from_be_bytes w64 (take 8 (drop 12 sector));
   count = from_be_bytes w32 (take 4 (drop 20 sector));
   identity = identity_at (drop 24 sector);
@@ -38,6 +53,7 @@ identity_back identity rest sci tx rx =
 head_back : (head : Head) (rest : List ℕ) → IsHead head → head_at (head_octets head ++ rest) ≡ head
 unfolding head_at
 head_back head rest is = λ i. record {
+  format = format_back head.format i;
   generation = from_be_bytes-to_be_bytes_8 head.generation is.generations i;
   count = from_be_bytes-to_be_bytes_4 head.count (omega (arith, is.few)) i;
   identity = identity_back head.identity rest is.sci is.tx_block is.rx_block i;

@@ -4,10 +4,13 @@ use Rattle.std.specs.Int.{to_be_bytes, w32, w64}
 use Rattle.macs_config.specs.Identity.{Identity, IsBlock}
 use Rattle.macs_frame.specs.Fields.{IsSci}
 use Rattle.macs_record.specs.Sectors.{padded_sector}
+use Rattle.macs_record.specs.declared.format.Format.{Format}
+use Rattle.macs_record.specs.declared.format.Format.TheVariants.{One, Two}
 
--- generation: 1 when the disk is formatted, one more with each new snapshot; count: how many records the snapshot has; identity: what the
--- disk was formatted with
+-- format: that of the area; generation: 1 when the disk is formatted, one more with each new snapshot; count: how many records the snapshot
+-- has; identity: what the disk was formatted with
 pub record Head : Type 0 where
+  pub format : Format
   pub generation : ℕ
   pub count : ℕ
   pub identity : Identity
@@ -26,9 +29,10 @@ pub record IsHead (head : Head) : Type 0 where
 abbrev pub head_mark : List ℕ
 head_mark = 0x4d ∷ 0x53 ∷ 0x45 ∷ 0x43 ∷ 0x48 ∷ 0x45 ∷ 0x41 ∷ 0x44 ∷ []
 
--- which layout it is, written in 4 octets
-abbrev pub layout_version : ℕ
-layout_version = 1
+-- the version of a format, written in 4 octets
+abbrev pub version_of : Format → ℕ
+version_of One = 1
+version_of Two = 2
 
 -- 16 octets: the SCI, then the transmit and the receive block in 4 octets each
 abbrev pub identity_octets : Identity → List ℕ
@@ -37,7 +41,7 @@ identity_octets identity = identity.sci ++ (to_be_bytes w32 identity.tx_block ++
 -- the mark and the version, then the fields
 abbrev pub head_octets : Head → List ℕ
 head_octets head =
-    head_mark ++ (to_be_bytes w32 layout_version ++ (to_be_bytes w64 head.generation ++ (to_be_bytes w32 head.count
+    head_mark ++ (to_be_bytes w32 (version_of head.format) ++ (to_be_bytes w64 head.generation ++ (to_be_bytes w32 head.count
     ++ identity_octets head.identity)))
 
 -- the sector of a head

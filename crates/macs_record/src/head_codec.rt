@@ -3,10 +3,12 @@
 ghost use Rattle.std.specs.Prelude.{◌≡◌, ◌↔◌, ◌++◌, List, ℕ, IfSome, Some};
 ghost use Rattle.std.specs.Int.{to_be_bytes, w32};
 ghost use Rattle.macs_config.specs.Identity.{Identity, IsBlock};
-ghost use Rattle.macs_record.specs.Heads.{Head, IsHead, IsHeadOf, head_mark, head_octets, head_sector_of, identity_octets, layout_version};
+ghost use Rattle.macs_record.specs.Heads.{Head, IsHead, IsHeadOf, head_mark, head_octets, head_sector_of, identity_octets, version_of};
 ghost use Rattle.macs_frame.specs.Fields.{IsSci};
+ghost use Rattle.macs_record.specs.declared.format.Format.{Format};
 
 use crate::SECTOR;
+use crate::format::Format;
 use crate::head::Head;
 use crate::reading::Reader;
 use crate::writing::Writer;
@@ -15,18 +17,16 @@ use macs_config::Identity;
 /// What the sector of a head begins with.
 const MARK: [u8; 8] = *b"MSECHEAD";
 
-/// The version of what stands behind the mark.
-const VERSION: u32 = 1;
-
-/// The sector of a head: the mark `MSECHEAD`, the version (4 octets, 1), the generation (8), the count
-/// (4), the SCI (8), the block of the transmit side and that of the receive side (4 each), and zeros.
+/// The sector of a head: the mark `MSECHEAD`, the version (4 octets: 1 for format one, 2 for format
+/// two), the generation (8), the count (4), the SCI (8), the block of the transmit side and that of
+/// the receive side (4 each), and zeros.
 pub fn encode_head(head: &Head) -> [u8; SECTOR]
     ensures { result ≡ head_sector_of head.now }
 {
     let identity = head.identity();
     Writer::new()
         .octets(&MARK)
-        .u32(VERSION)
+        .u32(head.format().version())
         .u64(head.generation())
         .u32(head.count())
         .sci(identity.sci())
@@ -35,8 +35,8 @@ pub fn encode_head(head: &Head) -> [u8; SECTOR]
         .finish()
 }
 
-/// The head whose sector this is. `None` for another mark or version, a field out of its range, or an
-/// octet behind the fields that is not 0.
+/// The head whose sector this is. `None` for another mark, a version that is neither 1 nor 2, a field
+/// out of its range, or an octet after the fields that is not 0.
 pub fn decode_head(sector: &[u8; SECTOR]) -> Option<Head>
     ensures { (head : Head) → (result ≡ Some head) ↔ IsHeadOf head sector.now }
 {
@@ -51,23 +51,23 @@ fn read_head(from: &mut Reader<'_>) -> Option<Head>
     ensures found { (head : Head) (rest : List ℕ) → IsHead head → from.old ≡ head_octets head ++ rest
         → (result ≡ Some head) × (from.new ≡ rest) }
 {
-    read_version(from)?;
+    let format = read_format(from)?;
     let generation = from.u64()?;
     let count = from.u32()?;
     let identity = read_identity(from)?;
-    Head::new(generation, count, identity)
+    Head::new(format, generation, count, identity)
 }
 
 /// Reads the mark and the version of a head.
-fn read_version(from: &mut Reader<'_>) -> Option<()>
-    ensures some { IfSome result (λ done. from.old ≡ head_mark ++ to_be_bytes w32 layout_version ++ from.new) }
-    ensures found { (rest : List ℕ) → from.old ≡ head_mark ++ to_be_bytes w32 layout_version ++ rest
-        → (result ≡ Some tt) × (from.new ≡ rest) }
+fn read_format(from: &mut Reader<'_>) -> Option<Format>
+    ensures some { IfSome result (λ format. from.old ≡ head_mark ++ to_be_bytes w32 (version_of format) ++ from.new) }
+    ensures found { (format : Format) (rest : List ℕ) → from.old ≡ head_mark ++ to_be_bytes w32 (version_of format) ++ rest
+        → (result ≡ Some format) × (from.new ≡ rest) }
 {
     let mark: [u8; 8] = from.octets()?;
     let version = from.u32()?;
-    if mark == MARK && version == VERSION {
-        Some(())
+    if mark == MARK {
+        Format::of(version)
     } else {
         None
     }

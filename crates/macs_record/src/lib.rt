@@ -4,6 +4,7 @@
 mod ceiling;
 mod decoding;
 mod encoding;
+mod format;
 mod gate;
 mod head;
 mod head_codec;
@@ -17,6 +18,7 @@ mod writing;
 pub use ceiling::Ceiling;
 pub use decoding::decode;
 pub use encoding::encode;
+pub use format::Format;
 pub use gate::{CLOSED_GATE, is_open, open_gate};
 pub use head::Head;
 pub use head_codec::{decode_head, encode_head};

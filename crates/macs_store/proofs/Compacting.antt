@@ -15,6 +15,7 @@ use Rattle.macs_record.specs.declared.record.Record.TheVariants.{RxCeiling, TxCe
 use Rattle.macs_store.specs.Commands.{command_of}
 use Rattle.macs_store.specs.Replay.{accepted_standing, ceilings_with_records, is_raise, meaning_of, snapshot_of, snapshot_parts, standing_after_command, standing_after_record, standing_after_records}
 use Rattle.macs_store.specs.Standing.{Ceilings, Standing, no_ceilings, standing_or_refusal, standing_with_rx_ceiling, standing_with_tx_ceiling}
+use Rattle.macs_store.proofs.Formats.{meaning-read, read-meaning}
 
 -- ---- what stands has the identity of the head
 
@@ -65,7 +66,7 @@ meaning-identity edition c s is =
     then-identity identity (snapshot_of edition identity records) s (drop c.head.count c.records)
     (λ first. mapped-identity edition identity (ceilings_with_records no_ceilings records)
     (option_and_then (λ parts. config_of_parts edition identity parts) (snapshot_parts records)) first)
-    (λ first. records-identity first s (drop c.head.count c.records)) is
+    (λ first. records-identity first s (drop c.head.count c.records)) (read-meaning edition c s is).1
 
 -- ---- the snapshot in its place
 
@@ -76,5 +77,6 @@ meaning-compacted edition c s records is stands =
     let whole : take (length records) records ≡ records = take_all (length records) records (omega arith) in
     let none : drop (length records) records ≡ [] = drop_all (length records) records (omega arith) in
     let same : c.head.identity ≡ s.identity = sym (meaning-identity edition c s is) in
-    (λ i. option_and_then (λ s. standing_after_records s (none i)) (snapshot_of edition (same i) (whole i)))
+    meaning-read edition (compacted c records) (read-meaning edition c s is).0
+    ∙ (λ i. option_and_then (λ s. standing_after_records s (none i)) (snapshot_of edition (same i) (whole i)))
     ∙ ap (λ (o : Option Standing). option_and_then (λ s. standing_after_records s []) o) stands

@@ -15,8 +15,9 @@ use Rattle.macs_record.specs.declared.record.Record.TheVariants.{RxCeiling, TxCe
 use Rattle.macs_store.specs.Commands.{command_of}
 use Rattle.macs_store.specs.Editions.{standing_to}
 use Rattle.macs_store.specs.Found.{StandingIs}
-use Rattle.macs_store.specs.Replay.{accepted_standing, ceilings_with_records, is_raise, replay_of, snapshot_of, snapshot_parts, standing_after_command, standing_after_record, standing_after_records}
+use Rattle.macs_store.specs.Replay.{accepted_standing, ceilings_with_records, is_raise, meaning_of, replay_of, snapshot_of, snapshot_parts, standing_after_command, standing_after_record, standing_after_records}
 use Rattle.macs_store.specs.Standing.{Ceilings, Standing, ceilings_after, no_ceilings, standing_or_refusal, standing_with_rx_ceiling, standing_with_tx_ceiling}
+use Rattle.macs_store.proofs.Formats.{larger-reads, meaning-read, read-meaning}
 
 -- what comes of something comes of what that is
 and_then : {A B : Type 0} (f : A → Option B) (o : Option A) (b : B) → option_and_then f o ≡ Some b → (a : A) × (o ≡ Some a) × (f a ≡ Some b)
@@ -104,11 +105,14 @@ module _ (small large : Edition) (up_to : IsUpTo small large) where
   pub larger-finds : (sectors : ℕ) (image : Image) (s : Standing) → StandingIs small sectors image (Ok s) → StandingIs large sectors image (Ok (standing_to large s))
   larger-finds sectors image s is =
       let c = is.1.content in
-      (is.0, record { content = c; found = is.1.found; stands = (larger-replays c.head.identity c.head.count c.records s is.1.stands).1 })
+      let read = read-meaning small c s is.1.stands in
+      let rises : meaning_of large c ≡ Some (standing_to large s) =
+      meaning-read large c (larger-reads small large up_to c.head.format read.0) ∙ (larger-replays c.head.identity c.head.count c.records s read.1).1 in
+      (is.0, record { content = c; found = is.1.found; stands = rises })
 
 -- and is of that edition
 pub of-edition : (edition : Edition) (sectors : ℕ) (image : Image) (s : Standing) → StandingIs edition sectors image (Ok s) → s.edition ≡ edition
 of-edition edition sectors image s is =
     let c = is.1.content in
-    let itself : IsUpTo edition edition = record { channels = omega arith; long_keys = λ takes. takes } in
-    (larger-replays edition edition itself c.head.identity c.head.count c.records s is.1.stands).0
+    let itself : IsUpTo edition edition = record { channels = omega arith; long_keys = λ takes. takes; format_two = λ takes. takes } in
+    (larger-replays edition edition itself c.head.identity c.head.count c.records s (read-meaning edition c s is.1.stands).1).0

@@ -1,6 +1,7 @@
 pub mod Replaying
 pub mod Tables
 pub mod Adjusting
+pub mod Formats
 pub mod Keeping
 pub mod Compacting
 mod InHand

@@ -10,7 +10,7 @@ ghost use Rattle.macs_config.specs.Value.{config_of};
 ghost use Rattle.macs_config.specs.declared.part.Part.{Part};
 ghost use Rattle.macs_record.specs.Commands.{record_of};
 ghost use Rattle.macs_store.specs.Commands.{command_of};
-ghost use Rattle.macs_store.specs.Replay.{standing_after_command, standing_after_record, standing_after_records, snapshot_parts, replay_of, is_raise, snapshot_of, ceilings_with_records};
+ghost use Rattle.macs_store.specs.Replay.{standing_after_command, standing_after_record, standing_after_records, snapshot_parts, reading_of, reads, replay_of, is_raise, snapshot_of, ceilings_with_records};
 ghost use Rattle.macs_store.specs.Standing.{IsStanding, accept, ceilings_after, new_standing, no_ceilings, standing_with_rx_ceiling, standing_with_tx_ceiling};
 ghost use Rattle.macs_store.specs.Table.{StandingValue, table_ceilings, table_scis, standing_of};
 
@@ -19,7 +19,7 @@ use crate::reading::{Snapshot, plain_command_of};
 use crate::table::CeilingTable;
 use macs_config::{Checked, Command, Config, Identity, Judged, Refusal};
 use macs_frame::{An, Sci};
-use macs_record::{Ceiling, Record};
+use macs_record::{Ceiling, Format, Record};
 use std::marker::Model;
 
 /// What an endpoint goes on from: its configuration, and the ceilings of its packet numbers.
@@ -38,6 +38,16 @@ impl Model for Standing {
         × (table_scis s.ceilings ≡ (config_of s.config).channels) };
 }
 
+/// Whether this edition reads an area of this format.
+fn is_read(format: Format) -> bool
+    ensures { result ≡ reads this_edition format }
+{
+    match format {
+        Format::One => true,
+        Format::Two => false,
+    }
+}
+
 impl Standing {
     /// What a disk is formatted with.
     pub(crate) fn new(identity: &Identity) -> Standing
@@ -49,10 +59,21 @@ impl Standing {
         }
     }
 
+    /// Makes it, in its place, what the records of an area of this format stand for under its identity, those of
+    /// the snapshot first, and answers whether they stand for something. Where they are refused, or this edition
+    /// does not read the format, nothing is said of what is left.
+    pub(crate) fn read(&mut self, format: Format, count: usize, records: &[Record]) -> bool
+        requires { count ≤ length records.now }
+        ensures { reading_of this_edition format (standing_of self.old).identity count records.now
+            ≡ (if result then Some (standing_of self.new) else None) }
+    {
+        is_read(format) && self.replay(count, records)
+    }
+
     /// Makes it, in its place, what the records of a snapshot stand for under its identity, then those behind
     /// it, and answers whether they stand for something; where they are refused, nothing is said of what is left.
     #[inline(never)]
-    pub(crate) fn replay(&mut self, count: usize, records: &[Record]) -> bool
+    fn replay(&mut self, count: usize, records: &[Record]) -> bool
         requires { count ≤ length records.now }
         ensures { replay_of this_edition (standing_of self.old).identity count records.now
             ≡ (if result then Some (standing_of self.new) else None) }

@@ -109,6 +109,46 @@ write 514 head 2 1 12153524c0895e81 4 5
 sync
 open-journal = BadJournal
 
+# The version is in octets 8 to 11 of a head: 1 for format one, 2 for format two.
+setup version two
+write 0 4d534543484541440000000200000000000000010000000112153524c0895e810000000400000004
+sync
+
+story a journal of format two is recovered and begins anew in it
+use new
+use found
+version = 1
+close
+use version two
+use found
+version = 2
+snapshot = 1
+records = settings
+compact set-replay on 9, set-replay on 3
+close
+sector 514 = 4d534543484541440000000200000000000000020000000212153524c0895e810000000400000004
+use found
+version = 2
+snapshot = 2
+records = 9 3
+
+story a journal of format two is no journal to this edition
+use new
+use version two
+open-store = BadJournal
+open = BadJournal
+format 12153524c0895e81 4 4 = AlreadyFormatted
+
+story a head of another version is none
+with head=4d534543484541440000000000000000000000010000000112153524c0895e810000000400000004
+with head=4d534543484541440000000300000000000000010000000112153524c0895e810000000400000004
+with head=4d534543484541440100000100000000000000010000000112153524c0895e810000000400000004
+with head=4d534543484541440200000000000000000000010000000112153524c0895e810000000400000004
+use new
+write 0 $head
+sync
+open-journal = BadJournal
+
 story a head gate without a head is refused in the second area
 use new
 use second area

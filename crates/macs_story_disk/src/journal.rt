@@ -9,7 +9,7 @@ use crate::records::{record_of, records_of, tell_record, tell_records};
 use crate::store::tell_step;
 use macs_config::Identity;
 use macs_journal::{Journal, Records, Recovered, Work};
-use macs_record::Record;
+use macs_record::{Format, Record};
 use macs_story_text::{Answer, Words};
 
 type Played = Journal<StoryDisk>;
@@ -21,6 +21,8 @@ const NOT_NOW: &str = "not now";
 #[derive(Drop)]
 pub struct JournalLife {
     journal: Played,
+    /// The format of its area when it was opened.
+    format: Format,
     identity: Identity,
     /// How many of the records are the snapshot's.
     count: u32,
@@ -34,12 +36,14 @@ impl JournalLife {
     pub fn new(found: Recovered<StoryDisk>) -> JournalLife {
         let Recovered {
             journal,
+            format,
             identity,
             count,
             records,
         } = found;
         JournalLife {
             journal,
+            format,
             identity,
             count,
             records,
@@ -167,6 +171,14 @@ fn ask_record(life: &JournalLife, words: Words<'_>, answer: &mut Answer) -> Opti
     Some(())
 }
 
+/// The version that a head of this format has.
+fn version(format: Format) -> u64 {
+    match format {
+        Format::One => 1,
+        Format::Two => 2,
+    }
+}
+
 /// Answers a question; `None` where there is none.
 fn ask(life: &JournalLife, words: Words<'_>, answer: &mut Answer) -> Option<()> {
     match words.rest() {
@@ -174,6 +186,7 @@ fn ask(life: &JournalLife, words: Words<'_>, answer: &mut Answer) -> Option<()> 
         "stopped" => answer.is(life.journal.is_stopped()),
         "full" => answer.is(life.journal.is_full()),
         "identity" => tell_identity(life.identity, answer),
+        "version" => answer.number(version(life.format)),
         "snapshot" => answer.number(u64::from(life.count)),
         "count" => answer.number(life.records.len() as u64),
         "records" => tell_records(life.records.as_slice(), answer),

@@ -5,7 +5,7 @@ use crate::names::sci_of;
 use crate::records::record_of;
 use macs_config::Identity;
 use macs_disk::{DeviceFault, MemDisk, SectorDisk};
-use macs_record::{Head, SECTOR, encode, encode_head, open_gate};
+use macs_record::{Format, Head, SECTOR, encode, encode_head, open_gate};
 use macs_story_text::{Answer, Words};
 use std::alloc::Global;
 
@@ -54,7 +54,7 @@ fn head_of(words: &mut Words<'_>) -> Option<Sector> {
     let generation = words.number()?;
     let count = words.short()?;
     let identity = identity_of(words)?;
-    Some(encode_head(&Head::new(generation, count, identity)?))
+    Some(encode_head(&Head::new(Format::One, generation, count, identity)?))
 }
 
 /// Octets in hex, and behind them `zeros`, also where nothing is said, or `ones`.

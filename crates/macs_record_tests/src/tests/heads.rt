@@ -3,7 +3,7 @@
 use super::sector_of;
 use macs_config::Identity;
 use macs_frame::Sci;
-use macs_record::{Head, SECTOR, decode_head, encode_head};
+use macs_record::{Format, Head, SECTOR, decode_head, encode_head};
 use std::process::Abort;
 
 /// An SCI whose octets differ.
@@ -19,12 +19,12 @@ fn identity_of(rt: &impl Abort, tx_block: u32, rx_block: u32) -> Identity {
 
 /// A head with blocks of 4.
 fn head_of(rt: &impl Abort, generation: u64, count: u32) -> Head {
-    Head::new(generation, count, identity_of(rt, 4, 4)).expect(rt, "head")
+    Head::new(Format::One, generation, count, identity_of(rt, 4, 4)).expect(rt, "head")
 }
 
 /// A head of generation 1 with one record.
 fn head_with_blocks(rt: &impl Abort, tx_block: u32, rx_block: u32) -> Head {
-    Head::new(1, 1, identity_of(rt, tx_block, rx_block)).expect(rt, "head")
+    Head::new(Format::One, 1, 1, identity_of(rt, tx_block, rx_block)).expect(rt, "head")
 }
 
 /// The sector of the first head, but that these octets stand at a place.
@@ -56,10 +56,11 @@ fn first(rt: HostRuntime) {
 #[test]
 fn fields_in_order(rt: HostRuntime) {
     let identity = identity_of(&rt, 0x0c0d, 0x0e0f);
-    let head = Head::new(0x0102_0304_0506_0708, 0x0b, identity).expect(&rt, "head");
+    let head = Head::new(Format::One, 0x0102_0304_0506_0708, 0x0b, identity).expect(&rt, "head");
     let front =
         b"MSECHEAD\0\0\0\x01\x01\x02\x03\x04\x05\x06\x07\x08\0\0\0\x0b\x12\x15\x35\x24\xc0\x89\x5e\x81\0\0\x0c\x0d\0\0\x0e\x0f";
     stands_as(&rt, head, sector_of(&rt, front));
+    assert!(rt; head.format() == Format::One);
     assert!(rt; head.generation() == 0x0102_0304_0506_0708);
     assert!(rt; head.count() == 0x0b);
     assert!(rt; head.identity() == identity);
@@ -75,7 +76,7 @@ fn generations(rt: HostRuntime) {
         first_but(&rt, 12, &[0xff; 8]),
     );
     are_no_heads(&rt, WRONG_GENERATIONS);
-    assert!(rt; Head::new(0, 1, identity_of(&rt, 4, 4)).is_none());
+    assert!(rt; Head::new(Format::One, 0, 1, identity_of(&rt, 4, 4)).is_none());
 }
 
 const WRONG_COUNTS: &[(usize, &[u8])] = &[
@@ -88,8 +89,8 @@ const WRONG_COUNTS: &[(usize, &[u8])] = &[
 fn counts(rt: HostRuntime) {
     stands_as(&rt, head_of(&rt, 1, 256), first_but(&rt, 20, b"\0\0\x01\0"));
     are_no_heads(&rt, WRONG_COUNTS);
-    assert!(rt; Head::new(1, 0, identity_of(&rt, 4, 4)).is_none());
-    assert!(rt; Head::new(1, 257, identity_of(&rt, 4, 4)).is_none());
+    assert!(rt; Head::new(Format::One, 1, 0, identity_of(&rt, 4, 4)).is_none());
+    assert!(rt; Head::new(Format::Two, 1, 257, identity_of(&rt, 4, 4)).is_none());
 }
 
 const WRONG_BLOCKS: &[(usize, &[u8])] = &[
@@ -110,9 +111,17 @@ fn blocks(rt: HostRuntime) {
 
 const OTHER_VERSIONS: &[(usize, &[u8])] = &[
     (8, b"\0\0\0\0"),
-    (8, b"\0\0\0\x02"),
-    (8, b"\x01\0\0\0"),
+    (8, b"\0\0\0\x03"),
+    (8, b"\x01\0\0\x02"),
+    (8, b"\x02\0\0\0"),
 ];
+
+#[test]
+fn version_2(rt: HostRuntime) {
+    let head = Head::new(Format::Two, 1, 1, identity_of(&rt, 4, 4)).expect(&rt, "head");
+    stands_as(&rt, head, first_but(&rt, 8, b"\0\0\0\x02"));
+    assert!(rt; head.format() == Format::Two);
+}
 
 #[test]
 fn other_versions(rt: HostRuntime) {

@@ -55,8 +55,8 @@ records-refused disk_of Found disk left opened found = record {
   any_moment = opened.any_moment;
 }
 
-pub returns-then-not-replay : goal.returns-then-not-replay
-returns-then-not-replay g c =
+pub returns-then-not-read : goal.returns-then-not-read
+returns-then-not-read g c =
     let d = g.D.SectorDisk.disk in
     let recovered = c.in_ok-found.found in
     let is = c.in_ok-found.ensures.opening in
@@ -68,6 +68,6 @@ returns-then-not-replay g c =
     (λ honest.
     let found = is.found (subst (λ disk. IsHonest (d disk)) c.into_disk.ensures honest) in (
       found.0,
-      inr (replay-refused this_edition (now (d c.args.disk)).seen content (standing_of c.new.result).identity recovered.count records
-          found.1 whose is.counted refl c.if-not-replay.ensures),
+      inr (replay-refused this_edition (now (d c.args.disk)).seen content recovered.format (standing_of c.new.result).identity recovered.count records
+          found.1 is.form whose is.counted refl c.if-not-read.ensures),
     ))
