@@ -124,6 +124,10 @@ and_right : (x y : Bool) → (x && y) ≡ true → y ≡ true
 and_right true y is = is
 and_right false y is = absurd (false≢true is)
 
+not_left : (x y : Bool) → (not x && y) ≡ true → x ≡ false
+not_left true y is = absurd (false≢true is)
+not_left false y is = refl
+
 module _ (exchanges : List Exchange) (s : State) (waits : s.waiting ≡ waiting_at_end exchanges) (accepted : IsAccepted s) where
   -- in hand after the last answer
   by_answers : (cut : Option Call) (c : Command) → s.in_hand ≡ Some c → WasBegun exchanges s cut c
@@ -140,7 +144,9 @@ module _ (exchanges : List Exchange) (s : State) (waits : s.waiting ≡ waiting_
     | inl hand ↦ by_answers cut c hand
     | inr one ↦
         let accepts = and_right (not s.stopped) (is_ok (apply s.edition s.identity s.config d)) one.0 in
-        subst (λ (c : Command). WasBegun exchanges s cut c) one.1 (record { begun = inr may; accepted = no-refusal s.edition s.identity s.config d accepts })
+        let running = not_left s.stopped (is_ok (apply s.edition s.identity s.config d)) one.0 in
+        subst (λ (c : Command). WasBegun exchanges s cut c) one.1
+        (record { begun = inr (running, may); accepted = no-refusal s.edition s.identity s.config d accepts })
   ]
 
   alone : (d : Command) (waiting : List Waiting) (c : Command) → s.waiting ≡ waiting → (state_taking_alone s d waiting).in_hand ≡ Some c

@@ -36,6 +36,7 @@ pub mod Answered
 pub mod Logged
 pub mod GoingOn
 pub mod Configurations
+pub mod ExactEnds
 pub mod Moments
 pub mod Tickets
 pub mod RefusedDays
@@ -43,6 +44,7 @@ pub mod ServedDays
 pub mod Ours
 pub mod Built
 pub mod Nights
+pub mod Watches
 pub mod BuiltAnew
 pub mod ExampleRecords
 pub mod ExampleImages

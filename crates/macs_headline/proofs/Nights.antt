@@ -1,15 +1,21 @@
 -- A night: two frames under one key have two numbers, though power was lost between them.
-use Rattle.std.proofs.Common.{◌≡◌, ◌≢◌, ◌≤◌, ◌+◌, arith, ◌++◌, inl, inr, ℕ, List, [], ◌∷◌, None, Result, Ok, Err, is_ok, refl, sym, ◌∙◌, ap, subst, le_refl, map}
-use Rattle.std.specs.Prelude.{Contains}
+use Rattle.std.proofs.Common.{◌≡◌, ◌≢◌, ◌≤◌, ◌⊎◌, ◌+◌, arith, ◌++◌, inl, inr, ℕ, List, [], ◌∷◌, None, Result, Ok, Err, is_ok, refl, sym, ◌∙◌, ap, subst, le_refl, map}
+use Rattle.std.specs.Prelude.{Contains, Option, Some}
 use Rattle.std.specs.List.{AllByRecursion}
 use Rattle.macs_frame.specs.Fields.{octets_of}
+use Rattle.std.proofs.lemmas.Bool.{cases_eq}
 use Rattle.macs_frame.specs.Protection.{protected_frame}
+use Rattle.macs_frame.specs.declared.fields.Offset.TheVariants.{Zero}
+use Rattle.macs_config.specs.Apply.{config_after}
 use Rattle.macs_config.specs.Association.{is_confidential, offset_of}
-use Rattle.macs_config.specs.Config.{this_edition}
+use Rattle.macs_config.specs.Config.{Config, default, this_edition}
 use Rattle.macs_config.specs.Identity.{Identity}
+use Rattle.macs_config.specs.declared.association.Protection.TheVariants.{Confidentiality}
 use Rattle.macs_config.specs.declared.association.TxSa.{TxSa}
+use Rattle.macs_config.specs.declared.command.Command.{Command}
 use Rattle.macs_config.specs.declared.command.Command.TheVariants.{TxUse}
 use Rattle.macs_config.specs.declared.command.SciMode.{SciMode}
+use Rattle.macs_config.specs.declared.command.SciMode.TheVariants.{Explicit}
 use Rattle.macs_disk.specs.Disk.{Disk, IsHonest, MayLeave, disk_after_loss, now}
 use Rattle.macs_disk.specs.Fused.{fused_disk}
 use Rattle.macs_disk.specs.Memory.{Memory, blank_memory, image_left, memory_after_loss}
@@ -21,28 +27,31 @@ use Rattle.macs_endpoint.specs.Calls.{IsCall}
 use Rattle.macs_endpoint.specs.Formatting.{IsFormat}
 use Rattle.macs_endpoint.specs.Lives.{Transition, exchange_of}
 use Rattle.macs_endpoint.specs.Opening.{IsOpening}
-use Rattle.macs_endpoint.specs.State.{Commands, Protects, Protected, Ran, Refilled, Refills, State}
+use Rattle.macs_endpoint.specs.State.{Commands, Logs, Protects, Protected, Ran, Refilled, Refills, State}
 use Rattle.macs_endpoint.specs.Step.{Exchange}
 use Rattle.macs_endpoint.specs.Value.{EndpointValue, IsSoundEndpoint, device_in, state_of}
 use Rattle.macs_endpoint.specs.declared.fault.CommandFault.{CommandFault}
 use Rattle.macs_endpoint.specs.declared.fault.ProtectFault.{ProtectFault}
 use Rattle.macs_endpoint.specs.declared.fault.RefillFault.{RefillFault}
-use Rattle.macs_headline.specs.Answered.{exchanges_of_lives, lives_at}
+use Rattle.macs_headline.specs.Answered.{WasAnswered, exchanges_of_lives, lives_at}
 use Rattle.macs_headline.specs.Binding.{HasHistory, IsNewDisk, IsWrittenOnce}
 use Rattle.macs_headline.specs.Deeds.{Formatting, Link, Living, LivesFrom, PassingOn}
 use Rattle.macs_headline.specs.Endings.{LosesPower}
 use Rattle.macs_headline.specs.Frames.{IsStandardFrame, writing}
 use Rattle.macs_headline.specs.History.{Formats, Life, Serves}
+use Rattle.macs_headline.specs.Moments.{Moment}
 use Rattle.macs_headline.specs.Nights.{IsNightFrame, IsRefusedEvening, IsRefusedMorning, night_install}
 use Rattle.macs_headline.proofs.Built.{blank-is-new}
 use Rattle.macs_headline.proofs.Chains.{deeds-are-histories, fuse-now, new-deeds-are-histories}
 use Rattle.macs_headline.proofs.Endings.{power-losses-pass-on}
 use Rattle.macs_headline.proofs.Lists.{all-on, contains-first, contains-later}
+use Rattle.macs_headline.proofs.Ledger.{some_one}
 use Rattle.macs_headline.proofs.Losses.{loses-power}
 use Rattle.macs_headline.proofs.Moments.{frames-are-written-once}
 use Rattle.macs_headline.proofs.RefusedDays.{day-failed, is-refused-day}
 use Rattle.macs_headline.proofs.Refusals.{refusals-are-failures}
-use Rattle.macs_headline.proofs.Ours.{AreOurCalls, IsOurLife, IsOurs, our-answer, our-moment}
+use Rattle.macs_headline.proofs.Ours as alone
+use Rattle.macs_headline.proofs.Places.{put-that, put-this}
 
 -- ---- power losses that are played
 
@@ -90,8 +99,52 @@ frame_by an sa identity mode pn plain = protected_frame sa.key identity.sci
     (record { an = an; pn = pn; name = name_in mode identity.sci; encrypted = is_confidential sa.protection; changed = is_confidential sa.protection })
     (octets_of (offset_of sa.protection)) plain
 
+none_some : {X : Type 0} (x : X) → ◌≡◌ {A = Option X} None (Some x) → ⊥
+none_some x is = cc
+
 module _ (identity : Identity) (an : ℕ) (key : List ℕ) where
-  night-frame : (s : State) (plain : List ℕ) (pn : ℕ) (out : List ℕ) (new : State) → IsOurs identity an key s → IsStandardFrame s plain pn out new
+  abbrev our_association : TxSa
+  our_association = record { key = key; protection = Confidentiality Zero }
+
+  -- to install it, or to use it
+  abbrev IsOurCommand : Command → Type 0
+  IsOurCommand c = (c ≡ night_install an key) ⊎ (c ≡ TxUse an)
+
+  -- none stands but it
+  record IsOurConfig (c : Config) : Type 0 where
+    ours : (at : ℕ) (sa : TxSa) → c.tx at ≡ Some sa → (at ≡ an) × (sa ≡ our_association)
+    mode : c.mode ≡ Explicit
+
+  by_default : IsOurConfig default
+  by_default = record { ours = λ at sa there. absurd (none_some sa there); mode = refl }
+
+  after_ours : (old : Config) (c : Command) → IsOurCommand c → IsOurConfig old → IsOurConfig (config_after old c)
+  after_ours old c (inl is) ours = subst (λ (c : Command). IsOurConfig (config_after old c)) (sym is) (record {
+    ours = λ at sa there. elim (cases_eq at an) [
+      | inl same ↦ (same, some_one _ sa our_association there (put-this old.tx an at _ same))
+      | inr apart ↦ ours.ours at sa (sym (put-that old.tx an at _ apart) ∙ there)
+    ];
+    mode = ours.mode;
+  })
+  after_ours old c (inr is) ours =
+      subst (λ (c : Command). IsOurConfig (config_after old c)) (sym is) (record { ours = ours.ours; mode = ours.mode })
+
+  abbrev IsOurs : State → Type 0
+  IsOurs s = alone.IsOurs identity IsOurCommand IsOurConfig by_default after_ours s
+
+  abbrev AreOurCalls : List Exchange → Type 0
+  AreOurCalls exchanges = alone.AreOurCalls identity IsOurCommand IsOurConfig by_default after_ours exchanges
+
+  abbrev IsOurLife : Life → Type 0
+  IsOurLife life = alone.IsOurLife identity IsOurCommand IsOurConfig by_default after_ours life
+
+  our-moment : (sectors : ℕ) (s : State) (m : Moment sectors s) → AllByRecursion IsOurLife m.lives → AreOurCalls m.exchanges → IsOurs s
+  our-moment sectors s m lives calls = alone.our-moment identity IsOurCommand IsOurConfig by_default after_ours sectors s m lives calls
+
+  our-answer : (sectors : ℕ) (lives : List Life) (e : Exchange) (logs : Logs) (was : WasAnswered sectors lives e logs) → AllByRecursion IsOurLife lives → IsOurs was.at
+  our-answer sectors lives e logs was its = alone.our-answer identity IsOurCommand IsOurConfig by_default after_ours sectors lives e logs was its
+
+  night-frame : (s : State) (plain : List ℕ) (pn : ℕ) (out : List ℕ) (new : State) → IsOurs s → IsStandardFrame s plain pn out new
       → IsNightFrame identity an key plain pn out
   night-frame s plain pn out new ours f =
       let its = ours.config_is.ours f.an f.sa f.association in
@@ -101,7 +154,7 @@ module _ (identity : Identity) (an : ℕ) (key : List ℕ) where
         frame = f.frame ∙ (λ i. frame_by (its.0 i) (its.1 i) (ours.identity_is i) (ours.config_is.mode i) pn plain);
       }
 
-  key-is : (s : State) (plain : List ℕ) (pn : ℕ) (out : List ℕ) (new : State) → IsOurs identity an key s → (f : IsStandardFrame s plain pn out new) → f.sa.key ≡ key
+  key-is : (s : State) (plain : List ℕ) (pn : ℕ) (out : List ℕ) (new : State) → IsOurs s → (f : IsStandardFrame s plain pn out new) → f.sa.key ≡ key
   key-is s plain pn out new ours f = ap (λ (sa : TxSa). sa.key) (ours.config_is.ours f.an f.sa f.association).1
 
 -- ---- the night

@@ -18,7 +18,7 @@ use Rattle.macs_endpoint.specs.State.{Delivery, Logs, State}
 use Rattle.macs_endpoint.specs.Step.{Exchange, Steps, next_after, numbers_after}
 use Rattle.macs_endpoint.specs.Restart.{Restart, RxRises, opened_state, rx_limit}
 use Rattle.macs_headline.specs.History.{Blank, Formatted, Past, logs_of}
-use Rattle.macs_headline.specs.Moments.{IsFoundAfter, Moment, WasGiven, WasUsed}
+use Rattle.macs_headline.specs.Moments.{IsFoundAfter, WasGiven, WasUsed}
 use Rattle.macs_headline.specs.Numbers.{GivenApart, GivenBelow, HasNoneTwice, IsBeyondRx, IsBeyondTx, IsMoved, OkApart, SkipsFew, SkipsFewReceived, UsedBelow, UsedOnce, UsedOnceAtEnd}
 use Rattle.macs_headline.specs.Windows.{WindowsAreKept}
 use Rattle.macs_headline.proofs.Lists.{pairs-none}

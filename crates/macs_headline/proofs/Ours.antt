@@ -1,17 +1,11 @@
--- Histories in which one transmit association is installed at most, under one identity.
-use Rattle.std.proofs.Common.{◌≡◌, ◌++◌, inl, inr, ℕ, Bool, true, false, List, [], ◌∷◌, Result, Ok, Err, refl, sym, ◌∙◌, ap, subst, ◌⊎◌}
+-- Histories under one identity with certain commands alone: what holds of each configuration that these make holds at each moment.
+use Rattle.std.proofs.Common.{◌≡◌, ◌++◌, inl, inr, ℕ, Bool, true, false, List, [], ◌∷◌, Result, Ok, Err, refl, sym, ◌∙◌, ap, subst}
 use Rattle.std.specs.Prelude.{Contains, Option, Some, None}
 use Rattle.std.specs.List.{AllByRecursion}
-use Rattle.std.proofs.lemmas.Bool.{cases_eq}
-use Rattle.macs_frame.specs.declared.fields.Offset.TheVariants.{Zero}
 use Rattle.macs_config.specs.Apply.{apply, config_after}
-use Rattle.macs_config.specs.Config.{Config, Edition}
+use Rattle.macs_config.specs.Config.{Config, Edition, default}
 use Rattle.macs_config.specs.Identity.{Identity}
-use Rattle.macs_config.specs.declared.association.Protection.TheVariants.{Confidentiality}
-use Rattle.macs_config.specs.declared.association.TxSa.{TxSa}
 use Rattle.macs_config.specs.declared.command.Command.{Command}
-use Rattle.macs_config.specs.declared.command.Command.TheVariants.{TxUse}
-use Rattle.macs_config.specs.declared.command.SciMode.TheVariants.{Explicit}
 use Rattle.macs_disk.specs.States.{Image}
 use Rattle.macs_store.specs.Found.{StandingIs}
 use Rattle.macs_store.specs.Standing.{Standing, new_standing}
@@ -21,40 +15,31 @@ use Rattle.macs_endpoint.specs.declared.fault.ProtectFault.{ProtectFault}
 use Rattle.macs_endpoint.specs.declared.fault.ProtectFault.TheVariants as protect
 use Rattle.macs_endpoint.specs.declared.fault.RefillFault.{RefillFault}
 use Rattle.macs_endpoint.specs.declared.fault.RefillFault.TheVariants as refill
+use Rattle.macs_endpoint.specs.declared.fault.Stopped.{Stopped}
+use Rattle.macs_rxsc.specs.declared.verdict.Verdict.{Verdict}
 use Rattle.macs_endpoint.specs.Restart.{Restart, opened_state}
-use Rattle.macs_endpoint.specs.State.{Call, Commands, Logs, Protects, Protected, Ran, Refilled, Refills, Reply, State, no_logs}
-use Rattle.macs_endpoint.specs.Step.{CommandStep, Exchange, ProtectStep, RefillStep, RunningStep, Step, Steps}
+use Rattle.macs_endpoint.specs.State.{Call, Commands, Logs, Protects, Protected, Ran, Received, Receives, Refilled, Refills, Reply, State, no_logs}
+use Rattle.macs_endpoint.specs.Step.{CommandStep, Exchange, ProtectStep, ReceiveStep, RefillStep, RunningStep, Step, Steps}
 use Rattle.macs_headline.specs.History.{Blank, FitsPast, FormatLeads, Formats, Formatted, IsLifeSoFar, LeadOn, Leads, Life, Past, Refuses, Serves, logs_of}
 use Rattle.macs_headline.specs.Answered.{WasAnswered}
 use Rattle.macs_headline.specs.Moments.{Moment}
-use Rattle.macs_headline.specs.Nights.{night_install}
 use Rattle.macs_headline.proofs.Accepted.{accepted}
 use Rattle.macs_headline.proofs.Histories.{fits-restart, found-new}
 use Rattle.macs_headline.proofs.Ledger.{some_one}
 use Rattle.macs_headline.proofs.Lists.{all-front, all-rear, contains-cases, contains-none}
-use Rattle.macs_headline.proofs.Places.{put-that, put-this}
 
 none_some : {X : Type 0} (x : X) → ◌≡◌ {A = Option X} None (Some x) → ⊥
 none_some x is = cc
 
-module _ (identity : Identity) (an : ℕ) (key : List ℕ) where
-  abbrev pub our_association : TxSa
-  our_association = record { key = key; protection = Confidentiality Zero }
-
-  -- to install it, or to use it
-  abbrev pub IsOurCommand : Command → Type 0
-  IsOurCommand c = (c ≡ night_install an key) ⊎ (c ≡ TxUse an)
-
+module _ (identity : Identity) (IsOurCommand : Command → Type 0) (IsOurConfig : Config → Type 0) (by_default : IsOurConfig default)
+    (after_ours : (old : Config) (c : Command) → IsOurCommand c → IsOurConfig old → IsOurConfig (config_after old c)) where
+  -- one of these commands, or a call that makes no configuration
   abbrev pub IsOurCall : Call → Type 0
   IsOurCall (Commands c) = IsOurCommand c
   IsOurCall Refills = Unit {0}
   IsOurCall (Protects plain) = Unit {0}
+  IsOurCall (Receives frame) = Unit {0}
   IsOurCall call = ⊥
-
-  -- none stands but it
-  pub record IsOurConfig (c : Config) : Type 0 where
-    pub ours : (at : ℕ) (sa : TxSa) → c.tx at ≡ Some sa → (at ≡ an) × (sa ≡ our_association)
-    pub mode : c.mode ≡ Explicit
 
   pub record IsOurs (s : State) : Type 0 where
     pub identity_is : s.identity ≡ identity
@@ -62,17 +47,6 @@ module _ (identity : Identity) (an : ℕ) (key : List ℕ) where
     pub hand : (c : Command) → s.in_hand ≡ Some c → IsOurCommand c
 
   -- ---- a call
-
-  after_ours : (old : Config) (c : Command) → IsOurCommand c → IsOurConfig old → IsOurConfig (config_after old c)
-  after_ours old c (inl is) ours = subst (λ (c : Command). IsOurConfig (config_after old c)) (sym is) (record {
-    ours = λ at sa there. elim (cases_eq at an) [
-      | inl same ↦ (same, some_one _ sa our_association there (put-this old.tx an at _ same))
-      | inr apart ↦ ours.ours at sa (sym (put-that old.tx an at _ apart) ∙ there)
-    ];
-    mode = ours.mode;
-  })
-  after_ours old c (inr is) ours =
-      subst (λ (c : Command). IsOurConfig (config_after old c)) (sym is) (record { ours = ours.ours; mode = ours.mode })
 
   made_ours : (edition : Edition) (identity : Identity) (old : Config) (c : Command) (new : Config) → apply edition identity old c ≡ Ok new → IsOurCommand c
       → IsOurConfig old → IsOurConfig new
@@ -114,13 +88,24 @@ module _ (identity : Identity) (an : ℕ) (key : List ℕ) where
   by_protect old plain (Err (protect.Tx fault)) out new (why, empty, is) ours = same_ours old new is ours
   by_protect old plain (Err protect.Stopped) out new h ours = absurd h
 
+  by_receive : (old : State) (frame : List ℕ) (result : Result Verdict Stopped) (out : List ℕ) (new : State) → ReceiveStep old frame result out new → IsOurs old
+      → IsOurs new
+  by_receive old frame (Ok verdict) out new (inl (step, is_first, is_verdict, is_out, is)) ours = same_ours old new is ours
+  by_receive old frame (Ok verdict) out new (inr (a, there, inl (is_verdict, above, is_out, is))) ours =
+      subst IsOurs (sym is) (record { identity_is = ours.identity_is; config_is = ours.config_is; hand = ours.hand })
+  by_receive old frame (Ok verdict) out new (inr (a, there, inr (is_verdict, is_out, is))) ours =
+      subst IsOurs (sym is) (record { identity_is = ours.identity_is; config_is = ours.config_is; hand = ours.hand })
+  by_receive old frame (Err stopped) out new h ours = absurd h
+
   by_call : (old : State) (call : Call) (reply : Reply) (new : State) → IsOurCall call → RunningStep old call reply new → IsOurs old → IsOurs new
   by_call old (Commands c) (Ran result) new its h ours = by_command old c result new its h ours
   by_call old Refills (Refilled result) new its h ours = by_refill old result new h ours
   by_call old (Protects plain) (Protected result out) new its h ours = by_protect old plain result out new h ours
+  by_call old (Receives frame) (Received result out) new its h ours = by_receive old frame result out new h ours
   by_call old (Commands c) reply new its h ours = absurd h
   by_call old Refills reply new its h ours = absurd h
   by_call old (Protects plain) reply new its h ours = absurd h
+  by_call old (Receives frame) reply new its h ours = absurd h
   by_call old call reply new its h ours = absurd its
 
   by_step : (old : State) (call : Call) (reply : Reply) (new : State) → IsOurCall call → Step old call reply new → IsOurs old → IsOurs new
@@ -164,7 +149,7 @@ module _ (identity : Identity) (an : ℕ) (key : List ℕ) where
   opened_new : (edition : Edition) (given : Identity) (logs : Logs) (found : Standing) → given ≡ identity → new_standing edition given ≡ found → IsOurs (opened_state found logs)
   opened_new edition given logs found its is = subst (λ (found : Standing). IsOurs (opened_state found logs)) is (record {
     identity_is = its;
-    config_is = record { ours = λ at sa there. absurd (none_some sa there); mode = refl };
+    config_is = by_default;
     hand = λ c held. absurd (none_some c held);
   })
 

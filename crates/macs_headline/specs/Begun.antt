@@ -1,5 +1,5 @@
 -- The headline on the command in hand: where work on it may have begun, and that it is accepted.
-use Rattle.std.specs.Prelude.{◌≡◌, ◌⊎◌, ℕ, List, [], Option, Some, None}
+use Rattle.std.specs.Prelude.{◌≡◌, ◌⊎◌, ℕ, false, List, [], Option, Some, None}
 use Rattle.macs_config.specs.declared.command.Command.{Command}
 use Rattle.macs_endpoint.specs.Queue.{first_command}
 use Rattle.macs_endpoint.specs.State.{Advances, Call, Commands, State}
@@ -17,9 +17,10 @@ MayBegin (Some Advances) waiting command = first_command waiting ≡ Some comman
 MayBegin (Some (Commands given)) [] command = given ≡ command
 MayBegin cut waiting command = ⊥
 
--- A command was in hand after the last answer, or work on it may have begun in the call that was cut short; and no reason holds to refuse it.
+-- A command was in hand after the last answer, or work on it may have begun in the call that was cut short, of an endpoint that is not stopped; and no reason
+-- holds to refuse it.
 pub record WasBegun (exchanges : List Exchange) (last : State) (cut : Option Call) (command : Command) : Type 0 where
-  pub begun : (last.in_hand ≡ Some command) ⊎ MayBegin cut (waiting_at_end exchanges) command
+  pub begun : (last.in_hand ≡ Some command) ⊎ ((last.stopped ≡ false) × MayBegin cut (waiting_at_end exchanges) command)
   pub accepted : refusal_at last command ≡ None
 
 -- so it is of what is in hand at whatever moment a life ends, in the midst of a call or not

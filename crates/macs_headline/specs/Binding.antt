@@ -25,8 +25,10 @@ use Rattle.macs_rxsc.specs.declared.verdict.Kind.TheVariants.{Ok as AsOk}
 use Rattle.macs_rxsc.specs.declared.verdict.Verdict.TheVariants.{Delivered}
 use Rattle.macs_endpoint.specs.Ceilings.{Raise}
 use Rattle.macs_endpoint.specs.Restart.{Fits}
-use Rattle.macs_endpoint.specs.State.{Advances, Call, Logs, Protects, Protected, Received, Receives, Reply, State, no_logs}
-use Rattle.macs_endpoint.specs.Value.{EndpointValue, IsSoundEndpoint, device_in, disk_in, state_of}
+use Rattle.macs_endpoint.specs.State.{Advances, Call, Commands, Logs, Protects, Protected, Received, Receives, Reply, State, no_logs, state_with_in_hand}
+use Rattle.macs_endpoint.specs.Value.{EndpointValue, IsSoundEndpoint, device_in, disk_in, is_stopped, state_of}
+use Rattle.macs_endpoint.specs.declared.queue.Waiting.{Waiting}
+use Rattle.macs_config.specs.declared.command.Command.{Command}
 use Rattle.macs_headline.specs.Commands.{FindsPrefix}
 use Rattle.macs_headline.specs.Answered.{exchanges_of_lives, lives_at}
 use Rattle.macs_headline.specs.Deliveries.{IsOtherDelivery, IsVerifiedDelivery, IsVerifiedKind, delivering}
@@ -35,6 +37,7 @@ use Rattle.macs_headline.specs.Frames.{IsOtherFrame, IsStandardFrame, writing}
 use Rattle.macs_headline.specs.History.{FitsPast, Formats, IsHistory, Life, Past, Refuses, Serves, logs_of, state_at_end}
 use Rattle.macs_headline.specs.Moments.{IsFoundAfter, Moment}
 use Rattle.macs_headline.specs.Numbers.{HasNoneTwice}
+use Rattle.macs_headline.specs.Refused.{refusal_at}
 use Rattle.macs_headline.specs.Tickets.{AreTicketsKept}
 
 -- an honest disk of 1,028 sectors or more, whose head gates are closed in every image
@@ -179,6 +182,30 @@ LivesFitUnbegun {D} disk_of = (disk new : D) (before : List Life) (first last : 
     → (at : IsAtMoment (disk_of disk).sectors before (now (disk_of disk)).seen turns first last)
     × ((later : Edition) → IsUpTo this_edition later → (image : Image) → MayLeave (disk_of new) image
     → Fits later (disk_of disk).sectors image (state_of last at.logs))
+
+-- Work on this command may have begun in the call that was cut short: in `command`, which was given it while none waited; or in a step, where no command was
+-- in hand, no ceiling was being raised, and to keep this command was the next piece of work. In no other call.
+abbrev pub MayBeginIn : {D : Type 0} → EndpointValue D → Option Call → Command → Type 0
+MayBeginIn e (Some (Commands given)) command = (e.waiting ≡ []) × (given ≡ command)
+MayBeginIn e (Some Advances) command =
+    (e.in_hand ≡ None) × (e.reserving ≡ None) × (first : Waiting) × (next_piece e ≡ Some (ToKeep first)) × (first.command ≡ command)
+MayBeginIn e cut command = ⊥
+
+-- so it may in an endpoint that is not stopped, and where no reason holds to refuse the command
+pub record MayHaveBegun {D : Type 0} (e : EndpointValue D) (cut : Option Call) (command : Command) : Type 0 where
+  pub running : is_stopped e ≡ false
+  pub accepted : refusal_at (state_of e no_logs) command ≡ None
+  pub begun : MayBeginIn e cut command
+
+-- The state in which a life ends: where work on a command may have begun, the state after the last answer with this command in hand; else that state as it is.
+pub record IsExactEnd {D : Type 0} (e : EndpointValue D) (logs : Logs) (cut : Option Call) : Type 0 where
+  pub begun : (command : Command) → MayHaveBegun e cut command → state_left e logs cut ≡ state_with_in_hand (state_of e logs) command
+  pub unbegun : ((command : Command) → ¬ MayHaveBegun e cut command) → state_left e logs cut ≡ state_of e logs
+
+-- so does each life end, whichever call was cut short, or none
+abbrev pub LivesEndExactly : {D : Type 0} → (D → Disk) → Type 0
+LivesEndExactly {D} disk_of = (disk : D) (first last : EndpointValue D) (turns : List (Transition D)) (logs : Logs) (cut : Option Call)
+    → LivesFrom disk_of disk first turns last → IsExactEnd last logs cut
 
 -- Each image that the disk may leave after a life stands, to this edition and to each larger one, for the configuration after a prefix of the
 -- life's accepted commands that holds every acknowledged one.

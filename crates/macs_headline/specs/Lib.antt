@@ -22,6 +22,7 @@ pub mod Endings
 pub mod Binding
 pub mod Days
 pub mod Nights
+pub mod Watches
 pub mod Images
 pub mod Example
 pub mod ExampleStanding

@@ -15,7 +15,7 @@ ghost use Rattle.macs_headline.specs.Answered.{AnswersAreHeld, MomentsAreHistori
 ghost use Rattle.macs_headline.specs.Binding.{CallsAreDeeds, ChainsAnswer, ChainsKeepSizes, ChainsTell, DeedsAreHistories, EndsAreCuts};
 ghost use Rattle.macs_headline.specs.Binding.{FramesAreDeliveredOnce, FramesAreWrittenOnce};
 ghost use Rattle.macs_headline.specs.Binding.{FusesChangeNone, IsNewDisk, LargerFind, LargerGoOn, LivesAreMoments, LivesFit, LivesFitUnbegun, LivesKeepCommands};
-ghost use Rattle.macs_headline.specs.Binding.{LivesKeepTickets, TheseAreNew};
+ghost use Rattle.macs_headline.specs.Binding.{LivesEndExactly, LivesKeepTickets, TheseAreNew};
 ghost use Rattle.macs_headline.specs.Binding.{NewDeedsAreHistories};
 ghost use Rattle.macs_headline.specs.Binding.{NewDisksHaveHistories, OpeningsFind, PassedOnHaveHistories, RefusalsAreFailures, SettledHaveHistories};
 ghost use Rattle.macs_headline.specs.Begun.{InHandWasBegun};
@@ -193,6 +193,8 @@ pub fn histories<D: SectorDisk>()
     ensures fit { LivesFit D.disk }
     // It has begun none where a ceiling is being raised, or where to raise one is next.
     ensures fit_unbegun { LivesFitUnbegun D.disk }
+    // That state is the one after the last answer, with a command in hand only where the call may have begun it.
+    ensures fit_exactly { LivesEndExactly D.disk }
     // What it acknowledged is kept.
     ensures commands { LivesKeepCommands D.disk }
     // Its tickets are kept, on every disk.
