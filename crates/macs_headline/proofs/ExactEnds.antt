@@ -65,7 +65,8 @@ first_unbegun s None (first ∷ rest) never =
 first_unbegun s (Some c) waiting never = refl
 
 -- what is to be kept next is the first that waits
-keeps_first : (whose : Turn) (raise : Option Raise) (waiting : Option Waiting) (w : Waiting) → piece_among whose raise waiting ≡ Some (ToKeep w) → waiting ≡ Some w
+keeps_first : (whose : Turn) (raise : Option Raise) (waiting : Option Waiting) (w : Waiting) → piece_among whose raise waiting ≡ Some (ToKeep w)
+    → waiting ≡ Some w
 keeps_first whose None None w is = absurd (cc)
 keeps_first whose (Some raise) None w is = absurd (cc)
 keeps_first whose None (Some first) w is = cc

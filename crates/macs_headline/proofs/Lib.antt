@@ -18,10 +18,12 @@ pub mod HandedIn
 pub mod Ranges
 pub mod Deliveries
 pub mod Received
+pub mod Moving
 pub mod Steps
 pub mod Refused
 pub mod Begun
 pub mod Stopping
+pub mod Faults
 pub mod Cuts
 pub mod Unbegun
 pub mod Losses

@@ -9,7 +9,7 @@ use Rattle.macs_config.specs.declared.command.Validate.{Validate}
 use Rattle.macs_config.specs.declared.command.Validate.TheVariants.{Check, Strict}
 use Rattle.macs_frame.specs.Fields.{octets_of}
 use Rattle.macs_frame.specs.Opening.{Verified}
-use Rattle.macs_frame.specs.Tag.{changed, control}
+use Rattle.macs_frame.specs.Tag.{changed, control, tag_of}
 use Rattle.macs_frame.specs.declared.tag.TagFault.TheVariants.{Runt as IsRunt, Oversize as IsOversize, NoTag as HasNoTag, BadTag as HasBadTag, ForKay as IsForKay}
 use Rattle.macs_rxsc.specs.Receive.{Arrival, Arrives, BelowLowest, NoAssociation, NoChannel, NotVerified, Numbers, RxSide, RxStep, Tag, first_numbers, is_strict, numbers_after_delivery, numbers_after_hold, numbers_under_window, seen_after, verdict_at}
 use Rattle.macs_rxsc.specs.declared.verdict.Kind.{Kind}
@@ -116,6 +116,10 @@ held-are-ahead sectors s m frame out new (inr (running, inr (a, there, inl (is_v
   are_numbers = ap (s.numbers a.sci) (sym there.is_an) ∙ there.are_numbers;
   verified = there.verified;
   ahead = subst (λ (n : ℕ). a.numbers.next ≤ n) there.is_pn above;
+  shown = ap (λ (t : State). option_map (λ (n : Numbers). n.seen) (t.numbers a.sci (tag_of frame).an)) same
+      ∙ ap (option_map (λ (n : Numbers). n.seen))
+      (put_rx-this s.numbers a.sci a.an a.sci (tag_of frame).an (Some (numbers_after_hold a.numbers a.pn)) refl (sym there.is_an))
+      ∙ ap (λ (pn : ℕ). Some (seen_after a.numbers.seen pn)) there.is_pn;
   next = λ at an. ap (λ (t : State). option_map (λ (n : Numbers). n.next) (t.numbers at an)) same
       ∙ put_alike (λ (n : Numbers). n.next) s.numbers a.sci a.an at an a.numbers (numbers_after_hold a.numbers a.pn) there.are_numbers refl;
   lowest = λ at an. ap (λ (t : State). option_map (λ (n : Numbers). n.lowest) (t.numbers at an)) same

@@ -122,7 +122,8 @@ module _ (identity : Identity) (sci : List ℕ) (an : ℕ) (key : List ℕ) wher
   our-moment : (sectors : ℕ) (s : State) (m : Moment sectors s) → AllByRecursion IsOurLife m.lives → AreOurCalls m.exchanges → IsOurs s
   our-moment sectors s m lives calls = alone.our-moment identity IsOurCommand IsOurConfig by_default after_ours sectors s m lives calls
 
-  our-answer : (sectors : ℕ) (lives : List Life) (e : Exchange) (logs : Logs) (was : WasAnswered sectors lives e logs) → AllByRecursion IsOurLife lives → IsOurs was.at
+  our-answer : (sectors : ℕ) (lives : List Life) (e : Exchange) (logs : Logs) (was : WasAnswered sectors lives e logs) → AllByRecursion IsOurLife lives
+      → IsOurs was.at
   our-answer sectors lives e logs was its = alone.our-answer identity IsOurCommand IsOurConfig by_default after_ours sectors lives e logs was its
 
   -- a frame that is delivered in such a state

@@ -38,6 +38,7 @@ use Rattle.macs_headline.specs.History.{FitsPast, Formats, IsHistory, Life, Past
 use Rattle.macs_headline.specs.Moments.{IsFoundAfter, Moment}
 use Rattle.macs_headline.specs.Numbers.{HasNoneTwice}
 use Rattle.macs_headline.specs.Refused.{refusal_at}
+use Rattle.macs_headline.specs.Stopping.{TellsFault}
 use Rattle.macs_headline.specs.Tickets.{AreTicketsKept}
 
 -- an honest disk of 1,028 sectors or more, whose head gates are closed in every image
@@ -262,6 +263,15 @@ FramesAreDeliveredOnce {D} disk_of = (disk : D) (before : List Life) (first last
     (frame : List ℕ) (kind : Kind) (out : List ℕ) → IsVerifiedKind kind → HasHistory this_edition (disk_of disk) before → LivesFrom disk_of disk first turns last
     → IsCall disk_of last (Receives frame) (Received (Ok (Delivered kind)) out) after
     → IsDeliveredOnce (disk_of disk).sectors before (now (disk_of disk)).seen turns first last after frame kind out
+
+-- ---- device faults
+
+-- A call is answered Disk exactly where one device call of it failed, or the disk is worn; in each other call none failed.
+abbrev pub FaultsAreFailures : {D : Type 0} → (D → Disk) → Type 0
+FaultsAreFailures {D} disk_of = (disk : D) (first last after : EndpointValue D) (turns : List (Transition D)) (call : Call) (reply : Reply)
+    → LivesFrom disk_of disk first turns last → IsCall disk_of last call reply after
+    → (TellsFault reply × FailsOnce (disk_in disk_of last) (disk_in disk_of after))
+    ⊎ ((¬ TellsFault reply) × ((disk_in disk_of after).failures ≡ (disk_in disk_of last).failures))
 
 -- ---- openings that are refused
 

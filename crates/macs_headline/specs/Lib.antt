@@ -8,6 +8,7 @@ pub mod Answered
 pub mod Frames
 pub mod Deliveries
 pub mod Windows
+pub mod Moving
 pub mod Received
 pub mod Steps
 pub mod Refused

@@ -9,7 +9,7 @@ use Rattle.macs_frame.specs.First.{IsFirst}
 use Rattle.macs_frame.specs.Opening.{Verified}
 use Rattle.macs_frame.specs.Tag.{changed, control, tag_of}
 use Rattle.macs_frame.specs.declared.tag.TagFault.TheVariants.{Runt as IsRunt, Oversize as IsOversize, NoTag as HasNoTag, BadTag as HasBadTag, ForKay as IsForKay}
-use Rattle.macs_rxsc.specs.Receive.{BelowLowest, NoAssociation, NoChannel, NotVerified, Numbers, RxSide, RxStep, RxStepHolds, Tag, channel_of, rx_steps}
+use Rattle.macs_rxsc.specs.Receive.{BelowLowest, NoAssociation, NoChannel, NotVerified, Numbers, RxSide, RxStep, RxStepHolds, Tag, channel_of, rx_steps, seen_after}
 use Rattle.macs_rxsc.specs.declared.verdict.Kind.{Kind}
 use Rattle.macs_rxsc.specs.declared.verdict.Kind.TheVariants.{Invalid, UnknownSci, Untagged, UnusedSa}
 use Rattle.macs_rxsc.specs.declared.verdict.Reason.{Reason}
@@ -51,7 +51,7 @@ UnverifiedAreSettled sectors = (s : State) → Moment sectors s → (frame out :
 -- ---- frames that are held back
 
 -- A frame verifies under the association of that moment that its tag names, by channel and number, and its packet number is not below the next one there.
--- No next number and no lowest acceptable one moves.
+-- The greatest number that was seen there is that one now, if none above it was. No next number and no lowest acceptable one moves.
 pub record IsAhead (s : State) (frame : List ℕ) (new : State) : Type 0 where
   pub sci : List ℕ
   pub sa : RxSa
@@ -62,6 +62,7 @@ pub record IsAhead (s : State) (frame : List ℕ) (new : State) : Type 0 where
   pub are_numbers : s.numbers sci (tag_of frame).an ≡ Some numbers
   pub verified : Verified frame sa.key sci (octets_of sa.offset) plain
   pub ahead : numbers.next ≤ (tag_of frame).pn
+  pub shown : option_map (λ (n : Numbers). n.seen) (new.numbers sci (tag_of frame).an) ≡ Some (seen_after numbers.seen (tag_of frame).pn)
   pub next : (at : List ℕ) (an : ℕ) → option_map (λ (n : Numbers). n.next) (new.numbers at an) ≡ option_map (λ (n : Numbers). n.next) (s.numbers at an)
   pub lowest : (at : List ℕ) (an : ℕ) → option_map (λ (n : Numbers). n.lowest) (new.numbers at an) ≡ option_map (λ (n : Numbers). n.lowest) (s.numbers at an)
 

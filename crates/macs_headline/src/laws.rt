@@ -13,7 +13,7 @@ ghost use Rattle.macs_disk.specs.declared.layout.Layout.{Layout};
 ghost use Rattle.macs_journal.specs.Areas.{least_sectors};
 ghost use Rattle.macs_headline.specs.Answered.{AnswersAreHeld, MomentsAreHistories};
 ghost use Rattle.macs_headline.specs.Binding.{CallsAreDeeds, ChainsAnswer, ChainsKeepSizes, ChainsTell, DeedsAreHistories, EndsAreCuts};
-ghost use Rattle.macs_headline.specs.Binding.{FramesAreDeliveredOnce, FramesAreWrittenOnce};
+ghost use Rattle.macs_headline.specs.Binding.{FaultsAreFailures, FramesAreDeliveredOnce, FramesAreWrittenOnce};
 ghost use Rattle.macs_headline.specs.Binding.{FusesChangeNone, IsNewDisk, LargerFind, LargerGoOn, LivesAreMoments, LivesFit, LivesFitUnbegun, LivesKeepCommands};
 ghost use Rattle.macs_headline.specs.Binding.{LivesEndExactly, LivesKeepTickets, TheseAreNew};
 ghost use Rattle.macs_headline.specs.Binding.{NewDeedsAreHistories};
@@ -31,6 +31,7 @@ ghost use Rattle.macs_headline.specs.GoingOn.{LivesGoOn};
 ghost use Rattle.macs_headline.specs.Logged.{LogsAreAnswers};
 ghost use Rattle.macs_headline.specs.Numbers.{GivenApart, GivenBelow, NothingForgotten, OkApart, SkipsFew, SkipsFewReceived};
 ghost use Rattle.macs_headline.specs.Numbers.{UsedBelow, UsedOnce, UsedOnceAtEnd};
+ghost use Rattle.macs_headline.specs.Moving.{NumbersMove, SidesAreConfigured};
 ghost use Rattle.macs_headline.specs.Received.{HeldAreAhead, SeenAreVerified, UnverifiedAreSettled};
 ghost use Rattle.macs_headline.specs.Refused.{RefusalsAreExact};
 ghost use Rattle.macs_headline.specs.Steps.{StepsAreOne, StepsAreTaken};
@@ -104,6 +105,10 @@ pub fn headline()
     ensures unverified_are_settled { (sectors : ℕ) → UnverifiedAreSettled sectors }
     // The lowest acceptable number of an association is at most the next one, and no further below it than the window.
     ensures windows_are_kept { (sectors : ℕ) → WindowsAreKept sectors }
+    // A call moves the packet numbers of one association by a frame of its own, or those that a command sets; no others.
+    ensures numbers_move { (sectors : ℕ) → NumbersMove sectors }
+    // What the two sides of an endpoint have is its configuration.
+    ensures sides { SidesAreConfigured }
     // A frame that is held back verifies, and its number is not below the next one.
     ensures held_are_ahead { (sectors : ℕ) → HeldAreAhead sectors }
     // The greatest number that was seen on an association is that of a frame that verified there.
@@ -188,6 +193,8 @@ pub fn histories<D: SectorDisk>()
     ensures cut { EndsAreCuts D.disk }
     // An opening is refused only where a device call failed, or where the disk was not formatted for sure.
     ensures refusals { RefusalsAreFailures D.disk }
+    // A call is answered Disk where a device call failed, and there alone.
+    ensures faults { FaultsAreFailures D.disk }
     // What is left after it is opened as a restart of the state in which it ended, with the command that the
     // call which was cut short may have begun.
     ensures fit { LivesFit D.disk }

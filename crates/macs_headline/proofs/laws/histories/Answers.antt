@@ -1,5 +1,6 @@
 use Rattle.macs_headline.proofs.Chains.{calls-are-deeds, chains-answer, chains-keep-sizes, chains-tell, deeds-are-histories, new-deeds-are-histories}
 use Rattle.macs_headline.proofs.ExactEnds.{lives-end-exactly}
+use Rattle.macs_headline.proofs.Faults.{faults-are-failures}
 use Rattle.macs_headline.proofs.Moments.{ends-are-cuts, frames-are-delivered-once, frames-are-written-once, lives-are-moments, lives-fit, lives-fit-unbegun, lives-keep-commands, openings-find}
 use Rattle.macs_headline.proofs.Refusals.{refusals-are-failures}
 use Rattle.macs_headline.proofs.Tickets.{lives-keep-tickets}
@@ -16,6 +17,9 @@ returns-clause-fit_unbegun g c = lives-fit-unbegun g.D.SectorDisk.disk g.met.D.S
 
 pub returns-clause-fit_exactly : goal.returns-clause-fit_exactly
 returns-clause-fit_exactly g c = lives-end-exactly g.D.SectorDisk.disk
+
+pub returns-clause-faults : goal.returns-clause-faults
+returns-clause-faults g c = faults-are-failures g.D.SectorDisk.disk
 
 pub returns-clause-whole : goal.returns-clause-whole
 returns-clause-whole g c = deeds-are-histories g.D.SectorDisk.disk g.met.D.SectorDisk.sound

@@ -1,0 +1,76 @@
+-- The headline on which packet numbers a call moves, and whose: what the two sides of an endpoint have is its configuration.
+use Rattle.std.specs.Prelude.{◌≡◌, ◌⊎◌, ℕ, Bool, List, Option, Some, None, Ok}
+use Rattle.std.specs.Option.{option_map}
+use Rattle.macs_aes.specs.declared.keys.Key.{Key}
+use Rattle.macs_frame.specs.Tag.{tag_of}
+use Rattle.macs_config.specs.declared.command.Command.{Command}
+use Rattle.macs_config.specs.declared.command.Command.TheVariants.{RxDrop, RxInstall, RxRemove, SetReplay, TxInstall, TxRemove}
+use Rattle.macs_rxsc.specs.Receive.{Numbers, channel_of, first_numbers, numbers_under_window}
+use Rattle.macs_endpoint.specs.Queue.{first_command}
+use Rattle.macs_endpoint.specs.State.{Advanced, Advances, Call, Commands, Protects, Protected, Ran, Received, Receives, Reply, State, rx_side, tx_side}
+use Rattle.macs_endpoint.specs.Step.{Step}
+use Rattle.macs_endpoint.specs.declared.progress.Step.TheVariants.{Done}
+use Rattle.macs_headline.specs.Moments.{Moment}
+
+-- ---- what moves numbers
+
+-- this command takes effect: `command` was given it, or it is the first that waits and a step is done with it
+abbrev pub TakesEffect : State → Call → Reply → Command → Type 0
+TakesEffect s (Commands given) (Ran (Ok done)) command = given ≡ command
+TakesEffect s Advances (Advanced (Ok (Done ticket (Ok done)))) command = first_command s.waiting ≡ Some command
+TakesEffect s call reply command = ⊥
+
+-- a frame goes out under this transmit association
+abbrev pub GoesOutUnder : State → Call → Reply → ℕ → Type 0
+GoesOutUnder s (Protects plain) (Protected (Ok pn) out) an = s.config.encoding ≡ Some an
+GoesOutUnder s call reply an = ⊥
+
+-- a frame is given that names this receive association, by channel and number
+abbrev pub ComesInUnder : State → Call → Reply → List ℕ → ℕ → Type 0
+ComesInUnder s (Receives frame) (Received (Ok verdict) out) sci an = (channel_of (rx_side s) frame ≡ Some sci) × ((tag_of frame).an ≡ an)
+ComesInUnder s call reply sci an = ⊥
+
+-- what a command makes of the next number of a transmit association: an install sets it, a removal takes it away
+abbrev pub SetsNext : Command → ℕ → Option ℕ → Type 0
+SetsNext c an later =
+    ((key : Key) × (start : ℕ) × (confidential : Bool) × (offset : ℕ) × (c ≡ TxInstall an key start confidential offset) × (later ≡ Some start))
+    ⊎ ((c ≡ TxRemove an) × (later ≡ None))
+
+-- and of the numbers of a receive association: so do these, the drop of its channel takes them away, and a window may raise the lowest one
+abbrev pub SetsNumbers : Command → List ℕ → ℕ → Option Numbers → Option Numbers → Type 0
+SetsNumbers c sci an old later =
+    ((key : Key) × (start : ℕ) × (offset : ℕ) × (c ≡ RxInstall sci an key start offset) × (later ≡ Some (first_numbers start)))
+    ⊎ (((c ≡ RxRemove sci an) ⊎ (c ≡ RxDrop sci)) × (later ≡ None))
+    ⊎ ((on : Bool) × (window : ℕ) × (c ≡ SetReplay on window) × (later ≡ option_map (numbers_under_window window) old))
+
+-- The next number of each transmit association stays, unless a frame goes out under it, or a command sets it. The numbers of each receive association stay,
+-- unless a frame is given that names it, or a command sets them.
+pub record MovesOnlyThese (s : State) (call : Call) (reply : Reply) (new : State) : Type 0 where
+  pub transmit : (an : ℕ) → (new.next an ≡ s.next an) ⊎ (GoesOutUnder s call reply an
+      ⊎ ((c : Command) × TakesEffect s call reply c × SetsNext c an (new.next an)))
+  pub receive : (sci : List ℕ) (an : ℕ) → (new.numbers sci an ≡ s.numbers sci an) ⊎ (ComesInUnder s call reply sci an
+      ⊎ ((c : Command) × TakesEffect s call reply c × SetsNumbers c sci an (s.numbers sci an) (new.numbers sci an)))
+
+-- so it is of each call at each moment
+abbrev pub NumbersMove : ℕ → Type 0
+NumbersMove sectors = (s : State) → Moment sectors s → (call : Call) (reply : Reply) (new : State) → Step s call reply new → MovesOnlyThese s call reply new
+
+-- ---- the two sides
+
+-- The transmit channel of an endpoint has its SCI, and mode, encoding association and associations of its configuration; its receive channels have validation,
+-- replay protection, channels and associations of that. The numbers are those of the state.
+pub record HasSides (s : State) : Type 0 where
+  pub sci : (tx_side s).sci ≡ s.identity.sci
+  pub mode : (tx_side s).mode ≡ s.config.mode
+  pub encoding : (tx_side s).encoding ≡ s.config.encoding
+  pub tx : (tx_side s).tx ≡ s.config.tx
+  pub next : (tx_side s).next ≡ s.next
+  pub validate : (rx_side s).validate ≡ s.config.validate
+  pub replay : (rx_side s).replay ≡ s.config.replay
+  pub channels : (rx_side s).channels ≡ s.config.channels
+  pub rx : (rx_side s).rx ≡ s.config.rx
+  pub numbers : (rx_side s).numbers ≡ s.numbers
+
+-- so have those of every state
+abbrev pub SidesAreConfigured : Type 0
+SidesAreConfigured = (s : State) → HasSides s
