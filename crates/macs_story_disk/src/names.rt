@@ -28,7 +28,7 @@ pub fn key_of(words: &mut Words<'_>) -> Option<Key> {
         *words = behind;
         return Some(Key::Long(octets));
     }
-    Some(Key::Short(words.key()?))
+    Some(Key::Short(words.hex_or_turn()?.to_be_bytes()))
 }
 
 /// The next word as the fingerprint of a key: 64 hex digits.

@@ -88,15 +88,14 @@ impl<'a> Words<'a> {
         (length <= 9_217).then_some(length)
     }
 
-    /// A key: hex digits, with zeros in front where they are fewer than 32; or the number of a
-    /// turn.
-    pub fn key(&mut self) -> Option<[u8; 16]> {
+    /// A number of 128 bits: hex digits, with zeros in front where they are fewer than 32; or the number
+    /// of a turn.
+    pub fn hex_or_turn(&mut self) -> Option<u128> {
         let word = self.raw();
-        let key = match hex_number(self.values.text_of(word)) {
-            Some(key) => key,
-            None => u128::from(self.values.number_of(word)?),
-        };
-        Some(key.to_be_bytes())
+        match hex_number(self.values.text_of(word)) {
+            Some(number) => Some(number),
+            None => Some(u128::from(self.values.number_of(word)?)),
+        }
     }
 
     /// An octet of two hex digits.
