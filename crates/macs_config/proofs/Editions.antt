@@ -2,7 +2,7 @@
 use Rattle.std.proofs.Common.{◌≡◌, ◌∙◌, ℕ, Bool, true, false, cond, not, ◌&&◌, ◌||◌, ◌==◌, nat_le, nat_lt, List, [], ◌∷◌, ◌++◌, length, Option, Some, None, is_none, Ok, bytes_eq, refl, ap, arith}
 use Rattle.std.proofs.lemmas.Bool.{and_from, and_parts, leb-false, lt-leb, ltb-true, lt-ltb, not-false}
 use Rattle.macs_aes.specs.Keys.{octets_of_key}
-use Rattle.macs_frame.specs.First.{first}
+use Rattle.macs_fields.specs.First.{first}
 use Rattle.macs_config.specs.Apply.{apply, are_channels_full, are_spent_full, config_after, has_no_channel, has_wrong_offset, has_wrong_start, is_channel_taken, is_in_use, is_key_spent, is_long_key, is_own_sci, is_slot_empty, is_slot_taken, is_wrong_end_station, refusal_of}
 use Rattle.macs_config.specs.Config.{Config, Edition, IsConfig, IsUpTo, default, has_channel, takes_key}
 use Rattle.macs_config.specs.Identity.{Identity}

@@ -4,10 +4,10 @@ use Rattle.std.proofs.lemmas.Bool.{eq-eqb, ne_eqb}
 use Rattle.std.proofs.lemmas.List.{get_or_default}
 use Rattle.macs_aes.specs.Keys.{HasItsLength, key_of_octets, key_of_octets-octets_of_key, octets_of_key}
 use Rattle.macs_aes.specs.declared.keys.Key.{Key}
-use Rattle.macs_frame.specs.Fields.{octets_of}
-use Rattle.macs_frame.specs.First.{first}
-use Rattle.macs_frame.specs.declared.fields.Offset.{Offset}
-use Rattle.macs_frame.specs.declared.fields.Offset.TheVariants.{Zero, Thirty, Fifty}
+use Rattle.macs_fields.specs.Fields.{octets_of}
+use Rattle.macs_fields.specs.First.{first}
+use Rattle.macs_fields.specs.declared.fields.Offset.{Offset}
+use Rattle.macs_fields.specs.declared.fields.Offset.TheVariants.{Zero, Thirty, Fifty}
 use Rattle.macs_config.specs.Apply.{answer_or_refusal, config_after, offset_at, refusal_of}
 use Rattle.macs_config.specs.Association.{is_confidential, offset_of}
 use Rattle.macs_config.specs.Config.{Config, has_channel, is_spent, max_spent, rx_fingerprint, takes_key, this_edition, tx_fingerprint}

@@ -2,7 +2,7 @@
 use Rattle.std.proofs.Common.{◌≡◌, ◌∙◌, ◌<◌, ℕ, Bool, true, false, cond, not, ◌&&◌, nat_le, List, [], ◌∷◌, ◌++◌, length, Option, Some, None, is_some, is_none, Ok, filter, bytes_eq, refl, ap, subst, arith, length-append}
 use Rattle.std.proofs.lemmas.Bool.{leb-false, not-false, or_from, or_left, or_right}
 use Rattle.macs_aes.specs.Keys.{octets_of_key}
-use Rattle.macs_frame.specs.First.{first}
+use Rattle.macs_fields.specs.First.{first}
 use Rattle.macs_config.specs.Apply.{apply, config_after, is_channel_taken, are_channels_full, is_long_key, offset_or_zero, is_wrong_end_station, is_in_use, is_encoding, is_key_spent, has_no_channel, offset_at, is_own_sci, refusal_of, refusals, is_slot_empty, are_spent_full, answer_or_refusal}
 use Rattle.macs_config.specs.Association.{is_end_station, protection_of}
 use Rattle.macs_config.specs.Config.{Config, Edition, IsConfig, is_among, is_spent, max_spent, put_among, rx_fingerprint, takes_key, tx_fingerprint}

@@ -1,9 +1,9 @@
 -- The confidentiality offset of so many octets.
 use Rattle.std.proofs.Common.{◌≡◌, ◌↔◌, ◌==◌, ℕ, Bool, true, false, cond, Option, Some, None, refl, sym}
 use Rattle.std.proofs.lemmas.Bool.{eqb-true, eqb-false}
-use Rattle.macs_frame.specs.Fields.{octets_of}
-use Rattle.macs_frame.specs.declared.fields.Offset.{Offset}
-use Rattle.macs_frame.specs.declared.fields.Offset.TheVariants.{Zero, Thirty, Fifty}
+use Rattle.macs_fields.specs.Fields.{octets_of}
+use Rattle.macs_fields.specs.declared.fields.Offset.{Offset}
+use Rattle.macs_fields.specs.declared.fields.Offset.TheVariants.{Zero, Thirty, Fifty}
 use Rattle.macs_config.specs.Apply.{offset_at}
 
 module _ (result : Option Offset) (octets : ℕ) (exact : (offset : Offset) → (result ≡ Some offset) ↔ (octets ≡ octets_of offset)) where

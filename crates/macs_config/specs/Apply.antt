@@ -3,10 +3,10 @@ use Rattle.std.specs.Prelude.{◌<◌, ◌⊎◌, ◌^◌, ℕ, if◌then◌else
 use Rattle.std.specs.List.{filter}
 use Rattle.std.specs.Str.{bytes_eq}
 use Rattle.macs_aes.specs.Keys.{octets_of_key}
-use Rattle.macs_frame.specs.Fields.{IsAn, IsOctets, IsSci}
-use Rattle.macs_frame.specs.First.{first}
-use Rattle.macs_frame.specs.declared.fields.Offset.{Offset}
-use Rattle.macs_frame.specs.declared.fields.Offset.TheVariants.{Zero, Thirty, Fifty}
+use Rattle.macs_fields.specs.Fields.{IsAn, IsOctets, IsSci}
+use Rattle.macs_fields.specs.First.{first}
+use Rattle.macs_fields.specs.declared.fields.Offset.{Offset}
+use Rattle.macs_fields.specs.declared.fields.Offset.TheVariants.{Zero, Thirty, Fifty}
 use Rattle.macs_config.specs.Association.{is_end_station, protection_of}
 use Rattle.macs_config.specs.Config.{Edition, Config, has_channel, is_spent, max_spent, put_among, rx_fingerprint, takes_key, tx_fingerprint}
 use Rattle.macs_config.specs.Identity.{Identity, is_port_one}

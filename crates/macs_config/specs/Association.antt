@@ -1,7 +1,7 @@
 -- What an association does with User Data, and how frames name their channel.
 use Rattle.std.specs.Prelude.{Bool, true, false}
-use Rattle.macs_frame.specs.declared.fields.Offset.{Offset}
-use Rattle.macs_frame.specs.declared.fields.Offset.TheVariants.{Zero}
+use Rattle.macs_fields.specs.declared.fields.Offset.{Offset}
+use Rattle.macs_fields.specs.declared.fields.Offset.TheVariants.{Zero}
 use Rattle.macs_config.specs.declared.association.Protection.{Protection}
 use Rattle.macs_config.specs.declared.association.Protection.TheVariants.{Integrity, Confidentiality}
 use Rattle.macs_config.specs.declared.command.SciMode.{SciMode}

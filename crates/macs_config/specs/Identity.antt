@@ -1,7 +1,7 @@
 -- What an endpoint is formatted with.
 use Rattle.std.specs.Prelude.{◌≤◌, ℕ, Bool, List, [], ◌∷◌, drop}
 use Rattle.std.specs.Str.{bytes_eq}
-use Rattle.macs_frame.specs.Fields.{IsSci}
+use Rattle.macs_fields.specs.Fields.{IsSci}
 
 -- sci: the SCI of the transmit channel, 8 octets; the blocks: how many packet numbers are reserved at a time
 pub record Identity : Type 0 where

@@ -3,9 +3,9 @@ use Rattle.std.proofs.Common.{◌≡◌, ap, refl, ℕ, Bool, true, false, if◌
 use Rattle.std.specs.List.{filter}
 use Rattle.macs_aes.specs.Keys.{key_of_octets, octets_of_key}
 use Rattle.macs_aes.specs.declared.keys.Key.TheVariants.{Long, Short}
-use Rattle.macs_frame.specs.Fields.{octets_of}
-use Rattle.macs_frame.specs.declared.fields.Offset.{Offset}
-use Rattle.macs_frame.specs.declared.fields.Offset.TheVariants.{Zero, Thirty, Fifty}
+use Rattle.macs_fields.specs.Fields.{octets_of}
+use Rattle.macs_fields.specs.declared.fields.Offset.{Offset}
+use Rattle.macs_fields.specs.declared.fields.Offset.TheVariants.{Zero, Thirty, Fifty}
 use Rattle.macs_config.specs.Apply.{fingerprint_of, has_wrong_offset, has_wrong_start, is_long_key, offset_at, offset_or_zero}
 use Rattle.macs_config.specs.Association.{is_confidential, offset_of, protection_of}
 use Rattle.macs_config.specs.Config.{Config, put_among, rx_fingerprint, this_edition, tx_fingerprint}

@@ -1,7 +1,7 @@
 //! Secure associations, as the operator configures them.
 
 use macs_aes::KeyOctets;
-use macs_frame::Offset;
+use macs_fields::Offset;
 
 /// What an association does with User Data (IEEE Std 802.1AE-2018, 14.5).
 #[derive(Clone, Copy, Debug, PartialEq, Eq)]

@@ -19,7 +19,7 @@ use crate::identity::Identity;
 use crate::refusal::Refusal;
 use crate::spent_keys::{MAX_SPENT, SpentKeys};
 use macs_aes::{Key, KeyOctets};
-use macs_frame::{An, Offset, Pn, Sci};
+use macs_fields::{An, Offset, Pn, Sci};
 
 /// The port of an end station's SCI (IEEE Std 802.1AE-2018, 9.5).
 const END_STATION_PORT: [u8; 2] = [0, 1];

@@ -8,7 +8,7 @@ use crate::association::{RxSa, TxSa};
 use crate::command::{Command, SciMode, Validate};
 use crate::fingerprint::Fingerprint;
 use macs_aes::{Key, KeyOctets};
-use macs_frame::{An, Pn, Sci};
+use macs_fields::{An, Pn, Sci};
 use std::marker::Model;
 
 /// A command as its check judged it, in the types of what it changes. An install has what its association

@@ -1,7 +1,7 @@
 //! What the operator asks for.
 
 use macs_aes::Key;
-use macs_frame::{An, Sci};
+use macs_fields::{An, Sci};
 
 /// What is done with received frames that are not verified: those without a SecTAG, a channel or an
 /// association, and those that do not verify (IEEE Std 802.1AE-2018, 10.6 and 10.7.8).

@@ -23,7 +23,7 @@ use crate::refusal::Refusal;
 use crate::restore::restore;
 use arrayvec::ArrayVec;
 use macs_aes::Key;
-use macs_frame::{An, Pn, Sci};
+use macs_fields::{An, Pn, Sci};
 use std::marker::Model;
 
 /// The configuration of an endpoint: what its operator has commanded, and which keys are spent. It

@@ -5,7 +5,7 @@ use crate::command::{Replay, SciMode, Validate};
 use crate::fingerprint::Fingerprint;
 use crate::spent_keys::SpentKeys;
 use arrayvec::ArrayVec;
-use macs_frame::{ASSOCIATIONS, An, Sci};
+use macs_fields::{ASSOCIATIONS, An, Sci};
 
 /// How many receive channels may stand.
 pub const MAX_CHANNELS: usize = 8;

@@ -3,7 +3,7 @@
 ghost use Rattle.std.specs.Prelude.{◌≡◌};
 ghost use Rattle.macs_config.specs.Config.{is_spent, rx_fingerprint, tx_fingerprint};
 
-use macs_frame::Sci;
+use macs_fields::Sci;
 use sha2::{Digest, Sha256};
 
 /// The SHA-256 of a key, or of an SCI and a key: 32 octets.

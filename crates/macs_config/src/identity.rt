@@ -3,7 +3,7 @@
 ghost use Rattle.std.specs.Prelude.{◌≡◌, ◌↔◌, ◌≤◌, IsSome, IfSome};
 ghost use Rattle.macs_config.specs.Identity.{Identity, IsBlock};
 
-use macs_frame::Sci;
+use macs_fields::Sci;
 use std::marker::Model;
 
 /// The largest block of packet numbers.

@@ -3,7 +3,7 @@
 
 ghost use Rattle.std.specs.Prelude.{◌≡◌, ◌<◌, ◌^◌, ◌++◌, ℕ, List, true, Some, Ok};
 ghost use Rattle.macs_aes.specs.Keys.{octets_of_key};
-ghost use Rattle.macs_frame.specs.Fields.{IsAn, IsSci};
+ghost use Rattle.macs_fields.specs.Fields.{IsAn, IsSci};
 ghost use Rattle.macs_config.specs.Apply.{IsCommand, IsKey, apply, refusal_of, spent_by};
 ghost use Rattle.macs_config.specs.Config.{Config, Edition, IsConfig, IsUpTo, default, spent_of};
 ghost use Rattle.macs_config.specs.Identity.{Identity, IsIdentity};
@@ -15,8 +15,8 @@ ghost use Rattle.macs_config.specs.declared.refusal.Refusal.TheVariants.{LongKey
 
 use crate::{Command, Identity};
 use macs_aes::Key;
-use macs_frame::laws::{an_in_range, octets_in_range, sci_in_range};
-use macs_frame::{An, Sci};
+use macs_fields::laws::{an_in_range, octets_in_range, sci_in_range};
+use macs_fields::{An, Sci};
 
 /// The fields of a command are in their ranges.
 pub fn command_in_range(command: &Command)

@@ -6,7 +6,7 @@ use crate::association::{RxSa, TxSa};
 use crate::command::{Replay, Role, SciMode, Validate};
 use crate::fingerprint::Fingerprint;
 use arrayvec::ArrayVec;
-use macs_frame::{An, Sci};
+use macs_fields::{An, Sci};
 use std::marker::Model;
 
 /// The most fingerprints that one part holds.

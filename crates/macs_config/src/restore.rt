@@ -21,7 +21,7 @@ use crate::identity::Identity;
 use crate::part::Part;
 use crate::part_source::PartSource;
 use crate::spent_keys::{MAX_SPENT, SpentKeys};
-use macs_frame::{An, Sci};
+use macs_fields::{An, Sci};
 
 /// The place of the first parts behind the settings, in the order of a snapshot.
 const BEHIND_SETTINGS: u8 = 2;

@@ -8,7 +8,7 @@ mod spending;
 
 use macs_aes::Key;
 use macs_config::{Command, Config, Fingerprint, Identity, Refusal, Role};
-use macs_frame::{An, Sci};
+use macs_fields::{An, Sci};
 use std::process::Abort;
 
 /// The endpoint's own SCI, with port 00-01.

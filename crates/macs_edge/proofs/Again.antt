@@ -4,10 +4,10 @@ use Rattle.std.specs.Prelude.{max, IsSomeAnd}
 use Rattle.std.specs.Option.{option_and_then}
 use Rattle.std.proofs.Math.Nat.{le-max_right, max-eq_left}
 use Rattle.std.proofs.Math.Path.{fun_ext}
-use Rattle.macs_frame.specs.First.{NoneHolds}
+use Rattle.macs_fields.specs.First.{NoneHolds}
 use Rattle.macs_frame.specs.Tag.{changed, control, tag_of}
 use Rattle.macs_frame.specs.declared.tag.TagFault.TheVariants as fault
-use Rattle.macs_frame.proofs.FirstRefusal.{none-first}
+use Rattle.macs_fields.proofs.FirstRefusal.{none-first}
 use Rattle.macs_config.specs.Tables.{put, put_at}
 use Rattle.macs_config.specs.declared.association.TxSa.{TxSa}
 use Rattle.macs_config.proofs.Tables.{put_at-here, put_at-twice, put_rx-here}

@@ -1,8 +1,8 @@
 -- Records pass in one way only.
 use Rattle.std.proofs.Common.{◌≡◌, ◌⊎◌, inl, inr, ◌++◌, ℕ, List, [], ◌∷◌, Option, Some, None, Ok, Err, sym, ap, ◌∙◌, subst, append-nil, append_assoc}
 use Rattle.macs_pcap.specs.Records.{CaptureRecord}
-use Rattle.macs_frame.specs.First.{IsFirst, first}
-use Rattle.macs_frame.proofs.FirstRefusal.{first-once, none-first}
+use Rattle.macs_fields.specs.First.{IsFirst, first}
+use Rattle.macs_fields.proofs.FirstRefusal.{first-once, none-first}
 use Rattle.macs_txsc.specs.Transmit.{Outgoing, frame_of, next_outgoing, tx_faults}
 use Rattle.macs_txsc.specs.declared.fault.TxFault.{TxFault}
 use Rattle.macs_txsc.specs.declared.fault.TxFault.TheVariants.{Runt, TooLong, ForeignSource, NoEncodingSa, Exhausted, NoNumber}

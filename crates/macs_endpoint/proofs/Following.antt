@@ -6,7 +6,7 @@ use Rattle.std.proofs.Math.Nat.{max-eq_left}
 use Rattle.std.proofs.Math.Path.{fun_ext}
 use Rattle.macs_aes.specs.Keys.{octets_of_key}
 use Rattle.macs_aes.specs.declared.keys.Key.{Key}
-use Rattle.macs_frame.specs.declared.fields.Offset.{Offset}
+use Rattle.macs_fields.specs.declared.fields.Offset.{Offset}
 use Rattle.macs_config.specs.Apply.{apply, config_after, offset_or_zero, offset_at, refusal_of}
 use Rattle.macs_config.specs.Association.{is_confidential, offset_of, protection_of}
 use Rattle.macs_config.specs.Config.{Config}

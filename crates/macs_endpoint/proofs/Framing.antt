@@ -3,7 +3,7 @@ use Rattle.std.proofs.Common.{◌≡◌, ◌≤◌, ◌<◌, ◌+◌, ◌==◌, 
 use Rattle.std.specs.Prelude.{IfOk, IsSomeAnd, OnErr, OnOk, max}
 use Rattle.std.specs.Option.{option_map, option_map_or}
 use Rattle.std.proofs.lemmas.Bool.Decides.{nat_tests}
-use Rattle.macs_frame.specs.First.{first}
+use Rattle.macs_fields.specs.First.{first}
 use Rattle.macs_frame.specs.Tag.{changed, control}
 use Rattle.macs_frame.specs.declared.tag.TagFault.TheVariants as tag
 use Rattle.macs_config.specs.Tables.{put}

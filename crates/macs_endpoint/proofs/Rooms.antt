@@ -4,7 +4,7 @@ use Rattle.std.specs.Prelude.{IsSomeAnd, nat_lt}
 use Rattle.std.specs.Option.{option_map, option_map_or}
 use Rattle.std.proofs.lemmas.Bool.{cases_lt, eq-eqb, eqb-true}
 use Rattle.std.proofs.lemmas.Bool.Decides.{nat_tests}
-use Rattle.macs_frame.specs.First.{first}
+use Rattle.macs_fields.specs.First.{first}
 use Rattle.macs_aes.specs.declared.keys.Key.{Key}
 use Rattle.macs_config.specs.Config.{Config}
 use Rattle.macs_config.specs.Identity.{Identity}

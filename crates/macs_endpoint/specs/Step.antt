@@ -1,7 +1,7 @@
 -- One life of an endpoint, a call at a time (IEEE Std 802.1AE-2018, clause 10).
 use Rattle.std.specs.Prelude.{◌≡◌, ◌⊎◌, ◌<◌, ◌≤◌, ◌+◌, ℕ, true, false, List, [], ◌∷◌, ◌++◌, length, Option, Some, None, Result, Ok, Err}
 use Rattle.std.specs.Option.{option_map}
-use Rattle.macs_frame.specs.First.{IsFirst, first}
+use Rattle.macs_fields.specs.First.{IsFirst, first}
 use Rattle.macs_config.specs.Apply.{apply}
 use Rattle.macs_config.specs.Config.{Config}
 use Rattle.macs_config.specs.Tables.{put, put_at}

@@ -23,7 +23,7 @@ use crate::turn::Turn;
 use macs_config::laws::{command_in_range, identity_in_range};
 use macs_config::{Checked, Command, Config, Identity};
 use macs_disk::SectorDisk;
-use macs_frame::laws::octets_in_range;
+use macs_fields::laws::octets_in_range;
 use macs_frame::{An, FrameBuf, Pn, Sci};
 use macs_rxsc::{RxNumbers, Verdict};
 use macs_store::{CommitFault, OpenRefused, Store};

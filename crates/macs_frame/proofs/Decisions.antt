@@ -4,10 +4,10 @@ use Rattle.std.proofs.lemmas.Bool.{cases_eq, cases_lt}
 use Rattle.macs_frame.specs.declared.tag.Parts.{Parts}
 use Rattle.macs_frame.specs.declared.tag.TagFault.{TagFault}
 use Rattle.macs_frame.specs.declared.tag.TagFault.TheVariants.{Runt, Oversize, NoTag, BadTag, ForKay}
-use Rattle.macs_frame.specs.First.{IsFirst, NoneHolds}
+use Rattle.macs_fields.specs.First.{IsFirst, NoneHolds}
 use Rattle.macs_frame.specs.Tag.{Agrees, IsForKay, IsGoodControl, IsGoodTag, IsTagged, Tag, TagFaultHolds, changed, control, encrypted, end_of, end_station, has_sci, pn_of, short_length, single_copy_broadcast, start_of, tag_faults, tag_of, has_version}
 use Rattle.macs_frame.specs.Opening.{OpensTo, Verified, additional_data, hidden_of, icv_of, iv_of, secure_data}
-use Rattle.macs_frame.proofs.FirstRefusal.{none-first}
+use Rattle.macs_fields.proofs.FirstRefusal.{none-first}
 use Rattle.macs_frame.proofs.OpenFaults.{no_tag_fault}
 use Rattle.macs_frame.proofs.Readings.{verified_by_its_parts}
 use Rattle.macs_gcm.proofs.Sealing.{Opens-tag}

@@ -1,4 +1,3 @@
-pub mod FirstRefusal
 pub mod ClearEnd
 pub mod Readings
 pub mod Protection

@@ -6,10 +6,10 @@ use Rattle.macs_frame.specs.declared.tag.SecTag.{SecTag}
 use Rattle.macs_frame.specs.declared.tag.TagFault.{TagFault}
 use Rattle.macs_frame.specs.declared.opening.OpenFault.{OpenFault}
 use Rattle.macs_frame.specs.declared.opening.OpenFault.TheVariants.{Tag as TagRefused, OtherSci, NotValid}
-use Rattle.macs_frame.specs.First.{IsFirst, NoneHolds}
+use Rattle.macs_fields.specs.First.{IsFirst, NoneHolds}
 use Rattle.macs_frame.specs.Opening.{OpenFaultHolds, OpensTo, Verified, named_sci, open_faults}
 use Rattle.macs_frame.specs.Tag.{IsForKay, Tag, TagFaultHolds, tag_faults}
-use Rattle.macs_frame.proofs.FirstRefusal.{first-map-append, first-behind, none-map-append}
+use Rattle.macs_fields.proofs.FirstRefusal.{first-map-append, first-behind, none-map-append}
 use Rattle.macs_frame.proofs.Readings.{verified_by_its_parts}
 
 -- the faults behind those of the tag

@@ -1,5 +1,3 @@
-pub mod First
-pub mod Fields
 pub mod Tag
 pub mod Opening
 pub mod Protection

@@ -2,7 +2,6 @@
 //! protected and protected frames opened.
 #![tactic(auto)]
 
-mod fields;
 pub mod laws;
 mod opening;
 mod reading;
@@ -10,7 +9,7 @@ mod sealing;
 mod shared;
 mod tag;
 
-pub use fields::{ASSOCIATIONS, An, END_OF_NUMBERS, Offset, Pn, Sci};
+pub use macs_fields::{ASSOCIATIONS, An, END_OF_NUMBERS, Offset, Pn, Sci};
 pub use opening::{OpenFault, end_station_sci, open_frame, open_parts};
 pub use reading::read_tag;
 pub use sealing::{seal_frame, write_tag};

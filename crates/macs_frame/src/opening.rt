@@ -3,12 +3,12 @@
 ghost use Rattle.std.specs.Prelude.{◌≡◌, ◌≢◌, ◌<◌, ◌≤◌, ◌+◌, ◌^◌, ◌++◌, ◌↔◌, List, ℕ, [], ◌∷◌, length, take, drop, slice_range, IsTrue, IfOk, IsSomeAnd, OnOk, OnErr};
 ghost use Rattle.std.specs.Bool.{OnFalse, OnTrue};
 ghost use Rattle.macs_gcm.specs.Gcm.{Opens, seal};
-ghost use Rattle.macs_frame.specs.Fields.{octets_of};
-ghost use Rattle.macs_frame.specs.First.{IsFirst};
+ghost use Rattle.macs_fields.specs.Fields.{octets_of};
+ghost use Rattle.macs_fields.specs.First.{IsFirst};
 ghost use Rattle.macs_frame.specs.Opening.{OpenFaultHolds, OpensTo, Verified, named_sci, open_faults};
 ghost use Rattle.macs_frame.specs.Tag.{Tag, tag_of};
 
-use crate::fields::{An, Offset, Pn, Sci};
+use macs_fields::{An, Offset, Pn, Sci};
 use crate::reading::read_tag;
 use crate::shared::{append, clear_end, iv_of};
 use crate::tag::{ADDRESS_OCTETS, FrameBuf, ICV_OCTETS, Parts, ScName, TagFault};

@@ -2,10 +2,10 @@
 
 ghost use Rattle.std.specs.Prelude.{◌≡◌, ◌≤◌, ◌+◌, ◌++◌, List, ℕ, length, slice_range};
 ghost use Rattle.arrayvec.specs.ArrayVec.{array_vec_len};
-ghost use Rattle.macs_frame.specs.Fields.{octets_of};
+ghost use Rattle.macs_fields.specs.Fields.{octets_of};
 ghost use Rattle.macs_frame.specs.Opening.{clear_of, hidden_of, iv_of};
 
-use crate::fields::{Offset, Pn, Sci};
+use macs_fields::{Offset, Pn, Sci};
 use crate::tag::{FrameBuf, SecTag};
 
 /// The initialisation vector of a frame (14.5 and 14.6).

@@ -1,6 +1,6 @@
 //! A SecTAG, and the parts of a tagged frame.
 
-use crate::fields::{An, Pn, Sci};
+use macs_fields::{An, Pn, Sci};
 use arrayvec::ArrayVec;
 
 /// The shortest frame, in octets: two addresses and an EtherType.

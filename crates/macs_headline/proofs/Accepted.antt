@@ -3,7 +3,7 @@ use Rattle.std.proofs.Common.{◌≡◌, ℕ, Bool, true, false, cond, bytes_eq,
 use Rattle.std.proofs.lemmas.Bool.{false≢true, or_left}
 use Rattle.macs_aes.specs.Keys.{octets_of_key}
 use Rattle.macs_aes.specs.declared.keys.Key.{Key}
-use Rattle.macs_frame.specs.First.{first}
+use Rattle.macs_fields.specs.First.{first}
 use Rattle.macs_config.specs.Apply.{answer_or_refusal, apply, config_after, has_wrong_start, is_slot_taken, refusal_of, refusals}
 use Rattle.macs_config.specs.Config.{Config, Edition, is_spent, rx_fingerprint, tx_fingerprint}
 use Rattle.macs_config.specs.Identity.{Identity}

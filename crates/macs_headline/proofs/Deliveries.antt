@@ -1,6 +1,6 @@
 -- Frames that are delivered as verified.
 use Rattle.std.proofs.Common.{◌≡◌, ◌≤◌, inl, inr, ℕ, Bool, true, false, cond, List, ◌∷◌, Ok, Err, refl, sym, ◌∙◌, ap, subst}
-use Rattle.macs_frame.specs.Fields.{octets_of}
+use Rattle.macs_fields.specs.Fields.{octets_of}
 use Rattle.macs_frame.specs.Opening.{Verified}
 use Rattle.macs_frame.proofs.Readings.{verified_once}
 use Rattle.macs_frame.specs.Tag.{changed, control, tag_of}

@@ -1,7 +1,7 @@
 -- The peer's frame in the example: it is read, it verifies, and it is late or arrives.
 use Rattle.std.proofs.Common.{◌≡◌, ◌<◌, ℕ, List, [], ◌∷◌, length, true, Some, refl, sym, ◌∙◌, ap, subst, arith}
 use Rattle.std.specs.Option.{option_and_then}
-use Rattle.macs_frame.specs.First.{IsFirst}
+use Rattle.macs_fields.specs.First.{IsFirst}
 use Rattle.macs_frame.specs.Opening.{Verified}
 use Rattle.macs_frame.specs.Protection.{IsWritten, written_parts}
 use Rattle.macs_frame.specs.Tag.{IsForKay, Tag, tag_of}

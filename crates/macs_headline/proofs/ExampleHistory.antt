@@ -3,7 +3,7 @@ use Rattle.std.proofs.Common.{◌≡◌, ◌<◌, ◌^◌, inl, inr, ℕ, zero, 
 use Rattle.std.specs.Prelude.{All}
 use Rattle.std.specs.List.{AllByRecursion}
 use Rattle.std.proofs.lemmas.List.Elements.{All-replicate}
-use Rattle.macs_frame.specs.Fields.{IsAn}
+use Rattle.macs_fields.specs.Fields.{IsAn}
 use Rattle.macs_aes.specs.declared.keys.Key.TheVariants.{Short}
 use Rattle.macs_config.specs.Apply.{answer_or_refusal, apply, config_after}
 use Rattle.macs_config.specs.Config.{Config, is_spent, rx_fingerprint, this_edition, tx_fingerprint}

@@ -6,7 +6,7 @@ use Rattle.std.specs.Int.{to_be_bytes, w32}
 use Rattle.std.proofs.lemmas.List.Elements.{All-append, All-from_recursion, All-nil, All-replicate}
 use Rattle.sha2.specs.Sha256.{digest_bytes, final_hash, initial_hash_256, sha256}
 use Rattle.sha2.proofs.Facts256.{length-sha256}
-use Rattle.macs_frame.specs.Fields.{IsOctets, IsSci}
+use Rattle.macs_fields.specs.Fields.{IsOctets, IsSci}
 use Rattle.macs_config.specs.Config.{rx_fingerprint, tx_fingerprint}
 use Rattle.macs_config.specs.declared.command.Role.TheVariants.{Receive, Transmit}
 use Rattle.macs_config.specs.declared.command.Validate.TheVariants.{Strict}

@@ -2,10 +2,10 @@
 use Rattle.std.proofs.Common.{◌≡◌, ◌≢◌, ◌≤◌, ◌⊎◌, ◌+◌, arith, ◌++◌, inl, inr, ℕ, List, [], ◌∷◌, None, Result, Ok, Err, is_ok, refl, sym, ◌∙◌, ap, subst, le_refl, map}
 use Rattle.std.specs.Prelude.{Contains, Option, Some}
 use Rattle.std.specs.List.{AllByRecursion}
-use Rattle.macs_frame.specs.Fields.{octets_of}
+use Rattle.macs_fields.specs.Fields.{octets_of}
 use Rattle.std.proofs.lemmas.Bool.{cases_eq}
 use Rattle.macs_frame.specs.Protection.{protected_frame}
-use Rattle.macs_frame.specs.declared.fields.Offset.TheVariants.{Zero}
+use Rattle.macs_fields.specs.declared.fields.Offset.TheVariants.{Zero}
 use Rattle.macs_config.specs.Apply.{config_after}
 use Rattle.macs_config.specs.Association.{is_confidential, offset_of}
 use Rattle.macs_config.specs.Config.{Config, default, this_edition}

@@ -7,7 +7,7 @@ use Rattle.macs_config.specs.declared.command.Command.{Command}
 use Rattle.macs_config.specs.declared.command.Command.TheVariants.{RxDrop, RxInstall, RxRemove, SetReplay}
 use Rattle.macs_config.specs.declared.command.Validate.{Validate}
 use Rattle.macs_config.specs.declared.command.Validate.TheVariants.{Check, Strict}
-use Rattle.macs_frame.specs.Fields.{octets_of}
+use Rattle.macs_fields.specs.Fields.{octets_of}
 use Rattle.macs_frame.specs.Opening.{Verified}
 use Rattle.macs_frame.specs.Tag.{changed, control, tag_of}
 use Rattle.macs_frame.specs.declared.tag.TagFault.TheVariants.{Runt as IsRunt, Oversize as IsOversize, NoTag as HasNoTag, BadTag as HasBadTag, ForKay as IsForKay}

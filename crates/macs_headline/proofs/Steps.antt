@@ -3,7 +3,7 @@ use Rattle.std.proofs.Common.{◌≡◌, inl, inr, ℕ, List, ◌∷◌, Result,
 use Rattle.std.proofs.lemmas.Bool.{false≢true}
 use Rattle.macs_config.specs.Config.{Config}
 use Rattle.macs_config.specs.declared.command.Command.{Command}
-use Rattle.macs_frame.proofs.FirstRefusal.{none-first}
+use Rattle.macs_fields.proofs.FirstRefusal.{none-first}
 use Rattle.macs_txsc.specs.Transmit.{Outgoing}
 use Rattle.macs_rxsc.specs.Receive.{Arrival, RxStepHolds, delivery_kind, rx_steps}
 use Rattle.macs_rxsc.specs.declared.verdict.Kind.{Kind}

@@ -3,10 +3,10 @@ use Rattle.std.proofs.Common.{◌≡◌, ◌≢◌, ◌≤◌, ◌<◌, ◌⊎�
 use Rattle.std.specs.Prelude.{Contains, Option, Some, nat_lt}
 use Rattle.std.specs.List.{AllByRecursion}
 use Rattle.std.proofs.lemmas.Bool.Decides.{nat_tests}
-use Rattle.macs_frame.specs.Fields.{octets_of}
+use Rattle.macs_fields.specs.Fields.{octets_of}
 use Rattle.macs_frame.specs.Opening.{Verified}
 use Rattle.macs_frame.specs.Tag.{tag_of}
-use Rattle.macs_frame.specs.declared.fields.Offset.TheVariants.{Zero}
+use Rattle.macs_fields.specs.declared.fields.Offset.TheVariants.{Zero}
 use Rattle.macs_config.specs.Apply.{config_after}
 use Rattle.macs_config.specs.Config.{Config, Edition, default, this_edition}
 use Rattle.macs_config.specs.Identity.{Identity}

@@ -1,6 +1,6 @@
 -- The headline on frames that are received.
 use Rattle.std.specs.Prelude.{◌≡◌, ◌≢◌, ◌≤◌, true, ℕ, List, [], ◌∷◌, Contains, Some, Result, Ok}
-use Rattle.macs_frame.specs.Fields.{octets_of}
+use Rattle.macs_fields.specs.Fields.{octets_of}
 use Rattle.macs_frame.specs.Opening.{Verified, bare_frame}
 use Rattle.macs_frame.specs.Tag.{tag_of}
 use Rattle.macs_config.specs.declared.association.RxSa.{RxSa}

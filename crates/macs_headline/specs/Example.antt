@@ -1,7 +1,7 @@
 -- What the example of a history is about: an endpoint, its peer, and what is asked of it.
 use Rattle.std.specs.Prelude.{ℕ, true, false, List, [], ◌∷◌, replicate}
 use Rattle.macs_frame.specs.Protection.{protected_frame}
-use Rattle.macs_frame.specs.declared.fields.Offset.TheVariants.{Zero}
+use Rattle.macs_fields.specs.declared.fields.Offset.TheVariants.{Zero}
 use Rattle.macs_frame.specs.declared.tag.ScName.TheVariants.{Explicit}
 use Rattle.macs_frame.specs.declared.tag.SecTag.{SecTag}
 use Rattle.macs_aes.specs.declared.keys.Key.TheVariants.{Short}

@@ -1,6 +1,6 @@
 -- The headline on frames.
 use Rattle.std.specs.Prelude.{◌≡◌, ◌≢◌, ◌<◌, ◌≤◌, ◌+◌, ◌^◌, ℕ, List, ◌∷◌, Contains, Some, Ok}
-use Rattle.macs_frame.specs.Fields.{octets_of}
+use Rattle.macs_fields.specs.Fields.{octets_of}
 use Rattle.macs_frame.specs.Protection.{protected_frame}
 use Rattle.macs_config.specs.Association.{is_confidential, offset_of}
 use Rattle.macs_config.specs.declared.association.TxSa.{TxSa}

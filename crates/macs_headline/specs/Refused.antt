@@ -1,6 +1,6 @@
 -- The headline on calls that are refused: for the first reason that holds, and for none that does not.
 use Rattle.std.specs.Prelude.{◌≡◌, ◌≢◌, ◌⊎◌, ◌<◌, ◌≤◌, ℕ, List, [], ◌∷◌, length, Option, Some, None, Ok, Err}
-use Rattle.macs_frame.specs.First.{first}
+use Rattle.macs_fields.specs.First.{first}
 use Rattle.macs_config.specs.Apply.{refusal_of}
 use Rattle.macs_config.specs.declared.command.Command.{Command}
 use Rattle.macs_config.specs.declared.refusal.Refusal.{Refusal}

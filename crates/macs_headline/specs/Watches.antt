@@ -1,9 +1,9 @@
 -- A watch of an endpoint: power is lost between two frames that are received on one association.
 use Rattle.std.specs.Prelude.{◌≡◌, ◌≢◌, ◌⊎◌, ℕ, List, [], ◌∷◌, None, Result, Ok}
-use Rattle.macs_frame.specs.Fields.{octets_of}
+use Rattle.macs_fields.specs.Fields.{octets_of}
 use Rattle.macs_frame.specs.Opening.{Verified}
 use Rattle.macs_frame.specs.Tag.{tag_of}
-use Rattle.macs_frame.specs.declared.fields.Offset.TheVariants.{Zero}
+use Rattle.macs_fields.specs.declared.fields.Offset.TheVariants.{Zero}
 use Rattle.macs_aes.specs.declared.keys.Key.TheVariants.{Short}
 use Rattle.macs_config.specs.Identity.{Identity}
 use Rattle.macs_config.specs.declared.command.Command.{Command}

@@ -4,7 +4,7 @@ ghost use Rattle.std.specs.Prelude.{◌<◌, ◌^◌, All};
 ghost use Rattle.macs_headline.specs.Example.{peer_frame};
 
 use macs_aes::Key;
-use macs_frame::laws::octets_in_range;
+use macs_fields::laws::octets_in_range;
 use macs_frame::{An, FrameBuf, Offset, Pn, ScName, Sci, SecTag, seal_frame};
 use macs_gcm::GcmKey;
 

@@ -2,7 +2,7 @@
 use Rattle.std.proofs.Common.{◌≡◌, ◌↔◌, ℕ, Option, Result, Err, List, [], ◌∷◌, inl, inr, refl, subst, sym}
 use Rattle.macs_config.specs.Identity.{Identity}
 use Rattle.macs_disk.specs.declared.layout.Layout.{Layout}
-use Rattle.macs_frame.specs.First.{IsFirst, NoneHolds}
+use Rattle.macs_fields.specs.First.{IsFirst, NoneHolds}
 use Rattle.macs_program.specs.Values.{SpellsIdentity, SpellsLayout, ValueFaultHolds}
 use Rattle.macs_program.specs.declared.values.ValueFault.{ValueFault}
 use Rattle.macs_program.specs.declared.values.ValueFault.TheVariants as value

@@ -1,8 +1,8 @@
 -- An answer from what opening the frame said, over the key and the octets that it was called with.
 use Rattle.std.proofs.Common.{◌≡◌, ℕ, List, subst}
 use Rattle.macs_aes.specs.Keys.{octets_of_key}
-use Rattle.macs_frame.specs.Fields.{octets_of}
-use Rattle.macs_frame.specs.First.{IsFirst, NoneHolds}
+use Rattle.macs_fields.specs.Fields.{octets_of}
+use Rattle.macs_fields.specs.First.{IsFirst, NoneHolds}
 use Rattle.macs_frame.specs.Opening.{OpenFaultHolds, Verified, open_faults}
 use Rattle.macs_frame.specs.Tag.{tag_of}
 use Rattle.macs_frame.specs.declared.opening.OpenFault.{OpenFault}

@@ -10,7 +10,7 @@ use Rattle.macs_edge.specs.declared.relaying.RelaySummary.{RelaySummary}
 use Rattle.macs_endpoint.specs.Value.{EndpointValue}
 use Rattle.macs_endpoint.specs.declared.fault.RefillFault.{RefillFault}
 use Rattle.macs_endpoint.specs.declared.fault.RefillFault.TheVariants as refill
-use Rattle.macs_frame.specs.First.{IsFirst}
+use Rattle.macs_fields.specs.First.{IsFirst}
 use Rattle.macs_program.specs.Failing.{failure_of_refill, failure_status}
 use Rattle.macs_program.specs.Relaying.{ComesTo, EndsRelay, IsAfterAddresses, IsOfRelay, Relays, new_wire}
 use Rattle.macs_program.specs.declared.addresses.AddressFault.{AddressFault}

@@ -4,8 +4,8 @@ use Rattle.std.specs.Fmt.{decimal}
 use Rattle.std.specs.Int.{w32, to_be_bytes}
 use Rattle.hex.specs.Hex.{encode_lower}
 use Rattle.macs_aes.specs.Keys.{octets_of_key}
-use Rattle.macs_frame.specs.Fields.{octets_of}
-use Rattle.macs_frame.specs.First.{IsFirst, NoneHolds}
+use Rattle.macs_fields.specs.Fields.{octets_of}
+use Rattle.macs_fields.specs.First.{IsFirst, NoneHolds}
 use Rattle.macs_frame.specs.Opening.{OpenFaultHolds, Verified, open_faults}
 use Rattle.macs_frame.specs.Tag.{tag_of}
 use Rattle.macs_frame.specs.declared.opening.OpenFault.{OpenFault}

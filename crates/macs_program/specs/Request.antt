@@ -2,8 +2,8 @@
 use Rattle.std.specs.Prelude.{◌≡◌, ◌⊎◌, ℕ, ◌≤◌, List, [], ◌∷◌, length, codes, Ok}
 use Rattle.hex.specs.Hex.{decode_of}
 use Rattle.macs_aes.specs.Keys.{octets_of_key}
-use Rattle.macs_frame.specs.declared.fields.Offset.{Offset}
-use Rattle.macs_frame.specs.declared.fields.Offset.TheVariants.{Zero, Thirty, Fifty}
+use Rattle.macs_fields.specs.declared.fields.Offset.{Offset}
+use Rattle.macs_fields.specs.declared.fields.Offset.TheVariants.{Zero, Thirty, Fifty}
 use Rattle.macs_program.specs.Lines.{line_at, lines}
 use Rattle.macs_program.specs.declared.request.Request.{Request}
 use Rattle.macs_program.specs.declared.request.InputFault.{InputFault}

@@ -2,7 +2,7 @@
 
 ghost use Rattle.std.specs.Prelude.{◌≡◌, ◌↔◌, IfOk, IfSome, Err, None};
 ghost use Rattle.std.specs.Net.Grammar.{IsSocketText};
-ghost use Rattle.macs_frame.specs.First.{IsFirst};
+ghost use Rattle.macs_fields.specs.First.{IsFirst};
 ghost use Rattle.macs_program.specs.Addresses.{AddressFaultHolds, SpellsEnds, SpellsNone, address_faults};
 
 use macs_words::WireEnds;

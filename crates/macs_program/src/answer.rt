@@ -1,7 +1,7 @@
 //! What `open` answers: the plain frame of a protected one, or why there is none.
 
 ghost use Rattle.std.specs.Prelude.{◌≡◌, ◌↔◌, IfOk};
-ghost use Rattle.macs_frame.specs.First.{IsFirst};
+ghost use Rattle.macs_fields.specs.First.{IsFirst};
 ghost use Rattle.macs_program.specs.Request.{InputFaultHolds, input_faults};
 ghost use Rattle.macs_program.specs.Answer.{Answers, AnswersRequest, refusal_text};
 

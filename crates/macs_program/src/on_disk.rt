@@ -12,7 +12,7 @@ ghost use Rattle.macs_config.specs.declared.refusal.Refusal.{Refusal};
 ghost use Rattle.macs_edge.specs.declared.passing.Summary.{Summary};
 ghost use Rattle.macs_edge.specs.declared.relaying.RelaySummary.{RelaySummary};
 ghost use Rattle.macs_endpoint.specs.State.{State};
-ghost use Rattle.macs_frame.specs.First.{IsFirst};
+ghost use Rattle.macs_fields.specs.First.{IsFirst};
 ghost use Rattle.macs_program.specs.Addresses.{AddressFaultHolds, SpellsBoth, address_faults};
 ghost use Rattle.macs_program.specs.Applying.{outcome_lines, outcomes_status};
 ghost use Rattle.macs_program.specs.Failing.{failure_status};

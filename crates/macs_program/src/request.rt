@@ -2,7 +2,7 @@
 
 ghost use Rattle.std.specs.Prelude.{◌≡◌, ◌≤◌, ◌↔◌, List, ℕ, length, IfOk, MatchOption};
 ghost use Rattle.macs_aes.specs.Keys.{octets_of_key};
-ghost use Rattle.macs_frame.specs.First.{IsFirst};
+ghost use Rattle.macs_fields.specs.First.{IsFirst};
 ghost use Rattle.macs_program.specs.Request.{InputFaultHolds, Spells, input_faults};
 ghost use Rattle.macs_program.specs.Request.{SpellsKey, SpellsOctets, SpellsOffset, SpellsSci, SpellsSized};
 

@@ -1,6 +1,6 @@
 -- Records from fields that were read.
 use Rattle.std.proofs.Common.{◌≡◌, ◌++◌, ◌∷◌, ◌∙◌, ℕ, List, Some, ap, append_assoc, sym}
-use Rattle.macs_frame.specs.declared.fields.Offset.{Offset}
+use Rattle.macs_fields.specs.declared.fields.Offset.{Offset}
 use Rattle.macs_config.specs.declared.association.Protection.{Protection}
 use Rattle.macs_config.specs.declared.association.RxSa.{RxSa as RxSaFields}
 use Rattle.macs_config.specs.declared.association.TxSa.{TxSa as TxSaFields}

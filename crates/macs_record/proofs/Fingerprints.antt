@@ -5,7 +5,7 @@ use Rattle.std.proofs.lemmas.List.{take_all, take_more}
 use Rattle.std.proofs.lemmas.List.Elements.{All-cons, All-head, All-more, All-nil, All-push, All-same, All-tail}
 use Rattle.std.proofs.lemmas.List.Folds.{concat-append}
 use Rattle.macs_record.specs.Layout.{fingerprint_octets}
-use Rattle.macs_frame.specs.Fields.{IsOctets}
+use Rattle.macs_fields.specs.Fields.{IsOctets}
 use Rattle.macs_record.specs.Ranges.{IsFingerprints}
 use Rattle.macs_record.proofs.Numbers.{never}
 

@@ -6,7 +6,7 @@ use Rattle.std.proofs.lemmas.List.Elements.{All-head, All-tail}
 use Rattle.macs_config.specs.Apply.{IsKey}
 use Rattle.macs_record.specs.Heads.{Head, IsHead, head_octets, head_sector_of}
 use Rattle.macs_record.specs.Layout.{IsRecord, fields_of, front_of, sector_of}
-use Rattle.macs_frame.specs.Fields.{IsOctets}
+use Rattle.macs_fields.specs.Fields.{IsOctets}
 use Rattle.macs_record.specs.Sectors.{padded_sector}
 use Rattle.macs_record.specs.declared.record.Record.{Record}
 use Rattle.macs_record.specs.declared.record.Record.TheVariants.{Settings, TxSa, Channel, RxSa, Spent, SetValidate, SetReplay, SetSciMode, TxInstall, TxUse, TxRemove, RxAdd, RxDrop, RxInstall, RxRemove, TxCeiling, RxCeiling}

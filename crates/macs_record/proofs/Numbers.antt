@@ -6,7 +6,7 @@ use Rattle.std.proofs.lemmas.Bool.{cases_lt}
 use Rattle.std.proofs.lemmas.List.{get_or_append_left, get_or_past}
 use Rattle.std.proofs.lemmas.List.Elements.{All-from_get_or}
 use Rattle.std.proofs.lemmas.Nat.{be_bytes_4, be_bytes_8, from_be_bytes-to_be_bytes_4, from_be_bytes-to_be_bytes_8}
-use Rattle.macs_frame.specs.Fields.{IsOctets}
+use Rattle.macs_fields.specs.Fields.{IsOctets}
 
 -- nothing was read where something stands
 pub never : {X B : Type 0} (x : X) → (None ≡ Some x) × B → ⊥

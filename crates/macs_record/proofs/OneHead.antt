@@ -4,7 +4,7 @@ use Rattle.std.specs.Int.{from_be_bytes, to_be_bytes, w32, w64}
 use Rattle.std.proofs.lemmas.Nat.{from_be_bytes-to_be_bytes_4, from_be_bytes-to_be_bytes_8}
 use Rattle.macs_config.specs.Identity.{Identity, IsBlock}
 use Rattle.macs_record.specs.Heads.{Head, IsHead, IsHeadOf, head_octets, identity_octets, version_of}
-use Rattle.macs_frame.specs.Fields.{IsSci}
+use Rattle.macs_fields.specs.Fields.{IsSci}
 use Rattle.macs_record.specs.declared.format.Format.{Format}
 use Rattle.macs_record.specs.declared.format.Format.TheVariants.{One, Two}
 use Rattle.macs_record.proofs.HeadVersions.{small_version}

@@ -6,9 +6,9 @@ use Rattle.std.proofs.lemmas.Bool.{ne_eqb}
 use Rattle.std.proofs.lemmas.List.{drop_at, take_at}
 use Rattle.std.proofs.lemmas.List.Elements.{All-head, All-tail}
 use Rattle.std.proofs.lemmas.Nat.{from_be_bytes-to_be_bytes_4, from_be_bytes-to_be_bytes_8}
-use Rattle.macs_frame.specs.Fields.{octets_of}
-use Rattle.macs_frame.specs.declared.fields.Offset.{Offset}
-use Rattle.macs_frame.specs.declared.fields.Offset.TheVariants.{Zero, Thirty, Fifty}
+use Rattle.macs_fields.specs.Fields.{octets_of}
+use Rattle.macs_fields.specs.declared.fields.Offset.{Offset}
+use Rattle.macs_fields.specs.declared.fields.Offset.TheVariants.{Zero, Thirty, Fifty}
 use Rattle.macs_config.specs.Apply.{IsKey}
 use Rattle.macs_config.specs.Association.{is_confidential, offset_of}
 use Rattle.macs_config.specs.declared.association.Protection.{Protection}
@@ -23,7 +23,7 @@ use Rattle.macs_config.specs.declared.command.SciMode.TheVariants.{EndStation, E
 use Rattle.macs_config.specs.declared.command.Validate.{Validate}
 use Rattle.macs_config.specs.declared.command.Validate.TheVariants.{Check, Strict}
 use Rattle.macs_record.specs.Layout.{IsRecord, by_length, encoding_octet, fields_of, flag_octet, front_of, kind_of, mode_octet, protection_octets, replay_octets, role_octet, sector_of, validate_octet}
-use Rattle.macs_frame.specs.Fields.{IsOctets}
+use Rattle.macs_fields.specs.Fields.{IsOctets}
 use Rattle.macs_record.specs.Ranges.{IsCeiling, IsEncoding}
 use Rattle.macs_record.specs.declared.key_length.KeyLength.TheVariants.{Short, Long}
 use Rattle.macs_record.specs.declared.kind.Kind.{Kind}

@@ -2,7 +2,7 @@
 use Rattle.std.specs.Prelude.{◌≡◌, ◌<◌, ◌≤◌, ◌^◌, ◌++◌, ℕ, List, [], ◌∷◌}
 use Rattle.std.specs.Int.{to_be_bytes, w32, w64}
 use Rattle.macs_config.specs.Identity.{Identity, IsBlock}
-use Rattle.macs_frame.specs.Fields.{IsSci}
+use Rattle.macs_fields.specs.Fields.{IsSci}
 use Rattle.macs_record.specs.Sectors.{padded_sector}
 use Rattle.macs_record.specs.declared.format.Format.{Format}
 use Rattle.macs_record.specs.declared.format.Format.TheVariants.{One, Two}

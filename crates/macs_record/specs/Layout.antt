@@ -3,7 +3,7 @@
 use Rattle.std.specs.Prelude.{◌<◌, ◌^◌, ◌++◌, ◌==◌, ℕ, Bool, true, false, if◌then◌else◌, List, [], ◌∷◌, length, Option, Some, None}
 use Rattle.std.specs.Int.{to_be_bytes, w32, w64}
 use Rattle.std.specs.List.{concat}
-use Rattle.macs_frame.specs.Fields.{octets_of}
+use Rattle.macs_fields.specs.Fields.{octets_of}
 use Rattle.macs_config.specs.Apply.{IsKey}
 use Rattle.macs_config.specs.Association.{is_confidential, offset_of}
 use Rattle.macs_config.specs.declared.association.Protection.{Protection}
@@ -14,7 +14,7 @@ use Rattle.macs_config.specs.declared.command.SciMode.{SciMode}
 use Rattle.macs_config.specs.declared.command.SciMode.TheVariants.{Explicit, EndStation, Implicit}
 use Rattle.macs_config.specs.declared.command.Validate.{Validate}
 use Rattle.macs_config.specs.declared.command.Validate.TheVariants.{Strict, Check}
-use Rattle.macs_frame.specs.Fields.{IsAn, IsSci}
+use Rattle.macs_fields.specs.Fields.{IsAn, IsSci}
 use Rattle.macs_record.specs.Ranges.{IsCeiling, IsEncoding, IsFingerprints, IsStart}
 use Rattle.macs_record.specs.Sectors.{padded_sector}
 use Rattle.macs_record.specs.declared.key_length.KeyLength.{KeyLength}

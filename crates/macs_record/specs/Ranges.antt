@@ -1,6 +1,6 @@
 -- The ranges of a record's fields.
 use Rattle.std.specs.Prelude.{◌≤◌, ◌<◌, ◌^◌, ℕ, List, All, length, Option, Some, None}
-use Rattle.macs_frame.specs.Fields.{IsAn, IsOctets}
+use Rattle.macs_fields.specs.Fields.{IsAn, IsOctets}
 use Rattle.macs_record.specs.declared.key_length.KeyLength.{KeyLength}
 use Rattle.macs_record.specs.declared.key_length.KeyLength.TheVariants.{Short, Long}
 

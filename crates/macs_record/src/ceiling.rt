@@ -3,7 +3,7 @@
 ghost use Rattle.std.specs.Prelude.{◌≡◌, ◌≤◌, ◌↔◌, ℕ, IsSome, IfSome};
 ghost use Rattle.macs_record.specs.Ranges.{IsCeiling};
 
-use macs_frame::END_OF_NUMBERS;
+use macs_fields::END_OF_NUMBERS;
 use std::marker::Model;
 
 /// The ceiling of an association, 1 to 2^32: only packet numbers below it are used, or delivered as

@@ -1,7 +1,7 @@
 //! Sectors as records.
 
 ghost use Rattle.std.specs.Prelude.{◌≡◌, ◌≤◌, ◌↔◌, ◌++◌, ℕ, List, IfSome, IsTrue, Ok, Err, Some, true};
-ghost use Rattle.macs_frame.specs.First.{IsFirst};
+ghost use Rattle.macs_fields.specs.First.{IsFirst};
 ghost use Rattle.macs_record.specs.Decoding.{RecordFaultHolds, IsSectorOf, record_faults};
 ghost use Rattle.macs_record.specs.Layout.{IsRecord, fields_of, has_one_field, kind_of, octets_of_kind, of_length};
 ghost use Rattle.macs_record.specs.declared.kind.Kind.{Kind};

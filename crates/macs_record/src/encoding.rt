@@ -9,7 +9,7 @@ use crate::ceiling::Ceiling;
 use crate::record::Record;
 use crate::writing::Writer;
 use macs_config::{Fingerprints, Replay, Role, RxSa, SciMode, TxSa, Validate};
-use macs_frame::{An, Pn, Sci};
+use macs_fields::{An, Pn, Sci};
 
 /// What the sector of a record begins with.
 pub(crate) const MARK: [u8; 4] = *b"MREC";

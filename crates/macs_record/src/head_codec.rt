@@ -4,7 +4,7 @@ ghost use Rattle.std.specs.Prelude.{◌≡◌, ◌↔◌, ◌++◌, List, ℕ, I
 ghost use Rattle.std.specs.Int.{to_be_bytes, w32};
 ghost use Rattle.macs_config.specs.Identity.{Identity, IsBlock};
 ghost use Rattle.macs_record.specs.Heads.{Head, IsHead, IsHeadOf, head_mark, head_octets, head_sector_of, identity_octets, version_of};
-ghost use Rattle.macs_frame.specs.Fields.{IsSci};
+ghost use Rattle.macs_fields.specs.Fields.{IsSci};
 ghost use Rattle.macs_record.specs.declared.format.Format.{Format};
 
 use crate::SECTOR;

@@ -5,15 +5,15 @@ ghost use Rattle.std.specs.Prelude.{◌≡◌, ◌<◌, ◌^◌, List, ℕ, leng
 ghost use Rattle.macs_record.specs.Heads.{Head, IsHead, IsHeadOf, head_sector_of};
 ghost use Rattle.macs_record.specs.Layout.{IsRecord, sector_of};
 ghost use Rattle.macs_config.specs.Apply.{IsKey};
-ghost use Rattle.macs_frame.specs.Fields.{IsAn, IsOctets, IsSci};
+ghost use Rattle.macs_fields.specs.Fields.{IsAn, IsOctets, IsSci};
 ghost use Rattle.macs_record.specs.Ranges.{IsCeiling, IsEncoding, IsFingerprints, IsStart};
 ghost use Rattle.macs_record.specs.declared.record.Record.{Record};
 
 use crate::{Ceiling, Head, Record};
 use macs_aes::KeyOctets;
 use macs_config::{Fingerprint, Fingerprints, Replay};
-use macs_frame::laws::{an_in_range, octets_in_range, sci_in_range};
-use macs_frame::{An, Pn, Sci};
+use macs_fields::laws::{an_in_range, octets_in_range, sci_in_range};
+use macs_fields::{An, Pn, Sci};
 
 /// The fields of a record are in their ranges.
 pub fn record_in_range(value: &Record)

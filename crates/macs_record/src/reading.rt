@@ -2,14 +2,14 @@
 
 ghost use Rattle.std.specs.Prelude.{◌≡◌, ◌<◌, ◌^◌, ◌↔◌, ◌++◌, ◌∷◌, ℕ, Bool, List, [], IfSome, IsTrue, Some, Option, length, replicate};
 ghost use Rattle.std.specs.Int.{to_be_bytes, w32, w64};
-ghost use Rattle.macs_frame.specs.Fields.{octets_of};
-ghost use Rattle.macs_frame.specs.declared.fields.Offset.{Offset};
+ghost use Rattle.macs_fields.specs.Fields.{octets_of};
+ghost use Rattle.macs_fields.specs.declared.fields.Offset.{Offset};
 ghost use Rattle.macs_config.specs.declared.association.Protection.{Protection};
 ghost use Rattle.macs_config.specs.declared.command.Replay.{Replay};
 ghost use Rattle.macs_config.specs.declared.command.Role.{Role};
 ghost use Rattle.macs_config.specs.declared.command.SciMode.{SciMode};
 ghost use Rattle.macs_config.specs.declared.command.Validate.{Validate};
-ghost use Rattle.macs_frame.specs.Fields.{IsAn, IsOctets, IsSci};
+ghost use Rattle.macs_fields.specs.Fields.{IsAn, IsOctets, IsSci};
 ghost use Rattle.macs_record.specs.Ranges.{IsCeiling, IsEncoding, IsFingerprints, IsKeyOf, IsStart};
 ghost use Rattle.macs_record.specs.Layout.{encoding_octet, fingerprint_octets, flag_octet, mode_octet, protection_octets, replay_octets, role_octet, validate_octet};
 
@@ -18,8 +18,8 @@ use crate::key_length::KeyLength;
 use crate::writing::NO_AN;
 use macs_aes::{Key, KeyOctets};
 use macs_config::{Fingerprint, Fingerprints, Protection, Replay, Role, SciMode, Validate};
-use macs_frame::laws::octets_in_range;
-use macs_frame::{An, Offset, Pn, Sci};
+use macs_fields::laws::octets_in_range;
+use macs_fields::{An, Offset, Pn, Sci};
 use std::marker::Model;
 
 /// The octets that are still to be read. Each field is answered exactly where they begin with it;

@@ -14,7 +14,7 @@ use macs_config::{
     Checked, Command, Fingerprints, Judged, Protection, Replay, Role, RxSa, SciMode, TxSa,
     Validate, takes_key,
 };
-use macs_frame::{An, Offset, Pn, Sci};
+use macs_fields::{An, Offset, Pn, Sci};
 
 /// A record of a journal. Its kinds are of three groups: what a snapshot of a configuration has, the
 /// commands that are not refused for their start, offset or key, and raised ceilings.

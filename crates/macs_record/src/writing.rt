@@ -2,7 +2,7 @@
 
 ghost use Rattle.std.specs.Prelude.{◌≡◌, ◌≤◌, ◌+◌, ◌++◌, ◌∷◌, ℕ, List, [], length};
 ghost use Rattle.std.specs.Int.{to_be_bytes, w32, w64};
-ghost use Rattle.macs_frame.specs.Fields.{octets_of};
+ghost use Rattle.macs_fields.specs.Fields.{octets_of};
 ghost use Rattle.macs_record.specs.Sectors.{padded_sector};
 ghost use Rattle.macs_record.specs.Layout.{encoding_octet, fingerprint_octets, flag_octet, mode_octet, protection_octets, replay_octets, role_octet, validate_octet};
 
@@ -10,7 +10,7 @@ use crate::SECTOR;
 use crate::ceiling::Ceiling;
 use arrayvec::ArrayVec;
 use macs_config::{Fingerprints, Protection, Replay, Role, SciMode, Validate};
-use macs_frame::{An, Offset, Pn, Sci};
+use macs_fields::{An, Offset, Pn, Sci};
 use std::marker::Model;
 
 /// The octet that stands for no association number.

@@ -8,7 +8,7 @@ mod kinds;
 mod refused;
 
 use macs_aes::Key;
-use macs_frame::{An, Pn, Sci};
+use macs_fields::{An, Pn, Sci};
 use macs_record::{Ceiling, Record, RecordFault, SECTOR, decode, encode};
 use std::process::Abort;
 

@@ -6,13 +6,13 @@ use Rattle.std.proofs.lemmas.Bool.{cases_lt}
 use Rattle.std.proofs.lemmas.Bool.Decides.{nat_tests}
 use Rattle.macs_config.specs.Tables.{put_at}
 use Rattle.macs_config.specs.declared.association.RxSa.{RxSa}
-use Rattle.macs_frame.specs.Fields.{octets_of}
-use Rattle.macs_frame.specs.First.{IsFirst}
+use Rattle.macs_fields.specs.Fields.{octets_of}
+use Rattle.macs_fields.specs.First.{IsFirst}
 use Rattle.macs_frame.specs.Opening.{Verified, bare_frame}
 use Rattle.macs_frame.specs.Tag.{IsForKay, Tag, TagFaultHolds, changed, control, tag_faults, tag_of}
 use Rattle.macs_frame.specs.declared.tag.Parts.{Parts}
 use Rattle.macs_frame.specs.declared.tag.TagFault.{TagFault}
-use Rattle.macs_frame.proofs.FirstRefusal.{first-map-append, first-behind, none-map-append, first-once, none-first}
+use Rattle.macs_fields.proofs.FirstRefusal.{first-map-append, first-behind, none-map-append, first-once, none-first}
 use Rattle.macs_frame.proofs.Decisions.{read_or_refused, verified_or_not}
 use Rattle.macs_frame.proofs.OpenFaults.{no_tag_fault}
 use Rattle.macs_frame.proofs.Readings.{verified_once}

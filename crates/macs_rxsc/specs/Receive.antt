@@ -8,8 +8,8 @@ use Rattle.macs_config.specs.declared.association.RxSa.{RxSa}
 use Rattle.macs_config.specs.declared.command.Replay.{Replay}
 use Rattle.macs_config.specs.declared.command.Validate.{Validate}
 use Rattle.macs_config.specs.declared.command.Validate.TheVariants.{Strict, Check}
-use Rattle.macs_frame.specs.Fields.{octets_of}
-use Rattle.macs_frame.specs.First.{IsFirst, NoneHolds}
+use Rattle.macs_fields.specs.Fields.{octets_of}
+use Rattle.macs_fields.specs.First.{IsFirst, NoneHolds}
 use Rattle.macs_frame.specs.Opening.{Verified, bare_frame, named_sci}
 use Rattle.macs_frame.specs.Tag.{TagFaultHolds, changed, control, name_of, tag_faults, tag_of}
 use Rattle.macs_frame.specs.declared.tag.ScName.{ScName}

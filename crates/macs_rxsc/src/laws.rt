@@ -1,7 +1,7 @@
 //! Laws of the definitions, for the layers above.
 
 ghost use Rattle.std.specs.Prelude.{◌≡◌, ◌⊎◌, ℕ, List, Option, IsSome};
-ghost use Rattle.macs_frame.specs.First.{IsFirst, NoneHolds};
+ghost use Rattle.macs_fields.specs.First.{IsFirst, NoneHolds};
 ghost use Rattle.macs_rxsc.specs.Receive.{AreNumbered, Arrival, Arrives, RxStepHolds, Outcome, IsOutcome, RxSide, RxStep, rx_steps};
 
 /// A frame is settled by one of the first nine steps, or it is one arrival, and no other.

@@ -1,7 +1,7 @@
 //! What becomes of a frame that does not verify.
 
 ghost use Rattle.std.specs.Prelude.{◌≡◌, ◌||◌, [], if◌then◌else◌, List, ℕ};
-ghost use Rattle.macs_frame.specs.First.{IsFirst};
+ghost use Rattle.macs_fields.specs.First.{IsFirst};
 ghost use Rattle.macs_frame.specs.Opening.{bare_frame};
 ghost use Rattle.macs_frame.specs.Tag.{Tag, TagFaultHolds, changed, control, tag_faults};
 ghost use Rattle.macs_rxsc.specs.Receive.{RxSide, Tag as TagStep, given_at, is_strict, verdict_at};

@@ -13,7 +13,7 @@ use crate::standing::Standing;
 use crate::table::CeilingTable;
 use arrayvec::ArrayVec;
 use macs_config::{Config, Fingerprints, MAX_FINGERPRINTS, Role};
-use macs_frame::{An, Sci};
+use macs_fields::{An, Sci};
 use macs_record::Record;
 
 /// How many records as many keys take as may be spent on a side.

@@ -18,7 +18,7 @@ use crate::ahead::ahead;
 use crate::reading::{Snapshot, plain_command_of};
 use crate::table::CeilingTable;
 use macs_config::{Checked, Command, Config, Identity, Judged, Refusal};
-use macs_frame::{An, Sci};
+use macs_fields::{An, Sci};
 use macs_record::{Ceiling, Format, Record};
 use std::marker::Model;
 

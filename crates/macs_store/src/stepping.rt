@@ -24,7 +24,7 @@ use crate::standing::Standing;
 use crate::store::Store;
 use macs_config::{Checked, Command};
 use macs_disk::SectorDisk;
-use macs_frame::{An, Pn, Sci};
+use macs_fields::{An, Pn, Sci};
 use macs_journal::{Journal, JournalFault, JournalStep};
 use macs_record::Record;
 use std::mem::replace;

@@ -13,7 +13,7 @@ use crate::hand::Hand;
 use crate::standing::Standing;
 use macs_config::{Checked, Command, Config, Identity, Refusal};
 use macs_disk::SectorDisk;
-use macs_frame::{An, Pn, Sci};
+use macs_fields::{An, Pn, Sci};
 use macs_journal::{Journal, JournalFault};
 use macs_record::Ceiling;
 use std::marker::Model;

@@ -4,7 +4,7 @@
 use crate::names::{an_of, key_of, sci_of};
 use macs_aes::Key;
 use macs_config::{Command, SciMode, Validate};
-use macs_frame::{An, Sci};
+use macs_fields::{An, Sci};
 use macs_story_text::{Answer, Words};
 
 /// The command of this word with the words that follow; `None` where there is none.

@@ -2,7 +2,7 @@
 
 use hex::FromHex;
 use macs_aes::Key;
-use macs_frame::{An, Pn, Sci};
+use macs_fields::{An, Pn, Sci};
 use macs_story_text::Words;
 
 /// The next word as the number of an association.

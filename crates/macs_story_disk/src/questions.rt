@@ -2,7 +2,7 @@
 
 use crate::names::{an_of, key_of, sci_of};
 use macs_config::{Config, Identity, Protection, RxSa, TxSa};
-use macs_frame::{An, Offset};
+use macs_fields::{An, Offset};
 use macs_story_text::{Answer, Words, whole};
 
 /// Tells an SCI, and the blocks of either side.

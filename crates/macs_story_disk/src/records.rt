@@ -4,7 +4,7 @@ use crate::commands::{command_of, is_on, sci_mode_of, validate_of};
 use crate::names::{an_of, fingerprint_of, key_of, sci_of};
 use macs_aes::KeyOctets;
 use macs_config::{Fingerprints, Protection, Replay, Role, RxSa, TxSa};
-use macs_frame::Offset;
+use macs_fields::Offset;
 use macs_journal::Records;
 use macs_record::{Ceiling, Record, encode};
 use macs_story_text::{Answer, Words};

@@ -5,7 +5,7 @@ use crate::disk::StoryDisk;
 use crate::names::{an_of, pn_of, sci_of};
 use crate::questions::{ask_config, tell_identity};
 use macs_config::Command;
-use macs_frame::{An, Pn, Sci};
+use macs_fields::{An, Pn, Sci};
 use macs_journal::JournalFault;
 use macs_record::Ceiling;
 use macs_store::{CommitFault, JournalStep, Store};

@@ -4,8 +4,8 @@ use Rattle.std.specs.Prelude.{◌==◌, ◌&&◌, not, nat_lt, Option, Some, Non
 use Rattle.std.specs.Option.{option_map}
 use Rattle.std.proofs.lemmas.Bool.Decides.{nat_tests}
 use Rattle.macs_config.specs.Association.{is_confidential, is_end_station, offset_of}
-use Rattle.macs_frame.specs.First.{first}
-use Rattle.macs_frame.specs.Fields.{octets_of}
+use Rattle.macs_fields.specs.First.{first}
+use Rattle.macs_fields.specs.Fields.{octets_of}
 use Rattle.macs_frame.specs.Protection.{overhead, protected_frame}
 use Rattle.macs_frame.specs.declared.tag.ScName.{ScName}
 use Rattle.macs_txsc.specs.declared.association.Association.{Association}

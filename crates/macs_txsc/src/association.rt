@@ -2,8 +2,8 @@
 
 ghost use Rattle.std.specs.Prelude.{◌≡◌, ◌≤◌, ◌<◌, ◌+◌, ◌^◌, ◌==◌, ◌∷◌, [], None, Some, IfErr, IfOk, OnOk, length};
 ghost use Rattle.macs_config.specs.Association.{is_confidential, offset_of};
-ghost use Rattle.macs_frame.specs.Fields.{octets_of};
-ghost use Rattle.macs_frame.specs.First.{first};
+ghost use Rattle.macs_fields.specs.Fields.{octets_of};
+ghost use Rattle.macs_fields.specs.First.{first};
 ghost use Rattle.macs_frame.specs.Protection.{overhead, protected_frame};
 ghost use Rattle.macs_frame.specs.declared.tag.SecTag.{SecTag};
 ghost use Rattle.macs_txsc.specs.declared.fault.TxFault.TheVariants.{Exhausted, NoNumber};

@@ -7,7 +7,7 @@ ghost use Rattle.macs_config.specs.Association.{is_end_station, protection_of};
 ghost use Rattle.macs_config.specs.Identity.{is_port_one};
 ghost use Rattle.macs_config.specs.Tables.{put};
 ghost use Rattle.macs_config.specs.declared.command.SciMode.TheVariants.{EndStation};
-ghost use Rattle.macs_frame.specs.First.{first};
+ghost use Rattle.macs_fields.specs.First.{first};
 ghost use Rattle.macs_frame.specs.Protection.{overhead};
 ghost use Rattle.macs_txsc.specs.declared.fault.TxFault.TheVariants.{Runt, TooLong, ForeignSource};
 ghost use Rattle.macs_txsc.specs.Transmit.{AreOrdered, Outgoing, all_tx_faults, fault_count, frame_of, is_own_source, name_in, need_of, new_tx_side, no_counts, next_outgoing, side_after_frame, counters_after_answer};

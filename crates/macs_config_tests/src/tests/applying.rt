@@ -8,7 +8,7 @@ use macs_aes::KeyOctets;
 use macs_config::{
     Command, Config, Identity, Protection, Replay, Role, RxSa, SciMode, TxSa, Validate,
 };
-use macs_frame::{Offset, Sci};
+use macs_fields::{Offset, Sci};
 use std::process::Abort;
 
 /// Blocks of the transmit and the receive side, and whether an identity has them.

@@ -5,7 +5,7 @@ use super::{
     rx_install, take, tx_install,
 };
 use macs_config::{Command, Config, Refusal, SciMode};
-use macs_frame::Sci;
+use macs_fields::Sci;
 use std::process::Abort;
 
 /// Refuses a command on what `configured` makes, and looks at every reader.

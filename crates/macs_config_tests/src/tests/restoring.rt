@@ -6,7 +6,7 @@ use macs_config::{
     Config, Fingerprint, Fingerprints, Identity, Part, Protection, Replay, Role, RxSa, SciMode,
     TxSa, Validate,
 };
-use macs_frame::{An, Offset, Sci};
+use macs_fields::{An, Offset, Sci};
 use std::process::Abort;
 use std::test::Fail;
 

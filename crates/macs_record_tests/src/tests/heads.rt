@@ -2,7 +2,7 @@
 
 use super::sector_of;
 use macs_config::Identity;
-use macs_frame::Sci;
+use macs_fields::Sci;
 use macs_record::{Format, Head, SECTOR, decode_head, encode_head};
 use std::process::Abort;
 

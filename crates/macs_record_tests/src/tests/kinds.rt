@@ -3,7 +3,7 @@
 use super::{KEY, LONG_KEY, SCI, an_of, ceiling_of, pn_of, stands_as};
 use macs_aes::{Key, KeyOctets};
 use macs_config::{Fingerprints, Protection, Replay, Role, RxSa, SciMode, TxSa, Validate};
-use macs_frame::{Offset, Sci};
+use macs_fields::{Offset, Sci};
 use macs_record::{Ceiling, Record};
 use std::process::Abort;
 

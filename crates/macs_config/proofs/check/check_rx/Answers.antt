@@ -1,6 +1,6 @@
 use Rattle.std.proofs.Common.{◌≡◌, ◌∙◌, not, is_some, Ok, length, nat_le, sym, ap}
 use Rattle.macs_aes.specs.Keys.{key_of_octets, octets_of_key}
-use Rattle.macs_frame.specs.Fields.{octets_of}
+use Rattle.macs_fields.specs.Fields.{octets_of}
 use Rattle.macs_config.specs.Config.{is_spent, max_spent, takes_key, this_edition, rx_fingerprint}
 use Rattle.macs_config.specs.Judged.{octets-back}
 use Rattle.macs_config.specs.Value.{config_in}

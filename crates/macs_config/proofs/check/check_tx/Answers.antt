@@ -1,6 +1,6 @@
 use Rattle.std.proofs.Common.{◌≡◌, ◌∙◌, ◌<◌, true, not, Ok, length, nat_le, sym, ap, arith, rules}
 use Rattle.macs_aes.specs.Keys.{key_of_octets, octets_of_key}
-use Rattle.macs_frame.specs.Fields.{octets_of}
+use Rattle.macs_fields.specs.Fields.{octets_of}
 use Rattle.macs_config.specs.Association.{is_confidential, offset_of}
 use Rattle.macs_config.specs.Config.{is_spent, max_spent, takes_key, this_edition, tx_fingerprint}
 use Rattle.macs_config.specs.Judged.{octets-back}

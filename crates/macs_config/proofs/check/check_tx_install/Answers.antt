@@ -1,5 +1,5 @@
 use Rattle.std.proofs.Common.{◌∙◌, None, refl, ap}
-use Rattle.macs_frame.specs.Fields.{octets_of}
+use Rattle.macs_fields.specs.Fields.{octets_of}
 use Rattle.macs_config.specs.Apply.{answer_or_refusal, refusal_of}
 use Rattle.macs_config.specs.Config.{this_edition}
 use Rattle.macs_config.specs.Value.{config_in}

@@ -1,10 +1,10 @@
 use Rattle.std.proofs.Common.{◌∙◌, Err, refl, ap, arith}
 use Rattle.std.proofs.lemmas.Result.{err_from_is_err_and}
-use Rattle.macs_frame.specs.Fields.{octets_of}
+use Rattle.macs_fields.specs.Fields.{octets_of}
 use Rattle.macs_frame.specs.Opening.{OpenFaultHolds, open_faults}
 use Rattle.macs_frame.specs.declared.tag.SecTag.{SecTag}
 use Rattle.macs_frame.specs.declared.opening.OpenFault.TheVariants.{Tag as TagRefused, OtherSci, NotValid}
-use Rattle.macs_frame.proofs.FirstRefusal.{exactly_first, exactly_none}
+use Rattle.macs_fields.proofs.FirstRefusal.{exactly_first, exactly_none}
 use Rattle.macs_frame.proofs.OpenFaults.{first_tag_fault, first_other_sci, first_not_valid, verified, no_fault}
 use Rattle.macs_frame.proofs.opening.open_frame.Goals as goal
 

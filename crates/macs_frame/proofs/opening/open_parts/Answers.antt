@@ -1,6 +1,6 @@
 use Rattle.std.proofs.Common.{◌≡◌, ◌∙◌, ◌≤◌, ◌+◌, ◌++◌, true, ℕ, List, length, take, drop, slice_range, refl, ap, sym, arith, rules, length-append, length-take, length-drop}
 use Rattle.std.proofs.lemmas.List.{take_at, drop_at}
-use Rattle.macs_frame.specs.Fields.{octets_of}
+use Rattle.macs_fields.specs.Fields.{octets_of}
 use Rattle.macs_frame.specs.Opening.{OpensTo}
 use Rattle.macs_frame.proofs.ClearEnd.{take-append-slice_range}
 use Rattle.macs_frame.proofs.OpenedInPlace.{Pieces, opened_in_place, opens_in_place}

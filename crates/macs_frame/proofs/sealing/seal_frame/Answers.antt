@@ -1,6 +1,6 @@
 use Rattle.std.proofs.Common.{◌≡◌, ◌∙◌, ◌-◌, ◌++◌, List, ℕ, length, take, drop, slice_range, ap, sym, arith, length-drop}
 use Rattle.std.proofs.lemmas.List.{take_at}
-use Rattle.macs_frame.specs.Fields.{octets_of}
+use Rattle.macs_fields.specs.Fields.{octets_of}
 use Rattle.macs_frame.specs.Opening.{clear_of, hidden_of}
 use Rattle.macs_frame.specs.Protection.{header_of, written_tag}
 use Rattle.macs_frame.proofs.SealedInPlace.{sealed_in_place, slice_range-end}

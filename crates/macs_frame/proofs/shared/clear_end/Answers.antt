@@ -1,5 +1,5 @@
 use Rattle.std.proofs.Common.{sym}
-use Rattle.macs_frame.specs.Fields.{octets_of}
+use Rattle.macs_fields.specs.Fields.{octets_of}
 use Rattle.macs_frame.proofs.ClearEnd.{take-slice_range, drop-slice_range}
 use Rattle.macs_frame.proofs.shared.clear_end.Goals as goal
 

@@ -1,6 +1,6 @@
 use Rattle.std.proofs.Common.{rules, ◌≡◌, List, ℕ, Ok, Some, length, refl, sym, subst, ap}
-use Rattle.macs_frame.specs.First.{IsFirst, NoneHolds}
-use Rattle.macs_frame.proofs.FirstRefusal.{exactly_first, exactly_none}
+use Rattle.macs_fields.specs.First.{IsFirst, NoneHolds}
+use Rattle.macs_fields.proofs.FirstRefusal.{exactly_first, exactly_none}
 use Rattle.macs_record.specs.Decoding.{RecordFaultHolds, IsSectorOf, record_faults}
 use Rattle.macs_record.specs.declared.record.RecordFault.TheVariants.{Field, Rest}
 use Rattle.macs_record.proofs.Decoded.{all_zeros, begins, exactly, first_field, first_rest, is_sector, no_fault, read_once}

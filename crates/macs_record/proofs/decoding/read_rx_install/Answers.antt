@@ -1,6 +1,6 @@
 use Rattle.std.proofs.Common.{◌≡◌, ◌++◌, ◌∙◌, ◌∷◌, [], Some, append_assoc}
 use Rattle.std.specs.Int.{to_be_bytes, w32}
-use Rattle.macs_frame.specs.Fields.{octets_of}
+use Rattle.macs_fields.specs.Fields.{octets_of}
 use Rattle.macs_record.specs.Layout.{IsRecord, fields_of}
 use Rattle.macs_record.specs.declared.kind.Kind.TheVariants as kinds
 use Rattle.macs_record.specs.declared.record.Record.TheVariants.{RxInstall}

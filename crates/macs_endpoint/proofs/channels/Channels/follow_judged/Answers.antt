@@ -1,6 +1,6 @@
 use Rattle.std.proofs.Common.{◌≡◌, ◌∙◌, ◌⊎◌, ℕ, Bool, Ok, ap, inl, inr, subst, arith, rules}
 use Rattle.macs_aes.specs.Keys.{key_of_octets}
-use Rattle.macs_frame.specs.Fields.{octets_of}
+use Rattle.macs_fields.specs.Fields.{octets_of}
 use Rattle.macs_config.specs.Association.{is_confidential, offset_of}
 use Rattle.macs_config.specs.Judged.{asked_by}
 use Rattle.macs_config.specs.declared.checked.Judged.{Judged}

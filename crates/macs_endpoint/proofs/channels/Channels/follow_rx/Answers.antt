@@ -1,6 +1,6 @@
 use Rattle.std.proofs.Common.{◌≡◌, ◌∙◌, Ok, subst, rules}
 use Rattle.macs_aes.specs.Keys.{key_of_octets}
-use Rattle.macs_frame.specs.Fields.{octets_of}
+use Rattle.macs_fields.specs.Fields.{octets_of}
 use Rattle.macs_config.specs.Judged.{asked_by}
 use Rattle.macs_config.specs.declared.checked.Judged.{Judged}
 use Rattle.macs_store.specs.Value.{standing_in}

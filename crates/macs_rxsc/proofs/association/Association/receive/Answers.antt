@@ -3,7 +3,7 @@ use Rattle.std.specs.Prelude.{◌&&◌, nat_lt}
 use borrow.Author.Tests.{ltb-true}
 use Rattle.macs_config.specs.declared.command.Replay.{Replay}
 use Rattle.macs_frame.proofs.Readings.{verified_by_its_parts}
-use Rattle.macs_frame.specs.Fields.{octets_of}
+use Rattle.macs_fields.specs.Fields.{octets_of}
 use Rattle.macs_frame.specs.Opening.{Verified}
 use Rattle.macs_frame.specs.Tag.{tag_of}
 use Rattle.macs_frame.specs.declared.tag.SecTag.{SecTag}

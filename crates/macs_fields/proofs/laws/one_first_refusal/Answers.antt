@@ -1,6 +1,6 @@
 use Rattle.std.specs.Prelude.{IsTrue}
-use Rattle.macs_frame.proofs.FirstRefusal.{first-once, first-some, first-none, none-first}
-use Rattle.macs_frame.proofs.laws.one_first_refusal.Goals as goal
+use Rattle.macs_fields.proofs.FirstRefusal.{first-once, first-some, first-none, none-first}
+use Rattle.macs_fields.proofs.laws.one_first_refusal.Goals as goal
 
 pub returns-clause-once : goal.returns-clause-once
 returns-clause-once g c = λ holds refusals a b. first-once (λ r. IsTrue (holds r)) refusals a b

@@ -3,7 +3,7 @@ use Rattle.std.proofs.Common.{◌≡◌, ◌∙◌, ◌↔◌, Bool, true, false
 use Rattle.std.proofs.lemmas.Bool.{false≢true}
 use Rattle.std.specs.Prelude.{IsTrue}
 use Rattle.std.specs.List.{list_any}
-use Rattle.macs_frame.specs.First.{NoneHolds, IsFirst}
+use Rattle.macs_fields.specs.First.{NoneHolds, IsFirst}
 
 -- there is at most one
 pub first-once : {R : Type 0} (Holds : R → Type 0) (refusals : List R) (f g : R) → IsFirst Holds refusals f → IsFirst Holds refusals g → f ≡ g

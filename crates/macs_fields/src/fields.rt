@@ -117,7 +117,7 @@ pub enum Offset {
 }
 
 impl Offset {
-    ghost use Rattle.macs_frame.specs.Fields.{octets_of};
+    ghost use Rattle.macs_fields.specs.Fields.{octets_of};
 
     /// `None` for a number of octets that is none of 0, 30 and 50.
     pub fn new(octets: u8) -> Option<Offset>
