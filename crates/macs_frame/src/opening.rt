@@ -8,10 +8,10 @@ ghost use Rattle.macs_fields.specs.First.{IsFirst};
 ghost use Rattle.macs_frame.specs.Opening.{OpenFaultHolds, OpensTo, Verified, named_sci, open_faults};
 ghost use Rattle.macs_frame.specs.Tag.{Tag, tag_of};
 
-use macs_fields::{An, Offset, Pn, Sci};
 use crate::reading::read_tag;
 use crate::shared::{append, clear_end, iv_of};
 use crate::tag::{ADDRESS_OCTETS, FrameBuf, ICV_OCTETS, Parts, ScName, TagFault};
+use macs_fields::{An, Offset, Pn, Sci};
 use macs_gcm::{GcmKey, open};
 
 /// Why a frame is not opened, in the order in which the faults are looked for.

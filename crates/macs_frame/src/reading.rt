@@ -4,8 +4,8 @@ ghost use Rattle.std.specs.Prelude.{◌≡◌, ◌<◌, ◌≤◌, ◌+◌, ◌�
 ghost use Rattle.macs_fields.specs.First.{IsFirst};
 ghost use Rattle.macs_frame.specs.Tag.{Agrees, IsForKay, IsGoodControl, IsGoodTag, IsReading, Tag, TagFaultHolds, end_at, has_bit, name_of, pn_of, sci_of, start_of, tag_faults};
 
-use macs_fields::{An, Pn, Sci};
 use crate::tag::{ICV_OCTETS, MAX_FRAME, MIN_FRAME, Parts, ScName, SecTag, TagFault};
+use macs_fields::{An, Pn, Sci};
 
 // Octet 3 of the SecTAG: V, ES, SC, SCB, E and C (9.5).
 

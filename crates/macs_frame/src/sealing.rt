@@ -6,10 +6,10 @@ ghost use Rattle.macs_gcm.specs.Gcm.{seal};
 ghost use Rattle.macs_fields.specs.Fields.{octets_of};
 ghost use Rattle.macs_frame.specs.Protection.{control_octet, overhead, protected_frame, short_of, tag_octets, written_tag};
 
-use macs_fields::{Offset, Sci};
 use crate::reading::{CHANGED, ENCRYPTED, END_STATION, MIN_LONG_DATA, SCI_PRESENT};
 use crate::shared::{append, clear_end, iv_of};
 use crate::tag::{ADDRESS_OCTETS, FrameBuf, ICV_OCTETS, ScName, SecTag};
+use macs_fields::{Offset, Sci};
 use macs_gcm::{GcmKey, seal};
 
 /// Octet 3 of a SecTAG (9.5, 9.6).

@@ -5,8 +5,8 @@ ghost use Rattle.arrayvec.specs.ArrayVec.{array_vec_len};
 ghost use Rattle.macs_fields.specs.Fields.{octets_of};
 ghost use Rattle.macs_frame.specs.Opening.{clear_of, hidden_of, iv_of};
 
-use macs_fields::{Offset, Pn, Sci};
 use crate::tag::{FrameBuf, SecTag};
+use macs_fields::{Offset, Pn, Sci};
 
 /// The initialisation vector of a frame (14.5 and 14.6).
 pub(crate) fn iv_of(sci: Sci, number: Pn) -> [u8; 12]

@@ -1,7 +1,7 @@
 //! A SecTAG, and the parts of a tagged frame.
 
-use macs_fields::{An, Pn, Sci};
 use arrayvec::ArrayVec;
+use macs_fields::{An, Pn, Sci};
 
 /// The shortest frame, in octets: two addresses and an EtherType.
 pub const MIN_FRAME: usize = 14;
