@@ -1,6 +1,7 @@
 -- Which packet numbers a call moves.
 use Rattle.std.proofs.Common.{◌≡◌, ◌⊎◌, ◌+◌, inl, inr, ℕ, List, ◌∷◌, Result, Ok, Err, refl, sym, ◌∙◌, ap, subst}
 use Rattle.std.specs.Prelude.{Option, Some, None}
+use Rattle.std.specs.Option.{option_map}
 use Rattle.std.proofs.lemmas.Bool.{cases_eq}
 use Rattle.macs_config.specs.declared.command.Command.{Command}
 use Rattle.macs_config.specs.declared.command.Command.TheVariants.{RxDrop, RxInstall, RxRemove, SetReplay, TxInstall, TxRemove}
@@ -23,8 +24,11 @@ use Rattle.macs_endpoint.specs.declared.progress.Step.TheVariants.{Done, Worked}
 use Rattle.macs_endpoint.specs.declared.queue.Waiting.{Waiting}
 use Rattle.macs_endpoint.specs.State.{Advanced, Advances, Call, Commands, Protects, Protected, Ran, Received, Receives, Refilled, Refills, Reply, State, Submits, Submitted, tx_side}
 use Rattle.macs_endpoint.specs.Step.{AdvanceStep, CommandStep, Ends, ProtectStep, ReceiveStep, RefillStep, RunningStep, SubmitStep, TakesUp, next_after, numbers_after}
-use Rattle.macs_headline.specs.Moving.{MovesOnlyThese, NumbersMove, SetsNext, SetsNumbers, SidesAreConfigured, TakesEffect}
+use Rattle.macs_store.specs.Standing.{Standing}
+use Rattle.macs_endpoint.specs.Restart.{Restart, RxRises, TxRises, opened_state}
+use Rattle.macs_headline.specs.Moving.{MovesOnlyThese, NoneAppear, NumbersMove, SetsNext, SetsNumbers, SidesAreConfigured, TakesEffect}
 use Rattle.macs_headline.proofs.Effects.{outgoing_is}
+use Rattle.macs_headline.proofs.Histories.{fits-restart}
 use Rattle.macs_headline.proofs.Places.{cases_place, cases_sci, put-that, put-this, put_at-that, put_at-this, put_rx-that, put_rx-this}
 
 -- ---- commands
@@ -197,6 +201,32 @@ by_call old call reply new h = absurd h
 pub numbers-move : (sectors : ℕ) → NumbersMove sectors
 numbers-move sectors s m call reply new (inl (stopped, answer, is)) = when_still s call reply new (still s new is)
 numbers-move sectors s m call reply new (inr (running, h)) = by_call s call reply new h
+
+-- ---- over a restart
+
+no_ceiling : (ceiling : Option ℕ) → option_map first_numbers ceiling ≡ None → ceiling ≡ None
+no_ceiling None is = refl
+no_ceiling (Some n) is = absurd (cc)
+
+no_next : (block : ℕ) (old found : Option ℕ) → old ≡ None → TxRises block old found → found ≡ None
+no_next block None found none rises = rises
+no_next block (Some n) found none rises = absurd (cc)
+
+no_numbers : (block : ℕ) (old found : Option Numbers) → old ≡ None → RxRises block old found → found ≡ None
+no_numbers block None found none rises = rises
+no_numbers block (Some n) found none rises = absurd (cc)
+
+by_restart : (s : State) (found : Standing) → Restart s (opened_state found s.logs) → s.in_hand ≡ None
+    → ((an : ℕ) → s.next an ≡ None → found.ceilings.tx an ≡ None) × ((sci : List ℕ) (an : ℕ) → s.numbers sci an ≡ None → found.ceilings.rx sci an ≡ None)
+by_restart s found (inl up) idle = (
+  λ an none. no_next s.identity.tx_block (s.next an) (found.ceilings.tx an) none (up.next an),
+  λ sci an none. no_ceiling (found.ceilings.rx sci an)
+      (no_numbers s.identity.rx_block (s.numbers sci an) (option_map first_numbers (found.ceilings.rx sci an)) none (up.numbers sci an)),
+)
+by_restart s found (inr (c, mid, hand, makes, up)) idle = let both : ◌≡◌ {A = Option Command} None (Some c) = sym idle ∙ hand in absurd (cc)
+
+pub none-appear : (sectors : ℕ) → NoneAppear sectors
+none-appear sectors s edition image found fits is = by_restart s found (fits-restart edition sectors image s found fits is)
 
 -- ---- the two sides
 

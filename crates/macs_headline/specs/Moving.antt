@@ -3,10 +3,15 @@ use Rattle.std.specs.Prelude.{◌≡◌, ◌⊎◌, ℕ, Bool, List, Option, Som
 use Rattle.std.specs.Option.{option_map}
 use Rattle.macs_aes.specs.declared.keys.Key.{Key}
 use Rattle.macs_frame.specs.Tag.{tag_of}
+use Rattle.macs_config.specs.Config.{Edition}
 use Rattle.macs_config.specs.declared.command.Command.{Command}
 use Rattle.macs_config.specs.declared.command.Command.TheVariants.{RxDrop, RxInstall, RxRemove, SetReplay, TxInstall, TxRemove}
+use Rattle.macs_disk.specs.States.{Image}
 use Rattle.macs_rxsc.specs.Receive.{Numbers, channel_of, first_numbers, numbers_under_window}
+use Rattle.macs_store.specs.Found.{StandingIs}
+use Rattle.macs_store.specs.Standing.{Standing}
 use Rattle.macs_endpoint.specs.Queue.{first_command}
+use Rattle.macs_endpoint.specs.Restart.{Fits}
 use Rattle.macs_endpoint.specs.State.{Advanced, Advances, Call, Commands, Protects, Protected, Ran, Received, Receives, Reply, State, rx_side, tx_side}
 use Rattle.macs_endpoint.specs.Step.{Step}
 use Rattle.macs_endpoint.specs.declared.progress.Step.TheVariants.{Done}
@@ -54,6 +59,14 @@ pub record MovesOnlyThese (s : State) (call : Call) (reply : Reply) (new : State
 -- so it is of each call at each moment
 abbrev pub NumbersMove : ℕ → Type 0
 NumbersMove sectors = (s : State) → Moment sectors s → (call : Call) (reply : Reply) (new : State) → Step s call reply new → MovesOnlyThese s call reply new
+
+-- ---- over a restart
+
+-- Where nothing is in hand, an association that has no packet number has none after a restart, whatever opens the disk.
+abbrev pub NoneAppear : ℕ → Type 0
+NoneAppear sectors = (s : State) (edition : Edition) (image : Image) (found : Standing) → Fits edition sectors image s → StandingIs edition sectors image (Ok found)
+    → s.in_hand ≡ None
+    → ((an : ℕ) → s.next an ≡ None → found.ceilings.tx an ≡ None) × ((sci : List ℕ) (an : ℕ) → s.numbers sci an ≡ None → found.ceilings.rx sci an ≡ None)
 
 -- ---- the two sides
 

@@ -31,7 +31,7 @@ ghost use Rattle.macs_headline.specs.GoingOn.{LivesGoOn};
 ghost use Rattle.macs_headline.specs.Logged.{LogsAreAnswers};
 ghost use Rattle.macs_headline.specs.Numbers.{GivenApart, GivenBelow, NothingForgotten, OkApart, SkipsFew, SkipsFewReceived};
 ghost use Rattle.macs_headline.specs.Numbers.{UsedBelow, UsedOnce, UsedOnceAtEnd};
-ghost use Rattle.macs_headline.specs.Moving.{NumbersMove, SidesAreConfigured};
+ghost use Rattle.macs_headline.specs.Moving.{NoneAppear, NumbersMove, SidesAreConfigured};
 ghost use Rattle.macs_headline.specs.Received.{HeldAreAhead, SeenAreVerified, UnverifiedAreSettled};
 ghost use Rattle.macs_headline.specs.Refused.{RefusalsAreExact};
 ghost use Rattle.macs_headline.specs.Steps.{StepsAreOne, StepsAreTaken};
@@ -107,6 +107,8 @@ pub fn headline()
     ensures windows_are_kept { (sectors : ℕ) → WindowsAreKept sectors }
     // A call moves the packet numbers of one association by a frame of its own, or those that a command sets; no others.
     ensures numbers_move { (sectors : ℕ) → NumbersMove sectors }
+    // And a restart gives none to an association that had none.
+    ensures none_appear { (sectors : ℕ) → NoneAppear sectors }
     // What the two sides of an endpoint have is its configuration.
     ensures sides { SidesAreConfigured }
     // A frame that is held back verifies, and its number is not below the next one.

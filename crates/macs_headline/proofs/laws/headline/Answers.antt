@@ -10,7 +10,7 @@ use Rattle.macs_headline.proofs.HandedIn.{in-hand-was-given}
 use Rattle.macs_headline.proofs.Identities.{identity-was-given}
 use Rattle.macs_headline.proofs.Logged.{logs-are-answers}
 use Rattle.macs_headline.proofs.Logs.{nothing-forgotten}
-use Rattle.macs_headline.proofs.Moving.{numbers-move, sides-are-configured}
+use Rattle.macs_headline.proofs.Moving.{none-appear, numbers-move, sides-are-configured}
 use Rattle.macs_headline.proofs.Numbers.{given-apart, given-below, ok-apart, skips-few, skips-few-received, used-below, used-once, used-once-at-end, windows-are-kept}
 use Rattle.macs_headline.proofs.Openings.{nothing-changes, refused-for-disk, refused-for-disk-or-blank}
 use Rattle.macs_headline.proofs.Ranges.{frames-are-standard}
@@ -35,6 +35,9 @@ returns-clause-steps_are_taken c = steps-are-taken
 
 pub returns-clause-numbers_move : goal.returns-clause-numbers_move
 returns-clause-numbers_move c = numbers-move
+
+pub returns-clause-none_appear : goal.returns-clause-none_appear
+returns-clause-none_appear c = none-appear
 
 pub returns-clause-sides : goal.returns-clause-sides
 returns-clause-sides c = sides-are-configured
