@@ -81,6 +81,7 @@ morning_turns frame out morning one last =
     ∷ record { call = Receives frame; reply = Received morning.received out; after = last }
     ∷ []
 
+-- a morning is a life of two calls, a refill and a receive of this frame, after which the program gives its disk back
 pub record IsMorning {D : Type 0} (disk_of : D → Disk) (start : EndpointValue D) (frame out : List ℕ) (morning : Morning) (left : D) : Type 0 where
   pub one : EndpointValue D
   pub last : EndpointValue D
