@@ -1,5 +1,5 @@
 -- A store in memory, the work that it has in hand, and what stands on its disk.
-use Rattle.std.specs.Prelude.{◌≡◌, ◌+◌, ℕ, Bool, false, Option, Some, length, IfSome, IsSome}
+use Rattle.std.specs.Prelude.{◌≡◌, ◌+◌, ℕ, Bool, true, false, Option, Some, None, length, IsSome}
 use Rattle.macs_config.specs.Config.{this_edition}
 use Rattle.macs_config.specs.declared.command.Command.{Command}
 use Rattle.macs_disk.specs.Disk as disk
@@ -8,6 +8,8 @@ use Rattle.macs_journal.specs.Stepping.{RenewsWith, IsAppendHand}
 use Rattle.macs_journal.specs.Value.{HoldsWith, JournalValue, left_of}
 use Rattle.macs_journal.specs.Value as journal
 use Rattle.macs_record.specs.Commands.{record_of}
+use Rattle.macs_record.specs.declared.record.Record.{Record}
+use Rattle.macs_record.specs.declared.record.Record.TheVariants.{RxCeiling, TxCeiling}
 use Rattle.macs_store.specs.Replay.{meaning_of, standing_after_record}
 use Rattle.macs_store.specs.Snapshot.{snapshot}
 use Rattle.macs_store.specs.Standing.{Standing}
@@ -102,11 +104,22 @@ FitsHand j standing (Renewing r) =
     (journal.is_stopped j ≡ false) × IsSome (standing_after_record standing r) × RenewsWith j.place j.hand (snapshot standing)
 FitsHand j standing (Appending r) = (journal.is_stopped j ≡ false) × IsSome (standing_after_record standing r) × IsAppendHand j.hand
 
--- what was judged beside the work in hand is of the command whose record is in hand
+-- a record is that of a raised ceiling
+abbrev pub is_ceiling : Record → Bool
+is_ceiling (TxCeiling an ceiling) = true
+is_ceiling (RxCeiling sci an ceiling) = true
+is_ceiling r = false
+
+-- what was judged beside a record: nothing where it is that of a raised ceiling, and else the command whose record it is
+abbrev pub IsOfRecord : Record → Option Command → Type 0
+IsOfRecord r None = is_ceiling r ≡ true
+IsOfRecord r (Some command) = record_of command ≡ Some r
+
+-- what was judged beside the work in hand is of the record in hand
 abbrev pub IsOfHand : Hand → Option Command → Type 0
 IsOfHand Empty checked = Unit {0}
-IsOfHand (Renewing r) checked = IfSome checked (λ command. record_of command ≡ Some r)
-IsOfHand (Appending r) checked = IfSome checked (λ command. record_of command ≡ Some r)
+IsOfHand (Renewing r) checked = IsOfRecord r checked
+IsOfHand (Appending r) checked = IsOfRecord r checked
 
 -- ---- on its disk
 

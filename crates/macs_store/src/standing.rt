@@ -1,6 +1,6 @@
 //! What a journal's records stand for.
 
-ghost use Rattle.std.specs.Prelude.{◌≡◌, ◌≤◌, ◌↔◌, List, true, false, if◌then◌else◌, Some, None, IfSome, IsSome, Ok, Err, IsOk, IfOk, OnOk, OnErr, length};
+ghost use Rattle.std.specs.Prelude.{◌≡◌, ◌≤◌, ◌↔◌, List, true, false, if◌then◌else◌, Some, None, IsSome, Ok, Err, IsOk, IfOk, OnOk, OnErr, length};
 ghost use Rattle.macs_config.specs.Apply.{apply};
 ghost use Rattle.macs_config.specs.Config as spec;
 ghost use Rattle.macs_config.specs.Config.{this_edition};
@@ -8,11 +8,11 @@ ghost use Rattle.macs_config.specs.Judged.{asked_by};
 ghost use Rattle.macs_config.specs.Snapshot.{config_of_parts};
 ghost use Rattle.macs_config.specs.Value.{config_of};
 ghost use Rattle.macs_config.specs.declared.part.Part.{Part};
-ghost use Rattle.macs_record.specs.Commands.{record_of};
 ghost use Rattle.macs_store.specs.Commands.{command_of};
 ghost use Rattle.macs_store.specs.Replay.{standing_after_command, standing_after_record, standing_after_records, snapshot_parts, reading_of, reads, replay_of, is_raise, snapshot_of, ceilings_with_records};
 ghost use Rattle.macs_store.specs.Standing.{IsStanding, accept, ceilings_after, new_standing, no_ceilings, standing_with_rx_ceiling, standing_with_tx_ceiling};
 ghost use Rattle.macs_store.specs.Table.{StandingValue, table_ceilings, table_scis, standing_of};
+ghost use Rattle.macs_store.specs.Value.{IsOfRecord};
 
 use crate::ahead::ahead;
 use crate::reading::{Snapshot, plain_command_of};
@@ -145,7 +145,7 @@ impl Standing {
     /// raised ceiling where nothing was judged.
     pub(crate) fn keep(&mut self, value: &Record, checked: Option<Checked>)
         requires follows { IsSome (standing_after_record (standing_of self.old) value.now) }
-        requires checked { IfSome checked (λ command. record_of command ≡ Some value.now) }
+        requires checked { IsOfRecord value.now checked }
         ensures { standing_after_record (standing_of self.old) value.now ≡ Some (standing_of self.new) }
     {
         match checked {

@@ -7,14 +7,13 @@ ghost use Rattle.macs_journal.specs.Stepping.{Renews, RenewsWith};
 ghost use Rattle.macs_journal.specs.Value as journal_value;
 ghost use Rattle.macs_journal.specs.declared.fault.JournalFault.TheVariants.{Stopped};
 ghost use Rattle.macs_journal.specs.declared.work.JournalStep.TheVariants.{Idle};
-ghost use Rattle.macs_record.specs.Commands.{record_of};
 ghost use Rattle.macs_store.specs.Replay.{standing_after_record};
 ghost use Rattle.macs_store.specs.Snapshot.{snapshot};
 ghost use Rattle.macs_store.specs.Standing.{accept, standing_with_rx_raised, standing_with_tx_raised};
 ghost use Rattle.macs_store.specs.Stepping.{Finishes, IsAppending, IsRenewing};
 ghost use Rattle.macs_store.specs.Stepping.{Starts, StartsCommit, StartsRecord, Steps};
 ghost use Rattle.macs_store.specs.Table.{standing_of};
-ghost use Rattle.macs_store.specs.Value.{IsIdle, calls_left, is_stopped, standing_in};
+ghost use Rattle.macs_store.specs.Value.{IsIdle, IsOfRecord, calls_left, is_stopped, standing_in};
 
 use crate::ahead::ahead;
 use crate::fault::CommitFault;
@@ -91,12 +90,13 @@ impl<D: SectorDisk> Store<D> {
         self.start(Record::RxCeiling { sci, an, ceiling }, None)
     }
 
-    /// Takes a record in hand that follows from what stands, and where it is a command's, what its check judged.
+    /// Takes a record in hand that follows from what stands, and where it is a command's, what its check judged: nothing
+    /// is judged of a raised ceiling, and of each command its record.
     /// Where all 256 slots are used the journal is to begin anew first.
     fn start(&mut self, value: Record, checked: Option<Checked>) -> Result<(), JournalFault>
         requires idle { IsIdle self.old }
         requires follows { IsSome (standing_after_record (standing_in self.old) value) }
-        requires checked { IfSome checked (λ command. record_of command ≡ Some value) }
+        requires checked { IsOfRecord value checked }
         ensures { StartsRecord D.disk self.old value result self.new }
     {
         if self.journal.is_full() {

@@ -164,6 +164,27 @@ use long spent
 write 516+2*$at record $record
 open-store = BadJournal
 
+# Records that install an association from packet number 1, by their octets: of kinds 9 and 14, and with a key of 256 bits
+# of kinds 20 and 21, which are made of no command.
+story records that install go on behind a snapshot
+use new
+use whole
+write 528 4d5245430900000102030405060708090a0b0c0d0e0f000000010000; write 529 gate
+write 530 4d5245430e12153524c0895e8100000102030405060708090a0b0c0d0e0f0000000100; write 531 gate
+open-store
+tx-association 0 = 000102030405060708090a0b0c0d0e0f clear
+tx-ceiling 0 = 5
+rx-association 12153524c0895e81 0 = 000102030405060708090a0b0c0d0e0f 0
+rx-ceiling 12153524c0895e81 0 = 1
+
+story a record that installs a key of 256 bits is refused behind a snapshot
+with record=4d5245431400000102030405060708090a0b0c0d0e0f101112131415161718191a1b1c1d1e1f000000010000
+with record=4d5245431512153524c0895e8100000102030405060708090a0b0c0d0e0f101112131415161718191a1b1c1d1e1f0000000100
+use new
+use whole
+write 528 $record; write 529 gate
+open-store = BadJournal
+
 story commands are no part of a snapshot
 use new
 write 516 record settings check off 3 explicit

@@ -1,8 +1,9 @@
-use Rattle.std.proofs.Common.{◌≡◌, ◌∙◌, IfSome, Option, Some, ap, subst}
+use Rattle.std.proofs.Common.{◌≡◌, ◌∙◌, Option, Some, ap, subst}
 use Rattle.macs_config.specs.declared.command.Command.{Command}
 use Rattle.macs_record.specs.Commands.{record_of}
 use Rattle.macs_store.specs.Replay.{accepted_standing}
 use Rattle.macs_store.specs.Table.{standing_of}
+use Rattle.macs_store.specs.Value.{IsOfRecord}
 use Rattle.macs_store.proofs.Keeping.{recorded-fits, recorded-follows}
 use Rattle.macs_store.proofs.Turns.{must-follow}
 use Rattle.macs_store.proofs.standing.Standing.keep.Goals.{In-Some}
@@ -10,7 +11,7 @@ use Rattle.macs_store.proofs.standing.Standing.keep.Goals as goal
 
 -- the record is that of the command
 has : (c : In-Some) → record_of c.in-Some.checked ≡ Some c.args.value.now
-has c = subst (λ (o : Option Command). IfSome o (λ command. record_of command ≡ Some c.args.value.now)) c.in-Some.is c.requires.checked
+has c = subst (λ (o : Option Command). IsOfRecord c.args.value.now o) c.in-Some.is c.requires.checked
 
 pub accept_checked-requires : goal.accept_checked-requires
 accept_checked-requires c =
