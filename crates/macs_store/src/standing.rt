@@ -1,6 +1,6 @@
 //! What a journal's records stand for.
 
-ghost use Rattle.std.specs.Prelude.{◌≡◌, ◌≤◌, ◌↔◌, List, true, false, if◌then◌else◌, Some, None, IsSome, Ok, Err, IsOk, IfOk, OnOk, OnErr, length};
+ghost use Rattle.std.specs.Prelude.{◌≡◌, ◌≤◌, ◌↔◌, List, true, false, if◌then◌else◌, Some, None, IfSome, IsSome, Ok, Err, IsOk, IfOk, OnOk, length};
 ghost use Rattle.macs_config.specs.Apply.{apply};
 ghost use Rattle.macs_config.specs.Config as spec;
 ghost use Rattle.macs_config.specs.Config.{this_edition};
