@@ -14,7 +14,7 @@ use Rattle.macs_endpoint.specs.declared.queue.Waiting.{Waiting}
 
 -- ---- numbers rise
 
--- A transmit number rises by at most a block and a half, and not beyond the last one; where there is none, there is none
+-- A transmit number rises by at most a block and a half, and at most to 2^32, one more than the last packet number; where there is none, there is none
 abbrev pub TxRises : ℕ → Option ℕ → Option ℕ → Type 0
 TxRises block None found = found ≡ None
 TxRises block (Some next) found =

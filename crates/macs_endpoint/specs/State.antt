@@ -106,7 +106,7 @@ NoneWait s = s.waiting ≡ []
 -- ---- calls
 
 -- what is asked: a command, a refill of the ceilings, a command that may wait, one device call of the work that there is, or a frame from the
--- controlled or the common side
+-- controlled or the common port
 pub data Call : Type 0 where
   Commands : Command → Call
   Refills : Call

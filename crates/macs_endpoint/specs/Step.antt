@@ -38,7 +38,7 @@ next_after (TxInstall an key start confidential offset) next = put next an (Some
 next_after (TxRemove an) next = put next an None
 next_after command next = next
 
--- the same of receive associations; and a new window raises the lowest acceptable number of each
+-- the same of receive associations; and a new window raises the lowest acceptable number of each that is further below next than the window
 abbrev pub numbers_after : Command → (List ℕ → ℕ → Option Numbers) → List ℕ → ℕ → Option Numbers
 numbers_after (SetReplay on window) numbers = λ sci an. option_map (numbers_under_window window) (numbers sci an)
 numbers_after (RxDrop sci) numbers = put_at numbers sci (λ an. None)
