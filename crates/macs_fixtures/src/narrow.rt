@@ -42,6 +42,8 @@ impl Read for NarrowReader<'_> {
 pub enum Failure {
     /// With an error.
     Error,
+    /// As if it were interrupted.
+    Interrupted,
     /// It takes no octet, and says so. A flush fails with an error.
     Nothing,
 }
@@ -102,6 +104,7 @@ impl Write for NarrowWriter {
         if self.is_failing() {
             return match self.failure {
                 Failure::Error => Err(io::Error::from(ErrorKind::BrokenPipe)),
+                Failure::Interrupted => Err(io::Error::from(ErrorKind::Interrupted)),
                 Failure::Nothing => Ok(0),
             };
         }
@@ -114,7 +117,10 @@ impl Write for NarrowWriter {
 
     fn flush(&mut self) -> io::Result<()> {
         if self.is_failing() || !self.is_flushed {
-            return Err(io::Error::from(ErrorKind::BrokenPipe));
+            return Err(io::Error::from(match self.failure {
+                Failure::Interrupted => ErrorKind::Interrupted,
+                Failure::Error | Failure::Nothing => ErrorKind::BrokenPipe,
+            }));
         }
         Ok(())
     }

@@ -4,3 +4,4 @@ pub mod Sent
 pub mod WrittenNumbers
 pub mod WrittenRecord
 pub mod WrittenHeader
+mod LetGo

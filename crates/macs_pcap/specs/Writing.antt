@@ -1,5 +1,5 @@
 -- What the calls promise that write a capture.
-use Rattle.std.specs.Prelude.{◌≡◌, ◌<◌, ℕ, Bool, true, List, ◌++◌, length, Option, Result, IfErr, OnErr, OnOk}
+use Rattle.std.specs.Prelude.{◌≡◌, ◌<◌, ℕ, Bool, true, List, ◌++◌, length, Option, Result, Err, IfErr, OnErr, OnOk}
 use Rattle.std.specs.Io.KnownBytes.{Appends, Keeps}
 use Rattle.macs_pcap.specs.States.{SinkState}
 use Rattle.macs_pcap.specs.declared.fault.PcapFault.{PcapFault}
@@ -21,6 +21,10 @@ pub record WritesText {T : Type 0} (before after : SinkState) (text : List ℕ) 
   pub whole : OnOk answer (Appends before.held after.held text)
   pub front : OnErr answer (AppendsFront before.held after.held text)
   pub write : TellsFailedWrite before.failed after.failed answer
+
+-- a write of a text fails with this fault, and a front of the text is written
+abbrev pub CutsShort : SinkState → SinkState → List ℕ → PcapFault → Type 0
+CutsShort before after text fault = WritesText {T = Unit {0}} before after text (Err fault)
 
 -- all that was written is handed on, or that fails
 pub record Flushes {T : Type 0} (before after : SinkState) (answer : Result T PcapFault) : Type 0 where

@@ -164,6 +164,9 @@ impl<R: Source> PcapReader<R> {
             IfSome (R.state source).left (AnswersHeaderFault fault)) }
         ensures names { IfErr result (λ fault.
             (fault ≢ PcapFault.Write) × (fault ≢ PcapFault.Memory)) }
+        // The source as it was let go: the header in it has this fault, and it is `Read` only where a read failed.
+        ensures refused { IfErr result (λ fault. (left : R)
+            × ReadsHeader (R.state source) (R.state left) (Err fault)) }
         ensures count { IfOk result (λ reader. count_of reader ≡ 0) }
         ensures sound { IfOk result (λ reader. lasting_fault reader ≡ None) }
     {

@@ -5,7 +5,7 @@ ghost use Rattle.macs_pcap.specs.Header.{header_text, longest};
 ghost use Rattle.macs_pcap.specs.Reading.{fault_in};
 ghost use Rattle.macs_pcap.specs.Records.{record_text};
 ghost use Rattle.macs_pcap.specs.Value.{sink_of, writer_fault, writes_big};
-ghost use Rattle.macs_pcap.specs.Writing.{Flushes, WritesText};
+ghost use Rattle.macs_pcap.specs.Writing.{CutsShort, Flushes, WritesText};
 
 use crate::fault::PcapFault;
 use crate::fields::{header_octets, record_header_octets};
@@ -52,6 +52,9 @@ impl<W: Sink> PcapWriter<W> {
         ensures header { IfOk result (λ writer. WritesText (W.state sink)
             (W.state (sink_of writer)) (header_text header.now) result) }
         ensures fault { IfErr result (λ fault. fault ≡ PcapFault.Write) }
+        // The sink as it was let go: it has a front of the header, and a write to it failed.
+        ensures cut { IfErr result (λ fault. (left : W)
+            × CutsShort (W.state sink) (W.state left) (header_text header.now) fault) }
         ensures order { IfOk result (λ writer. writes_big writer ≡ header.now.big) }
         ensures sound { IfOk result (λ writer. writer_fault writer ≡ None) }
     {

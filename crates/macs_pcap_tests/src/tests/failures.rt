@@ -64,18 +64,18 @@ fn expect_front(rt: &impl Abort, alloc: Global, big: bool, failure: Failure, cal
     assert!(rt; writer.octets() == front, "write {call}");
 }
 
-/// Each octet takes a write, and the flush is one call more: 44 calls of each of two captures, which fail in two
-/// ways, and five that do not come.
+/// Each octet takes a write, and the flush is one call more: 44 calls of each of two captures, which fail in three
+/// ways, and five that do not come. No call that was interrupted is made again.
 #[test]
 fn each_write_fails_in_turn(rt: HostRuntime) {
     let mut writings = 0_u32;
     for big in [true, false] {
-        for failure in [Failure::Error, Failure::Nothing] {
+        for failure in [Failure::Error, Failure::Interrupted, Failure::Nothing] {
             for call in 1..50 {
                 expect_front(&rt, rt.alloc(), big, failure, call);
                 writings = writings.wrapping_add(1);
             }
         }
     }
-    assert!(rt; writings == 4 * (44 + 5));
+    assert!(rt; writings == 6 * (44 + 5));
 }

@@ -1,9 +1,10 @@
-//! Octets that are no capture, or no whole one. That there are too many records no test can reach: it takes
-//! 2^32 of them.
+//! Octets that are no capture, or no whole one, and a record too many.
 
 use super::Outcome::{Header, Records};
-use super::{BIG, HEADER, LITTLE, Outcome, WHOLE, reading_of, with_octets};
-use macs_pcap::PcapFault;
+use super::{
+    BIG, HEADER, LITTLE, Outcome, STAMP, WHOLE, gives, reading_of, source_of, with_octets,
+};
+use macs_pcap::{PcapFault, Source, Stamp, read_record};
 use std::alloc::Global;
 use std::process::Abort;
 
@@ -114,4 +115,25 @@ fn the_first_fault_is_found(rt: HostRuntime) {
     for (changes, expected) in FAULTS {
         finds(&rt, rt.alloc(), changes, expected);
     }
+}
+
+/// Reads the record of the worked capture, or its end, after so many records.
+fn read_after<R: Source>(
+    source: &mut R,
+    alloc: Global,
+    count: u32,
+) -> Result<Option<Stamp>, PcapFault> {
+    read_record(source, true, count, &mut Vec::new(alloc))
+}
+
+/// After 2^32 - 2 records there may be one more, and after 2^32 - 1 only the end.
+#[test]
+fn the_last_record_has_the_greatest_number(rt: HostRuntime) {
+    let (_, record) = BIG.split_at(HEADER);
+    let mut last = source_of(record, 0);
+    assert!(rt; gives(read_after(&mut last, rt.alloc(), u32::MAX - 1), Some(STAMP)));
+    assert!(rt; gives(read_after(&mut last, rt.alloc(), u32::MAX), None));
+    let mut beyond = source_of(record, 0);
+    let answer = read_after(&mut beyond, rt.alloc(), u32::MAX);
+    assert!(rt; answer == Err(PcapFault::TooManyRecords));
 }
