@@ -1,9 +1,9 @@
 -- Whatever the smaller edition takes the larger takes too.
-use Rattle.std.proofs.Common.{◌≡◌, ◌∙◌, ℕ, Bool, true, false, cond, not, ◌&&◌, ◌||◌, ◌==◌, nat_le, nat_lt, List, [], ◌∷◌, ◌++◌, length, Option, Some, None, is_none, Ok, bytes_eq, refl, ap, arith}
+use Rattle.std.proofs.Common.{◌≡◌, ◌∙◌, ℕ, Bool, true, false, cond, not, ◌&&◌, ◌||◌, ◌==◌, nat_le, nat_lt, List, [], ◌∷◌, ◌++◌, length, Option, Some, None, is_none, Ok, bytes_eq, inl, inr, refl, ap, arith}
 use Rattle.std.proofs.lemmas.Bool.{and_from, and_parts, leb-false, lt-leb, ltb-true, lt-ltb, not-false}
 use Rattle.macs_aes.specs.Keys.{octets_of_key}
 use Rattle.macs_fields.specs.First.{first}
-use Rattle.macs_config.specs.Apply.{apply, are_channels_full, are_spent_full, config_after, has_no_channel, has_wrong_offset, has_wrong_start, is_channel_taken, is_in_use, is_key_spent, is_long_key, is_own_sci, is_slot_empty, is_slot_taken, is_wrong_end_station, refusal_of}
+use Rattle.macs_config.specs.Apply.{IsCommand, IsKey, apply, are_channels_full, are_spent_full, config_after, has_no_channel, has_wrong_offset, has_wrong_start, is_channel_taken, is_in_use, is_key_spent, is_long_key, is_own_sci, is_slot_empty, is_slot_taken, is_wrong_end_station, refusal_of}
 use Rattle.macs_config.specs.Config.{Config, Edition, IsConfig, IsUpTo, default, has_channel, takes_key}
 use Rattle.macs_config.specs.Identity.{Identity}
 use Rattle.macs_config.specs.Snapshot.{are_ordered, whole_config, may_follow, place_of, config_of_parts, config_with_part, config_with_parts}
@@ -38,15 +38,19 @@ last_by [] true longer fewer is = cc
 last_by [] false longer fewer is = ap (λ (test : Bool). cond test (Some LongKey) None) (fewer refl)
 last_by (row ∷ rows) long longer fewer is = last_behind row.0 row.1 rows long longer (last_by rows long longer fewer) is
 
-taken_by_either : (small large short : Bool) → (small ≡ true → large ≡ true) → (small || short) ≡ true → (large || short) ≡ true
-taken_by_either true large short wider is = ap (λ (test : Bool). test || short) (wider refl)
-taken_by_either false true short wider is = refl
-taken_by_either false false short wider is = is
+short_taken : (first short : Bool) → short ≡ true → (first || short) ≡ true
+short_taken true short is = refl
+short_taken false short is = is
+
+-- a long key that is taken where long keys are, and else a short one
+taken_by_either : (small large long short : Bool) → (small ≡ true → large ≡ true) → ((small && long) || short) ≡ true → ((large && long) || short) ≡ true
+taken_by_either true large long short wider is = ap (λ (takes : Bool). (takes && long) || short) (wider refl) ∙ is
+taken_by_either false large long short wider is = short_taken (large && long) short is
 
 module _ (small large : Edition) (up_to : IsUpTo small large) where
   -- a key that the smaller takes the larger takes
   takes-key : (key : List ℕ) → takes_key small key ≡ true → takes_key large key ≡ true
-  takes-key key = taken_by_either small.long_keys large.long_keys (length key == 16) up_to.long_keys
+  takes-key key = taken_by_either small.long_keys large.long_keys (length key == 32) (length key == 16) up_to.long_keys
 
   not_long : (key : List ℕ) → not (takes_key small key) ≡ false → not (takes_key large key) ≡ false
   not_long key is = ap not (takes-key key (not-false (takes_key small key) is))
@@ -157,7 +161,7 @@ module _ (small large : Edition) (up_to : IsUpTo small large) where
     spent_fit = is.spent_fit;
   }
 
--- ---- an edition that takes each key
+-- ---- an edition that takes long keys
 
 -- the last refusal is none where its test fails
 last-never : (start offset own station none taken full slot empty encoding spent keys long : Bool) → long ≡ false
@@ -178,22 +182,30 @@ last-never false false false false false false false false false false false tru
 last-never false false false false false false false false false false false false true fails is = cc
 last-never false false false false false false false false false false false false false fails is = cc
 
-module _ (edition : Edition) (fits : (key : List ℕ) → not (takes_key edition key) ≡ false) where
-  none-long : (command : Command) → is_long_key edition command ≡ false
-  none-long (SetValidate validate) = refl
-  none-long (SetReplay on window) = refl
-  none-long (SetSciMode mode) = refl
-  none-long (TxInstall an key start confidential offset) = fits (octets_of_key key)
-  none-long (TxUse an) = refl
-  none-long (TxRemove an) = refl
-  none-long (RxAdd sci) = refl
-  none-long (RxDrop sci) = refl
-  none-long (RxInstall sci an key start offset) = fits (octets_of_key key)
-  none-long (RxRemove sci an) = refl
+module _ (edition : Edition) (takes : edition.long_keys ≡ true) where
+  -- a key of 16 octets or of 32 is taken
+  each-key : (key : List ℕ) → IsKey key → not (takes_key edition key) ≡ false
+  each-key key (inl short) =
+      ap (λ (long : Bool). not ((long && (length key == 32)) || (length key == 16))) takes ∙ ap (λ (n : ℕ). not ((n == 32) || (n == 16))) short.size
+  each-key key (inr long) =
+      ap (λ (long : Bool). not ((long && (length key == 32)) || (length key == 16))) takes ∙ ap (λ (n : ℕ). not ((n == 32) || (n == 16))) long.size
 
-  -- where each key is taken, none is refused for its length
-  pub never-long : (identity : Identity) (c : Config) (command : Command) → ¬ (refusal_of edition identity c command ≡ Some LongKey)
-  never-long identity c command =
+  none-long : (command : Command) → IsCommand command → is_long_key edition command ≡ false
+  none-long (SetValidate validate) is = refl
+  none-long (SetReplay on window) is = refl
+  none-long (SetSciMode mode) is = refl
+  none-long (TxInstall an key start confidential offset) is = each-key (octets_of_key key) is.1
+  none-long (TxUse an) is = refl
+  none-long (TxRemove an) is = refl
+  none-long (RxAdd sci) is = refl
+  none-long (RxDrop sci) is = refl
+  none-long (RxInstall sci an key start offset) is = each-key (octets_of_key key) is.2
+  none-long (RxRemove sci an) is = refl
+
+  -- none is refused for its length
+  pub never-long : (identity : Identity) (c : Config) (command : Command) → IsCommand command → ¬ (refusal_of edition identity c command ≡ Some LongKey)
+  never-long identity c command is =
       last-never (has_wrong_start command) (has_wrong_offset command) (is_own_sci identity command) (is_wrong_end_station identity command)
       (has_no_channel c command) (is_channel_taken c command) (are_channels_full edition c command) (is_slot_taken c command)
-      (is_slot_empty c command) (is_in_use c command) (is_key_spent c command) (are_spent_full c command) (is_long_key edition command) (none-long command)
+      (is_slot_empty c command) (is_in_use c command) (is_key_spent c command) (are_spent_full c command) (is_long_key edition command)
+      (none-long command is)

@@ -37,10 +37,10 @@ pub record IsUpTo (small large : Edition) : Type 0 where
   pub long_keys : small.long_keys ≡ true → large.long_keys ≡ true
   pub format_two : small.format_two ≡ true → large.format_two ≡ true
 
--- an edition takes a key of so many octets: 16, for GCM-AES-128 (IEEE Std 802.1AE-2018, 14.5), or where it takes long keys also 32,
--- for GCM-AES-256 (14.6)
+-- an edition takes a key of so many octets: 32, for GCM-AES-256 (IEEE Std 802.1AE-2018, 14.6), where it takes long keys, and 16, for
+-- GCM-AES-128 (14.5)
 abbrev pub takes_key : Edition → List ℕ → Bool
-takes_key edition key = edition.long_keys || (length key == 16)
+takes_key edition key = (edition.long_keys && (length key == 32)) || (length key == 16)
 
 -- how many keys may be spent on a side
 abbrev pub max_spent : ℕ

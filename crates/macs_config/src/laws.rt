@@ -127,8 +127,8 @@ pub fn larger_has()
         → (identity : Identity) (c : Config) → IsConfig small identity c → IsConfig large identity c }
 {}
 
-/// An edition that takes long keys refuses no command for its key's length.
+/// An edition that takes long keys refuses no command for its key's length, which is 16 octets or 32.
 pub fn long_keys_taken()
-    ensures { (edition : Edition) (identity : Identity) (c : Config) (command : Command) → edition.long_keys ≡ true
-        → ¬ (refusal_of edition identity c command ≡ Some LongKey) }
+    ensures { (edition : Edition) (identity : Identity) (c : Config) (command : Command) → IsCommand command
+        → edition.long_keys ≡ true → ¬ (refusal_of edition identity c command ≡ Some LongKey) }
 {}
