@@ -115,9 +115,9 @@ abbrev pub IsOfRecord : Record → Option Command → Type 0
 IsOfRecord r None = is_ceiling r ≡ true
 IsOfRecord r (Some command) = record_of command ≡ Some r
 
--- what was judged beside the work in hand is of the record in hand
+-- what was judged beside the work in hand is of the record in hand, and nothing is left of it where no work is in hand
 abbrev pub IsOfHand : Hand → Option Command → Type 0
-IsOfHand Empty checked = Unit {0}
+IsOfHand Empty checked = checked ≡ None
 IsOfHand (Renewing r) checked = IsOfRecord r checked
 IsOfHand (Appending r) checked = IsOfRecord r checked
 

@@ -181,6 +181,7 @@ impl<D: SectorDisk> Store<D> {
             },
             Err(fault) => {
                 self.hand = Hand::Empty; // The next opening finds what stands.
+                self.checked = None;
                 Err(fault)
             }
         }
@@ -195,8 +196,9 @@ impl<D: SectorDisk> Store<D> {
         match self.journal.step(&[]) {
             Ok(step) => match step {
                 JournalStep::Finished => {
+                    let checked = self.checked.take();
                     if let Hand::Appending(value) = replace(&mut self.hand, Hand::Empty) {
-                        self.standing.keep(&value, self.checked);
+                        self.standing.keep(&value, checked);
                     }
                     Ok(JournalStep::Finished)
                 }
@@ -204,6 +206,7 @@ impl<D: SectorDisk> Store<D> {
             },
             Err(fault) => {
                 self.hand = Hand::Empty; // The next opening finds the record or not.
+                self.checked = None;
                 Err(fault)
             }
         }

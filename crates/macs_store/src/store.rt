@@ -27,7 +27,8 @@ pub struct Store<D: SectorDisk> {
     pub(crate) journal: Journal<D>,
     pub(crate) standing: Standing,
     pub(crate) hand: Hand,
-    /// What the check of the command in hand judged; `None` where a ceiling is being raised.
+    /// What the check of the command in hand judged; `None` where a ceiling is being raised or no work is in hand, so
+    /// that a key is kept no longer than its record is in hand.
     pub(crate) checked: Option<Checked>,
 }
 

@@ -1,10 +1,11 @@
-use Rattle.std.proofs.Common.{◌≡◌, ◌∙◌, [], Ok, sym, subst}
+use Rattle.std.proofs.Common.{◌≡◌, ◌∙◌, [], Option, Ok, sym, subst}
+use Rattle.macs_config.specs.declared.command.Command.{Command}
 use Rattle.macs_journal.specs.Stepping as journal
 use Rattle.macs_journal.specs.declared.work.JournalStep.{JournalStep}
 use Rattle.macs_journal.specs.declared.work.JournalStep.TheVariants.{Finished}
 use Rattle.macs_store.specs.Stepping.{IsAppending, Steps}
 use Rattle.macs_store.specs.Table.{standing_of}
-use Rattle.macs_store.specs.Value.{FitsHand, IsOfHand, StoreValue}
+use Rattle.macs_store.specs.Value.{FitsHand, IsOfHand, IsOfRecord, StoreValue}
 use Rattle.macs_store.specs.declared.hand.Hand.{Hand}
 use Rattle.macs_store.specs.declared.hand.Hand.TheVariants.{Appending}
 use Rattle.macs_store.proofs.Turns.{append-failed, append-finished, append-on, fits-append}
@@ -29,7 +30,8 @@ keep-requires-clause-follows g c =
 
 pub keep-requires-clause-checked : goal.keep-requires-clause-checked
 keep-requires-clause-checked g c =
-    subst (λ (h : Hand). IsOfHand h c.self.inside.checked) (sym c.replace.ensures.value ∙ c.in-Appending.is) c.self.invariant.1
+    subst (λ (o : Option Command). IsOfRecord c.in-Appending.value o) (sym c.take-checked.ensures.value)
+    (subst (λ (h : Hand). IsOfHand h c.self.inside.checked) (sym c.replace.ensures.value ∙ c.in-Appending.is) c.self.invariant.1)
 
 pub returns-in-Appending : goal.returns-in-Appending
 returns-in-Appending g c =
