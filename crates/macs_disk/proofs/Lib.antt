@@ -13,3 +13,4 @@ pub mod FileSectors
 mod FileOpenings
 pub mod FoundAgain
 pub mod FrontKept
+mod FailedCalls

@@ -6,6 +6,7 @@ pub mod Recorded
 pub mod Memory
 pub mod MemDisks
 pub mod Files
+pub mod FileFailures
 pub mod Layouts
 pub mod FileDisks
 pub mod FileEvidence

@@ -1,8 +1,9 @@
 //! What a disk in a file asks of the file.
 
-ghost use Rattle.std.specs.Prelude.{◌≡◌, ◌≤◌, length, IfErr, IfOk};
+ghost use Rattle.std.specs.Prelude.{◌≡◌, ◌≤◌, List, Option, None, length, IfErr, IfOk};
 ghost use Rattle.std.specs.IoError.{error_kind};
 ghost use Rattle.std.specs.declared.io.ErrorKind.TheVariants.{Interrupted};
+ghost use Rattle.macs_disk.specs.FileFailures.{Claims, FailedCall, Measures, Reads, Rereads, Syncs, NotesFailure, Writes};
 ghost use Rattle.macs_disk.specs.Files.{Behaves, ClaimsFile, FileState, IsSoundFile, ReadsFile, RereadsFile, SyncsFile};
 ghost use Rattle.macs_disk.specs.Files.{WritesFile, unknown_file};
 
@@ -27,17 +28,22 @@ pub trait DiskFile: Drop {
     /// leave.
     ghost file: { Self → FileState } = { λ _. unknown_file };
 
+    /// Which of its calls failed so far, in their order, where that is known.
+    ghost failures: { Self → Option (List FailedCall) } = { λ _. None };
+
     /// Claims the file until it is closed. An error where another open of the file has claimed it. The
     /// claim is advisory: it stops only those who ask for one.
     fn claim(&mut self) -> io::Result<()>
         ensures steady { (file self.new).behaves ≡ (file self.old).behaves }
-        ensures effect { Behaves (file self.old) → ClaimsFile (file self.old) (file self.new) result };
+        ensures effect { Behaves (file self.old) → ClaimsFile (file self.old) (file self.new) result }
+        ensures failure { NotesFailure (failures self.old) (failures self.new) Claims error_kind result };
 
     /// How many octets the file has.
     fn size(&mut self) -> io::Result<u64>
         ensures steady { (file self.new).behaves ≡ (file self.old).behaves }
         ensures effect { Behaves (file self.old) → file self.new ≡ file self.old }
-        ensures size { Behaves (file self.old) → IfOk result (λ size. size ≡ (file self.old).size) };
+        ensures size { Behaves (file self.old) → IfOk result (λ size. size ≡ (file self.old).size) }
+        ensures failure { NotesFailure (failures self.old) (failures self.new) Measures error_kind result };
 
     /// Reads octets from octet `at` on, maybe fewer than there is room for. It answers how many: none
     /// where the file has none there.
@@ -45,7 +51,8 @@ pub trait DiskFile: Drop {
         ensures bound { IfOk result (λ count. count ≤ length into.new) }
         ensures steady { (file self.new).behaves ≡ (file self.old).behaves }
         ensures effect { Behaves (file self.old)
-            → ReadsFile (file self.old) (file self.new) at into.new result };
+            → ReadsFile (file self.old) (file self.new) at into.new result }
+        ensures failure { NotesFailure (failures self.old) (failures self.new) Reads error_kind result };
 
     /// Writes octets from octet `at` on, maybe fewer than are given. It answers how many. Where the file
     /// ends before, it is made longer. A write that is interrupted wrote none.
@@ -55,18 +62,21 @@ pub trait DiskFile: Drop {
         ensures effect { Behaves (file self.old)
             → WritesFile (file self.old) (file self.new) at from.now result }
         ensures interrupted { Behaves (file self.old)
-            → IfErr result (λ error. error_kind error ≡ Interrupted → file self.new ≡ file self.old) };
+            → IfErr result (λ error. error_kind error ≡ Interrupted → file self.new ≡ file self.old) }
+        ensures failure { NotesFailure (failures self.old) (failures self.new) Writes error_kind result };
 
     /// Makes the file's octets durable on the device, and how many it has.
     fn sync(&mut self) -> io::Result<()>
         ensures steady { (file self.new).behaves ≡ (file self.old).behaves }
-        ensures effect { Behaves (file self.old) → SyncsFile (file self.old) (file self.new) result };
+        ensures effect { Behaves (file self.old) → SyncsFile (file self.old) (file self.new) result }
+        ensures failure { NotesFailure (failures self.old) (failures self.new) Syncs error_kind result };
 
     /// Forgets what the cache shows of a claimed file of which nothing is pending, so that later reads
     /// come from the device.
     fn reread(&mut self) -> io::Result<()>
         ensures steady { (file self.new).behaves ≡ (file self.old).behaves }
-        ensures effect { Behaves (file self.old) → RereadsFile (file self.old) (file self.new) result };
+        ensures effect { Behaves (file self.old) → RereadsFile (file self.old) (file self.new) result }
+        ensures failure { NotesFailure (failures self.old) (failures self.new) Rereads error_kind result };
 
     /// A file that behaves has octets, and shows what is durable where nothing is pending.
     ghost sound: { (it : Self) → Behaves (file it) → IsSoundFile (file it) };

@@ -1,6 +1,7 @@
 //! Whole moves of octets to and from a file, and what makes it fit for a disk.
 
-ghost use Rattle.std.specs.Prelude.{◌≡◌, ◌<◌, ◌≤◌, ◌+◌, ◌-◌, ◌^◌, length, replicate, OnOk};
+ghost use Rattle.std.specs.Prelude.{◌≡◌, ◌<◌, ◌≤◌, ◌+◌, ◌-◌, ◌^◌, length, replicate, OnErr, OnOk};
+ghost use Rattle.macs_disk.specs.FileFailures.{SettleFails};
 ghost use Rattle.macs_disk.specs.Files.{Behaves, HasNothingNew, IsClaimed, IsSure, Settles, WritesAll, values_from};
 ghost use Rattle.macs_disk.specs.Layouts.{place};
 
@@ -121,6 +122,7 @@ pub(crate) fn settle<F: DiskFile>(file: &mut F) -> Result<(), DeviceFault>
         → OnOk result (Settles (F.file file.old) (F.file file.new)) }
     ensures nothing_new { Behaves (F.file file.old) → IsClaimed (F.file file.old)
         → HasNothingNew (F.file file.old) (F.file file.new) }
+    ensures cause { OnErr result (SettleFails (F.failures file.old) (F.failures file.new)) }
 {
     let Ok(()) = file.sync() else {
         return Err(DeviceFault);

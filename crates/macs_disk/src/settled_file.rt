@@ -1,6 +1,7 @@
 //! A file that is made fit for a disk.
 
 ghost use Rattle.std.specs.Prelude.{◌≡◌, ◌≢◌, ◌<◌, ◌≤◌, ◌*◌, ◌/◌, ◌%◌, ◌^◌, true, IfErr, IfOk, IsErrOf, OnOk};
+ghost use Rattle.macs_disk.specs.FileFailures.{FitFails, MeasureFails, NoneFailed};
 ghost use Rattle.macs_disk.specs.Files.{Behaves, HasNothingNew, IsSure, KeepsFront, file_claimed};
 ghost use Rattle.macs_disk.specs.FileDisks.{IsExtent, IsStill, file_lengthened};
 ghost use Rattle.macs_disk.specs.Layouts.{layout_in, place, suits};
@@ -45,6 +46,8 @@ fn measure<F: DiskFile>(file: &mut F) -> Result<u64, FileFault>
     ensures whole { IfOk result (λ octets. octets % 512 ≡ 0) }
     ensures size { Behaves (F.file file.old) → IfOk result (λ octets. octets ≡ (F.file file.old).size) }
     ensures length { IsErrOf result FileFault.Length → Behaves (F.file file.old) → (F.file file.old).size % 512 ≢ 0 }
+    ensures quiet { OnOk result (NoneFailed (F.failures file.old) (F.failures file.new)) }
+    ensures cause { IfErr result (MeasureFails (F.failures file.old) (F.failures file.new)) }
 {
     file.claim()?;
     let octets = file.size()?;
@@ -135,6 +138,9 @@ impl<F: DiskFile> SettledFile<F> {
         ensures given { IfOk result (λ it. file_before it ≡ file) }
         ensures settled { Behaves (F.file file) → IfOk result (IsSettled F.file) }
         ensures length { IsErrOf result FileFault.Length → Behaves (F.file file) → (F.file file).size % 512 ≢ 0 }
+        // Each fault has its own cause: the call that failed is the last one of the file that was let go.
+        ensures refused { IfErr result (λ fault. (left : F)
+            × FitFails (F.failures file) (F.failures left) fault) }
     {
         let given = Snapshot::of(&file);
         let octets = measure(&mut file)?;

@@ -245,7 +245,9 @@ impl<A: Allocator> MemFile<A> {
 }
 
 impl<A: Allocator> DiskFile for MemFile<A> {
-    ghost use Rattle.std.specs.Prelude.{◌≡◌, ◌≤◌, ◌+◌, ◌⊎◌, length, IfOk};
+    ghost use Rattle.std.specs.IoError.{error_kind};
+    ghost use Rattle.std.specs.Prelude.{◌≡◌, ◌≤◌, ◌+◌, ◌⊎◌, None, length, IfOk};
+    ghost use Rattle.macs_disk.specs.FileFailures.{Reads, NotesFailure};
     ghost use Rattle.macs_disk.specs.Files.{Behaves, ReadsFile};
     ghost use Rattle.macs_mem_file.specs.Evidence.{memory-sound};
     ghost use Rattle.macs_mem_file.specs.MemFiles.{file_of};
@@ -271,6 +273,7 @@ impl<A: Allocator> DiskFile for MemFile<A> {
         ensures steady { (file_of self.new).behaves ≡ (file_of self.old).behaves }
         ensures effect { Behaves (file_of self.old)
             → ReadsFile (file_of self.old) (file_of self.new) at into.new result }
+        ensures failure { NotesFailure None None Reads error_kind result }
         ensures within { IfOk result (λ count. (count ≡ 0) ⊎ (at + count ≤ (file_of self.old).size)) }
     {
         self.plan.pass(FileCall::Read)?;
