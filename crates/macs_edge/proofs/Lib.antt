@@ -10,3 +10,4 @@ pub mod Counted
 pub mod Reading
 pub mod Flowing
 pub mod Relayed
+mod ByDatagrams

@@ -5,6 +5,8 @@ pub mod Settling
 pub mod Passing
 pub mod Wires
 pub mod MemWires
+pub mod Datagrams
+pub mod WireDatagrams
 pub mod UdpWires
 pub mod FaultWires
 pub mod Relaying

@@ -1,7 +1,17 @@
 -- A wire over UDP.
+use Rattle.std.specs.Prelude.{None}
 use Rattle.std.specs.declared.net.SocketAddr.{SocketAddr}
+use Rattle.macs_edge.specs.Wires.{WireState}
 use Rattle.macs_edge.specs.declared.udp_wire.UdpWire.{UdpWire}
 
 -- its peer: where its datagrams go to, and where those come from that it takes
-abbrev pub peer_of : {A : Type 0} → UdpWire A → SocketAddr
+abbrev pub peer_of : {A S : Type 0} → UdpWire A S → SocketAddr
 peer_of wire = wire.peer
+
+-- its socket
+abbrev pub socket_of : {A S : Type 0} → UdpWire A S → S
+socket_of wire = wire.socket
+
+-- what is known of it as a wire: its failed calls, and no frames
+abbrev pub udp_wire_state : {A S : Type 0} → UdpWire A S → WireState
+udp_wire_state wire = record { waiting = None; sent = None; failed_receives = wire.failed_receives; failed_sends = wire.failed_sends }

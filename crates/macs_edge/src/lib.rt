@@ -3,6 +3,7 @@
 
 mod command_files;
 mod config_fault;
+mod datagrams;
 mod fault_wire;
 mod fields;
 pub mod laws;
@@ -18,6 +19,7 @@ mod word;
 
 pub use command_files::commands_of;
 pub use config_fault::{ConfigFault, KeyName};
+pub use datagrams::{Arrived, Datagrams};
 pub use fault_wire::FaultWire;
 pub use mem_wire::MemWire;
 pub use passing::{RunFault, Summary, run_protect, run_validate};

@@ -1,8 +1,10 @@
 //! A wire over datagrams of UDP.
 
-ghost use Rattle.std.specs.Prelude.{◌≡◌, ◌≢◌, ◌<◌, ◌≤◌, [], length, None, Ok};
-ghost use Rattle.macs_edge.specs.Wires.{FillsBuffer, longest_frame};
+ghost use Rattle.std.specs.Prelude.{◌≡◌, length, Ok, IfErr, IfOk};
+ghost use Rattle.macs_edge.specs.WireDatagrams.{IsGiven, ReceivesDatagram, SendsDatagram};
+ghost use Rattle.macs_edge.specs.Wires.{FillsBuffer};
 
+use crate::datagrams::Datagrams;
 use crate::wire::{Got, Wire, WireFault};
 use macs_frame::{FrameBuf, MAX_FRAME};
 use std::alloc::{AllocError, Allocator};
@@ -23,29 +25,28 @@ pub enum BindFault {
 
 /// A wire over UDP (RFC 768), on IPv4 or IPv6: one datagram is one Ethernet frame without FCS. The socket
 /// does not wait and is bound to the own address alone: a datagram from another address than the peer's
-/// is dropped and answered as `Nothing`. What a network delivers, and when, is not known: it tells its
-/// failures and no frames.
+/// is dropped and answered as `Nothing`. A receive or a send that is interrupted has failed, and is not made
+/// again. What a network delivers, and when, is not known: the wire counts its failures, and its frames are unknown.
 #[derive(Drop)]
-pub struct UdpWire<A: Allocator> {
-    socket: UdpSocket,
+pub struct UdpWire<A: Allocator, S = UdpSocket> {
+    socket: S,
     peer: SocketAddr,
     room: Vec<u8, A>,
     failed_receives: u64,
     failed_sends: u64,
+    ghost sized: { length room.items ≡ 9217 },
 }
 
-/// Room for the next datagram.
-fn room<A: Allocator>(alloc: A) -> Result<Vec<u8, A>, AllocError> {
-    vec![in alloc; 0; ROOM]
+/// Room for so many octets.
+fn room<A: Allocator>(alloc: A, octets: usize) -> Result<Vec<u8, A>, AllocError>
+    ensures { IfOk result (λ room. length room.items ≡ octets) }
+{
+    vec![in alloc; 0; octets]
 }
 
 /// What a datagram from an address is to a wire of this peer: a stranger's is nothing.
 fn given(datagram: &[u8], from: SocketAddr, peer: SocketAddr, into: &mut FrameBuf) -> Got
-    ensures stranger { from ≢ peer → (result ≡ Got.Nothing) × (into.new.items ≡ []) }
-    ensures frame { from ≡ peer → length datagram.now ≤ longest_frame
-        → (result ≡ Got.Frame) × (into.new.items ≡ datagram.now) }
-    ensures long { from ≡ peer → longest_frame < length datagram.now
-        → (result ≡ Got.TooLong) × (into.new.items ≡ []) }
+    ensures given { IsGiven peer from datagram.now result into.new.items }
     ensures fills { FillsBuffer (Ok result) into.new.items }
 {
     into.clear();
@@ -58,10 +59,43 @@ fn given(datagram: &[u8], from: SocketAddr, peer: SocketAddr, into: &mut FrameBu
     }
 }
 
-impl<A: Allocator> UdpWire<A> {
-    ghost use Rattle.std.specs.Prelude.{◌≡◌, None, IfErr, IfOk};
+/// The next datagram of a socket, as a wire of this peer answers it: nothing where none waits.
+fn taken<S: Datagrams>(
+    socket: &mut S,
+    peer: SocketAddr,
+    room: &mut [u8],
+    into: &mut FrameBuf,
+) -> Result<Got, WireFault>
+    requires { length room.old ≡ 9217 }
+    ensures datagram { ReceivesDatagram peer (S.socket socket.old) (S.socket socket.new) result into.new.items }
+    ensures fills { FillsBuffer result into.new.items }
+    ensures fault { IfErr result (λ fault. fault ≡ WireFault.Receive) }
+{
+    into.clear();
+    match socket.take_from(room) {
+        Ok(arrived) => Ok(given(&room[..arrived.count], arrived.from, peer, into)),
+        Err(error) => {
+            if error.kind() == ErrorKind::WouldBlock {
+                return Ok(Got::Nothing);
+            }
+            Err(WireFault::Receive)
+        }
+    }
+}
+
+/// Sends a frame to this peer, and answers whether it was sent whole as one datagram.
+fn gave<S: Datagrams>(socket: &mut S, peer: SocketAddr, frame: &[u8]) -> bool
+    ensures { SendsDatagram peer (S.socket socket.old) (S.socket socket.new) frame.now result }
+{
+    match socket.give_to(frame, peer) {
+        Ok(count) => count == frame.len(),
+        Err(_) => false,
+    }
+}
+
+impl<A: Allocator> UdpWire<A, UdpSocket> {
+    ghost use Rattle.std.specs.Prelude.{◌≡◌, None, IfOk};
     ghost use Rattle.macs_edge.specs.UdpWires.{peer_of};
-    ghost use Rattle.macs_edge.specs.Wires.{FillsBuffer};
 
     /// A wire from the own address to the peer's. Refused first as `Memory`, where 9,217 octets are; then as
     /// `Bind`. Memory is taken here and at no other call.
@@ -70,12 +104,12 @@ impl<A: Allocator> UdpWire<A> {
         alloc: A,
         own: SocketAddr,
         peer: SocketAddr,
-    ) -> Result<UdpWire<A>, BindFault>
-        ensures state { IfOk result (λ wire. ⟦<UdpWire<A> as Wire>⟧.state wire
+    ) -> Result<UdpWire<A, UdpSocket>, BindFault>
+        ensures state { IfOk result (λ wire. ⟦<UdpWire<A, UdpSocket> as Wire>⟧.state wire
             ≡ record { waiting = None; sent = None; failed_receives = 0; failed_sends = 0 }) }
         ensures peer { IfOk result (λ wire. peer_of wire ≡ peer) }
     {
-        let Ok(room) = room(alloc) else {
+        let Ok(room) = room(alloc, ROOM) else {
             return Err(BindFault::Memory);
         };
         let Ok(socket) = UdpSocket::bind(net, own) else {
@@ -84,54 +118,80 @@ impl<A: Allocator> UdpWire<A> {
         if socket.set_nonblocking(true).is_err() {
             return Err(BindFault::Bind);
         }
-        Ok(UdpWire {
+        Ok(Self::with_room(socket, peer, room))
+    }
+}
+
+impl<A: Allocator, S: Datagrams> UdpWire<A, S> {
+    ghost use Rattle.std.specs.Prelude.{◌≡◌, length, None, IfErr, IfOk};
+    ghost use Rattle.macs_edge.specs.UdpWires.{peer_of, socket_of};
+    ghost use Rattle.macs_edge.specs.declared.udp_wire.BindFault.TheVariants.{Memory};
+
+    /// A wire to the peer over a socket that is bound and does not wait. Refused as `Memory` alone, where there
+    /// is none for 9,217 octets.
+    pub fn over(alloc: A, socket: S, peer: SocketAddr) -> Result<UdpWire<A, S>, BindFault>
+        ensures state { IfOk result (λ wire. ⟦<UdpWire<A, S> as Wire>⟧.state wire
+            ≡ record { waiting = None; sent = None; failed_receives = 0; failed_sends = 0 }) }
+        ensures peer { IfOk result (λ wire. peer_of wire ≡ peer) }
+        ensures socket { IfOk result (λ wire. socket_of wire ≡ socket) }
+        ensures memory { IfErr result (λ fault. fault ≡ Memory) }
+    {
+        let Ok(room) = room(alloc, ROOM) else {
+            return Err(BindFault::Memory);
+        };
+        Ok(UdpWire::with_room(socket, peer, room))
+    }
+
+    /// A wire before its first call.
+    fn with_room(socket: S, peer: SocketAddr, room: Vec<u8, A>) -> UdpWire<A, S>
+        requires { length room.items ≡ 9217 }
+        ensures state { ⟦<UdpWire<A, S> as Wire>⟧.state result
+            ≡ record { waiting = None; sent = None; failed_receives = 0; failed_sends = 0 } }
+        ensures peer { peer_of result ≡ peer }
+        ensures socket { socket_of result ≡ socket }
+    {
+        UdpWire {
             socket,
             peer,
             room,
             failed_receives: 0,
             failed_sends: 0,
-        })
-    }
-
-    /// The next datagram of the peer, where there is one.
-    fn take(&mut self, into: &mut FrameBuf) -> Result<Got, WireFault>
-        ensures same { ⟦<UdpWire<A> as Wire>⟧.state self.new ≡ ⟦<UdpWire<A> as Wire>⟧.state self.old }
-        ensures peer { peer_of self.new ≡ peer_of self.old }
-        ensures fills { FillsBuffer result into.new.items }
-        ensures fault { IfErr result (λ fault. fault ≡ WireFault.Receive) }
-    {
-        into.clear();
-        match self.socket.recv_from(&mut self.room) {
-            Ok((count, from)) => Ok(given(&self.room[..count], from, self.peer, into)),
-            Err(e) if e.kind() == ErrorKind::WouldBlock => Ok(Got::Nothing),
-            Err(_) => Err(WireFault::Receive),
         }
     }
 }
 
-impl<A: Allocator> Wire for UdpWire<A> {
-    ghost state = { λ wire. record {
-      waiting = None;
-      sent = None;
-      failed_receives = wire.failed_receives;
-      failed_sends = wire.failed_sends;
-    } };
+impl<A: Allocator, S: Datagrams> Wire for UdpWire<A, S> {
+    ghost use Rattle.std.specs.Prelude.{◌≡◌, is_ok, IfErr};
+    ghost use Rattle.macs_edge.specs.UdpWires.{peer_of, socket_of, udp_wire_state};
+    ghost use Rattle.macs_edge.specs.WireDatagrams.{ReceivesDatagram, SendsDatagram};
+    ghost use Rattle.macs_edge.specs.Wires.{Receives, Sends};
 
-    fn receive(&mut self, into: &mut FrameBuf) -> Result<Got, WireFault> {
-        let answer = self.take(into);
+    ghost state = { λ wire. udp_wire_state wire };
+
+    fn receive(&mut self, into: &mut FrameBuf) -> Result<Got, WireFault>
+        ensures receives { Receives (udp_wire_state self.old) result into.new.items (udp_wire_state self.new) }
+        ensures datagram { ReceivesDatagram (peer_of self.old) (S.socket (socket_of self.old))
+            (S.socket (socket_of self.new)) result into.new.items }
+        ensures peer { peer_of self.new ≡ peer_of self.old }
+    {
+        let answer = taken(&mut self.socket, self.peer, self.room.as_mut_slice(), into);
         if answer.is_err() {
             self.failed_receives = self.failed_receives.saturating_add(1);
         }
         answer
     }
 
-    fn send(&mut self, frame: &[u8]) -> Result<(), WireFault> {
-        match self.socket.send_to(frame, self.peer) {
-            Ok(count) if count == frame.len() => Ok(()),
-            _ => {
-                self.failed_sends = self.failed_sends.saturating_add(1);
-                Err(WireFault::Send)
-            }
+    fn send(&mut self, frame: &[u8]) -> Result<(), WireFault>
+        ensures sends { Sends (udp_wire_state self.old) frame.now result (udp_wire_state self.new) }
+        ensures datagram { SendsDatagram (peer_of self.old) (S.socket (socket_of self.old))
+            (S.socket (socket_of self.new)) frame.now (is_ok result) }
+        ensures fault { IfErr result (λ fault. fault ≡ WireFault.Send) }
+        ensures peer { peer_of self.new ≡ peer_of self.old }
+    {
+        if gave(&mut self.socket, self.peer, frame) {
+            return Ok(());
         }
+        self.failed_sends = self.failed_sends.saturating_add(1);
+        Err(WireFault::Send)
     }
 }

@@ -7,6 +7,7 @@ mod hostile_files;
 mod hostile_texts;
 mod memory;
 mod relaying;
+mod sockets;
 mod wires;
 
 /// A file with a command of each word, in the order of the table of words.

@@ -18,7 +18,7 @@ use macs_edge::{RelaySummary, UdpWire, Wire, relay};
 use macs_endpoint::Endpoint;
 use std::alloc::Global;
 use std::io::Write;
-use std::net::Net;
+use std::net::{Net, UdpSocket};
 
 /// The line that a relay ends with.
 fn relay_line(summary: RelaySummary) -> Line
@@ -36,7 +36,7 @@ fn relay_line(summary: RelaySummary) -> Line
 /// A wire that is bound. It fails first as `Memory`, where there is none for a frame of the wire; then as
 /// `Wire`, where the own address cannot be bound.
 pub fn bind<N: Net>(net: &N, alloc: Global, wire: WireAddresses) -> Result<UdpWire<Global>, Failure>
-    ensures fresh { IfOk result (λ bound. ⟦<UdpWire<Global> as Wire>⟧.state bound ≡ new_wire) }
+    ensures fresh { IfOk result (λ bound. ⟦<UdpWire<Global, UdpSocket> as Wire>⟧.state bound ≡ new_wire) }
     ensures peer { IfOk result (λ bound. peer_of bound ≡ wire.peer) }
     ensures failed { IfErr result (λ failure. (failure ≡ Failure.Memory) ⊎ (failure ≡ Failure.Wire)) }
 {
