@@ -11,57 +11,59 @@ ghost use Rattle.macs_journal.specs.Stages.{AtNextStage, AtStage, Does, IsCompac
 
 use crate::area::Area;
 use crate::compact_stage::CompactStage;
+use crate::record_source::RecordSource;
 use macs_disk::{DeviceFault, SectorDisk};
 use macs_record::laws::{head_in_range, record_in_range};
-use macs_record::{CLOSED_GATE, Head, Record, SECTOR, encode, encode_head, is_open, open_gate};
+use macs_record::{CLOSED_GATE, Head, SECTOR, encode, encode_head, is_open, open_gate};
 
-/// One device call of a compaction of these records into an area under this head. It answers the next one, `None`
-/// after the last.
-pub(crate) fn perform<D: SectorDisk>(
+/// One device call of a compaction of the records of a source into an area under this head, which counts them: a record
+/// is read where its body is written, and at no other call. It answers the next one, `None` after the last.
+pub(crate) fn perform<D: SectorDisk, R: RecordSource>(
     disk: &mut D,
     area: Area,
     head: &Head,
-    records: &[Record],
+    records: &R,
     stage: CompactStage,
 ) -> Result<Option<CompactStage>, DeviceFault>
-    requires few { length records.now ≤ slots }
-    requires room { IsCompactStage (length records.now) stage }
+    requires counts { head.now.count ≡ length (R.listed records.now) }
+    requires few { length (R.listed records.now) ≤ slots }
+    requires room { IsCompactStage (length (R.listed records.now)) stage }
     requires size { least_sectors ≤ (D.disk disk.old).sectors }
     ensures call { IsDeviceCall (D.disk disk.old) (D.disk disk.new) result }
     ensures one { OnOk result ((D.disk disk.new).clock ≡ (D.disk disk.old).clock + 1) }
-    ensures room { IfOk result (IsCompactNext (length records.now)) }
-    ensures left { IfOk result (λ next. compact_left_next (length records.now) next + 1 ≤ compact_left (length records.now) stage) }
-    ensures under_way { IsHonest (D.disk disk.new) → (began : Disk) → AtStage began (D.disk disk.old) area head.now records.now stage
-        → IsUnderWay began (D.disk disk.new) area head.now records.now }
-    ensures images { IsHonest (D.disk disk.new) → (began : Disk) (before : Content) → AtStage began (D.disk disk.old) area head.now records.now stage
-        → IsReady (now began) before → other_area before.area ≡ area → next_head before.head (length records.now) ≡ head.now
-        → Leaves (D.disk disk.old) (D.disk disk.new) (HasEitherJournal before (compacted before records.now)) }
+    ensures room { IfOk result (IsCompactNext (length (R.listed records.now))) }
+    ensures left { IfOk result (λ next. compact_left_next (length (R.listed records.now)) next + 1 ≤ compact_left (length (R.listed records.now)) stage) }
+    ensures under_way { IsHonest (D.disk disk.new) → (began : Disk) → AtStage began (D.disk disk.old) area head.now (R.listed records.now) stage
+        → IsUnderWay began (D.disk disk.new) area head.now (R.listed records.now) }
+    ensures images { IsHonest (D.disk disk.new) → (began : Disk) (before : Content) → AtStage began (D.disk disk.old) area head.now (R.listed records.now) stage
+        → IsReady (now began) before → other_area before.area ≡ area → next_head before.head (length (R.listed records.now)) ≡ head.now
+        → Leaves (D.disk disk.old) (D.disk disk.new) (HasEitherJournal before (compacted before (R.listed records.now))) }
     ensures done { IfOk result (λ next. next ≡ None → IsHonest (D.disk disk.new) → (began : Disk) (before : Content)
-        → AtStage began (D.disk disk.old) area head.now records.now stage → IsReady (now began) before → other_area before.area ≡ area
-        → next_head before.head (length records.now) ≡ head.now → IsReady (now (D.disk disk.new)) (compacted before records.now)) }
-    ensures next { IfOk result (λ next. IsHonest (D.disk disk.new) → (began : Disk) → AtStage began (D.disk disk.old) area head.now records.now stage
-        → AtNextStage began (D.disk disk.new) area head.now records.now next) }
+        → AtStage began (D.disk disk.old) area head.now (R.listed records.now) stage → IsReady (now began) before → other_area before.area ≡ area
+        → next_head before.head (length (R.listed records.now)) ≡ head.now → IsReady (now (D.disk disk.new)) (compacted before (R.listed records.now))) }
+    ensures next { IfOk result (λ next. IsHonest (D.disk disk.new) → (began : Disk) → AtStage began (D.disk disk.old) area head.now (R.listed records.now) stage
+        → AtNextStage began (D.disk disk.new) area head.now (R.listed records.now) next) }
 {
     let mut gate = [0; SECTOR];
     call(disk, area, head, records, stage, &mut gate)?;
-    let next = stage.next(is_open(&gate), records.len() as u64);
+    let next = stage.next(is_open(&gate), u64::from(head.count()));
     Ok(next)
 }
 
 /// The device call of a stage: a gate that it reads is put into `gate`.
-fn call<D: SectorDisk>(
+fn call<D: SectorDisk, R: RecordSource>(
     disk: &mut D,
     area: Area,
     head: &Head,
-    records: &[Record],
+    records: &R,
     stage: CompactStage,
     gate: &mut [u8; SECTOR],
 ) -> Result<(), DeviceFault>
-    requires room { IsCompactStage (length records.now) stage }
-    requires few { length records.now ≤ slots }
+    requires room { IsCompactStage (length (R.listed records.now)) stage }
+    requires few { length (R.listed records.now) ≤ slots }
     requires size { least_sectors ≤ (D.disk disk.old).sectors }
     ensures call { IsDeviceCall (D.disk disk.old) (D.disk disk.new) result }
-    ensures does { IsHonest (D.disk disk.new) → Does (now (D.disk disk.old)) (now (D.disk disk.new)) area head.now records.now stage gate.new result }
+    ensures does { IsHonest (D.disk disk.new) → Does (now (D.disk disk.old)) (now (D.disk disk.new)) area head.now (R.listed records.now) stage gate.new result }
 {
     match stage {
         CompactStage::ReadGate(k) => disk.read(area.gate(k), gate),
@@ -72,9 +74,9 @@ fn call<D: SectorDisk>(
             disk.write(area.head_body(), &encode_head(head))
         }
         CompactStage::Body(slot) => {
-            let value = &records[slot as usize];
-            record_in_range(value);
-            disk.write(area.slot_body(slot), &encode(value))
+            let value = records.at(slot as usize).unwrap();
+            record_in_range(&value);
+            disk.write(area.slot_body(slot), &encode(&value))
         }
         CompactStage::BodiesSync => disk.sync(), // The bodies and closed gates stand before the head says so.
         CompactStage::HeadGate => disk.write(area.head_gate(), &open_gate()),

@@ -18,6 +18,7 @@ use crate::fault::JournalFault;
 use crate::hand::Hand;
 use crate::journal::Journal;
 use crate::place::Place;
+use crate::record_source::RecordSource;
 use macs_disk::{DeviceFault, SectorDisk};
 use macs_record::{Head, Record};
 
@@ -33,11 +34,22 @@ impl<D: SectorDisk> Journal<D> {
         requires some { (1 ≤ length records.now) × (length records.now ≤ slots) }
         ensures { Compacts D.disk self.old records.now result self.new }
     {
+        self.compact_from(&records)
+    }
+
+    /// Begins anew with the records of a source, 1 to 256, as `compact` does with those of a slice: each is read
+    /// once, where its body is written.
+    pub fn compact_from<R: RecordSource>(&mut self, records: &R) -> Result<(), JournalFault>
+        requires idle { IsIdle self.old }
+        requires some { (1 ≤ length (R.listed records.now)) × (length (R.listed records.now) ≤ slots) }
+        ensures { Compacts D.disk self.old (R.listed records.now) result self.new }
+    {
         if self.stopped {
             return Err(JournalFault::Stopped);
         }
         let Place { area, head, .. } = self.place;
-        let Some(next) = next_head(&head, records.len() as u32) else {
+        let count = records.count();
+        let Some(next) = next_head(&head, count as u32) else {
             return Err(JournalFault::GenerationsSpent);
         };
         let other = area.other();
@@ -47,7 +59,7 @@ impl<D: SectorDisk> Journal<D> {
                 self.place = Place {
                     area: other,
                     head: next,
-                    free: records.len() as u64,
+                    free: count as u64,
                 };
                 Ok(())
             }
@@ -69,31 +81,32 @@ pub(crate) fn next_head(head: &Head, count: u32) -> Option<Head>
     Head::new(head.format(), generation, count, head.identity())
 }
 
-/// Writes these records into an area under this head, while the other area is current.
-fn rewrite<D: SectorDisk>(
+/// Writes the records of a source into an area under this head, which counts them, while the other area is current.
+fn rewrite<D: SectorDisk, R: RecordSource>(
     disk: &mut D,
     area: Area,
     head: &Head,
-    records: &[Record],
+    records: &R,
 ) -> Result<(), DeviceFault>
-    requires few { length records.now ≤ slots }
+    requires counts { head.now.count ≡ length (R.listed records.now) }
+    requires few { length (R.listed records.now) ≤ slots }
     requires size { least_sectors ≤ (D.disk disk.old).sectors }
     ensures work { IsWork (D.disk disk.old) (D.disk disk.new) result }
-    ensures most { (D.disk disk.new).clock ≤ (D.disk disk.old).clock + (519 + length records.now) }
+    ensures most { (D.disk disk.new).clock ≤ (D.disk disk.old).clock + (519 + length (R.listed records.now)) }
     ensures calls { OnOk result (IsHonest (D.disk disk.new) → (opened : ℕ) → HasOpenGates (now (D.disk disk.old)).seen area gates opened
-        → (D.disk disk.new).clock ≡ (D.disk disk.old).clock + (262 + opened + length records.now)) }
+        → (D.disk disk.new).clock ≡ (D.disk disk.old).clock + (262 + opened + length (R.listed records.now))) }
     ensures until { IsHonest (D.disk disk.new) → (before : Content) → IsReady (now (D.disk disk.old)) before → other_area before.area ≡ area
         → (opened : ℕ) → HasOpenGates (now (D.disk disk.old)).seen area gates opened
-        → FindsUntil (D.disk disk.old) (D.disk disk.new) ((D.disk disk.old).clock + (261 + opened + length records.now)) before }
+        → FindsUntil (D.disk disk.old) (D.disk disk.new) ((D.disk disk.old).clock + (261 + opened + length (R.listed records.now))) before }
     ensures images { IsHonest (D.disk disk.new) → (before : Content) → IsReady (now (D.disk disk.old)) before
-        → other_area before.area ≡ area → next_head before.head (length records.now) ≡ head.now
-        → Leaves (D.disk disk.old) (D.disk disk.new) (HasEitherJournal before (compacted before records.now)) }
+        → other_area before.area ≡ area → next_head before.head (length (R.listed records.now)) ≡ head.now
+        → Leaves (D.disk disk.old) (D.disk disk.new) (HasEitherJournal before (compacted before (R.listed records.now))) }
     ensures done { OnOk result (IsHonest (D.disk disk.new) → (before : Content) → IsReady (now (D.disk disk.old)) before
-        → other_area before.area ≡ area → next_head before.head (length records.now) ≡ head.now
-        → IsReady (now (D.disk disk.new)) (compacted before records.now)) }
+        → other_area before.area ≡ area → next_head before.head (length (R.listed records.now)) ≡ head.now
+        → IsReady (now (D.disk disk.new)) (compacted before (R.listed records.now))) }
     ensures gates { OnOk result (IsHonest (D.disk disk.new) → HasNewGates (now (D.disk disk.old)).seen (now (D.disk disk.new)).seen area) }
     ensures others { IsHonest (D.disk disk.new) → (i : ℕ)
-        → ¬ CompactWrites (now (D.disk disk.old)).seen area (length records.now) i
+        → ¬ CompactWrites (now (D.disk disk.old)).seen area (length (R.listed records.now)) i
         → IsSpared (D.disk disk.old) (D.disk disk.new) i }
 {
     let mut next = Some(CompactStage::ReadGate(0));

@@ -16,6 +16,7 @@ use crate::fault::JournalFault;
 use crate::hand::{Appending, Compacting, Hand};
 use crate::journal::Journal;
 use crate::place::Place;
+use crate::record_source::RecordSource;
 use crate::work::{JournalStep, Work};
 use macs_disk::SectorDisk;
 use macs_record::laws::record_in_range;
@@ -33,7 +34,10 @@ impl<D: SectorDisk> Journal<D> {
     {
         match work {
             Work::Append(value) => self.start_append(value),
-            Work::Compact(records) => self.start_compact(records.as_slice()),
+            Work::Compact(records) => {
+                let records = records.as_slice();
+                self.start_compact(&records)
+            }
         }
     }
 
@@ -54,18 +58,18 @@ impl<D: SectorDisk> Journal<D> {
         Ok(())
     }
 
-    /// Takes in hand that the journal begins anew with these records, 1 to 256: `start` for records that are lent, with
-    /// its refusals.
-    pub fn start_compact(&mut self, records: &[Record]) -> Result<(), JournalFault>
+    /// Takes in hand that the journal begins anew with the records of a source, 1 to 256: `start` for records that are
+    /// lent, with its refusals. How many there are is asked, and no record is read.
+    pub fn start_compact<R: RecordSource>(&mut self, records: &R) -> Result<(), JournalFault>
         requires idle { IsIdle self.old }
-        requires some { (1 ≤ length records.now) × (length records.now ≤ slots) }
-        ensures { Starts D.disk self.old (Renews records.now) result self.new }
+        requires some { (1 ≤ length (R.listed records.now)) × (length (R.listed records.now) ≤ slots) }
+        ensures { Starts D.disk self.old (Renews (R.listed records.now)) result self.new }
     {
         if self.stopped {
             return Err(JournalFault::Stopped);
         }
         let Place { head, .. } = self.place;
-        let Some(next) = next_head(&head, records.len() as u32) else {
+        let Some(next) = next_head(&head, records.count() as u32) else {
             return Err(JournalFault::GenerationsSpent);
         };
         self.hand = Hand::Compact(Compacting {
@@ -96,6 +100,15 @@ impl<D: SectorDisk> Journal<D> {
         requires lent { AreLent self.old.hand snapshot.now }
         ensures { Steps D.disk self.old snapshot.now result self.new }
     {
+        self.step_from(&snapshot)
+    }
+
+    /// Makes the next device call, as `step` does, with the records of a source: one of them is read where its body is
+    /// written, and none at another call.
+    pub fn step_from<R: RecordSource>(&mut self, snapshot: &R) -> Result<JournalStep, JournalFault>
+        requires lent { AreLent self.old.hand (R.listed snapshot.now) }
+        ensures { Steps D.disk self.old (R.listed snapshot.now) result self.new }
+    {
         if self.stopped {
             return Err(JournalFault::Stopped);
         }
@@ -119,11 +132,11 @@ impl<D: SectorDisk> Journal<D> {
     }
 
     /// One device call of the work in hand. After a device fault nothing is in hand.
-    fn advance(&mut self, snapshot: &[Record]) -> Result<(), JournalFault>
+    fn advance<R: RecordSource>(&mut self, snapshot: &R) -> Result<(), JournalFault>
         requires busy { ¬ IsIdle self.old }
         requires running { is_stopped self.old ≡ false }
-        requires lent { AreLent self.old.hand snapshot.now }
-        ensures { Advances D.disk self.old snapshot.now result self.new }
+        requires lent { AreLent self.old.hand (R.listed snapshot.now) }
+        ensures { Advances D.disk self.old (R.listed snapshot.now) result self.new }
     {
         match &self.hand {
             Hand::Empty => Ok(()),
@@ -133,11 +146,11 @@ impl<D: SectorDisk> Journal<D> {
     }
 
     /// One device call of the compaction in hand, of these records. After a device fault nothing is in hand.
-    fn step_compact(&mut self, snapshot: &[Record]) -> Result<(), JournalFault>
+    fn step_compact<R: RecordSource>(&mut self, snapshot: &R) -> Result<(), JournalFault>
         requires busy { IsCompactHand self.old.hand }
         requires running { is_stopped self.old ≡ false }
-        requires lent { AreLent self.old.hand snapshot.now }
-        ensures { Advances D.disk self.old snapshot.now result self.new }
+        requires lent { AreLent self.old.hand (R.listed snapshot.now) }
+        ensures { Advances D.disk self.old (R.listed snapshot.now) result self.new }
     {
         let Place { area, .. } = self.place;
         let other = area.other();

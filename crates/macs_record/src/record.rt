@@ -144,6 +144,74 @@ impl Record {
         record_judged(checked.judged())
     }
 
+    /// The same record.
+    pub fn copied(&self) -> Record
+        ensures { result ≡ self.now }
+    {
+        match self {
+            Record::Settings {
+                validate,
+                replay,
+                sci_mode,
+                encoding,
+            } => Record::Settings {
+                validate: *validate,
+                replay: *replay,
+                sci_mode: *sci_mode,
+                encoding: *encoding,
+            },
+            Record::TxSa { an, sa, ceiling } => Record::TxSa {
+                an: *an,
+                sa: *sa,
+                ceiling: *ceiling,
+            },
+            Record::Channel { sci } => Record::Channel { sci: *sci },
+            Record::RxSa {
+                sci,
+                an,
+                sa,
+                ceiling,
+            } => Record::RxSa {
+                sci: *sci,
+                an: *an,
+                sa: *sa,
+                ceiling: *ceiling,
+            },
+            Record::Spent { role, fingerprints } => Record::Spent {
+                role: *role,
+                fingerprints: fingerprints.copied(),
+            },
+            Record::SetValidate(validate) => Record::SetValidate(*validate),
+            Record::SetReplay(replay) => Record::SetReplay(*replay),
+            Record::SetSciMode(sci_mode) => Record::SetSciMode(*sci_mode),
+            Record::TxInstall { an, sa, start } => Record::TxInstall {
+                an: *an,
+                sa: *sa,
+                start: *start,
+            },
+            Record::TxUse { an } => Record::TxUse { an: *an },
+            Record::TxRemove { an } => Record::TxRemove { an: *an },
+            Record::RxAdd { sci } => Record::RxAdd { sci: *sci },
+            Record::RxDrop { sci } => Record::RxDrop { sci: *sci },
+            Record::RxInstall { sci, an, sa, start } => Record::RxInstall {
+                sci: *sci,
+                an: *an,
+                sa: *sa,
+                start: *start,
+            },
+            Record::RxRemove { sci, an } => Record::RxRemove { sci: *sci, an: *an },
+            Record::TxCeiling { an, ceiling } => Record::TxCeiling {
+                an: *an,
+                ceiling: *ceiling,
+            },
+            Record::RxCeiling { sci, an, ceiling } => Record::RxCeiling {
+                sci: *sci,
+                an: *an,
+                ceiling: *ceiling,
+            },
+        }
+    }
+
     /// Its kind.
     pub fn kind(&self) -> Kind
         ensures { result ≡ kind_of self.now }

@@ -19,5 +19,5 @@ pub mod Sections
 mod Whole
 pub mod Snapshots
 mod SnapshotLength
-mod Written
+mod Passing
 mod ReadFingerprints

@@ -4,7 +4,7 @@ use Rattle.std.specs.List.{range_with_len}
 use Rattle.std.specs.Option.{option_and_then, option_map}
 use Rattle.std.specs.Prelude.{flat_map}
 use Rattle.std.proofs.lemmas.Bool.{and_from, and_parts, le-leb, leb-true}
-use Rattle.std.proofs.lemmas.List.FromFn.{length-range_with_len}
+use Rattle.std.proofs.lemmas.List.FromFn.{get_or-range_with_len, length-range_with_len}
 use Rattle.macs_config.specs.Config.{Config, Edition}
 use Rattle.macs_config.specs.Identity.{Identity}
 use Rattle.macs_config.specs.Snapshot.{are_ordered, config_with_part, config_with_parts, may_follow, place_of}
@@ -14,7 +14,12 @@ use Rattle.macs_store.specs.Commands.{part_of}
 use Rattle.macs_store.specs.Replay.{ceilings_with_record, ceilings_with_records, snapshot_parts}
 use Rattle.macs_store.specs.Standing.{Ceilings}
 use Rattle.macs_store.proofs.Replaying.{joined}
-use Rattle.macs_store.proofs.Written.{number-at}
+
+-- the numbers from 0 on stand at their own places
+pub number-at : (n i d : ℕ) → i < n → i ≡ get_or (range_with_len 0 n) i d
+number-at n i d within =
+    let here : i ≡ 0 + i = omega arith in
+    here ∙ sym (get_or-range_with_len 0 n i d within)
 
 -- ---- parts and ceilings of some records and of others
 

@@ -1,5 +1,5 @@
 -- The fingerprints of a record, read one after another.
-use Rattle.std.proofs.Common.{◌≡◌, ◌∙◌, ◌↔◌, ◌≤◌, ◌<◌, ◌+◌, ◌*◌, ℕ, Bool, true, List, [], ◌∷◌, ◌++◌, length, take, drop, Some, None, IsTrue, inl, inr, ap, sym, subst, arith, length-append}
+use Rattle.std.proofs.Common.{◌≡◌, ◌∙◌, ◌↔◌, ◌≤◌, ◌<◌, ◌+◌, ◌*◌, ℕ, Bool, true, false, List, [], ◌∷◌, ◌++◌, length, take, drop, Option, Some, None, is_some, IsTrue, inl, inr, ap, sym, subst, arith, length-append}
 use Rattle.std.specs.List.{slice_get}
 use Rattle.std.proofs.Math.ListN.{drop_of_length-le}
 use Rattle.std.proofs.lemmas.List.{get_or-drop, length-drop, length-take, take_all, take_more}
@@ -13,6 +13,9 @@ ended xs i is = elim (slice_get_cases xs i).1 [
   | inr past ↦ past.0
 ]
 
+not-true : false ≡ true → ⊥
+not-true is = cc
+
 -- so many from a place on are read, as far as there are any: at least one
 pub record AreRead (spent : List (List ℕ)) (start n : ℕ) (fingerprints : List (List ℕ)) : Type 0 where
   pub so_far : fingerprints ≡ take n (drop start spent)
@@ -22,6 +25,19 @@ module _ (spent : List (List ℕ)) where
   -- there is none at the first place
   pub none-read : (place : ℕ) → slice_get spent (15 * place) ≡ None → fingerprints_at spent place ≡ []
   none-read place is = ap (λ (xs : List (List ℕ)). take 15 xs) (drop_of_length-le spent (ended spent (15 * place) is))
+
+  some-read : (place : ℕ) (x : List ℕ) → slice_get spent (15 * place) ≡ Some x → 1 ≤ length (fingerprints_at spent place)
+  some-read place x is =
+      let within = slice_get_within spent (15 * place) x is in
+      let size = length-drop (15 * place) spent in
+      let count = length-take 15 (drop (15 * place) spent) in
+      omega (arith, within, size, count)
+
+  -- there is one at the first place, or there is none
+  pub any-read : (place : ℕ) (first : Option (List ℕ)) → first ≡ slice_get spent (15 * place)
+      → (is_some first ≡ true → 1 ≤ length (fingerprints_at spent place)) × (is_some first ≡ false → fingerprints_at spent place ≡ [])
+  any-read place None is = ((λ there. absurd (not-true there)), (λ gone. none-read place (sym is)))
+  any-read place (Some x) is = ((λ there. some-read place x (sym is)), (λ gone. absurd (not-true (sym gone))))
 
   one_longer : (start n : ℕ) (x : List ℕ) → slice_get spent (start + n) ≡ Some x → take (n + 1) (drop start spent) ≡ take n (drop start spent) ++ x ∷ []
   one_longer start n x is =

@@ -4,6 +4,7 @@ pub mod Commands
 pub mod Replay
 pub mod Snapshot
 pub mod Table
+pub mod Walk
 pub mod Found
 pub mod Value
 pub mod Keeps

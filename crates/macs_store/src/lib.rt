@@ -13,6 +13,7 @@ mod standing;
 mod stepping;
 mod store;
 mod table;
+mod walk;
 
 pub use fault::CommitFault;
 pub use macs_journal::JournalStep;

@@ -1,30 +1,39 @@
-//! What stands, written as the records of a snapshot.
+//! What stands, as the records of a snapshot, one by one.
 
-ghost use Rattle.std.specs.Prelude.{◌≡◌, ◌≤◌, ◌<◌, ◌+◌, ◌*◌, ◌++◌, [], ◌∷◌, IfNone, IfSome, Some, length};
+ghost use Rattle.std.specs.Prelude.{◌≡◌, ◌≤◌, ◌<◌, ◌+◌, ◌*◌, ◌==◌, [], false, true, IfNone, IfSome, Some, length};
+ghost use Rattle.std.specs.List.{slice_get};
 ghost use Rattle.macs_config.specs.Config.{spent_of, this_edition};
 ghost use Rattle.macs_config.specs.Value.{config_of};
 ghost use Rattle.macs_store.specs.Replay.{snapshot_of};
 ghost use Rattle.macs_store.specs.Snapshot.{channel_records, fingerprints_at, most_records, most_spent_records, rx_records, rx_records_at, rx_records_of};
 ghost use Rattle.macs_store.specs.Snapshot.{settings_record, snapshot, spent_records, spent_records_at, tx_records, tx_records_at};
 ghost use Rattle.macs_store.specs.Table.{standing_of, table_ceilings};
+ghost use Rattle.macs_store.specs.Walk.{new_walk, walk_past, walk_past_all};
 
 use crate::laws::snapshot_stands_for_itself;
 use crate::standing::Standing;
 use crate::table::CeilingTable;
-use arrayvec::ArrayVec;
+use crate::walk::Walk;
 use macs_config::{Config, Fingerprints, MAX_FINGERPRINTS, Role};
 use macs_fields::{An, Sci};
+use macs_journal::RecordSource;
 use macs_record::Record;
 
 /// How many records as many keys take as may be spent on a side.
 const MAX_SPENT_RECORDS: usize = 35;
 
-/// How many records a snapshot takes at most: the settings, 4 transmit associations, 8 channels of 4 associations each, and
-/// the spent keys of both sides.
-const MAX_RECORDS: usize = 1 + 4 + 8 + 32 + 2 * MAX_SPENT_RECORDS;
+// The records of a snapshot of what stands. No more than one of them is there at a time.
+impl RecordSource for Standing {
+    ghost listed = { λ s. snapshot (standing_of s) };
 
-/// The records of a snapshot: 57 KB.
-pub(crate) type SnapshotRecords = ArrayVec<Record, MAX_RECORDS>;
+    fn count(&self) -> usize {
+        self.record_count()
+    }
+
+    fn at(&self, place: usize) -> Option<Record> {
+        self.record_at(place)
+    }
+}
 
 impl Standing {
     /// What holds of every snapshot: it stands for what it was taken of, in 1 to 115 records.
@@ -37,28 +46,45 @@ impl Standing {
         self.config.facts();
     }
 
-    /// Writes what stands as the records of a snapshot, in the place of those that are lent.
-    pub(crate) fn snapshot(&self, records: &mut SnapshotRecords)
-        ensures { records.new.items ≡ snapshot (standing_of self.now) }
+    /// How many records a snapshot of what stands has.
+    fn record_count(&self) -> usize
+        ensures { result ≡ length (snapshot (standing_of self.now)) }
+    {
+        let Walk { passed, .. } = self.walk(usize::MAX); // No record is there, so none is kept.
+        passed
+    }
+
+    /// The record at a place of a snapshot of what stands, counted from 0; `None` after the last one.
+    fn record_at(&self, place: usize) -> Option<Record>
+        ensures { result ≡ slice_get (snapshot (standing_of self.now)) place }
+    {
+        let Walk { found, .. } = self.walk(place);
+        found
+    }
+
+    /// Goes past all records of a snapshot of what stands, and keeps the one at a place.
+    fn walk(&self, place: usize) -> Walk
+        ensures { result ≡ walk_past_all (new_walk place) (snapshot (standing_of self.now)) }
     {
         let scis = self.config.channels();
-        records.clear();
-        add_settings(&self.config, records);
-        add_tx(&self.config, &self.ceilings, records);
-        add_channels(scis.as_slice(), records);
-        add_rx(&self.config, &self.ceilings, scis.as_slice(), records);
-        add_spent(&self.config, Role::Transmit, records);
-        add_spent(&self.config, Role::Receive, records);
+        let mut walk = Walk::new(place);
+        pass_settings(&self.config, &mut walk);
+        pass_tx(&self.config, &self.ceilings, &mut walk);
+        pass_channels(scis.as_slice(), &mut walk);
+        pass_rx(&self.config, &self.ceilings, scis.as_slice(), &mut walk);
+        pass_spent(&self.config, Role::Transmit, &mut walk);
+        pass_spent(&self.config, Role::Receive, &mut walk);
+        walk
     }
 }
 
-/// Adds the settings.
-fn add_settings(config: &Config, records: &mut SnapshotRecords)
-    requires room { length records.old.items < most_records }
-    ensures added { records.new.items ≡ records.old.items ++ settings_record (config_of config.now) ∷ [] }
-    ensures few { length records.new.items ≤ length records.old.items + 1 }
+/// Goes past the settings.
+fn pass_settings(config: &Config, walk: &mut Walk)
+    requires room { walk.old.passed < most_records }
+    ensures walked { walk.new ≡ walk_past walk.old (settings_record (config_of config.now)) }
+    ensures few { walk.new.passed ≤ walk.old.passed + 1 }
 {
-    records.push(Record::Settings {
+    walk.pass(Record::Settings {
         validate: config.validate(),
         replay: config.replay(),
         sci_mode: config.sci_mode(),
@@ -66,81 +92,75 @@ fn add_settings(config: &Config, records: &mut SnapshotRecords)
     });
 }
 
-/// Adds the transmit associations, by their numbers.
-fn add_tx(config: &Config, ceilings: &CeilingTable, records: &mut SnapshotRecords)
-    requires room { length records.old.items + 4 ≤ most_records }
-    ensures added { records.new.items ≡ records.old.items ++ tx_records (config_of config.now) (table_ceilings ceilings.now) }
-    ensures few { length records.new.items ≤ length records.old.items + 4 }
+/// Goes past the transmit associations, by their numbers.
+fn pass_tx(config: &Config, ceilings: &CeilingTable, walk: &mut Walk)
+    requires room { walk.old.passed + 4 ≤ most_records }
+    ensures walked { walk.new ≡ walk_past_all walk.old (tx_records (config_of config.now) (table_ceilings ceilings.now)) }
+    ensures few { walk.new.passed ≤ walk.old.passed + 4 }
 {
     for an in An::all() {
-        add_tx_at(config, ceilings, an, records);
+        pass_tx_at(config, ceilings, an, walk);
     }
 }
 
-/// Adds a transmit association, if one stands at that number.
-fn add_tx_at(config: &Config, ceilings: &CeilingTable, an: An, records: &mut SnapshotRecords)
-    requires room { length records.old.items < most_records }
-    ensures added { records.new.items ≡ records.old.items ++ tx_records_at (config_of config.now) (table_ceilings ceilings.now) an }
-    ensures few { length records.new.items ≤ length records.old.items + 1 }
+/// Goes past a transmit association, if there is one at that number.
+fn pass_tx_at(config: &Config, ceilings: &CeilingTable, an: An, walk: &mut Walk)
+    requires room { walk.old.passed < most_records }
+    ensures walked { walk.new ≡ walk_past_all walk.old (tx_records_at (config_of config.now) (table_ceilings ceilings.now) an) }
+    ensures few { walk.new.passed ≤ walk.old.passed + 1 }
 {
     if let Some(sa) = config.tx(an) {
         if let Some(ceiling) = ceilings.tx(an) {
-            records.push(Record::TxSa { an, sa, ceiling });
+            walk.pass(Record::TxSa { an, sa, ceiling });
         }
     }
 }
 
-/// Adds receive channels.
-fn add_channels(scis: &[Sci], records: &mut SnapshotRecords)
+/// Goes past receive channels.
+fn pass_channels(scis: &[Sci], walk: &mut Walk)
     requires eight { length scis.now ≤ 8 }
-    requires room { length records.old.items + 8 ≤ most_records }
-    ensures added { records.new.items ≡ records.old.items ++ channel_records scis.now }
-    ensures few { length records.new.items ≤ length records.old.items + 8 }
+    requires room { walk.old.passed + 8 ≤ most_records }
+    ensures walked { walk.new ≡ walk_past_all walk.old (channel_records scis.now) }
+    ensures few { walk.new.passed ≤ walk.old.passed + 8 }
 {
     for sci in scis {
-        records.push(Record::Channel { sci: *sci });
+        walk.pass(Record::Channel { sci: *sci });
     }
 }
 
-/// Adds the receive associations of all channels, in their order.
-fn add_rx(config: &Config, ceilings: &CeilingTable, scis: &[Sci], records: &mut SnapshotRecords)
+/// Goes past the receive associations of all channels, in their order.
+fn pass_rx(config: &Config, ceilings: &CeilingTable, scis: &[Sci], walk: &mut Walk)
     requires channels { scis.now ≡ (config_of config.now).channels }
     requires eight { length scis.now ≤ 8 }
-    requires room { length records.old.items + 32 ≤ most_records }
-    ensures added { records.new.items ≡ records.old.items ++ rx_records (config_of config.now) (table_ceilings ceilings.now) }
-    ensures few { length records.new.items ≤ length records.old.items + 32 }
+    requires room { walk.old.passed + 32 ≤ most_records }
+    ensures walked { walk.new ≡ walk_past_all walk.old (rx_records (config_of config.now) (table_ceilings ceilings.now)) }
+    ensures few { walk.new.passed ≤ walk.old.passed + 32 }
 {
     for sci in scis {
-        add_rx_of(config, ceilings, *sci, records);
+        pass_rx_of(config, ceilings, *sci, walk);
     }
 }
 
-/// Adds the receive associations of a channel, by their numbers.
-fn add_rx_of(config: &Config, ceilings: &CeilingTable, sci: Sci, records: &mut SnapshotRecords)
-    requires room { length records.old.items + 4 ≤ most_records }
-    ensures added { records.new.items ≡ records.old.items ++ rx_records_of (config_of config.now) (table_ceilings ceilings.now) sci }
-    ensures few { length records.new.items ≤ length records.old.items + 4 }
+/// Goes past the receive associations of a channel, by their numbers.
+fn pass_rx_of(config: &Config, ceilings: &CeilingTable, sci: Sci, walk: &mut Walk)
+    requires room { walk.old.passed + 4 ≤ most_records }
+    ensures walked { walk.new ≡ walk_past_all walk.old (rx_records_of (config_of config.now) (table_ceilings ceilings.now) sci) }
+    ensures few { walk.new.passed ≤ walk.old.passed + 4 }
 {
     for an in An::all() {
-        add_rx_at(config, ceilings, sci, an, records);
+        pass_rx_at(config, ceilings, sci, an, walk);
     }
 }
 
-/// Adds a receive association, if one stands at that number.
-fn add_rx_at(
-    config: &Config,
-    ceilings: &CeilingTable,
-    sci: Sci,
-    an: An,
-    records: &mut SnapshotRecords,
-)
-    requires room { length records.old.items < most_records }
-    ensures added { records.new.items ≡ records.old.items ++ rx_records_at (config_of config.now) (table_ceilings ceilings.now) sci an }
-    ensures few { length records.new.items ≤ length records.old.items + 1 }
+/// Goes past a receive association, if there is one at that number.
+fn pass_rx_at(config: &Config, ceilings: &CeilingTable, sci: Sci, an: An, walk: &mut Walk)
+    requires room { walk.old.passed < most_records }
+    ensures walked { walk.new ≡ walk_past_all walk.old (rx_records_at (config_of config.now) (table_ceilings ceilings.now) sci an) }
+    ensures few { walk.new.passed ≤ walk.old.passed + 1 }
 {
     if let Some(sa) = config.rx(sci, an) {
         if let Some(ceiling) = ceilings.rx(sci, an) {
-            records.push(Record::RxSa {
+            walk.pass(Record::RxSa {
                 sci,
                 an,
                 sa,
@@ -150,27 +170,64 @@ fn add_rx_at(
     }
 }
 
-/// Adds the spent keys of a side, in the order of installing.
-fn add_spent(config: &Config, role: Role, records: &mut SnapshotRecords)
-    requires room { length records.old.items + 35 ≤ most_records }
-    ensures added { records.new.items ≡ records.old.items ++ spent_records role (spent_of role (config_of config.now)) }
-    ensures few { length records.new.items ≤ length records.old.items + 35 }
+/// Goes past the spent keys of a side, in the order of installing.
+fn pass_spent(config: &Config, role: Role, walk: &mut Walk)
+    requires room { walk.old.passed + 35 ≤ most_records }
+    ensures walked { walk.new ≡ walk_past_all walk.old (spent_records role (spent_of role (config_of config.now))) }
+    ensures few { walk.new.passed ≤ walk.old.passed + 35 }
 {
     for place in 0..MAX_SPENT_RECORDS {
-        add_spent_at(config, role, place, records);
+        pass_spent_at(config, role, place, walk);
     }
 }
 
-/// Adds a side's record of spent keys at a place, if there is one.
-fn add_spent_at(config: &Config, role: Role, place: usize, records: &mut SnapshotRecords)
+/// Goes past a side's record of spent keys at a place, if there is one. It is made where it is the one that is
+/// looked for, and not to be counted.
+fn pass_spent_at(config: &Config, role: Role, place: usize, walk: &mut Walk)
     requires within { place < most_spent_records }
-    requires room { length records.old.items < most_records }
-    ensures added { records.new.items ≡ records.old.items ++ spent_records_at role (spent_of role (config_of config.now)) place }
-    ensures few { length records.new.items ≤ length records.old.items + 1 }
+    requires room { walk.old.passed < most_records }
+    ensures walked { walk.new ≡ walk_past_all walk.old (spent_records_at role (spent_of role (config_of config.now)) place) }
+    ensures few { walk.new.passed ≤ walk.old.passed + 1 }
+{
+    if walk.is_here() {
+        pass_fingerprints(config, role, place, walk)
+    } else {
+        pass_over_fingerprints(config, role, place, walk)
+    }
+}
+
+/// Goes past the record of the fingerprints at a place, if there are any.
+fn pass_fingerprints(config: &Config, role: Role, place: usize, walk: &mut Walk)
+    requires within { place < most_spent_records }
+    requires room { walk.old.passed < most_records }
+    ensures walked { walk.new ≡ walk_past_all walk.old (spent_records_at role (spent_of role (config_of config.now)) place) }
+    ensures few { walk.new.passed ≤ walk.old.passed + 1 }
 {
     if let Some(fingerprints) = fingerprints_at(config, role, place) {
-        records.push(Record::Spent { role, fingerprints });
+        walk.pass(Record::Spent { role, fingerprints });
     }
+}
+
+/// Goes past the record of the fingerprints at a place, if there are any, where it is not the one that is looked for.
+fn pass_over_fingerprints(config: &Config, role: Role, place: usize, walk: &mut Walk)
+    requires within { place < most_spent_records }
+    requires room { walk.old.passed < most_records }
+    requires other { (walk.old.passed == walk.old.place) ≡ false }
+    ensures walked { walk.new ≡ walk_past_all walk.old (spent_records_at role (spent_of role (config_of config.now)) place) }
+    ensures few { walk.new.passed ≤ walk.old.passed + 1 }
+{
+    if has_fingerprints(config, role, place) {
+        walk.pass_over();
+    }
+}
+
+/// Whether a side's record at a place has fingerprints.
+fn has_fingerprints(config: &Config, role: Role, place: usize) -> bool
+    requires within { place < most_spent_records }
+    ensures some { result ≡ true → 1 ≤ length (fingerprints_at (spent_of role (config_of config.now)) place) }
+    ensures none { result ≡ false → fingerprints_at (spent_of role (config_of config.now)) place ≡ [] }
+{
+    config.spent_at(role, MAX_FINGERPRINTS * place).is_some()
 }
 
 /// The fingerprints of a side's record at a place, 15 but in the last; `None` where there are none.

@@ -18,7 +18,6 @@ ghost use Rattle.macs_store.specs.Value.{IsIdle, IsOfRecord, calls_left, is_stop
 use crate::ahead::ahead;
 use crate::fault::CommitFault;
 use crate::hand::Hand;
-use crate::snapshot::SnapshotRecords;
 use crate::standing::Standing;
 use crate::store::Store;
 use macs_config::{Checked, Command};
@@ -214,7 +213,6 @@ impl<D: SectorDisk> Store<D> {
 }
 
 /// Takes in hand that the journal begins anew with a snapshot of what stands.
-#[inline(never)] // The records of a snapshot take 57 KB, which no other frame is to hold.
 fn start_renewal<D: SectorDisk>(
     journal: &mut Journal<D>,
     standing: &Standing,
@@ -222,14 +220,12 @@ fn start_renewal<D: SectorDisk>(
     requires idle { journal_value.IsIdle journal.old }
     ensures { journal_steps.Starts D.disk journal.old (Renews (snapshot (standing_of standing.now))) result journal.new }
 {
-    let mut records = SnapshotRecords::new();
-    standing.snapshot(&mut records);
     standing.facts();
-    journal.start_compact(records.as_slice())
+    journal.start_compact(standing)
 }
 
-/// The next device call of a journal that begins anew with a snapshot of what stands.
-#[inline(never)] // As above.
+/// The next device call of a journal that begins anew with a snapshot of what stands: the record whose body it writes
+/// is made for that call.
 fn step_with_snapshot<D: SectorDisk>(
     journal: &mut Journal<D>,
     standing: &Standing,
@@ -237,8 +233,6 @@ fn step_with_snapshot<D: SectorDisk>(
     requires renews { RenewsWith journal.old.place journal.old.hand (snapshot (standing_of standing.now)) }
     ensures { journal_steps.Steps D.disk journal.old (snapshot (standing_of standing.now)) result journal.new }
 {
-    let mut records = SnapshotRecords::new();
-    standing.snapshot(&mut records);
     standing.facts();
-    journal.step(records.as_slice())
+    journal.step_from(standing)
 }

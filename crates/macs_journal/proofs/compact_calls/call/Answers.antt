@@ -1,9 +1,13 @@
-use Rattle.std.proofs.Common.{ℕ, sym, ◌∙◌, subst, rules}
-use Rattle.std.proofs.lemmas.Option.{get_or_from_slice_get}
+use Rattle.std.proofs.Common.{◌≡◌, ◌<◌, ℕ, length, Some, is_some, ap, sym, ◌∙◌, subst, rules}
+use Rattle.std.specs.List.{slice_get}
+use Rattle.std.proofs.lemmas.Option.{same_Some}
 use Rattle.macs_disk.specs.Disk.{Writes, now}
 use Rattle.macs_record.specs.Gates.{closed_gate}
 use Rattle.macs_record.specs.Decoding.{IsSectorOf}
 use Rattle.macs_record.specs.declared.record.Record.{Record}
+use Rattle.macs_journal.specs.Stages.{IsCompactStage}
+use Rattle.macs_journal.specs.declared.compact_stage.CompactStage.{CompactStage}
+use Rattle.macs_journal.proofs.Items.{item_at}
 use Rattle.macs_journal.proofs.compact_calls.call.Goals as goal
 
 pub returns-in-CloseGate-clause-does : goal.returns-in-CloseGate-clause-does
@@ -22,13 +26,21 @@ returns-in-HeadBody-clause-does g c honest =
           (c.write-in-HeadBody.ensures.effect honest),
     )
 
+pub unwrap-value-requires : goal.unwrap-value-requires
+unwrap-value-requires g c =
+    let records = g.R.RecordSource.listed c.args.records.now in
+    let within : c.in-Body.slot < length records = subst (λ (stage : CompactStage). IsCompactStage (length records) stage) c.in-Body.is c.requires.room in
+    ap is_some (c.at.ensures ∙ (item_at records c.in-Body.slot within).1)
+
 pub returns-in-Body-clause-does : goal.returns-in-Body-clause-does
 returns-in-Body-clause-does g c honest =
     let d = g.D.SectorDisk.disk in
-    let here : IsSectorOf c.index-records-slot.result c.encode.result = record { range = c.record_in_range.ensures; octets = sym c.encode.ensures } in
+    let records = g.R.RecordSource.listed c.args.records.now in
+    let here : IsSectorOf c.unwrap-value.result c.encode.result = record { range = c.record_in_range.ensures; octets = sym c.encode.ensures } in
+    let found : slice_get records c.in-Body.slot ≡ Some c.unwrap-value.result = sym c.at.ensures ∙ c.unwrap-value.ensures in
     rw c.in-Body.is (
       c.encode.result,
-      (λ r at. subst (λ (x : Record). IsSectorOf x c.encode.result) (c.index-records-slot.is ∙ get_or_from_slice_get c.args.records.now c.in-Body.slot r c.index-records-slot.result at) here),
+      (λ r at. subst (λ (x : Record). IsSectorOf x c.encode.result) (same_Some c.unwrap-value.result r (sym found ∙ at)) here),
       subst (λ (at : ℕ). Writes (now (d c.args.disk.now)) (now (d c.write-in-Body.new.self)) at c.encode.result c.write-in-Body.result) c.slot_body.ensures.at
           (c.write-in-Body.ensures.effect honest),
     )

@@ -1,4 +1,5 @@
-use Rattle.std.proofs.Common.{◌≡◌, ◌≤◌, length, refl, rules}
+use Rattle.std.proofs.Common.{◌≡◌, ◌∙◌, ◌≤◌, ℕ, ap, length, refl, rules}
+use Rattle.macs_record.specs.Heads.{Head}
 use Rattle.macs_journal.specs.Areas.{slots}
 use Rattle.macs_journal.specs.Renewal.{next_head}
 use Rattle.macs_journal.specs.declared.compact_stage.CompactStage.TheVariants.{ReadGate}
@@ -7,8 +8,10 @@ use Rattle.macs_journal.proofs.journal.Journal.start_compact.Goals as goal
 
 pub returns : goal.returns
 returns g c =
-    let head : c.in-Some.next ≡ next_head c.self.inside.place.head (length c.args.records.now) = search rules in
-    let few : length c.args.records.now ≤ slots = search rules in
+    let records = g.R.RecordSource.listed c.args.records.now in
+    let head : c.in-Some.next ≡ next_head c.self.inside.place.head (length records) =
+    c.in-Some.ensures.value ∙ ap (λ (n : ℕ). next_head c.self.inside.place.head n) c.count.ensures in
+    let few : length records ≤ slots = c.requires.some.1 in
     record {
       stopped = search rules;
       spent = search rules;
@@ -17,9 +20,9 @@ returns g c =
       device = search rules;
       place = search rules;
       running = search rules;
-      hand = search rules;
-      left = search rules;
+      hand = search (rules, head);
+      left = (let counts = ap (λ (h : Head). h.count) head in search (rules, counts));
       holds = λ before holds.
-          anew-in_hand _ c.self.inside.place c.self.inside.hand (record { head = c.in-Some.next; stage = ReadGate 0 }) before c.args.records.now
+          anew-in_hand _ c.self.inside.place c.self.inside.hand (record { head = c.in-Some.next; stage = ReadGate 0 }) before records
           head refl few (rw (← c.self.view_is) at holds);
     }

@@ -1,6 +1,7 @@
-use Rattle.std.proofs.Common.{◌≡◌, ◌∙◌, refl, sym, subst, length, rules}
+use Rattle.std.proofs.Common.{◌≡◌, ◌∙◌, refl, sym, subst, length, rules, List}
 use Rattle.macs_disk.specs.Disk.{IsHonest}
 use Rattle.macs_disk.specs.Runs.{Leaves}
+use Rattle.macs_record.specs.declared.record.Record.{Record}
 use Rattle.macs_journal.specs.Appending.{HasEitherJournal}
 use Rattle.macs_journal.specs.Areas.{other_area}
 use Rattle.macs_journal.specs.Found.{Content}
@@ -13,14 +14,22 @@ use Rattle.macs_journal.proofs.journal.Journal.step_compact.Given.{Over}
 use Rattle.macs_journal.proofs.journal.Journal.step_compact.Goals.{After-perform}
 use Rattle.macs_journal.proofs.journal.Journal.step_compact.Goals as goal
 
+-- the records of a source
+abbrev listed : (g : Over) → g.row.R.Denot → List Record
+listed g = g.R.RecordSource.listed
+
 -- whatever the device call answered
 leaves : (g : Over) (c : After-perform g) → IsHonest (g.D.SectorDisk.disk c.perform.new.disk) → (before after : Content)
-    → HoldsWith (g.D.SectorDisk.disk c.args.self.now.disk) c.args.self.now.place c.args.self.now.hand c.args.snapshot.now before after
+    → HoldsWith (g.D.SectorDisk.disk c.args.self.now.disk) c.args.self.now.place c.args.self.now.hand (listed g c.args.snapshot.now) before after
     → Leaves (g.D.SectorDisk.disk c.args.self.now.disk) (g.D.SectorDisk.disk c.perform.new.disk) (HasEitherJournal before after)
 leaves g c honest before after holding =
-    rw (← c.self.view_is) (anew-leaves (g.D.SectorDisk.disk c.self.inside.disk) c.self.inside.place c.self.inside.hand c.in-Compact.work c.args.snapshot.now before after c.in-Compact.is
+    rw (← c.self.view_is) (anew-leaves (g.D.SectorDisk.disk c.self.inside.disk) c.self.inside.place c.self.inside.hand c.in-Compact.work (listed g c.args.snapshot.now) before after c.in-Compact.is
     (rw (← c.self.view_is) at holding) c.other-other.result c.other-other.ensures
     (g.D.SectorDisk.disk c.perform.new.disk) c.perform.ensures.call.work.works (c.perform.ensures.under_way honest))
+
+pub perform-requires-clause-counts : goal.perform-requires-clause-counts
+perform-requires-clause-counts g c =
+    sym (lent-count c.self.inside.hand c.in-Compact.work c.in-Compact.is (listed g c.args.snapshot.now) (rw (← c.self.view_is) at c.requires.lent))
 
 pub returns-in-Ok-Some : goal.returns-in-Ok-Some
 returns-in-Ok-Some g c = record {
@@ -32,9 +41,9 @@ returns-in-Ok-Some g c = record {
   call = search rules;
   idle = tt;
   exact = search rules;
-  left = rw (← c.self.view_is) (anew-left c.self.inside.hand c.compact_on.new.self c.in-Compact.work c.in-Ok-Some.stage (length c.args.snapshot.now) c.in-Ok-Some.field-0 c.in-Compact.is
+  left = rw (← c.self.view_is) (anew-left c.self.inside.hand c.compact_on.new.self c.in-Compact.work c.in-Ok-Some.stage (length (listed g c.args.snapshot.now)) c.in-Ok-Some.field-0 c.in-Compact.is
       (c.compact_on.ensures c.in-Compact.work c.in-Compact.is)
-      (lent-count c.self.inside.hand c.in-Compact.work c.in-Compact.is c.args.snapshot.now (rw (← c.self.view_is) at c.requires.lent)) c.in-Ok-Some.field-0-is c.in-Ok-Some.ensures.left);
+      (lent-count c.self.inside.hand c.in-Compact.work c.in-Compact.is (listed g c.args.snapshot.now) (rw (← c.self.view_is) at c.requires.lent)) c.in-Ok-Some.field-0-is c.in-Ok-Some.ensures.left);
   place = search rules;
   task = λ busy. rw (← c.self.view_is) (anew-task c.self.inside.hand c.compact_on.new.self c.in-Compact.work c.in-Ok-Some.stage c.in-Compact.is
       (c.compact_on.ensures c.in-Compact.work c.in-Compact.is));
@@ -43,11 +52,11 @@ returns-in-Ok-Some g c = record {
   lent = rw (← c.self.view_is) (anew-lent c.self.inside.hand c.compact_on.new.self c.in-Compact.work c.in-Ok-Some.stage c.in-Compact.is
       (c.compact_on.ensures c.in-Compact.work c.in-Compact.is));
   made = rw (← c.self.view_is) (anew-made c.self.inside.hand c.compact_on.new.self c.in-Compact.work c.in-Ok-Some.stage c.in-Compact.is
-      (c.compact_on.ensures c.in-Compact.work c.in-Compact.is) c.args.snapshot.now);
+      (c.compact_on.ensures c.in-Compact.work c.in-Compact.is) (listed g c.args.snapshot.now));
   any_moment = leaves g (goal.at.returns-in-Ok-Some g c).After-perform;
   next = λ honest before after holding.
       rw (c.compact_on.ensures c.in-Compact.work c.in-Compact.is)
-      (anew-next (g.D.SectorDisk.disk c.self.inside.disk) c.self.inside.place c.self.inside.hand c.in-Compact.work c.args.snapshot.now before after c.in-Compact.is
+      (anew-next (g.D.SectorDisk.disk c.self.inside.disk) c.self.inside.place c.self.inside.hand c.in-Compact.work (listed g c.args.snapshot.now) before after c.in-Compact.is
       (rw (← c.self.view_is) at holding) c.other-other.result c.other-other.ensures
       (g.D.SectorDisk.disk c.perform.new.disk) c.in-Ok-Some.field-0 (c.in-Ok-Some.ensures.next honest) c.in-Ok-Some.stage c.in-Ok-Some.field-0-is c.in-Ok-Some.ensures.room);
 }
@@ -74,7 +83,7 @@ returns-in-Ok-None g c = record {
   next = λ honest before after holding.
       let place_is : c.new_place-done.result ≡ record { area = c.other-other.result; head = c.in-Compact.work.head; free = c.in-Compact.work.head.count } = search rules in
       subst (λ (p : Place). IsHolding (g.D.SectorDisk.disk c.perform.new.disk) p Empty after after) (sym place_is)
-      (anew-done (g.D.SectorDisk.disk c.self.inside.disk) c.self.inside.place c.self.inside.hand c.in-Compact.work c.args.snapshot.now before after c.in-Compact.is
+      (anew-done (g.D.SectorDisk.disk c.self.inside.disk) c.self.inside.place c.self.inside.hand c.in-Compact.work (listed g c.args.snapshot.now) before after c.in-Compact.is
       (rw (← c.self.view_is) at holding) c.other-other.result c.other-other.ensures
       (g.D.SectorDisk.disk c.perform.new.disk) c.in-Ok-None.field-0 (c.in-Ok-None.ensures.next honest) c.in-Ok-None.field-0-is);
 }

@@ -1,0 +1,34 @@
+//! Where the records come from with which a journal begins anew.
+
+ghost use Rattle.std.specs.Prelude.{◌≡◌, List, length};
+ghost use Rattle.std.specs.List.{slice_get};
+ghost use Rattle.macs_record.specs.declared.record.Record.{Record};
+
+use macs_record::Record;
+
+/// A source of the records with which a journal begins anew: it has them by their places, and makes one at a time.
+pub trait RecordSource {
+    /// The records, in the order of the slots that they go to.
+    ghost listed: { Self → List Record };
+
+    /// How many records there are.
+    fn count(&self) -> usize
+        ensures { result ≡ length (listed self.now) };
+
+    /// The record at a place, counted from 0; `None` after the last one.
+    fn at(&self, place: usize) -> Option<Record>
+        ensures { result ≡ slice_get (listed self.now) place };
+}
+
+impl RecordSource for &[Record] {
+    ghost listed = { λ records. records.now };
+
+    fn count(&self) -> usize {
+        self.len()
+    }
+
+    fn at(&self, place: usize) -> Option<Record> {
+        let value = self.get(place)?;
+        Some(value.copied())
+    }
+}
