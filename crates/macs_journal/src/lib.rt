@@ -28,5 +28,5 @@ pub use formatting::format;
 pub use journal::Journal;
 pub use record_source::RecordSource;
 pub use recovery::{Found, RecoverRefused, Recovered, recover, recover_into};
-pub use slots::{Records, Room, UNREAD};
+pub use slots::{Records, Room, new_room};
 pub use work::{JournalStep, Work};
