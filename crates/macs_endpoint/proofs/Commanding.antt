@@ -108,7 +108,7 @@ module _ {D : Type 0} (disk_of : D → disk.Disk) (e : EndpointValue D) (command
   }
 
   turned_backed : IsBacked disk_of e → IsBacked disk_of (record e { turn = turn.Reservation })
-  turned_backed backed = record { size = backed.size; stored = backed.stored; fits = backed.fits }
+  turned_backed backed = record { size = backed.size; stored = backed.stored; fits = backed.fits; form = backed.form }
 
   pub refused-command : (refusal : Refusal) → is_stopped e ≡ false → e.waiting ≡ []
       → apply this_edition (standing_in e.store).identity (standing_in e.store).config command ≡ Err refusal
@@ -226,6 +226,7 @@ module _ {D : Type 0} (disk_of : D → disk.Disk) (e : EndpointValue D) (kept : 
           fits = λ logs image left. subst (λ (x : State). Fits this_edition sectors image x) (sym (cut_state logs))
               (fits-commit sectors image size (state_after_fault (state_with_in_hand (state_of e logs) command)) (standing_in e.store).ceilings command (kept-ahead e kept) ranges refl
               (Leaves-now (disk_in disk_of e) (disk_in disk_of cut) (CommitLeaves (standing_in e.store) command) leaves image left));
+          form = λ image left. (Leaves-now (disk_in disk_of e) (disk_in disk_of cut) (CommitLeaves (standing_in e.store) command) leaves image left).1;
         }
 
     pub cut-command : KeepsCommand disk_of e command (Err Disk) cut

@@ -246,7 +246,7 @@ module _ (sectors : ℕ) (image : Image) (size : least_sectors ≤ sectors) wher
   -- what a power loss leaves while the command in hand is kept
   pub fits-commit : (s : State) (c : Ceilings) (command : Command) → AreAhead s.identity s.next s.numbers c → IsCommand command
       → s.in_hand ≡ Some command → CommitLeaves (standing_with s c) command image → Fits s.edition sectors image s
-  fits-commit s c command are ranges holds left = elim left [
+  fits-commit s c command are ranges holds left = elim left.0 [
     | inl before ↦ fits-ahead s c are before
     | inr later ↦ fits-command s c command later.0 are ranges holds later.1 later.2
   ]

@@ -145,14 +145,14 @@ module _ {D : Type 0} (e : EndpointValue D) (kept : IsSoundEndpoint e) where
         → StandsForEither before after image → Fits this_edition sectors image state
     fits_by after leads (inl rest) left =
         let same : before ≡ after = some_is before after (sym (ap (λ (h : Hand). store.standing_with before h) rest.store) ∙ leads) in
-        elim left [
+        elim left.0 [
           | inl finds ↦ fits-ahead sectors image size state before.ceilings (kept-ahead e kept) finds
           | inr finds ↦ fits-ahead sectors image size state before.ceilings (kept-ahead e kept)
               (subst (λ (x : Standing). StandsFor this_edition image x) (sym same) finds)
         ]
     fits_by after leads (inr (inl work)) left =
         let same : standing_with_raise before work.raise ≡ after = some_is (standing_with_raise before work.raise) after (sym work.leads ∙ leads) in
-        elim left [
+        elim left.0 [
           | inl finds ↦ fits-ahead sectors image size state before.ceilings (kept-ahead e kept) finds
           | inr finds ↦ fits-ahead sectors image size state (standing_with_raise before work.raise).ceilings
               (raise-ahead e.tx e.rx before kept.channels (kept-ahead e kept) work.raise work.within)
@@ -160,10 +160,10 @@ module _ {D : Type 0} (e : EndpointValue D) (kept : IsSoundEndpoint e) where
         ]
     fits_by after leads (inr (inr work)) left =
         let same : work.after ≡ after = some_is work.after after (sym work.leads ∙ leads) in
-        elim left [
+        elim left.0 [
           | inl finds ↦ fits-ahead sectors image size state before.ceilings (kept-ahead e kept) finds
           | inr finds ↦ fits-commit sectors image size state before.ceilings work.first.command (kept-ahead e kept) work.in_range work.in_hand
-              (inr (work.after, work.accepted, subst (λ (x : Standing). StandsFor this_edition image x) (sym same) finds))
+              (inr (work.after, work.accepted, subst (λ (x : Standing). StandsFor this_edition image x) (sym same) finds), left.1)
         ]
 
     -- an image that stands for what stands, or for what stands once the work in hand is done
@@ -181,6 +181,7 @@ module _ {D : Type 0} (e : EndpointValue D) (kept : IsSoundEndpoint e) where
       fits = λ logs image left.
           fits-either (disk_in disk_of e).sectors image size logs (is_stopped e) leads-on.0 leads-on.1
           (in_hand-image disk_of e.store stored leads-on.0 leads-on.1 image left);
+      form = λ image left. (in_hand-image disk_of e.store stored leads-on.0 leads-on.1 image left).1;
     }
 
     -- what calls of the work in hand leave
@@ -202,4 +203,5 @@ module _ {D : Type 0} (e : EndpointValue D) (kept : IsSoundEndpoint e) where
       fits = λ logs image left. subst (λ (s : State). Fits this_edition (disk_in disk_of cut).sectors image s) (sym (same logs))
           (fits-either (disk_in disk_of cut).sectors image size logs true after leads
           (Leaves-now (disk_in disk_of e) (disk_in disk_of cut) (StandsForEither before after) leaves image left));
+      form = λ image left. (Leaves-now (disk_in disk_of e) (disk_in disk_of cut) (StandsForEither before after) leaves image left).1;
     }

@@ -92,6 +92,7 @@ module _ {D : Type 0} (disk_of : D → disk.Disk) (e : EndpointValue D) (command
       stored = λ going. absurd (not_stopped (is_stopped mid) stopped going);
       fits = λ logs image left.
           fits-holding (disk_in disk_of mid).sectors image backed.size this_edition (state_of mid logs) command (hand logs) (backed.fits logs image left);
+      form = backed.form;
     }
 
     -- a device call failed before the command was begun

@@ -162,7 +162,7 @@ module _ {D : Type 0} (disk_of : D → disk.Disk) where
 
   -- whose turn it is does not count on the disk
   pub turned_backed : (e : EndpointValue D) (turn : Turn) → IsBacked disk_of e → IsBacked disk_of (record e { turn = turn })
-  turned_backed e turn backed = record { size = backed.size; stored = backed.stored; fits = backed.fits }
+  turned_backed e turn backed = record { size = backed.size; stored = backed.stored; fits = backed.fits; form = backed.form }
 
   pub reserved-call : (old new : EndpointValue D) (result : Result (Unit {0}) RefillFault) → is_stopped old ≡ false → old.waiting ≡ []
       → ReservesAll disk_of old result new

@@ -226,7 +226,7 @@ module _ {D : Type 0} (disk_of : D → disk.Disk) (e : EndpointValue D) (running
   spent-call raise next spent =
       quiet (Err step.GenerationsSpent) (record e { turn = turn.Command }) (λ logs. refl) refl refl
       (subst (λ (p : Option Piece). BeginsWith e p (Err step.GenerationsSpent) (record e { turn = turn.Command })) (sym next) spent) refl refl refl refl
-      (clock-stays (disk_in disk_of e).clock) (λ backed. record { size = backed.size; stored = backed.stored; fits = backed.fits })
+      (clock-stays (disk_in disk_of e).clock) (λ backed. record { size = backed.size; stored = backed.stored; fits = backed.fits; form = backed.form })
 
 -- a device call failed before
 pub stopped-step : {D : Type 0} (disk_of : D → disk.Disk) (e : EndpointValue D) → is_stopped e ≡ true

@@ -1,10 +1,9 @@
 -- What the opening of a disk promises: the endpoint that begins there, or why it is refused.
-use Rattle.std.specs.Prelude.{◌≡◌, [], None, Result, Ok, Err}
+use Rattle.std.specs.Prelude.{◌≡◌, ◌⊎◌, [], None, Result, Ok, Err}
 use Rattle.std.specs.Option.{option_map}
 use Rattle.macs_config.specs.Config.{this_edition}
 use Rattle.macs_disk.specs.Disk.{Disk, IsHonest, MayLeave, now}
 use Rattle.macs_disk.specs.States.{Image}
-use Rattle.macs_journal.specs.Opening.{IsOpened, IsRefused}
 use Rattle.macs_journal.specs.declared.fault.JournalFault.{JournalFault}
 use Rattle.macs_journal.specs.declared.fault.JournalFault.TheVariants as variant
 use Rattle.macs_journal.specs.declared.recovery.RecoverRefused.{RecoverRefused}
@@ -14,7 +13,7 @@ use Rattle.macs_rxsc.specs.Counting as counting
 use Rattle.macs_rxsc.specs.Receive.{first_numbers}
 use Rattle.macs_rxsc.specs.Value as rxsc
 use Rattle.macs_store.specs.Found.{StandingIs}
-use Rattle.macs_store.specs.Opening.{IsUnfit}
+use Rattle.macs_store.specs.Opening.{OpensDisk, RefusesDisk}
 use Rattle.macs_store.specs.Value.{StoreValue, standing_in}
 use Rattle.macs_endpoint.specs.Counting.{new_channel_counters}
 use Rattle.macs_endpoint.specs.Restart.{Fits, opened_state}
@@ -46,7 +45,7 @@ BeginsOpened (Err refused) (Err left) = left ≡ refused
 -- A disk is opened to this endpoint. It is in the state of one that begins with what stands in its store, after whatever logs, no work is in
 -- hand, and nothing is counted. On an honest disk the disk stood for that, and holds it.
 pub record Opens {D : Type 0} (disk_of : D → Disk) (disk : D) (e : EndpointValue D) : Type 0 where
-  pub device : IsOpened (disk_of disk) (disk_in disk_of e)
+  pub device : OpensDisk (disk_of disk) (disk_in disk_of e) (standing_in e.store)
   pub state : (logs : Logs) → state_of e logs ≡ opened_state (standing_in e.store) logs
   pub idle : IsAtRest e
   pub turn : e.turn ≡ Reservation
@@ -57,11 +56,11 @@ pub record Opens {D : Type 0} (disk_of : D → Disk) (disk : D) (e : EndpointVal
   pub channel_counters : rxsc.channel_counters_of e.rx ≡ new_channel_counters (standing_in e.store).config.channels
 
 -- A disk is refused for what stands on it, or for a device call that failed. Where each image that a power loss could leave of an honest
--- disk fits a state, only a failed device call remains.
+-- disk fits a state, only a failed device call remains, and a journal of format one in the last generation.
 pub record RefusesOpening {D : Type 0} (disk_of : D → Disk) (disk left : D) (fault : JournalFault) : Type 0 where
-  pub refused : IsRefused disk_of (IsUnfit disk_of disk) disk left fault
+  pub refused : RefusesDisk disk_of disk left fault
   pub opens : IsHonest (disk_of left) → ((image : Image) → MayLeave (disk_of disk) image
-      → (s : State) × Fits this_edition (disk_of disk).sectors image s) → fault ≡ variant.Disk
+      → (s : State) × Fits this_edition (disk_of disk).sectors image s) → (fault ≡ variant.Disk) ⊎ (fault ≡ variant.GenerationsSpent)
 
 -- A disk is opened, or refused.
 abbrev pub IsOpening : {D : Type 0} → (D → Disk) → D → Result (EndpointValue D) (RecoverRefused D) → Type 0

@@ -6,7 +6,9 @@ use Rattle.macs_config.specs.Numbers.{block_beyond}
 use Rattle.macs_config.specs.declared.command.Command.{Command}
 use Rattle.macs_disk.specs.Disk.{Disk, MayLeave}
 use Rattle.macs_disk.specs.States.{Image}
+use Rattle.macs_record.specs.declared.format.Format.TheVariants.{Two}
 use Rattle.macs_journal.specs.Areas.{least_sectors}
+use Rattle.macs_journal.specs.Found.{HasFormat}
 use Rattle.macs_txsc.specs.Value as txsc
 use Rattle.macs_txsc.specs.declared.channel.Tx.{Tx}
 use Rattle.macs_rxsc.specs.Receive.{Numbers}
@@ -145,9 +147,11 @@ pub record IsSoundEndpoint {D : Type 0} (e : EndpointValue D) : Type 0 where
 
 -- ---- what its disk holds
 
--- The disk holds what stands in memory, with the work in hand, unless a device call failed; and what a power loss leaves now fits the state.
+-- The disk holds what stands in memory, with the work in hand, unless a device call failed; and what a power loss leaves now fits the state, in a
+-- journal of format two.
 pub record IsBacked {D : Type 0} (disk_of : D → Disk) (e : EndpointValue D) : Type 0 where
   pub size : least_sectors ≤ (disk_in disk_of e).sectors
   pub stored : is_stopped e ≡ false → IsStored disk_of e.store
   pub fits : (logs : Logs) (image : Image) → MayLeave (disk_in disk_of e) image
       → Fits (state_of e logs).edition (disk_in disk_of e).sectors image (state_of e logs)
+  pub form : (image : Image) → MayLeave (disk_in disk_of e) image → HasFormat image Two

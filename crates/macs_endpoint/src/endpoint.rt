@@ -53,9 +53,12 @@ impl<D: SectorDisk> Model for Endpoint<D> {
 }
 
 impl<D: SectorDisk> Endpoint<D> {
-    /// Opens a disk: makes sure of what reads give by one sync, and then only reads. The packet numbers
-    /// of each association begin at its ceiling, and nothing is counted. Refused as `TooSmall`, then as
-    /// `Disk` at the first call that fails, `NotFormatted` and `BadJournal`; the disk is given back.
+    /// Opens a disk: makes sure of what reads give by one sync, and then only reads, unless its journal is of
+    /// format one: that then begins anew in the other area, in format two, and stands for the same. The packet
+    /// numbers of each association begin at its ceiling, and nothing is counted. Refused as `TooSmall`, then
+    /// as `Disk` at the first call that fails, `NotFormatted` and `BadJournal`, as `GenerationsSpent` where a
+    /// journal of format one has generation 2^64 - 1, and as `Disk` at the first call that fails while the
+    /// journal begins anew: the next opening finds what this one found. The disk is given back.
     #[inline(always)] // Else it has a place of its own for the endpoint, beside its caller's.
     pub fn open(disk: D) -> Result<Endpoint<D>, OpenRefused<D>>
         ensures { IsOpening D.disk disk result }

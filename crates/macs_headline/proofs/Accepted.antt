@@ -4,9 +4,11 @@ use Rattle.std.proofs.lemmas.Bool.{false≢true, or_left}
 use Rattle.macs_aes.specs.Keys.{octets_of_key}
 use Rattle.macs_aes.specs.declared.keys.Key.{Key}
 use Rattle.macs_fields.specs.First.{first}
-use Rattle.macs_config.specs.Apply.{answer_or_refusal, apply, config_after, has_wrong_start, is_slot_taken, refusal_of, refusals}
+use Rattle.macs_config.specs.Apply.{answer_or_refusal, apply, config_after, has_wrong_offset, has_wrong_start, is_slot_taken, is_wrong_end_station, offset_at, offset_or_zero, refusal_of, refusals}
+use Rattle.macs_config.specs.Association.{protection_of}
 use Rattle.macs_config.specs.Config.{Config, Edition, is_spent, rx_fingerprint, tx_fingerprint}
 use Rattle.macs_config.specs.Identity.{Identity}
+use Rattle.macs_config.specs.declared.association.TxSa.{TxSa}
 use Rattle.macs_config.specs.declared.command.Command.{Command}
 use Rattle.macs_config.specs.declared.command.Command.TheVariants.{RxInstall, TxInstall}
 use Rattle.macs_config.specs.declared.refusal.Refusal.{Refusal}
@@ -52,9 +54,21 @@ module _ (edition : Edition) (identity : Identity) (c : Config) (command : Comma
   pub right-start : has_wrong_start command ≡ false
   right-start = tests.0
 
+  -- the offset of an install is one of 0, 30 and 50, and 0 without confidentiality
+  pub right-offset : has_wrong_offset command ≡ false
+  right-offset = tests.1.0
+
+  -- the mode of an end station is set only where the port is 00-01
+  pub right-mode : is_wrong_end_station identity command ≡ false
+  right-mode = tests.1.1.1.0
+
   -- the place of an install is free
   pub free-slot : is_slot_taken c command ≡ false
   free-slot = tests.1.1.1.1.1.1.1.0
+
+-- the transmit association that an install asks for
+abbrev pub tx_of : Key → Bool → ℕ → TxSa
+tx_of key confidential offset = record { key = octets_of_key key; protection = protection_of confidential (offset_or_zero (offset_at offset)) }
 
 -- the key of an install was not spent on its side
 pub tx-unspent : (edition : Edition) (identity : Identity) (c : Config) (an : ℕ) (key : Key) (start : ℕ) (confidential : Bool) (offset : ℕ)

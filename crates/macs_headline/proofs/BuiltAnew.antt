@@ -13,7 +13,7 @@ use Rattle.macs_journal.specs.Areas.{IsArea, gate, head_body, other_area, slots}
 use Rattle.macs_journal.specs.Compacting.{compacted, next_head}
 use Rattle.macs_journal.specs.Found.{Content, HasJournal, IsGateOpen, IsPast, content_with_record}
 use Rattle.macs_journal.proofs.Current.{alone}
-use Rattle.macs_store.specs.Replay.{meaning_of, reads, replay_of, snapshot_of, standing_after_record, standing_after_records}
+use Rattle.macs_store.specs.Replay.{meaning_of, replay_of, snapshot_of, standing_after_record, standing_after_records}
 use Rattle.macs_store.proofs.Formats.{meaning-read}
 use Rattle.macs_store.specs.Standing.{Standing}
 use Rattle.macs_store.proofs.Keeping.{standing-with}
@@ -88,12 +88,12 @@ same-again (suc n) r s is =
     ap (option_and_then (λ (next : Standing). standing_after_records next (replicate n r))) is ∙ same-again n r s is
 
 -- a journal that begins anew stands for what its snapshot does
-pub meaning-anew : (edition : Edition) (c : Content) (records : List Record) (s : Standing) → reads edition c.head.format ≡ true
+pub meaning-anew : (edition : Edition) (c : Content) (records : List Record) (s : Standing) → edition.format_two ≡ true
     → snapshot_of edition c.head.identity records ≡ Some s → meaning_of edition (compacted c records) ≡ Some s
-meaning-anew edition c records s read is =
+meaning-anew edition c records s takes_two is =
     let n = length records in
     let all : take n records ≡ records = take_all n records (omega arith) in
     let none : drop n records ≡ [] = drop_all n records (omega arith) in
     let split : replay_of edition c.head.identity n records ≡ option_and_then (λ (next : Standing). Some next) (snapshot_of edition c.head.identity records) =
     λ i. option_and_then (λ (next : Standing). standing_after_records next (none i)) (snapshot_of edition c.head.identity (all i)) in
-    meaning-read edition (compacted c records) read ∙ split ∙ ap (option_and_then (λ (next : Standing). Some next)) is
+    meaning-read edition (compacted c records) takes_two ∙ split ∙ ap (option_and_then (λ (next : Standing). Some next)) is

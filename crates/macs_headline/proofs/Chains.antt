@@ -1,5 +1,5 @@
 -- Deeds, one after another, are lives.
-use Rattle.std.proofs.Common.{◌≡◌, ◌≤◌, ap, ◌++◌, ◌∙◌, ◌⊎◌, inl, inr, ℕ, true, false, List, [], ◌∷◌, map, Option, Some, None, Ok, Err, refl, sym, subst, arith}
+use Rattle.std.proofs.Common.{◌≡◌, ◌≤◌, ap, ◌++◌, ◌∙◌, ◌⊎◌, inl, inr, ℕ, true, false, is_ok, List, [], ◌∷◌, map, Option, Some, None, Ok, Err, refl, sym, subst, arith}
 use Rattle.macs_config.specs.Config.{Edition, this_edition}
 use Rattle.macs_disk.specs.Disk.{Disk, IsHonest, MayLeave, now}
 use Rattle.macs_disk.specs.Fused.{fused_disk}
@@ -11,12 +11,12 @@ use Rattle.macs_endpoint.specs.State.{Call}
 use Rattle.macs_endpoint.specs.Step.{Exchange}
 use Rattle.macs_endpoint.specs.Value.{EndpointValue, IsSoundEndpoint}
 use Rattle.macs_headline.specs.Answered.{exchanges_in, exchanges_of_lives}
-use Rattle.macs_headline.specs.Binding.{CallsAreDeeds, ChainsAnswer, ChainsKeepSizes, ChainsTell, DeedsAreHistories, FusesChangeNone, HasHistory, NewDeedsAreHistories, NewDisksHaveHistories, PassedOnHaveHistories, SettledHaveHistories, TheseAreNew}
+use Rattle.macs_headline.specs.Binding.{CallsAreDeeds, ChainsAnswer, ChainsKeepSizes, ChainsTell, DeedsAreHistories, FusesChangeNone, HasHistory, IsLifeOf, LivesAreDeeds, NewDeedsAreHistories, NewDisksHaveHistories, PassedOnHaveHistories, SettledHaveHistories, TheseAreNew}
 use Rattle.macs_headline.specs.Deeds.{Chain, Deed, Does, Formatting, FormattingCut, IsPassedOn, Link, Living, OpeningCut, PassingOn, Refusing, lives_of_deed, lives_of_links}
-use Rattle.macs_headline.specs.History.{Blank, FitsPast, Formats, IsHistory, LeadOn, Life, Past, Refuses}
+use Rattle.macs_headline.specs.History.{Blank, FitsPast, Formats, IsHistory, LeadOn, Life, Past, Refuses, Serves}
 use Rattle.macs_headline.proofs.Formats.{format-answered, format-cut}
 use Rattle.macs_headline.proofs.Living.{life-cut, life-ended, opening-cut, opening-refused}
-use Rattle.macs_headline.proofs.Lists.{contains-rear, contains-cases, contains-either, contains-first, contains-front, contains-map, contains-none}
+use Rattle.macs_headline.proofs.Lists.{contains-rear, contains-cases, contains-either, contains-first, contains-front, contains-later, contains-map, contains-none}
 use Rattle.macs_headline.proofs.Losses.{IsCovered, LeadTo, lead-nowhere, one-image}
 
 -- lives, and then more
@@ -182,6 +182,12 @@ exchanges-on (life ∷ lives) more e (inl among) = elim (contains-either (exchan
 exchanges-on (life ∷ lives) more e (inr among) =
     contains-rear (exchanges_in life) (exchanges_of_lives (lives ++ more)) e (exchanges-on lives more e (inr among))
 
+only_one : (x y : Life) → Contains (x ∷ []) y → y ≡ x
+only_one x y among = elim (contains-cases x [] y among) [
+  | inl same ↦ same
+  | inr later ↦ absurd (contains-none y later)
+]
+
 module _ {D : Type 0} (disk_of : D → Disk) where
   -- those of one deed
   by_one : (seen : Image) (deed : Deed D) (first last : EndpointValue D) (turns : List (Transition D)) (cut : Option Call) (turn : Transition D)
@@ -199,6 +205,26 @@ module _ {D : Type 0} (disk_of : D → Disk) where
         | inl is ↦ exchanges-on lives more (exchange_of turn)
             (inl (by_one (now (disk_of old)).seen next.deed first last turns cut turn (ap (λ (l : Link D). l.deed) (sym is) ∙ same) here))
         | inr later ↦ exchanges-on lives more (exchange_of turn) (inr (chains-answer next.after links link first last turns cut turn later same here))
+      ]
+
+  -- a life that a deed makes is what the deed is
+  life_of : (seen : Image) (deed : Deed D) (life : Life) → Contains (lives_of_deed seen deed) life → IsLifeOf deed life
+  life_of seen (Formatting identity result) life among = only_one (Formats this_edition identity (is_ok result)) life among
+  life_of seen (FormattingCut identity) life among = only_one (Formats this_edition identity false) life among
+  life_of seen (Refusing fault) life among = (seen, only_one (Refuses this_edition seen fault) life among)
+  life_of seen OpeningCut life among = contains-none life among
+  life_of seen (Living first turns last cut) life among = (seen, only_one (Serves this_edition seen (map exchange_of turns) cut) life among)
+  life_of seen PassingOn life among = contains-none life among
+
+  pub lives-are-deeds : LivesAreDeeds disk_of
+  lives-are-deeds old [] life among = absurd (contains-none life among)
+  lives-are-deeds old (next ∷ links) life among =
+      let seen = (now (disk_of old)).seen in
+      elim (contains-either (lives_of_deed seen next.deed) (lives_of_links disk_of next.after links) life among) [
+        | inl here ↦ (next, contains-first next links, life_of seen next.deed life here)
+        | inr later ↦
+            let there = lives-are-deeds next.after links life later in
+            (there.0, contains-later next links there.0 there.1, there.2)
       ]
 
   -- the lives of a deed are among those of its chain

@@ -1,12 +1,13 @@
 -- Frames that are delivered as verified.
-use Rattle.std.proofs.Common.{◌≡◌, ◌≤◌, inl, inr, ℕ, Bool, true, false, cond, List, ◌∷◌, Ok, Err, refl, sym, ◌∙◌, ap, subst}
+use Rattle.std.proofs.Common.{◌≡◌, ◌≤◌, ◌+◌, ◌++◌, take, inl, inr, ℕ, Bool, true, false, cond, List, ◌∷◌, Ok, Err, refl, sym, ◌∙◌, ap, subst}
 use Rattle.macs_fields.specs.Fields.{octets_of}
 use Rattle.macs_frame.specs.Opening.{Verified}
 use Rattle.macs_frame.proofs.Readings.{verified_once}
 use Rattle.macs_frame.specs.Tag.{changed, control, tag_of}
 use Rattle.macs_frame.specs.declared.tag.TagFault.TheVariants.{Runt as IsRunt, Oversize as IsOversize, NoTag as HasNoTag, BadTag as HasBadTag, ForKay as IsForKay}
-use Rattle.std.specs.Prelude.{◌||◌, nat_lt, Some}
-use Rattle.macs_rxsc.specs.Receive.{BelowLowest, NoAssociation, NoChannel, NotVerified, RxSide, RxStep, Tag, delivery_kind, given_at, is_strict, numbers_after_delivery, verdict_at}
+use Rattle.std.specs.Prelude.{◌||◌, ◌-◌, max, nat_lt, slice_range, Option, Some, None}
+use Rattle.std.proofs.lemmas.Bool.{ltb-false, ltb-true}
+use Rattle.macs_rxsc.specs.Receive.{BelowLowest, NoAssociation, NoChannel, NotVerified, Numbers, RxSide, RxStep, Tag, delivery_kind, given_at, is_strict, numbers_after_delivery, seen_after, verdict_at}
 use Rattle.macs_rxsc.specs.declared.verdict.Kind.{Kind}
 use Rattle.macs_rxsc.specs.declared.verdict.Kind.TheVariants.{Delayed, Ok as AsOk, Invalid, UnknownSci, Untagged, UnusedSa}
 use Rattle.macs_rxsc.specs.declared.verdict.Reason.{Reason}
@@ -15,7 +16,7 @@ use Rattle.macs_rxsc.specs.declared.verdict.Verdict.{Verdict}
 use Rattle.macs_rxsc.specs.declared.verdict.Verdict.TheVariants.{Delivered, Discarded, HeldBack}
 use Rattle.macs_endpoint.specs.State.{Received, Receives, State, rx_side}
 use Rattle.macs_endpoint.specs.Step.{Step}
-use Rattle.macs_headline.specs.Deliveries.{DeliveriesAreVerified, IsVerifiedAnswer, IsVerifiedDelivery, IsVerifiedKind, OthersAreBare, out_after}
+use Rattle.macs_headline.specs.Deliveries.{BareFramesAre, DeliveriesAreVerified, IsInTime, IsVerifiedAnswer, IsVerifiedDelivery, IsVerifiedKind, OthersAreBare, greatest_seen, numbers_moved, out_after}
 use Rattle.macs_headline.proofs.Effects.{arrives-in-time}
 use Rattle.macs_headline.proofs.Places.{put_rx-this}
 
@@ -35,6 +36,22 @@ settled side frame NoAssociation kind is same = unverified (is_strict side.valid
 settled side frame BelowLowest kind is same = absurd (cc)
 settled side frame NotVerified kind is same = unverified (is_strict side.validate || changed (control frame)) NotValid kind Invalid is (λ h. h) same
 
+-- when it is in time, and what it moves, in the law's words
+in_time_by : (late : Bool) (pn lowest : ℕ) → nat_lt pn lowest ≡ late → IsInTime lowest pn (cond late Delayed AsOk)
+in_time_by true pn lowest is = inl (ltb-true pn lowest is, refl)
+in_time_by false pn lowest is = inr (ltb-false pn lowest is, refl)
+
+in-time : (n : Numbers) (pn : ℕ) → IsInTime n.lowest pn (delivery_kind n pn)
+in-time n pn = in_time_by (nat_lt pn n.lowest) pn n.lowest refl
+
+seen_on : (seen : Option ℕ) (pn : ℕ) → seen_after seen pn ≡ Some (greatest_seen seen pn)
+seen_on None pn = refl
+seen_on (Some seen) pn = refl
+
+numbers-moved : (window : ℕ) (n : Numbers) (pn : ℕ) → numbers_after_delivery window n pn ≡ numbers_moved window n pn
+numbers-moved window n pn =
+    λ i. record { next = max n.next (pn + 1); lowest = max n.lowest (max n.next (pn + 1) - window); seen = seen_on n.seen pn i }
+
 -- one call
 pub delivered : (s : State) (frame out : List ℕ) (kind : Kind) (new : State) → IsVerifiedKind kind
     → Step s (Receives frame) (Received (Ok (Delivered kind)) out) new → IsVerifiedDelivery s frame kind out new
@@ -51,19 +68,22 @@ delivered s frame out kind new is (inr (running, inr (a, there, inr (is_verdict,
       association = ap (s.config.rx a.sci) (sym there.is_an) ∙ there.is_association;
       numbers = a.numbers;
       are_numbers = ap (s.numbers a.sci) (sym there.is_an) ∙ there.are_numbers;
-      in_time = sym one ∙ ap (λ (pn : ℕ). delivery_kind a.numbers pn) there.is_pn;
+      in_time = subst (λ (pn : ℕ). IsInTime a.numbers.lowest pn kind) there.is_pn (subst (IsInTime a.numbers.lowest a.pn) one (in-time a.numbers a.pn));
       guarded = λ on. subst (λ (pn : ℕ). a.numbers.lowest ≤ pn) there.is_pn (arrives-in-time (rx_side s) frame a there on);
       verified = subst (Verified frame a.sa.key a.sci (octets_of a.sa.offset)) (sym is_out) there.verified;
       only = λ other verified. verified_once frame a.sa.key a.sci (octets_of a.sa.offset) other out verified
           (subst (Verified frame a.sa.key a.sci (octets_of a.sa.offset)) (sym is_out) there.verified);
       moved = ap (λ (t : State). t.numbers a.sci (tag_of frame).an) same
           ∙ put_rx-this s.numbers a.sci a.an a.sci (tag_of frame).an (Some (numbers_after_delivery s.config.replay.window a.numbers a.pn)) refl (sym there.is_an)
-          ∙ ap (λ (pn : ℕ). Some (numbers_after_delivery s.config.replay.window a.numbers pn)) there.is_pn;
+          ∙ ap (λ (pn : ℕ). Some (numbers_after_delivery s.config.replay.window a.numbers pn)) there.is_pn
+          ∙ ap (λ (n : Numbers). Some n) (numbers-moved s.config.replay.window a.numbers (tag_of frame).pn);
       logged = ap (λ (t : State). t.logs.given) same ∙ (λ i. record { sci = a.sci; key = a.sa.key; pn = there.is_pn i; kind = one i } ∷ s.logs.given);
     }
 
 pub deliveries-are-verified : (sectors : ℕ) → DeliveriesAreVerified sectors
-deliveries-are-verified sectors s m frame out kind new is step = delivered s frame out kind new is step
+deliveries-are-verified sectors s m frame out (Delivered kind) new is step = (kind, refl, delivered s frame out kind new is step)
+deliveries-are-verified sectors s m frame out (Discarded reason) new is step = absurd is
+deliveries-are-verified sectors s m frame out HeldBack new is step = absurd is
 
 -- ---- the other answers
 
@@ -91,3 +111,7 @@ others-are-bare sectors s m frame out (Ok verdict) new other (inr (running, inr 
     absurd (other (subst (λ (v : Verdict). IsVerifiedAnswer (Ok v)) (sym is_verdict) (verified-kind (nat_lt a.pn a.numbers.lowest))))
 others-are-bare sectors s m frame out (Err stopped) new other (inl (is_stopped, empty, same)) = (empty, ap (λ (t : State). t.logs) same)
 others-are-bare sectors s m frame out (Err stopped) new other (inr (running, answer)) = absurd answer
+
+pub bare-frames-are : BareFramesAre
+bare-frames-are frame parts tag =
+    λ i. take 12 frame ++ slice_range frame (sym tag.reading.start i) (sym tag.reading.end i)

@@ -1,6 +1,5 @@
 -- Each way in which a program may end passes the medium of its disk on.
-use Rattle.std.proofs.Common.{◌≡◌, ◌&&◌, not, cond, ℕ, Bool, true, false, List, Result, Ok, Err, refl, sym, ◌∙◌, subst, arith, le_refl}
-use Rattle.std.proofs.Math.Path.{fun_ext}
+use Rattle.std.proofs.Common.{◌≡◌, ◌&&◌, not, cond, ℕ, Bool, true, false, List, Result, Ok, Err, refl, sym, ◌∙◌, ap, subst, arith, le_refl}
 use Rattle.macs_disk.specs.Disk.{Disk, IsDeviceCall, IsHonest, now}
 use Rattle.macs_disk.specs.States.{DiskState, Image, IsImage, IsSector, IsSound}
 use Rattle.macs_disk.specs.declared.disk.DeviceFault.{DeviceFault}
@@ -78,10 +77,17 @@ and_all true = refl
 and_all false = refl
 
 pub writes-back-as-syncs : WritesBackAsSyncs
-writes-back-as-syncs state = (
-  λ i. record { seen = state.seen; durable = state.seen; pending = fun_ext (λ j. and_none (state.pending j)) i },
-  λ i. record { seen = state.seen; durable = state.durable; pending = fun_ext (λ j. and_all (state.pending j)) i },
-)
+writes-back-as-syncs = record {
+  reached = λ written state i is. (
+    ap (λ (b : Bool). cond b (state.seen i) (state.durable i)) is,
+    ap (λ (b : Bool). state.pending i && not b) is ∙ and_none (state.pending i),
+  );
+  others = λ written state i is. (
+    ap (λ (b : Bool). cond b (state.seen i) (state.durable i)) is,
+    ap (λ (b : Bool). state.pending i && not b) is ∙ and_all (state.pending i),
+  );
+  read = λ written state i. refl;
+}
 
 -- ---- calls of the owner
 

@@ -28,7 +28,7 @@ use Rattle.macs_journal.proofs.Appends.{finds-but-body}
 use Rattle.macs_store.specs.Snapshot.{settings_record}
 use Rattle.macs_headline.specs.Deeds.{IsPassedOn}
 use Rattle.macs_headline.specs.Example.{own_sa}
-use Rattle.macs_headline.specs.ExampleCuts.{Write, append_in_hand, append_states, body_writes, compacting_disk, compaction_in_hand, compaction_states, disk_through, killed_disk, place_behind, state_after_writes, torn_image, widening_disk, working_disk, writes_anew}
+use Rattle.macs_headline.specs.ExampleCuts.{IsOneCall, IsRun, Write, append_in_hand, append_states, body_writes, compacting_disk, compaction_in_hand, compaction_states, disk_through, killed_disk, place_behind, state_after_writes, torn_image, widening_disk, working_disk, writes_anew}
 use Rattle.macs_headline.specs.ExampleDisk.{anew_content, checked, cut_image, ended_content, narrow_content, narrow_image, full_content, full_image, full_snapshot, last_content, last_image, served_content, served_image, widened}
 use Rattle.macs_headline.specs.ExampleStanding.{served_config}
 use Rattle.macs_headline.specs.Images.{image_with_area, image_with_bodies, image_with_next_body, image_with_record}
@@ -396,3 +396,17 @@ pub cut-left : MayLeave compacting_disk (cut_image 2)
 cut-left =
     subst (MayLeave compacting_disk) (sym cut_is_torn)
     (torn-left (head_sector_of head) (sector_of (settings_record served_config)) (sector_of (kept.TxSa 0 own_sa 13)) head_whole settings_whole own_whole)
+
+-- ---- call by call
+
+append_calls : (image : Image) (c : Content) (r : Record) (k : ℕ) → k < 3 → IsOneCall (append_states image c r k) (append_states image c r (suc k))
+append_calls image c r zero within = inl (free_body c, sector_of r, refl)
+append_calls image c r (suc zero) within = inr refl
+append_calls image c r (suc (suc zero)) within = inl (free_gate c, open_gate, refl)
+append_calls image c r (suc (suc (suc k))) within = absurd (omega (arith, within))
+
+pub widening-run : IsRun narrow_image widening_disk
+widening-run = record { start = refl; calls = append_calls narrow_image narrow_content widened }
+
+pub working-run : IsRun last_image working_disk
+working-run = record { start = refl; calls = append_calls last_image last_content checked }

@@ -27,7 +27,7 @@ use Rattle.macs_headline.specs.History.{Blank, Formatted, IsHistory, IsLifeSoFar
 use Rattle.macs_headline.proofs.Chains.{lead-on}
 use Rattle.macs_headline.proofs.Older.{larger-fits, older}
 use Rattle.macs_headline.proofs.Lists.{each-same}
-use Rattle.macs_headline.proofs.ExampleCuts.{compacting-holds, cut-left, gate-pending, killed-holds, killed-passed, left-open, torn-left, widening-holds, working-holds}
+use Rattle.macs_headline.proofs.ExampleCuts.{compacting-holds, cut-left, gate-pending, killed-holds, killed-passed, left-open, torn-left, widening-holds, widening-run, working-holds, working-run}
 use Rattle.macs_headline.proofs.ExampleFits.{fits-cut, fits-killed, fits-last, fits-new, fits-served}
 use Rattle.macs_headline.proofs.ExampleFrames.{arrival, peer-arrives, peer-late}
 use Rattle.macs_headline.proofs.ExampleImages.{checked-is, cut-is, cut-stands, ended-found, full-slots, larger, last-found, last-is, new-generation, new-is, served-is, served-is-config, served_standing, unfinished-is}
@@ -466,6 +466,7 @@ module _ (peer : All (λ octet. octet < 2 ^ 8) (peer_frame 5)) where
     used = refl;
     given = refl;
     widening = widening-holds;
+    widening_calls = widening-run;
     left_open = left-open;
     full = full-slots;
     compacting = compacting-holds;
@@ -474,6 +475,7 @@ module _ (peer : All (λ octet. octet < 2 ^ 8) (peer_frame 5)) where
     cut = cut-stands;
     anew = (refl, refl, new-generation);
     working = working-holds;
+    working_calls = working-run;
     killed = killed-passed;
     pending = gate-pending;
     read = refl;

@@ -282,17 +282,18 @@ ended_is edition =
       ceilings = record { tx = put_twice no_ceilings.tx 0 (Some 13) (Some 17) i; rx = no_rx i };
     }
 
-last_meaning : (edition : Edition) → IsConfig edition example_identity served_config → meaning_of edition last_content ≡ Some (last_standing edition)
-last_meaning edition is =
+last_meaning : (edition : Edition) → edition.format_two ≡ true → IsConfig edition example_identity served_config
+    → meaning_of edition last_content ≡ Some (last_standing edition)
+last_meaning edition takes_two is =
     meaning-more edition third_records anew_content (full_to edition) (last_standing edition) (omega arith)
-    (meaning-anew edition full_content full_snapshot (full_to edition) refl (snapshot_meaning edition is)) (ap Some (ended_is edition))
+    (meaning-anew edition full_content full_snapshot (full_to edition) takes_two (snapshot_meaning edition is)) (ap Some (ended_is edition))
 
 pub larger : IsUpTo this_edition later_edition
 larger = record { channels = omega arith; long_keys = λ is. refl; format_two = λ is. refl }
 
 -- what images stand for that hold that journal, or the one with a record more
 pub last-is : (image : Image) → HasJournal image last_content → StandingIs this_edition example_sectors image (Ok (last_standing this_edition))
-last-is image found = (omega arith, record { content = last_content; found = found; stands = last_meaning this_edition served-is-config })
+last-is image found = (omega arith, record { content = last_content; found = found; stands = last_meaning this_edition refl served-is-config })
 
 pub checked-is : (image : Image) → HasJournal image ended_content → StandingIs this_edition example_sectors image (Ok (checked_standing this_edition))
 checked-is image found = (
@@ -301,6 +302,6 @@ checked-is image found = (
     content = ended_content;
     found = found;
     stands = meaning-more this_edition (checked ∷ []) last_content (last_standing this_edition) (checked_standing this_edition)
-        (let count : last_content.head.count ≡ 6 = snapshot-size in omega (arith, count, last-size)) (last_meaning this_edition served-is-config) refl;
+        (let count : last_content.head.count ≡ 6 = snapshot-size in omega (arith, count, last-size)) (last_meaning this_edition refl served-is-config) refl;
   },
 )

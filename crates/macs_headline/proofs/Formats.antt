@@ -56,7 +56,7 @@ blank_left sectors identities identity old image covered (inl before) = blank_mo
 blank_left sectors identities identity old image covered (inr (inl none)) =
     inl (subst (λ (n : ℕ). StandingIs this_edition n image (Err NotFormatted)) covered.size none)
 blank_left sectors identities identity old image covered (inr (inr new)) =
-    inr (identity, contains-first identity identities, subst (λ (n : ℕ). StandingIs this_edition n image (Ok (new_standing this_edition identity))) covered.size new)
+    inr (identity, contains-first identity identities, subst (λ (n : ℕ). StandingIs this_edition n image (Ok (new_standing this_edition identity))) covered.size new.stands)
 
 -- ---- a disk with a journal
 
@@ -135,7 +135,7 @@ module _ {D : Type 0} (disk_of : D → Disk) (sound : (it : D) → IsHonest (dis
           honest = honest;
           size = size;
           images = λ image left. new-fits sectors image identity
-              (subst (λ (n : ℕ). StandingIs this_edition n image (Ok (new_standing this_edition identity))) size (format.kept honest image left));
+              (subst (λ (n : ℕ). StandingIs this_edition n image (Ok (new_standing this_edition identity))) size (format.kept honest image left).stands);
         };
       }
   format-answered (Blank identities) (Err fault) covered format = record {

@@ -4,7 +4,7 @@ use Rattle.macs_config.specs.Config.{Edition}
 use Rattle.macs_config.specs.Identity.{Identity}
 use Rattle.macs_headline.specs.Formats.{AreUnformatted, FormatsOnce, RefusedByHistory}
 use Rattle.macs_headline.specs.History.{Blank, FormatLeads, Formats, Formatted, IsHistory, LeadOn, Life, Past, Serves}
-use Rattle.macs_headline.proofs.Openings.{refused-for-disk, refused-for-disk-or-blank}
+use Rattle.macs_headline.proofs.Openings.{refused-for-disk-or-blank, refused-for-disk-or-spent}
 use Rattle.macs_headline.proofs.Refusals.{IsFormatted, formatted-by}
 
 -- a list of lives, in two parts
@@ -36,9 +36,16 @@ formats-once sectors lives past history before after edition identity there =
     unformatted sectors before parts.0 parts.1 (not_before parts.0 edition identity next.0 next.1)
 
 pub refused-by-history : (sectors : ℕ) → RefusedByHistory sectors
-refused-by-history sectors lives (Formatted s) history edition image fault new leads = inl (refused-for-disk sectors s edition image fault new leads)
+refused-by-history sectors lives (Formatted s) history edition image fault new leads =
+    elim (refused-for-disk-or-spent sectors s edition image fault new leads) [
+      | inl disk ↦ inl disk
+      | inr spent ↦ inr (inr spent)
+    ]
 refused-by-history sectors lives (Blank identities) history edition image fault new leads =
     elim (refused-for-disk-or-blank sectors identities edition image fault new leads) [
       | inl disk ↦ inl disk
-      | inr blank ↦ inr (blank, unformatted sectors lives (Blank identities) history (λ formatted. formatted))
+      | inr later ↦ elim later [
+        | inl blank ↦ inr (inl (blank, unformatted sectors lives (Blank identities) history (λ formatted. formatted)))
+        | inr spent ↦ inr (inr spent)
+      ]
     ]

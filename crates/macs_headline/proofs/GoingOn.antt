@@ -1,11 +1,13 @@
 -- Histories go on with each life that there may be.
-use Rattle.std.proofs.Common.{◌++◌, ℕ, true, false, [], ◌∷◌, refl}
+use Rattle.std.proofs.Common.{◌++◌, ℕ, inr, true, false, [], ◌∷◌, None, refl}
 use Rattle.macs_endpoint.specs.Restart.{opened_state}
 use Rattle.macs_endpoint.specs.Step.{Exchange}
 use Rattle.macs_headline.specs.GoingOn.{LivesGoOn}
 use Rattle.macs_headline.specs.History.{Blank, Formats, Formatted, Refuses, Serves, formatted_state, logs_of, state_at_end}
 use Rattle.macs_headline.specs.Moments.{Moment}
 use Rattle.macs_headline.proofs.Answered.{history-on, life-on}
+use Rattle.macs_headline.proofs.Chains.{exchanges-on}
+use Rattle.macs_headline.proofs.Lists.{contains-front}
 
 pub lives-go-on : (sectors : ℕ) → LivesGoOn sectors
 lives-go-on sectors = record {
@@ -33,6 +35,7 @@ lives-go-on sectors = record {
         life = life-on sectors m.past m.edition m.image m.exchanges s e new m.life in_range step;
       } in
       (n, refl, refl, refl, refl);
+  answered = λ s m e is. exchanges-on m.lives (Serves m.edition m.image m.exchanges None ∷ []) e (inr (contains-front m.exchanges [] e is));
   ended = λ s m cut in_range.
       history-on sectors m.lives m.past (Serves m.edition m.image m.exchanges cut) (Formatted (state_at_end s cut)) m.history (s, m.life, in_range, refl);
   refused = λ lives past edition image fault history fits why.

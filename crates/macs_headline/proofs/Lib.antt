@@ -2,6 +2,7 @@ pub mod Lists
 pub mod Ledger
 pub mod Places
 pub mod Accepted
+pub mod Changing
 pub mod Effects
 pub mod Sent
 pub mod Given
@@ -10,18 +11,28 @@ pub mod Sound
 pub mod Logs
 pub mod Histories
 pub mod Numbers
+pub mod Fitting
 pub mod Openings
 pub mod Identities
 pub mod Commands
 pub mod FoundOnce
 pub mod HandedIn
+pub mod FramesRead
 pub mod Ranges
+pub mod TxFaults
 pub mod Deliveries
 pub mod Received
+pub mod Naming
 pub mod Moving
 pub mod Steps
+pub mod StepsTaken
 pub mod Refused
+pub mod Reasons
+pub mod AlikeEditions
+pub mod ReadByEditions
+pub mod TakenByEditions
 pub mod Begun
+pub mod CutBeginnings
 pub mod Stopping
 pub mod Faults
 pub mod Cuts
@@ -40,11 +51,14 @@ pub mod GoingOn
 pub mod Configurations
 pub mod ExactEnds
 pub mod Moments
+pub mod Idling
+pub mod Spending
 pub mod Tickets
 pub mod RefusedDays
 pub mod ServedDays
 pub mod Ours
 pub mod Built
+mod InFormatTwo
 pub mod Nights
 pub mod Watches
 pub mod BuiltAnew
@@ -55,4 +69,5 @@ pub mod ExampleFrames
 pub mod ExampleStates
 pub mod ExampleFits
 pub mod ExampleHistory
+pub mod ExampleMigration
 mod DiskFiles

@@ -7,7 +7,7 @@ use Rattle.macs_disk.specs.States.{Image, IsSound}
 use Rattle.macs_journal.specs.declared.fault.JournalFault.{JournalFault}
 use Rattle.macs_journal.specs.declared.fault.JournalFault.TheVariants.{Disk as DiskFault}
 use Rattle.macs_journal.specs.declared.recovery.RecoverRefused.{RecoverRefused}
-use Rattle.macs_store.specs.Found.{StandingIs}
+use Rattle.macs_store.specs.Found.{IsUnfitTo, StandingIs}
 use Rattle.macs_store.specs.Value.{standing_in}
 use Rattle.macs_endpoint.specs.Calls.{IsCall, IsInRange}
 use Rattle.macs_endpoint.specs.Lives.{Lives, Transition, exchange_of}
@@ -20,12 +20,12 @@ use Rattle.macs_headline.specs.Deeds.{LivesFrom, IsPassedOn, disk_after_opening}
 use Rattle.macs_headline.specs.History.{FitsPast, Formatted, IsLifeSoFar, Past, Refuses, Serves, logs_of}
 use Rattle.macs_headline.proofs.Cuts.{cut-call}
 use Rattle.macs_headline.proofs.Unbegun.{IsToKeep, cut-unbegun}
-use Rattle.macs_headline.proofs.Losses.{IsCovered, LeadTo, covered-passed, covered-on, covered-seen, lead-nowhere, nothing-new}
+use Rattle.macs_headline.proofs.Losses.{IsCovered, LeadTo, covered-passed, covered-on, covered-seen, lead-nowhere, left-alike}
 
 -- ---- openings
 
-pub why-refused : (sectors : ℕ) (image : Image) (fault : JournalFault) → (fault ≢ DiskFault → StandingIs this_edition sectors image (Err fault))
-    → (fault ≡ DiskFault) ⊎ StandingIs this_edition sectors image (Err fault)
+pub why-refused : (sectors : ℕ) (image : Image) (fault : JournalFault) → (fault ≢ DiskFault → IsUnfitTo this_edition sectors image fault)
+    → (fault ≡ DiskFault) ⊎ IsUnfitTo this_edition sectors image fault
 why-refused sectors image DiskFault refused = inl refl
 why-refused sectors image fault refused = inr (refused (λ is. cc))
 
@@ -43,11 +43,12 @@ module _ {D : Type 0} (disk_of : D → Disk) (sound : (it : D) → IsHonest (dis
   opening-refused new fault opening =
       let honest = opening.refused.works.honest ∙ covered.honest in
       let why = why-refused sectors seen fault
-      (λ other. subst (λ (n : ℕ). StandingIs this_edition n seen (Err fault)) covered.size (opening.refused.found other honest)) in
+      (λ other. subst (λ (n : ℕ). IsUnfitTo this_edition n seen fault) covered.size (opening.refused.found other honest)) in
       record {
         later = past;
         lead = (past, (may_see, why, refl), refl);
-        covered = covered-on sectors past (disk_of old) (disk_of new) opening.refused.works covered (opening.refused.any_moment honest);
+        covered = covered-on sectors past (disk_of old) (disk_of new) (sound old covered.honest) opening.refused.works covered
+            (opening.refused.any_moment honest);
       }
 
   pub opening-cut : (result : Result (EndpointValue D) (RecoverRefused D)) (new : D) → IsOpening disk_of old result
@@ -56,12 +57,12 @@ module _ {D : Type 0} (disk_of : D → Disk) (sound : (it : D) → IsHonest (dis
       let honest = opening.device.works.honest ∙ covered.honest in
       lead-nowhere sectors past (disk_of new) (covered-passed sectors past (disk_in disk_of e) (disk_of new) (disk_of old).clock passed
       honest (opening.device.works.sectors ∙ covered.size)
-      (nothing-new sectors past (disk_of old) (disk_in disk_of e) covered (opening.device.any_moment honest)))
+      (left-alike sectors past (disk_of old) (disk_in disk_of e) (sound old covered.honest) covered (opening.device.any_moment honest)))
   opening-cut (Err refused) new opening passed =
       let honest = opening.refused.works.honest ∙ covered.honest in
       lead-nowhere sectors past (disk_of new) (covered-passed sectors past (disk_of refused.disk) (disk_of new) (disk_of old).clock passed
       honest (opening.refused.works.sectors ∙ covered.size)
-      (nothing-new sectors past (disk_of old) (disk_of refused.disk) covered (opening.refused.any_moment honest)))
+      (left-alike sectors past (disk_of old) (disk_of refused.disk) (sound old covered.honest) covered (opening.refused.any_moment honest)))
 
 -- ---- calls, one after another
 

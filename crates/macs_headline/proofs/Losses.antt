@@ -1,14 +1,19 @@
 -- A medium that is passed on, and disks that a past covers.
-use Rattle.std.proofs.Common.{◌≡◌, ℕ, List, [], refl, sym, ◌∙◌, subst}
+use Rattle.std.proofs.Common.{◌≡◌, ℕ, List, [], inl, inr, Ok, refl, sym, ◌∙◌, subst}
 use Rattle.std.proofs.Math.Path.{fun_ext}
 use Rattle.macs_config.specs.Config.{this_edition}
 use Rattle.macs_disk.specs.Disk.{Disk, IsHonest, LeftSince, MayLeave, Works, disk_after_loss, now}
-use Rattle.macs_disk.specs.Runs.{LeavesNothingNew}
+use Rattle.macs_disk.specs.Runs.{Leaves}
 use Rattle.macs_disk.specs.States.{DiskState, Image, IsImage, IsSound, settled_state}
 use Rattle.macs_disk.proofs.Moments.{Left-now}
+use Rattle.macs_journal.specs.declared.fault.JournalFault.TheVariants.{NotFormatted}
+use Rattle.macs_store.specs.Found.{StandAlike, StandingIs}
+use Rattle.macs_store.specs.Opening.{OpeningLeaves}
+use Rattle.macs_store.specs.Standing.{Standing, new_standing}
 use Rattle.macs_headline.specs.Deeds.{IsPassedOn}
 use Rattle.macs_headline.specs.Endings.{LosesPower}
-use Rattle.macs_headline.specs.History.{FitsPast, LeadOn, Life, Past}
+use Rattle.macs_headline.specs.History.{Blank, FitsPast, Formatted, LeadOn, Life, Past}
+use Rattle.macs_headline.proofs.Histories.{found-one, found-or-refused}
 
 -- where nothing is pending there is one image
 pub one-image : (image other : Image) → IsImage (settled_state image) other → other ≡ image
@@ -51,16 +56,38 @@ covered-passed sectors past ran new since passed honest size fits = record {
   images = λ image left. fits image (passed.moment, passed.later, passed.within, passed.images image left);
 }
 
--- and after calls that leave nothing new
-pub nothing-new : (sectors : ℕ) (past : Past) (old new : Disk) → IsCovered sectors past old → LeavesNothingNew old new
-    → (image : Image) → LeftSince new old.clock image → FitsPast this_edition sectors past image
-nothing-new sectors past old new covered leaves image left = covered.images image (leaves.each image left)
+-- ---- openings
 
-pub covered-on : (sectors : ℕ) (past : Past) (old new : Disk) → Works old new → IsCovered sectors past old → LeavesNothingNew old new → IsCovered sectors past new
-covered-on sectors past old new works covered leaves = record {
+-- an image that stands for the same as one that a program may come upon
+fits_alike : (sectors : ℕ) (past : Past) (seen image : Image) → StandAlike this_edition seen image → FitsPast this_edition sectors past seen
+    → FitsPast this_edition sectors past image
+fits_alike sectors (Blank identities) seen image alike (inl none) =
+    absurd (found-or-refused this_edition sectors seen NotFormatted alike.standing none (none.0, alike.first))
+fits_alike sectors (Blank identities) seen image alike (inr (identity, among, new)) =
+    let same = found-one this_edition sectors seen alike.standing (new_standing this_edition identity) (new.0, alike.first) new in
+    inr (identity, among, subst (λ (s : Standing). StandingIs this_edition sectors image (Ok s)) same (new.0, alike.second))
+fits_alike sectors (Formatted s) seen image alike fits =
+    let same = found-one this_edition sectors seen alike.standing fits.found (fits.is_found.0, alike.first) fits.is_found in
+    record {
+      found = fits.found;
+      is_found = subst (λ (s : Standing). StandingIs this_edition sectors image (Ok s)) same (fits.is_found.0, alike.second);
+      restart = fits.restart;
+    }
+
+-- after the calls of an opening
+pub left-alike : (sectors : ℕ) (past : Past) (old new : Disk) → IsSound (now old) → IsCovered sectors past old → Leaves old new (OpeningLeaves old)
+    → (image : Image) → LeftSince new old.clock image → FitsPast this_edition sectors past image
+left-alike sectors past old new sound covered leaves image left = elim (leaves.each image left) [
+  | inl before ↦ covered.images image before
+  | inr alike ↦ fits_alike sectors past (now old).seen image alike (covered-seen sectors past old sound covered)
+]
+
+pub covered-on : (sectors : ℕ) (past : Past) (old new : Disk) → IsSound (now old) → Works old new → IsCovered sectors past old → Leaves old new (OpeningLeaves old)
+    → IsCovered sectors past new
+covered-on sectors past old new sound works covered leaves = record {
   honest = works.honest ∙ covered.honest;
   size = works.sectors ∙ covered.size;
-  images = λ image left. nothing-new sectors past old new covered leaves image (Left-now new old.clock image works.later left);
+  images = λ image left. left-alike sectors past old new sound covered leaves image (Left-now new old.clock image works.later left);
 }
 
 -- ---- where lives lead to

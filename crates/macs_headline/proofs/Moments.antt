@@ -6,7 +6,7 @@ use Rattle.macs_frame.specs.Tag.{tag_of}
 use Rattle.macs_config.specs.Config.{Edition, IsUpTo, this_edition}
 use Rattle.macs_config.specs.declared.command.Command.{Command}
 use Rattle.macs_disk.specs.Disk.{Disk, IsHonest, MayLeave, Works, now}
-use Rattle.macs_disk.specs.States.{Image, IsSound}
+use Rattle.macs_disk.specs.States.{Image, IsImage, IsSound}
 use Rattle.macs_disk.proofs.Moments.{Works-on, Works-start}
 use Rattle.std.specs.Prelude.{Contains}
 use Rattle.macs_rxsc.specs.declared.verdict.Kind.{Kind}
@@ -14,16 +14,17 @@ use Rattle.macs_rxsc.specs.declared.verdict.Kind.TheVariants.{Ok as AsOk}
 use Rattle.macs_rxsc.specs.declared.verdict.Verdict.TheVariants.{Delivered}
 use Rattle.macs_store.specs.Found.{StandingIs}
 use Rattle.macs_store.specs.Standing.{Standing}
-use Rattle.macs_store.specs.Value.{standing_in}
+use Rattle.macs_store.specs.Value.{StoreValue, standing_in}
+use Rattle.macs_store.specs.Value as store
 use Rattle.macs_endpoint.specs.Advancing.{Piece, ToKeep, ToRaise, next_piece}
 use Rattle.macs_endpoint.specs.Calls.{IsCall}
 use Rattle.macs_endpoint.specs.Lives.{Lives, Transition, exchange_of}
 use Rattle.macs_endpoint.specs.Ceilings.{Raise}
-use Rattle.macs_endpoint.specs.Restart.{Fits, state_during, state_taking_alone, state_taking_first}
-use Rattle.macs_endpoint.specs.State.{Advances, Call, Commands, Logs, Protects, Protected, Received, Receives, Refills, State, Submits, no_logs, state_with_in_hand}
+use Rattle.macs_endpoint.specs.Restart.{Fits, opened_state, state_during, state_taking_alone, state_taking_first}
+use Rattle.macs_endpoint.specs.State.{Advances, Call, Commands, Logs, Protects, Protected, Received, Receives, Refills, State, Submits, Use, no_logs, state_with_in_hand}
 use Rattle.macs_endpoint.specs.declared.queue.Waiting.{Waiting}
 use Rattle.macs_endpoint.specs.Value.{EndpointValue, IsSoundEndpoint, disk_in, state_of}
-use Rattle.macs_headline.specs.Binding.{FramesAreDeliveredOnce, FramesAreWrittenOnce, EndsAreCuts, HasHistory, IsAtMoment, LivesAreMoments, LivesFit, LivesFitUnbegun, LivesKeepCommands, OpeningsFind}
+use Rattle.macs_headline.specs.Binding.{CutFramesAreBelow, FramesAreDeliveredOnce, FramesAreWrittenOnce, EndsAreCuts, HasHistory, IsAtMoment, LivesAreMoments, LivesFit, LivesFitUnbegun, LivesKeepCommands, OpeningsFind}
 use Rattle.macs_headline.specs.Binding.{cut_beginning, state_left}
 use Rattle.macs_endpoint.specs.Step.{Step}
 use Rattle.macs_headline.specs.Answered.{exchanges_of_lives}
@@ -31,20 +32,22 @@ use Rattle.macs_headline.specs.Commands.{FindsPrefix}
 use Rattle.macs_headline.specs.Deliveries.{IsOtherDelivery, IsVerifiedDelivery, IsVerifiedKind, delivering}
 use Rattle.macs_headline.specs.Deeds.{Does, Living, LivesFrom}
 use Rattle.macs_headline.specs.History.{Formatted, Life, logs_of, state_at_end}
-use Rattle.macs_headline.specs.Moments.{Moment}
+use Rattle.macs_headline.specs.Moments.{Moment, WasUsed}
 use Rattle.macs_headline.proofs.Chains.{history-covers}
 use Rattle.macs_headline.proofs.Commands.{commands-kept}
 use Rattle.macs_headline.proofs.Answered.{given-once, never-ok-again, written-once}
-use Rattle.macs_headline.proofs.Deliveries.{deliveries-are-verified}
+use Rattle.macs_headline.proofs.Deliveries.{delivered}
 use Rattle.macs_headline.proofs.Effects.{core, effect-of}
-use Rattle.macs_headline.proofs.Histories.{sound-moment}
+use Rattle.macs_headline.proofs.Histories.{fits-restart, sound-moment}
+use Rattle.macs_headline.proofs.Lists.{contains-first}
+use Rattle.macs_headline.proofs.Numbers.{beyond_tx}
 use Rattle.macs_headline.proofs.Endings.{ends-are-earlier}
 use Rattle.macs_headline.proofs.Living.{IsAlive, alive, covered-cut, covered-life, covered-unbegun}
 use Rattle.macs_headline.proofs.Losses.{IsCovered}
 use Rattle.macs_headline.proofs.Older.{larger-fits}
 use Rattle.macs_headline.proofs.Unbegun.{IsToKeep}
 use Rattle.macs_headline.proofs.Ranges.{frames-are-standard}
-use Rattle.macs_headline.proofs.Sound.{sound-effect}
+use Rattle.macs_headline.proofs.Sound.{sound-effect, sound-restart}
 
 -- ---- the call in which a medium is passed on
 
@@ -347,7 +350,7 @@ module _ {D : Type 0} (disk_of : D → Disk) (sound : (it : D) → IsHonest (dis
       let s = state_of last at.logs in
       let step = call.behaves.step at.logs in
       let new = state_of after step.0 in
-      let d = deliveries-are-verified (disk_of disk).sectors s m frame out kind new verified step.1 in
+      let d = delivered s frame out kind new verified step.1 in
       record {
         at = at;
         later = step.0;
@@ -355,3 +358,30 @@ module _ {D : Type 0} (disk_of : D → Disk) (sound : (it : D) → IsHonest (dis
         once = λ on zero. given-once (disk_of disk).sectors s m on zero frame out kind new d step.1;
         never_ok_again = λ is_ok. as_ok (disk_of disk).sectors s m frame out kind new d step.1 is_ok;
       }
+
+  pub cut-frames-are-below : CutFramesAreBelow disk_of
+  cut-frames-are-below disk new before first last after turns plain pn out h lived call passed later up_to image found left is_found =
+      let sectors = (disk_of disk).sectors in
+      let at = at_moment disk_of sound disk before h first last turns lived in
+      let m = moment disk_of sound disk before h first last turns lived in
+      let living = alive disk_of sound sectors h.past disk first turns last (history-covers (disk_of disk) before h) lived in
+      let s = state_of last at.logs in
+      let step = call.behaves.step at.logs in
+      let next = state_of after step.0 in
+      let standard = frames-are-standard sectors s m plain pn out next step.1 in
+      let still : after.store ≡ last.store = call.behaves.still in
+      let clock : (disk_in disk_of after).clock ≡ (disk_in disk_of last).clock = ap (λ (x : StoreValue D). (store.disk_in disk_of x).clock) still in
+      let from = passed.later in
+      let to = passed.within in
+      let at_end : passed.moment ≡ (disk_in disk_of after).clock = omega (arith, clock, from, to) in
+      let may : MayLeave (disk_in disk_of after) image =
+      subst (λ (k : ℕ). IsImage ((disk_in disk_of after).past k) image) at_end (passed.images image left) in
+      let backed = (call.survives (call.device.works.honest ∙ living.honest) living.backed).backed in
+      let fits : Fits this_edition sectors image next =
+      subst (λ (n : ℕ). Fits this_edition n image next) (call.device.works.sectors ∙ living.size) (backed.fits step.0 image may) in
+      let restart = fits-restart later sectors image next found (larger-fits this_edition later up_to sectors image next fits) is_found in
+      let sent = sound-effect s.edition (core s) (core next) (effect-of s (Protects plain) (Protected (Ok pn) out) next step.1) (sound-moment sectors s m) in
+      let here : WasUsed next.logs standard.sa.key pn =
+      subst (λ (used : List Use). Contains used (record { key = standard.sa.key; pn = pn })) (sym standard.logged)
+      (contains-first (record { key = standard.sa.key; pn = pn }) s.logs.used) in
+      (at, step.0, standard, beyond_tx found next.logs (sound-restart next (opened_state found next.logs) restart sent) standard.sa.key pn here)

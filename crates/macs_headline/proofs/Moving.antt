@@ -20,15 +20,16 @@ use Rattle.macs_endpoint.specs.declared.fault.Stopped.{Stopped}
 use Rattle.macs_endpoint.specs.declared.fault.SubmitFault.{SubmitFault}
 use Rattle.macs_endpoint.specs.declared.fault.SubmitFault.TheVariants as submit
 use Rattle.macs_endpoint.specs.declared.progress.Step.{Step as Progress}
-use Rattle.macs_endpoint.specs.declared.progress.Step.TheVariants.{Done, Worked}
+use Rattle.macs_endpoint.specs.declared.progress.Step.TheVariants.{Done, Idle, Reserved, Worked}
 use Rattle.macs_endpoint.specs.declared.queue.Waiting.{Waiting}
 use Rattle.macs_endpoint.specs.State.{Advanced, Advances, Call, Commands, Protects, Protected, Ran, Received, Receives, Refilled, Refills, Reply, State, Submits, Submitted, tx_side}
-use Rattle.macs_endpoint.specs.Step.{AdvanceStep, CommandStep, Ends, ProtectStep, ReceiveStep, RefillStep, RunningStep, SubmitStep, TakesUp, next_after, numbers_after}
+use Rattle.macs_endpoint.specs.Step.{AdvanceStep, CommandStep, Ends, IsStopped, ProtectStep, ReceiveStep, RefillStep, RunningStep, SubmitStep, TakesUp, next_after, numbers_after}
 use Rattle.macs_store.specs.Standing.{Standing}
 use Rattle.macs_endpoint.specs.Restart.{Restart, RxRises, TxRises, opened_state}
-use Rattle.macs_headline.specs.Moving.{MovesOnlyThese, NoneAppear, NumbersMove, SetsNext, SetsNumbers, SidesAreConfigured, TakesEffect}
+use Rattle.macs_headline.specs.Moving.{AreSet, FramesChangeFew, IsFrameCall, MovesOnlyThese, NoneAppear, NumbersAreSet, NumbersMove, SetsNext, SetsNumbers, SidesAreConfigured, TakesEffect, state_but_numbers}
 use Rattle.macs_headline.proofs.Effects.{outgoing_is}
 use Rattle.macs_headline.proofs.Histories.{fits-restart}
+use Rattle.macs_headline.proofs.Ledger.{some_one}
 use Rattle.macs_headline.proofs.Places.{cases_place, cases_sci, put-that, put-this, put_at-that, put_at-this, put_rx-that, put_rx-this}
 
 -- ---- commands
@@ -201,6 +202,89 @@ by_call old call reply new h = absurd h
 pub numbers-move : (sectors : ℕ) → NumbersMove sectors
 numbers-move sectors s m call reply new (inl (stopped, answer, is)) = when_still s call reply new (still s new is)
 numbers-move sectors s m call reply new (inr (running, h)) = by_call s call reply new h
+
+-- ---- what commands set
+
+set_by : (old new : State) (c : Command) → new.next ≡ next_after c old.next → new.numbers ≡ numbers_after c old.numbers → AreSet old c new
+set_by old new (TxInstall an key start confidential offset) next numbers =
+    ap (λ (f : ℕ → Option ℕ). f an) next ∙ put-this old.next an an (Some start) refl
+set_by old new (TxRemove an) next numbers = ap (λ (f : ℕ → Option ℕ). f an) next ∙ put-this old.next an an None refl
+set_by old new (RxInstall sci an key start offset) next numbers =
+    ap (λ (f : List ℕ → ℕ → Option Numbers). f sci an) numbers ∙ put_rx-this old.numbers sci an sci an (Some (first_numbers start)) refl refl
+set_by old new (RxRemove sci an) next numbers =
+    ap (λ (f : List ℕ → ℕ → Option Numbers). f sci an) numbers ∙ put_rx-this old.numbers sci an sci an None refl refl
+set_by old new (RxDrop sci) next numbers = λ an.
+    ap (λ (f : List ℕ → ℕ → Option Numbers). f sci an) numbers
+    ∙ ap (λ (f : ℕ → Option Numbers). f an) (put_at-this old.numbers sci sci (λ (an : ℕ). None) refl)
+set_by old new (SetReplay on window) next numbers = λ sci an. ap (λ (f : List ℕ → ℕ → Option Numbers). f sci an) numbers
+set_by old new c next numbers = tt
+
+-- one that takes effect is the one of which it is asked
+made_set : (old : State) (made c : Command) (new : State) → new.next ≡ next_after made old.next → new.numbers ≡ numbers_after made old.numbers → made ≡ c
+    → AreSet old c new
+made_set old made c new next numbers same = subst (λ (k : Command). AreSet old k new) same (set_by old new made next numbers)
+
+command_sets : (old : State) (given : Command) (result : Result (Unit {0}) CommandFault) (new : State) (c : Command) → CommandStep old given result new
+    → TakesEffect old (Commands given) (Ran result) c → AreSet old c new
+command_sets old given (Ok done) new c (none, makes) same =
+    made_set old given c new (ap (λ (s : State). s.next) makes.2) (ap (λ (s : State). s.numbers) makes.2) same
+command_sets old given (Err fault) new c h effect = absurd effect
+
+end_sets : (old : State) (first : Waiting) (rest : List Waiting) (ticket : ℕ) (result : Result (Unit {0}) CommandFault) (new : State) (c : Command)
+    → old.waiting ≡ first ∷ rest → Ends old first rest result new → TakesEffect old Advances (Advanced (Ok (Done ticket result))) c → AreSet old c new
+end_sets old first rest ticket (Ok done) new c waiting makes effect =
+    made_set old first.command c new (ap (λ (s : State). s.next) makes.2) (ap (λ (s : State). s.numbers) makes.2)
+    (some_one (first_command old.waiting) first.command c (ap first_command waiting) effect)
+end_sets old first rest ticket (Err fault) new c waiting ends effect = absurd effect
+
+advance_sets : (old : State) (result : Result Progress StepFault) (new : State) (c : Command) → AdvanceStep old result new
+    → TakesEffect old Advances (Advanced result) c → AreSet old c new
+advance_sets old (Ok Idle) new c h effect = absurd effect
+advance_sets old (Ok Worked) new c h effect = absurd effect
+advance_sets old (Ok Reserved) new c h effect = absurd effect
+advance_sets old (Ok (Done ticket result)) new c (first, rest, waiting, is_ticket, ends) effect = end_sets old first rest ticket result new c waiting ends effect
+advance_sets old (Err fault) new c h effect = absurd effect
+
+call_sets : (old : State) (call : Call) (reply : Reply) (new : State) (c : Command) → RunningStep old call reply new → TakesEffect old call reply c
+    → AreSet old c new
+call_sets old (Commands given) (Ran result) new c h effect = command_sets old given result new c h effect
+call_sets old Refills (Refilled result) new c h effect = absurd effect
+call_sets old (Submits given) (Submitted result) new c h effect = absurd effect
+call_sets old Advances (Advanced result) new c h effect = advance_sets old result new c h effect
+call_sets old (Protects plain) (Protected result out) new c h effect = absurd effect
+call_sets old (Receives frame) (Received result out) new c h effect = absurd effect
+call_sets old call reply new c h effect = absurd h
+
+-- none takes effect in an endpoint that is stopped
+stopped_sets : (old : State) (call : Call) (reply : Reply) (c : Command) → IsStopped call reply → TakesEffect old call reply c → ⊥
+stopped_sets old (Commands given) (Ran (Ok done)) c h effect = h
+stopped_sets old Advances (Advanced (Ok (Done ticket (Ok done)))) c h effect = h
+stopped_sets old call reply c h effect = effect
+
+pub numbers-are-set : (sectors : ℕ) → NumbersAreSet sectors
+numbers-are-set sectors s m call reply new (inl (stopped, answer, is)) c effect = absurd (stopped_sets s call reply c answer effect)
+numbers-are-set sectors s m call reply new (inr (running, h)) c effect = call_sets s call reply new c h effect
+
+-- ---- what frames change
+
+by_frame : (old : State) (call : Call) (reply : Reply) (new : State) → IsFrameCall call → RunningStep old call reply new
+    → state_but_numbers new ≡ state_but_numbers old
+by_frame old (Commands c) reply new frames h = absurd frames
+by_frame old Refills reply new frames h = absurd frames
+by_frame old (Submits c) reply new frames h = absurd frames
+by_frame old Advances reply new frames h = absurd frames
+by_frame old (Protects plain) (Protected (Ok pn) out) new frames (none, (o, is_o, is_pn, is_out, is)) = ap state_but_numbers is
+by_frame old (Protects plain) (Protected (Err (protect.Tx fault)) out) new frames (why, empty, is) = ap state_but_numbers is
+by_frame old (Protects plain) (Protected (Err protect.Stopped) out) new frames h = absurd h
+by_frame old (Receives frame) (Received (Ok verdict) out) new frames (inl (step, is_first, is_verdict, is_out, is)) = ap state_but_numbers is
+by_frame old (Receives frame) (Received (Ok verdict) out) new frames (inr (a, there, inl (is_verdict, above, is_out, is))) = ap state_but_numbers is
+by_frame old (Receives frame) (Received (Ok verdict) out) new frames (inr (a, there, inr (is_verdict, is_out, is))) = ap state_but_numbers is
+by_frame old (Receives frame) (Received (Err stopped) out) new frames h = absurd h
+by_frame old call reply new frames h = absurd h
+
+pub frames-change-few : (sectors : ℕ) → FramesChangeFew sectors
+frames-change-few sectors s m call reply new frames (inl (stopped, answer, is)) = ap state_but_numbers is
+frames-change-few sectors s m call reply new frames (inr (running, h)) = by_frame s call reply new frames h
 
 -- ---- over a restart
 

@@ -6,6 +6,8 @@ use Rattle.macs_fields.specs.Fields.{octets_of}
 use Rattle.std.proofs.lemmas.Bool.{cases_eq}
 use Rattle.macs_frame.specs.Protection.{protected_frame}
 use Rattle.macs_fields.specs.declared.fields.Offset.TheVariants.{Zero}
+use Rattle.macs_aes.specs.Keys.{octets_of_key}
+use Rattle.macs_aes.specs.declared.keys.Key.{Key}
 use Rattle.macs_config.specs.Apply.{config_after}
 use Rattle.macs_config.specs.Association.{is_confidential, offset_of}
 use Rattle.macs_config.specs.Config.{Config, default, this_edition}
@@ -44,6 +46,7 @@ use Rattle.macs_headline.specs.Nights.{IsNightFrame, IsRefusedEvening, IsRefused
 use Rattle.macs_headline.proofs.Built.{blank-is-new}
 use Rattle.macs_headline.proofs.Chains.{deeds-are-histories, fuse-now, new-deeds-are-histories}
 use Rattle.macs_headline.proofs.Endings.{power-losses-pass-on}
+use Rattle.macs_headline.proofs.InFormatTwo.{never-spent}
 use Rattle.macs_headline.proofs.Lists.{all-on, contains-first, contains-later}
 use Rattle.macs_headline.proofs.Ledger.{some_one}
 use Rattle.macs_headline.proofs.Losses.{loses-power}
@@ -102,9 +105,9 @@ frame_by an sa identity mode pn plain = protected_frame sa.key identity.sci
 none_some : {X : Type 0} (x : X) → ◌≡◌ {A = Option X} None (Some x) → ⊥
 none_some x is = cc
 
-module _ (identity : Identity) (an : ℕ) (key : List ℕ) where
+module _ (identity : Identity) (an : ℕ) (key : Key) where
   abbrev our_association : TxSa
-  our_association = record { key = key; protection = Confidentiality Zero }
+  our_association = record { key = octets_of_key key; protection = Confidentiality Zero }
 
   -- to install it, or to use it
   abbrev IsOurCommand : Command → Type 0
@@ -146,7 +149,7 @@ module _ (identity : Identity) (an : ℕ) (key : List ℕ) where
   our-answer sectors lives e logs was its = alone.our-answer identity IsOurCommand IsOurConfig by_default after_ours sectors lives e logs was its
 
   night-frame : (s : State) (plain : List ℕ) (pn : ℕ) (out : List ℕ) (new : State) → IsOurs s → IsStandardFrame s plain pn out new
-      → IsNightFrame identity an key plain pn out
+      → IsNightFrame identity an (octets_of_key key) plain pn out
   night-frame s plain pn out new ours f =
       let its = ours.config_is.ours f.an f.sa f.association in
       record {
@@ -155,7 +158,8 @@ module _ (identity : Identity) (an : ℕ) (key : List ℕ) where
         frame = f.frame ∙ (λ i. frame_by (its.0 i) (its.1 i) (ours.identity_is i) (ours.config_is.mode i) pn plain);
       }
 
-  key-is : (s : State) (plain : List ℕ) (pn : ℕ) (out : List ℕ) (new : State) → IsOurs s → (f : IsStandardFrame s plain pn out new) → f.sa.key ≡ key
+  key-is : (s : State) (plain : List ℕ) (pn : ℕ) (out : List ℕ) (new : State) → IsOurs s → (f : IsStandardFrame s plain pn out new)
+      → f.sa.key ≡ octets_of_key key
   key-is s plain pn out new ours f = ap (λ (sa : TxSa). sa.key) (ours.config_is.ours f.an f.sa f.association).1
 
 -- ---- the night
@@ -169,7 +173,7 @@ refused-first disk_of sound identity old mid is_new formatted format refused ope
   failed = day-failed disk_of sound old is_new identity mid refused.disk refused.fault opening formatted format;
 }
 
-module _ {D : Type 0} (disk_of : D → Disk) (sound : (it : D) → IsHonest (disk_of it) → IsSound (now (disk_of it))) (identity : Identity) (an : ℕ) (key : List ℕ)
+module _ {D : Type 0} (disk_of : D → Disk) (sound : (it : D) → IsHonest (disk_of it) → IsSound (now (disk_of it))) (identity : Identity) (an : ℕ) (key : Key)
     (old mid : D) (is_new : IsNewDisk (disk_of old)) (formatted : Result (Unit {0}) JournalFault) (format : IsFormat disk_of old identity formatted mid)
     (first one two three : EndpointValue D) (opening : IsOpening disk_of mid (Ok first))
     (kept : IsSoundEndpoint first) (installed : Result (Unit {0}) CommandFault) (install : IsCall disk_of first (Commands (night_install an key)) (Ran installed) one)
@@ -199,7 +203,7 @@ module _ {D : Type 0} (disk_of : D → Disk) (sound : (it : D) → IsHonest (dis
   lived = (opening, (kept, install, (kept_one, choose, refl)))
 
   -- the frame of the evening
-  pub evening-frame : (pn : ℕ) → sent ≡ Ok pn → IsNightFrame identity an key evening pn out
+  pub evening-frame : (pn : ℕ) → sent ≡ Ok pn → IsNightFrame identity an (octets_of_key key) evening pn out
   evening-frame pn is =
       let w = frames-are-written-once disk_of sound mid before first two three commands evening pn out has_before lived
       (subst (λ (r : Result ℕ ProtectFault). IsCall disk_of two (Protects evening) (Protected r out) three) is protect) in
@@ -249,8 +253,12 @@ module _ {D : Type 0} (disk_of : D → Disk) (sound : (it : D) → IsHonest (dis
       );
       for_disk = elim (refusals-are-failures disk_of sound lost both refused has_both opening_again) [
         | inl disk ↦ disk.0
-        | inr blank ↦ absurd (blank.2 this_edition (now (disk_of mid)).seen (map exchange_of with_frame) None
-            (contains-later (Formats this_edition identity (is_ok formatted)) (evening_life ∷ []) evening_life (contains-first evening_life [])))
+        | inr later ↦ elim later [
+          | inl blank ↦ absurd (blank.2 this_edition (now (disk_of mid)).seen (map exchange_of with_frame) None
+              (contains-later (Formats this_edition identity (is_ok formatted)) (evening_life ∷ []) evening_life (contains-first evening_life [])))
+          | inr spent ↦ absurd (never-spent disk_of sound mid before has_before first with_frame three
+              (opening, (kept, install, (kept_one, choose, (kept_two, protect, refl)))) left lost gave loses refused.fault spent)
+        ]
       ];
     }
 
@@ -284,7 +292,7 @@ module _ {D : Type 0} (disk_of : D → Disk) (sound : (it : D) → IsHonest (dis
         now_ours = our-moment identity an key (disk_of lost).sectors (state_of four w.at.logs) w.at.moment both_ours refills_ours
 
         -- the frame of the morning
-        pub morning-frame : IsNightFrame identity an key morning pn second
+        pub morning-frame : IsNightFrame identity an (octets_of_key key) morning pn second
         morning-frame = night-frame identity an key (state_of four w.at.logs) morning pn second (state_of five w.later) now_ours w.standard
 
         -- and that of the evening has another number

@@ -1,9 +1,10 @@
 -- The headline on packet numbers.
-use Rattle.std.proofs.Common.{◌≡◌, ◌<◌, ◌≤◌, ◌+◌, ◌/◌, inl, inr, ℕ, refl, sym, ◌∙◌, ap, subst, arith, List, [], ◌∷◌, length, true, false}
-use Rattle.std.specs.Prelude.{◌^◌, Option, Some, None, IsSomeAnd, max, min, nat_lt}
+use Rattle.std.proofs.Common.{◌≡◌, ◌<◌, ◌≤◌, ◌+◌, inl, inr, ℕ, refl, sym, ◌∙◌, ap, subst, arith, List, [], ◌∷◌, length, true, false}
+use Rattle.std.specs.Prelude.{◌^◌, Bool, Option, Some, None, IsSome, IsSomeAnd, is_some, max, min, nat_lt}
 use Rattle.std.specs.Option.{option_map}
-use Rattle.std.proofs.lemmas.Bool.{cases_eq, cases_lt}
+use Rattle.std.proofs.lemmas.Bool.{cases_eq, cases_lt, false≢true}
 use Rattle.std.proofs.lemmas.Bool.Decides.{nat_tests}
+use Rattle.macs_aes.specs.declared.keys.Key.{Key}
 use Rattle.macs_config.specs.Apply.{config_after, is_slot_taken, refusal_of}
 use Rattle.macs_config.specs.Config.{Config, Edition}
 use Rattle.macs_config.specs.Identity.{Identity}
@@ -16,10 +17,10 @@ use Rattle.macs_rxsc.specs.declared.verdict.Kind.TheVariants.{Ok as AsOk, Delaye
 use Rattle.macs_store.specs.Standing.{Standing}
 use Rattle.macs_endpoint.specs.State.{Delivery, Logs, State}
 use Rattle.macs_endpoint.specs.Step.{Exchange, Steps, next_after, numbers_after}
-use Rattle.macs_endpoint.specs.Restart.{Restart, RxRises, opened_state, rx_limit}
+use Rattle.macs_endpoint.specs.Restart.{Restart, RxRises, TxRises, opened_state, rx_limit}
 use Rattle.macs_headline.specs.History.{Blank, Formatted, Past, logs_of}
 use Rattle.macs_headline.specs.Moments.{IsFoundAfter, WasGiven, WasUsed}
-use Rattle.macs_headline.specs.Numbers.{GivenApart, GivenBelow, HasNoneTwice, IsBeyondRx, IsBeyondTx, IsMoved, OkApart, SkipsFew, SkipsFewReceived, UsedBelow, UsedOnce, UsedOnceAtEnd}
+use Rattle.macs_headline.specs.Numbers.{BeginAsAsked, GivenApart, GivenBelow, HasNoneTwice, IsBeyondRx, IsBeyondTx, IsMoved, IsSkipped, OkApart, SkipsFew, SkipsFewReceived, UsedBelow, UsedOnce, UsedOnceAtEnd}
 use Rattle.macs_headline.specs.Windows.{WindowsAreKept}
 use Rattle.macs_headline.proofs.Lists.{pairs-none}
 use Rattle.macs_headline.proofs.Ledger.{ledger-kept, some_one}
@@ -28,7 +29,7 @@ use Rattle.macs_headline.proofs.Accepted.{accepted, free-slot}
 use Rattle.macs_headline.proofs.Effects.{Commanded, Core, Effect, Given, Held, NoEffect, Sent, core, effect-of}
 use Rattle.macs_headline.proofs.Sent.{key_of}
 use Rattle.macs_headline.proofs.Given.{IsGiven, IsRxLedger, IsSoundRx, lowest-bound, pair_of, print_of, rx-effect, rx_bounds, rx_keys}
-use Rattle.macs_headline.proofs.Sound.{IsSound, tx-rise}
+use Rattle.macs_headline.proofs.Sound.{IsSound}
 use Rattle.macs_headline.proofs.Histories.{IsSoundPast, fits-restart, sound-history, sound-moment, sound-opened, sound-opening}
 
 -- ---- a delivery
@@ -106,7 +107,7 @@ ceiling_is : (o : Option ℕ) (m : ℕ) → option_map (λ (n : Numbers). n.next
 ceiling_is None m is = absurd (cc)
 ceiling_is (Some c) m is = is
 
-beyond_tx : (found : Standing) (logs : Logs) → IsSound (core (opened_state found logs)) → (key : List ℕ) (pn : ℕ) → WasUsed logs key pn → IsBeyondTx found key pn
+pub beyond_tx : (found : Standing) (logs : Logs) → IsSound (core (opened_state found logs)) → (key : List ℕ) (pn : ℕ) → WasUsed logs key pn → IsBeyondTx found key pn
 beyond_tx found logs is key pn used = record {
   spent = is.tx.ledger.logged key pn used;
   below = λ an sa is_sa is_key.
@@ -143,25 +144,26 @@ next_stays edition identity old (TxRemove at) next an before after ok is js = el
 ]
 next_stays edition identity old c next an before after ok is js = refl
 
-skips : (s new : State) (an : ℕ) (before after : TxSa) (next later : ℕ) → Restart s new → s.config.tx an ≡ Some before → new.config.tx an ≡ Some after
-    → s.next an ≡ Some next → new.next an ≡ Some later → later ≤ next + (s.identity.tx_block + s.identity.tx_block / 2)
-skips s new an before after next later (inl up) is js is_next is_later =
-    let rise = tx-rise s.identity.tx_block (s.next an) (new.next an) next (up.next an) is_next in
-    let one : rise.0 ≡ later = some_one (new.next an) rise.0 later rise.1 is_later in
-    let high : rise.0 ≤ next + (s.identity.tx_block + s.identity.tx_block / 2) = rise.3 in
-    omega (arith, one, high)
-skips s new an before after next later (inr (c, mid, hand, makes, up)) is js is_next is_later =
+-- what may be found of an association that has this next number
+skipped : (block next : ℕ) (found : Option ℕ) → TxRises block (Some next) found → IsSomeAnd found (λ later. IsSkipped block next later)
+skipped block next found (later, is_later, low, high, most) =
+    subst (λ (o : Option ℕ). IsSomeAnd o (λ later. IsSkipped block next later)) (sym is_later) (low, high)
+
+skips : (s new : State) (an : ℕ) (before after : TxSa) (next : ℕ) → Restart s new → s.config.tx an ≡ Some before → new.config.tx an ≡ Some after
+    → s.next an ≡ Some next → IsSomeAnd (new.next an) (λ later. IsSkipped s.identity.tx_block next later)
+skips s new an before after next (inl up) is js is_next =
+    skipped s.identity.tx_block next (new.next an) (subst (λ (o : Option ℕ). TxRises s.identity.tx_block o (new.next an)) is_next (up.next an))
+skips s new an before after next (inr (c, mid, hand, makes, up)) is js is_next =
     let a = accepted s.edition s.identity s.config c makes.0 makes.1 in
     let config : new.config ≡ config_after s.config c = up.config ∙ ap (λ (s : State). s.config) makes.2 ∙ a.1 in
     let there : (config_after s.config c).tx an ≡ Some after = ap (λ (c : Config). c.tx an) (sym config) ∙ js in
     let mid_next : mid.next an ≡ Some next =
     ap (λ (s : State). s.next an) makes.2 ∙ next_stays s.edition s.identity s.config c s.next an before after a.0 is there ∙ is_next in
     let block : mid.identity ≡ s.identity = ap (λ (s : State). s.identity) makes.2 in
-    let rise = tx-rise mid.identity.tx_block (mid.next an) (new.next an) next (up.next an) mid_next in
-    let one : rise.0 ≡ later = some_one (new.next an) rise.0 later rise.1 is_later in
-    let high : rise.0 ≤ next + (s.identity.tx_block + s.identity.tx_block / 2) =
-    subst (λ (i : Identity). rise.0 ≤ next + (i.tx_block + i.tx_block / 2)) block rise.3 in
-    omega (arith, one, high)
+    let rises : TxRises s.identity.tx_block (Some next) (new.next an) =
+    subst (λ (i : Identity). TxRises i.tx_block (Some next) (new.next an)) block
+    (subst (λ (o : Option ℕ). TxRises mid.identity.tx_block o (new.next an)) mid_next (up.next an)) in
+    skipped s.identity.tx_block next (new.next an) rises
 
 gone_or : {X : Type 0} {x : X} → ◌≡◌ {A = Option X} None (Some x) → ⊥
 gone_or is = cc
@@ -195,15 +197,17 @@ numbers_stay edition identity old (RxRemove at number) numbers sci an before aft
 numbers_stay edition identity old c numbers sci an before after n ok is js here = (n, here, refl, refl)
 
 -- what may be found of an association that has these numbers
-moved : (block : ℕ) (old : Numbers) (found : Option Numbers) (new : Numbers) → RxRises block (Some old) found → found ≡ Some new → IsMoved block old new
-moved block old found new (later, is_later, low, high) is =
-    let one : first_numbers later ≡ new = some_one found (first_numbers later) new is_later is in
-    subst (IsMoved block old) one (record {
-      level = refl;
-      rises = low;
-      unseen = λ none. let most : later ≤ old.next = subst (λ (seen : Option ℕ). later ≤ rx_limit block old.next seen) none high in omega (arith, low, most);
-      seen = λ last is_last. subst (λ (seen : Option ℕ). later ≤ rx_limit block old.next seen) is_last high;
-    })
+moved_to : (block : ℕ) (old : Numbers) (later : ℕ) → old.next ≤ later → later ≤ rx_limit block old.next old.seen → IsMoved block old (first_numbers later)
+moved_to block old later low high = record {
+  level = refl;
+  rises = low;
+  unseen = λ none. let most : later ≤ old.next = subst (λ (seen : Option ℕ). later ≤ rx_limit block old.next seen) none high in omega (arith, low, most);
+  seen = λ last is_last. subst (λ (seen : Option ℕ). later ≤ rx_limit block old.next seen) is_last high;
+}
+
+moved : (block : ℕ) (old : Numbers) (found : Option Numbers) → RxRises block (Some old) found → IsSomeAnd found (λ new. IsMoved block old new)
+moved block old found (later, is_later, low, high) =
+    subst (λ (o : Option Numbers). IsSomeAnd o (λ new. IsMoved block old new)) (sym is_later) (moved_to block old later low high)
 
 -- over numbers whose lowest alone changed
 moved_on : (block : ℕ) (old mid new : Numbers) → mid.next ≡ old.next → mid.seen ≡ old.seen → IsMoved block mid new → IsMoved block old new
@@ -214,12 +218,17 @@ moved_on block old mid new next seen is = record {
   seen = λ last is_last. subst (λ (n : ℕ). new.next ≤ max n (min (last + block) (2 ^ 32))) next (is.seen last (seen ∙ is_last));
 }
 
-skips_received : (s found : State) (sci : List ℕ) (an : ℕ) (before after : RxSa) (old new : Numbers) → Restart s found → s.config.rx sci an ≡ Some before
-    → found.config.rx sci an ≡ Some after → s.numbers sci an ≡ Some old → found.numbers sci an ≡ Some new → IsMoved s.identity.rx_block old new
-skips_received s found sci an before after old new (inl up) is js is_old is_new =
-    moved s.identity.rx_block old (found.numbers sci an) new
-    (subst (λ (n : Option Numbers). RxRises s.identity.rx_block n (found.numbers sci an)) is_old (up.numbers sci an)) is_new
-skips_received s found sci an before after old new (inr (c, mid, hand, makes, up)) is js is_old is_new =
+moved_through : (block : ℕ) (old mid : Numbers) (found : Option Numbers) → mid.next ≡ old.next → mid.seen ≡ old.seen
+    → IsSomeAnd found (λ new. IsMoved block mid new) → IsSomeAnd found (λ new. IsMoved block old new)
+moved_through block old mid None next seen is = absurd is
+moved_through block old mid (Some new) next seen is = moved_on block old mid new next seen is
+
+skips_received : (s found : State) (sci : List ℕ) (an : ℕ) (before after : RxSa) (old : Numbers) → Restart s found → s.config.rx sci an ≡ Some before
+    → found.config.rx sci an ≡ Some after → s.numbers sci an ≡ Some old → IsSomeAnd (found.numbers sci an) (λ new. IsMoved s.identity.rx_block old new)
+skips_received s found sci an before after old (inl up) is js is_old =
+    moved s.identity.rx_block old (found.numbers sci an)
+    (subst (λ (n : Option Numbers). RxRises s.identity.rx_block n (found.numbers sci an)) is_old (up.numbers sci an))
+skips_received s found sci an before after old (inr (c, mid, hand, makes, up)) is js is_old =
     let a = accepted s.edition s.identity s.config c makes.0 makes.1 in
     let config : found.config ≡ config_after s.config c = up.config ∙ ap (λ (s : State). s.config) makes.2 ∙ a.1 in
     let there : (config_after s.config c).rx sci an ≡ Some after = ap (λ (c : Config). c.rx sci an) (sym config) ∙ js in
@@ -229,7 +238,47 @@ skips_received s found sci an before after old new (inr (c, mid, hand, makes, up
     let rises : RxRises s.identity.rx_block (Some stay.0) (found.numbers sci an) =
     subst (λ (i : Identity). RxRises i.rx_block (Some stay.0) (found.numbers sci an)) block
     (subst (λ (n : Option Numbers). RxRises mid.identity.rx_block n (found.numbers sci an)) mid_is (up.numbers sci an)) in
-    moved_on s.identity.rx_block old stay.0 new stay.2 stay.3 (moved s.identity.rx_block stay.0 (found.numbers sci an) new rises is_new)
+    moved_through s.identity.rx_block old stay.0 (found.numbers sci an) stay.2 stay.3 (moved s.identity.rx_block stay.0 (found.numbers sci an) rises)
+
+-- ---- what the command in hand installs
+
+none_there : {X : Type 0} (o : Option X) → o ≡ None → IsSome o → ⊥
+none_there {X} o none is = false≢true (sym (ap (λ (x : Option X). is_some x) none) ∙ is)
+
+begins_tx : (s new : State) (an : ℕ) (key : Key) (start : ℕ) (confidential : Bool) (offset : ℕ) → Restart s new
+    → s.in_hand ≡ Some (TxInstall an key start confidential offset) → s.config.tx an ≡ None → IsSome (new.config.tx an)
+    → IsSomeAnd (new.next an) (λ later. IsSkipped s.identity.tx_block start later)
+begins_tx s new an key start confidential offset (inl up) asked free is =
+    absurd (none_there (new.config.tx an) (ap (λ (c : Config). c.tx an) up.config ∙ free) is)
+begins_tx s new an key start confidential offset (inr (c, mid, hand, makes, up)) asked free is =
+    let one : c ≡ TxInstall an key start confidential offset = some_one s.in_hand c (TxInstall an key start confidential offset) hand asked in
+    let mid_next : mid.next an ≡ Some start =
+    ap (λ (s : State). s.next an) makes.2 ∙ ap (λ (c : Command). next_after c s.next an) one ∙ put-this s.next an an (Some start) refl in
+    let block : mid.identity ≡ s.identity = ap (λ (s : State). s.identity) makes.2 in
+    let rises : TxRises s.identity.tx_block (Some start) (new.next an) =
+    subst (λ (i : Identity). TxRises i.tx_block (Some start) (new.next an)) block
+    (subst (λ (o : Option ℕ). TxRises mid.identity.tx_block o (new.next an)) mid_next (up.next an)) in
+    skipped s.identity.tx_block start (new.next an) rises
+
+-- nothing was seen on an association that is new, so that its numbers do not move
+first_stay : (block start : ℕ) (found : Option Numbers) → RxRises block (Some (first_numbers start)) found → found ≡ Some (first_numbers start)
+first_stay block start found (later, is_later, low, high) =
+    let above : start ≤ later = low in
+    let below : later ≤ start = high in
+    let same : later ≡ start = omega (arith, above, below) in
+    is_later ∙ ap (λ (n : ℕ). Some (first_numbers n)) same
+
+begins_rx : (s found : State) (sci : List ℕ) (an : ℕ) (key : Key) (start offset : ℕ) → Restart s found → s.in_hand ≡ Some (RxInstall sci an key start offset)
+    → s.config.rx sci an ≡ None → IsSome (found.config.rx sci an) → found.numbers sci an ≡ Some (first_numbers start)
+begins_rx s found sci an key start offset (inl up) asked free is =
+    absurd (none_there (found.config.rx sci an) (ap (λ (c : Config). c.rx sci an) up.config ∙ free) is)
+begins_rx s found sci an key start offset (inr (c, mid, hand, makes, up)) asked free is =
+    let one : c ≡ RxInstall sci an key start offset = some_one s.in_hand c (RxInstall sci an key start offset) hand asked in
+    let mid_is : mid.numbers sci an ≡ Some (first_numbers start) =
+    ap (λ (s : State). s.numbers sci an) makes.2 ∙ ap (λ (c : Command). numbers_after c s.numbers sci an) one
+    ∙ put_rx-this s.numbers sci an sci an (Some (first_numbers start)) refl refl in
+    first_stay mid.identity.rx_block start (found.numbers sci an)
+    (subst (λ (n : Option Numbers). RxRises mid.identity.rx_block n (found.numbers sci an)) mid_is (up.numbers sci an))
 
 -- ---- the laws
 
@@ -282,9 +331,16 @@ module _ (sectors : ℕ) where
   given-below past found is = beyond_rx found (logs_of past) (found_sound past found is)
 
   pub skips-few : SkipsFew sectors
-  skips-few s edition image found fits is an before after next later is_before is_after is_next is_later =
-      skips s (opened_state found s.logs) an before after next later (fits-restart edition sectors image s found fits is) is_before is_after is_next is_later
+  skips-few s edition image found fits is an before after next is_before is_after is_next =
+      skips s (opened_state found s.logs) an before after next (fits-restart edition sectors image s found fits is) is_before is_after is_next
 
   pub skips-few-received : SkipsFewReceived sectors
-  skips-few-received s edition image found fits is sci an before after old new is_before is_after is_old is_new =
-      skips_received s (opened_state found s.logs) sci an before after old new (fits-restart edition sectors image s found fits is) is_before is_after is_old is_new
+  skips-few-received s edition image found fits is sci an before after old is_before is_after is_old =
+      skips_received s (opened_state found s.logs) sci an before after old (fits-restart edition sectors image s found fits is) is_before is_after is_old
+
+  pub begin-as-asked : BeginAsAsked sectors
+  begin-as-asked s edition image found fits is =
+      let restart = fits-restart edition sectors image s found fits is in (
+        λ an key start confidential offset asked free there. begins_tx s (opened_state found s.logs) an key start confidential offset restart asked free there,
+        λ sci an key start offset asked free there. begins_rx s (opened_state found s.logs) sci an key start offset restart asked free there,
+      )

@@ -1,5 +1,5 @@
 -- A history to which programs of an edition led is one that a program of a larger edition goes on from.
-use Rattle.std.proofs.Common.{◌≡◌, inl, inr, ℕ, refl, sym, subst, arith}
+use Rattle.std.proofs.Common.{◌≡◌, inl, inr, ℕ, refl, sym, ap, subst, arith}
 use Rattle.macs_config.specs.Config.{Edition, IsUpTo}
 use Rattle.macs_disk.specs.States.{Image}
 use Rattle.macs_store.specs.Standing.{Standing, new_standing}
@@ -8,6 +8,7 @@ use Rattle.macs_endpoint.specs.Restart.{Fits, Restart, Resumes, opened_state}
 use Rattle.macs_endpoint.specs.State.{Logs, State}
 use Rattle.macs_headline.specs.Binding.{LargerFind, LargerGoOn}
 use Rattle.macs_headline.specs.History.{Blank, FitsPast, Formatted, Past}
+use Rattle.macs_headline.specs.Moments.{EditionsRise}
 
 -- an edition is up to one that another is up to
 up_through : (small mid large : Edition) → IsUpTo small mid → IsUpTo mid large → IsUpTo small large
@@ -51,6 +52,18 @@ module _ (small large : Edition) (up_to : IsUpTo small large) where
   larger_past sectors (Blank identities) image (inr (identity, among, new)) =
       inr (identity, among, larger-finds small large up_to sectors image (new_standing small identity) new)
   larger_past sectors (Formatted s) image fits = larger-fits sectors image s fits
+
+-- ---- openings are of no smaller edition
+
+by_restart : (s new : State) → Restart s new → IsUpTo s.edition new.edition
+by_restart s new (inl up) = up.edition
+by_restart s new (inr (c, mid, hand, makes, up)) = subst (λ (e : Edition). IsUpTo e new.edition) (ap (λ (s : State). s.edition) makes.2) up.edition
+
+pub editions-rise : (sectors : ℕ) → EditionsRise sectors
+editions-rise sectors s edition image fits =
+    subst (IsUpTo s.edition) (of-edition edition sectors image fits.found fits.is_found) (by_restart s (opened_state fits.found s.logs) fits.restart)
+
+-- ---- a history that goes on
 
 pub older : LargerGoOn
 older small large up_to disk lives h = record {

@@ -1,38 +1,50 @@
 -- The headline on openings that are refused, and on lives that change nothing.
-use Rattle.std.proofs.Common.{◌≡◌, ◌⊎◌, inl, inr, ℕ, Bool, true, false, List, Result, Err, sym, ap, subst}
+use Rattle.std.proofs.Common.{◌≡◌, ◌⊎◌, inl, inr, ℕ, Bool, true, false, List, Result, Ok, Err, refl, sym, ap, subst}
 use Rattle.macs_config.specs.Config.{Edition}
 use Rattle.macs_config.specs.Identity.{Identity}
 use Rattle.macs_disk.specs.States.{Image}
 use Rattle.macs_journal.specs.declared.fault.JournalFault.{JournalFault}
-use Rattle.macs_journal.specs.declared.fault.JournalFault.TheVariants.{Disk, NotFormatted}
-use Rattle.macs_store.specs.Found.{StandingIs}
+use Rattle.macs_journal.specs.declared.fault.JournalFault.TheVariants.{Disk, GenerationsSpent, NotFormatted}
+use Rattle.macs_store.specs.Found.{IsUnfitTo, StandingIs}
 use Rattle.macs_store.specs.Standing.{Standing, new_standing}
 use Rattle.macs_store.proofs.OneStanding.{one_standing}
 use Rattle.macs_endpoint.specs.State.{State}
 use Rattle.macs_endpoint.specs.Restart.{Fits}
 use Rattle.macs_headline.specs.History.{Blank, FitsPast, Formats, Formatted, Leads, Past, logs_of}
-use Rattle.macs_headline.specs.Openings.{AreAsBefore, NothingChanges, RefusedForDisk, RefusedForDiskOrBlank}
+use Rattle.macs_headline.specs.Openings.{AreAsBefore, IsSpentFor, NothingChanges, RefusedForDiskOrBlank, RefusedForDiskOrSpent}
 use Rattle.macs_headline.proofs.Histories.{found-or-refused}
 
 same_fault : (a b : JournalFault) → ◌≡◌ {A = Result Standing JournalFault} (Err a) (Err b) → a ≡ b
 same_fault a b is = cc
 
 module _ (sectors : ℕ) where
-  for_disk : (edition : Edition) (image : Image) (s : State) (fault : JournalFault) → Fits edition sectors image s
-      → (fault ≡ Disk) ⊎ StandingIs edition sectors image (Err fault) → fault ≡ Disk
-  for_disk edition image s fault fits (inl is) = is
-  for_disk edition image s fault fits (inr is) = absurd (found-or-refused edition sectors image fault fits.found is fits.is_found)
+  -- where an image stands for something
+  where_found : (edition : Edition) (image : Image) (fault : JournalFault) (found : Standing) → IsUnfitTo edition sectors image fault
+      → StandingIs edition sectors image (Ok found) → IsSpentFor edition image fault
+  where_found edition image GenerationsSpent found is there = (refl, is.1)
+  where_found edition image fault found is there = absurd (found-or-refused edition sectors image fault found is there)
 
-  pub refused-for-disk : RefusedForDisk sectors
-  refused-for-disk s edition image fault new leads = for_disk edition image s fault leads.0 leads.1
+  -- where no head gate is open
+  where_blank : (edition : Edition) (image : Image) (fault : JournalFault) → IsUnfitTo edition sectors image fault
+      → StandingIs edition sectors image (Err NotFormatted) → (fault ≡ NotFormatted) ⊎ IsSpentFor edition image fault
+  where_blank edition image GenerationsSpent is there = inr (refl, is.1)
+  where_blank edition image fault is there =
+      inl (same_fault fault NotFormatted (one_standing edition sectors image (Err fault) (Err NotFormatted) is there))
+
+  for_disk : (edition : Edition) (image : Image) (s : State) (fault : JournalFault) → Fits edition sectors image s
+      → (fault ≡ Disk) ⊎ IsUnfitTo edition sectors image fault → (fault ≡ Disk) ⊎ IsSpentFor edition image fault
+  for_disk edition image s fault fits (inl is) = inl is
+  for_disk edition image s fault fits (inr is) = inr (where_found edition image fault fits.found is fits.is_found)
+
+  pub refused-for-disk-or-spent : RefusedForDiskOrSpent sectors
+  refused-for-disk-or-spent s edition image fault new leads = for_disk edition image s fault leads.0 leads.1
 
   for_blank : (identities : List Identity) (edition : Edition) (image : Image) (fault : JournalFault) → FitsPast edition sectors (Blank identities) image
-      → (fault ≡ Disk) ⊎ StandingIs edition sectors image (Err fault) → (fault ≡ Disk) ⊎ (fault ≡ NotFormatted)
+      → (fault ≡ Disk) ⊎ IsUnfitTo edition sectors image fault → (fault ≡ Disk) ⊎ ((fault ≡ NotFormatted) ⊎ IsSpentFor edition image fault)
   for_blank identities edition image fault fits (inl is) = inl is
-  for_blank identities edition image fault (inl none) (inr is) =
-      inr (same_fault fault NotFormatted (one_standing edition sectors image (Err fault) (Err NotFormatted) is none))
+  for_blank identities edition image fault (inl none) (inr is) = inr (where_blank edition image fault is none)
   for_blank identities edition image fault (inr (identity, among, new)) (inr is) =
-      absurd (found-or-refused edition sectors image fault (new_standing edition identity) is new)
+      inr (inr (where_found edition image fault (new_standing edition identity) is new))
 
   pub refused-for-disk-or-blank : RefusedForDiskOrBlank sectors
   refused-for-disk-or-blank identities edition image fault new leads = for_blank identities edition image fault leads.0 leads.1

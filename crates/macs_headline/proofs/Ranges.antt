@@ -1,16 +1,24 @@
 -- Next packet numbers stay within 1 and 2^32, and commands in hand and those that wait in their ranges.
-use Rattle.std.proofs.Common.{◌≡◌, ◌<◌, ◌≤◌, ◌+◌, ◌^◌, ◌==◌, inl, inr, ℕ, refl, sym, ◌∙◌, ap, subst, arith, List, [], ◌∷◌, Bool, true, false, cond, Result, Ok, Err}
+use Rattle.std.proofs.Common.{◌≡◌, ◌<◌, ◌≤◌, ◌+◌, ◌^◌, ◌==◌, inl, inr, ℕ, refl, sym, ◌∙◌, ap, subst, arith, List, [], ◌∷◌, length, Bool, true, false, cond, Result, Ok, Err}
 use Rattle.std.specs.Prelude.{Option, Some, None, IfSome, not, ◌&&◌, is_ok}
 use Rattle.std.specs.List.{AllByRecursion}
-use Rattle.std.proofs.lemmas.Bool.{cases_eq, eq-eqb}
-use Rattle.macs_config.specs.Apply.{IsCommand, apply, refusal_of}
+use Rattle.std.proofs.lemmas.Bool.{cases_eq, eq-eqb, ltb-false, not-false}
+use Rattle.macs_fields.specs.Fields.{octets_of}
+use Rattle.macs_frame.specs.Opening.{Verified}
+use Rattle.macs_frame.specs.Protection.{overhead}
+use Rattle.macs_frame.specs.Tag.{name_of}
+use Rattle.macs_config.specs.Apply.{IsCommand, apply, config_after, refusal_of}
+use Rattle.macs_config.specs.Association.{is_end_station, offset_of}
 use Rattle.macs_config.specs.Config.{Config, Edition}
-use Rattle.macs_config.specs.Identity.{Identity}
+use Rattle.macs_config.specs.Identity.{Identity, is_port_one}
 use Rattle.macs_config.specs.Tables.{put}
+use Rattle.macs_config.specs.declared.association.TxSa.{TxSa}
 use Rattle.macs_config.specs.declared.command.Command.{Command}
-use Rattle.macs_config.specs.declared.command.Command.TheVariants.{TxInstall, TxRemove}
+use Rattle.macs_config.specs.declared.command.Command.TheVariants.{SetSciMode, TxInstall, TxRemove}
+use Rattle.macs_config.specs.declared.command.SciMode.{SciMode}
+use Rattle.macs_config.specs.declared.command.SciMode.TheVariants.{EndStation, Explicit, Implicit}
 use Rattle.macs_disk.specs.States.{Image}
-use Rattle.macs_txsc.specs.Transmit.{is_used_up, next_outgoing, tx_faults}
+use Rattle.macs_txsc.specs.Transmit.{is_used_up, name_in, next_outgoing, tx_faults}
 use Rattle.macs_rxsc.specs.declared.verdict.Verdict.{Verdict}
 use Rattle.macs_store.specs.Found.{StandingIs}
 use Rattle.macs_store.specs.Standing.{Standing}
@@ -34,12 +42,14 @@ use Rattle.macs_endpoint.specs.declared.queue.Waiting.{Waiting}
 use Rattle.macs_endpoint.specs.Restart.{Restart, Resumes, TxRises, opened_state, state_taking, state_taking_alone, state_taking_first}
 use Rattle.macs_endpoint.specs.State.{Advanced, Advances, Call, Commands, Protects, Protected, Ran, Received, Receives, Refilled, Refills, Reply, State, Submits, Submitted, no_logs, state_with_in_hand, tx_side}
 use Rattle.macs_endpoint.specs.Step.{AdvanceStep, CommandStep, Ends, Exchange, Makes, ProtectStep, ReceiveStep, RefillStep, RunningStep, Step, Steps, SubmitStep, TakesUp, next_after, state_without_first}
-use Rattle.macs_headline.specs.Frames.{FramesAreStandard, IsStandardFrame}
+use Rattle.macs_headline.specs.Frames.{FramesAreStandard, IsNamedIn, IsStandardFrame}
 use Rattle.macs_headline.specs.History.{Blank, FitsPast, FormatLeads, Formats, Formatted, IsLifeSoFar, LeadOn, Leads, Life, Past, Refuses, Serves, formatted_state, logs_of, state_at_end}
+use Rattle.macs_headline.specs.Moments.{Moment, OfItsEdition}
 use Rattle.macs_headline.proofs.Ledger.{some_one}
 use Rattle.macs_headline.proofs.Places.{put-that, put-this}
-use Rattle.macs_headline.proofs.Accepted.{NoTest, accepted, no-test, right-start}
+use Rattle.macs_headline.proofs.Accepted.{NoTest, accepted, no-test, right-mode, right-start, tx_of}
 use Rattle.macs_headline.proofs.Effects.{outgoing_is}
+use Rattle.macs_headline.proofs.FramesRead.{frame-named, frame-read, own-source}
 use Rattle.macs_headline.proofs.Histories.{fits-restart, found-new}
 
 -- a next packet number
@@ -50,10 +60,16 @@ IsNext m = (1 ≤ m) × (m ≤ 2 ^ 32)
 abbrev AreCommands : List Waiting → Type 0
 AreCommands waiting = AllByRecursion (λ (w : Waiting). IsCommand w.command) waiting
 
--- a state of a program of this edition, with numbers and commands in their ranges
+-- transmit associations have the numbers 0 to 3, and in end station mode the port is 00-01
+abbrev IsTxRanged : Identity → Config → Type 0
+IsTxRanged identity config =
+    ((an : ℕ) (sa : TxSa) → config.tx an ≡ Some sa → an < 4) × (config.mode ≡ EndStation → is_port_one identity.sci ≡ true)
+
+-- a state of a program of this edition, with numbers, associations and commands in their ranges
 pub record IsRanged (edition : Edition) (s : State) : Type 0 where
   pub same : s.edition ≡ edition
   pub nexts : (an m : ℕ) → s.next an ≡ Some m → IsNext m
+  pub channel : IsTxRanged s.identity s.config
   pub hand : (c : Command) → s.in_hand ≡ Some c → IsCommand c
   pub queue : AreCommands s.waiting
 
@@ -82,6 +98,32 @@ nexts_after edition identity config (TxRemove at) next ranged ok old an m is = e
 ]
 nexts_after edition identity config c next ranged ok old an m is = old an m is
 
+port_by : (mode : SciMode) (sci : List ℕ) → (is_end_station mode && not (is_port_one sci)) ≡ false → mode ≡ EndStation → is_port_one sci ≡ true
+port_by Explicit sci test is = absurd (cc)
+port_by Implicit sci test is = absurd (cc)
+port_by EndStation sci test is = not-false (is_port_one sci) test
+
+-- and keeps the associations and the mode in theirs
+channel_after : (edition : Edition) (identity : Identity) (old : Config) (c : Command) → IsCommand c → refusal_of edition identity old c ≡ None
+    → IsTxRanged identity old → IsTxRanged identity (config_after old c)
+channel_after edition identity old (SetSciMode mode) given ok is =
+    (is.0, λ station. port_by mode identity.sci (right-mode edition identity old (SetSciMode mode) ok) station)
+channel_after edition identity old (TxInstall at key start confidential offset) given ok is = (
+  λ an sa there. elim (cases_eq an at) [
+    | inl here ↦ let few : at < 4 = given.0 in omega (arith, few, here)
+    | inr apart ↦ is.0 an sa (sym (put-that old.tx at an (Some (tx_of key confidential offset)) apart) ∙ there)
+  ],
+  is.1,
+)
+channel_after edition identity old (TxRemove at) given ok is = (
+  λ an sa there. elim (cases_eq an at) [
+    | inl here ↦ absurd (none_some (put old.tx at None an) sa (put-this old.tx at an None here) there)
+    | inr apart ↦ is.0 an sa (sym (put-that old.tx at an None apart) ∙ there)
+  ],
+  is.1,
+)
+channel_after edition identity old c given ok is = is
+
 module _ (edition : Edition) where
   same_range : (old new : State) → new ≡ old → IsRanged edition old → IsRanged edition new
   same_range old new is ranged = subst (IsRanged edition) (sym is) ranged
@@ -92,17 +134,20 @@ module _ (edition : Edition) where
       subst (IsRanged edition) (sym m.2) (record {
         same = ranged.same;
         nexts = nexts_after old.edition old.identity old.config c old.next command a.0 ranged.nexts;
+        channel = subst (IsTxRanged old.identity) (sym a.1)
+            (channel_after old.edition old.identity old.config c command a.0 ranged.channel);
         hand = λ d is. absurd (none_some None d refl is);
         queue = ranged.queue;
       })
 
   stopped_range : (old new : State) → new ≡ record old { stopped = true } → IsRanged edition old → IsRanged edition new
-  stopped_range old new is ranged = subst (IsRanged edition) (sym is) (record { same = ranged.same; nexts = ranged.nexts; hand = ranged.hand; queue = ranged.queue })
+  stopped_range old new is ranged = subst (IsRanged edition) (sym is) (record { same = ranged.same; nexts = ranged.nexts; channel = ranged.channel; hand = ranged.hand; queue = ranged.queue })
 
   hand_range : (s : State) (c : Command) → IsCommand c → IsRanged edition s → IsRanged edition (state_with_in_hand s c)
   hand_range s c command ranged = record {
     same = ranged.same;
     nexts = ranged.nexts;
+    channel = ranged.channel;
     hand = λ d is. subst IsCommand (let one : c ≡ d = cc in one) command;
     queue = ranged.queue;
   }
@@ -133,6 +178,7 @@ module _ (edition : Edition) where
       subst (IsRanged edition) (sym is) (record {
         same = ranged.same;
         nexts = ranged.nexts;
+        channel = ranged.channel;
         hand = ranged.hand;
         queue = more_commands old.waiting (old.tickets + 1) c command ranged.queue;
       })
@@ -155,6 +201,7 @@ module _ (edition : Edition) where
   without_first old rest are ranged = record {
     same = ranged.same;
     nexts = ranged.nexts;
+    channel = ranged.channel;
     hand = λ d is. absurd (none_some None d refl is);
     queue = are;
   }
@@ -186,6 +233,10 @@ module _ (edition : Edition) where
       let tests : NoTest (tx_faults (tx_side old) plain) = no-test (tx_faults (tx_side old) plain) none in
       let test : is_used_up (next_outgoing (tx_side old)) ≡ false = tests.1.1.1.1.0 in
       let left : (o.pn == 2 ^ 32) ≡ false = ap is_used_up (sym is_o) ∙ test in
+      let long : 14 ≤ length plain = ltb-false (length plain) 14 tests.0 in
+      let fits : length plain + overhead (name_in old.config.mode old.identity.sci) ≤ 9216 =
+      ltb-false 9216 (length plain + overhead (name_in old.config.mode old.identity.sci)) tests.1.0 in
+      let placed : o.an < 4 = ranged.channel.0 o.an o.sa there.sa_is in
       let below : o.pn < 2 ^ 32 = elim (cases_eq o.pn (2 ^ 32)) [
         | inl last ↦ let test_true : (o.pn == 2 ^ 32) ≡ true = eq-eqb o.pn (2 ^ 32) last in absurd (cc)
         | inr apart ↦ let most = within.1 in omega (arith, most, apart)
@@ -201,6 +252,11 @@ module _ (edition : Edition) where
           frame = is_out;
           logged = ap (λ (s : State). s.logs.used) is;
           next = ap (λ (s : State). s.next o.an) is ∙ put-this old.next o.an o.an (Some (o.pn + 1)) refl;
+          own = own-source old.config.mode old.identity.sci plain tests.1.1.0 ranged.channel.1;
+          named = λ identity. subst (λ (frame : List ℕ). IsNamedIn old.config.mode old.identity.sci (name_of frame)) (sym is_out)
+              (frame-named old plain o identity placed within.0 below long fits);
+          read = λ identity. subst (λ (frame : List ℕ). Verified frame o.sa.key old.identity.sci (octets_of (offset_of o.sa.protection)) plain) (sym is_out)
+              (frame-read old plain o identity placed within.0 below long fits);
         }),
         subst (IsRanged edition) (sym is) (record {
           same = ranged.same;
@@ -210,6 +266,7 @@ module _ (edition : Edition) where
                 (omega (arith, one), omega (arith, one, below))
             | inr apart ↦ ranged.nexts an m (sym (put-that old.next o.an an (Some (o.pn + 1)) apart) ∙ is_m)
           ];
+          channel = ranged.channel;
           hand = ranged.hand;
           queue = ranged.queue;
         }),
@@ -225,9 +282,9 @@ module _ (edition : Edition) where
       → IsRanged edition old → IsRanged edition new
   by_receive old frame (Ok verdict) out new (inl (step, is_first, is_verdict, is_out, is)) ranged = same_range old new is ranged
   by_receive old frame (Ok verdict) out new (inr (a, there, inl (is_verdict, above, is_out, is))) ranged =
-      subst (IsRanged edition) (sym is) (record { same = ranged.same; nexts = ranged.nexts; hand = ranged.hand; queue = ranged.queue })
+      subst (IsRanged edition) (sym is) (record { same = ranged.same; nexts = ranged.nexts; channel = ranged.channel; hand = ranged.hand; queue = ranged.queue })
   by_receive old frame (Ok verdict) out new (inr (a, there, inr (is_verdict, is_out, is))) ranged =
-      subst (IsRanged edition) (sym is) (record { same = ranged.same; nexts = ranged.nexts; hand = ranged.hand; queue = ranged.queue })
+      subst (IsRanged edition) (sym is) (record { same = ranged.same; nexts = ranged.nexts; channel = ranged.channel; hand = ranged.hand; queue = ranged.queue })
   by_receive old frame (Err stopped) out new h ranged = absurd h
 
   by_call : (old : State) (call : Call) (reply : Reply) (new : State) → IsInRange call → RunningStep old call reply new
@@ -295,6 +352,11 @@ rises_range block (Some n) new m up before is =
 resumes_range : (edition : Edition) (old new : State) → Resumes old new → IsRanged edition old → IsRanged new.edition new
 resumes_range edition old new up ranged = record {
   same = refl;
+  channel = (
+    λ an sa there. ranged.channel.0 an sa (ap (λ (c : Config). c.tx an) (sym up.config) ∙ there),
+    λ station. subst (λ (i : Identity). is_port_one i.sci ≡ true) (sym up.identity)
+        (ranged.channel.1 (ap (λ (c : Config). c.mode) (sym up.config) ∙ station)),
+  );
   nexts = λ an m is. rises_range old.identity.tx_block (old.next an) (new.next an) m (up.next an) (λ n is. ranged.nexts an n is) is;
   hand = λ c is. absurd (none_some new.in_hand c up.idle is);
   queue = subst AreCommands (sym up.waiting) tt;
@@ -305,10 +367,14 @@ restart_range edition old new (inl up) ranged = resumes_range edition old new up
 restart_range edition old new (inr (c, mid, hand, makes, up)) ranged =
     resumes_range edition mid new up (makes_range edition old c mid (ranged.hand c hand) makes ranged)
 
+not_station : Explicit ≡ EndStation → ⊥
+not_station is = cc
+
 formatted_range : (edition : Edition) (identity : Identity) → IsRanged edition (formatted_state edition identity)
 formatted_range edition identity = record {
   same = refl;
   nexts = λ an m is. absurd (none_some None m refl is);
+  channel = (λ an sa is. absurd (none_some None sa refl is), λ is. absurd (not_station is));
   hand = λ c is. absurd (none_some None c refl is);
   queue = tt;
 }
@@ -366,7 +432,15 @@ module _ (sectors : ℕ) where
   by_frame edition s plain pn out new (inl (stopped, answer, is)) ranged = absurd answer
   by_frame edition s plain pn out new (inr (running, h)) ranged = (goes_out edition s plain pn out new h ranged).0
 
+  moment_range : (s : State) (m : Moment sectors s) → IsRanged m.edition s
+  moment_range s m = life_range m.past m.edition m.image m.exchanges s m.life (lives_range (Blank []) m.lives m.past m.history tt)
+
+  -- a next packet number is 1 to 2^32
+  pub next-range : (s : State) → Moment sectors s → (an m : ℕ) → s.next an ≡ Some m → (1 ≤ m) × (m ≤ 2 ^ 32)
+  next-range s m an n is = (moment_range s m).nexts an n is
+
   pub frames-are-standard : FramesAreStandard sectors
-  frames-are-standard s m plain pn out new step =
-      by_frame m.edition s plain pn out new step
-      (life_range m.past m.edition m.image m.exchanges s m.life (lives_range (Blank []) m.lives m.past m.history tt))
+  frames-are-standard s m plain pn out new step = by_frame m.edition s plain pn out new step (moment_range s m)
+
+  pub of-its-edition : OfItsEdition sectors
+  of-its-edition s m = (moment_range s m).same

@@ -1,5 +1,5 @@
--- An opening is refused only where a device call failed, or where no life formatted the disk for sure.
-use Rattle.std.proofs.Common.{◌≡◌, ◌⊎◌, inl, inr, ℕ, Bool, true, false, List, [], ◌∷◌, refl, sym, ◌∙◌, subst}
+-- An opening is refused only where a device call failed, where no life formatted the disk for sure, or for a last generation in an older format.
+use Rattle.std.proofs.Common.{◌≡◌, ◌≢◌, ◌⊎◌, inl, inr, ℕ, Bool, true, false, List, [], ◌∷◌, refl, sym, ◌∙◌, subst}
 use Rattle.std.specs.Prelude.{Contains}
 use Rattle.macs_config.specs.Config.{Edition, this_edition}
 use Rattle.macs_config.specs.Identity.{Identity}
@@ -8,6 +8,7 @@ use Rattle.macs_disk.specs.States.{Image, IsSound}
 use Rattle.macs_journal.specs.Work.{FailsWith}
 use Rattle.macs_journal.specs.declared.fault.JournalFault.{JournalFault}
 use Rattle.macs_journal.specs.declared.fault.JournalFault.TheVariants as variant
+use Rattle.macs_store.specs.Opening.{IsUnfit, RefusesDisk}
 use Rattle.macs_endpoint.specs.Opening.{RefusesOpening}
 use Rattle.macs_endpoint.specs.Restart.{Fits}
 use Rattle.macs_endpoint.specs.State.{State}
@@ -17,6 +18,7 @@ use Rattle.macs_headline.proofs.Chains.{history-covers}
 use Rattle.macs_headline.proofs.Lists.{contains-cases, contains-none}
 use Rattle.macs_headline.proofs.Living.{why-refused}
 use Rattle.macs_headline.proofs.Losses.{IsCovered, covered-seen}
+use Rattle.macs_headline.specs.Openings.{IsSpentFor}
 use Rattle.macs_headline.proofs.Openings.{refused-for-disk-or-blank}
 
 -- a life after which the disk is formatted for sure: a `format` that answered Ok, or an opening that was not refused
@@ -66,10 +68,19 @@ module _ (sectors : ℕ) where
 fits_one : (sectors : ℕ) (s : State) (image : Image) → FitsPast this_edition sectors (Formatted s) image → (s : State) × Fits this_edition sectors image s
 fits_one sectors s image fits = (s, fits)
 
+not_disk : (fault : JournalFault) → fault ≡ variant.GenerationsSpent → fault ≢ variant.Disk
+not_disk fault spent failed = let never : variant.GenerationsSpent ≡ variant.Disk = sym spent ∙ failed in cc
+
+-- what is said of a disk whose generation is spent
+pub spent-for : {D : Type 0} (disk_of : D → Disk) (disk left : D) (fault : JournalFault) → IsHonest (disk_of left) → RefusesDisk disk_of disk left fault
+    → fault ≡ variant.GenerationsSpent → IsSpentFor this_edition (now (disk_of disk)).seen fault
+spent-for disk_of disk left fault honest refused spent =
+    (spent, (subst (λ (f : JournalFault). IsUnfit disk_of disk f) spent (refused.found (not_disk fault spent) honest)).1)
+
 -- a refused opening after some past
 by_past : {D : Type 0} (disk_of : D → Disk) (sound : (it : D) → IsHonest (disk_of it) → IsSound (now (disk_of it))) (disk left : D) (fault : JournalFault) (past : Past)
     → IsCovered (disk_of disk).sectors past (disk_of disk) → RefusesOpening disk_of disk left fault
-    → (fault ≡ variant.Disk) ⊎ ((fault ≡ variant.NotFormatted) × (¬ IsFormatted past))
+    → (fault ≡ variant.Disk) ⊎ (((fault ≡ variant.NotFormatted) × (¬ IsFormatted past)) ⊎ IsSpentFor this_edition (now (disk_of disk)).seen fault)
 by_past disk_of sound disk left fault (Blank identities) covered opening =
     let old = disk_of disk in
     let honest : IsHonest (disk_of left) = opening.refused.works.honest ∙ covered.honest in
@@ -77,11 +88,17 @@ by_past disk_of sound disk left fault (Blank identities) covered opening =
     let why = why-refused old.sectors (now old).seen fault (λ other. opening.refused.found other honest) in
     elim (refused-for-disk-or-blank old.sectors identities this_edition (now old).seen fault (Blank identities) (may_see, why, refl)) [
       | inl disk ↦ inl disk
-      | inr blank ↦ inr (blank, λ is. is)
+      | inr later ↦ elim later [
+        | inl blank ↦ inr (inl (blank, λ is. is))
+        | inr spent ↦ inr (inr spent)
+      ]
     ]
 by_past disk_of sound disk left fault (Formatted s) covered opening =
     let honest : IsHonest (disk_of left) = opening.refused.works.honest ∙ covered.honest in
-    inl (opening.opens honest (λ image may. fits_one (disk_of disk).sectors s image (covered.images image may)))
+    elim (opening.opens honest (λ image may. fits_one (disk_of disk).sectors s image (covered.images image may))) [
+      | inl failed ↦ inl failed
+      | inr spent ↦ inr (inr (spent-for disk_of disk left fault honest opening.refused spent))
+    ]
 
 pub refusals-are-failures : {D : Type 0} (disk_of : D → Disk) (sound : (it : D) → IsHonest (disk_of it) → IsSound (now (disk_of it))) → RefusalsAreFailures disk_of
 refusals-are-failures disk_of sound disk before refused h opening =
@@ -89,12 +106,15 @@ refusals-are-failures disk_of sound disk before refused h opening =
     let new = disk_of refused.disk in
     elim (by_past disk_of sound disk refused.disk refused.fault h.past (history-covers old before h) opening) [
       | inl for_disk ↦ inl (for_disk, subst (λ (at : JournalFault). FailsWith old new at) for_disk opening.refused.fails)
-      | inr blank ↦
-          let never : (life : Life) → Contains before life → ¬ IsFormatting life =
-          (λ life among is. blank.1 (formatted-by old.sectors (Blank []) before h.past life h.history among is)) in
-          inr (
-            blank.0,
-            λ edition identity among. never (Formats edition identity true) among tt,
-            λ edition image exchanges cut among. never (Serves edition image exchanges cut) among tt,
-          )
+      | inr later ↦ elim later [
+        | inl blank ↦
+            let never : (life : Life) → Contains before life → ¬ IsFormatting life =
+            (λ life among is. blank.1 (formatted-by old.sectors (Blank []) before h.past life h.history among is)) in
+            inr (inl (
+              blank.0,
+              λ edition identity among. never (Formats edition identity true) among tt,
+              λ edition image exchanges cut among. never (Serves edition image exchanges cut) among tt,
+            ))
+        | inr spent ↦ inr (inr spent)
+      ]
     ]

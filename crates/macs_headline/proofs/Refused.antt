@@ -1,5 +1,5 @@
 -- Calls are refused for the first reason that holds.
-use Rattle.std.proofs.Common.{◌≡◌, inl, inr, ℕ, List, ◌∷◌, Option, Some, None, Result, Ok, Err, ap}
+use Rattle.std.proofs.Common.{◌≡◌, inl, inr, ℕ, List, ◌∷◌, Option, Some, None, Result, Ok, Err, refl, ap}
 use Rattle.macs_config.specs.Apply.{answer_or_refusal, apply, config_after, refusal_of}
 use Rattle.macs_config.specs.Config.{Config}
 use Rattle.macs_config.specs.declared.command.Command.{Command}
@@ -19,12 +19,12 @@ use Rattle.macs_endpoint.specs.declared.progress.Step.TheVariants.{Done, Idle, R
 use Rattle.macs_endpoint.specs.declared.queue.Waiting.{Waiting}
 use Rattle.macs_endpoint.specs.State.{Advanced, Advances, Call, Commands, Protects, Protected, Ran, Receives, Refilled, Refills, Reply, State, Submits, Submitted}
 use Rattle.macs_endpoint.specs.Step.{AdvanceStep, CommandStep, Ends, IsStopped, Makes, ProtectStep, RefillStep, RunningStep, Step, SubmitStep, TakesUp, state_without_first}
-use Rattle.macs_headline.specs.Refused.{IsExact, RefusalsAreExact, TakesFirst, refusal_at}
+use Rattle.macs_headline.specs.Refused.{IsExact, LimitsAre, RefusalsAreExact, TakesFirst, refusal_at}
 use Rattle.macs_headline.proofs.Accepted.{accepted, no-refusal}
 
 -- ---- reasons
 
-refused_by : (why : Option Refusal) (config : Config) (refusal : Refusal) → answer_or_refusal why config ≡ Err refusal → why ≡ Some refusal
+pub refused_by : (why : Option Refusal) (config : Config) (refusal : Refusal) → answer_or_refusal why config ≡ Err refusal → why ≡ Some refusal
 refused_by None config refusal is = absurd (cc)
 refused_by (Some first) config refusal is = let one : first ≡ refusal = cc in ap (λ (r : Refusal). Some r) one
 
@@ -118,3 +118,8 @@ by_step old call reply new (inr (running, h)) = by_call old call reply new h
 
 pub refusals-are-exact : (sectors : ℕ) → RefusalsAreExact sectors
 refusals-are-exact sectors s m call reply new step = by_step s call reply new step
+
+-- ---- limits
+
+pub limits-are : LimitsAre
+limits-are = record { queue = refl; tickets = refl; spent = refl; generations = refl }

@@ -5,11 +5,13 @@ use Rattle.macs_config.specs.Identity.{Identity}
 use Rattle.macs_disk.specs.Disk.{Disk, FailsOnce, IsHonest, Works, now}
 use Rattle.macs_disk.specs.States.{Image, IsSound}
 use Rattle.macs_journal.specs.Formatting.{HasOpenHead}
-use Rattle.macs_journal.specs.Found.{IsNotFormatted}
+use Rattle.macs_record.specs.declared.format.Format.TheVariants.{Two}
+use Rattle.macs_journal.specs.Found.{HasFormat, IsNotFormatted}
 use Rattle.macs_journal.specs.Work.{FailsWith}
 use Rattle.macs_journal.specs.declared.fault.JournalFault.{JournalFault}
 use Rattle.macs_journal.specs.declared.fault.JournalFault.TheVariants as variant
 use Rattle.macs_journal.specs.declared.recovery.RecoverRefused.{RecoverRefused}
+use Rattle.macs_store.proofs.Migrating.{not-old}
 use Rattle.macs_endpoint.specs.Formatting.{IsFormat}
 use Rattle.macs_endpoint.specs.Opening.{IsOpening}
 use Rattle.macs_headline.specs.Binding.{IsNewDisk}
@@ -18,6 +20,7 @@ use Rattle.macs_headline.specs.Deeds.{Chain, Formatting, Refusing}
 use Rattle.macs_headline.specs.History.{formatted_state}
 use Rattle.macs_headline.proofs.Chains.{new-deeds-are-histories}
 use Rattle.macs_headline.proofs.Formats.{new-fits}
+use Rattle.macs_headline.proofs.Refusals.{spent-for}
 
 -- no head gate of a disk without a journal reads open
 none_open : (image : Image) → IsNotFormatted image → HasOpenHead image → ⊥
@@ -58,13 +61,23 @@ module _ {D : Type 0} (disk_of : D → Disk) (sound : (it : D) → IsHonest (dis
       let closed = is_new.closed (now (disk_of old)).seen (sound old is_new.honest).fit in
       absurd (none_open (now (disk_of old)).seen closed (format.device.taken taken honest).0)
 
+  -- a journal of format two does not begin anew
+  none_spent : IsHonest (disk_of mid) → HasFormat (now (disk_of mid)).seen Two → fault ≡ variant.GenerationsSpent → ⊥
+  none_spent honest two spent =
+      let last = (spent-for disk_of mid left fault (opening.refused.works.honest ∙ honest) opening.refused spent).1 in
+      not-old (now (disk_of mid)).seen last.content last.standing two last.is
+
   -- whatever `format` answered
   pub day-failed : (result : Result (Unit {0}) JournalFault) → IsFormat disk_of old identity result mid → HasFailed (disk_of old) (disk_of left)
   day-failed (Ok done) format =
       let works = format.device.work.works in
       let honest : IsHonest (disk_of mid) = works.honest ∙ is_new.honest in
-      let for_disk : fault ≡ variant.Disk = opening.opens (opening.refused.works.honest ∙ honest)
-      (λ image may. (formatted_state this_edition identity, new-fits (disk_of mid).sectors image identity (format.kept honest image may))) in
+      let fit = (sound mid honest).fit in
+      let for_disk : fault ≡ variant.Disk = elim (opening.opens (opening.refused.works.honest ∙ honest)
+      (λ image may. (formatted_state this_edition identity, new-fits (disk_of mid).sectors image identity (format.kept honest image may).stands))) [
+        | inl disk ↦ disk
+        | inr spent ↦ absurd (none_spent honest (format.kept honest (now (disk_of mid)).seen fit).format spent)
+      ] in
       then_failed (disk_of old) (disk_of mid) (disk_of left) works
       (subst (λ (at : JournalFault). FailsWith (disk_of mid) (disk_of left) at) for_disk opening.refused.fails)
   day-failed (Err at) format = failed_format at format format.device.names

@@ -1,5 +1,5 @@
--- One state comes after a call with its answer; and steps of a program of any edition.
-use Rattle.std.proofs.Common.{◌≡◌, inl, inr, ℕ, List, ◌∷◌, Result, Ok, Err, is_ok, refl, sym, ◌∙◌, ap, subst}
+-- One state comes after a call with its answer.
+use Rattle.std.proofs.Common.{◌≡◌, inl, inr, ℕ, List, ◌∷◌, Result, Ok, Err, refl, sym, ◌∙◌, ap, subst}
 use Rattle.std.proofs.lemmas.Bool.{false≢true}
 use Rattle.macs_config.specs.Config.{Config}
 use Rattle.macs_config.specs.declared.command.Command.{Command}
@@ -25,8 +25,8 @@ use Rattle.macs_endpoint.specs.declared.progress.Step.{Step as Progress}
 use Rattle.macs_endpoint.specs.declared.progress.Step.TheVariants.{Done, Idle, Reserved, Worked}
 use Rattle.macs_endpoint.specs.declared.queue.Waiting.{Waiting}
 use Rattle.macs_endpoint.specs.State.{Advanced, Advances, Call, Commands, Protects, Protected, Ran, Received, Receives, Refilled, Refills, Reply, State, Submits, Submitted, rx_side, state_after_fault, state_with_in_hand}
-use Rattle.macs_endpoint.specs.Step.{AdvanceStep, CommandStep, Ends, Makes, ProtectStep, ReceiveStep, RefillStep, RunningStep, SubmitStep, TakesUp, state_after_command, state_after_delivery, state_after_frame, state_after_hold, state_without_first}
-use Rattle.macs_headline.specs.Steps.{AreOne, StepsAreOne, StepsAreTaken, state_but_hand}
+use Rattle.macs_endpoint.specs.Step.{AdvanceStep, CommandStep, Ends, IsStopped, Makes, ProtectStep, ReceiveStep, RefillStep, RunningStep, SubmitStep, TakesUp, state_after_command, state_after_delivery, state_after_frame, state_after_hold, state_without_first}
+use Rattle.macs_headline.specs.Steps.{AreOne, IsReplyOf, RepliesAreOfCalls, StepsAreOne, state_but_hand}
 
 -- two that are one
 one_state : (reply : Reply) (a b : State) → a ≡ b → AreOne reply a b
@@ -154,16 +154,26 @@ steps-are-one old a b call reply (inl (stopped, answer, is)) (inr (running, runs
 steps-are-one old a b call reply (inr (running, runs)) (inl (stopped, answer, is)) = absurd (false≢true (sym running ∙ stopped))
 steps-are-one old a b call reply (inr (running, one)) (inr (runs, other)) = by_call old call reply a b one other
 
--- ---- the steps that there are
+-- ---- replies
 
-pub steps-are-taken : StepsAreTaken
-steps-are-taken = record {
-  obeyed = λ s command config running none ok. inr (running, (none, (config, ok, refl)));
-  refused = λ s command refusal running none why. inr (running, (none, why, refl));
-  submitted = λ s command running few left. inr (running, (few, left, refl, refl));
-  taken = λ s w rest config running waiting idle ok. inr (running, inr (w, rest, waiting, idle, ap is_ok ok, refl));
-  done = λ s w rest config running waiting ok. inr (running, (w, rest, waiting, refl, (config, ok, refl)));
-  refilled = λ s running none. inr (running, (none, refl));
-  sent = λ s plain o running none is. inr (running, (none, (o, is, refl, refl, refl)));
-  delivered = λ s frame a running there. inr (running, inr (a, there, inr (refl, refl, refl)));
-}
+by_running : (old : State) (call : Call) (reply : Reply) (new : State) → RunningStep old call reply new → IsReplyOf call reply
+by_running old (Commands c) (Ran result) new h = tt
+by_running old Refills (Refilled result) new h = tt
+by_running old (Submits c) (Submitted result) new h = tt
+by_running old Advances (Advanced result) new h = tt
+by_running old (Protects plain) (Protected result out) new h = tt
+by_running old (Receives frame) (Received result out) new h = tt
+by_running old call reply new h = absurd h
+
+by_stopped : (call : Call) (reply : Reply) → IsStopped call reply → IsReplyOf call reply
+by_stopped (Commands c) (Ran result) h = tt
+by_stopped Refills (Refilled result) h = tt
+by_stopped (Submits c) (Submitted result) h = tt
+by_stopped Advances (Advanced result) h = tt
+by_stopped (Protects plain) (Protected result out) h = tt
+by_stopped (Receives frame) (Received result out) h = tt
+by_stopped call reply h = absurd h
+
+pub replies-are-of-calls : RepliesAreOfCalls
+replies-are-of-calls old new call reply (inl (stopped, answer, is)) = by_stopped call reply answer
+replies-are-of-calls old new call reply (inr (running, h)) = by_running old call reply new h

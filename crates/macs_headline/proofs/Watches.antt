@@ -1,12 +1,13 @@
 -- A watch: no frame is delivered twice, though power was lost in between.
-use Rattle.std.proofs.Common.{◌≡◌, ◌≢◌, ◌≤◌, ◌<◌, ◌⊎◌, arith, inl, inr, ℕ, Bool, true, false, cond, List, [], ◌∷◌, ◌++◌, None, Result, Ok, Err, is_ok, refl, sym, ◌∙◌, ap, subst, map}
-use Rattle.std.specs.Prelude.{Contains, Option, Some, nat_lt}
+use Rattle.std.proofs.Common.{◌≡◌, ◌≢◌, ◌≤◌, ◌⊎◌, arith, inl, inr, ℕ, true, List, [], ◌∷◌, ◌++◌, None, Result, Ok, Err, is_ok, refl, sym, ◌∙◌, ap, subst, map}
+use Rattle.std.specs.Prelude.{Contains, Option, Some}
 use Rattle.std.specs.List.{AllByRecursion}
-use Rattle.std.proofs.lemmas.Bool.Decides.{nat_tests}
 use Rattle.macs_fields.specs.Fields.{octets_of}
 use Rattle.macs_frame.specs.Opening.{Verified}
 use Rattle.macs_frame.specs.Tag.{tag_of}
 use Rattle.macs_fields.specs.declared.fields.Offset.TheVariants.{Zero}
+use Rattle.macs_aes.specs.Keys.{octets_of_key}
+use Rattle.macs_aes.specs.declared.keys.Key.{Key}
 use Rattle.macs_config.specs.Apply.{config_after}
 use Rattle.macs_config.specs.Config.{Config, Edition, default, this_edition}
 use Rattle.macs_config.specs.Identity.{Identity}
@@ -18,9 +19,8 @@ use Rattle.macs_disk.specs.Disk.{Disk, IsHonest, now}
 use Rattle.macs_disk.specs.States.{Image, IsSound}
 use Rattle.macs_journal.specs.declared.fault.JournalFault.{JournalFault}
 use Rattle.macs_journal.specs.declared.recovery.RecoverRefused.{RecoverRefused}
-use Rattle.macs_rxsc.specs.Receive.{Numbers, delivery_kind}
 use Rattle.macs_rxsc.specs.declared.verdict.Kind.{Kind}
-use Rattle.macs_rxsc.specs.declared.verdict.Kind.TheVariants.{Delayed, Ok as AsOk}
+use Rattle.macs_rxsc.specs.declared.verdict.Kind.TheVariants.{Ok as AsOk}
 use Rattle.macs_rxsc.specs.declared.verdict.Verdict.{Verdict}
 use Rattle.macs_rxsc.specs.declared.verdict.Verdict.TheVariants.{Delivered, Discarded, HeldBack}
 use Rattle.macs_endpoint.specs.Calls.{IsCall}
@@ -34,7 +34,7 @@ use Rattle.macs_endpoint.specs.declared.fault.Stopped.{Stopped}
 use Rattle.macs_headline.specs.Answered.{WasAnswered, exchanges_of_lives, lives_at}
 use Rattle.macs_headline.specs.Binding.{HasHistory, IsDeliveredOnce, IsNewDisk}
 use Rattle.macs_headline.specs.Deeds.{Formatting, Link, Living, LivesFrom, PassingOn}
-use Rattle.macs_headline.specs.Deliveries.{IsVerifiedAnswer, IsVerifiedDelivery, IsVerifiedKind, delivering}
+use Rattle.macs_headline.specs.Deliveries.{IsInTime, IsVerifiedAnswer, IsVerifiedDelivery, IsVerifiedKind, delivering}
 use Rattle.macs_headline.specs.Endings.{LosesPower}
 use Rattle.macs_headline.specs.History.{Formats, Life, Serves}
 use Rattle.macs_headline.specs.Moments.{Moment}
@@ -43,6 +43,7 @@ use Rattle.macs_headline.specs.declared.watch.Evening.{Evening}
 use Rattle.macs_headline.specs.declared.watch.Morning.{Morning}
 use Rattle.macs_headline.proofs.Chains.{deeds-are-histories, new-deeds-are-histories}
 use Rattle.macs_headline.proofs.Endings.{power-losses-pass-on}
+use Rattle.macs_headline.proofs.InFormatTwo.{never-spent}
 use Rattle.macs_headline.proofs.Ledger.{some_one}
 use Rattle.macs_headline.proofs.Lists.{all-on, contains-first, contains-later}
 use Rattle.macs_headline.proofs.Moments.{frames-are-delivered-once}
@@ -61,12 +62,9 @@ verified_as (Ok HeldBack) is = absurd is
 verified_as (Err stopped) is = absurd is
 
 -- a number that is not below the lowest one is delivered as Ok
-kind_by : (late : Bool) (pn lowest : ℕ) → nat_lt pn lowest ≡ late → lowest ≤ pn → cond late Delayed AsOk ≡ AsOk
-kind_by true pn lowest is over = let below : pn < lowest = grind (is, arith, nat_tests) in absurd (omega (arith, below, over))
-kind_by false pn lowest is over = refl
-
-in_time : (n : Numbers) (pn : ℕ) → n.lowest ≤ pn → delivery_kind n pn ≡ AsOk
-in_time n pn over = kind_by (nat_lt pn n.lowest) pn n.lowest refl over
+in_time : (lowest pn : ℕ) (kind : Kind) → IsInTime lowest pn kind → lowest ≤ pn → kind ≡ AsOk
+in_time lowest pn kind (inl (below, late)) over = absurd (omega (arith, below, over))
+in_time lowest pn kind (inr (above, is)) over = is
 
 verified_of : (frame out : List ℕ) (a b : RxSa) (at sci : List ℕ) → a ≡ b → at ≡ sci → Verified frame a.key at (octets_of a.offset) out
     → Verified frame b.key sci (octets_of b.offset) out
@@ -83,9 +81,9 @@ fifth a b c d x e rest is = contains-later a (b ∷ c ∷ d ∷ x ∷ rest) e (c
 
 -- ---- histories in which one receive association is installed at most
 
-module _ (identity : Identity) (sci : List ℕ) (an : ℕ) (key : List ℕ) where
+module _ (identity : Identity) (sci : List ℕ) (an : ℕ) (key : Key) where
   abbrev our_association : RxSa
-  our_association = record { key = key; offset = Zero }
+  our_association = record { key = octets_of_key key; offset = Zero }
 
   -- to add the channel, or to install the association
   abbrev IsOurCommand : Command → Type 0
@@ -128,11 +126,11 @@ module _ (identity : Identity) (sci : List ℕ) (an : ℕ) (key : List ℕ) wher
 
   -- a frame that is delivered in such a state
   watched : (s : State) (frame out : List ℕ) (kind : Kind) (new : State) (answer : Result Verdict Stopped) → answer ≡ Ok (Delivered kind) → IsOurs s
-      → IsVerifiedDelivery s frame kind out new → IsWatchFrame sci an key frame answer out
+      → IsVerifiedDelivery s frame kind out new → IsWatchFrame sci an (octets_of_key key) frame answer out
   watched s frame out kind new answer is ours d =
       let its = ours.config_is.ours d.sci (tag_of frame).an d.sa d.association in
       let on : s.config.replay.on ≡ true = ap (λ (r : Replay). r.on) ours.config_is.replay in
-      let as_ok : kind ≡ AsOk = d.in_time ∙ in_time d.numbers (tag_of frame).pn (d.guarded on) in
+      let as_ok : kind ≡ AsOk = in_time d.numbers.lowest (tag_of frame).pn kind d.in_time (d.guarded on) in
       record {
         as_ok = subst (λ (k : Kind). answer ≡ Ok (Delivered k)) as_ok is;
         number = its.1;
@@ -152,7 +150,7 @@ module _ (identity : Identity) (sci : List ℕ) (an : ℕ) (key : List ℕ) wher
     now_ours : IsOurs (state_of last w.at.logs)
     now_ours = our-moment sectors (state_of last w.at.logs) w.at.moment lives_ours calls_ours
 
-    delivered-frame : (answer : Result Verdict Stopped) → answer ≡ Ok (Delivered kind) → IsWatchFrame sci an key frame answer out
+    delivered-frame : (answer : Result Verdict Stopped) → answer ≡ Ok (Delivered kind) → IsWatchFrame sci an (octets_of_key key) frame answer out
     delivered-frame answer is = watched (state_of last w.at.logs) frame out kind (state_of after w.later) answer is now_ours w.delivery
 
     -- its number is another than that of each frame that was delivered before
@@ -181,7 +179,7 @@ module _ (identity : Identity) (sci : List ℕ) (an : ℕ) (key : List ℕ) wher
 -- ---- the watch
 
 module _ {D : Type 0} (disk_of : D → Disk) (sound : (it : D) → IsHonest (disk_of it) → IsSound (now (disk_of it))) (identity : Identity) (sci : List ℕ) (an : ℕ)
-    (key : List ℕ) (old mid : D) (is_new : IsNewDisk (disk_of old)) (formatted : Result (Unit {0}) JournalFault)
+    (key : Key) (old mid : D) (is_new : IsNewDisk (disk_of old)) (formatted : Result (Unit {0}) JournalFault)
     (format : IsFormat disk_of old identity formatted mid) (start : EndpointValue D) (opening : IsOpening disk_of mid (Ok start)) (frame out : List ℕ)
     (evening : Evening) (left : D) (e : IsEvening disk_of start sci an key frame out evening left) where
   abbrev before : List Life
@@ -235,7 +233,7 @@ module _ {D : Type 0} (disk_of : D → Disk) (sound : (it : D) → IsHonest (dis
   receives = record { call = Receives frame; reply = Received evening.received out }
 
   -- what the frame of the evening gives
-  pub evening-frame : IsVerifiedAnswer evening.received → IsWatchFrame sci an key frame evening.received out
+  pub evening-frame : IsVerifiedAnswer evening.received → IsWatchFrame sci an (octets_of_key key) frame evening.received out
   evening-frame is =
       let v = verified_as evening.received is in
       delivered-frame identity sci an key (disk_of mid).sectors before (now (disk_of mid)).seen refilled start e.four e.last frame v.0 out
@@ -291,8 +289,12 @@ module _ {D : Type 0} (disk_of : D → Disk) (sound : (it : D) → IsHonest (dis
       );
       for_disk = elim (refusals-are-failures disk_of sound lost both refused has_both opening_again) [
         | inl disk ↦ disk.0
-        | inr blank ↦ absurd (blank.2 this_edition (now (disk_of mid)).seen (map exchange_of all) None
-            (contains-later (Formats this_edition identity (is_ok formatted)) (evening_life ∷ []) evening_life (contains-first evening_life [])))
+        | inr later ↦ elim later [
+          | inl blank ↦ absurd (blank.2 this_edition (now (disk_of mid)).seen (map exchange_of all) None
+              (contains-later (Formats this_edition identity (is_ok formatted)) (evening_life ∷ []) evening_life (contains-first evening_life [])))
+          | inr spent ↦ absurd (never-spent disk_of sound mid before has_before start all e.last (opening, e.lives) left lost e.given loses
+              refused.fault spent)
+        ]
       ];
     }
 
@@ -316,7 +318,7 @@ module _ {D : Type 0} (disk_of : D → Disk) (sound : (it : D) → IsHonest (dis
       again_ours = (tt, tt)
 
       -- what the frame of the morning gives
-      pub morning-frame : IsVerifiedAnswer morning.received → IsWatchFrame sci an key next morning.received second
+      pub morning-frame : IsVerifiedAnswer morning.received → IsWatchFrame sci an (octets_of_key key) next morning.received second
       morning-frame is =
           let v = verified_as morning.received is in
           delivered-frame identity sci an key (disk_of lost).sectors both (now (disk_of lost)).seen again_refilled again m.one m.last next v.0 second

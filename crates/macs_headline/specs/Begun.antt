@@ -2,13 +2,14 @@
 use Rattle.std.specs.Prelude.{◌≡◌, ◌⊎◌, ℕ, false, List, [], Option, Some, None}
 use Rattle.macs_config.specs.declared.command.Command.{Command}
 use Rattle.macs_endpoint.specs.Queue.{first_command}
-use Rattle.macs_endpoint.specs.State.{Advances, Call, Commands, State}
+use Rattle.macs_endpoint.specs.State.{Advances, Call, Commands, State, state_with_in_hand}
 use Rattle.macs_endpoint.specs.Step.{Exchange}
 use Rattle.macs_endpoint.specs.declared.queue.Waiting.{Waiting}
 use Rattle.macs_headline.specs.Commands.{waiting_at_end}
 use Rattle.macs_headline.specs.History.{state_at_end}
 use Rattle.macs_headline.specs.Moments.{Moment}
 use Rattle.macs_headline.specs.Refused.{refusal_at}
+use Rattle.macs_headline.specs.Steps.{state_but_hand}
 
 -- Work on the command may begin in this call, where these wait: in a step, on the first of them; and in `command`, on the one that it is given, where none
 -- waits. In no other call.
@@ -27,3 +28,14 @@ pub record WasBegun (exchanges : List Exchange) (last : State) (cut : Option Cal
 abbrev pub InHandWasBegun : ℕ → Type 0
 InHandWasBegun sectors = (last : State) (m : Moment sectors last) (cut : Option Call) (command : Command)
     → (state_at_end last cut).in_hand ≡ Some command → WasBegun m.exchanges last cut command
+
+-- whichever call is cut short, or none, the state in which a life ends is that after the last answer, but for what is in hand
+abbrev pub CutsChangeNone : Type 0
+CutsChangeNone = (s : State) (cut : Option Call) → state_but_hand (state_at_end s cut) ≡ state_but_hand s
+
+-- Where no reason holds to refuse the command, the state in which a call is cut that may begin it has it in hand: `command`, of an endpoint that runs, while none
+-- waits; and a step, while nothing is in hand, where it is the first that waits.
+abbrev pub CutsBegin : Type 0
+CutsBegin = (s : State) (command : Command) → s.stopped ≡ false → refusal_at s command ≡ None
+    → (s.waiting ≡ [] → state_at_end s (Some (Commands command)) ≡ state_with_in_hand s command)
+    × (s.in_hand ≡ None → first_command s.waiting ≡ Some command → state_at_end s (Some Advances) ≡ state_with_in_hand s command)

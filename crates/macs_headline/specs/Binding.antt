@@ -1,5 +1,5 @@
 -- What binds the program to the headline: whatever is done with a disk that has a history is one, and a disk that is new has the empty one.
-use Rattle.std.specs.Prelude.{◌≡◌, ◌⊎◌, ◌↔◌, ◌≤◌, true, false, ◌++◌, ℕ, List, [], ◌∷◌, map, Contains, Option, Some, None, Result, Ok, Err}
+use Rattle.std.specs.Prelude.{◌≡◌, ◌⊎◌, ◌↔◌, ◌≤◌, ◌-◌, ◌^◌, true, false, is_ok, ◌++◌, ℕ, List, [], ◌∷◌, map, Contains, Option, Some, None, Result, Ok, Err}
 use Rattle.macs_frame.specs.Tag.{tag_of}
 use Rattle.macs_config.specs.Config.{Edition, IsUpTo, this_edition}
 use Rattle.macs_config.specs.Identity.{Identity}
@@ -13,11 +13,12 @@ use Rattle.macs_journal.specs.declared.fault.JournalFault.TheVariants.{Disk as D
 use Rattle.macs_journal.specs.declared.recovery.RecoverRefused.{RecoverRefused}
 use Rattle.macs_store.specs.Found.{StandingIs}
 use Rattle.macs_store.specs.Standing.{Standing}
-use Rattle.macs_store.specs.Value.{standing_in}
+use Rattle.macs_store.specs.Value.{IsIdle, generation, standing_in, used_slots}
 use Rattle.macs_endpoint.specs.Advancing.{Piece, ToKeep, ToRaise, next_piece}
 use Rattle.macs_endpoint.specs.Calls.{IsCall}
 use Rattle.macs_endpoint.specs.Formatting.{IsFormat}
 use Rattle.macs_endpoint.specs.Lives.{Transition, exchange_of}
+use Rattle.macs_endpoint.specs.Needed.{raise_in}
 use Rattle.macs_endpoint.specs.Opening.{IsOpening}
 use Rattle.macs_endpoint.specs.Step.{Exchange}
 use Rattle.macs_rxsc.specs.declared.verdict.Kind.{Kind}
@@ -25,8 +26,12 @@ use Rattle.macs_rxsc.specs.declared.verdict.Kind.TheVariants.{Ok as AsOk}
 use Rattle.macs_rxsc.specs.declared.verdict.Verdict.TheVariants.{Delivered}
 use Rattle.macs_endpoint.specs.Ceilings.{Raise}
 use Rattle.macs_endpoint.specs.Restart.{Fits}
-use Rattle.macs_endpoint.specs.State.{Advances, Call, Commands, Logs, Protects, Protected, Received, Receives, Reply, State, no_logs, state_with_in_hand}
+use Rattle.macs_endpoint.specs.State.{Advanced, Advances, Call, Commands, Logs, Protects, Protected, Ran, Received, Receives, Refilled, Reply, State, no_logs, state_with_in_hand}
 use Rattle.macs_endpoint.specs.Value.{EndpointValue, IsSoundEndpoint, device_in, disk_in, is_stopped, state_of}
+use Rattle.macs_endpoint.specs.declared.fault.CommandFault.TheVariants as ran
+use Rattle.macs_endpoint.specs.declared.fault.RefillFault.TheVariants as refill
+use Rattle.macs_endpoint.specs.declared.fault.StepFault.TheVariants as step
+use Rattle.macs_endpoint.specs.declared.progress.Step.TheVariants.{Done, Idle}
 use Rattle.macs_endpoint.specs.declared.queue.Waiting.{Waiting}
 use Rattle.macs_config.specs.declared.command.Command.{Command}
 use Rattle.macs_headline.specs.Commands.{FindsPrefix}
@@ -36,7 +41,8 @@ use Rattle.macs_headline.specs.Deeds.{Chain, Deed, Does, Formatting, FormattingC
 use Rattle.macs_headline.specs.Frames.{IsOtherFrame, IsStandardFrame, writing}
 use Rattle.macs_headline.specs.History.{FitsPast, Formats, IsHistory, Life, Past, Refuses, Serves, logs_of, state_at_end}
 use Rattle.macs_headline.specs.Moments.{IsFoundAfter, Moment}
-use Rattle.macs_headline.specs.Numbers.{HasNoneTwice}
+use Rattle.macs_headline.specs.Numbers.{HasNoneTwice, IsBeyondTx}
+use Rattle.macs_headline.specs.Openings.{IsSpentFor}
 use Rattle.macs_headline.specs.Refused.{refusal_at}
 use Rattle.macs_headline.specs.Stopping.{TellsFault}
 use Rattle.macs_headline.specs.Tickets.{AreTicketsKept}
@@ -123,6 +129,21 @@ pub record IsTold {D : Type 0} (lives : List Life) (deed : Deed D) : Type 0 wher
 -- so each deed of a chain is told
 abbrev pub ChainsTell : {D : Type 0} → (D → Disk) → Type 0
 ChainsTell {D} disk_of = (old : D) (links : List (Link D)) (link : Link D) → Contains links link → IsTold (lives_of_links disk_of old links) link.deed
+
+-- The life that a deed is: a `format` of that identity, answered or cut short, which is Ok where it was answered so; an opening that was refused for that
+-- fault; and what an endpoint did, with its answers and the call that is cut short. An opening that is cut short is no life, nor is a medium that is passed on.
+abbrev pub IsLifeOf : {D : Type 0} → Deed D → Life → Type 0
+IsLifeOf (Formatting identity result) life = life ≡ Formats this_edition identity (is_ok result)
+IsLifeOf (FormattingCut identity) life = life ≡ Formats this_edition identity false
+IsLifeOf (Refusing fault) life = (image : Image) × (life ≡ Refuses this_edition image fault)
+IsLifeOf OpeningCut life = ⊥
+IsLifeOf (Living first turns last cut) life = (image : Image) × (life ≡ Serves this_edition image (map exchange_of turns) cut)
+IsLifeOf PassingOn life = ⊥
+
+-- a chain tells of nothing else: each of its lives is what one of its deeds is
+abbrev pub LivesAreDeeds : {D : Type 0} → (D → Disk) → Type 0
+LivesAreDeeds {D} disk_of = (old : D) (links : List (Link D)) (life : Life) → Contains (lives_of_links disk_of old links) life
+    → (link : Link D) × Contains links link × IsLifeOf link.deed life
 
 -- An endpoint that opened this image is at a moment of a history: after these lives, and after these calls of its own.
 pub record IsAtMoment {D : Type 0} (sectors : ℕ) (lives : List Life) (image : Image) (turns : List (Transition D)) (first last : EndpointValue D) : Type 0 where
@@ -241,6 +262,17 @@ FramesAreWrittenOnce {D} disk_of = (disk : D) (before : List Life) (first last a
     → IsCall disk_of last (Protects plain) (Protected (Ok pn) out) after
     → IsWrittenOnce (disk_of disk).sectors before (now (disk_of disk)).seen turns first last after plain pn out
 
+-- A program ends inside a `protect` that would have written a frame. That frame is the standard's. What a program of this edition or a larger one finds
+-- later, in each image that the next disk may leave, is above its packet number: the key is spent, and each association that has it begins above.
+abbrev pub CutFramesAreBelow : {D : Type 0} → (D → Disk) → Type 0
+CutFramesAreBelow {D} disk_of = (disk new : D) (before : List Life) (first last after : EndpointValue D) (turns : List (Transition D))
+    (plain : List ℕ) (pn : ℕ) (out : List ℕ) → HasHistory this_edition (disk_of disk) before → LivesFrom disk_of disk first turns last
+    → IsCall disk_of last (Protects plain) (Protected (Ok pn) out) after
+    → IsPassedOn (disk_in disk_of after) (disk_in disk_of last).clock (disk_of new) → (later : Edition) → IsUpTo this_edition later
+    → (image : Image) (found : Standing) → MayLeave (disk_of new) image → StandingIs later (disk_of disk).sectors image (Ok found)
+    → (at : IsAtMoment (disk_of disk).sectors before (now (disk_of disk)).seen turns first last) × (logs : Logs)
+    × (frame : IsStandardFrame (state_of last at.logs) plain pn out (state_of after logs)) × IsBeyondTx found frame.sa.key pn
+
 -- A frame that `receive` delivered as Ok or Delayed at such a moment verifies under an association of that moment, and gives its plain frame and no
 -- other. Where replay protection is on with window 0, it is another than each that was delivered so in all lives: on an association of the same SCI
 -- and key it has another number. Whatever the window, it is another than each of a life before, where it is delivered as Ok.
@@ -264,9 +296,31 @@ FramesAreDeliveredOnce {D} disk_of = (disk : D) (before : List Life) (first last
     → IsCall disk_of last (Receives frame) (Received (Ok (Delivered kind)) out) after
     → IsDeliveredOnce (disk_of disk).sectors before (now (disk_of disk)).seen turns first last after frame kind out
 
+-- ---- steps that find no work
+
+-- a step that is answered Idle: no command waits, no ceiling is needed, no work is in hand, and nothing changes
+abbrev pub IdleFindsNoWork : {D : Type 0} → (D → Disk) → Type 0
+IdleFindsNoWork {D} disk_of = (last after : EndpointValue D) → IsCall disk_of last Advances (Advanced (Ok Idle)) after
+    → (last.waiting ≡ []) × (raise_in last ≡ None) × IsIdle last.store × (after ≡ last)
+
+-- ---- a journal at its end
+
+-- an answer that the journal keeps no change any more
+abbrev pub TellsSpent : Reply → Type 0
+TellsSpent (Ran (Err ran.GenerationsSpent)) = Unit {0}
+TellsSpent (Refilled (Err refill.GenerationsSpent)) = Unit {0}
+TellsSpent (Advanced (Err step.GenerationsSpent)) = Unit {0}
+TellsSpent (Advanced (Ok (Done ticket (Err ran.GenerationsSpent)))) = Unit {0}
+TellsSpent reply = ⊥
+
+-- a call is so answered only where all slots of its area are used, and its generation is the last
+abbrev pub SpentAreSpent : {D : Type 0} → (D → Disk) → Type 0
+SpentAreSpent {D} disk_of = (last after : EndpointValue D) (call : Call) (reply : Reply) → IsCall disk_of last call reply after → TellsSpent reply
+    → (used_slots after.store ≡ 256) × (generation after.store ≡ 2 ^ 64 - 1)
+
 -- ---- device faults
 
--- A call is answered Disk exactly where one device call of it failed, or the disk is worn; in each other call none failed.
+-- Where a call is answered Disk, one device call of it failed, or the disk is worn; over each other call no failure is counted.
 abbrev pub FaultsAreFailures : {D : Type 0} → (D → Disk) → Type 0
 FaultsAreFailures {D} disk_of = (disk : D) (first last after : EndpointValue D) (turns : List (Transition D)) (call : Call) (reply : Reply)
     → LivesFrom disk_of disk first turns last → IsCall disk_of last call reply after
@@ -276,13 +330,14 @@ FaultsAreFailures {D} disk_of = (disk : D) (first last after : EndpointValue D) 
 -- ---- openings that are refused
 
 -- An opening is refused as Disk, with one failed call counted or the disk worn; or as NotFormatted, and then no `format` of the history answered Ok,
--- and no opening of it succeeded.
+-- and no opening of it succeeded; or as GenerationsSpent, and then the journal is of format one, in the last generation.
 abbrev pub RefusalsAreFailures : {D : Type 0} → (D → Disk) → Type 0
 RefusalsAreFailures {D} disk_of = (disk : D) (before : List Life) (refused : RecoverRefused D) → HasHistory this_edition (disk_of disk) before
     → IsOpening disk_of disk (Err refused)
     → ((refused.fault ≡ DiskFault) × FailsOnce (disk_of disk) (disk_of refused.disk))
-    ⊎ ((refused.fault ≡ NotFormatted) × ((edition : Edition) (identity : Identity) → ¬ Contains before (Formats edition identity true))
+    ⊎ (((refused.fault ≡ NotFormatted) × ((edition : Edition) (identity : Identity) → ¬ Contains before (Formats edition identity true))
     × ((edition : Edition) (image : Image) (exchanges : List Exchange) (cut : Option Call) → ¬ Contains before (Serves edition image exchanges cut)))
+    ⊎ IsSpentFor this_edition (now (disk_of disk)).seen refused.fault)
 
 -- ---- deeds
 

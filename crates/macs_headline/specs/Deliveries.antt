@@ -1,10 +1,11 @@
 -- The headline on frames that are received.
-use Rattle.std.specs.Prelude.{◌≡◌, ◌≢◌, ◌≤◌, true, ℕ, List, [], ◌∷◌, Contains, Some, Result, Ok}
+use Rattle.std.specs.Prelude.{◌≡◌, ◌≢◌, ◌⊎◌, ◌<◌, ◌≤◌, ◌+◌, ◌-◌, ◌++◌, max, slice_range, take, true, ℕ, List, [], ◌∷◌, Contains, Option, Some, None, Result, Ok}
 use Rattle.macs_fields.specs.Fields.{octets_of}
 use Rattle.macs_frame.specs.Opening.{Verified, bare_frame}
-use Rattle.macs_frame.specs.Tag.{tag_of}
+use Rattle.macs_frame.specs.Tag.{Tag, tag_of}
+use Rattle.macs_frame.specs.declared.tag.Parts.{Parts}
 use Rattle.macs_config.specs.declared.association.RxSa.{RxSa}
-use Rattle.macs_rxsc.specs.Receive.{Numbers, channel_of, delivery_kind, numbers_after_delivery}
+use Rattle.macs_rxsc.specs.Receive.{Numbers, channel_of}
 use Rattle.macs_rxsc.specs.declared.verdict.Kind.{Kind}
 use Rattle.macs_rxsc.specs.declared.verdict.Kind.TheVariants.{Delayed, Ok as AsOk, Untagged}
 use Rattle.macs_rxsc.specs.declared.verdict.Verdict.{Verdict}
@@ -26,8 +27,27 @@ IsVerifiedKind AsOk = Unit {0}
 IsVerifiedKind Delayed = Unit {0}
 IsVerifiedKind kind = ⊥
 
+-- A packet number is below the lowest acceptable one of its association, and the frame is Delayed; or it is not below that, and the frame is Ok (IEEE Std
+-- 802.1AE-2018, 10.6).
+abbrev pub IsInTime : ℕ → ℕ → Kind → Type 0
+IsInTime lowest pn kind = ((pn < lowest) × (kind ≡ Delayed)) ⊎ ((lowest ≤ pn) × (kind ≡ AsOk))
+
+-- the greatest packet number that was seen, after this one was
+abbrev pub greatest_seen : Option ℕ → ℕ → ℕ
+greatest_seen None pn = pn
+greatest_seen (Some seen) pn = max seen pn
+
+-- The numbers of an association after a frame of it was delivered. Next is at least one more than its packet number, and lowest at least that next less the
+-- window; neither falls (10.6). The greatest number that was seen is at least this one.
+abbrev pub numbers_moved : (window : ℕ) → Numbers → (pn : ℕ) → Numbers
+numbers_moved window n pn = record {
+  next = max n.next (pn + 1);
+  lowest = max n.lowest (max n.next (pn + 1) - window);
+  seen = Some (greatest_seen n.seen pn);
+}
+
 -- A frame verifies (IEEE Std 802.1AE-2018, clause 10) under the key, the SCI and the offset of the association of that moment that its tag names, by
--- channel and number; it is Delayed where its packet number is below the lowest acceptable one there, else Ok, and where replay protection is on it is not
+-- channel and AN; it is Delayed where its packet number is below the lowest acceptable one there, else Ok, and where replay protection is on it is not
 -- below that (10.6); it gives its plain frame and no other; and its packet number joins those that were delivered, and moves those of the association.
 pub record IsVerifiedDelivery (s : State) (frame : List ℕ) (kind : Kind) (out : List ℕ) (new : State) : Type 0 where
   pub sci : List ℕ
@@ -36,24 +56,24 @@ pub record IsVerifiedDelivery (s : State) (frame : List ℕ) (kind : Kind) (out 
   pub association : s.config.rx sci (tag_of frame).an ≡ Some sa
   pub numbers : Numbers
   pub are_numbers : s.numbers sci (tag_of frame).an ≡ Some numbers
-  pub in_time : kind ≡ delivery_kind numbers (tag_of frame).pn
+  pub in_time : IsInTime numbers.lowest (tag_of frame).pn kind
   pub guarded : s.config.replay.on ≡ true → numbers.lowest ≤ (tag_of frame).pn
   pub verified : Verified frame sa.key sci (octets_of sa.offset) out
   pub only : (other : List ℕ) → Verified frame sa.key sci (octets_of sa.offset) other → other ≡ out
-  pub moved : new.numbers sci (tag_of frame).an ≡ Some (numbers_after_delivery s.config.replay.window numbers (tag_of frame).pn)
+  pub moved : new.numbers sci (tag_of frame).an ≡ Some (numbers_moved s.config.replay.window numbers (tag_of frame).pn)
   pub logged : new.logs.given ≡ record { sci = sci; key = sa.key; pn = (tag_of frame).pn; kind = kind } ∷ s.logs.given
-
--- each frame that is delivered as Ok or Delayed is so delivered
-abbrev pub DeliveriesAreVerified : ℕ → Type 0
-DeliveriesAreVerified sectors = (s : State) → Moment sectors s → (frame out : List ℕ) (kind : Kind) (new : State) → IsVerifiedKind kind
-    → Step s (Receives frame) (Received (Ok (Delivered kind)) out) new → IsVerifiedDelivery s frame kind out new
-
--- ---- all other answers
 
 -- an answer that a frame is delivered as verified
 abbrev pub IsVerifiedAnswer : Result Verdict Stopped → Type 0
 IsVerifiedAnswer (Ok (Delivered kind)) = IsVerifiedKind kind
 IsVerifiedAnswer answer = ⊥
+
+-- each frame with such an answer is so delivered
+abbrev pub DeliveriesAreVerified : ℕ → Type 0
+DeliveriesAreVerified sectors = (s : State) → Moment sectors s → (frame out : List ℕ) (verdict : Verdict) (new : State) → IsVerifiedAnswer (Ok verdict)
+    → Step s (Receives frame) (Received (Ok verdict) out) new → (kind : Kind) × (verdict ≡ Delivered kind) × IsVerifiedDelivery s frame kind out new
+
+-- ---- all other answers
 
 -- what `out` holds after another answer: a frame without a tag whole, one that is delivered though it did not verify without its SecTAG and ICV,
 -- and nothing of one that is discarded or held back, or that a stopped endpoint was given
@@ -66,6 +86,10 @@ out_after frame answer = []
 abbrev pub OthersAreBare : ℕ → Type 0
 OthersAreBare sectors = (s : State) → Moment sectors s → (frame out : List ℕ) (answer : Result Verdict Stopped) (new : State) → ¬ IsVerifiedAnswer answer
     → Step s (Receives frame) (Received answer out) new → (out ≡ out_after frame answer) × (new.logs ≡ s.logs)
+
+-- A frame without its SecTAG and ICV has its addresses and its Secure Data, and nothing else (IEEE Std 802.1AE-2018, 9.10 and 9.11).
+abbrev pub BareFramesAre : Type 0
+BareFramesAre = (frame : List ℕ) (parts : Parts) → Tag frame parts → bare_frame frame ≡ take 12 frame ++ slice_range frame parts.start parts.end
 
 -- ---- no number twice
 

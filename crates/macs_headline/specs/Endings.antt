@@ -1,7 +1,7 @@
 -- The ways in which a program may end, each of which passes the medium of its disk on.
 use Rattle.std.specs.Prelude.{◌≡◌, ◌≤◌, ◌&&◌, not, if◌then◌else◌, ℕ, Bool, true, false, List, Result}
 use Rattle.macs_disk.specs.Disk.{Disk, IsDeviceCall, IsHonest, LeftSince, Reads, Syncs, Works, now}
-use Rattle.macs_disk.specs.States.{DiskState, Image, settled_state, state_after_sync}
+use Rattle.macs_disk.specs.States.{DiskState, Image, settled_state}
 use Rattle.macs_disk.specs.declared.disk.DeviceFault.{DeviceFault}
 use Rattle.macs_headline.specs.Deeds.{IsPassedOn}
 
@@ -39,9 +39,13 @@ state_written_back written state = record {
   pending = λ i. state.pending i && not (written i);
 }
 
--- That is what a sync does where all of them do; and where none does it is no change.
-abbrev pub WritesBackAsSyncs : Type 0
-WritesBackAsSyncs = (state : DiskState) → (state_written_back (λ i. true) state ≡ state_after_sync state) × (state_written_back (λ i. false) state ≡ state)
+-- A sector that reaches the medium is as a sync leaves it: durable as it is read, and not pending. Each other one is as it was. What is read stays.
+pub record WritesBackAsSyncs : Type 0 where
+  pub reached : (written : ℕ → Bool) (state : DiskState) (i : ℕ) → written i ≡ true
+      → ((state_written_back written state).durable i ≡ state.seen i) × ((state_written_back written state).pending i ≡ false)
+  pub others : (written : ℕ → Bool) (state : DiskState) (i : ℕ) → written i ≡ false
+      → ((state_written_back written state).durable i ≡ state.durable i) × ((state_written_back written state).pending i ≡ state.pending i)
+  pub read : (written : ℕ → Bool) (state : DiskState) (i : ℕ) → (state_written_back written state).seen i ≡ state.seen i
 
 -- Some of the pending sectors reach the medium meanwhile, all of them, or none.
 abbrev pub WrittenBackPassOn : {D : Type 0} → (D → Disk) → Type 0

@@ -1,7 +1,7 @@
 -- The disks of the example where its lives are cut short: what their device calls did until then.
-use Rattle.std.specs.Prelude.{ℕ, zero, suc, ◌+◌, ◌-◌, true, false, List, [], ◌∷◌, take, length}
+use Rattle.std.specs.Prelude.{◌≡◌, ◌⊎◌, ◌<◌, ℕ, zero, suc, ◌+◌, ◌-◌, true, false, List, [], ◌∷◌, take, length}
 use Rattle.macs_disk.specs.Disk.{Disk, now}
-use Rattle.macs_disk.specs.States.{DiskState, Image, put_sector, settled_state, state_after_write}
+use Rattle.macs_disk.specs.States.{DiskState, Image, put_sector, settled_state, state_after_sync, state_after_write}
 use Rattle.macs_record.specs.Gates.{open_gate}
 use Rattle.macs_record.specs.Heads.{head_sector_of}
 use Rattle.macs_record.specs.Layout.{sector_of}
@@ -26,6 +26,15 @@ disk_through states calls = record { sectors = example_sectors; past = states; c
 -- the place behind a content
 abbrev pub place_behind : Content → Place
 place_behind c = record { area = c.area; head = c.head; free = length c.records }
+
+-- one device call leads from a state to the next: a write to a sector, or a sync
+abbrev pub IsOneCall : DiskState → DiskState → Type 0
+IsOneCall old new = ((at : ℕ) × (octets : List ℕ) × (new ≡ state_after_write old at octets)) ⊎ (new ≡ state_after_sync old)
+
+-- a disk held this image, with nothing pending, and each call since then was one device call
+pub record IsRun (image : Image) (disk : Disk) : Type 0 where
+  pub start : disk.past zero ≡ settled_state image
+  pub calls : (k : ℕ) → k < disk.clock → IsOneCall (disk.past k) (disk.past (suc k))
 
 -- ---- an append
 

@@ -8,18 +8,20 @@ use Rattle.macs_journal.specs.declared.fault.JournalFault.TheVariants.{Disk, Not
 use Rattle.macs_endpoint.specs.State.{Call}
 use Rattle.macs_endpoint.specs.Step.{Exchange}
 use Rattle.macs_headline.specs.History.{Formats, IsHistory, Leads, Life, Past, Refuses, Serves}
+use Rattle.macs_headline.specs.Openings.{IsSpentFor}
 
 -- In these lives no `format` answered Ok, and no opening succeeded.
 pub record AreUnformatted (lives : List Life) : Type 0 where
   pub no_format : (edition : Edition) (identity : Identity) → ¬ Contains lives (Formats edition identity true)
   pub no_opening : (edition : Edition) (image : Image) (exchanges : List Exchange) (cut : Option Call) → ¬ Contains lives (Serves edition image exchanges cut)
 
--- before a `format` that answers Ok
+-- so are the lives before a `format` that answers Ok
 abbrev pub FormatsOnce : ℕ → Type 0
 FormatsOnce sectors = (lives : List Life) (past : Past) → IsHistory sectors lives past → (before after : List Life) (edition : Edition) (identity : Identity)
     → before ++ Formats edition identity true ∷ after ≡ lives → AreUnformatted before
 
--- and before an opening that is refused as NotFormatted; each other refusal is for a device call that failed
+-- An opening is refused as Disk; or as NotFormatted, and then no `format` of the lives before it answered Ok, and no opening of them succeeded; or since a
+-- journal of a format that the edition begins anew is in the last generation.
 abbrev pub RefusedByHistory : ℕ → Type 0
 RefusedByHistory sectors = (lives : List Life) (past : Past) → IsHistory sectors lives past → (edition : Edition) (image : Image) (fault : JournalFault) (new : Past)
-    → Leads sectors past (Refuses edition image fault) new → (fault ≡ Disk) ⊎ ((fault ≡ NotFormatted) × AreUnformatted lives)
+    → Leads sectors past (Refuses edition image fault) new → (fault ≡ Disk) ⊎ (((fault ≡ NotFormatted) × AreUnformatted lives) ⊎ IsSpentFor edition image fault)

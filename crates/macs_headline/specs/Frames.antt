@@ -1,9 +1,16 @@
 -- The headline on frames.
-use Rattle.std.specs.Prelude.{◌≡◌, ◌≢◌, ◌<◌, ◌≤◌, ◌+◌, ◌^◌, ℕ, List, ◌∷◌, Contains, Some, Ok}
+use Rattle.std.specs.Prelude.{◌≡◌, ◌≢◌, ◌<◌, ◌≤◌, ◌+◌, ◌^◌, ◌++◌, ℕ, List, [], ◌∷◌, slice_range, Contains, Some, Ok}
 use Rattle.macs_fields.specs.Fields.{octets_of}
+use Rattle.macs_frame.specs.Opening.{Verified}
 use Rattle.macs_frame.specs.Protection.{protected_frame}
+use Rattle.macs_frame.specs.Tag.{name_of}
+use Rattle.macs_frame.specs.declared.tag.ScName.{ScName}
+use Rattle.macs_frame.specs.declared.tag.ScName.TheVariants.{EndStation as NamesStation, Explicit as NamesSci, Implicit as NamesNone}
 use Rattle.macs_config.specs.Association.{is_confidential, offset_of}
+use Rattle.macs_config.specs.Identity.{IsIdentity}
 use Rattle.macs_config.specs.declared.association.TxSa.{TxSa}
+use Rattle.macs_config.specs.declared.command.SciMode.{SciMode}
+use Rattle.macs_config.specs.declared.command.SciMode.TheVariants.{EndStation, Explicit, Implicit}
 use Rattle.macs_txsc.specs.Transmit.{name_in}
 use Rattle.macs_endpoint.specs.State.{Logs, Protects, Protected, State}
 use Rattle.macs_endpoint.specs.Step.{Exchange, Step}
@@ -13,8 +20,16 @@ use Rattle.macs_headline.specs.History.{Life, Past, logs_of}
 use Rattle.macs_headline.specs.Moments.{IsFoundAfter, Moment}
 use Rattle.macs_headline.specs.Numbers.{IsBeyondTx}
 
+-- a tag names the channel of this SCI in this mode: the SCI is spelled out, or ES is set, or the tag names none (IEEE Std 802.1AE-2018, 9.5 and 9.9)
+abbrev pub IsNamedIn : SciMode → List ℕ → ScName → Type 0
+IsNamedIn Explicit sci name = name ≡ NamesSci sci
+IsNamedIn EndStation sci name = name ≡ NamesStation
+IsNamedIn Implicit sci name = name ≡ NamesNone
+
 -- A frame is the standard's (IEEE Std 802.1AE-2018, clauses 9 and 10): the protected frame of the plain one under the encoding association
 -- of that moment, with its mode and its next packet number, 1 to 2^32 - 1; the number joins those that were used, and the next one is one more.
+-- Where ES is set, the SCI is the source address with port 00-01 (9.5). Where the identity is in its ranges, the tag is read as the mode says, and the
+-- frame verifies as the plain one under the key, the SCI and the offset of the association.
 pub record IsStandardFrame (s : State) (plain : List ℕ) (pn : ℕ) (out : List ℕ) (new : State) : Type 0 where
   pub an : ℕ
   pub sa : TxSa
@@ -34,6 +49,9 @@ pub record IsStandardFrame (s : State) (plain : List ℕ) (pn : ℕ) (out : List
       (octets_of (offset_of sa.protection)) plain
   pub logged : new.logs.used ≡ record { key = sa.key; pn = pn } ∷ s.logs.used
   pub next : new.next an ≡ Some (pn + 1)
+  pub own : s.config.mode ≡ EndStation → s.identity.sci ≡ slice_range plain 6 12 ++ 0 ∷ 1 ∷ []
+  pub named : IsIdentity s.identity → IsNamedIn s.config.mode s.identity.sci (name_of out)
+  pub read : IsIdentity s.identity → Verified out sa.key s.identity.sci (octets_of (offset_of sa.protection)) plain
 
 -- each frame that is written is the standard's
 abbrev pub FramesAreStandard : ℕ → Type 0

@@ -6,7 +6,7 @@ use Rattle.macs_config.specs.Identity.{Identity}
 use Rattle.macs_disk.specs.States.{Image}
 use Rattle.macs_journal.specs.declared.fault.JournalFault.{JournalFault}
 use Rattle.macs_journal.specs.declared.fault.JournalFault.TheVariants.{Disk, NotFormatted}
-use Rattle.macs_store.specs.Found.{StandingIs}
+use Rattle.macs_store.specs.Found.{IsUnfitTo, StandingIs}
 use Rattle.macs_store.specs.Standing.{Standing, new_standing}
 use Rattle.macs_endpoint.specs.Calls.{IsInRange}
 use Rattle.macs_endpoint.specs.Restart.{Fits, opened_state, state_during}
@@ -70,11 +70,11 @@ FormatLeads (Formatted s) edition identity true new = ⊥
 FormatLeads (Formatted s) edition identity false new = new ≡ Formatted s
 
 -- One life leads from old to new. An opening is refused for what stands on the disk, or for a device call that failed, and changes nothing; one
--- that is not makes the disk formatted for sure.
+-- that is not makes the disk formatted for sure. What stands may be a journal in the last generation, of a format that the edition begins anew.
 abbrev pub Leads : ℕ → Past → Life → Past → Type 0
 Leads sectors old (Formats edition identity is_ok) new = FormatLeads old edition identity is_ok new
 Leads sectors old (Refuses edition image fault) new =
-    FitsPast edition sectors old image × ((fault ≡ Disk) ⊎ StandingIs edition sectors image (Err fault)) × (new ≡ old)
+    FitsPast edition sectors old image × ((fault ≡ Disk) ⊎ IsUnfitTo edition sectors image fault) × (new ≡ old)
 Leads sectors old (Serves edition image exchanges cut) new =
     (last : State) × IsLifeSoFar sectors old edition image exchanges last
     × IfSome cut (λ call. IsInRange call) × (new ≡ Formatted (state_at_end last cut))

@@ -1,6 +1,7 @@
 pub mod History
 pub mod Moments
 pub mod Numbers
+pub mod Fitting
 pub mod Commands
 pub mod Configurations
 pub mod Tickets
@@ -11,7 +12,10 @@ pub mod Windows
 pub mod Moving
 pub mod Received
 pub mod Steps
+pub mod Editions
+pub mod Changing
 pub mod Refused
+pub mod Reasons
 pub mod Begun
 pub mod Stopping
 pub mod Logged
@@ -30,3 +34,4 @@ pub mod ExampleStanding
 pub mod ExampleDisk
 pub mod ExampleCuts
 pub mod ExampleLives
+pub mod ExampleMigration

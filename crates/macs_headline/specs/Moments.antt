@@ -1,10 +1,11 @@
 -- Moments of a history: a life under way, and an opening after it.
-use Rattle.std.specs.Prelude.{ℕ, List, Contains, Ok}
-use Rattle.macs_config.specs.Config.{Edition}
+use Rattle.std.specs.Prelude.{◌≡◌, ℕ, List, Contains, Ok}
+use Rattle.macs_config.specs.Config.{Edition, IsUpTo}
 use Rattle.macs_disk.specs.States.{Image}
 use Rattle.macs_rxsc.specs.declared.verdict.Kind.{Kind}
 use Rattle.macs_store.specs.Found.{StandingIs}
 use Rattle.macs_store.specs.Standing.{Standing}
+use Rattle.macs_endpoint.specs.Restart.{Fits}
 use Rattle.macs_endpoint.specs.State.{Logs, State}
 use Rattle.macs_endpoint.specs.Step.{Exchange}
 use Rattle.macs_headline.specs.History.{FitsPast, IsHistory, IsLifeSoFar, Life, Past}
@@ -28,6 +29,16 @@ pub record IsFoundAfter (sectors : ℕ) (past : Past) (found : Standing) : Type 
   pub image : Image
   pub fits : FitsPast edition sectors past image
   pub is_found : StandingIs edition sectors image (Ok found)
+
+-- ---- editions
+
+-- an endpoint is of the edition of the program that opened its disk, at each moment of that life
+abbrev pub OfItsEdition : ℕ → Type 0
+OfItsEdition sectors = (s : State) (m : Moment sectors s) → s.edition ≡ m.edition
+
+-- and one that opens the disk after it is of no smaller edition
+abbrev pub EditionsRise : ℕ → Type 0
+EditionsRise sectors = (s : State) (edition : Edition) (image : Image) → Fits edition sectors image s → IsUpTo s.edition edition
 
 -- ---- numbers that were used
 

@@ -1,5 +1,5 @@
 -- The headline on which packet numbers a call moves, and whose: what the two sides of an endpoint have is its configuration.
-use Rattle.std.specs.Prelude.{◌≡◌, ◌⊎◌, ℕ, Bool, List, Option, Some, None, Ok}
+use Rattle.std.specs.Prelude.{◌≡◌, ◌⊎◌, ◌-◌, max, ℕ, Bool, List, Option, Some, None, Ok}
 use Rattle.std.specs.Option.{option_map}
 use Rattle.macs_aes.specs.declared.keys.Key.{Key}
 use Rattle.macs_frame.specs.Tag.{tag_of}
@@ -12,7 +12,7 @@ use Rattle.macs_store.specs.Found.{StandingIs}
 use Rattle.macs_store.specs.Standing.{Standing}
 use Rattle.macs_endpoint.specs.Queue.{first_command}
 use Rattle.macs_endpoint.specs.Restart.{Fits}
-use Rattle.macs_endpoint.specs.State.{Advanced, Advances, Call, Commands, Protects, Protected, Ran, Received, Receives, Reply, State, rx_side, tx_side}
+use Rattle.macs_endpoint.specs.State.{Advanced, Advances, Call, Commands, Protects, Protected, Ran, Received, Receives, Reply, State, no_logs, rx_side, tx_side}
 use Rattle.macs_endpoint.specs.Step.{Step}
 use Rattle.macs_endpoint.specs.declared.progress.Step.TheVariants.{Done}
 use Rattle.macs_headline.specs.Moments.{Moment}
@@ -30,12 +30,12 @@ abbrev pub GoesOutUnder : State → Call → Reply → ℕ → Type 0
 GoesOutUnder s (Protects plain) (Protected (Ok pn) out) an = s.config.encoding ≡ Some an
 GoesOutUnder s call reply an = ⊥
 
--- a frame is given that names this receive association, by channel and number
+-- a frame is given that names this receive association, by channel and AN
 abbrev pub ComesInUnder : State → Call → Reply → List ℕ → ℕ → Type 0
 ComesInUnder s (Receives frame) (Received (Ok verdict) out) sci an = (channel_of (rx_side s) frame ≡ Some sci) × ((tag_of frame).an ≡ an)
 ComesInUnder s call reply sci an = ⊥
 
--- what a command makes of the next number of a transmit association: an install sets it, a removal takes it away
+-- what a command makes of the next packet number of a transmit association, where it changes it: an install sets it, a removal takes it away
 abbrev pub SetsNext : Command → ℕ → Option ℕ → Type 0
 SetsNext c an later =
     ((key : Key) × (start : ℕ) × (confidential : Bool) × (offset : ℕ) × (c ≡ TxInstall an key start confidential offset) × (later ≡ Some start))
@@ -59,6 +59,40 @@ pub record MovesOnlyThese (s : State) (call : Call) (reply : Reply) (new : State
 -- so it is of each call at each moment
 abbrev pub NumbersMove : ℕ → Type 0
 NumbersMove sectors = (s : State) → Moment sectors s → (call : Call) (reply : Reply) (new : State) → Step s call reply new → MovesOnlyThese s call reply new
+
+-- What a command that took effect leaves. An install sets the numbers of its association, a removal takes them away, and so does the drop of its channel. A
+-- window moves the lowest acceptable number of each receive association up to next less the window, where it is further below (IEEE Std 802.1AE-2018, 10.6).
+abbrev pub AreSet : State → Command → State → Type 0
+AreSet old (TxInstall an key start confidential offset) new = new.next an ≡ Some start
+AreSet old (TxRemove an) new = new.next an ≡ None
+AreSet old (RxInstall sci an key start offset) new = new.numbers sci an ≡ Some (record { next = start; lowest = start; seen = None })
+AreSet old (RxRemove sci an) new = new.numbers sci an ≡ None
+AreSet old (RxDrop sci) new = (an : ℕ) → new.numbers sci an ≡ None
+AreSet old (SetReplay on window) new = (sci : List ℕ) (an : ℕ)
+    → new.numbers sci an ≡ option_map (λ (n : Numbers). record n { lowest = max n.lowest (n.next - window) }) (old.numbers sci an)
+AreSet old command new = Unit {0}
+
+-- so it is of each command that takes effect
+abbrev pub NumbersAreSet : ℕ → Type 0
+NumbersAreSet sectors = (s : State) → Moment sectors s → (call : Call) (reply : Reply) (new : State) → Step s call reply new
+    → (c : Command) → TakesEffect s call reply c → AreSet s c new
+
+-- ---- frames
+
+-- a frame is handed in, from the controlled port or from the common port
+abbrev pub IsFrameCall : Call → Type 0
+IsFrameCall (Protects plain) = Unit {0}
+IsFrameCall (Receives frame) = Unit {0}
+IsFrameCall call = ⊥
+
+-- the state but for packet numbers, and for what was used and delivered
+abbrev pub state_but_numbers : State → State
+state_but_numbers s = record s { next = λ an. None; numbers = λ sci an. None; logs = no_logs }
+
+-- a frame changes nothing else, whatever becomes of it
+abbrev pub FramesChangeFew : ℕ → Type 0
+FramesChangeFew sectors = (s : State) → Moment sectors s → (call : Call) (reply : Reply) (new : State) → IsFrameCall call → Step s call reply new
+    → state_but_numbers new ≡ state_but_numbers s
 
 -- ---- over a restart
 

@@ -2,7 +2,7 @@
 use Rattle.std.specs.Prelude.{◌≡◌, ◌≢◌, ◌⊎◌, ◌<◌, ◌≤◌, ◌^◌, ℕ, true, List, [], ◌∷◌, map, None, Result, Ok}
 use Rattle.macs_frame.specs.Protection.{protected_frame}
 use Rattle.macs_frame.specs.declared.tag.ScName.TheVariants.{Explicit}
-use Rattle.macs_aes.specs.declared.keys.Key.TheVariants.{Short}
+use Rattle.macs_aes.specs.declared.keys.Key.{Key}
 use Rattle.macs_config.specs.Identity.{Identity}
 use Rattle.macs_config.specs.declared.command.Command.{Command}
 use Rattle.macs_config.specs.declared.command.Command.TheVariants.{TxInstall, TxUse}
@@ -20,9 +20,9 @@ use Rattle.macs_headline.specs.Deeds.{Chain, Formatting, Living, PassingOn, Refu
 use Rattle.macs_headline.specs.Endings.{LosesPower}
 use Rattle.macs_headline.specs.declared.night.Night.{Night}
 
--- an association of this number and key of 16 octets, from packet number 1, under which User Data are encrypted whole
-abbrev pub night_install : (an : ℕ) (key : List ℕ) → Command
-night_install an key = TxInstall an (Short key) 1 true 0
+-- an association of this number and key, from packet number 1, under which User Data are encrypted whole
+abbrev pub night_install : ℕ → Key → Command
+night_install an key = TxInstall an key 1 true 0
 
 -- A frame is the standard's (IEEE Std 802.1AE-2018, clauses 9 and 10): the protected frame of the plain one under that association, with this packet
 -- number, 1 to 2^32 - 1.
@@ -46,8 +46,8 @@ pub record IsRefusedEvening {D : Type 0} (disk_of : D → Disk) (old : D) (ident
   pub failed : ((disk_of old).failures < (disk_of refused.disk).failures) ⊎ ((disk_of refused.disk).worn ≡ true)
 
 -- The disk was formatted and opened, the endpoint answered its three calls and gave the disk back, power was lost, and the second opening was refused as Disk.
-pub record IsRefusedMorning {D : Type 0} (disk_of : D → Disk) (old : D) (identity : Identity) (an : ℕ) (key evening out : List ℕ) (refused : RecoverRefused D)
-    : Type 0 where
+pub record IsRefusedMorning {D : Type 0} (disk_of : D → Disk) (old : D) (identity : Identity) (an : ℕ) (key : Key) (evening out : List ℕ)
+    (refused : RecoverRefused D) : Type 0 where
   pub formatted : Result (Unit {0}) JournalFault
   pub installed : Result (Unit {0}) CommandFault
   pub chosen : Result (Unit {0}) CommandFault
@@ -72,6 +72,6 @@ pub record IsRefusedMorning {D : Type 0} (disk_of : D → Disk) (old : D) (ident
   pub for_disk : refused.fault ≡ DiskFault
 
 -- the one or the other
-abbrev pub IsRefusedNight : {D : Type 0} → (D → Disk) → D → Identity → (an : ℕ) → (key evening out : List ℕ) → RecoverRefused D → Type 0
+abbrev pub IsRefusedNight : {D : Type 0} → (D → Disk) → D → Identity → (an : ℕ) → Key → (evening out : List ℕ) → RecoverRefused D → Type 0
 IsRefusedNight disk_of old identity an key evening out refused =
     IsRefusedEvening disk_of old identity refused ⊎ IsRefusedMorning disk_of old identity an key evening out refused

@@ -1,8 +1,10 @@
 -- The headline on packet numbers.
-use Rattle.std.specs.Prelude.{◌≡◌, ◌≢◌, ◌<◌, ◌≤◌, ◌+◌, ◌/◌, ◌^◌, ◌++◌, ℕ, max, min, true, List, ◌∷◌, AllPairs, Some, None, IsSomeAnd, Ok}
+use Rattle.std.specs.Prelude.{◌≡◌, ◌≢◌, ◌<◌, ◌≤◌, ◌+◌, ◌/◌, ◌^◌, ◌++◌, ℕ, Bool, max, min, true, List, ◌∷◌, AllPairs, Some, None, IsSome, IsSomeAnd, Ok}
+use Rattle.macs_aes.specs.declared.keys.Key.{Key}
 use Rattle.macs_config.specs.Config.{Edition, is_spent, rx_fingerprint, tx_fingerprint}
 use Rattle.macs_config.specs.declared.association.RxSa.{RxSa}
 use Rattle.macs_config.specs.declared.association.TxSa.{TxSa}
+use Rattle.macs_config.specs.declared.command.Command.TheVariants.{RxInstall, TxInstall}
 use Rattle.macs_disk.specs.States.{Image}
 use Rattle.macs_rxsc.specs.Receive.{Numbers}
 use Rattle.macs_rxsc.specs.declared.verdict.Kind.TheVariants.{Ok as AsOk}
@@ -37,7 +39,7 @@ HasNoneTwice used = AllPairs {X = Use} (λ a b. a ≢ b) used
 abbrev pub UsedOnce : ℕ → Type 0
 UsedOnce sectors = (s : State) → Moment sectors s → HasNoneTwice s.logs.used
 
--- nor at the end of a history, a call that was cut short included
+-- nor at the end of a history; the frame of a `protect` that is cut short is in no list
 abbrev pub UsedOnceAtEnd : ℕ → Type 0
 UsedOnceAtEnd sectors = (lives : List Life) (past : Past) → IsHistory sectors lives past → HasNoneTwice (logs_of past).used
 
@@ -78,24 +80,40 @@ GivenBelow sectors = (past : Past) (found : Standing) → IsFoundAfter sectors p
 
 -- ---- and not far above
 
--- A restart skips at most a block and a half of the numbers of a transmit association that stays, whatever state it is a restart of.
+-- How far a restart moves the next packet number of a transmit association: it does not fall, and at most a block and a half of its numbers are skipped.
+abbrev pub IsSkipped : ℕ → ℕ → ℕ → Type 0
+IsSkipped block next later = (next ≤ later) × (later ≤ next + (block + block / 2))
+
+-- So far is that of each transmit association moved that a restart keeps, whatever state it is a restart of: it has a next packet number again.
 abbrev pub SkipsFew : ℕ → Type 0
 SkipsFew sectors = (s : State) (edition : Edition) (image : Image) (found : Standing) → Fits edition sectors image s
-    → StandingIs edition sectors image (Ok found) → (an : ℕ) (before after : TxSa) (next later : ℕ)
-    → s.config.tx an ≡ Some before → found.config.tx an ≡ Some after → s.next an ≡ Some next → found.ceilings.tx an ≡ Some later
-    → later ≤ next + (s.identity.tx_block + s.identity.tx_block / 2)
+    → StandingIs edition sectors image (Ok found) → (an : ℕ) (before after : TxSa) (next : ℕ)
+    → s.config.tx an ≡ Some before → found.config.tx an ≡ Some after → s.next an ≡ Some next
+    → IsSomeAnd ((opened_state found s.logs).next an) (λ later. IsSkipped s.identity.tx_block next later)
 
 -- How far a restart moves the numbers of a receive association: next and lowest become one number. It is no smaller than next was, and at most a block
--- beyond the greatest number that was seen, and not beyond the last one; where none was seen it is what next was.
+-- beyond the greatest number that was seen, and at most 2^32, one more than the last packet number; where none was seen it is what next was.
 pub record IsMoved (block : ℕ) (old new : Numbers) : Type 0 where
   pub level : new.lowest ≡ new.next
   pub rises : old.next ≤ new.next
   pub unseen : old.seen ≡ None → new.next ≡ old.next
   pub seen : (last : ℕ) → old.seen ≡ Some last → new.next ≤ max old.next (min (last + block) (2 ^ 32))
 
--- so each that stays is moved, whatever state it is a restart of
+-- So are those of each receive association moved that a restart keeps, whatever state it is a restart of: it has numbers again.
 abbrev pub SkipsFewReceived : ℕ → Type 0
 SkipsFewReceived sectors = (s : State) (edition : Edition) (image : Image) (found : Standing) → Fits edition sectors image s
-    → StandingIs edition sectors image (Ok found) → (sci : List ℕ) (an : ℕ) (before after : RxSa) (old new : Numbers)
+    → StandingIs edition sectors image (Ok found) → (sci : List ℕ) (an : ℕ) (before after : RxSa) (old : Numbers)
     → s.config.rx sci an ≡ Some before → found.config.rx sci an ≡ Some after → s.numbers sci an ≡ Some old
-    → (opened_state found s.logs).numbers sci an ≡ Some new → IsMoved s.identity.rx_block old new
+    → IsSomeAnd ((opened_state found s.logs).numbers sci an) (λ new. IsMoved s.identity.rx_block old new)
+
+-- An association that the command in hand installs, and that an opening finds, begins where the command says: a transmit association with that next packet
+-- number, or one at most a block and a half above; a receive association with next and lowest there, and nothing seen.
+abbrev pub BeginAsAsked : ℕ → Type 0
+BeginAsAsked sectors = (s : State) (edition : Edition) (image : Image) (found : Standing) → Fits edition sectors image s
+    → StandingIs edition sectors image (Ok found)
+    → ((an : ℕ) (key : Key) (start : ℕ) (confidential : Bool) (offset : ℕ) → s.in_hand ≡ Some (TxInstall an key start confidential offset)
+    → s.config.tx an ≡ None → IsSome (found.config.tx an)
+    → IsSomeAnd ((opened_state found s.logs).next an) (λ later. IsSkipped s.identity.tx_block start later))
+    × ((sci : List ℕ) (an : ℕ) (key : Key) (start offset : ℕ) → s.in_hand ≡ Some (RxInstall sci an key start offset)
+    → s.config.rx sci an ≡ None → IsSome (found.config.rx sci an)
+    → (opened_state found s.logs).numbers sci an ≡ Some (record { next = start; lowest = start; seen = None }))

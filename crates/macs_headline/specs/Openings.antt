@@ -4,21 +4,26 @@ use Rattle.macs_config.specs.Config.{Edition}
 use Rattle.macs_config.specs.Identity.{Identity}
 use Rattle.macs_disk.specs.States.{Image}
 use Rattle.macs_journal.specs.declared.fault.JournalFault.{JournalFault}
-use Rattle.macs_journal.specs.declared.fault.JournalFault.TheVariants.{Disk, NotFormatted}
+use Rattle.macs_journal.specs.declared.fault.JournalFault.TheVariants.{Disk, GenerationsSpent, NotFormatted}
+use Rattle.macs_store.specs.Found.{IsAtLast}
 use Rattle.macs_store.specs.Standing.{Standing}
 use Rattle.macs_endpoint.specs.State.{State}
 use Rattle.macs_headline.specs.History.{Blank, FitsPast, Formats, Formatted, Leads, Past, Refuses, logs_of}
 use Rattle.macs_headline.specs.Moments.{IsFoundAfter}
 
--- once `format` has answered Ok, only for a device call that failed
-abbrev pub RefusedForDisk : ℕ → Type 0
-RefusedForDisk sectors = (s : State) (edition : Edition) (image : Image) (fault : JournalFault) (new : Past)
-    → Leads sectors (Formatted s) (Refuses edition image fault) new → fault ≡ Disk
+-- since a journal of a format that the edition begins anew is in the last generation
+abbrev pub IsSpentFor : Edition → Image → JournalFault → Type 0
+IsSpentFor edition image fault = (fault ≡ GenerationsSpent) × IsAtLast edition image
+
+-- once `format` has answered Ok, only for a device call that failed, or for that
+abbrev pub RefusedForDiskOrSpent : ℕ → Type 0
+RefusedForDiskOrSpent sectors = (s : State) (edition : Edition) (image : Image) (fault : JournalFault) (new : Past)
+    → Leads sectors (Formatted s) (Refuses edition image fault) new → (fault ≡ Disk) ⊎ IsSpentFor edition image fault
 
 -- before that also where no head gate is open
 abbrev pub RefusedForDiskOrBlank : ℕ → Type 0
 RefusedForDiskOrBlank sectors = (identities : List Identity) (edition : Edition) (image : Image) (fault : JournalFault) (new : Past)
-    → Leads sectors (Blank identities) (Refuses edition image fault) new → (fault ≡ Disk) ⊎ (fault ≡ NotFormatted)
+    → Leads sectors (Blank identities) (Refuses edition image fault) new → (fault ≡ Disk) ⊎ ((fault ≡ NotFormatted) ⊎ IsSpentFor edition image fault)
 
 -- A program of any edition may come upon the same images later, and upon no others; and what was used and delivered is the same.
 pub record AreAsBefore (sectors : ℕ) (old new : Past) : Type 0 where

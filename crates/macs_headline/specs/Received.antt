@@ -1,13 +1,14 @@
 -- The headline on frames that are received and do not verify, on those that are held back, and on what a frame that verifies has shown.
-use Rattle.std.specs.Prelude.{◌≡◌, ◌≢◌, ◌≤◌, ◌⊎◌, Bool, true, false, ℕ, List, [], Option, Some, Ok}
+use Rattle.std.specs.Prelude.{◌≡◌, ◌≢◌, ◌<◌, ◌≤◌, ◌⊎◌, ◌↔◌, Bool, true, false, ℕ, List, [], ◌∷◌, Option, Some, None, IsSome, Ok}
 use Rattle.std.specs.Option.{option_map}
 use Rattle.macs_config.specs.declared.association.RxSa.{RxSa}
 use Rattle.macs_config.specs.declared.command.Validate.{Validate}
 use Rattle.macs_config.specs.declared.command.Validate.TheVariants.{Check, Strict}
 use Rattle.macs_fields.specs.Fields.{octets_of}
-use Rattle.macs_fields.specs.First.{IsFirst}
-use Rattle.macs_frame.specs.Opening.{Verified}
-use Rattle.macs_frame.specs.Tag.{changed, control, tag_of}
+use Rattle.macs_config.specs.Config.{is_among}
+use Rattle.macs_fields.specs.First.{IsFirst, NoneHolds}
+use Rattle.macs_frame.specs.Opening.{Verified, named_sci}
+use Rattle.macs_frame.specs.Tag.{TagFaultHolds, changed, control, name_of, tag_faults, tag_of}
 use Rattle.macs_frame.specs.declared.tag.TagFault.TheVariants.{Runt as IsRunt, Oversize as IsOversize, NoTag as HasNoTag, BadTag as HasBadTag, ForKay as IsForKay}
 use Rattle.macs_rxsc.specs.Receive.{BelowLowest, NoAssociation, NoChannel, NotVerified, Numbers, RxSide, RxStep, RxStepHolds, Tag, channel_of, rx_steps, seen_after}
 use Rattle.macs_rxsc.specs.declared.verdict.Kind.{Kind}
@@ -48,9 +49,47 @@ UnverifiedAreSettled sectors = (s : State) → Moment sectors s → (frame out :
     → ¬ IsVerifiedAnswer (Ok verdict) → verdict ≢ HeldBack → Step s (Receives frame) (Received (Ok verdict) out) new
     → ((step : RxStep) × IsFirst (RxStepHolds (rx_side s) frame) rx_steps step × IsVerdictOf (rx_side s) frame step verdict) × (new ≡ s)
 
+-- Where replay protection is on, a frame with a good tag that names an association, and whose packet number is below the lowest acceptable one there, is
+-- discarded as Late, whether it verifies or not (IEEE Std 802.1AE-2018, 10.6).
+abbrev pub LateAreDiscarded : ℕ → Type 0
+LateAreDiscarded sectors = (s : State) → Moment sectors s → (frame out : List ℕ) (verdict : Verdict) (new : State) (sci : List ℕ) (n : Numbers)
+    → s.config.replay.on ≡ true → NoneHolds (TagFaultHolds frame) tag_faults → channel_of (rx_side s) frame ≡ Some sci
+    → IsSome (s.config.rx sci (tag_of frame).an) → s.numbers sci (tag_of frame).an ≡ Some n → (tag_of frame).pn < n.lowest
+    → Step s (Receives frame) (Received (Ok verdict) out) new → verdict ≡ Discarded Late
+
+-- ---- the channel that a frame names
+
+-- A frame is of the receive channel of this SCI: there is one, and the tag names that SCI, spelled out, or as the source address with port 00-01 (IEEE Std
+-- 802.1AE-2018, 9.5 and 9.9); or the tag names none, and there is no other channel.
+abbrev pub IsOfChannel : State → List ℕ → List ℕ → Type 0
+IsOfChannel s frame sci = (is_among s.config.channels sci ≡ true)
+    × ((named_sci frame (name_of frame) ≡ Some sci) ⊎ ((named_sci frame (name_of frame) ≡ None) × (s.config.channels ≡ sci ∷ [])))
+
+-- a frame is settled or delivered as one of that channel, and of no other
+abbrev pub ChannelsAreNamed : Type 0
+ChannelsAreNamed = (s : State) (frame sci : List ℕ) → (channel_of (rx_side s) frame ≡ Some sci) ↔ IsOfChannel s frame sci
+
+-- ---- frames that verify and are not late
+
+-- A frame verifies as this plain frame under the key, the SCI and the offset of the association of that moment that its tag names, by channel and AN; these
+-- are the numbers there; and where replay protection is on, its packet number is not below the lowest acceptable one (IEEE Std 802.1AE-2018, 10.6).
+pub record IsTimely (s : State) (frame plain sci : List ℕ) (numbers : Numbers) : Type 0 where
+  pub sa : RxSa
+  pub named : channel_of (rx_side s) frame ≡ Some sci
+  pub association : s.config.rx sci (tag_of frame).an ≡ Some sa
+  pub are_numbers : s.numbers sci (tag_of frame).an ≡ Some numbers
+  pub verified : Verified frame sa.key sci (octets_of sa.offset) plain
+  pub guarded : s.config.replay.on ≡ true → numbers.lowest ≤ (tag_of frame).pn
+
+-- An endpoint that runs delivers such a frame as verified, or holds it back, and that only where its packet number is not below the next one there.
+abbrev pub TimelyAreDelivered : Type 0
+TimelyAreDelivered = (s new : State) (frame plain sci out : List ℕ) (numbers : Numbers) (verdict : Verdict) → IsTimely s frame plain sci numbers
+    → Step s (Receives frame) (Received (Ok verdict) out) new
+    → IsVerifiedAnswer (Ok verdict) ⊎ ((verdict ≡ HeldBack) × (numbers.next ≤ (tag_of frame).pn))
+
 -- ---- frames that are held back
 
--- A frame verifies under the association of that moment that its tag names, by channel and number, and its packet number is not below the next one there.
+-- A frame verifies under the association of that moment that its tag names, by channel and AN, and its packet number is not below the next one there.
 -- The greatest number that was seen there is that one now, if none above it was. No next number and no lowest acceptable one moves.
 pub record IsAhead (s : State) (frame : List ℕ) (new : State) : Type 0 where
   pub sci : List ℕ

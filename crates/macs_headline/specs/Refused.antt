@@ -1,12 +1,16 @@
 -- The headline on calls that are refused: for the first reason that holds, and for none that does not.
-use Rattle.std.specs.Prelude.{◌≡◌, ◌≢◌, ◌⊎◌, ◌<◌, ◌≤◌, ℕ, List, [], ◌∷◌, length, Option, Some, None, Ok, Err}
+use Rattle.std.specs.Prelude.{◌≡◌, ◌≢◌, ◌⊎◌, ◌<◌, ◌≤◌, ◌+◌, ◌-◌, ◌^◌, ℕ, List, [], ◌∷◌, length, slice_range, take, Option, Some, None, Ok, Err}
 use Rattle.macs_fields.specs.First.{first}
 use Rattle.macs_config.specs.Apply.{refusal_of}
+use Rattle.macs_config.specs.Config.{max_spent}
 use Rattle.macs_config.specs.declared.command.Command.{Command}
+use Rattle.macs_config.specs.declared.command.SciMode.{SciMode}
+use Rattle.macs_config.specs.declared.command.SciMode.TheVariants.{EndStation, Explicit, Implicit}
 use Rattle.macs_config.specs.declared.refusal.Refusal.{Refusal}
+use Rattle.macs_journal.specs.Renewal.{last_generation}
 use Rattle.macs_txsc.specs.Transmit.{tx_faults}
 use Rattle.macs_txsc.specs.declared.fault.TxFault.{TxFault}
-use Rattle.macs_txsc.specs.declared.fault.TxFault.TheVariants.{NoNumber}
+use Rattle.macs_txsc.specs.declared.fault.TxFault.TheVariants.{Exhausted, ForeignSource, NoEncodingSa, NoNumber, Runt, TooLong}
 use Rattle.macs_endpoint.specs.Queue.{last_ticket, queue_length}
 use Rattle.macs_endpoint.specs.State.{Advanced, Advances, Call, Commands, Protects, Protected, Ran, Refilled, Refills, Reply, State, Submits, Submitted, state_after_fault, state_with_in_hand, tx_side}
 use Rattle.macs_endpoint.specs.Step.{Step, state_with_waiting, state_without_first}
@@ -34,8 +38,8 @@ TakesFirst old new = (w : Waiting) × (rest : List Waiting) × (old.waiting ≡ 
 
 -- What an answer says of reasons, and what a refusal leaves. A command is refused for the first reason that holds, is done only where none does, and is
 -- answered Busy where one waits, and there alone; only one that is not refused is in hand after a device fault. The first that waits is refused so where it
--- is not in hand, and leaves the queue. A refill is Busy where one waits, and there alone. A step that finds no work, or ends a reservation, changes nothing;
--- one that goes on with work, or whose device call fails, may have taken the first that waits in hand.
+-- is not in hand, and leaves the queue. A refill is Busy where one waits, and there alone. A step that is answered Idle, or ends a reservation, changes
+-- nothing; one that goes on with work, or whose device call fails, may have taken the first that waits in hand.
 -- A plain frame is refused for its first fault, or for want of a number where it has none; nothing is in `out` then. A refusal changes nothing else.
 abbrev pub IsExact : State → Call → Reply → State → Type 0
 IsExact old (Commands command) (Ran (Ok done)) new = (old.waiting ≡ []) × (refusal_at old command ≡ None)
@@ -72,6 +76,41 @@ IsExact old (Protects plain) (Protected (Err (protect.Tx fault)) out) new =
     ((fault_at old plain ≡ Some fault) ⊎ ((fault_at old plain ≡ None) × (fault ≡ NoNumber))) × (out ≡ []) × (new ≡ old)
 IsExact old call reply new = Unit {0}
 
+-- ---- plain frames
+
+-- how many octets longer than a plain frame its protected one is, by the mode: a SecTAG of 16 octets with an SCI, or of 8 without, and an ICV of 16
+abbrev pub longer_in : SciMode → ℕ
+longer_in Explicit = 32
+longer_in EndStation = 24
+longer_in Implicit = 24
+
+-- What holds of a plain frame that is refused so. It has fewer than 14 octets; the protected one would have more than 9,216; in end station mode its source
+-- address is not the one in the SCI; no association is in use; the last packet number of the association was used, so that next is 2^32; or it was not. (That
+-- the next one is not reserved then is a clause of the endpoint's contract: a state has no ceilings.)
+abbrev pub IsFaultOf : State → List ℕ → TxFault → Type 0
+IsFaultOf s plain Runt = length plain < 14
+IsFaultOf s plain TooLong = 9216 < length plain + longer_in s.config.mode
+IsFaultOf s plain ForeignSource = (s.config.mode ≡ EndStation) × (slice_range plain 6 12 ≢ take 6 s.identity.sci)
+IsFaultOf s plain NoEncodingSa = (an : ℕ) → s.config.encoding ≡ Some an → (s.config.tx an ≡ None) ⊎ (s.next an ≡ None)
+IsFaultOf s plain Exhausted = (an : ℕ) × (s.config.encoding ≡ Some an) × (s.next an ≡ Some (2 ^ 32))
+IsFaultOf s plain NoNumber = (an : ℕ) × (pn : ℕ) × (s.config.encoding ≡ Some an) × (s.next an ≡ Some pn) × (pn < 2 ^ 32)
+
+-- a plain frame that is refused for a fault has it
+abbrev pub FaultsAreNamed : ℕ → Type 0
+FaultsAreNamed sectors = (s : State) → Moment sectors s → (plain : List ℕ) (fault : TxFault) (out : List ℕ) (new : State)
+    → Step s (Protects plain) (Protected (Err (protect.Tx fault)) out) new → IsFaultOf s plain fault
+
+-- ---- each call
+
 -- so it is of each call at each moment
 abbrev pub RefusalsAreExact : ℕ → Type 0
 RefusalsAreExact sectors = (s : State) → Moment sectors s → (call : Call) (reply : Reply) (new : State) → Step s call reply new → IsExact s call reply new
+
+-- ---- limits
+
+-- Sixteen commands may wait; a life has 2^64 - 1 tickets; a side 512 spent keys; a journal begins anew up to generation 2^64 - 1.
+pub record LimitsAre : Type 0 where
+  pub queue : queue_length ≡ 16
+  pub tickets : last_ticket ≡ 2 ^ 64 - 1
+  pub spent : max_spent ≡ 512
+  pub generations : last_generation ≡ 2 ^ 64 - 1

@@ -4,7 +4,7 @@ use Rattle.macs_fields.specs.Fields.{octets_of}
 use Rattle.macs_frame.specs.Opening.{Verified}
 use Rattle.macs_frame.specs.Tag.{tag_of}
 use Rattle.macs_fields.specs.declared.fields.Offset.TheVariants.{Zero}
-use Rattle.macs_aes.specs.declared.keys.Key.TheVariants.{Short}
+use Rattle.macs_aes.specs.declared.keys.Key.{Key}
 use Rattle.macs_config.specs.Identity.{Identity}
 use Rattle.macs_config.specs.declared.command.Command.{Command}
 use Rattle.macs_config.specs.declared.command.Command.TheVariants.{RxAdd, RxInstall}
@@ -28,9 +28,9 @@ use Rattle.macs_headline.specs.declared.watch.Evening.{Evening}
 use Rattle.macs_headline.specs.declared.watch.Morning.{Morning}
 use Rattle.macs_headline.specs.declared.watch.Watch.{Watch}
 
--- a receive association of this channel, number and key of 16 octets, from packet number 1, with confidentiality offset 0
-abbrev pub watch_install : (sci : List ℕ) (an : ℕ) (key : List ℕ) → Command
-watch_install sci an key = RxInstall sci an (Short key) 1 0
+-- a receive association of this channel, number and key, from packet number 1, with confidentiality offset 0
+abbrev pub watch_install : List ℕ → ℕ → Key → Command
+watch_install sci an key = RxInstall sci an key 1 0
 
 -- A frame is delivered as Ok: it has the number of the association, verifies under its key and SCI (IEEE Std 802.1AE-2018, clause 10), and gives its plain
 -- frame and no other.
@@ -52,7 +52,7 @@ pub record IsWatch {D : Type 0} (sci : List ℕ) (an : ℕ) (key evening first m
 -- ---- the calls of the two lives
 
 -- those of the evening, with what they answered and the endpoint after each; `early` stood in `out` when the frame was first handed in
-abbrev pub evening_turns : {D : Type 0} → (sci : List ℕ) (an : ℕ) (key frame early out : List ℕ) → Evening → (one two three four last : EndpointValue D)
+abbrev pub evening_turns : {D : Type 0} → (sci : List ℕ) (an : ℕ) (key : Key) (frame early out : List ℕ) → Evening → (one two three four last : EndpointValue D)
     → List (Transition D)
 evening_turns sci an key frame early out evening one two three four last =
     record { call = Commands (RxAdd sci); reply = Ran evening.added; after = one }
@@ -63,8 +63,8 @@ evening_turns sci an key frame early out evening one two three four last =
     ∷ []
 
 -- An endpoint answered them and gave its disk back, as their contracts say.
-pub record IsEvening {D : Type 0} (disk_of : D → Disk) (start : EndpointValue D) (sci : List ℕ) (an : ℕ) (key frame out : List ℕ) (evening : Evening) (left : D)
-    : Type 0 where
+pub record IsEvening {D : Type 0} (disk_of : D → Disk) (start : EndpointValue D) (sci : List ℕ) (an : ℕ) (key : Key) (frame out : List ℕ) (evening : Evening)
+    (left : D) : Type 0 where
   pub early : List ℕ
   pub one : EndpointValue D
   pub two : EndpointValue D
@@ -92,8 +92,8 @@ pub record IsMorning {D : Type 0} (disk_of : D → Disk) (start : EndpointValue 
 
 -- The disk was formatted and opened, the endpoint answered the calls of the evening and gave the disk back, power was lost, and the second opening was refused
 -- as Disk.
-pub record IsRefusedWatchMorning {D : Type 0} (disk_of : D → Disk) (old : D) (identity : Identity) (sci : List ℕ) (an : ℕ) (key frame out : List ℕ)
-    (refused : RecoverRefused D) : Type 0 where
+pub record IsRefusedWatchMorning {D : Type 0} (disk_of : D → Disk) (old : D) (identity : Identity) (sci : List ℕ) (an : ℕ) (key : Key)
+    (frame out : List ℕ) (refused : RecoverRefused D) : Type 0 where
   pub formatted : Result (Unit {0}) JournalFault
   pub between : D
   pub start : EndpointValue D
@@ -113,6 +113,6 @@ pub record IsRefusedWatchMorning {D : Type 0} (disk_of : D → Disk) (old : D) (
   pub for_disk : refused.fault ≡ DiskFault
 
 -- that, or the first opening was refused, where a device call failed or the disk is worn
-abbrev pub IsRefusedWatch : {D : Type 0} → (D → Disk) → D → Identity → (sci : List ℕ) → (an : ℕ) → (key evening out : List ℕ) → RecoverRefused D → Type 0
+abbrev pub IsRefusedWatch : {D : Type 0} → (D → Disk) → D → Identity → (sci : List ℕ) → (an : ℕ) → Key → (evening out : List ℕ) → RecoverRefused D → Type 0
 IsRefusedWatch disk_of old identity sci an key evening out refused =
     IsRefusedEvening disk_of old identity refused ⊎ IsRefusedWatchMorning disk_of old identity sci an key evening out refused

@@ -12,33 +12,41 @@ ghost use Rattle.macs_disk.specs.declared.file.FileDisk.{FileDisk};
 ghost use Rattle.macs_disk.specs.declared.layout.Layout.{Layout};
 ghost use Rattle.macs_journal.specs.Areas.{least_sectors};
 ghost use Rattle.macs_headline.specs.Answered.{AnswersAreHeld, MomentsAreHistories};
-ghost use Rattle.macs_headline.specs.Binding.{CallsAreDeeds, ChainsAnswer, ChainsKeepSizes, ChainsTell, DeedsAreHistories, EndsAreCuts};
+ghost use Rattle.macs_headline.specs.Binding.{CallsAreDeeds, ChainsAnswer, ChainsKeepSizes, ChainsTell, CutFramesAreBelow};
+ghost use Rattle.macs_headline.specs.Binding.{DeedsAreHistories, EndsAreCuts};
 ghost use Rattle.macs_headline.specs.Binding.{FaultsAreFailures, FramesAreDeliveredOnce, FramesAreWrittenOnce};
-ghost use Rattle.macs_headline.specs.Binding.{FusesChangeNone, IsNewDisk, LargerFind, LargerGoOn, LivesAreMoments, LivesFit, LivesFitUnbegun, LivesKeepCommands};
-ghost use Rattle.macs_headline.specs.Binding.{LivesEndExactly, LivesKeepTickets, TheseAreNew};
+ghost use Rattle.macs_headline.specs.Binding.{FusesChangeNone, IdleFindsNoWork, IsNewDisk, LargerFind, LargerGoOn};
+ghost use Rattle.macs_headline.specs.Binding.{LivesAreMoments, LivesFit, LivesFitUnbegun, LivesKeepCommands};
+ghost use Rattle.macs_headline.specs.Binding.{LivesAreDeeds, LivesEndExactly, LivesKeepTickets, TheseAreNew};
 ghost use Rattle.macs_headline.specs.Binding.{NewDeedsAreHistories};
-ghost use Rattle.macs_headline.specs.Binding.{NewDisksHaveHistories, OpeningsFind, PassedOnHaveHistories, RefusalsAreFailures, SettledHaveHistories};
-ghost use Rattle.macs_headline.specs.Begun.{InHandWasBegun};
+ghost use Rattle.macs_headline.specs.Binding.{NewDisksHaveHistories, OpeningsFind, PassedOnHaveHistories, RefusalsAreFailures, SettledHaveHistories, SpentAreSpent};
+ghost use Rattle.macs_headline.specs.Begun.{CutsBegin, CutsChangeNone, InHandWasBegun};
+ghost use Rattle.macs_headline.specs.Changing.{CommandsChange, IsFirstConfiguration, PrintsAre};
 ghost use Rattle.macs_headline.specs.Commands.{CommandsKept, FindsOne, InHandWasGiven};
 ghost use Rattle.macs_headline.specs.Configurations.{ConfigurationIs};
-ghost use Rattle.macs_headline.specs.Deliveries.{DeliveredBelow, DeliveriesAreVerified, GivenOnce, NeverOkAgain, OthersAreBare};
+ghost use Rattle.macs_headline.specs.Deliveries.{BareFramesAre, DeliveredBelow, DeliveriesAreVerified, GivenOnce, NeverOkAgain, OthersAreBare};
+ghost use Rattle.macs_headline.specs.Editions.{EditionsAlike, EditionsTake, TheseAreLarger};
 ghost use Rattle.macs_headline.specs.Endings.{DroppedPassOn, EndsAreEarlier, KillingsPassOn, LosesPower, PassedOnAgain, PowerLossesPassOn};
 ghost use Rattle.macs_headline.specs.Endings.{ReadsPassOn, SyncsPassOn, WritesBackAsSyncs, WrittenBackPassOn};
 ghost use Rattle.macs_headline.specs.ExampleLives.{IsWorkedHistory};
+ghost use Rattle.macs_headline.specs.ExampleMigration.{IsWorkedMigration};
+ghost use Rattle.macs_headline.specs.Fitting.{RestartsFit};
 ghost use Rattle.macs_headline.specs.Formats.{FormatsOnce, RefusedByHistory};
 ghost use Rattle.macs_headline.specs.Frames.{FramesAreStandard, WrittenBelow, WrittenOnce};
 ghost use Rattle.macs_headline.specs.GoingOn.{LivesGoOn};
 ghost use Rattle.macs_headline.specs.Logged.{LogsAreAnswers};
-ghost use Rattle.macs_headline.specs.Numbers.{GivenApart, GivenBelow, NothingForgotten, OkApart, SkipsFew, SkipsFewReceived};
-ghost use Rattle.macs_headline.specs.Numbers.{UsedBelow, UsedOnce, UsedOnceAtEnd};
-ghost use Rattle.macs_headline.specs.Moving.{NoneAppear, NumbersMove, SidesAreConfigured};
-ghost use Rattle.macs_headline.specs.Received.{HeldAreAhead, SeenAreVerified, UnverifiedAreSettled};
-ghost use Rattle.macs_headline.specs.Refused.{RefusalsAreExact};
-ghost use Rattle.macs_headline.specs.Steps.{StepsAreOne, StepsAreTaken};
+ghost use Rattle.macs_headline.specs.Numbers.{BeginAsAsked, GivenApart, GivenBelow, NothingForgotten, OkApart, SkipsFew};
+ghost use Rattle.macs_headline.specs.Numbers.{SkipsFewReceived, UsedBelow, UsedOnce, UsedOnceAtEnd};
+ghost use Rattle.macs_headline.specs.Moments.{EditionsRise, OfItsEdition};
+ghost use Rattle.macs_headline.specs.Moving.{FramesChangeFew, NoneAppear, NumbersAreSet, NumbersMove, SidesAreConfigured};
+ghost use Rattle.macs_headline.specs.Reasons.{ReasonsAreNamed};
+ghost use Rattle.macs_headline.specs.Received.{ChannelsAreNamed, HeldAreAhead, LateAreDiscarded, SeenAreVerified, TimelyAreDelivered, UnverifiedAreSettled};
+ghost use Rattle.macs_headline.specs.Refused.{FaultsAreNamed, LimitsAre, RefusalsAreExact};
+ghost use Rattle.macs_headline.specs.Steps.{RepliesAreOfCalls, StepsAreOne, StepsAreTaken};
 ghost use Rattle.macs_headline.specs.Stopping.{StoppedStays};
 ghost use Rattle.macs_headline.specs.Tickets.{TicketsKept};
 ghost use Rattle.macs_headline.specs.Windows.{WindowsAreKept};
-ghost use Rattle.macs_headline.specs.Openings.{IdentityWasGiven, NothingChanges, RefusedForDisk, RefusedForDiskOrBlank};
+ghost use Rattle.macs_headline.specs.Openings.{IdentityWasGiven, NothingChanges, RefusedForDiskOrBlank, RefusedForDiskOrSpent};
 
 use crate::example::peer_frame_in_range;
 use macs_disk::laws::a_file_is_left_as_its_disk;
@@ -55,7 +63,15 @@ pub fn headline()
     ensures moments_are_histories { (sectors : ℕ) → MomentsAreHistories sectors }
     // They go on with each step, and each end of a life, of programs of any edition.
     ensures lives_go_on { (sectors : ℕ) → LivesGoOn sectors }
+    // And these are the steps that there are, each of them, whatever is installed.
     ensures steps_are_taken { StepsAreTaken }
+    // What an endpoint of an edition does, one of a larger edition does too.
+    ensures editions_alike { EditionsAlike }
+    // An edition takes channels, long keys and areas of format two as it says.
+    ensures editions_take { EditionsTake }
+    // An endpoint is of the edition of the program that opened its disk, and later ones are of no smaller edition.
+    ensures of_its_edition { (sectors : ℕ) → OfItsEdition sectors }
+    ensures editions_rise { (sectors : ℕ) → EditionsRise sectors }
     // What any life answered was answered at a moment of the history, and what it used and delivered is held.
     ensures answers_are_held { (sectors : ℕ) → AnswersAreHeld sectors }
     // And nothing else is: what was used and delivered is what some life answered.
@@ -65,7 +81,7 @@ pub fn headline()
     ensures used_once_at_end { (sectors : ℕ) → UsedOnceAtEnd sectors }
     // A frame that is written carries another key or number than each that was, in this life or before it.
     ensures written_once { (sectors : ℕ) → WrittenOnce sectors }
-    // With replay window zero no packet number is delivered twice as verified on one association.
+    // With replay protection on and window 0 no packet number is delivered twice as verified on one association.
     ensures given_once { (sectors : ℕ) → GivenOnce sectors }
     ensures given_apart { (sectors : ℕ) → GivenApart sectors }
     // A packet number that was delivered before a restart is never delivered as Ok after it.
@@ -79,10 +95,12 @@ pub fn headline()
     ensures given_below { (sectors : ℕ) → GivenBelow sectors }
     // And of each frame which any life delivered as verified.
     ensures delivered_below { (sectors : ℕ) → DeliveredBelow sectors }
-    // A restart skips at most a block and a half.
+    // No next number falls over a restart, or vanishes, and at most a block and a half is skipped.
     ensures skips_few { (sectors : ℕ) → SkipsFew sectors }
     // Of a receive association it skips at most a block beyond what was seen, and nothing where nothing was.
     ensures skips_few_received { (sectors : ℕ) → SkipsFewReceived sectors }
+    // What the command in hand installs, and an opening finds, begins where the command says.
+    ensures begin_as_asked { (sectors : ℕ) → BeginAsAsked sectors }
     // An opening finds a prefix of the accepted commands that holds every acknowledged one.
     ensures commands_kept { (sectors : ℕ) → CommandsKept sectors }
     // Where nothing was in hand, that is one configuration; where a command was, that one or what the command makes of it.
@@ -91,8 +109,18 @@ pub fn headline()
     ensures in_hand_was_given { (sectors : ℕ) → InHandWasGiven sectors }
     // It is accepted, and work on it began in a step or in `command`, and in no other call.
     ensures in_hand_was_begun { (sectors : ℕ) → InHandWasBegun sectors }
+    // Whichever call is cut short, nothing else changes.
+    ensures cuts_change_none { CutsChangeNone }
+    // Where a call is cut short that may begin a command, that one is in hand, whatever it installs.
+    ensures cuts_begin { CutsBegin }
     // Over all lives: it finds what the kept commands of each make of the first configuration, and the identity of the `format` that answered Ok.
     ensures configuration_is { (sectors : ℕ) → ConfigurationIs sectors }
+    // That configuration is strict, with replay protection on and window 0, and has no association.
+    ensures first_configuration { IsFirstConfiguration }
+    // A command does what it says, and changes nothing that it does not name.
+    ensures commands_change { CommandsChange }
+    // A spent key is known by its SHA-256, on the receive side with the SCI.
+    ensures prints { PrintsAre }
     // In one life tickets are given in order from 1, each is answered at most once, in order, and none is lost.
     ensures tickets_kept { (sectors : ℕ) → TicketsKept sectors }
     // Each frame is the protected frame of that moment, and its number joins those that were used.
@@ -101,28 +129,50 @@ pub fn headline()
     ensures deliveries_are_verified { (sectors : ℕ) → DeliveriesAreVerified sectors }
     // Each other answer gives nothing that was hidden, and leaves what was used and delivered as it was.
     ensures others_are_bare { (sectors : ℕ) → OthersAreBare sectors }
+    // A frame without SecTAG and ICV has its addresses and its Secure Data.
+    ensures bare_frames { BareFramesAre }
     // A frame that does not verify is discarded, or delivered under Check with C clear, by the first step that settles it.
     ensures unverified_are_settled { (sectors : ℕ) → UnverifiedAreSettled sectors }
+    // With replay protection on, one below the lowest acceptable number is late, whether it verifies or not.
+    ensures late_are_discarded { (sectors : ℕ) → LateAreDiscarded sectors }
+    // A frame that verifies, and is not late, is delivered, or held back where its number is not below the next one.
+    ensures timely_are_delivered { TimelyAreDelivered }
+    // A frame is of the channel whose SCI its tag names, or of the only one where it names none.
+    ensures channels_are_named { ChannelsAreNamed }
     // The lowest acceptable number of an association is at most the next one, and no further below it than the window.
     ensures windows_are_kept { (sectors : ℕ) → WindowsAreKept sectors }
     // A call moves the packet numbers of one association by a frame of its own, or those that a command sets; no others.
     ensures numbers_move { (sectors : ℕ) → NumbersMove sectors }
+    // A command that takes effect does set them.
+    ensures numbers_are_set { (sectors : ℕ) → NumbersAreSet sectors }
+    // A frame changes nothing but packet numbers, and what was used and delivered.
+    ensures frames_change_few { (sectors : ℕ) → FramesChangeFew sectors }
     // And a restart gives none to an association that had none.
     ensures none_appear { (sectors : ℕ) → NoneAppear sectors }
+    // What stands for a state's configuration, with numbers that moved no further, fits it, in programs of any edition.
+    ensures restarts_fit { (sectors : ℕ) → RestartsFit sectors }
     // What the two sides of an endpoint have is its configuration.
     ensures sides { SidesAreConfigured }
     // A frame that is held back verifies, and its number is not below the next one.
     ensures held_are_ahead { (sectors : ℕ) → HeldAreAhead sectors }
     // The greatest number that was seen on an association is that of a frame that verified there.
     ensures seen_are_verified { (sectors : ℕ) → SeenAreVerified sectors }
-    // The state before a call, the call and its answer settle the state after it.
+    // The state before a call, the call and its answer settle the state after it, but for what is in hand.
     ensures steps_are_one { StepsAreOne }
-    // A call is refused for the first reason that holds, and changes nothing then.
+    // Each call is answered by a reply of its own function.
+    ensures replies { RepliesAreOfCalls }
+    // A call is refused for the first reason that holds, and changes nothing then, but that a submitted command leaves the queue.
     ensures refusals_are_exact { (sectors : ℕ) → RefusalsAreExact sectors }
+    // A command that is refused for a reason has it, and one that has any is refused.
+    ensures reasons_are_named { ReasonsAreNamed }
+    // A plain frame that is refused for a fault has it.
+    ensures faults_are_named { (sectors : ℕ) → FaultsAreNamed sectors }
+    // How many commands may wait, how many tickets and spent keys there are, and how often a journal begins anew.
+    ensures limits { LimitsAre }
     // After a device fault each call is answered that the endpoint is stopped, and changes nothing; before one none is.
     ensures stopped_stays { (sectors : ℕ) → StoppedStays sectors }
-    // After `format` has answered Ok an opening is refused for the disk alone.
-    ensures refused_for_disk { (sectors : ℕ) → RefusedForDisk sectors }
+    // After `format` has answered Ok an opening is refused for the disk alone, or for a last generation in an older format.
+    ensures refused_for_disk_or_spent { (sectors : ℕ) → RefusedForDiskOrSpent sectors }
     // Before that it may also find no journal.
     ensures refused_for_disk_or_blank { (sectors : ℕ) → RefusedForDiskOrBlank sectors }
     // So it is over the lives of a history: as not formatted only where none of them formatted the disk for sure.
@@ -142,6 +192,8 @@ pub fn beginnings()
     ensures as_new { TheseAreNew }
     // One with nothing pending has each history after which a program may come upon what is on it.
     ensures settled { SettledHaveHistories }
+    // An edition that takes as much as another one, or more, is larger.
+    ensures as_larger { TheseAreLarger }
     // A program of a larger edition goes on from the history that those of a smaller one made.
     ensures larger { LargerGoOn }
     // And it finds, in each image, what is found after that history.
@@ -162,6 +214,7 @@ pub fn endings<D: SectorDisk>()
     ensures dropped { DroppedPassOn }
     // Some of the pending sectors reach the medium meanwhile.
     ensures written_back { WrittenBackPassOn D.disk }
+    // Each of those is as a sync leaves it, and each other sector as it was.
     ensures as_synced { WritesBackAsSyncs }
     // The owner reads, or syncs.
     ensures read { ReadsPassOn D.disk }
@@ -185,6 +238,8 @@ pub fn histories<D: SectorDisk>()
     ensures answers { ChainsAnswer D.disk }
     // And so is what `format` answered, and for what an opening was refused.
     ensures told { ChainsTell D.disk }
+    // And nothing else is told: each of the lives is what one of the deeds is.
+    ensures told_alone { LivesAreDeeds D.disk }
     // From a disk that is new they are one.
     ensures from_new { NewDeedsAreHistories D.disk }
     // An opening finds what may be found after the history.
@@ -193,9 +248,14 @@ pub fn histories<D: SectorDisk>()
     ensures under_way { LivesAreMoments D.disk }
     // Where the medium is passed on while it lives, that is in its opening, or inside one of its calls.
     ensures cut { EndsAreCuts D.disk }
-    // An opening is refused only where a device call failed, or where the disk was not formatted for sure.
+    // An opening is refused only where a device call failed, where the disk was not formatted for sure, or for a
+    // last generation in an older format.
     ensures refusals { RefusalsAreFailures D.disk }
-    // A call is answered Disk where a device call failed, and there alone.
+    // A step is answered Idle only where there is no work.
+    ensures idle { IdleFindsNoWork D.disk }
+    // A call is answered GenerationsSpent only where the journal is at its end.
+    ensures spent { SpentAreSpent D.disk }
+    // A call is answered Disk only where a device call failed, or the disk is worn.
     ensures faults { FaultsAreFailures D.disk }
     // What is left after it is opened as a restart of the state in which it ended, with the command that the
     // call which was cut short may have begun.
@@ -210,6 +270,8 @@ pub fn histories<D: SectorDisk>()
     ensures tickets { LivesKeepTickets D.disk }
     // A frame that it writes is the standard's, with a number that its key had in no life before.
     ensures frames { FramesAreWrittenOnce D.disk }
+    // So is a frame of a `protect` in which the program ends; its number is not used again.
+    ensures cut_frames { CutFramesAreBelow D.disk }
     // A frame that it delivers as verified verifies, and with window zero its number was so delivered in no life.
     ensures deliveries { FramesAreDeliveredOnce D.disk }
 {}
@@ -222,6 +284,12 @@ pub fn worked_history()
 {
     peer_frame_in_range();
 }
+
+/// A disk that the first edition of the program formatted has that history to this one too, whose opening begins
+/// its journal anew: what it stands for does not change.
+pub fn worked_migration()
+    ensures { IsWorkedMigration }
+{}
 
 /// A disk of zeros in memory is new.
 pub fn new_disks()

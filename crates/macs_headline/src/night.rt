@@ -1,6 +1,7 @@
 //! A night of an endpoint, in Rust: power is lost between two frames under one key, and they have two numbers.
 
 ghost use Rattle.std.specs.Prelude.{IfErr, IfOk, IfSome};
+ghost use Rattle.macs_aes.specs.Keys.{octets_of_key};
 ghost use Rattle.macs_headline.specs.Binding.{IsNewDisk};
 ghost use Rattle.macs_headline.specs.Endings.{LosesPower};
 ghost use Rattle.macs_headline.specs.Nights.{IsNight, IsRefusedNight};
@@ -54,14 +55,14 @@ pub fn a_night<D: PowerLoss>(
     mut disk: D,
     identity: &Identity,
     an: An,
-    key: [u8; 16],
+    key: Key,
     evening: &[u8],
     first: &mut FrameBuf,
     morning: &[u8],
     second: &mut FrameBuf,
 ) -> Result<Night<D>, OpenRefused<D>>
     requires new { IsNewDisk (D.disk disk) }
-    ensures opened { IfOk result (λ night. IsNight identity.now an key evening.now first.new.items morning.now second.new.items night) }
+    ensures opened { IfOk result (λ night. IsNight identity.now an (octets_of_key key) evening.now first.new.items morning.now second.new.items night) }
     // Refused only by an opening: by the first one, where a device call failed or the disk is worn; or by the
     // second one, as `Disk`, behind the calls of the evening and the power loss.
     ensures refused { IfErr result (λ refused. IsRefusedNight D.disk disk identity.now an key evening.now first.new.items refused) }
@@ -71,7 +72,7 @@ pub fn a_night<D: PowerLoss>(
     endpoint.facts();
     let installed = endpoint.command(Command::TxInstall {
         an,
-        key: Key::Short(key),
+        key,
         start: 1,
         confidential: true,
         offset: 0,
@@ -103,13 +104,13 @@ pub fn a_night_in_memory(
     alloc: Global,
     identity: &Identity,
     an: An,
-    key: [u8; 16],
+    key: Key,
     evening: &[u8],
     first: &mut FrameBuf,
     morning: &[u8],
     second: &mut FrameBuf,
 ) -> Option<Night<MemDisk>>
-    ensures { IfSome result (λ night. IsNight identity.now an key evening.now first.new.items morning.now second.new.items night) }
+    ensures { IfSome result (λ night. IsNight identity.now an (octets_of_key key) evening.now first.new.items morning.now second.new.items night) }
 {
     let Ok(disk) = MemDisk::new(alloc, 1_028) else {
         return None;
@@ -126,13 +127,13 @@ pub fn a_night_behind_a_fuse(
     left: u64,
     identity: &Identity,
     an: An,
-    key: [u8; 16],
+    key: Key,
     evening: &[u8],
     first: &mut FrameBuf,
     morning: &[u8],
     second: &mut FrameBuf,
 ) -> Option<Night<Fuse<MemDisk>>>
-    ensures { IfSome result (λ night. IsNight identity.now an key evening.now first.new.items morning.now second.new.items night) }
+    ensures { IfSome result (λ night. IsNight identity.now an (octets_of_key key) evening.now first.new.items morning.now second.new.items night) }
 {
     let Ok(disk) = MemDisk::new(alloc, 1_028) else {
         return None;

@@ -1,6 +1,7 @@
 //! A watch of an endpoint, in Rust: power is lost between two frames that are received, and none is delivered twice.
 
 ghost use Rattle.std.specs.Prelude.{IfErr, IfOk, IfSome};
+ghost use Rattle.macs_aes.specs.Keys.{octets_of_key};
 ghost use Rattle.macs_headline.specs.Binding.{IsNewDisk};
 ghost use Rattle.macs_headline.specs.Watches.{IsEvening, IsMorning, IsRefusedWatch, IsWatch};
 
@@ -51,14 +52,14 @@ pub fn a_watch<D: PowerLoss>(
     identity: &Identity,
     sci: Sci,
     an: An,
-    key: [u8; 16],
+    key: Key,
     evening: &[u8],
     first: &mut FrameBuf,
     morning: &[u8],
     second: &mut FrameBuf,
 ) -> Result<Watch<D>, OpenRefused<D>>
     requires new { IsNewDisk (D.disk disk) }
-    ensures opened { IfOk result (λ watch. IsWatch sci an key evening.now first.new.items morning.now second.new.items watch) }
+    ensures opened { IfOk result (λ watch. IsWatch sci an (octets_of_key key) evening.now first.new.items morning.now second.new.items watch) }
     // Refused only by an opening: by the first one, where a device call failed or the disk is worn; or by the
     // second one, as `Disk`, behind the calls of the evening and the power loss.
     ensures refused { IfErr result (λ refused. IsRefusedWatch D.disk disk identity.now sci an key evening.now first.new.items refused) }
@@ -82,7 +83,7 @@ fn serve_evening<D: SectorDisk>(
     mut endpoint: Endpoint<D>,
     sci: Sci,
     an: An,
-    key: [u8; 16],
+    key: Key,
     frame: &[u8],
     out: &mut FrameBuf,
 ) -> (Evening, D)
@@ -94,7 +95,7 @@ fn serve_evening<D: SectorDisk>(
     let installed = endpoint.command(Command::RxInstall {
         sci,
         an,
-        key: Key::Short(key),
+        key,
         start: 1,
         offset: 0,
     });
@@ -136,13 +137,13 @@ pub fn a_watch_in_memory(
     identity: &Identity,
     sci: Sci,
     an: An,
-    key: [u8; 16],
+    key: Key,
     evening: &[u8],
     first: &mut FrameBuf,
     morning: &[u8],
     second: &mut FrameBuf,
 ) -> Option<Watch<MemDisk>>
-    ensures { IfSome result (λ watch. IsWatch sci an key evening.now first.new.items morning.now second.new.items watch) }
+    ensures { IfSome result (λ watch. IsWatch sci an (octets_of_key key) evening.now first.new.items morning.now second.new.items watch) }
 {
     let Ok(disk) = MemDisk::new(alloc, 1_028) else {
         return None;
@@ -162,13 +163,13 @@ pub fn a_watch_behind_a_fuse(
     identity: &Identity,
     sci: Sci,
     an: An,
-    key: [u8; 16],
+    key: Key,
     evening: &[u8],
     first: &mut FrameBuf,
     morning: &[u8],
     second: &mut FrameBuf,
 ) -> Option<Watch<Fuse<MemDisk>>>
-    ensures { IfSome result (λ watch. IsWatch sci an key evening.now first.new.items morning.now second.new.items watch) }
+    ensures { IfSome result (λ watch. IsWatch sci an (octets_of_key key) evening.now first.new.items morning.now second.new.items watch) }
 {
     let Ok(disk) = MemDisk::new(alloc, 1_028) else {
         return None;

@@ -1,14 +1,14 @@
 -- Calls that change nothing, and a first call with others behind it that change nothing.
-use Rattle.std.proofs.Common.{◌≡◌, inl, inr, ℕ, sym, ◌∙◌, ap, subst, arith, List, Result}
+use Rattle.std.proofs.Common.{◌≡◌, ◌⊎◌, inl, inr, ℕ, sym, ◌∙◌, ap, subst, arith, List, Result}
 use Rattle.std.proofs.lemmas.Bool.{cases_lt}
-use Rattle.macs_disk.specs.States.{DiskState, IsImage, IsSound}
+use Rattle.macs_disk.specs.States.{DiskState, IsImage, IsSound, state_after_sync}
 use Rattle.macs_disk.specs.Disk.{Disk, IsDeviceCall, Reads, Syncs, Works, now}
 use Rattle.macs_disk.specs.Runs.{LeavesNothingNew}
 use Rattle.macs_disk.proofs.Calls.{sync-leaves}
 use Rattle.macs_disk.proofs.Moments.{Nothing-join, Works-start}
 use Rattle.macs_journal.specs.Opening.{StandsFromFirst}
 use Rattle.macs_journal.specs.Work.{IsSpared, IsUntouched, MayHold}
-use Rattle.macs_journal.proofs.Spared.{Spared-on, Spared-sync}
+use Rattle.macs_journal.proofs.Spared.{Spared-on, Spared-sync, synced-holds}
 
 -- before the first call
 pub untouched-start : (d : Disk) → IsUntouched d d
@@ -78,3 +78,34 @@ pub synced-spared : {T E : Type 0} (old mid new : Disk) (result : Result T E) (i
     → Works mid new → IsUntouched mid new → IsSpared old new i
 synced-spared old mid new result i sound call syncs works untouched =
     Spared-on old mid new i call.work.works works (Spared-sync old mid result i sound call syncs) (untouched-spared mid new i untouched)
+
+-- ---- a disk that is as it was before its first call, or synced
+
+abbrev IsAsSynced : DiskState → DiskState → Type 0
+IsAsSynced old new = (new ≡ old) ⊎ (new ≡ state_after_sync old)
+
+synced_seen : (old new : DiskState) (i : ℕ) → IsAsSynced old new → new.seen i ≡ old.seen i
+synced_seen old new i (inl same) = ap (λ (s : DiskState). s.seen i) same
+synced_seen old new i (inr synced) = ap (λ (s : DiskState). s.seen i) synced
+
+synced_left : (old new : DiskState) (i : ℕ) (octets : List ℕ) → IsSound old → IsAsSynced old new → MayHold new i octets → MayHold old i octets
+synced_left old new i octets sound (inl same) holds = subst (λ (s : DiskState). MayHold s i octets) same holds
+synced_left old new i octets sound (inr synced) holds =
+    synced-holds old i octets sound (subst (λ (s : DiskState). MayHold s i octets) synced holds)
+
+-- each sector is left alone by calls of which the first left it so, and the others changed nothing
+pub spared-from-first : (old new : Disk) (i : ℕ) → IsSound (now old) → Works old new → StandsFromFirst old new → IsAsSynced (now old) (now new) → IsSpared old new i
+spared-from-first old new i sound works stands left = record {
+  reads = λ k from until. elim (cases_lt old.clock k) [
+    | inl after ↦ ap (λ (s : DiskState). s.seen i) (stands k after until) ∙ synced_seen (now old) (now new) i left
+    | inr before ↦
+        let at_old : k ≡ old.clock = omega (arith, from, before) in
+        ap (λ (s : DiskState). s.seen i) (works.past k before ∙ ap old.past at_old)
+  ];
+  leaves = λ k from until octets holds. elim (cases_lt old.clock k) [
+    | inl after ↦ synced_left (now old) (now new) i octets sound left (subst (λ (s : DiskState). MayHold s i octets) (stands k after until) holds)
+    | inr before ↦
+        let at_old : k ≡ old.clock = omega (arith, from, before) in
+        subst (λ (s : DiskState). MayHold s i octets) (works.past k before ∙ ap old.past at_old) holds
+  ];
+}

@@ -3,6 +3,7 @@ use Rattle.std.specs.Prelude.{◌≡◌, ◌<◌, ◌≤◌, ◌⊎◌, ◌+◌,
 use Rattle.macs_disk.specs.States.{Image, IsImage}
 use Rattle.macs_disk.specs.Disk as disk
 use Rattle.macs_record.specs.Heads.{Head}
+use Rattle.macs_record.specs.declared.format.Format.TheVariants.{Two}
 use Rattle.macs_record.specs.declared.record.Record.{Record}
 use Rattle.macs_journal.specs.Areas.{gate, gates, head_body, other_area, slot_body}
 use Rattle.macs_journal.specs.Found.{Content, HasJournal, IsGateOpen}
@@ -11,9 +12,9 @@ use Rattle.macs_journal.specs.Found.{Content, HasJournal, IsGateOpen}
 abbrev pub last_generation : ℕ
 last_generation = 2 ^ 64 - 1
 
--- the head of the next generation, of the same format, with a snapshot of so many records
+-- the head of the next generation, in format two whatever the format of the one before, with a snapshot of so many records
 abbrev pub next_head : Head → ℕ → Head
-next_head head count = record { format = head.format; generation = head.generation + 1; count = count; identity = head.identity }
+next_head head count = record { format = Two; generation = head.generation + 1; count = count; identity = head.identity }
 
 -- the content of a journal that begins anew with these records
 abbrev pub compacted : Content → List Record → Content

@@ -20,13 +20,13 @@ use crate::journal::Journal;
 use crate::place::Place;
 use crate::record_source::RecordSource;
 use macs_disk::{DeviceFault, SectorDisk};
-use macs_record::{Head, Record};
+use macs_record::{Format, Head, Record};
 
 impl<D: SectorDisk> Journal<D> {
     /// Begins anew with these records, 1 to 256, in the area that is not current: the gates there that
     /// read open are closed, that of the head included, and this is made durable; the bodies of the
-    /// records and of a head of the next generation are written and made durable; the head gate is
-    /// opened and made durable. Refused as `Stopped`, and as `GenerationsSpent`, where nothing is
+    /// records and of a head of the next generation, in format two, are written and made durable; the
+    /// head gate is opened and made durable. Refused as `Stopped`, and as `GenerationsSpent`, where nothing is
     /// changed; as `Disk` at the first call that fails: then a power loss leaves the journal with the
     /// records of before or with these. No work is in hand, before or after.
     pub fn compact(&mut self, records: &[Record]) -> Result<(), JournalFault>
@@ -71,14 +71,14 @@ impl<D: SectorDisk> Journal<D> {
     }
 }
 
-/// The head of the next generation, of the same format; `None` after the last.
+/// The head of the next generation, in format two; `None` after the last.
 pub(crate) fn next_head(head: &Head, count: u32) -> Option<Head>
     requires { (1 ≤ count) × (count ≤ slots) }
     ensures value { IfSome result (λ next. next ≡ next_head head.now count) }
     ensures spent { result ≡ None ↔ (head.now.generation ≡ last_generation) }
 {
     let generation = head.generation().checked_add(1)?;
-    Head::new(head.format(), generation, count, head.identity())
+    Head::new(Format::Two, generation, count, head.identity())
 }
 
 /// Writes the records of a source into an area under this head, which counts them, while the other area is current.

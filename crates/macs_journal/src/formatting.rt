@@ -21,8 +21,8 @@ use macs_config::Identity;
 use macs_disk::{DeviceFault, SectorDisk};
 use macs_record::{Format, Head, Record, SECTOR, is_open};
 
-/// Makes a journal of a disk that has none: its one record is the settings that an endpoint begins
-/// with. Of the first area it writes the bodies of the head and of that record, the head gate, and the
+/// Makes a journal of format two of a disk that has none: its one record is the settings that an
+/// endpoint begins with. Of the first area it writes the bodies of the head and of that record, the head gate, and the
 /// gates of slots where they read open; no other sector is touched. Refused as `TooSmall`, then as
 /// `Disk` at the first call that fails, and as `AlreadyFormatted` where a head gate reads open after a
 /// first sync.
@@ -86,5 +86,5 @@ fn fill<D: SectorDisk>(disk: &mut D, identity: &Identity) -> Result<(), DeviceFa
 fn first_head(identity: &Identity) -> Head
     ensures { result ≡ first_head identity.now }
 {
-    Head::new(Format::One, 1, 1, *identity).unwrap()
+    Head::new(Format::Two, 1, 1, *identity).unwrap()
 }

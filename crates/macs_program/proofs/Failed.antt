@@ -8,7 +8,7 @@ use Rattle.macs_program.specs.Failing.{failure_of_run, failure_of_words, failure
 use Rattle.macs_words.specs.declared.action.UsageFault.{UsageFault}
 use Rattle.macs_words.specs.declared.action.UsageFault.TheVariants as words
 use Rattle.macs_program.specs.declared.failure.Failure.{Failure}
-use Rattle.macs_program.specs.declared.failure.Failure.TheVariants.{Capture}
+use Rattle.macs_program.specs.declared.failure.Failure.TheVariants.{Capture, Output}
 use Rattle.macs_program.specs.declared.status.Status.TheVariants.{Usage}
 
 fault-status : (fault : RunFault) → failure_status (failure_of_run fault) ≢ Usage
@@ -31,6 +31,27 @@ fault-status (Device refill.Disk) is = cc
 pub run-status : (failure : Failure) → ((fault : RunFault) × (failure ≡ failure_of_run fault)) ⊎ (failure ≡ Capture) → failure_status failure ≢ Usage
 run-status failure (inl (fault, same)) is = fault-status fault (ap failure_status (sym same) ∙ is)
 run-status failure (inr same) is = let e = ap failure_status (sym same) ∙ is in cc
+
+fault-no-output : (fault : RunFault) → failure_of_run fault ≢ Output
+fault-no-output (Pcap pcap.Read) is = cc
+fault-no-output (Pcap pcap.BadMagic) is = cc
+fault-no-output (Pcap pcap.BadVersion) is = cc
+fault-no-output (Pcap pcap.NotEthernet) is = cc
+fault-no-output (Pcap pcap.CutFile) is = cc
+fault-no-output (Pcap pcap.CutRecord) is = cc
+fault-no-output (Pcap pcap.RecordTooLong) is = cc
+fault-no-output (Pcap pcap.Write) is = cc
+fault-no-output (Pcap pcap.Memory) is = cc
+fault-no-output (Pcap pcap.TooManyRecords) is = cc
+fault-no-output (Device refill.Stopped) is = cc
+fault-no-output (Device refill.Busy) is = cc
+fault-no-output (Device refill.GenerationsSpent) is = cc
+fault-no-output (Device refill.Disk) is = cc
+
+-- nor for standard output
+pub run-no-output : (failure : Failure) → ((fault : RunFault) × (failure ≡ failure_of_run fault)) ⊎ (failure ≡ Capture) → failure ≢ Output
+run-no-output failure (inl (fault, same)) is = fault-no-output fault (sym same ∙ is)
+run-no-output failure (inr same) is = let e = sym same ∙ is in cc
 
 -- words that are taken are no wrong usage, where they are refused for memory alone
 pub not-taken : {A : Type 0} (result : Result A UsageFault) (fault : UsageFault) (taken : Type 0) → result ≡ Err fault

@@ -2,10 +2,13 @@ pub mod Applied
 pub mod Captured
 pub mod Codes
 pub mod Commanded
+pub mod Complaining
 pub mod Failed
 pub mod FirstFault
 pub mod HexDigits
+pub mod InFiles
 pub mod Looks
+pub mod Made
 pub mod Opened
 pub mod Performed
 pub mod Printing

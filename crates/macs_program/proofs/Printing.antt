@@ -2,10 +2,13 @@
 use Rattle.std.proofs.Common.{◌≡◌, ℕ, ◌++◌, List, [], ◌∷◌, length, take, Option, Some, None, IfSome, option_map, length-take, ap, subst, ◌∙◌, ◌⊎◌, inl, inr, arith}
 use Rattle.std.proofs.lemmas.List.{take_all}
 use Rattle.std.specs.Io.KnownBytes.{Appends}
+use Rattle.macs_fields.specs.First.{IsFirst}
 use Rattle.macs_program.specs.Answer.{Answers, answer_status, answer_text}
+use Rattle.macs_program.specs.Request.{InputFaultHolds, input_faults}
 use Rattle.macs_program.specs.Run.{Prints}
 use Rattle.macs_program.specs.declared.answer.Answer.{Answer}
 use Rattle.macs_program.specs.declared.answer.Answer.TheVariants as answers
+use Rattle.macs_program.specs.declared.request.InputFault.{InputFault}
 use Rattle.macs_program.specs.declared.status.Status.{Status}
 use Rattle.macs_program.specs.declared.status.Status.TheVariants.{Done, Refused}
 
@@ -40,3 +43,11 @@ prints (Some octets) before after input line answer status read answers text pri
 pub answered : (answer : Answer) (status : Status) → status ≡ answer_status answer → (status ≡ Done) ⊎ (status ≡ Refused)
 answered (answers.Valid an pn plain) status is = inl is
 answered (answers.Refused fault) status is = inr is
+
+-- the first fault of what was read is that of the input, as far as it is read
+pub refused-first : (remaining : Option (List ℕ)) (input slice : List ℕ) (fault : InputFault) → IfSome remaining (λ octets. input ≡ take 20001 octets)
+    → slice ≡ input → IsFirst (InputFaultHolds slice) input_faults fault
+    → IfSome remaining (λ octets. IsFirst (InputFaultHolds (take 20001 octets)) input_faults fault)
+refused-first None input slice fault read same first = tt
+refused-first (Some octets) input slice fault read same first =
+    subst (λ (x : List ℕ). IsFirst (InputFaultHolds x) input_faults fault) (same ∙ read) first

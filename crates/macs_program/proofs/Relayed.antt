@@ -1,5 +1,5 @@
 -- What a relay comes to, between two wires that are new; and how it is refused for an address.
-use Rattle.std.proofs.Common.{◌≡◌, ◌≢◌, ◌↔◌, ℕ, List, Result, Ok, Err, IfErr, inl, inr, subst, sym}
+use Rattle.std.proofs.Common.{◌≡◌, ◌≢◌, ◌↔◌, ◌⊎◌, ℕ, List, Result, Ok, Err, IfErr, inl, inr, refl, subst, sym}
 use Rattle.macs_disk.specs.Disk.{Disk}
 use Rattle.macs_disk.specs.FileDisks.{disk_in_file}
 use Rattle.macs_disk.specs.Files.{FileState}
@@ -12,7 +12,9 @@ use Rattle.macs_endpoint.specs.declared.fault.RefillFault.{RefillFault}
 use Rattle.macs_endpoint.specs.declared.fault.RefillFault.TheVariants as refill
 use Rattle.macs_fields.specs.First.{IsFirst}
 use Rattle.macs_program.specs.Failing.{failure_of_refill, failure_status}
-use Rattle.macs_program.specs.Relaying.{ComesTo, EndsRelay, IsAfterAddresses, IsOfRelay, Relays, new_wire}
+use Rattle.macs_program.specs.Endpoints.{IsEndpointIn, OpeningFails}
+use Rattle.macs_program.specs.Relaying.{ComesTo, EndsRelay, IsAfterAddresses, IsOfRelay, RelayEnds, RelayEndsIn, Relays, StopsRelay, new_wire}
+use Rattle.macs_program.specs.declared.status.Status.{Status}
 use Rattle.macs_program.specs.declared.addresses.AddressFault.{AddressFault}
 use Rattle.macs_program.specs.declared.failure.Failure.{Failure}
 use Rattle.macs_program.specs.declared.failure.Failure.TheVariants as failures
@@ -31,9 +33,43 @@ between-new disk_of turns summary old new first second controlled common one oth
 }
 
 pub comes-to : {F : Type 0} (file : F → FileState) (turns : ℕ) (summary : RelaySummary) (old new : EndpointValue (FileDisk F))
-    → Relays (disk_in_file file) turns old summary new → ComesTo file turns summary
-comes-to file turns summary old new relays =
-    record { old = old; new = new; controlled = relays.controlled; common = relays.common; relayed = relays.relayed }
+    → IsEndpointIn file old → Relays (disk_in_file file) turns old summary new → ComesTo file turns summary
+comes-to file turns summary old new endpoint relays =
+    record { old = old; new = new; controlled = relays.controlled; common = relays.common; endpoint = endpoint; relayed = relays.relayed }
+
+-- ---- how a relay ends that is not done
+
+ends-new : {D : Type 0} (disk_of : D → Disk) (turns : ℕ) (old new : EndpointValue D) (first second controlled common : WireState) (failure : Failure)
+    → first ≡ new_wire → second ≡ new_wire → EndsRelay disk_of turns (relay_of old first second empty_lane empty_lane) failure new controlled common
+    → StopsRelay disk_of turns old failure new
+ends-new disk_of turns old new first second controlled common failure one other ends = record {
+  controlled = controlled;
+  common = common;
+  ends = subst (λ (w : WireState). EndsRelay disk_of turns (relay_of old w new_wire empty_lane empty_lane) failure new controlled common) one
+      (subst (λ (w : WireState). EndsRelay disk_of turns (relay_of old first w empty_lane empty_lane) failure new controlled common) other ends);
+}
+
+pub relay-ends : {D : Type 0} (disk_of : D → Disk) (turns : ℕ) (old new : EndpointValue D) (first second controlled common : WireState)
+    (result : Result Status Failure) → first ≡ new_wire → second ≡ new_wire
+    → IfErr result (λ failure. EndsRelay disk_of turns (relay_of old first second empty_lane empty_lane) failure new controlled common)
+    → IfErr result (λ failure. RelayEnds disk_of turns old failure new)
+relay-ends disk_of turns old new first second controlled common (Ok status) one other ends = tt
+relay-ends disk_of turns old new first second controlled common (Err failure) one other ends =
+    inr (ends-new disk_of turns old new first second controlled common failure one other ends)
+
+-- a wire that is not bound
+pub no-wire : {D : Type 0} (disk_of : D → Disk) (turns : ℕ) (old : EndpointValue D) (fault failure : Failure) (result : Result Status Failure)
+    → result ≡ Err failure → failure ≡ fault → (fault ≡ failures.Memory) ⊎ (fault ≡ failures.Wire)
+    → IfErr result (λ failure. RelayEnds disk_of turns old failure old)
+no-wire disk_of turns old fault failure result is same names =
+    subst (λ (r : Result Status Failure). IfErr r (λ failure. RelayEnds disk_of turns old failure old)) (sym is)
+    (inl (subst (λ (f : Failure). (f ≡ failures.Memory) ⊎ (f ≡ failures.Wire)) (sym same) names, refl))
+
+pub relay-ends-in : {F : Type 0} (file : F → FileState) (turns : ℕ) (old new : EndpointValue (FileDisk F)) (result : Result Status Failure)
+    → IsEndpointIn file old → IfErr result (λ failure. RelayEnds (disk_in_file file) turns old failure new)
+    → IfErr result (λ failure. OpeningFails file failure ⊎ RelayEndsIn file turns failure)
+relay-ends-in file turns old new (Ok status) endpoint ends = tt
+relay-ends-in file turns old new (Err failure) endpoint ends = inr (record { old = old; new = new; endpoint = endpoint; ends = ends })
 
 refill-behind : (fault : RefillFault) → IsAfterAddresses (failure_of_refill fault)
 refill-behind refill.Stopped = tt

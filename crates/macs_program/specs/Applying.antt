@@ -1,5 +1,5 @@
 -- What `apply` does with a command file, and the lines that it prints.
-use Rattle.std.specs.Prelude.{◌≡◌, ◌≢◌, ◌⊎◌, ◌≤◌, ◌+◌, ℕ, List, [], ◌∷◌, ◌++◌, length, codes, if◌then◌else◌, Option, Some, None, is_some, Result, Ok, Err}
+use Rattle.std.specs.Prelude.{◌≡◌, ◌≢◌, ◌⊎◌, ◌≤◌, ◌+◌, ℕ, List, [], ◌∷◌, ◌++◌, length, codes, if◌then◌else◌, Option, Some, None, IfSome, is_some, Result, Ok, Err}
 use Rattle.std.specs.Fmt.{decimal}
 use Rattle.std.specs.Io.KnownBytes.{Appends}
 use Rattle.std.specs.List.{list_any}
@@ -38,6 +38,11 @@ pub record SaysCommands (octets : List ℕ) (commands : List Command) : Type 0 w
   pub members : Members
   pub parsed : parse_document octets ≡ Some members
   pub said : file_commands members ≡ Ok commands
+
+-- some file says these commands, where it is known what it has
+pub record SaidByFile {F : Type 0} (remaining : F → Option (List ℕ)) (commands : List Command) : Type 0 where
+  pub file : F
+  pub said : IfSome (remaining file) (λ octets. SaysCommands octets commands)
 
 -- ---- lines
 

@@ -10,5 +10,6 @@ pub mod Showing
 pub mod Applying
 pub mod Summing
 pub mod Capturing
+pub mod Endpoints
 pub mod Relaying
 pub mod Run

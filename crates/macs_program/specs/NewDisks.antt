@@ -1,17 +1,22 @@
 -- Which files become the disk of a new endpoint, by what the device has of them.
-use Rattle.std.specs.Prelude.{◌≡◌, ◌/◌, if◌then◌else◌, ℕ, Bool, Option, Some, None, Ok}
+use Rattle.std.specs.Prelude.{◌≡◌, ◌⊎◌, ◌/◌, if◌then◌else◌, ⊤, ℕ, Bool, Option, Some, None, Ok, Err}
 use Rattle.macs_config.specs.Identity.{Identity}
 use Rattle.macs_disk.specs.FileDisks.{IsBlank, disk_in_file, file_given, file_left}
 use Rattle.macs_disk.specs.Files.{Behaves, FileState, Settles}
 use Rattle.macs_disk.specs.declared.file.FileDisk.{FileDisk}
 use Rattle.macs_disk.specs.declared.layout.Layout.{Layout}
+use Rattle.macs_disk.specs.declared.file_fault.FileFault.{FileFault}
 use Rattle.macs_endpoint.specs.Formatting.{IsFormat}
+use Rattle.macs_journal.specs.declared.fault.JournalFault.{JournalFault}
 use Rattle.macs_journal.specs.declared.fault.JournalFault.TheVariants as journal
 use Rattle.macs_program.specs.Contents.{ContentsAre}
+use Rattle.macs_program.specs.Failing.{failure_of_file, failure_of_journal}
 use Rattle.macs_program.specs.declared.contents.Contents.{Contents}
 use Rattle.macs_program.specs.declared.contents.Contents.TheVariants as contents
 use Rattle.macs_program.specs.declared.failure.DiskFault.{DiskFault}
 use Rattle.macs_program.specs.declared.failure.DiskFault.TheVariants as disk
+use Rattle.macs_program.specs.declared.failure.Failure.{Failure}
+use Rattle.macs_program.specs.declared.failure.Failure.TheVariants as failures
 
 -- why a file that holds this is not written over, if it is not
 abbrev pub refusal_of : Contents → Bool → Option DiskFault
@@ -35,3 +40,33 @@ pub record Formats {F : Type 0} (file : F → FileState) (layout : Layout) (iden
   pub made : Behaves (file (file_given blank)) → IsBlank (file (file_given blank)) (file (file_left blank)) layout (disk_in_file file blank)
   pub new : FileDisk F
   pub formats : IsFormat (disk_in_file file) blank identity (Ok tt) new
+
+-- a file is not made a disk for this fault, by what it holds when it was settled
+pub record IsTaken (is_over : Bool) (file : FileState) (fault : DiskFault) : Type 0 where
+  pub settled : FileState
+  pub settles : Settles file settled
+  pub permits : Permits is_over settled (file.size / 512) (Some fault)
+
+-- Why no blank disk is made in a file: it does not serve as one of a disk, for this fault; or it cannot be looked at, or holds what is not
+-- written over
+abbrev pub BlankFails : Bool → FileState → Failure → Type 0
+BlankFails is_over file failure =
+    ((fault : FileFault) × (failure ≡ failure_of_file fault))
+    ⊎ ((fault : DiskFault) × (failure ≡ failures.Disk fault)
+    × (Behaves file → (fault ≡ disk.Journal journal.Disk) ⊎ IsTaken is_over file fault))
+
+-- Why no file becomes the disk of a new endpoint: there is no file that serves as one of a disk, or its name is not durable; or none that may
+-- be written over; or the blank disk in it is not formatted, for this fault
+abbrev pub FormatFails : {F : Type 0} → (F → FileState) → Bool → Identity → Failure → Type 0
+FormatFails {F} file is_over identity failure =
+    ((fault : FileFault) × (failure ≡ failure_of_file fault))
+    ⊎ ((given : F) × BlankFails is_over (file given) failure)
+    ⊎ ((blank : FileDisk F) × (left : FileDisk F) × (fault : JournalFault) × (failure ≡ failure_of_journal fault)
+    × IsFormat (disk_in_file file) blank identity (Err fault) left)
+
+-- the failures after those of the values: of the disk, memory and standard output
+abbrev pub IsAfterValues : Failure → Type 0
+IsAfterValues (failures.Disk fault) = ⊤
+IsAfterValues failures.Memory = ⊤
+IsAfterValues failures.Output = ⊤
+IsAfterValues other = ⊥

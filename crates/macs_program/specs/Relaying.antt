@@ -9,6 +9,7 @@ use Rattle.macs_edge.specs.Wires.{WireState}
 use Rattle.macs_edge.specs.declared.relaying.RelaySummary.{RelaySummary}
 use Rattle.macs_endpoint.specs.Value.{EndpointValue}
 use Rattle.macs_endpoint.specs.declared.fault.RefillFault.{RefillFault}
+use Rattle.macs_program.specs.Endpoints.{IsEndpointIn}
 use Rattle.macs_program.specs.Failing.{failure_of_refill}
 use Rattle.macs_program.specs.declared.failure.Failure.{Failure}
 use Rattle.macs_program.specs.declared.failure.Failure.TheVariants as failures
@@ -17,13 +18,14 @@ use Rattle.macs_program.specs.declared.failure.Failure.TheVariants as failures
 abbrev pub new_wire : WireState
 new_wire = record { waiting = None; sent = None; failed_receives = 0; failed_sends = 0 }
 
--- a relay in so many turns comes to this summary: of an endpoint on a disk in a file, where this is what a file is, between two new
--- wires
+-- a relay in so many turns comes to this summary: of an endpoint that was opened on a disk in a file, where this is what a file is,
+-- between two new wires
 pub record ComesTo {F : Type 0} (file : F → FileState) (turns : ℕ) (summary : RelaySummary) : Type 0 where
   pub old : EndpointValue (FileDisk F)
   pub new : EndpointValue (FileDisk F)
   pub controlled : WireState
   pub common : WireState
+  pub endpoint : IsEndpointIn file old
   pub relayed : IsRelayed (disk_in_file file) turns (relay_of old new_wire new_wire empty_lane empty_lane) (Ok summary) new controlled common
 
 -- how a relay fails: with the fault that has the name of a step's; or all turns are taken, and its line cannot be written
@@ -55,3 +57,21 @@ pub record Relays {D : Type 0} (disk_of : D → Disk) (turns : ℕ) (old : Endpo
   pub controlled : WireState
   pub common : WireState
   pub relayed : IsRelayed disk_of turns (relay_of old new_wire new_wire empty_lane empty_lane) (Ok summary) new controlled common
+
+-- between two new wires a relay from this endpoint ends with this failure
+pub record StopsRelay {D : Type 0} (disk_of : D → Disk) (turns : ℕ) (old : EndpointValue D) (failure : Failure) (new : EndpointValue D) : Type 0 where
+  pub controlled : WireState
+  pub common : WireState
+  pub ends : EndsRelay disk_of turns (relay_of old new_wire new_wire empty_lane empty_lane) failure new controlled common
+
+-- a wire cannot be bound, or there is no memory, and nothing is done with the endpoint; or the relay ends
+abbrev pub RelayEnds : {D : Type 0} → (D → Disk) → ℕ → EndpointValue D → Failure → EndpointValue D → Type 0
+RelayEnds disk_of turns old failure new =
+    (((failure ≡ failures.Memory) ⊎ (failure ≡ failures.Wire)) × (new ≡ old)) ⊎ StopsRelay disk_of turns old failure new
+
+-- so it ends with an endpoint on a disk in a file
+pub record RelayEndsIn {F : Type 0} (file : F → FileState) (turns : ℕ) (failure : Failure) : Type 0 where
+  pub old : EndpointValue (FileDisk F)
+  pub new : EndpointValue (FileDisk F)
+  pub endpoint : IsEndpointIn file old
+  pub ends : RelayEnds (disk_in_file file) turns old failure new

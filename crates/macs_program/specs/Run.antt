@@ -1,5 +1,5 @@
 -- How a run of the program ends.
-use Rattle.std.specs.Prelude.{◌≡◌, ◌≢◌, ◌⊎◌, true, ℕ, List, Option, option_map, IfErr, IfOk, IfSome, Result, codes}
+use Rattle.std.specs.Prelude.{◌≡◌, ◌≢◌, ◌⊎◌, ◌++◌, Bool, true, ℕ, List, take, Option, option_map, IfErr, IfOk, IfSome, Result, codes}
 use Rattle.std.specs.Io.KnownBytes.{Appends}
 use Rattle.clap.specs.Words.{Text, subcommand_of, takes}
 use Rattle.macs_config.specs.Identity.{Identity}
@@ -8,15 +8,18 @@ use Rattle.macs_disk.specs.Files.{FileState}
 use Rattle.macs_disk.specs.declared.layout.Layout.{Layout}
 use Rattle.macs_edge.specs.declared.passing.Summary.{Summary}
 use Rattle.macs_edge.specs.declared.relaying.RelaySummary.{RelaySummary}
-use Rattle.macs_endpoint.specs.State.{State}
+use Rattle.macs_edge.specs.declared.settling.Side.TheVariants.{Common, Controlled}
 use Rattle.macs_program.specs.Addresses.{AddressFaultHolds, SpellsBoth}
 use Rattle.macs_program.specs.Answer.{Answers, answer_status, answer_text}
-use Rattle.macs_program.specs.Applying.{outcome_lines, outcomes_status}
-use Rattle.macs_program.specs.Failing.{failure_status}
+use Rattle.macs_program.specs.Applying.{outcome_lines}
+use Rattle.macs_fields.specs.First.{IsFirst}
+use Rattle.macs_program.specs.Endpoints.{AppliesIn, BreaksOffIn, OpeningFails, PassEndsIn, PassesIn, ShowsIn}
+use Rattle.macs_program.specs.Failing.{failure_of_words, failure_status, failure_text}
 use Rattle.macs_words.specs.Help.{topic_text}
-use Rattle.macs_program.specs.NewDisks.{Formats}
-use Rattle.macs_program.specs.Relaying.{ComesTo}
-use Rattle.macs_program.specs.Showing.{line, show_text}
+use Rattle.macs_program.specs.NewDisks.{FormatFails, Formats}
+use Rattle.macs_program.specs.Relaying.{ComesTo, RelayEndsIn}
+use Rattle.macs_program.specs.Request.{InputFaultHolds, input_faults}
+use Rattle.macs_program.specs.Showing.{line}
 use Rattle.macs_program.specs.Summing.{relay_line, summary_line}
 use Rattle.macs_program.specs.Values.{SpellsIdentity, SpellsLayout, ValueFaultHolds}
 use Rattle.macs_words.specs.Words.{AsksFor, Names, macsecd}
@@ -26,6 +29,10 @@ use Rattle.macs_program.specs.declared.addresses.AddressFault.{AddressFault}
 use Rattle.macs_program.specs.declared.answer.Answer.{Answer}
 use Rattle.macs_program.specs.declared.capturing.Direction.TheVariants as direction
 use Rattle.macs_program.specs.declared.failure.Failure.{Failure}
+use Rattle.macs_program.specs.declared.failure.Failure.TheVariants.{Address, Input, Memory, Output, Value}
+use Rattle.macs_program.specs.declared.request.InputFault.{InputFault}
+use Rattle.macs_program.specs.declared.request.InputFault.TheVariants as request_faults
+use Rattle.macs_words.specs.declared.action.UsageFault.{UsageFault}
 use Rattle.macs_words.specs.declared.help.Topic.{Topic}
 use Rattle.macs_program.specs.declared.status.Status.{Status}
 use Rattle.macs_program.specs.declared.status.Status.TheVariants as ends
@@ -36,8 +43,8 @@ abbrev pub Prints : List ℕ → Option (List ℕ) → Option (List ℕ) → Sta
 Prints input before after status =
     (answer : Answer) × Answers input answer × Appends before after (line (answer_text answer)) × (status ≡ answer_status answer)
 
--- What a run prints that does what it is asked for, where `state_of` says what files are. What an endpoint finds in a file is not known here: the
--- lines are those of some outcomes, of some state, of some summary; that of a relay is what some endpoint comes to in so many turns
+-- What a run prints that does what it is asked for, where `state_of` says what files are. Which file has a name is not known here: the lines are
+-- those of what is done with some endpoint that was opened on a disk in a file; that of a relay is what some endpoint comes to in so many turns
 abbrev pub Does : {F : Type 0} → (F → FileState) → Action → Option (List ℕ) → Option (List ℕ) → Option (List ℕ) → Status → Type 0
 Does state_of Open input before after status = IfSome input (λ octets. Prints octets before after status)
 Does state_of (Format disk sci tx_block rx_block block is_over) input before after status =
@@ -45,12 +52,14 @@ Does state_of (Format disk sci tx_block rx_block block is_over) input before aft
     × (layout : Layout) × SpellsLayout (option_map (λ text. text.now) block) layout × Formats state_of layout identity
     × Appends before after (line (codes "formatted")) × (status ≡ ends.Done)
 Does state_of (Apply disk file) input before after status =
-    (outcomes : List (Option Refusal)) × Appends before after (outcome_lines 1 outcomes) × (status ≡ outcomes_status outcomes)
-Does state_of (Show disk) input before after status = (s : State) × Appends before after (show_text s) × (status ≡ ends.Done)
+    AppliesIn state_of before after status
+Does state_of (Show disk) input before after status = ShowsIn state_of before after × (status ≡ ends.Done)
 Does state_of (Protect disk from to) input before after status =
-    (summary : Summary) × Appends before after (summary_line direction.Protect summary) × (status ≡ ends.Done)
+    (summary : Summary) × PassesIn state_of Controlled summary
+    × Appends before after (summary_line direction.Protect summary) × (status ≡ ends.Done)
 Does state_of (Validate disk from to) input before after status =
-    (summary : Summary) × Appends before after (summary_line direction.Validate summary) × (status ≡ ends.Done)
+    (summary : Summary) × PassesIn state_of Common summary
+    × Appends before after (summary_line direction.Validate summary) × (status ≡ ends.Done)
 Does state_of (Relay disk controlled common turns) input before after status =
     (summary : RelaySummary) × ComesTo state_of turns summary × SpellsBoth controlled common
     × Appends before after (relay_line summary) × (status ≡ ends.Done)
@@ -74,7 +83,30 @@ WrongValues (Format disk sci tx_block rx_block block is_over) =
 WrongValues (Relay disk controlled common turns) = (fault : AddressFault) × AddressFaultHolds controlled common fault
 WrongValues action = ⊥
 
--- An action is done, with a status of these two, or fails. A failure that is told as wrong usage is that of a wrong value, and nothing was
+-- How `open` fails: a read failed, or the input, of which 20,001 octets at most are read, has this first fault; or there is no memory; or a print
+-- failed
+abbrev pub OpenFails : Option (List ℕ) → Failure → Type 0
+OpenFails octets failure =
+    (failure ≡ Input request_faults.Input)
+    ⊎ ((fault : InputFault) × (failure ≡ Input fault) × IfSome octets (λ all. IsFirst (InputFaultHolds (take 20001 all)) input_faults fault))
+    ⊎ (failure ≡ Memory) ⊎ (failure ≡ Output)
+
+-- How an action fails, where `state_of` says what files are: for a value of the words, for the opening of the endpoint, or as what is done with it
+-- ends
+abbrev pub FailsAs : {F : Type 0} → (F → FileState) → Action → Option (List ℕ) → Option (List ℕ) → Option (List ℕ) → Failure → Type 0
+FailsAs state_of Open octets before after failure = OpenFails octets failure
+FailsAs state_of (Format disk sci tx_block rx_block block is_over) octets before after failure =
+    ((fault : ValueFault) × (failure ≡ Value fault))
+    ⊎ ((identity : Identity) × SpellsIdentity sci.now tx_block rx_block identity × FormatFails state_of is_over identity failure)
+    ⊎ (failure ≡ Output)
+FailsAs state_of (Apply disk file) octets before after failure = OpeningFails state_of failure ⊎ BreaksOffIn state_of before after failure
+FailsAs state_of (Show disk) octets before after failure = OpeningFails state_of failure ⊎ (failure ≡ Memory) ⊎ (failure ≡ Output)
+FailsAs state_of (Protect disk from to) octets before after failure = OpeningFails state_of failure ⊎ PassEndsIn state_of Controlled failure
+FailsAs state_of (Validate disk from to) octets before after failure = OpeningFails state_of failure ⊎ PassEndsIn state_of Common failure
+FailsAs state_of (Relay disk controlled common turns) octets before after failure =
+    ((fault : AddressFault) × (failure ≡ Address fault)) ⊎ OpeningFails state_of failure ⊎ RelayEndsIn state_of turns failure
+
+-- An action is done, with a status of these two, or fails. A failure that is wrong usage is that of a wrong value, and nothing was
 -- printed; one of the disk is that of another action than `open`
 pub record Performs {F W : Type 0} (state_of : F → FileState) (contents : W → Option (List ℕ)) (action : Action) (input : Option (List ℕ)) (old : W)
     (result : Result Status Failure) (new : W) : Type 0 where
@@ -82,6 +114,28 @@ pub record Performs {F W : Type 0} (state_of : F → FileState) (contents : W �
   pub status : IfOk result (λ end. (end ≡ ends.Done) ⊎ (end ≡ ends.Refused))
   pub usage : IfErr result (λ failure. failure_status failure ≡ ends.Usage → WrongValues action × (new ≡ old))
   pub disk : IfErr result (λ failure. failure_status failure ≡ ends.Disk → (action ≢ Open) × HasPrinted action (contents old) (contents new))
+  pub before : IfErr result (λ failure. failure ≢ Output → HasPrinted action (contents old) (contents new))
+  pub fails : IfErr result (FailsAs state_of action input (contents old) (contents new))
+
+-- how a run fails: its words are refused, or help cannot be printed, or the words name an action that fails so
+abbrev pub FailsFor : {F : Type 0} → (F → FileState) → List Text → Option (List ℕ) → Option (List ℕ) → Option (List ℕ) → Failure → Type 0
+FailsFor state_of words octets before after failure =
+    ((fault : UsageFault) × (failure ≡ failure_of_words fault))
+    ⊎ ((topic : Topic) × AsksFor words topic × (failure ≡ Output))
+    ⊎ ((action : Action) × Names (subcommand_of macsecd words) action × FailsAs state_of action octets before after failure)
+
+-- what was printed before a failure: nothing, or of `apply` the lines of the commands before it
+abbrev pub PrintedBefore : List Text → Option (List ℕ) → Option (List ℕ) → Type 0
+PrintedBefore words before after =
+    (after ≡ before) ⊎ ((action : Action) × Names (subcommand_of macsecd words) action × HasPrinted action before after)
+
+-- the line of a failure on standard error
+abbrev pub complaint : Failure → List ℕ
+complaint failure = line (codes "macsecd: " ++ failure_text failure)
+
+-- a text was printed on a stream, or the stream failed
+abbrev pub PrintsUnlessFailed : Option (List ℕ) → Option (List ℕ) → Bool → List ℕ → Type 0
+PrintsUnlessFailed before after failed text = Appends before after text ⊎ (failed ≡ true)
 
 -- the words name an action with such a value
 abbrev pub HasWrongValues : List Text → Type 0

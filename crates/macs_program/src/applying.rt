@@ -1,6 +1,6 @@
 //! `apply`: the commands of a file, one after another.
 
-ghost use Rattle.std.specs.Prelude.{◌≡◌, ◌≢◌, ◌≤◌, ◌+◌, ◌⊎◌, List, Option, length, is_some, if◌then◌else◌, IfErr, IfOk, OnOk, Ok, Err};
+ghost use Rattle.std.specs.Prelude.{◌≡◌, ◌≢◌, ◌≤◌, ◌+◌, ◌⊎◌, List, Option, length, is_some, if◌then◌else◌, true, IfErr, IfOk, OnOk, Ok, Err};
 ghost use Rattle.std.specs.Io.KnownBytes.{Appends};
 ghost use Rattle.toml.specs.Data.{Members};
 ghost use Rattle.toml.specs.Parse.{parse_document};
@@ -17,6 +17,7 @@ ghost use Rattle.macs_program.specs.Applying.{outcome_line, refusal_name};
 use crate::failure::{DiskFault, Failure};
 use crate::output::{Line, print_octets};
 use crate::status::Status;
+use crate::stream::Stream;
 use itoa::Buffer;
 use macs_config::{Command, Refusal};
 use macs_disk::SectorDisk;
@@ -24,7 +25,6 @@ use macs_edge::commands_of;
 use macs_endpoint::{CommandFault, Endpoint};
 use macs_journal::JournalFault;
 use std::alloc::Global;
-use std::io::Write;
 use toml::Table;
 
 /// The longest command file, in octets.
@@ -144,7 +144,7 @@ fn settle<D: SectorDisk>(
 }
 
 /// Gives a command to the endpoint, prints its line, and answers whether it was refused.
-fn apply_command<D: SectorDisk, W: Write>(
+fn apply_command<D: SectorDisk, W: Stream>(
     endpoint: &mut Endpoint<D>,
     at: usize,
     command: Command,
@@ -155,6 +155,7 @@ fn apply_command<D: SectorDisk, W: Write>(
         × Appends (W.contents out.old) (W.contents out.new) (outcome_line at outcome)) }
     ensures ended { IfErr result (λ failure. EndsRun D.disk endpoint.old command failure endpoint.new) }
     ensures silent { IfErr result (λ failure. failure ≢ Failure.Output → out.new ≡ out.old) }
+    ensures broken { IfErr result (λ failure. failure ≡ Failure.Output → W.failed out.new ≡ true) }
 {
     let outcome = settle(endpoint, command)?;
     let line = outcome_line(at, outcome);
@@ -174,7 +175,7 @@ fn status_after(status: Status, is_refused: bool) -> Status
 /// the next one follows. It fails as `Disk` at the first command that is neither kept nor refused, with no
 /// line for it; and as `Output` at the first line that cannot be written and flushed, whose command was
 /// answered.
-pub fn apply_commands<D: SectorDisk, W: Write>(
+pub fn apply_commands<D: SectorDisk, W: Stream>(
     endpoint: &mut Endpoint<D>,
     commands: &[Command],
     out: &mut W,
@@ -183,6 +184,7 @@ pub fn apply_commands<D: SectorDisk, W: Write>(
         (W.contents out.old) (W.contents out.new) status endpoint.new) }
     ensures ended { IfErr result (λ failure. AppliesSome D.disk endpoint.old commands.now
         (W.contents out.old) (W.contents out.new) failure endpoint.new) }
+    ensures broken { IfErr result (λ failure. failure ≡ Failure.Output → W.failed out.new ≡ true) }
 {
     let mut status = Status::Done;
     for i in 0..commands.len() {

@@ -1,6 +1,6 @@
 //! `protect` and `validate`: a capture through an endpoint.
 
-ghost use Rattle.std.specs.Prelude.{◌≡◌, ◌≢◌, ◌⊎◌, IfErr, IfOk, Ok};
+ghost use Rattle.std.specs.Prelude.{◌≡◌, ◌≢◌, ◌⊎◌, true, IfErr, IfOk, Ok};
 ghost use Rattle.std.specs.Io.KnownBytes.{Appends};
 ghost use Rattle.macs_edge.specs.Passing.{RunsOver, run_of};
 ghost use Rattle.macs_edge.specs.declared.passing.RunFault.{RunFault};
@@ -12,12 +12,12 @@ ghost use Rattle.macs_program.specs.Summing.{summary_line};
 use crate::failure::Failure;
 use crate::output::{Line, append_count, print_octets};
 use crate::status::Status;
+use crate::stream::Stream;
 use macs_disk::SectorDisk;
 use macs_edge::{RunFault, Summary, run_protect, run_validate};
 use macs_endpoint::Endpoint;
 use macs_pcap::{Sink, Source};
 use std::alloc::Global;
-use std::io::Write;
 
 /// Which way a capture goes.
 #[derive(Clone, Copy)]
@@ -93,7 +93,7 @@ fn run_capture<D: SectorDisk, R: Source, W: Sink>(
 /// frames. It fails with the first fault of the run: as `Capture` or `Memory` at the header or a record, as
 /// `Disk` at a reservation; without one, as `Capture` where what was written cannot be handed on. Nothing is
 /// printed then. Else it fails as `Output` where the line cannot be written.
-pub fn pass_frames<D: SectorDisk, R: Source, S: Sink, W: Write>(
+pub fn pass_frames<D: SectorDisk, R: Source, S: Sink, W: Stream>(
     alloc: Global,
     endpoint: &mut Endpoint<D>,
     direction: Direction,
@@ -110,6 +110,7 @@ pub fn pass_frames<D: SectorDisk, R: Source, S: Sink, W: Write>(
         (run_of endpoint.old (R.state source.old) (S.state sink.old)) failure
         (run_of endpoint.new (R.state source.new) (S.state sink.new))) }
     ensures silent { IfErr result (λ failure. failure ≢ Failure.Output → out.new ≡ out.old) }
+    ensures broken { IfErr result (λ failure. failure ≡ Failure.Output → W.failed out.new ≡ true) }
 {
     let summary = run_capture(alloc, endpoint, direction, source, sink)?;
     print_octets(out, summary_line(direction, summary).as_slice())?;

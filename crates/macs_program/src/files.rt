@@ -4,8 +4,11 @@ ghost use Rattle.std.specs.Prelude.{◌≡◌, ◌≢◌, ◌⊎◌, ◌/◌, fa
 ghost use Rattle.macs_disk.specs.Files.{Behaves, IsSure, file_claimed, file_cut};
 ghost use Rattle.std.specs.IoError.{error_kind};
 ghost use Rattle.std.specs.declared.io.ErrorKind.TheVariants.{OutOfMemory};
-ghost use Rattle.macs_program.specs.Applying.{SaysCommands};
+ghost use Rattle.macs_program.specs.Applying.{SaidByFile, SaysCommands};
+ghost use Rattle.macs_disk.specs.declared.file_fault.FileFault.{FileFault};
 ghost use Rattle.macs_program.specs.Contents.{HoldsEndpoint};
+ghost use Rattle.macs_program.specs.Endpoints.{IsDiskIn};
+ghost use Rattle.macs_program.specs.Failing.{failure_of_file};
 ghost use Rattle.macs_program.specs.declared.failure.DiskFault.{DiskFault};
 
 use crate::applying::{MAX_FILE, commands_in};
@@ -65,7 +68,9 @@ pub fn is_printed_to<T: Files>(rt: &T, path: &str) -> bool {
 pub fn open_disk<T: Files>(rt: &T, path: &str) -> Result<FileDisk<T::File>, Failure>
 where
     T::File: DiskFile,
-    ensures { IfErr result (λ failure. (failure ≡ Failure.Memory)
+    ensures disk { IfOk result (IsDiskIn T.File.file) }
+    ensures file { IfErr result (λ failure. (fault : FileFault) × (failure ≡ failure_of_file fault)) }
+    ensures failed { IfErr result (λ failure. (failure ≡ Failure.Memory)
         ⊎ ((fault : DiskFault) × (failure ≡ Failure.Disk fault))) }
 {
     if is_printed_to(rt, path) {
@@ -96,6 +101,8 @@ pub fn commands_of_file<T: Files>(
     alloc: Global,
     path: &str,
 ) -> Result<Vec<Command>, Failure>
+    // A file was opened, and it says them.
+    ensures said { IfOk result (λ commands. SaidByFile T.File.remaining commands.items) }
     ensures spelled { IfOk result (λ commands. (octets : List ℕ) × SaysCommands octets commands.items) }
     ensures failed { IfErr result (λ failure. (failure ≡ Failure.Memory) ⊎ (failure ≡ Failure.Commands)) }
 {

@@ -1,4 +1,4 @@
-//! The program over its words, a reader and two writers.
+//! The program over its words, a reader and two streams.
 #![tactic(auto)]
 
 mod addresses;
@@ -19,6 +19,7 @@ mod request;
 pub mod run;
 mod showing;
 mod status;
+mod stream;
 mod values;
 mod whole_writes;
 
@@ -29,4 +30,5 @@ pub use capturing::Direction;
 pub use failure::{DiskFault, Failure};
 pub use request::{InputFault, Request};
 pub use status::Status;
+pub use stream::{PrintFailed, Stream, WriterStream};
 pub use values::ValueFault;

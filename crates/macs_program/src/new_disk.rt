@@ -4,7 +4,7 @@ ghost use Rattle.std.specs.Prelude.{◌≡◌, ◌⊎◌, ◌<◌, ◌*◌, ◌^
 ghost use Rattle.macs_disk.specs.FileDisks.{IsBlank, disk_in_file, file_given, file_left};
 ghost use Rattle.macs_disk.specs.Files.{Behaves, IsSure};
 ghost use Rattle.macs_journal.specs.declared.fault.JournalFault.TheVariants as journal;
-ghost use Rattle.macs_program.specs.NewDisks.{Formats, IsFree, Permits, refusal_of};
+ghost use Rattle.macs_program.specs.NewDisks.{BlankFails, FormatFails, Formats, IsFree, Permits, refusal_of};
 ghost use Rattle.macs_program.specs.declared.failure.DiskFault.{DiskFault};
 ghost use Rattle.macs_program.specs.declared.failure.DiskFault.TheVariants as disk;
 
@@ -84,6 +84,7 @@ fn blank_disk<F: DiskFile>(file: F, how: NewFile) -> Result<FileDisk<F>, Failure
     ensures given { IfOk result (λ it. file_given it ≡ file) }
     ensures blank { Behaves (F.file file) → IfOk result (λ it.
         IsBlank (F.file file) (F.file (file_left it)) how.layout (disk_in_file F.file it)) }
+    ensures refused { IfErr result (BlankFails how.is_over (F.file file)) }
     ensures failed { IfErr result (λ failure. (failure ≡ Failure.Memory)
         ⊎ ((fault : DiskFault) × (failure ≡ Failure.Disk fault))) }
 {
@@ -114,6 +115,7 @@ pub fn format_disk<T: Files>(
 where
     T::File: DiskFile,
     ensures formats { OnOk result (Formats T.File.file how.layout identity.now) }
+    ensures refused { IfErr result (FormatFails T.File.file how.is_over identity.now) }
     ensures failed { IfErr result (λ failure. (failure ≡ Failure.Memory)
         ⊎ ((fault : DiskFault) × (failure ≡ Failure.Disk fault))) }
 {

@@ -4,23 +4,25 @@
 //! the stack holds one at a time. What a subcommand does with it is a function that is not inlined: else the compiler
 //! has a second place for it.
 
-ghost use Rattle.std.specs.Prelude.{◌≡◌, ◌≢◌, ◌⊎◌, ◌↔◌, List, Option, codes, option_map, Err, IfErr, IfOk};
+ghost use Rattle.std.specs.Prelude.{◌≡◌, ◌≢◌, ◌⊎◌, ◌↔◌, List, Option, codes, option_map, Err, true, IfErr, IfOk};
 ghost use Rattle.std.specs.Io.KnownBytes.{Appends};
 ghost use Rattle.macs_config.specs.Identity.{Identity};
 ghost use Rattle.macs_disk.specs.declared.layout.Layout.{Layout};
 ghost use Rattle.macs_config.specs.declared.refusal.Refusal.{Refusal};
 ghost use Rattle.macs_edge.specs.declared.passing.Summary.{Summary};
 ghost use Rattle.macs_edge.specs.declared.relaying.RelaySummary.{RelaySummary};
-ghost use Rattle.macs_endpoint.specs.State.{State};
 ghost use Rattle.macs_fields.specs.First.{IsFirst};
 ghost use Rattle.macs_program.specs.Addresses.{AddressFaultHolds, SpellsBoth, address_faults};
-ghost use Rattle.macs_program.specs.Applying.{outcome_lines, outcomes_status};
+ghost use Rattle.macs_program.specs.Applying.{outcome_lines};
+ghost use Rattle.macs_program.specs.Capturing.{side_of};
+ghost use Rattle.macs_program.specs.Endpoints.{AppliesFile, AppliesIn, BreaksOff, BreaksOffIn, OpeningFails};
+ghost use Rattle.macs_program.specs.Endpoints.{PassEnds, PassEndsIn, PassesBetween, PassesIn, ShowsIn, shown_text};
 ghost use Rattle.macs_program.specs.Failing.{failure_status};
-ghost use Rattle.macs_program.specs.NewDisks.{Formats};
-ghost use Rattle.macs_program.specs.Relaying.{ComesTo, IsAfterAddresses, IsOfRelay, Relays};
-ghost use Rattle.macs_program.specs.Showing.{line, show_text};
+ghost use Rattle.macs_program.specs.NewDisks.{FormatFails, Formats};
+ghost use Rattle.macs_program.specs.Relaying.{ComesTo, IsAfterAddresses, IsOfRelay, RelayEnds, RelayEndsIn, Relays};
+ghost use Rattle.macs_program.specs.Showing.{line};
 ghost use Rattle.macs_program.specs.Summing.{relay_line, summary_line};
-ghost use Rattle.macs_program.specs.Values.{SpellsIdentity, SpellsLayout, ValueFaultHolds};
+ghost use Rattle.macs_program.specs.Values.{SpellsIdentity, SpellsLayout, ValueFaultHolds, value_faults};
 ghost use Rattle.macs_program.specs.declared.addresses.AddressFault.{AddressFault};
 ghost use Rattle.macs_program.specs.declared.values.ValueFault.{ValueFault};
 
@@ -35,17 +37,17 @@ use crate::output::print;
 use crate::relaying::{bind, relay_frames};
 use crate::showing::show_lines;
 use crate::status::Status;
+use crate::stream::Stream;
 use crate::values::given_by;
 use macs_disk::{DiskFile, SectorDisk};
 use macs_endpoint::Endpoint;
 use macs_words::WireEnds;
 use std::alloc::Global;
-use std::io::Write;
 use std::net::Net;
 use std::rt::Files;
 
 /// `format`: makes a disk file for an endpoint.
-pub fn format<T: Files, W: Write>(
+pub fn format<T: Files, W: Stream>(
     rt: &T,
     alloc: Global,
     disk: &str,
@@ -64,7 +66,13 @@ where
         × Appends (W.contents out.old) (W.contents out.new) (line (codes "formatted")) × (status ≡ Status.Done)) }
     ensures usage { IfErr result (λ failure. failure_status failure ≡ Status.Usage → ((fault : ValueFault)
         × ValueFaultHolds sci.now tx_block rx_block (option_map (λ text. text.now) block.entry) fault) × (out.new ≡ out.old)) }
+    ensures value { (fault : ValueFault) → (result ≡ Err (Failure.Value fault))
+        ↔ IsFirst (ValueFaultHolds sci.now tx_block rx_block (option_map (λ text. text.now) block.entry)) value_faults fault }
+    ensures ended { IfErr result (λ failure. ((fault : ValueFault) × (failure ≡ Failure.Value fault))
+        ⊎ ((identity : Identity) × SpellsIdentity sci.now tx_block rx_block identity
+        × FormatFails T.File.file is_over identity failure) ⊎ (failure ≡ Failure.Output)) }
     ensures silent { IfErr result (λ failure. failure ≢ Failure.Output → out.new ≡ out.old) }
+    ensures broken { IfErr result (λ failure. failure ≡ Failure.Output → W.failed out.new ≡ true) }
 {
     let given = given_by(sci, tx_block, rx_block, block)?;
     let how = NewFile {
@@ -78,19 +86,21 @@ where
 
 /// Applies the commands of a file to an endpoint.
 #[inline(never)]
-fn apply_file<T: Files, D: SectorDisk, W: Write>(
+fn apply_file<T: Files, D: SectorDisk, W: Stream>(
     rt: &T,
     alloc: Global,
     endpoint: &mut Endpoint<D>,
     file: &str,
     out: &mut W,
 ) -> Result<Status, Failure>
-    ensures printed { IfOk result (λ status. (outcomes : List (Option Refusal))
-        × Appends (W.contents out.old) (W.contents out.new) (outcome_lines 1 outcomes)
-        × (status ≡ outcomes_status outcomes)) }
+    ensures printed { IfOk result (λ status.
+        AppliesFile D.disk endpoint.old (W.contents out.old) (W.contents out.new) status endpoint.new) }
+    ensures ended { IfErr result (λ failure. BreaksOff D.disk endpoint.old
+        (W.contents out.old) (W.contents out.new) failure endpoint.new) }
     ensures failed { IfErr result (λ failure. failure_status failure ≢ Status.Usage) }
     ensures lines { IfErr result (λ failure. failure ≢ Failure.Output
         → (outcomes : List (Option Refusal)) × Appends (W.contents out.old) (W.contents out.new) (outcome_lines 1 outcomes)) }
+    ensures broken { IfErr result (λ failure. failure ≡ Failure.Output → W.failed out.new ≡ true) }
 {
     let commands = commands_of_file(rt, alloc, file)?;
     apply_commands(endpoint, commands.as_slice(), out)
@@ -98,7 +108,7 @@ fn apply_file<T: Files, D: SectorDisk, W: Write>(
 
 /// `apply`: applies the commands of a file.
 #[inline(never)]
-pub fn apply<T: Files, W: Write>(
+pub fn apply<T: Files, W: Stream>(
     rt: &T,
     alloc: Global,
     disk: &str,
@@ -107,31 +117,35 @@ pub fn apply<T: Files, W: Write>(
 ) -> Result<Status, Failure>
 where
     T::File: DiskFile,
-    ensures printed { IfOk result (λ status. (outcomes : List (Option Refusal))
-        × Appends (W.contents out.old) (W.contents out.new) (outcome_lines 1 outcomes)
-        × (status ≡ outcomes_status outcomes)) }
+    ensures printed { IfOk result (λ status.
+        AppliesIn T.File.file (W.contents out.old) (W.contents out.new) status) }
+    ensures ended { IfErr result (λ failure. OpeningFails T.File.file failure
+        ⊎ BreaksOffIn T.File.file (W.contents out.old) (W.contents out.new) failure) }
     ensures failed { IfErr result (λ failure. failure_status failure ≢ Status.Usage) }
     ensures lines { IfErr result (λ failure. failure ≢ Failure.Output
         → (outcomes : List (Option Refusal)) × Appends (W.contents out.old) (W.contents out.new) (outcome_lines 1 outcomes)) }
+    ensures broken { IfErr result (λ failure. failure ≡ Failure.Output → W.failed out.new ≡ true) }
 {
     let disk = open_disk(rt, disk)?;
     match &mut Endpoint::open(disk) {
         Ok(endpoint) => apply_file(rt, alloc, endpoint, file, out),
-        Err(refused) => Err(Failure::from(refused.fault)),
+        Err(refused) => Err(Failure::from(refused.fault)), // No command was given.
     }
 }
 
 /// Prints the configuration and the packet numbers of an endpoint.
 #[inline(never)]
-fn show_endpoint<D: SectorDisk, W: Write>(
+fn show_endpoint<D: SectorDisk, W: Stream>(
     alloc: Global,
     endpoint: &Endpoint<D>,
     out: &mut W,
 ) -> Result<Status, Failure>
-    ensures printed { IfOk result (λ status. (s : State)
-        × Appends (W.contents out.old) (W.contents out.new) (show_text s) × (status ≡ Status.Done)) }
+    ensures printed { IfOk result (λ status. Appends (W.contents out.old) (W.contents out.new)
+        (shown_text endpoint.now) × (status ≡ Status.Done)) }
+    ensures ended { IfErr result (λ failure. (failure ≡ Failure.Memory) ⊎ (failure ≡ Failure.Output)) }
     ensures failed { IfErr result (λ failure. failure_status failure ≢ Status.Usage) }
     ensures silent { IfErr result (λ failure. failure ≢ Failure.Output → out.new ≡ out.old) }
+    ensures broken { IfErr result (λ failure. failure ≡ Failure.Output → W.failed out.new ≡ true) }
 {
     let text = show_lines(alloc, endpoint)?;
     print(out, text.as_str())?;
@@ -140,7 +154,7 @@ fn show_endpoint<D: SectorDisk, W: Write>(
 
 /// `show`: prints the configuration and the packet numbers.
 #[inline(never)]
-pub fn show<T: Files, W: Write>(
+pub fn show<T: Files, W: Stream>(
     rt: &T,
     alloc: Global,
     disk: &str,
@@ -148,21 +162,24 @@ pub fn show<T: Files, W: Write>(
 ) -> Result<Status, Failure>
 where
     T::File: DiskFile,
-    ensures printed { IfOk result (λ status. (s : State)
-        × Appends (W.contents out.old) (W.contents out.new) (show_text s) × (status ≡ Status.Done)) }
+    ensures printed { IfOk result (λ status.
+        ShowsIn T.File.file (W.contents out.old) (W.contents out.new) × (status ≡ Status.Done)) }
+    ensures ended { IfErr result (λ failure. OpeningFails T.File.file failure
+        ⊎ (failure ≡ Failure.Memory) ⊎ (failure ≡ Failure.Output)) }
     ensures failed { IfErr result (λ failure. failure_status failure ≢ Status.Usage) }
     ensures silent { IfErr result (λ failure. failure ≢ Failure.Output → out.new ≡ out.old) }
+    ensures broken { IfErr result (λ failure. failure ≡ Failure.Output → W.failed out.new ≡ true) }
 {
     let disk = open_disk(rt, disk)?;
     match &mut Endpoint::open(disk) {
         Ok(endpoint) => show_endpoint(alloc, endpoint, out),
-        Err(refused) => Err(Failure::from(refused.fault)),
+        Err(refused) => Err(Failure::from(refused.fault)), // Nothing is shown.
     }
 }
 
 /// Takes a capture through an endpoint into another one.
 #[inline(never)]
-fn pass_between<T: Files, D: SectorDisk, W: Write>(
+fn pass_between<T: Files, D: SectorDisk, W: Stream>(
     rt: &T,
     alloc: Global,
     endpoint: &mut Endpoint<D>,
@@ -174,9 +191,12 @@ fn pass_between<T: Files, D: SectorDisk, W: Write>(
 where
     T::File: CaptureFile,
     ensures printed { IfOk result (λ status. (summary : Summary)
+        × PassesBetween D.disk (side_of direction) endpoint.old summary endpoint.new
         × Appends (W.contents out.old) (W.contents out.new) (summary_line direction summary) × (status ≡ Status.Done)) }
+    ensures ended { IfErr result (λ failure. PassEnds D.disk (side_of direction) endpoint.old failure endpoint.new) }
     ensures failed { IfErr result (λ failure. failure_status failure ≢ Status.Usage) }
     ensures silent { IfErr result (λ failure. failure ≢ Failure.Output → out.new ≡ out.old) }
+    ensures broken { IfErr result (λ failure. failure ≡ Failure.Output → W.failed out.new ≡ true) }
 {
     let mut source = open_capture(rt, alloc, from)?;
     let mut sink = make_capture(rt, alloc, to)?;
@@ -185,7 +205,7 @@ where
 
 /// `protect` and `validate`: takes a capture through an endpoint.
 #[inline(never)]
-pub fn pass<T: Files, W: Write>(
+pub fn pass<T: Files, W: Stream>(
     rt: &T,
     alloc: Global,
     direction: Direction,
@@ -197,20 +217,24 @@ pub fn pass<T: Files, W: Write>(
 where
     T::File: CaptureFile,
     ensures printed { IfOk result (λ status. (summary : Summary)
+        × PassesIn T.File.file (side_of direction) summary
         × Appends (W.contents out.old) (W.contents out.new) (summary_line direction summary) × (status ≡ Status.Done)) }
+    ensures ended { IfErr result (λ failure. OpeningFails T.File.file failure
+        ⊎ PassEndsIn T.File.file (side_of direction) failure) }
     ensures failed { IfErr result (λ failure. failure_status failure ≢ Status.Usage) }
     ensures silent { IfErr result (λ failure. failure ≢ Failure.Output → out.new ≡ out.old) }
+    ensures broken { IfErr result (λ failure. failure ≡ Failure.Output → W.failed out.new ≡ true) }
 {
     let disk = open_disk(rt, disk)?;
     match &mut Endpoint::open(disk) {
         Ok(endpoint) => pass_between(rt, alloc, endpoint, direction, from, to, out),
-        Err(refused) => Err(Failure::from(refused.fault)),
+        Err(refused) => Err(Failure::from(refused.fault)), // No frame was taken.
     }
 }
 
 /// Relays frames through an endpoint between two wires, which are bound from left to right.
 #[inline(never)]
-fn relay_wires<N: Net, D: SectorDisk, W: Write>(
+fn relay_wires<N: Net, D: SectorDisk, W: Stream>(
     net: &N,
     alloc: Global,
     endpoint: &mut Endpoint<D>,
@@ -220,8 +244,10 @@ fn relay_wires<N: Net, D: SectorDisk, W: Write>(
 ) -> Result<Status, Failure>
     ensures printed { IfOk result (λ status. (summary : RelaySummary) × Relays D.disk turns endpoint.old summary endpoint.new
         × Appends (W.contents out.old) (W.contents out.new) (relay_line summary) × (status ≡ Status.Done)) }
+    ensures ended { IfErr result (λ failure. RelayEnds D.disk turns endpoint.old failure endpoint.new) }
     ensures failed { IfErr result IsAfterAddresses }
     ensures silent { IfErr result (λ failure. failure ≢ Failure.Output → out.new ≡ out.old) }
+    ensures broken { IfErr result (λ failure. failure ≡ Failure.Output → W.failed out.new ≡ true) }
 {
     let mut controlled = bind(net, alloc, addresses.controlled)?;
     let mut common = bind(net, alloc, addresses.common)?;
@@ -230,7 +256,7 @@ fn relay_wires<N: Net, D: SectorDisk, W: Write>(
 
 /// Relays frames through the endpoint on a disk between two wires.
 #[inline(never)]
-fn relay_over<T: Files + Net, W: Write>(
+fn relay_over<T: Files + Net, W: Stream>(
     rt: &T,
     alloc: Global,
     disk: &str,
@@ -242,20 +268,22 @@ where
     T::File: DiskFile,
     ensures printed { IfOk result (λ status. (summary : RelaySummary) × ComesTo T.File.file turns summary
         × Appends (W.contents out.old) (W.contents out.new) (relay_line summary) × (status ≡ Status.Done)) }
+    ensures ended { IfErr result (λ failure. OpeningFails T.File.file failure ⊎ RelayEndsIn T.File.file turns failure) }
     ensures failed { IfErr result IsAfterAddresses }
     ensures silent { IfErr result (λ failure. failure ≢ Failure.Output → out.new ≡ out.old) }
+    ensures broken { IfErr result (λ failure. failure ≡ Failure.Output → W.failed out.new ≡ true) }
 {
     let disk = open_disk(rt, disk)?;
     let mut opened = Endpoint::open(disk);
     let endpoint = match &mut opened {
         Ok(endpoint) => endpoint,
-        Err(refused) => return Err(Failure::from(refused.fault)),
+        Err(refused) => return Err(Failure::from(refused.fault)), // No wire is bound.
     };
     relay_wires(rt, alloc, endpoint, addresses, turns, out)
 }
 
 /// `relay`: relays frames between two wires, the first of which is the controlled side.
-pub fn relay<T: Files + Net, W: Write>(
+pub fn relay<T: Files + Net, W: Stream>(
     rt: &T,
     alloc: Global,
     disk: &str,
@@ -273,8 +301,11 @@ where
         ↔ IsFirst (AddressFaultHolds controlled.entry common.entry) address_faults fault }
     ensures usage { IfErr result (λ failure. failure_status failure ≡ Status.Usage
         → ((fault : AddressFault) × AddressFaultHolds controlled.entry common.entry fault) × (out.new ≡ out.old)) }
+    ensures ended { IfErr result (λ failure. ((fault : AddressFault) × (failure ≡ Failure.Address fault))
+        ⊎ OpeningFails T.File.file failure ⊎ RelayEndsIn T.File.file turns failure) }
     ensures names { IfErr result IsOfRelay }
     ensures silent { IfErr result (λ failure. failure ≢ Failure.Output → out.new ≡ out.old) }
+    ensures broken { IfErr result (λ failure. failure ≡ Failure.Output → W.failed out.new ≡ true) }
 {
     let addresses = addresses_of(controlled, common)?;
     relay_over(rt, alloc, disk, addresses, turns, out)

@@ -1,15 +1,15 @@
 //! Lines of text, and text to standard output.
 
-ghost use Rattle.std.specs.Prelude.{◌≡◌, ◌≤◌, ◌+◌, ◌++◌, length, IfErr, IfOk, OnOk, string_bytes};
+ghost use Rattle.std.specs.Prelude.{◌≡◌, ◌≤◌, ◌+◌, ◌++◌, length, true, IfErr, IfOk, OnErr, OnOk, string_bytes};
 ghost use Rattle.std.specs.Fmt.{decimal};
 ghost use Rattle.std.specs.Io.KnownBytes.{Appends};
 ghost use Rattle.macs_program.specs.Showing.{line};
 
 use crate::failure::Failure;
+use crate::stream::Stream;
 use arrayvec::ArrayVec;
 use itoa::Buffer;
 use std::alloc::AllocError;
-use std::io::Write;
 
 /// The longest line that takes no memory.
 pub const MAX_LINE: usize = 128;
@@ -37,21 +37,24 @@ pub fn ended(mut text: String) -> Result<String, AllocError>
     Ok(text)
 }
 
-/// Writes octets to standard output, whole.
-pub fn print_octets<W: Write>(out: &mut W, octets: &[u8]) -> Result<(), Failure>
+/// Prints octets on standard output, whole, and hands them on. It fails as `Output`, and exactly where the
+/// stream does.
+pub fn print_octets<W: Stream>(out: &mut W, octets: &[u8]) -> Result<(), Failure>
     ensures printed { OnOk result (Appends (W.contents out.old) (W.contents out.new) octets.now) }
     ensures failed { IfErr result (λ failure. failure ≡ Failure.Output) }
+    ensures broken { OnErr result (W.failed out.new ≡ true) }
 {
-    if out.write_all(octets).is_err() || out.flush().is_err() {
+    let Ok(()) = out.print(octets) else {
         return Err(Failure::Output);
-    }
+    };
     Ok(())
 }
 
-/// Writes a text to standard output, whole.
-pub fn print<W: Write>(out: &mut W, text: &str) -> Result<(), Failure>
+/// The same of a text.
+pub fn print<W: Stream>(out: &mut W, text: &str) -> Result<(), Failure>
     ensures printed { OnOk result (Appends (W.contents out.old) (W.contents out.new) text.now) }
     ensures failed { IfErr result (λ failure. failure ≡ Failure.Output) }
+    ensures broken { OnErr result (W.failed out.new ≡ true) }
 {
     print_octets(out, text.as_bytes())
 }

@@ -1,6 +1,6 @@
 //! `relay`: frames between two wires through an endpoint.
 
-ghost use Rattle.std.specs.Prelude.{◌≡◌, ◌≢◌, ◌⊎◌, IfErr, IfOk, Ok};
+ghost use Rattle.std.specs.Prelude.{◌≡◌, ◌≢◌, ◌⊎◌, true, IfErr, IfOk, Ok};
 ghost use Rattle.std.specs.Io.KnownBytes.{Appends};
 ghost use Rattle.macs_edge.specs.Relaying.{IsRelayed, empty_lane, relay_of};
 ghost use Rattle.macs_edge.specs.UdpWires.{peer_of};
@@ -13,11 +13,11 @@ use crate::addresses::WireAddresses;
 use crate::failure::Failure;
 use crate::output::{Line, append_count, print_octets};
 use crate::status::Status;
+use crate::stream::Stream;
 use macs_disk::SectorDisk;
 use macs_edge::{RelaySummary, UdpWire, Wire, relay};
 use macs_endpoint::Endpoint;
 use std::alloc::Global;
-use std::io::Write;
 use std::net::{Net, UdpSocket};
 
 /// The line that a relay ends with.
@@ -47,7 +47,7 @@ pub fn bind<N: Net>(net: &N, alloc: Global, wire: WireAddresses) -> Result<UdpWi
 /// Relays frames between two wires, and prints what became of them. It fails as `Disk` at the first
 /// reservation of packet numbers that cannot be made, with nothing printed; and as `Output` behind the last
 /// turn, where the line cannot be written.
-pub fn relay_frames<D: SectorDisk, P: Wire, C: Wire, W: Write>(
+pub fn relay_frames<D: SectorDisk, P: Wire, C: Wire, W: Stream>(
     endpoint: &mut Endpoint<D>,
     controlled: &mut P,
     common: &mut C,
@@ -63,6 +63,7 @@ pub fn relay_frames<D: SectorDisk, P: Wire, C: Wire, W: Write>(
         (relay_of endpoint.old (P.state controlled.old) (C.state common.old) empty_lane empty_lane) failure
         endpoint.new (P.state controlled.new) (C.state common.new)) }
     ensures silent { IfErr result (λ failure. failure ≢ Failure.Output → out.new ≡ out.old) }
+    ensures broken { IfErr result (λ failure. failure ≡ Failure.Output → W.failed out.new ≡ true) }
 {
     let summary = relay(endpoint, controlled, common, turns)?;
     print_octets(out, relay_line(summary).as_slice())?;

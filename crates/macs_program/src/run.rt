@@ -1,13 +1,15 @@
-//! The program over its words, a reader and two writers.
+//! The program over its words, a reader and two streams.
 
-ghost use Rattle.std.specs.Prelude.{◌≡◌, ◌≢◌, ◌⊎◌, ◌++◌, ◌∷◌, ℕ, List, [], true, take, IfErr, IfOk, IfSome, OnOk, string_bytes};
+ghost use Rattle.std.specs.Prelude.{◌≡◌, ◌≢◌, ◌⊎◌, ◌++◌, ◌∷◌, ℕ, List, [], true, take, IfErr, IfOk, IfSome, OnErr, OnOk, string_bytes};
 ghost use Rattle.std.specs.Io.KnownBytes.{Appends};
 ghost use Rattle.clap.specs.Words.{subcommand_of, takes};
 ghost use Rattle.macs_program.specs.Answer.{answer_text};
 ghost use Rattle.macs_program.specs.Failing.{failure_status};
-ghost use Rattle.macs_program.specs.Run.{HasPrinted, HasWrongValues, Performs, Prints, Replies, code_of};
+ghost use Rattle.macs_program.specs.Run.{FailsFor, HasPrinted, HasWrongValues, OpenFails, Performs, PrintedBefore, Prints};
+ghost use Rattle.macs_program.specs.Run.{PrintsUnlessFailed, Replies, code_of, complaint};
 ghost use Rattle.macs_words.specs.Words.{AsksForNothing, Names, macsecd, texts};
 ghost use Rattle.macs_words.specs.declared.action.Action.{Action};
+ghost use Rattle.macs_program.specs.declared.failure.Failure.{Failure};
 ghost use Rattle.macs_program.specs.declared.status.Status.{Status};
 
 use crate::answer::{Answer, answer_of};
@@ -18,11 +20,12 @@ use crate::on_disk::{apply, format, pass, relay, show};
 use crate::output::print;
 use crate::request::InputFault;
 use crate::status::Status;
+use crate::stream::{PrintFailed, Stream};
 use arrayvec::ArrayVec;
 use macs_words::{Action, action_of, topic_of};
 use std::alloc::{AllocError, Allocator, Global};
 use std::io;
-use std::io::{Read, Write};
+use std::io::Read;
 use std::net::Net;
 use std::rt::Files;
 
@@ -54,7 +57,7 @@ pub fn line_of<A: Allocator>(alloc: A, answer: &Answer) -> Result<String<A>, All
 
 /// `open`: reads an input, and prints the answer to it.
 #[inline(never)]
-fn open_input<R: Read, W: Write>(
+fn open_input<R: Read, W: Stream>(
     alloc: Global,
     input: &mut R,
     out: &mut W,
@@ -63,6 +66,9 @@ fn open_input<R: Read, W: Write>(
         (λ octets. Prints octets (W.contents out.old) (W.contents out.new) status)) }
     ensures status { IfOk result (λ status. (status ≡ Status.Done) ⊎ (status ≡ Status.Refused)) }
     ensures failed { IfErr result (λ failure. failure_status failure ≡ Status.Fault) }
+    ensures ended { IfErr result (OpenFails (R.remaining input.old)) }
+    ensures silent { IfErr result (λ failure. failure ≢ Failure.Output → out.new ≡ out.old) }
+    ensures broken { IfErr result (λ failure. failure ≡ Failure.Output → W.failed out.new ≡ true) }
 {
     let text = read_input(input)?;
     let answer = answer_of(text.as_slice())?;
@@ -71,7 +77,7 @@ fn open_input<R: Read, W: Write>(
 }
 
 /// Does what an action asks for.
-fn perform<T: Files + Net, R: Read, W: Write>(
+fn perform<T: Files + Net, R: Read, W: Stream>(
     rt: &T,
     alloc: Global,
     action: Action,
@@ -81,6 +87,7 @@ fn perform<T: Files + Net, R: Read, W: Write>(
 where
     T::File: CaptureFile,
     ensures performs { Performs T.File.file W.contents action.entry (R.remaining input.old) out.old result out.new }
+    ensures broken { IfErr result (λ failure. failure ≡ Failure.Output → W.failed out.new ≡ true) }
     ensures unread { action.entry ≢ Action.Open → input.new ≡ input.old }
 {
     match action {
@@ -117,7 +124,7 @@ where
 }
 
 /// Does what the words ask for.
-fn act<T: Files + Net, R: Read, W: Write>(
+fn act<T: Files + Net, R: Read, W: Stream>(
     rt: &T,
     alloc: Global,
     words: &[&str],
@@ -137,6 +144,11 @@ where
         → (takes macsecd (texts words.now) ≡ true)
         × (action : Action) × Names (subcommand_of macsecd (texts words.now)) action × (action ≢ Action.Open)
         × HasPrinted action (W.contents out.old) (W.contents out.new)) }
+    ensures fails { IfErr result (FailsFor T.File.file (texts words.now) (R.remaining input.old)
+        (W.contents out.old) (W.contents out.new)) }
+    ensures before { IfErr result (λ failure. failure ≢ Failure.Output
+        → PrintedBefore (texts words.now) (W.contents out.old) (W.contents out.new)) }
+    ensures broken { IfErr result (λ failure. failure ≡ Failure.Output → W.failed out.new ≡ true) }
     ensures unread { ((takes macsecd (texts words.now) ≡ true)
         × Names (subcommand_of macsecd (texts words.now)) Action.Open → ⊥) → input.new ≡ input.old }
 {
@@ -148,11 +160,24 @@ where
     perform(rt, alloc, action, input, out)
 }
 
-/// Writes what ends a run to standard error as one line, and answers the status of the process.
-pub fn report<E: Write>(failure: &Failure, err: &mut E) -> u8
-    ensures { result ≡ code_of (failure_status failure.now) }
+/// Prints the line of a failure.
+fn complain<E: Stream>(failure: &Failure, err: &mut E) -> Result<(), PrintFailed>
+    ensures printed { OnOk result (Appends (E.contents err.old) (E.contents err.new) (complaint failure.now)) }
+    ensures broken { OnErr result (E.failed err.new ≡ true) }
 {
-    let _ = writeln!(err, "macsecd: {}", failure.text());
+    err.print(b"macsecd: ")?;
+    err.print(failure.text().as_bytes())?;
+    err.print(b"\n")
+}
+
+/// Prints what ends a run on standard error as one line, and answers the status of the process, also
+/// where the line cannot be printed.
+pub fn report<E: Stream>(failure: &Failure, err: &mut E) -> u8
+    ensures status { result ≡ code_of (failure_status failure.now) }
+    ensures printed { PrintsUnlessFailed (E.contents err.old) (E.contents err.new) (E.failed err.new)
+        (complaint failure.now) }
+{
+    let _ = complain(failure, err);
     failure.status().code()
 }
 
@@ -160,7 +185,7 @@ pub fn report<E: Write>(failure: &Failure, err: &mut E) -> u8
 /// standard error. It answers the status of the process. Faults are found in this order: the words;
 /// the SCI, the blocks and the addresses; the disk file and its opening; the other files or the binds from
 /// left to right; that the order among files is this one is tested.
-pub fn run<T: Files + Net, R: Read, W: Write, E: Write>(
+pub fn run<T: Files + Net, R: Read, W: Stream, E: Stream>(
     rt: &T,
     alloc: Global,
     words: &[&str],
@@ -189,6 +214,15 @@ where
     ensures disk { result ≡ 4 → (takes macsecd (texts words.now) ≡ true)
         × (action : Action) × Names (subcommand_of macsecd (texts words.now)) action × (action ≢ Action.Open)
         × HasPrinted action (W.contents out.old) (W.contents out.new) }
+    // At 2, 4 and 5 there is a failure of this status, of the words or of the action that they name, whose line is
+    // printed on standard error, whole, unless that fails. Nothing was printed on standard output before it but, of
+    // `apply`, the lines of the commands before the failure; where the failure is that of standard output, a print
+    // there failed.
+    ensures reported { (result ≢ 0) → (result ≢ 3) → (failure : Failure) × (result ≡ code_of (failure_status failure))
+        × PrintsUnlessFailed (E.contents err.old) (E.contents err.new) (E.failed err.new) (complaint failure)
+        × FailsFor T.File.file (texts words.now) (R.remaining input.old) (W.contents out.old) (W.contents out.new) failure
+        × (failure ≢ Failure.Output → PrintedBefore (texts words.now) (W.contents out.old) (W.contents out.new))
+        × (failure ≡ Failure.Output → W.failed out.new ≡ true) }
     // Where the words are none that are taken, as those that ask for help, or name another action than
     // `open`, the input is left unread.
     ensures unread { ((takes macsecd (texts words.now) ≡ true)

@@ -71,12 +71,12 @@ meaning-identity edition c s is =
 -- ---- the snapshot in its place
 
 -- what a journal stands for that began anew with a snapshot of what it stood for
-pub meaning-compacted : (edition : Edition) (c : Content) (s : Standing) (records : List Record) → meaning_of edition c ≡ Some s
+pub meaning-compacted : (edition : Edition) (c : Content) (s : Standing) (records : List Record) → edition.format_two ≡ true → meaning_of edition c ≡ Some s
     → snapshot_of edition s.identity records ≡ Some s → meaning_of edition (compacted c records) ≡ Some s
-meaning-compacted edition c s records is stands =
+meaning-compacted edition c s records takes_two is stands =
     let whole : take (length records) records ≡ records = take_all (length records) records (omega arith) in
     let none : drop (length records) records ≡ [] = drop_all (length records) records (omega arith) in
     let same : c.head.identity ≡ s.identity = sym (meaning-identity edition c s is) in
-    meaning-read edition (compacted c records) (read-meaning edition c s is).0
+    meaning-read edition (compacted c records) takes_two
     ∙ (λ i. option_and_then (λ s. standing_after_records s (none i)) (snapshot_of edition (same i) (whole i)))
     ∙ ap (λ (o : Option Standing). option_and_then (λ s. standing_after_records s []) o) stands

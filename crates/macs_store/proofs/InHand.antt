@@ -95,6 +95,8 @@ module _ {D : Type 0} (disk_of : D → Disk) (s : StoreValue D) (idle : IsIdle s
           stands = stored.stands;
           becomes = standing-with this_edition stored.content r (standing_in s) (held-within disk_of s.journal stored.content holds) stored.stands;
           leads = refl;
+          form = stored.form;
+          form_next = stored.form;
         }
 
     append-in_hand : (j : JournalValue D) (after : Standing) → journal.Starts disk_of s.journal (Appends r) taken j
@@ -147,8 +149,10 @@ module _ {D : Type 0} (disk_of : D → Disk) (s : StoreValue D) (idle : IsIdle s
           next = compacted stored.content records;
           holding = renewal-with (disk_of j.disk) j.place j.hand records stored.content (starts.holds stored.content holds);
           stands = stored.stands;
-          becomes = meaning-compacted this_edition stored.content (standing_in s) records stored.stands stands;
+          becomes = meaning-compacted this_edition stored.content (standing_in s) records refl stored.stands stands;
           leads = tt;
+          form = stored.form;
+          form_next = refl;
         }
 
     renewal-in_hand : (j : JournalValue D) (after : Standing) → journal.Starts disk_of s.journal (Renews records) taken j

@@ -4,6 +4,7 @@ pub mod Adjusting
 pub mod Formats
 pub mod Keeping
 pub mod Compacting
+pub mod Migrating
 mod InHand
 mod Turns
 pub mod StartedCommands

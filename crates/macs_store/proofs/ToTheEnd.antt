@@ -19,7 +19,7 @@ use Rattle.macs_store.specs.Table.{standing_of}
 use Rattle.macs_store.specs.Value.{IsIdle, IsStored, StoreValue, disk_in, is_stopped, standing_in}
 use Rattle.macs_store.specs.declared.fault.CommitFault.{CommitFault}
 use Rattle.macs_store.specs.declared.fault.CommitFault.TheVariants as commit_fault
-use Rattle.macs_store.proofs.Keeping.{stored-image}
+use Rattle.macs_store.proofs.Keeping.{stored-form, stored-image}
 
 -- ---- work in hand, done to its end
 
@@ -65,7 +65,8 @@ module _ {D : Type 0} (disk_of : D → Disk) (old : StoreValue D) (after : Stand
 module _ {D : Type 0} (disk_of : D → Disk) (old : StoreValue D) (idle : IsIdle old) (after : Standing) where
   left-alone : IsStored disk_of old → Leaves (disk_in disk_of old) (disk_in disk_of old) (StandsForEither (standing_in old) after)
   left-alone stored =
-      Leaves-start (disk_in disk_of old) (StandsForEither (standing_in old) after) (λ image left. inl (stored-image disk_of old idle stored image left))
+      Leaves-start (disk_in disk_of old) (StandsForEither (standing_in old) after)
+      (λ image left. (inl (stored-image disk_of old idle stored image left), stored-form disk_of old idle stored image left))
 
   -- nothing was taken in hand
   refused-alone : (at : JournalFault) → Starts disk_of old after (Err at) old → Keeps disk_of old after (Err at) old
@@ -164,15 +165,16 @@ module _ {D : Type 0} (disk_of : D → Disk) (old : StoreValue D) (idle : IsIdle
 accepted-leaves : (old new : Disk) (s after : Standing) (command : Command) → accept s command ≡ Ok after → Leaves old new (StandsForEither s after)
     → Leaves old new (CommitLeaves s command)
 accepted-leaves old new s after command accepts leaves =
-    Leaves-weaker old new (StandsForEither s after) (CommitLeaves s command) (λ image left. elim left [
-      | inl before ↦ inl before
-      | inr done ↦ inr (after, accepts, done)
+    Leaves-weaker old new (StandsForEither s after) (CommitLeaves s command) (λ image left. elim left.0 [
+      | inl before ↦ (inl before, left.1)
+      | inr done ↦ (inr (after, accepts, done), left.1)
     ]) leaves
 
 module _ {D : Type 0} (disk_of : D → Disk) (old : StoreValue D) (idle : IsIdle old) (command : Command) where
   nothing-left : IsStored disk_of old → Leaves (disk_in disk_of old) (disk_in disk_of old) (CommitLeaves (standing_in old) command)
   nothing-left stored =
-      Leaves-start (disk_in disk_of old) (CommitLeaves (standing_in old) command) (λ image left. inl (stored-image disk_of old idle stored image left))
+      Leaves-start (disk_in disk_of old) (CommitLeaves (standing_in old) command)
+      (λ image left. (inl (stored-image disk_of old idle stored image left), stored-form disk_of old idle stored image left))
 
   -- no device call was made
   alone-fails : (at : CommitFault) (d : Disk) → (IsErrOf {T = Unit {0}} (Err at) commit_fault.Disk → ⊥) → IsCommitOf d d (Err at)

@@ -207,6 +207,8 @@ module _ {D : Type 0} (disk_of : D → Disk) (s : StoreValue D) (runs : is_stopp
             stands = stored.stands;
             becomes = stored.becomes;
             leads = stored.leads;
+            form = stored.form;
+            form_next = stored.form_next;
           };
           kept = λ same. absurd (let no : Going ≡ Finished = cc in cc);
         }
@@ -259,6 +261,8 @@ module _ {D : Type 0} (disk_of : D → Disk) (s : StoreValue D) (runs : is_stopp
         stands = means;
         becomes = means;
         leads = refl;
+        form = stored.form_next;
+        form_next = stored.form_next;
       }
 
   pub append-finished : (records : List Record) (j : JournalValue D) (held : StandingValue) → standing_after_record (standing_in s) r ≡ Some (standing_of held)
@@ -345,6 +349,8 @@ module _ {D : Type 0} (disk_of : D → Disk) (s : StoreValue D) (runs : is_stopp
             stands = means;
             becomes = standing-with this_edition stored.next r (standing_in s) (held-within disk_of mid stored.next holds) means;
             leads = refl;
+            form = stored.form_next;
+            form_next = stored.form_next;
           }
 
       pub renewal-finished : Steps disk_of s (answers Going) (record { journal = j; held = s.held; hand = Appending r })

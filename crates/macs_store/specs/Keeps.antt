@@ -55,7 +55,7 @@ most_calls s = most_with_change (used_slots s) (standing_in s)
 
 -- A call keeps one change, which makes `after` of what stands. Refused as Stopped, then as GenerationsSpent; these are judged before the
 -- work starts, and change nothing. Disk where a device call failed: memory is as it was, and a power loss leaves what stood before or
--- what it becomes. Where all slots are used the journal begins anew first, with a snapshot of what stands.
+-- what it becomes, in format two. Where all slots are used the journal begins anew first, with a snapshot of what stands.
 pub record Keeps {D : Type 0} (disk_of : D → disk.Disk) (old : StoreValue D) (after : Standing) (result : Result (Unit {0}) JournalFault) (new : StoreValue D) : Type 0 where
   pub stopped : IsErrOf result journal.Stopped ↔ (is_stopped old ≡ true)
   pub spent : IsErrOf result journal.GenerationsSpent ↔ IsSpent old
@@ -89,7 +89,7 @@ pub record IsCommitOf (old new : disk.Disk) (result : Result (Unit {0}) CommitFa
 
 -- A call keeps a command and applies it. Refused as Stopped, then as Refused with the first refusal that holds, then as GenerationsSpent;
 -- these are judged before the work starts, and change nothing. Disk where a device call failed: memory is as it was, and a power loss
--- leaves what stood before or what the command makes of it. Where all slots are used the journal begins anew first, with a snapshot of what
+-- leaves what stood before or what the command makes of it, in format two. Where all slots are used the journal begins anew first, with a snapshot of what
 -- stands.
 pub record Commits {D : Type 0} (disk_of : D → disk.Disk) (old : StoreValue D) (command : Command) (result : Result (Unit {0}) CommitFault) (new : StoreValue D) : Type 0 where
   pub stopped : IsErrOf result commit.Stopped ↔ (is_stopped old ≡ true)

@@ -8,6 +8,7 @@ use Rattle.macs_journal.specs.Stepping.{RenewsWith, IsAppendHand}
 use Rattle.macs_journal.specs.Value.{HoldsWith, JournalValue, left_of}
 use Rattle.macs_journal.specs.Value as journal
 use Rattle.macs_record.specs.Commands.{record_of}
+use Rattle.macs_record.specs.declared.format.Format.TheVariants.{Two}
 use Rattle.macs_record.specs.declared.record.Record.{Record}
 use Rattle.macs_record.specs.declared.record.Record.TheVariants.{RxCeiling, TxCeiling}
 use Rattle.macs_store.specs.Replay.{meaning_of, standing_after_record}
@@ -135,7 +136,7 @@ LeadsTo Empty before after = after ≡ before
 LeadsTo (Renewing r) before after = Unit {0}
 LeadsTo (Appending r) before after = after ≡ content_with_record before r
 
--- the disk holds what stands in memory, with the work in hand
+-- The disk holds what stands in memory, with the work in hand: in format two, before that work and after it.
 pub record IsStored {D : Type 0} (disk_of : D → disk.Disk) (s : StoreValue D) : Type 0 where
   pub content : Content
   pub next : Content
@@ -143,3 +144,5 @@ pub record IsStored {D : Type 0} (disk_of : D → disk.Disk) (s : StoreValue D) 
   pub stands : meaning_of this_edition content ≡ Some (standing_in s)
   pub becomes : meaning_of this_edition next ≡ standing_next (standing_in s) s.hand
   pub leads : LeadsTo s.hand content next
+  pub form : content.head.format ≡ Two
+  pub form_next : next.head.format ≡ Two

@@ -44,7 +44,7 @@ fn is_read(format: Format) -> bool
 {
     match format {
         Format::One => true,
-        Format::Two => false,
+        Format::Two => true,
     }
 }
 

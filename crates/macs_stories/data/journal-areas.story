@@ -110,18 +110,18 @@ sync
 open-journal = BadJournal
 
 # The version is in octets 8 to 11 of a head: 1 for format one, 2 for format two.
-setup version two
-write 0 4d534543484541440000000200000000000000010000000112153524c0895e810000000400000004
+setup version one
+write 0 4d534543484541440000000100000000000000010000000112153524c0895e810000000400000004
 sync
 
-story a journal of format two is recovered and begins anew in it
+story a journal of either format begins anew in format two
 use new
 use found
-version = 1
-close
-use version two
-use found
 version = 2
+close
+use version one
+use found
+version = 1
 snapshot = 1
 records = settings
 compact set-replay on 9, set-replay on 3
@@ -131,13 +131,6 @@ use found
 version = 2
 snapshot = 2
 records = 9 3
-
-story a journal of format two is no journal to this edition
-use new
-use version two
-open-store = BadJournal
-open = BadJournal
-format 12153524c0895e81 4 4 = AlreadyFormatted
 
 story a head of another version is none
 with head=4d534543484541440000000000000000000000010000000112153524c0895e810000000400000004

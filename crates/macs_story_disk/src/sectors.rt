@@ -49,12 +49,12 @@ pub fn identity_of(words: &mut Words<'_>) -> Option<Identity> {
     Identity::new(sci, tx, words.short()?)
 }
 
-/// `head GENERATION COUNT IDENTITY`.
-fn head_of(words: &mut Words<'_>) -> Option<Sector> {
+/// `head GENERATION COUNT IDENTITY`, of an area of this format.
+fn head_of(format: Format, words: &mut Words<'_>) -> Option<Sector> {
     let generation = words.number()?;
     let count = words.short()?;
     let identity = identity_of(words)?;
-    Some(encode_head(&Head::new(Format::One, generation, count, identity)?))
+    Some(encode_head(&Head::new(format, generation, count, identity)?))
 }
 
 /// Octets in hex, and behind them `zeros`, also where nothing is said, or `ones`.
@@ -96,7 +96,8 @@ fn written(word: &str, words: &mut Words<'_>, alloc: Global) -> Option<Sector> {
         "ones" => Some([0xff; SECTOR]),
         "fill" => Some([words.hex_octet()?; SECTOR]),
         "gate" => Some(open_gate()),
-        "head" => head_of(words),
+        "head" => head_of(Format::Two, words),
+        "old-head" => head_of(Format::One, words),
         "record" => Some(encode(&record_of(words)?)),
         _ => front_of(word, words, alloc),
     }

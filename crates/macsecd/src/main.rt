@@ -1,8 +1,8 @@
 //! A MACsec endpoint on the command line (IEEE Std 802.1AE-2018).
 #![tactic(auto)]
 
-use macs_program::Failure;
 use macs_program::run::{report, run};
+use macs_program::{Failure, WriterStream};
 use std::env;
 use std::fs::File;
 use std::io::ErrorKind;
@@ -51,8 +51,8 @@ fn run_process(rt: &HostRuntime) -> Result<u8, Failure> {
         rt.alloc(),
         words.as_slice(),
         &mut rt.stdin(),
-        &mut rt.stdout(),
-        &mut rt.stderr(),
+        &mut WriterStream::new(rt.stdout()),
+        &mut WriterStream::new(rt.stderr()),
     );
     Ok(status)
 }
@@ -60,7 +60,7 @@ fn run_process(rt: &HostRuntime) -> Result<u8, Failure> {
 fn main(rt: HostRuntime) -> ExitCode {
     let status = match run_process(&rt) {
         Ok(status) => status,
-        Err(failure) => report(&failure, &mut rt.stderr()),
+        Err(failure) => report(&failure, &mut WriterStream::new(rt.stderr())),
     };
     ExitCode::from(status)
 }

@@ -25,8 +25,8 @@ mod streams;
 mod wires;
 mod words;
 
-use macs_program::CaptureFile;
 use macs_program::run::run;
+use macs_program::{CaptureFile, WriterStream};
 use std::alloc::{AllocError, Global};
 use std::fs::File;
 use std::io::{Read, Write};
@@ -98,7 +98,9 @@ fn status_of<T: Files + Net, R: Read, W: Write, E: Write>(
 where
     T::File: CaptureFile,
 {
-    run(system, alloc, words, input, out, err)
+    let mut out = WriterStream::new(out);
+    let mut err = WriterStream::new(err);
+    run(system, alloc, words, input, &mut out, &mut err)
 }
 
 /// Runs the words over a system on what a reader gives, and asserts the whole outcome.

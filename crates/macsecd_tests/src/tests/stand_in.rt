@@ -18,6 +18,12 @@ pub enum Broken {
     Nothing,
     /// It is not opened.
     Opening(ErrorKind),
+    /// It is not opened to read: that is not allowed.
+    Unreadable,
+    /// It is a device, which is opened to write alone: an opening to read would wait.
+    Special,
+    /// Standard output goes there.
+    Printed,
     /// This read. Each one before it gives 100 octets at most.
     Read(u32, ErrorKind),
     /// This write.
@@ -194,6 +200,13 @@ impl<R: Files<File = File>> Files for StandIn<'_, R> {
         if let Broken::Opening(kind) = broken {
             return Err(io::Error::from(kind));
         }
+        match broken {
+            Broken::Unreadable if how.asks_read() => {
+                return Err(io::Error::from(ErrorKind::PermissionDenied));
+            }
+            Broken::Special if how.asks_read() => return Err(io::Error::from(ErrorKind::Other)),
+            _ => {}
+        }
         let file = self.system.open_file(how, path)?;
         Ok(BrokenFile {
             file,
@@ -207,7 +220,11 @@ impl<R: Files<File = File>> Files for StandIn<'_, R> {
     }
 
     fn metadata(&self, path: &str) -> io::Result<Metadata> {
-        self.system.metadata(path)
+        match self.broken {
+            Broken::Printed if path == "/dev/stdout" => self.system.metadata(self.path),
+            Broken::Special if path == self.path => self.system.metadata("/dev/full"),
+            _ => self.system.metadata(path),
+        }
     }
 
     fn symlink_metadata(&self, path: &str) -> io::Result<Metadata> {

@@ -75,6 +75,33 @@ impl Write for Narrow {
     }
 }
 
+/// A writer that is interrupted before each octet that it takes.
+#[derive(Drop)]
+struct Patient {
+    taken: Vec<u8>,
+    is_interrupted: bool,
+}
+
+impl Write for Patient {
+    fn write(&mut self, buf: &[u8]) -> io::Result<usize> {
+        self.is_interrupted = !self.is_interrupted;
+        if self.is_interrupted {
+            return Err(io::Error::from(io::ErrorKind::Interrupted));
+        }
+        match buf {
+            [first, ..] => {
+                self.taken.push(*first)?;
+                Ok(1)
+            }
+            [] => Ok(0),
+        }
+    }
+
+    fn flush(&mut self) -> io::Result<()> {
+        Ok(())
+    }
+}
+
 /// A writer that fails, at a write or only at a flush.
 #[derive(Drop)]
 struct Failing {
@@ -189,6 +216,16 @@ fn a_writer_that_stops_is_output(rt: HostRuntime) {
         expect_narrow(&rt, rt.alloc(), room, 5, "macsecd: output\n");
     }
     expect_narrow(&rt, rt.alloc(), whole, 0, "");
+}
+
+#[test]
+fn an_interrupted_print_is_made_again(rt: HostRuntime) {
+    let mut out = Patient {
+        taken: Vec::new(rt.alloc()),
+        is_interrupted: false,
+    };
+    expect_written(&rt, rt.alloc(), "open", &mut out, 0, "");
+    assert_eq!(rt; out.taken.as_slice(), INTEGRITY_LINE.as_bytes());
 }
 
 #[test]

@@ -1,5 +1,5 @@
 use Rattle.std.proofs.Common.{rules}
-use Rattle.macs_endpoint.proofs.Formatted.{format-leaves}
+use Rattle.macs_endpoint.proofs.Formatted.{format-leaves, kept-as}
 use Rattle.macs_endpoint.proofs.formatting.format.Goals as goal
 
 pub returns : goal.returns
@@ -10,5 +10,5 @@ returns g c =
       blank = search rules;
       any_moment = λ honest. format-leaves g.D.SectorDisk.disk c.args.disk.now c.format.new.disk c.args.identity.now
           (λ small. made.device.untouched (made.device.small.1 small)) (made.any_moment honest);
-      kept = search rules;
+      kept = kept-as g.D.SectorDisk.disk c.args.disk.now c.format.new.disk c.args.identity.now c.format.result made;
     }

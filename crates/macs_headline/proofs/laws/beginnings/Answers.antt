@@ -1,3 +1,4 @@
+use Rattle.macs_headline.proofs.AlikeEditions.{these-are-larger}
 use Rattle.macs_headline.proofs.Chains.{fuses-change-none, new-disks, passed-on, settled-disks, these-are-new}
 use Rattle.macs_headline.proofs.Older.{larger-find, older}
 use Rattle.macs_headline.proofs.laws.beginnings.Goals as goal
@@ -10,6 +11,9 @@ returns-clause-as_new c = these-are-new
 
 pub returns-clause-settled : goal.returns-clause-settled
 returns-clause-settled c = settled-disks
+
+pub returns-clause-as_larger : goal.returns-clause-as_larger
+returns-clause-as_larger c = these-are-larger
 
 pub returns-clause-larger : goal.returns-clause-larger
 returns-clause-larger c = older

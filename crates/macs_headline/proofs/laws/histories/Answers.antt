@@ -1,8 +1,10 @@
-use Rattle.macs_headline.proofs.Chains.{calls-are-deeds, chains-answer, chains-keep-sizes, chains-tell, deeds-are-histories, new-deeds-are-histories}
+use Rattle.macs_headline.proofs.Chains.{calls-are-deeds, chains-answer, chains-keep-sizes, chains-tell, deeds-are-histories, lives-are-deeds, new-deeds-are-histories}
 use Rattle.macs_headline.proofs.ExactEnds.{lives-end-exactly}
 use Rattle.macs_headline.proofs.Faults.{faults-are-failures}
-use Rattle.macs_headline.proofs.Moments.{ends-are-cuts, frames-are-delivered-once, frames-are-written-once, lives-are-moments, lives-fit, lives-fit-unbegun, lives-keep-commands, openings-find}
+use Rattle.macs_headline.proofs.Idling.{idle-finds-no-work}
+use Rattle.macs_headline.proofs.Moments.{cut-frames-are-below, ends-are-cuts, frames-are-delivered-once, frames-are-written-once, lives-are-moments, lives-fit, lives-fit-unbegun, lives-keep-commands, openings-find}
 use Rattle.macs_headline.proofs.Refusals.{refusals-are-failures}
+use Rattle.macs_headline.proofs.Spending.{spent-are-spent}
 use Rattle.macs_headline.proofs.Tickets.{lives-keep-tickets}
 use Rattle.macs_headline.proofs.laws.histories.Goals as goal
 
@@ -17,6 +19,9 @@ returns-clause-fit_unbegun g c = lives-fit-unbegun g.D.SectorDisk.disk g.met.D.S
 
 pub returns-clause-fit_exactly : goal.returns-clause-fit_exactly
 returns-clause-fit_exactly g c = lives-end-exactly g.D.SectorDisk.disk
+
+pub returns-clause-idle : goal.returns-clause-idle
+returns-clause-idle g c = idle-finds-no-work g.D.SectorDisk.disk
 
 pub returns-clause-faults : goal.returns-clause-faults
 returns-clause-faults g c = faults-are-failures g.D.SectorDisk.disk
@@ -39,6 +44,9 @@ returns-clause-commands g c = lives-keep-commands g.D.SectorDisk.disk g.met.D.Se
 pub returns-clause-frames : goal.returns-clause-frames
 returns-clause-frames g c = frames-are-written-once g.D.SectorDisk.disk g.met.D.SectorDisk.sound
 
+pub returns-clause-cut_frames : goal.returns-clause-cut_frames
+returns-clause-cut_frames g c = cut-frames-are-below g.D.SectorDisk.disk g.met.D.SectorDisk.sound
+
 pub returns-clause-deliveries : goal.returns-clause-deliveries
 returns-clause-deliveries g c = frames-are-delivered-once g.D.SectorDisk.disk g.met.D.SectorDisk.sound
 
@@ -57,5 +65,11 @@ returns-clause-tickets g c = lives-keep-tickets g.D.SectorDisk.disk
 pub returns-clause-told : goal.returns-clause-told
 returns-clause-told g c = chains-tell g.D.SectorDisk.disk
 
+pub returns-clause-told_alone : goal.returns-clause-told_alone
+returns-clause-told_alone g c = lives-are-deeds g.D.SectorDisk.disk
+
 pub returns-clause-answers : goal.returns-clause-answers
 returns-clause-answers g c = chains-answer g.D.SectorDisk.disk
+
+pub returns-clause-spent : goal.returns-clause-spent
+returns-clause-spent g c = spent-are-spent g.D.SectorDisk.disk

@@ -1,4 +1,4 @@
-use Rattle.std.proofs.Common.{refl}
+use Rattle.std.proofs.Common.{inl, inr, refl}
 use Rattle.std.proofs.lemmas.Result.{IfErr-weaker, IfOk-weaker, err_from_is_err_and}
 use Rattle.macs_program.proofs.FirstFault.{first-holds}
 use Rattle.macs_program.proofs.Relayed.{address-handed, behind-no-usage, behind-of-relay, no-address}
@@ -41,3 +41,11 @@ returns-clause-usage g c =
 
 pub returns-clause-names : goal.returns-clause-names
 returns-clause-names g c = IfErr-weaker c.relay_over.result _ _ behind-of-relay c.relay_over.ensures.failed
+
+pub returns-in_err-addresses-clause-ended : goal.returns-in_err-addresses-clause-ended
+returns-in_err-addresses-clause-ended g c =
+    let p = err_from_is_err_and c.from_residual.result c.from_residual.ensures.1 in
+    rw p.1 (inl (c.in_err-addresses.field-0.0, p.2))
+
+pub returns-clause-ended : goal.returns-clause-ended
+returns-clause-ended g c = IfErr-weaker c.relay_over.result _ _ (λ failure ends. inr ends) c.relay_over.ensures.ended

@@ -40,3 +40,27 @@ returns-clause-unread g c = λ refused.
 
 pub returns-clause-status : goal.returns-clause-status
 returns-clause-status g c = c.perform.ensures.performs.status
+
+pub returns-in_err-action-clause-before : goal.returns-in_err-action-clause-before
+returns-in_err-action-clause-before g c =
+    let p = err_from_is_err_and c.from_residual-in_err-action.result c.from_residual-in_err-action.ensures.1 in
+    rw p.1 (λ other. inl (refl {a = g.W.Stream.contents c.args.out.now}))
+
+pub returns-clause-before : goal.returns-clause-before
+returns-clause-before g c =
+    IfErr-weaker c.perform.result _ _ (λ failure printed other. inr (c.in_ok-action.action, c.in_ok-action.ensures.read, printed other)) c.perform.ensures.performs.before
+
+pub returns-in_err-print-clause-fails : goal.returns-in_err-print-clause-fails
+returns-in_err-print-clause-fails g c =
+    let p = err_from_is_err_and c.from_residual.result c.from_residual.ensures.1 in
+    let asked = (c.topic_of.ensures c.in-Some.topic).0 c.in-Some.is in
+    rw (p.1, p.2) (inr (inl (c.in-Some.topic, asked, c.in_err-print.ensures.failed)))
+
+pub returns-in_err-action-clause-fails : goal.returns-in_err-action-clause-fails
+returns-in_err-action-clause-fails g c =
+    let p = err_from_is_err_and c.from_residual-in_err-action.result c.from_residual-in_err-action.ensures.1 in
+    rw p.1 (inl (c.in_err-action.field-0.0, p.2))
+
+pub returns-clause-fails : goal.returns-clause-fails
+returns-clause-fails g c =
+    IfErr-weaker c.perform.result _ _ (λ failure fails. inr (inr (c.in_ok-action.action, c.in_ok-action.ensures.read, fails))) c.perform.ensures.performs.fails

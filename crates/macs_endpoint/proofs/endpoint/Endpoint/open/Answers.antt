@@ -1,4 +1,4 @@
-use Rattle.std.proofs.Common.{◌≡◌, ◌≢◌, ◌≤◌, ℕ, [], false, None, Result, Ok, Err, IfOk, refl, sym, ◌∙◌, subst}
+use Rattle.std.proofs.Common.{◌≡◌, ◌≢◌, ◌≤◌, ◌⊎◌, inl, inr, ℕ, [], false, None, Result, Ok, Err, IfOk, refl, sym, ◌∙◌, subst}
 use Rattle.std.specs.Option.{option_map}
 use Rattle.macs_config.specs.Config.{this_edition}
 use Rattle.macs_disk.specs.Disk.{Disk, IsHonest, now}
@@ -9,10 +9,9 @@ use Rattle.macs_journal.specs.declared.fault.JournalFault.TheVariants.{Stopped, 
 use Rattle.macs_txsc.specs.Value as txsc
 use Rattle.macs_rxsc.specs.Receive.{first_numbers}
 use Rattle.macs_rxsc.specs.Value as rxsc
-use Rattle.macs_store.specs.Found.{StandingIs}
-use Rattle.macs_journal.specs.Opening.{IsRefused}
+use Rattle.macs_store.specs.Found.{IsUnfitTo, StandingIs}
 use Rattle.macs_journal.specs.declared.recovery.RecoverRefused.{RecoverRefused}
-use Rattle.macs_store.specs.Opening.{IsStoreOpening, IsUnfit, Opens as OpensStore}
+use Rattle.macs_store.specs.Opening.{IsStoreOpening, Opens as OpensStore, RefusesDisk}
 use Rattle.macs_store.specs.Value.{IsIdle, StoreValue, standing_in}
 use Rattle.macs_store.specs.Standing.{Standing}
 use Rattle.macs_store.proofs.OneStanding.{one_standing}
@@ -23,22 +22,22 @@ use Rattle.macs_endpoint.specs.State.{Logs, State}
 use Rattle.macs_endpoint.proofs.InHand.{kept-backed}
 use Rattle.macs_endpoint.proofs.endpoint.Endpoint.open.Goals as goal
 
--- ---- a disk that fits a state is refused for the device alone
+-- ---- a disk that fits a state is refused for the device, or for its last generation
 
 not_found : (sectors : ℕ) (image : Image) (fault : JournalFault) → StandingIs this_edition sectors image (Err fault) → (s : State) × Fits this_edition sectors image s → ⊥
 not_found sectors image fault is fits =
     let same : ◌≡◌ {A = Result Standing JournalFault} (Err fault) (Ok fits.1.found) =
     one_standing this_edition sectors image (Err fault) (Ok fits.1.found) is fits.1.is_found in cc
 
-by_device : (sectors : ℕ) (image : Image) (fault : JournalFault) → (fault ≢ Failed → StandingIs this_edition sectors image (Err fault)) → (s : State) × Fits this_edition sectors image s
-    → fault ≡ Failed
-by_device sectors image Failed found fits = refl
+by_device : (sectors : ℕ) (image : Image) (fault : JournalFault) → (fault ≢ Failed → IsUnfitTo this_edition sectors image fault) → (s : State) × Fits this_edition sectors image s
+    → (fault ≡ Failed) ⊎ (fault ≡ GenerationsSpent)
+by_device sectors image Failed found fits = inl refl
 by_device sectors image Stopped found fits = absurd (not_found sectors image Stopped (found (λ is. cc)) fits)
 by_device sectors image TooSmall found fits = absurd (not_found sectors image TooSmall (found (λ is. cc)) fits)
 by_device sectors image AlreadyFormatted found fits = absurd (not_found sectors image AlreadyFormatted (found (λ is. cc)) fits)
 by_device sectors image NotFormatted found fits = absurd (not_found sectors image NotFormatted (found (λ is. cc)) fits)
 by_device sectors image BadJournal found fits = absurd (not_found sectors image BadJournal (found (λ is. cc)) fits)
-by_device sectors image GenerationsSpent found fits = absurd (not_found sectors image GenerationsSpent (found (λ is. cc)) fits)
+by_device sectors image GenerationsSpent found fits = inr refl
 
 begins : {D : Type 0} (e : EndpointValue D) (logs : Logs) → (txsc.tx_side_of e.tx).next ≡ (standing_in e.store).ceilings.tx
     → (rxsc.rx_side_of e.rx).numbers ≡ (λ sci an. option_map first_numbers ((standing_in e.store).ceilings.rx sci an))
@@ -76,7 +75,7 @@ module _ {D : Type 0} (disk_of : D → Disk) (disk : D) (sound : IsHonest (disk_
         channel_counters = is.channel_counters;
       }
 
-  refuses : (refused : RecoverRefused D) → IsRefused disk_of (IsUnfit disk_of disk) disk refused.disk refused.fault
+  refuses : (refused : RecoverRefused D) → RefusesDisk disk_of disk refused.disk refused.fault
       → RefusesOpening disk_of disk refused.disk refused.fault
   refuses refused is = record {
     refused = is;

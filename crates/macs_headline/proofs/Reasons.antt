@@ -1,0 +1,244 @@
+-- A command is refused for a reason that it has, and where it has one.
+use Rattle.std.proofs.Common.{◌≡◌, ◌≢◌, ◌⊎◌, ◌↔◌, ◌≤◌, ◌||◌, ◌&&◌, ◌==◌, inl, inr, ℕ, Bool, true, false, cond, not, nat_le, List, [], ◌∷◌, drop, length, Option, Some, None, is_none, is_some, bytes_eq, refl, sym, ◌∙◌, ap, subst}
+use Rattle.std.specs.Prelude.{IsSome, if◌then◌else◌}
+use Rattle.std.proofs.lemmas.Bool.{eq-eqb, eqb-true, false≢true, le-leb, leb-true, or_left, or_right}
+use Rattle.std.proofs.lemmas.Slice.Eq.{bytes_eq-Decides}
+use Rattle.macs_aes.specs.Keys.{octets_of_key}
+use Rattle.macs_fields.specs.First.{first}
+use Rattle.macs_fields.specs.declared.fields.Offset.TheVariants.{Fifty, Thirty, Zero}
+use Rattle.macs_config.specs.Apply.{are_channels_full, are_spent_full, has_no_channel, has_wrong_offset, has_wrong_start, is_channel_taken, is_encoding, is_in_use, is_key_spent, is_long_key, is_own_sci, is_slot_empty, is_slot_taken, is_wrong_end_station, offset_at, refusal_of, refusals}
+use Rattle.macs_config.specs.Association.{is_end_station}
+use Rattle.macs_config.specs.Config.{Config, Edition, is_among, max_spent, takes_key}
+use Rattle.macs_config.specs.Identity.{Identity, is_port_one}
+use Rattle.macs_config.specs.declared.command.Command.{Command}
+use Rattle.macs_config.specs.declared.command.Command.TheVariants.{RxAdd, RxDrop, RxInstall, RxRemove, SetSciMode, TxInstall, TxRemove, TxUse}
+use Rattle.macs_config.specs.declared.command.SciMode.{SciMode}
+use Rattle.macs_config.specs.declared.command.SciMode.TheVariants.{EndStation, Explicit, Implicit}
+use Rattle.macs_config.specs.declared.refusal.Refusal.{Refusal}
+use Rattle.macs_config.specs.declared.refusal.Refusal.TheVariants.{ChannelTaken, ChannelsFull, EndStationSci, InUse, KeySpent, LongKey, NoChannel, OffsetChoice, OwnSci, SlotEmpty, SlotTaken, SpentFull, StartRange}
+use Rattle.macs_headline.specs.Reasons.{IsNoOffset, IsReasonOf, ReasonsAreNamed}
+use Rattle.macs_headline.proofs.Accepted.{NoTest, no-test}
+use Rattle.macs_headline.proofs.Ledger.{some_one}
+
+-- ---- what tests say
+
+is_not : (b : Bool) → (not b ≡ true) ↔ (b ≡ false)
+is_not true = (λ is. absurd (false≢true is), λ is. absurd (false≢true (sym is)))
+is_not false = (λ is. refl, λ is. refl)
+
+either : (x y : Bool) → (x || y) ≡ true → (x ≡ true) ⊎ (y ≡ true)
+either true y is = inl refl
+either false y is = inr is
+
+apart : (x n : ℕ) → (x == n) ≡ false → x ≢ n
+apart x n is same = false≢true (sym is ∙ eq-eqb x n same)
+
+none_some : {X : Type 0} (x : X) → ◌≡◌ {A = Option X} (Some x) None → ⊥
+none_some x is = cc
+
+some_none : {X : Type 0} (x : X) → ◌≡◌ {A = Option X} None (Some x) → ⊥
+some_none x is = cc
+
+is_empty : {X : Type 0} (o : Option X) → (is_none o ≡ true) ↔ (o ≡ None)
+is_empty None = (λ is. refl, λ is. refl)
+is_empty (Some x) = (λ is. absurd (false≢true is), λ is. absurd (none_some x is))
+
+-- ---- offsets
+
+no_offset_by : (offset : ℕ) (zero thirty fifty : Bool) → (offset == 0) ≡ zero → (offset == 30) ≡ thirty → (offset == 50) ≡ fifty
+    → (is_none (if zero then Some Zero else if thirty then Some Thirty else if fifty then Some Fifty else None) ≡ true) ↔ IsNoOffset offset
+no_offset_by offset true thirty fifty e0 e30 e50 = (λ is. absurd (false≢true is), λ no. absurd (no.0 (eqb-true offset 0 e0)))
+no_offset_by offset false true fifty e0 e30 e50 = (λ is. absurd (false≢true is), λ no. absurd (no.1 (eqb-true offset 30 e30)))
+no_offset_by offset false false true e0 e30 e50 = (λ is. absurd (false≢true is), λ no. absurd (no.2 (eqb-true offset 50 e50)))
+no_offset_by offset false false false e0 e30 e50 = (λ is. (apart offset 0 e0, apart offset 30 e30, apart offset 50 e50), λ no. refl)
+
+no_offset : (offset : ℕ) → (is_none (offset_at offset) ≡ true) ↔ IsNoOffset offset
+no_offset offset = no_offset_by offset (offset == 0) (offset == 30) (offset == 50) refl refl refl
+
+shown_by : (confidential : Bool) (offset : ℕ) (zero : Bool) → (offset == 0) ≡ zero
+    → ((not confidential && not zero) ≡ true) ↔ ((confidential ≡ false) × (offset ≢ 0))
+shown_by true offset zero e = (λ is. absurd (false≢true is), λ no. absurd (false≢true (sym no.0)))
+shown_by false offset true e = (λ is. absurd (false≢true is), λ no. absurd (no.1 (eqb-true offset 0 e)))
+shown_by false offset false e = (λ is. (refl, apart offset 0 e), λ no. refl)
+
+tx_offset : (confidential : Bool) (offset : ℕ)
+    → ((is_none (offset_at offset) || (not confidential && not (offset == 0))) ≡ true) ↔ (IsNoOffset offset ⊎ ((confidential ≡ false) × (offset ≢ 0)))
+tx_offset confidential offset =
+    let no = no_offset offset in
+    let shown = shown_by confidential offset (offset == 0) refl in
+    let hidden = not confidential && not (offset == 0) in (
+      λ is. elim (either (is_none (offset_at offset)) hidden is) [
+        | inl one ↦ inl (no.0 one)
+        | inr other ↦ inr (shown.0 other)
+      ],
+      λ has. elim has [
+        | inl one ↦ or_left (is_none (offset_at offset)) hidden (no.1 one)
+        | inr other ↦ or_right (is_none (offset_at offset)) hidden (shown.1 other)
+      ],
+    )
+
+-- ---- each reason
+
+module _ (edition : Edition) (identity : Identity) (c : Config) where
+  by_start : (command : Command) → (has_wrong_start command ≡ true) ↔ IsReasonOf edition identity c command StartRange
+  by_start (TxInstall an key start confidential offset) = (λ is. eqb-true start 0 is, λ is. eq-eqb start 0 is)
+  by_start (RxInstall sci an key start offset) = (λ is. eqb-true start 0 is, λ is. eq-eqb start 0 is)
+  by_start command = (λ is. absurd (false≢true is), λ no. absurd no)
+
+  by_offset : (command : Command) → (has_wrong_offset command ≡ true) ↔ IsReasonOf edition identity c command OffsetChoice
+  by_offset (TxInstall an key start confidential offset) = tx_offset confidential offset
+  by_offset (RxInstall sci an key start offset) = no_offset offset
+  by_offset command = (λ is. absurd (false≢true is), λ no. absurd no)
+
+  by_own : (command : Command) → (is_own_sci identity command ≡ true) ↔ IsReasonOf edition identity c command OwnSci
+  by_own (RxAdd sci) = let same = bytes_eq-Decides sci identity.sci in (λ is. same.0 is, λ is. same.1 is)
+  by_own command = (λ is. absurd (false≢true is), λ no. absurd no)
+
+  explicit_not : ◌≡◌ {A = SciMode} Explicit EndStation → ⊥
+  explicit_not is = cc
+
+  implicit_not : ◌≡◌ {A = SciMode} Implicit EndStation → ⊥
+  implicit_not is = cc
+
+  station_by : (mode : SciMode) (one : Bool) → is_port_one identity.sci ≡ one
+      → ((is_end_station mode && not one) ≡ true) ↔ ((mode ≡ EndStation) × (drop 6 identity.sci ≢ 0 ∷ 1 ∷ []))
+  station_by Explicit one e = (λ is. absurd (false≢true is), λ no. absurd (explicit_not no.0))
+  station_by Implicit one e = (λ is. absurd (false≢true is), λ no. absurd (implicit_not no.0))
+  station_by EndStation true e = (
+    λ is. absurd (false≢true is),
+    λ no. absurd (no.1 ((bytes_eq-Decides (drop 6 identity.sci) (0 ∷ 1 ∷ [])).0 e)),
+  )
+  station_by EndStation false e = (
+    λ is. (refl, λ same. false≢true (sym e ∙ (bytes_eq-Decides (drop 6 identity.sci) (0 ∷ 1 ∷ [])).1 same)),
+    λ no. refl,
+  )
+
+  by_station : (command : Command) → (is_wrong_end_station identity command ≡ true) ↔ IsReasonOf edition identity c command EndStationSci
+  by_station (SetSciMode mode) = station_by mode (is_port_one identity.sci) refl
+  by_station command = (λ is. absurd (false≢true is), λ no. absurd no)
+
+  by_channel : (command : Command) → (has_no_channel c command ≡ true) ↔ IsReasonOf edition identity c command NoChannel
+  by_channel (RxDrop sci) = is_not (is_among c.channels sci)
+  by_channel (RxInstall sci an key start offset) = is_not (is_among c.channels sci)
+  by_channel (RxRemove sci an) = is_not (is_among c.channels sci)
+  by_channel command = (λ is. absurd (false≢true is), λ no. absurd no)
+
+  by_taken : (command : Command) → (is_channel_taken c command ≡ true) ↔ IsReasonOf edition identity c command ChannelTaken
+  by_taken (RxAdd sci) = (λ is. is, λ is. is)
+  by_taken command = (λ is. absurd (false≢true is), λ no. absurd no)
+
+  by_full : (command : Command) → (are_channels_full edition c command ≡ true) ↔ IsReasonOf edition identity c command ChannelsFull
+  by_full (RxAdd sci) = (λ is. leb-true edition.channels (length c.channels) is, λ is. le-leb edition.channels (length c.channels) is)
+  by_full command = (λ is. absurd (false≢true is), λ no. absurd no)
+
+  by_slot : (command : Command) → (is_slot_taken c command ≡ true) ↔ IsReasonOf edition identity c command SlotTaken
+  by_slot (TxInstall an key start confidential offset) = (λ is. is, λ is. is)
+  by_slot (RxInstall sci an key start offset) = (λ is. is, λ is. is)
+  by_slot command = (λ is. absurd (false≢true is), λ no. absurd no)
+
+  by_empty : (command : Command) → (is_slot_empty c command ≡ true) ↔ IsReasonOf edition identity c command SlotEmpty
+  by_empty (TxUse an) = is_empty (c.tx an)
+  by_empty (TxRemove an) = is_empty (c.tx an)
+  by_empty (RxRemove sci an) = is_empty (c.rx sci an)
+  by_empty command = (λ is. absurd (false≢true is), λ no. absurd no)
+
+  encoding_by : (o : Option ℕ) (an : ℕ) → (is_encoding o an ≡ true) ↔ (o ≡ Some an)
+  encoding_by None an = (λ is. absurd (false≢true is), λ is. absurd (some_none an is))
+  encoding_by (Some n) an =
+      (λ is. ap (λ (m : ℕ). Some m) (eqb-true n an is), λ is. eq-eqb n an (some_one (Some n) n an refl is))
+
+  by_use : (command : Command) → (is_in_use c command ≡ true) ↔ IsReasonOf edition identity c command InUse
+  by_use (TxRemove an) = encoding_by c.encoding an
+  by_use command = (λ is. absurd (false≢true is), λ no. absurd no)
+
+  by_spent : (command : Command) → (is_key_spent c command ≡ true) ↔ IsReasonOf edition identity c command KeySpent
+  by_spent (TxInstall an key start confidential offset) = (λ is. is, λ is. is)
+  by_spent (RxInstall sci an key start offset) = (λ is. is, λ is. is)
+  by_spent command = (λ is. absurd (false≢true is), λ no. absurd no)
+
+  by_many : (command : Command) → (are_spent_full c command ≡ true) ↔ IsReasonOf edition identity c command SpentFull
+  by_many (TxInstall an key start confidential offset) = (λ is. leb-true max_spent (length c.spent_tx) is, λ is. le-leb max_spent (length c.spent_tx) is)
+  by_many (RxInstall sci an key start offset) = (λ is. leb-true max_spent (length c.spent_rx) is, λ is. le-leb max_spent (length c.spent_rx) is)
+  by_many command = (λ is. absurd (false≢true is), λ no. absurd no)
+
+  by_key : (command : Command) → (is_long_key edition command ≡ true) ↔ IsReasonOf edition identity c command LongKey
+  by_key (TxInstall an key start confidential offset) = is_not (takes_key edition (octets_of_key key))
+  by_key (RxInstall sci an key start offset) = is_not (takes_key edition (octets_of_key key))
+  by_key command = (λ is. absurd (false≢true is), λ no. absurd no)
+
+  -- ---- all of them
+
+  module _ (command : Command) where
+    abbrev test : Refusal → Bool
+    test StartRange = has_wrong_start command
+    test OffsetChoice = has_wrong_offset command
+    test OwnSci = is_own_sci identity command
+    test EndStationSci = is_wrong_end_station identity command
+    test NoChannel = has_no_channel c command
+    test ChannelTaken = is_channel_taken c command
+    test ChannelsFull = are_channels_full edition c command
+    test SlotTaken = is_slot_taken c command
+    test SlotEmpty = is_slot_empty c command
+    test InUse = is_in_use c command
+    test KeySpent = is_key_spent c command
+    test SpentFull = are_spent_full c command
+    test LongKey = is_long_key edition command
+
+    reason : (refusal : Refusal) → (test refusal ≡ true) ↔ IsReasonOf edition identity c command refusal
+    reason StartRange = by_start command
+    reason OffsetChoice = by_offset command
+    reason OwnSci = by_own command
+    reason EndStationSci = by_station command
+    reason NoChannel = by_channel command
+    reason ChannelTaken = by_taken command
+    reason ChannelsFull = by_full command
+    reason SlotTaken = by_slot command
+    reason SlotEmpty = by_empty command
+    reason InUse = by_use command
+    reason KeySpent = by_spent command
+    reason SpentFull = by_many command
+    reason LongKey = by_key command
+
+    abbrev Agree : List (Refusal × Bool) → Type 0
+    Agree [] = Unit {0}
+    Agree (row ∷ rows) = (row.1 ≡ test row.0) × Agree rows
+
+    named_by : (refusal : Refusal) (b : Bool) (rest : Option Refusal) (r : Refusal) → b ≡ test refusal → (rest ≡ Some r → test r ≡ true)
+        → cond b (Some refusal) rest ≡ Some r → test r ≡ true
+    named_by refusal true rest r is later e = sym (subst (λ (x : Refusal). true ≡ test x) (some_one (Some refusal) refusal r refl e) is)
+    named_by refusal false rest r is later e = later e
+
+    first_named : (rows : List (Refusal × Bool)) (r : Refusal) → Agree rows → first rows ≡ Some r → test r ≡ true
+    first_named [] r agree e = absurd (some_none r e)
+    first_named (row ∷ rows) r agree e = named_by row.0 row.1 (first rows) r agree.0 (first_named rows r agree.1) e
+
+    agree : Agree (refusals edition identity c command)
+    agree = (refl, (refl, (refl, (refl, (refl, (refl, (refl, (refl, (refl, (refl, (refl, (refl, (refl, tt)))))))))))))
+
+    no_tests : NoTest (refusals edition identity c command) → (r : Refusal) → test r ≡ false
+    no_tests none StartRange = none.0
+    no_tests none OffsetChoice = none.1.0
+    no_tests none OwnSci = none.1.1.0
+    no_tests none EndStationSci = none.1.1.1.0
+    no_tests none NoChannel = none.1.1.1.1.0
+    no_tests none ChannelTaken = none.1.1.1.1.1.0
+    no_tests none ChannelsFull = none.1.1.1.1.1.1.0
+    no_tests none SlotTaken = none.1.1.1.1.1.1.1.0
+    no_tests none SlotEmpty = none.1.1.1.1.1.1.1.1.0
+    no_tests none InUse = none.1.1.1.1.1.1.1.1.1.0
+    no_tests none KeySpent = none.1.1.1.1.1.1.1.1.1.1.0
+    no_tests none SpentFull = none.1.1.1.1.1.1.1.1.1.1.1.0
+    no_tests none LongKey = none.1.1.1.1.1.1.1.1.1.1.1.1.0
+
+    is_named : (refusal : Refusal) → refusal_of edition identity c command ≡ Some refusal → IsReasonOf edition identity c command refusal
+    is_named refusal is = (reason refusal).0 (first_named (refusals edition identity c command) refusal agree is)
+
+    is_held : (refusal : Refusal) → IsReasonOf edition identity c command refusal → ¬ (refusal_of edition identity c command ≡ None)
+    is_held refusal has none =
+        false≢true (sym (no_tests (no-test (refusals edition identity c command) none) refusal) ∙ (reason refusal).1 has)
+
+pub reasons-are-named : ReasonsAreNamed
+reasons-are-named = record {
+  named = λ edition identity c command refusal is. is_named edition identity c command refusal is;
+  held = λ edition identity c command refusal has. is_held edition identity c command refusal has;
+}

@@ -1,0 +1,115 @@
+-- A plain frame that is refused for a fault has it.
+use Rattle.std.proofs.Common.{◌≡◌, ◌⊎◌, ◌<◌, ◌≤◌, ◌+◌, ◌^◌, ◌&&◌, inl, inr, ℕ, Bool, true, false, not, List, [], ◌∷◌, length, take, Option, Some, None, bytes_eq, refl, sym, ◌∙◌, ap, subst, arith}
+use Rattle.std.specs.Prelude.{is_none, nat_lt, slice_range}
+use Rattle.std.proofs.lemmas.Bool.{eqb-false, eqb-true, false≢true, ltb-true, not-true}
+use Rattle.macs_fields.specs.First.{first}
+use Rattle.macs_frame.specs.Protection.{overhead}
+use Rattle.macs_config.specs.Association.{is_end_station}
+use Rattle.macs_config.specs.declared.association.TxSa.{TxSa}
+use Rattle.macs_config.specs.declared.command.SciMode.{SciMode}
+use Rattle.macs_config.specs.declared.command.SciMode.TheVariants.{EndStation, Explicit, Implicit}
+use Rattle.macs_config.proofs.Channels.{bytes_eq-itself}
+use Rattle.macs_txsc.specs.Transmit.{Outgoing, is_own_source, is_used_up, name_in, next_outgoing, outgoing_at, outgoing_with, tx_faults}
+use Rattle.macs_txsc.specs.declared.fault.TxFault.{TxFault}
+use Rattle.macs_txsc.specs.declared.fault.TxFault.TheVariants.{Exhausted, ForeignSource, NoEncodingSa, NoNumber, Runt, TooLong}
+use Rattle.macs_endpoint.specs.State.{State, tx_side}
+use Rattle.macs_headline.specs.Refused.{FaultsAreNamed, IsFaultOf, longer_in}
+use Rattle.macs_headline.proofs.Accepted.{no-test}
+use Rattle.macs_headline.proofs.Effects.{outgoing_is}
+use Rattle.macs_headline.proofs.Ledger.{some_one}
+use Rattle.macs_headline.proofs.Ranges.{next-range}
+
+-- ---- the test of the first fault
+
+abbrev HasTest : Bool → Bool → Bool → Bool → Bool → TxFault → Type 0
+HasTest a b c d e Runt = a ≡ true
+HasTest a b c d e TooLong = b ≡ true
+HasTest a b c d e ForeignSource = c ≡ true
+HasTest a b c d e NoEncodingSa = d ≡ true
+HasTest a b c d e Exhausted = e ≡ true
+HasTest a b c d e NoNumber = ⊥
+
+this_one : (a b c d e : Bool) (one fault : TxFault) → HasTest a b c d e one → ◌≡◌ {A = Option TxFault} (Some one) (Some fault) → HasTest a b c d e fault
+this_one a b c d e one fault has is = subst (HasTest a b c d e) (some_one (Some one) one fault refl is) has
+
+first_has : (a b c d e : Bool) (fault : TxFault)
+    → first ((Runt, a) ∷ (TooLong, b) ∷ (ForeignSource, c) ∷ (NoEncodingSa, d) ∷ (Exhausted, e) ∷ []) ≡ Some fault → HasTest a b c d e fault
+first_has true b c d e fault is = this_one true b c d e Runt fault refl is
+first_has false true c d e fault is = this_one false true c d e TooLong fault refl is
+first_has false false true d e fault is = this_one false false true d e ForeignSource fault refl is
+first_has false false false true e fault is = this_one false false false true e NoEncodingSa fault refl is
+first_has false false false false true fault is = this_one false false false false true Exhausted fault refl is
+first_has false false false false false fault is = absurd (cc)
+
+-- the test of the first fault of a plain frame holds
+abbrev HasTestIn : State → List ℕ → TxFault → Type 0
+HasTestIn s plain fault =
+    HasTest (nat_lt (length plain) 14) (nat_lt 9216 (length plain + overhead (name_in s.config.mode s.identity.sci)))
+    (is_end_station s.config.mode && not (is_own_source s.identity.sci plain)) (is_none (next_outgoing (tx_side s)))
+    (is_used_up (next_outgoing (tx_side s))) fault
+
+first_in : (s : State) (plain : List ℕ) (fault : TxFault) → first (tx_faults (tx_side s) plain) ≡ Some fault → HasTestIn s plain fault
+first_in s plain fault is =
+    first_has (nat_lt (length plain) 14) (nat_lt 9216 (length plain + overhead (name_in s.config.mode s.identity.sci)))
+    (is_end_station s.config.mode && not (is_own_source s.identity.sci plain)) (is_none (next_outgoing (tx_side s)))
+    (is_used_up (next_outgoing (tx_side s))) fault is
+
+-- ---- what each says
+
+too_long : (mode : SciMode) (sci : List ℕ) (n : ℕ) → 9216 < n + overhead (name_in mode sci) → 9216 < n + longer_in mode
+too_long Explicit sci n is = is
+too_long EndStation sci n is = is
+too_long Implicit sci n is = is
+
+foreign : (mode : SciMode) (sci plain : List ℕ) → (is_end_station mode && not (is_own_source sci plain)) ≡ true
+    → (mode ≡ EndStation) × (slice_range plain 6 12 ≡ take 6 sci → ⊥)
+foreign Explicit sci plain test = absurd (false≢true test)
+foreign Implicit sci plain test = absurd (false≢true test)
+foreign EndStation sci plain test = (
+  refl,
+  λ same.
+      let other : is_own_source sci plain ≡ false = not-true (is_own_source sci plain) test in
+      let own : is_own_source sci plain ≡ true = subst (λ (source : List ℕ). bytes_eq source (take 6 sci) ≡ true) (sym same) (bytes_eq-itself (take 6 sci)) in
+      false≢true (sym other ∙ own),
+)
+
+none_with : (an : ℕ) (sa : Option TxSa) (next : Option ℕ) → is_none (outgoing_with an sa next) ≡ true → (sa ≡ None) ⊎ (next ≡ None)
+none_with an None next is = inl refl
+none_with an (Some sa) None is = inr refl
+none_with an (Some sa) (Some pn) is = absurd (false≢true is)
+
+-- the last number was used, or some is left
+used_up : (o : Option Outgoing) → is_used_up o ≡ true → (it : Outgoing) × (o ≡ Some it) × (it.pn ≡ 2 ^ 32)
+used_up None is = absurd (false≢true is)
+used_up (Some o) is = (o, refl, eqb-true o.pn (2 ^ 32) is)
+
+is_left : (o : Option Outgoing) → is_none o ≡ false → is_used_up o ≡ false → (it : Outgoing) × (o ≡ Some it) × (it.pn ≡ 2 ^ 32 → ⊥)
+is_left None some is = absurd (false≢true (sym some))
+is_left (Some o) some is = (o, refl, eqb-false o.pn (2 ^ 32) is)
+
+by_test : (s : State) (plain : List ℕ) (fault : TxFault) → HasTestIn s plain fault → IsFaultOf s plain fault
+by_test s plain Runt test = ltb-true (length plain) 14 test
+by_test s plain TooLong test =
+    too_long s.config.mode s.identity.sci (length plain) (ltb-true 9216 (length plain + overhead (name_in s.config.mode s.identity.sci)) test)
+by_test s plain ForeignSource test = foreign s.config.mode s.identity.sci plain test
+by_test s plain NoEncodingSa test = λ an is.
+    none_with an (s.config.tx an) (s.next an) (subst (λ (encoding : Option ℕ). is_none (outgoing_at (tx_side s) encoding) ≡ true) is test)
+by_test s plain Exhausted test =
+    let last = used_up (next_outgoing (tx_side s)) test in
+    let there = outgoing_is (tx_side s) s.config.encoding last.0 last.1 in
+    (last.0.an, there.encoding_is, there.next_is ∙ ap (λ (n : ℕ). Some n) last.2)
+by_test s plain NoNumber test = absurd test
+
+module _ (sectors : ℕ) where
+  pub faults-are-named : FaultsAreNamed sectors
+  faults-are-named s m plain fault out new (inl (stopped, answer, is)) = absurd answer
+  faults-are-named s m plain fault out new (inr (running, (inl is_first, empty, is))) =
+      by_test s plain fault (first_in s plain fault is_first)
+  faults-are-named s m plain fault out new (inr (running, (inr (none, is_fault), empty, is))) =
+      let tests = no-test (tx_faults (tx_side s) plain) none in
+      let next = is_left (next_outgoing (tx_side s)) tests.1.1.1.0 tests.1.1.1.1.0 in
+      let there = outgoing_is (tx_side s) s.config.encoding next.0 next.1 in
+      let most : next.0.pn ≤ 2 ^ 32 = (next-range sectors s m next.0.an next.0.pn there.next_is).1 in
+      let apart = next.2 in
+      let below : next.0.pn < 2 ^ 32 = omega (arith, most, apart) in
+      subst (IsFaultOf s plain) (sym is_fault) (next.0.an, next.0.pn, there.encoding_is, there.next_is, below)

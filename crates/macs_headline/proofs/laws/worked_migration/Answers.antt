@@ -1,0 +1,5 @@
+use Rattle.macs_headline.proofs.ExampleMigration.{is-worked-migration}
+use Rattle.macs_headline.proofs.laws.worked_migration.Goals as goal
+
+pub returns : goal.returns
+returns c = is-worked-migration

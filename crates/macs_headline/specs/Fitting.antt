@@ -1,0 +1,27 @@
+-- The headline on what fits: which images an opening may come upon after a life, whatever is installed, and in programs of which editions.
+use Rattle.std.specs.Prelude.{◌≡◌, ◌≤◌, ◌^◌, ℕ, List, Option, Some, None, IsSomeAnd, Ok}
+use Rattle.macs_config.specs.Config.{Edition, IsUpTo}
+use Rattle.macs_config.specs.declared.command.Command.{Command}
+use Rattle.macs_disk.specs.States.{Image}
+use Rattle.macs_rxsc.specs.Receive.{Numbers, first_numbers}
+use Rattle.macs_store.specs.Found.{StandingIs}
+use Rattle.macs_store.specs.Standing.{Standing}
+use Rattle.macs_endpoint.specs.Restart.{Fits}
+use Rattle.macs_endpoint.specs.State.{State}
+use Rattle.macs_endpoint.specs.Step.{Makes}
+use Rattle.macs_headline.specs.Numbers.{IsMoved, IsSkipped}
+
+-- An image fits a state that stands for its identity and its configuration, in a program of no smaller edition, with numbers that moved no further than a restart
+-- moves them, and none where there was none. And what fits the state after the command in hand fits the state.
+pub record RestartsFit (sectors : ℕ) : Type 0 where
+  pub kept : (s : State) (edition : Edition) (image : Image) (found : Standing) → StandingIs edition sectors image (Ok found) → IsUpTo s.edition edition
+      → found.identity ≡ s.identity → found.config ≡ s.config
+      → ((an : ℕ) → s.next an ≡ None → found.ceilings.tx an ≡ None)
+      → ((an next : ℕ) → s.next an ≡ Some next
+      → IsSomeAnd (found.ceilings.tx an) (λ later. IsSkipped s.identity.tx_block next later × (later ≤ 2 ^ 32)))
+      → ((sci : List ℕ) (an : ℕ) → s.numbers sci an ≡ None → found.ceilings.rx sci an ≡ None)
+      → ((sci : List ℕ) (an : ℕ) (old : Numbers) → s.numbers sci an ≡ Some old
+      → IsSomeAnd (found.ceilings.rx sci an) (λ later. IsMoved s.identity.rx_block old (first_numbers later)))
+      → Fits edition sectors image s
+  pub carried : (s mid : State) (command : Command) (edition : Edition) (image : Image) → s.in_hand ≡ Some command → Makes s command mid
+      → Fits edition sectors image mid → Fits edition sectors image s

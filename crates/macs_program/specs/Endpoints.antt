@@ -1,0 +1,137 @@
+-- The endpoint that a subcommand opens on a disk in a file, and what it does with it.
+use Rattle.std.specs.Prelude.{◌≡◌, ◌⊎◌, ℕ, List, Option, Ok}
+use Rattle.std.specs.Io.KnownBytes.{Appends}
+use Rattle.macs_config.specs.declared.command.Command.{Command}
+use Rattle.macs_disk.specs.Disk.{Disk}
+use Rattle.macs_disk.specs.FileDisks.{IsFresh, IsOpened, disk_in_file, file_given, layout_of}
+use Rattle.macs_disk.specs.Files.{Behaves, FileState}
+use Rattle.macs_disk.specs.declared.file.FileDisk.{FileDisk}
+use Rattle.macs_disk.specs.declared.file_fault.FileFault.{FileFault}
+use Rattle.macs_edge.specs.Passing.{run_of}
+use Rattle.macs_edge.specs.declared.passing.Summary.{Summary}
+use Rattle.macs_edge.specs.declared.settling.Side.{Side}
+use Rattle.macs_endpoint.specs.Opening.{Opens, RefusesOpening}
+use Rattle.macs_endpoint.specs.State.{no_logs}
+use Rattle.macs_endpoint.specs.Value.{EndpointValue, state_of}
+use Rattle.macs_journal.specs.declared.fault.JournalFault.{JournalFault}
+use Rattle.macs_pcap.specs.States.{SinkState, SourceState}
+use Rattle.macs_program.specs.Applying.{AppliesAll, AppliesSome, SaysCommands}
+use Rattle.macs_program.specs.Capturing.{EndsPass, PassesCapture}
+use Rattle.macs_program.specs.Failing.{failure_of_file, failure_of_journal}
+use Rattle.macs_program.specs.Showing.{show_text}
+use Rattle.macs_program.specs.declared.failure.Failure.{Failure}
+use Rattle.macs_program.specs.declared.failure.Failure.TheVariants as failures
+use Rattle.macs_program.specs.declared.status.Status.{Status}
+
+-- ---- opening
+
+-- a disk was opened in a file as long as it is, where this is what a file is, and no call of it was made yet
+pub record IsDiskIn {F : Type 0} (file : F → FileState) (disk : FileDisk F) : Type 0 where
+  pub known : Behaves (file (file_given disk)) → IsOpened (file (file_given disk)) 0 (layout_of disk) (disk_in_file file disk)
+  pub fresh : IsFresh (disk_in_file file disk)
+
+-- an endpoint was opened on such a disk
+pub record IsEndpointIn {F : Type 0} (file : F → FileState) (endpoint : EndpointValue (FileDisk F)) : Type 0 where
+  pub disk : FileDisk F
+  pub is_disk : IsDiskIn file disk
+  pub opens : Opens (disk_in_file file) disk endpoint
+
+-- such a disk was refused for what is on it, or for a device call that failed, and this is the failure
+pub record IsRefusedIn {F : Type 0} (file : F → FileState) (failure : Failure) : Type 0 where
+  pub disk : FileDisk F
+  pub left : FileDisk F
+  pub fault : JournalFault
+  pub is_disk : IsDiskIn file disk
+  pub refuses : RefusesOpening (disk_in_file file) disk left fault
+  pub is : failure ≡ failure_of_journal fault
+
+-- no endpoint is opened: there is no disk in the file, or the disk is refused
+abbrev pub OpeningFails : {F : Type 0} → (F → FileState) → Failure → Type 0
+OpeningFails file failure = ((fault : FileFault) × (failure ≡ failure_of_file fault)) ⊎ IsRefusedIn file failure
+
+-- ---- the commands of a file
+
+-- the commands that some command file says are given to an endpoint, all of them, and a line is printed for each
+pub record AppliesFile {D : Type 0} (disk_of : D
+    → Disk) (old : EndpointValue D) (before after : Option (List ℕ)) (status : Status) (new : EndpointValue D) : Type 0 where
+  pub octets : List ℕ
+  pub commands : List Command
+  pub says : SaysCommands octets commands
+  pub applies : AppliesAll disk_of old commands before after status new
+
+-- the commands of some command file end at one of them
+pub record AppliesFront {D : Type 0} (disk_of : D
+    → Disk) (old : EndpointValue D) (before after : Option (List ℕ)) (failure : Failure) (new : EndpointValue D) : Type 0 where
+  pub octets : List ℕ
+  pub commands : List Command
+  pub says : SaysCommands octets commands
+  pub applies : AppliesSome disk_of old commands before after failure new
+
+-- there is no command file, or no memory, and nothing is done and printed; or the commands of one end at one of them
+abbrev pub BreaksOff : {D : Type 0} → (D → Disk) → EndpointValue D → Option (List ℕ) → Option (List ℕ) → Failure → EndpointValue D → Type 0
+BreaksOff disk_of old before after failure new =
+    (((failure ≡ failures.Memory) ⊎ (failure ≡ failures.Commands)) × (new ≡ old) × (after ≡ before))
+    ⊎ AppliesFront disk_of old before after failure new
+
+-- the commands of a file are given to an endpoint on a disk in a file, and their lines are printed
+pub record AppliesIn {F : Type 0} (file : F → FileState) (before after : Option (List ℕ)) (status : Status) : Type 0 where
+  pub old : EndpointValue (FileDisk F)
+  pub new : EndpointValue (FileDisk F)
+  pub endpoint : IsEndpointIn file old
+  pub applies : AppliesFile (disk_in_file file) old before after status new
+
+-- they are not, or not all of them
+pub record BreaksOffIn {F : Type 0} (file : F → FileState) (before after : Option (List ℕ)) (failure : Failure) : Type 0 where
+  pub old : EndpointValue (FileDisk F)
+  pub new : EndpointValue (FileDisk F)
+  pub endpoint : IsEndpointIn file old
+  pub ends : BreaksOff (disk_in_file file) old before after failure new
+
+-- ---- what is shown
+
+-- the text of an endpoint
+abbrev pub shown_text : {D : Type 0} → EndpointValue D → List ℕ
+shown_text endpoint = show_text (state_of endpoint no_logs)
+
+-- the text of an endpoint on a disk in a file is printed, as it was opened
+pub record ShowsIn {F : Type 0} (file : F → FileState) (before after : Option (List ℕ)) : Type 0 where
+  pub shown : EndpointValue (FileDisk F)
+  pub endpoint : IsEndpointIn file shown
+  pub printed : Appends before after (shown_text shown)
+
+-- ---- captures
+
+-- a capture is taken through an endpoint into another one
+pub record PassesBetween {D : Type 0} (disk_of : D → Disk) (side : Side) (old : EndpointValue D) (summary : Summary) (new : EndpointValue D) : Type 0 where
+  pub source : SourceState
+  pub source_left : SourceState
+  pub sink : SinkState
+  pub sink_left : SinkState
+  pub passes : PassesCapture disk_of side (run_of old source sink) (Ok summary) (run_of new source_left sink_left)
+
+-- so it is through an endpoint on a disk in a file
+pub record PassesIn {F : Type 0} (file : F → FileState) (side : Side) (summary : Summary) : Type 0 where
+  pub old : EndpointValue (FileDisk F)
+  pub new : EndpointValue (FileDisk F)
+  pub endpoint : IsEndpointIn file old
+  pub passes : PassesBetween (disk_in_file file) side old summary new
+
+-- it is not, or not whole
+pub record StopsBetween {D : Type 0} (disk_of : D → Disk) (side : Side) (old : EndpointValue D) (failure : Failure) (new : EndpointValue D) : Type 0 where
+  pub source : SourceState
+  pub source_left : SourceState
+  pub sink : SinkState
+  pub sink_left : SinkState
+  pub ends : EndsPass disk_of side (run_of old source sink) failure (run_of new source_left sink_left)
+
+-- a capture cannot be opened, or there is no memory, and nothing is done with the endpoint; or the run ends
+abbrev pub PassEnds : {D : Type 0} → (D → Disk) → Side → EndpointValue D → Failure → EndpointValue D → Type 0
+PassEnds disk_of side old failure new =
+    (((failure ≡ failures.Memory) ⊎ (failure ≡ failures.Capture)) × (new ≡ old)) ⊎ StopsBetween disk_of side old failure new
+
+-- so it ends with an endpoint on a disk in a file
+pub record PassEndsIn {F : Type 0} (file : F → FileState) (side : Side) (failure : Failure) : Type 0 where
+  pub old : EndpointValue (FileDisk F)
+  pub new : EndpointValue (FileDisk F)
+  pub endpoint : IsEndpointIn file old
+  pub ends : PassEnds (disk_in_file file) side old failure new
