@@ -32,7 +32,7 @@ const ROUND_CONSTANTS: [u8; 10] = [0x01, 0x02, 0x04, 0x08, 0x10, 0x20, 0x40, 0x8
 pub struct Schedule {
     /// The value of a schedule. Its length says how many rounds there are.
     key: Key,
-    /// After the words of a short key come zeros.
+    /// What comes after the words of a short key is not read.
     words: KeyColumns,
 }
 
@@ -90,7 +90,7 @@ fn key_word(key: &[u8], i: usize) -> u32
     u32::from_be_bytes([key[4 * i], key[4 * i + 1], key[4 * i + 2], key[4 * i + 3]])
 }
 
-/// The words of the key expansion of a key of 16 or 32 octets, and zeros after them.
+/// The words of the key expansion of a key of 16 or 32 octets. What comes after them is not read.
 fn expand(key: &[u8]) -> [u32; WORDS]
     requires { (length key.now ≡ 16) ⊎ (length key.now ≡ 32) }
     ensures { take (4 * (rounds_of key.now + 1)) result ≡ key_words key.now }
@@ -124,7 +124,7 @@ impl Schedule {
         }
     }
 
-    /// The words of the key expansion. After those of a short key come zeros.
+    /// The words of the key expansion. What comes after those of a short key is not read.
     pub(crate) fn words(&self) -> &KeyColumns
         ensures { (i : ℕ) → i ≤ rounds_of self.now → round_key result.now i ≡ round_key (key_words self.now) i }
     {

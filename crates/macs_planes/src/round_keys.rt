@@ -56,8 +56,8 @@ fn round_bits(schedule: &Schedule, round: usize) -> KeyBits
     }
 }
 
-/// The bits of all round keys, those of odd rounds with rows that ShiftRows has still to turn. After those of a
-/// short key come zeros.
+/// The bits of all round keys, those of odd rounds with rows that ShiftRows has still to turn. What comes after those
+/// of a short key is not read.
 pub(crate) fn round_keys(schedule: &Schedule) -> [KeyBits; ROUND_KEYS]
     ensures { AreRoundKeys schedule.now result }
 {
