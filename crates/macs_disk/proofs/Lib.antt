@@ -14,3 +14,4 @@ mod FileOpenings
 pub mod FoundAgain
 pub mod FrontKept
 mod FailedCalls
+mod InterruptedCalls

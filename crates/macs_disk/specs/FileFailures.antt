@@ -1,7 +1,8 @@
 -- Which calls of a file failed, and which fault of an opening comes of that.
 use Rattle.std.specs.Prelude.{◌≡◌, ◌≢◌, ◌↔◌, ◌⊎◌, ◌++◌, ⊤, List, [], ◌∷◌, Option, Some, None, Result, Ok, Err}
 use Rattle.std.specs.declared.io.ErrorKind.{ErrorKind}
-use Rattle.std.specs.declared.io.ErrorKind.TheVariants.{OutOfMemory}
+use Rattle.std.specs.List.{All}
+use Rattle.std.specs.declared.io.ErrorKind.TheVariants.{Interrupted, OutOfMemory}
 use Rattle.macs_disk.specs.declared.file_fault.FileFault.{FileFault}
 use Rattle.macs_disk.specs.declared.file_fault.FileFault.TheVariants as fault
 
@@ -52,3 +53,35 @@ SettleFails before after = (call : FileCall) × (kind : ErrorKind) × ((call ≡
 -- why a file is not made fit for a disk
 abbrev pub FitFails : Option (List FailedCall) → Option (List FailedCall) → FileFault → Type 0
 FitFails before after it = MeasureFails before after it ⊎ ((it ≡ fault.Device) × SettleFails before after)
+
+-- ---- what is read or written after that
+
+-- a call that was interrupted
+abbrev pub IsInterrupted : FailedCall → Type 0
+IsInterrupted it = it.kind ≡ Interrupted
+
+-- no call failed since but some that were interrupted
+abbrev pub OnlyInterrupted : Option (List FailedCall) → Option (List FailedCall) → Type 0
+OnlyInterrupted None after = ⊤
+OnlyInterrupted (Some before) after = (more : List FailedCall) × All IsInterrupted more × (after ≡ Some (before ++ more))
+
+-- this call failed last, and before it only some that were interrupted
+abbrev pub FailsLast : Option (List FailedCall) → Option (List FailedCall) → FileCall → ErrorKind → Type 0
+FailsLast before after call kind = (between : Option (List FailedCall)) × OnlyInterrupted before between × OneFailed between after call kind
+
+-- octets are not moved, which is an error of this kind: such a call failed for another cause than an interruption; or none did, and one
+-- moved nothing
+abbrev pub MoveFails : Option (List FailedCall) → Option (List FailedCall) → FileCall → ErrorKind → Type 0
+MoveFails before after call kind =
+    ((kind ≢ Interrupted) × FailsLast before after call kind) ⊎ ((kind ≢ OutOfMemory) × OnlyInterrupted before after)
+
+-- why a file is not written: a write or a sync failed, and this is its fault; or none did, and one wrote nothing, or the file may not be
+-- made so long
+abbrev pub WriteFails : Option (List FailedCall) → Option (List FailedCall) → FileFault → Type 0
+WriteFails before after it =
+    ((it ≡ fault.Open) × OnlyInterrupted before after)
+    ⊎ ((call : FileCall) × (kind : ErrorKind) × ((call ≡ Writes) ⊎ (call ≡ Syncs)) × FailsLast before after call kind × IsFaultOfKind kind it)
+
+-- why a settled file becomes no disk: its mark is not read, or it is not made longer
+abbrev pub ExtendFails : Option (List FailedCall) → Option (List FailedCall) → FileFault → Type 0
+ExtendFails before after it = ((it ≡ fault.Device) × (kind : ErrorKind) × MoveFails before after Reads kind) ⊎ WriteFails before after it

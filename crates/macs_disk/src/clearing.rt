@@ -1,6 +1,7 @@
 //! How a file is cleared for a new disk: its mark is written, and zeros.
 
 ghost use Rattle.std.specs.Prelude.{◌≡◌, ◌≢◌, ◌⊎◌, true, IfErr, OnErr, OnOk};
+ghost use Rattle.macs_disk.specs.FileFailures.{OnlyInterrupted, WriteFails};
 ghost use Rattle.macs_disk.specs.Files.{Behaves, IsSure, KeepsFront};
 ghost use Rattle.macs_disk.specs.FileDisks.{IsCleared, IsMarkedAs, KeepsLayout};
 ghost use Rattle.macs_disk.specs.Layouts.{mark_place, suits};
@@ -19,6 +20,8 @@ fn erase_mark<F: DiskFile>(file: &mut F, octets: u64) -> Result<(), FileFault>
         → suits Layout.Packed (F.file file.old).block ≡ true
         → KeepsFront mark_place (F.file file.old) (F.file file.new) }
     ensures err { IfErr result (λ fault. fault ≢ FileFault.Length) }
+    ensures quiet { OnOk result (OnlyInterrupted (F.failures file.old) (F.failures file.new)) }
+    ensures cause { IfErr result (WriteFails (F.failures file.old) (F.failures file.new)) }
 {
     if octets <= MARK_PLACE {
         return Ok(());
@@ -36,6 +39,8 @@ fn put_mark<F: DiskFile>(file: &mut F) -> Result<(), FileFault>
         → suits Layout.Spaced (F.file file.old).block ≡ true
         → KeepsFront mark_place (F.file file.old) (F.file file.new) }
     ensures err { IfErr result (λ fault. fault ≢ FileFault.Length) }
+    ensures quiet { OnOk result (OnlyInterrupted (F.failures file.old) (F.failures file.new)) }
+    ensures cause { IfErr result (WriteFails (F.failures file.old) (F.failures file.new)) }
 {
     write_all(file, MARK_PLACE, &spaced_mark())?;
     write_zeros(file, MARK_PLACE + SECTOR_OCTETS, MARK_PLACE + BLOCK_OCTETS)?;
@@ -51,6 +56,8 @@ fn mark_as<F: DiskFile>(file: &mut F, octets: u64, layout: Layout) -> Result<(),
         → suits layout (F.file file.old).block ≡ true
         → KeepsFront mark_place (F.file file.old) (F.file file.new) }
     ensures err { IfErr result (λ fault. fault ≢ FileFault.Length) }
+    ensures quiet { OnOk result (OnlyInterrupted (F.failures file.old) (F.failures file.new)) }
+    ensures cause { IfErr result (WriteFails (F.failures file.old) (F.failures file.new)) }
 {
     match layout {
         Layout::Packed => erase_mark(file, octets),
@@ -68,6 +75,7 @@ pub(crate) fn clear<F: DiskFile>(file: &mut F, octets: u64, layout: Layout) -> R
         → suits layout (F.file file.old).block ≡ true → OnErr result
         (KeepsFront mark_place (F.file file.old) (F.file file.new) ⊎ KeepsLayout layout (F.file file.new)) }
     ensures err { IfErr result (λ fault. fault ≢ FileFault.Length) }
+    ensures cause { IfErr result (WriteFails (F.failures file.old) (F.failures file.new)) }
 {
     mark_as(file, octets, layout)?;
     file.sync()?;

@@ -1,7 +1,8 @@
 //! Whole moves of octets to and from a file, and what makes it fit for a disk.
 
-ghost use Rattle.std.specs.Prelude.{◌≡◌, ◌<◌, ◌≤◌, ◌+◌, ◌-◌, ◌^◌, length, replicate, OnErr, OnOk};
-ghost use Rattle.macs_disk.specs.FileFailures.{SettleFails};
+ghost use Rattle.std.specs.Prelude.{◌≡◌, ◌<◌, ◌≤◌, ◌+◌, ◌-◌, ◌^◌, length, replicate, IfErr, OnErr, OnOk};
+ghost use Rattle.std.specs.IoError.{error_kind};
+ghost use Rattle.macs_disk.specs.FileFailures.{MoveFails, OnlyInterrupted, Reads, SettleFails, Writes};
 ghost use Rattle.macs_disk.specs.Files.{Behaves, HasNothingNew, IsClaimed, IsSure, Settles, WritesAll, values_from};
 ghost use Rattle.macs_disk.specs.Layouts.{place};
 
@@ -20,6 +21,8 @@ fn read_whole<F: DiskFile>(file: &mut F, from: u64, into: &mut [u8; 512]) -> io:
     ensures same { Behaves (F.file file.old) → F.file file.new ≡ F.file file.old }
     ensures octets { Behaves (F.file file.old) → IsSure (F.file file.old)
         → OnOk result (into.new ≡ values_from (F.file file.old).seen from 512) }
+    ensures quiet { OnOk result (OnlyInterrupted (F.failures file.old) (F.failures file.new)) }
+    ensures cause { IfErr result (λ error. MoveFails (F.failures file.old) (F.failures file.new) Reads (error_kind error)) }
 {
     let mut done = 0;
     for _ in 0..u64::MAX {
@@ -59,6 +62,8 @@ pub(crate) fn write_all<F: DiskFile>(file: &mut F, at: u64, from: &[u8]) -> io::
     ensures steady { (F.file file.new).behaves ≡ (F.file file.old).behaves }
     ensures effect { Behaves (F.file file.old)
         → WritesAll (F.file file.old) (F.file file.new) at from.now result }
+    ensures quiet { OnOk result (OnlyInterrupted (F.failures file.old) (F.failures file.new)) }
+    ensures cause { IfErr result (λ error. MoveFails (F.failures file.old) (F.failures file.new) Writes (error_kind error)) }
 {
     let mut done = 0;
     for _ in 0..u64::MAX {
@@ -90,6 +95,8 @@ pub(crate) fn read_sector<F: DiskFile>(
     ensures same { Behaves (F.file file.old) → F.file file.new ≡ F.file file.old }
     ensures octets { Behaves (F.file file.old) → IsSure (F.file file.old)
         → OnOk result (into.new ≡ values_from (F.file file.old).seen (place layout at) 512) }
+    ensures quiet { OnOk result (OnlyInterrupted (F.failures file.old) (F.failures file.new)) }
+    ensures cause { IfErr result (λ error. MoveFails (F.failures file.old) (F.failures file.new) Reads (error_kind error)) }
 {
     read_whole(file, layout.place(at), into)
 }
@@ -100,6 +107,8 @@ pub(crate) fn write_zeros<F: DiskFile>(file: &mut F, from: u64, to: u64) -> io::
     ensures steady { (F.file file.new).behaves ≡ (F.file file.old).behaves }
     ensures effect { Behaves (F.file file.old)
         → WritesAll (F.file file.old) (F.file file.new) from (replicate (to - from) 0) result }
+    ensures quiet { OnOk result (OnlyInterrupted (F.failures file.old) (F.failures file.new)) }
+    ensures cause { IfErr result (λ error. MoveFails (F.failures file.old) (F.failures file.new) Writes (error_kind error)) }
 {
     let zeros = [0; ZEROS];
     let mut at = from;

@@ -1,10 +1,11 @@
 //! A file that is made fit for a disk.
 
-ghost use Rattle.std.specs.Prelude.{◌≡◌, ◌≢◌, ◌<◌, ◌≤◌, ◌*◌, ◌/◌, ◌%◌, ◌^◌, true, IfErr, IfOk, IsErrOf, OnOk};
-ghost use Rattle.macs_disk.specs.FileFailures.{FitFails, MeasureFails, NoneFailed};
+ghost use Rattle.std.specs.Prelude.{◌≡◌, ◌≢◌, ◌<◌, ◌≤◌, ◌⊎◌, ◌*◌, ◌/◌, ◌%◌, ◌^◌, true, IfErr, IfOk, IsErrOf, OnErr, OnOk};
+ghost use Rattle.macs_disk.specs.FileFailures.{ExtendFails, FitFails, MeasureFails, MoveFails, NoneFailed, OnlyInterrupted, Reads, WriteFails};
+ghost use Rattle.std.specs.declared.io.ErrorKind.{ErrorKind};
 ghost use Rattle.macs_disk.specs.Files.{Behaves, HasNothingNew, IsSure, KeepsFront, file_claimed};
 ghost use Rattle.macs_disk.specs.FileDisks.{IsExtent, IsStill, file_lengthened};
-ghost use Rattle.macs_disk.specs.Layouts.{layout_in, place, suits};
+ghost use Rattle.macs_disk.specs.Layouts.{layout_in, place, sectors_in, suits};
 
 use crate::clearing::clear;
 use crate::disk::DeviceFault;
@@ -64,6 +65,8 @@ fn find_layout<F: DiskFile>(file: &mut F, octets: u64) -> Result<Layout, DeviceF
     ensures found { Behaves (F.file file.old) → IsSure (F.file file.old) → octets ≡ (F.file file.old).size
         → IfOk result (λ layout. layout ≡ layout_in (F.file file.old)) }
     ensures room { OnOk result (result ≡ Ok Layout.Spaced → place Layout.Spaced 1028 ≤ octets) }
+    ensures quiet { OnOk result (OnlyInterrupted (F.failures file.old) (F.failures file.new)) }
+    ensures cause { OnErr result ((kind : ErrorKind) × MoveFails (F.failures file.old) (F.failures file.new) Reads kind) }
 {
     if octets < MARK_PLACE + SECTOR_OCTETS {
         return Ok(Layout::Packed);
@@ -83,6 +86,7 @@ fn lengthen<F: DiskFile>(file: &mut F, octets: u64, sectors: u64) -> Result<(), 
     requires { octets ≤ 512 * sectors }
     ensures steady { (F.file file.new).behaves ≡ (F.file file.old).behaves }
     ensures fits { OnOk result (512 * sectors < 2 ^ 64) }
+    ensures most { OnOk result (sectors < 2 ^ 54) }
     ensures long { Behaves (F.file file.old) → IsSure (F.file file.old) → octets ≡ (F.file file.old).size
         → OnOk result (F.file file.new ≡ file_lengthened (F.file file.old) (512 * sectors)) }
     // Done or failed, it keeps each octet that the file had.
@@ -90,6 +94,7 @@ fn lengthen<F: DiskFile>(file: &mut F, octets: u64, sectors: u64) -> Result<(), 
         → octets % 512 ≡ 0 → suits Layout.Packed (F.file file.old).block ≡ true
         → KeepsFront octets (F.file file.old) (F.file file.new) }
     ensures err { IfErr result (λ fault. fault ≢ FileFault.Length) }
+    ensures cause { IfErr result (WriteFails (F.failures file.old) (F.failures file.new)) }
 {
     if sectors >= TOO_MANY_SECTORS {
         return Err(FileFault::Open);
@@ -104,6 +109,7 @@ fn prepare<F: DiskFile>(file: &mut F, octets: u64, least: u64) -> Result<Extent,
     ensures steady { (F.file file.new).behaves ≡ (F.file file.old).behaves }
     ensures fits { IfOk result (λ extent. place extent.layout extent.sectors < 2 ^ 64) }
     ensures least { IfOk result (λ extent. least ≤ extent.sectors) }
+    ensures most { IfOk result (λ extent. (least < 2 ^ 54) ⊎ (extent.sectors ≡ sectors_in extent.layout octets)) }
     ensures known { Behaves (F.file file.old) → IsStill (F.file file.old) → octets ≡ (F.file file.old).size
         → IfOk result (λ extent. IsExtent (F.file file.old) (F.file file.new) least extent.layout extent.sectors) }
     ensures spaced { IfOk result (λ extent. extent.layout ≡ Layout.Spaced → extent.sectors ≡ 1028) }
@@ -112,6 +118,7 @@ fn prepare<F: DiskFile>(file: &mut F, octets: u64, least: u64) -> Result<Extent,
         → octets % 512 ≡ 0 → suits (layout_in (F.file file.old)) (F.file file.old).block ≡ true
         → KeepsFront octets (F.file file.old) (F.file file.new) }
     ensures err { IfErr result (λ fault. fault ≢ FileFault.Length) }
+    ensures cause { IfErr result (ExtendFails (F.failures file.old) (F.failures file.new)) }
 {
     let layout = find_layout(file, octets)?;
     let sectors = layout.sectors_in(octets);
@@ -172,6 +179,9 @@ impl<F: DiskFile> SettledFile<F> {
         ensures again { Behaves (F.file self.file) → IsSettled F.file self → IfOk result (IsFoundAgain F.file) }
         ensures fresh { IfOk result (λ it. IsFresh (disk_in_file F.file it)) }
         ensures err { IfErr result (λ fault. fault ≢ FileFault.Length) }
+        // Each fault has its own cause, by the calls that failed of the file that was let go.
+        ensures refused { IfErr result (λ fault. (left : F)
+            × ExtendFails (F.failures self.file) (F.failures left) fault) }
     {
         let octets = self.octets;
         let extent = prepare(&mut self.file, octets, least)?;
@@ -189,6 +199,9 @@ impl<F: DiskFile> SettledFile<F> {
         ensures again { Behaves (F.file self.file) → IsSettled F.file self → IfOk result (IsFoundAgain F.file) }
         ensures fresh { IfOk result (λ it. IsFresh (disk_in_file F.file it)) }
         ensures err { IfErr result (λ fault. fault ≢ FileFault.Length) }
+        // Each fault has its own cause, by the calls that failed of the file that was let go.
+        ensures refused { IfErr result (λ fault. (left : F)
+            × WriteFails (F.failures self.file) (F.failures left) fault) }
     {
         let octets = self.octets;
         clear(&mut self.file, octets, layout)?;

@@ -1,5 +1,5 @@
 -- The line of a failure on a stream.
-use Rattle.std.proofs.Common.{◌≡◌, ◌⊎◌, ◌∙◌, ◌++◌, inl, inr, ap, ℕ, Bool, true, List, Option, Result, Ok, Err, OnErr, OnOk, subst, sym}
+use Rattle.std.proofs.Common.{◌≡◌, ◌++◌, inl, inr, ℕ, Bool, true, List, Option, Result, Ok, Err, OnErr, OnOk, subst}
 use Rattle.std.proofs.KnownBytes.{Appends-trans}
 use Rattle.std.specs.Io.KnownBytes.{Appends}
 use Rattle.macs_program.specs.Run.{PrintsUnlessFailed}

@@ -1,4 +1,6 @@
 pub mod Applied
+pub mod AskedFor
+pub mod Buffers
 pub mod Captured
 pub mod Codes
 pub mod Commanded

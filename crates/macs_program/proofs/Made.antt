@@ -1,5 +1,5 @@
 -- Why a file is not made the disk of a new endpoint.
-use Rattle.std.proofs.Common.{◌≡◌, ◌≢◌, ◌↔◌, ◌⊎◌, ◌/◌, inl, inr, ℕ, Bool, List, Some, Result, Ok, Err, IfErr, subst, sym}
+use Rattle.std.proofs.Common.{◌≡◌, ◌↔◌, ◌⊎◌, ◌/◌, inl, inr, ℕ, Bool, List, Some, Result, Ok, Err, IfErr, subst, sym}
 use Rattle.macs_disk.specs.Files.{FileState, Settles}
 use Rattle.macs_disk.specs.declared.file_fault.FileFault.{FileFault}
 use Rattle.macs_disk.specs.declared.file_fault.FileFault.TheVariants as file

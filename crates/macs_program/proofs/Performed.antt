@@ -8,7 +8,7 @@ use Rattle.macs_config.specs.declared.refusal.Refusal.{Refusal}
 use Rattle.macs_disk.specs.Files.{FileState}
 use Rattle.macs_program.specs.Applying.{outcome_lines, outcomes_status}
 use Rattle.macs_program.specs.Failing.{failure_status}
-use Rattle.macs_program.specs.Run.{Does, FailsAs, HasPrinted, Performs, Prints, WrongValues}
+use Rattle.macs_program.specs.Run.{Does, FailsAs, Performs, Prints, WrongValues}
 use Rattle.macs_program.specs.declared.failure.Failure.{Failure}
 use Rattle.macs_program.specs.declared.failure.Failure.TheVariants.{Output}
 use Rattle.macs_program.specs.declared.status.Status.{Status}

@@ -9,6 +9,7 @@ pub mod NewDisks
 pub mod Showing
 pub mod Applying
 pub mod Summing
+pub mod CaptureFiles
 pub mod Capturing
 pub mod Endpoints
 pub mod Relaying

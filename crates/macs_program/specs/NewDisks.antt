@@ -34,9 +34,10 @@ pub record IsFree (is_over : Bool) (file : FileState) : Type 0 where
   pub settles : Settles file settled
   pub permits : Permits is_over settled (file.size / 512) None
 
--- a file became the disk of a new endpoint: a blank disk of this layout was made in it, and formatted
-pub record Formats {F : Type 0} (file : F → FileState) (layout : Layout) (identity : Identity) : Type 0 where
+-- a file that was free for it became the disk of a new endpoint: a blank disk of this layout was made in it, and formatted
+pub record Formats {F : Type 0} (file : F → FileState) (is_over : Bool) (layout : Layout) (identity : Identity) : Type 0 where
   pub blank : FileDisk F
+  pub free : Behaves (file (file_given blank)) → IsFree is_over (file (file_given blank))
   pub made : Behaves (file (file_given blank)) → IsBlank (file (file_given blank)) (file (file_left blank)) layout (disk_in_file file blank)
   pub new : FileDisk F
   pub formats : IsFormat (disk_in_file file) blank identity (Ok tt) new

@@ -9,7 +9,7 @@ use Rattle.macs_disk.specs.declared.layout.Layout.{Layout}
 use Rattle.macs_edge.specs.declared.passing.Summary.{Summary}
 use Rattle.macs_edge.specs.declared.relaying.RelaySummary.{RelaySummary}
 use Rattle.macs_edge.specs.declared.settling.Side.TheVariants.{Common, Controlled}
-use Rattle.macs_program.specs.Addresses.{AddressFaultHolds, SpellsBoth}
+use Rattle.macs_program.specs.Addresses.{AddressFaultHolds, SpellsBoth, address_faults}
 use Rattle.macs_program.specs.Answer.{Answers, answer_status, answer_text}
 use Rattle.macs_program.specs.Applying.{outcome_lines}
 use Rattle.macs_fields.specs.First.{IsFirst}
@@ -21,7 +21,7 @@ use Rattle.macs_program.specs.Relaying.{ComesTo, RelayEndsIn}
 use Rattle.macs_program.specs.Request.{InputFaultHolds, input_faults}
 use Rattle.macs_program.specs.Showing.{line}
 use Rattle.macs_program.specs.Summing.{relay_line, summary_line}
-use Rattle.macs_program.specs.Values.{SpellsIdentity, SpellsLayout, ValueFaultHolds}
+use Rattle.macs_program.specs.Values.{SpellsIdentity, SpellsLayout, ValueFaultHolds, value_faults}
 use Rattle.macs_words.specs.Words.{AsksFor, Names, macsecd}
 use Rattle.macs_words.specs.declared.action.Action.{Action}
 use Rattle.macs_words.specs.declared.action.Action.TheVariants.{Open, Format, Apply, Show, Protect, Validate, Relay}
@@ -49,7 +49,7 @@ abbrev pub Does : {F : Type 0} → (F → FileState) → Action → Option (List
 Does state_of Open input before after status = IfSome input (λ octets. Prints octets before after status)
 Does state_of (Format disk sci tx_block rx_block block is_over) input before after status =
     (identity : Identity) × SpellsIdentity sci.now tx_block rx_block identity
-    × (layout : Layout) × SpellsLayout (option_map (λ text. text.now) block) layout × Formats state_of layout identity
+    × (layout : Layout) × SpellsLayout (option_map (λ text. text.now) block) layout × Formats state_of is_over layout identity
     × Appends before after (line (codes "formatted")) × (status ≡ ends.Done)
 Does state_of (Apply disk file) input before after status =
     AppliesIn state_of before after status
@@ -91,12 +91,13 @@ OpenFails octets failure =
     ⊎ ((fault : InputFault) × (failure ≡ Input fault) × IfSome octets (λ all. IsFirst (InputFaultHolds (take 20001 all)) input_faults fault))
     ⊎ (failure ≡ Memory) ⊎ (failure ≡ Output)
 
--- How an action fails, where `state_of` says what files are: for a value of the words, for the opening of the endpoint, or as what is done with it
--- ends
+-- How an action fails, where `state_of` says what files are: for the first value of the words that is none, for the opening of the endpoint, or as
+-- what is done with it ends
 abbrev pub FailsAs : {F : Type 0} → (F → FileState) → Action → Option (List ℕ) → Option (List ℕ) → Option (List ℕ) → Failure → Type 0
 FailsAs state_of Open octets before after failure = OpenFails octets failure
 FailsAs state_of (Format disk sci tx_block rx_block block is_over) octets before after failure =
-    ((fault : ValueFault) × (failure ≡ Value fault))
+    ((fault : ValueFault) × (failure ≡ Value fault)
+    × IsFirst (ValueFaultHolds sci.now tx_block rx_block (option_map (λ text. text.now) block)) value_faults fault)
     ⊎ ((identity : Identity) × SpellsIdentity sci.now tx_block rx_block identity × FormatFails state_of is_over identity failure)
     ⊎ (failure ≡ Output)
 FailsAs state_of (Apply disk file) octets before after failure = OpeningFails state_of failure ⊎ BreaksOffIn state_of before after failure
@@ -104,7 +105,8 @@ FailsAs state_of (Show disk) octets before after failure = OpeningFails state_of
 FailsAs state_of (Protect disk from to) octets before after failure = OpeningFails state_of failure ⊎ PassEndsIn state_of Controlled failure
 FailsAs state_of (Validate disk from to) octets before after failure = OpeningFails state_of failure ⊎ PassEndsIn state_of Common failure
 FailsAs state_of (Relay disk controlled common turns) octets before after failure =
-    ((fault : AddressFault) × (failure ≡ Address fault)) ⊎ OpeningFails state_of failure ⊎ RelayEndsIn state_of turns failure
+    ((fault : AddressFault) × (failure ≡ Address fault) × IsFirst (AddressFaultHolds controlled common) address_faults fault)
+    ⊎ OpeningFails state_of failure ⊎ RelayEndsIn state_of turns failure
 
 -- An action is done, with a status of these two, or fails. A failure that is wrong usage is that of a wrong value, and nothing was
 -- printed; one of the disk is that of another action than `open`

@@ -1,6 +1,7 @@
 //! The files that the words name.
 
-ghost use Rattle.std.specs.Prelude.{◌≡◌, ◌≢◌, ◌⊎◌, ◌/◌, false, true, ℕ, List, IfErr, IfOk, IfSome, OnErr, OnOk};
+ghost use Rattle.std.specs.Prelude.{◌≡◌, ◌≢◌, ◌⊎◌, ◌/◌, false, true, ℕ, List, [], Some, IfErr, IfOk, IfSome, OnErr, OnOk};
+ghost use Rattle.std.specs.Io.Buffered.{reader_buffer, reader_capacity, reader_inner, writer_buffer, writer_inner};
 ghost use Rattle.macs_disk.specs.Files.{Behaves, IsSure, file_claimed, file_cut};
 ghost use Rattle.std.specs.IoError.{error_kind};
 ghost use Rattle.std.specs.declared.io.ErrorKind.TheVariants.{OutOfMemory};
@@ -18,7 +19,7 @@ use crate::failure::{DiskFault, Failure};
 use crate::whole_writes::WholeWrites;
 use macs_config::Command;
 use macs_disk::{DiskFile, FileDisk};
-use macs_pcap::{ReaderSource, WriterSink};
+use macs_pcap::{ReaderSource, Sink, Source, WriterSink};
 use std::alloc::Global;
 use std::fs::{OpenFile, OpenOptions};
 use std::io::{BufReader, BufWriter, Read, Write};
@@ -114,7 +115,10 @@ pub fn commands_of_file<T: Files>(
 
 /// A reader that keeps octets of a capture back. It fails as `Memory`.
 fn reader_of<F: Read + Drop>(alloc: Global, file: F) -> Result<BufReader<F>, Failure>
-    ensures { IfErr result (λ failure. failure ≡ Failure.Memory) }
+    ensures inner { IfOk result (λ reader. reader_inner reader ≡ file) }
+    ensures empty { IfOk result (λ reader. reader_buffer reader ≡ []) }
+    ensures room { IfOk result (λ reader. reader_capacity reader ≡ 131072) }
+    ensures failed { IfErr result (λ failure. failure ≡ Failure.Memory) }
 {
     match BufReader::with_capacity(alloc, CAPTURE_ROOM, file) {
         Ok(reader) => Ok(reader),
@@ -122,14 +126,40 @@ fn reader_of<F: Read + Drop>(alloc: Global, file: F) -> Result<BufReader<F>, Fai
     }
 }
 
-/// A writer that keeps octets of a capture back. It fails as `Memory`.
-fn writer_of<F: Write + Drop>(alloc: Global, file: F) -> Result<WholeWrites<F>, Failure>
-    ensures { IfErr result (λ failure. failure ≡ Failure.Memory) }
+/// A buffer that keeps octets of a capture back. It fails as `Memory`.
+fn buffer_of<F: Write + Drop>(alloc: Global, file: F) -> Result<BufWriter<F>, Failure>
+    ensures inner { IfOk result (λ buffer. writer_inner buffer ≡ file) }
+    ensures empty { IfOk result (λ buffer. writer_buffer buffer ≡ []) }
+    ensures failed { IfErr result (λ failure. failure ≡ Failure.Memory) }
 {
     match BufWriter::with_capacity(alloc, CAPTURE_ROOM, file) {
-        Ok(buffer) => Ok(WholeWrites::new(buffer)),
+        Ok(buffer) => Ok(buffer),
         Err(error) => Err(failure_of(error, Failure::Capture)),
     }
+}
+
+/// A capture that is read from an open file: all that the file has left. It fails as `Memory`.
+fn source_over<F: Read + Drop>(alloc: Global, file: F) -> Result<CaptureSource<F>, Failure>
+    ensures left { IfOk result (λ source. IfSome (F.remaining file)
+        (λ octets. (⟦<ReaderSource<BufReader<F>> as Source>⟧.state source).left ≡ Some octets)) }
+    ensures fresh { IfOk result (λ source. (⟦<ReaderSource<BufReader<F>> as Source>⟧.state source).failed ≡ false) }
+    ensures failed { IfErr result (λ failure. failure ≡ Failure.Memory) }
+{
+    let reader = reader_of(alloc, file)?;
+    Ok(ReaderSource::new(reader))
+}
+
+/// A capture that is written to an open file, behind what it holds. It fails as `Memory`.
+fn sink_over<F: Write + Drop>(alloc: Global, file: F) -> Result<CaptureSink<F>, Failure>
+    ensures held { IfOk result (λ sink. IfSome (F.contents file)
+        (λ octets. (⟦<WriterSink<WholeWrites<F>> as Sink>⟧.state sink).held ≡ Some octets)) }
+    ensures fresh { IfOk result (λ sink. (⟦<WriterSink<WholeWrites<F>> as Sink>⟧.state sink).failed ≡ false) }
+    ensures unflushed { IfOk result (λ sink. (⟦<WriterSink<WholeWrites<F>> as Sink>⟧.state sink).flushed ≡ false) }
+    ensures failed { IfErr result (λ failure. failure ≡ Failure.Memory) }
+{
+    let buffer = buffer_of(alloc, file)?;
+    let whole = WholeWrites::new(buffer);
+    Ok(WriterSink::new(whole))
 }
 
 /// Opens a file to read it as a capture. A regular file is claimed beside other readers, so that it
@@ -231,7 +261,7 @@ where
     ensures { IfErr result (λ failure. (failure ≡ Failure.Memory) ⊎ (failure ≡ Failure.Capture)) }
 {
     match open_source(rt, path) {
-        Ok(file) => Ok(ReaderSource::new(reader_of(alloc, file)?)),
+        Ok(file) => source_over(alloc, file),
         Err(error) => Err(failure_of(error, Failure::Capture)),
     }
 }
@@ -250,7 +280,7 @@ where
     ensures { IfErr result (λ failure. (failure ≡ Failure.Memory) ⊎ (failure ≡ Failure.Capture)) }
 {
     match open_sink(rt, path) {
-        Ok(file) => Ok(WriterSink::new(writer_of(alloc, file)?)),
+        Ok(file) => sink_over(alloc, file),
         Err(error) => Err(failure_of(error, Failure::Capture)),
     }
 }

@@ -5,6 +5,7 @@ mod addresses;
 mod answer;
 mod applying;
 mod capture_file;
+mod captures;
 mod capturing;
 mod contents;
 mod failure;

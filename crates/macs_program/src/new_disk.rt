@@ -114,7 +114,7 @@ pub fn format_disk<T: Files>(
 ) -> Result<(), Failure>
 where
     T::File: DiskFile,
-    ensures formats { OnOk result (Formats T.File.file how.layout identity.now) }
+    ensures formats { OnOk result (Formats T.File.file how.is_over how.layout identity.now) }
     ensures refused { IfErr result (FormatFails T.File.file how.is_over identity.now) }
     ensures failed { IfErr result (λ failure. (failure ≡ Failure.Memory)
         ⊎ ((fault : DiskFault) × (failure ≡ Failure.Disk fault))) }

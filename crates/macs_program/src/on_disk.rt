@@ -4,7 +4,7 @@
 //! the stack holds one at a time. What a subcommand does with it is a function that is not inlined: else the compiler
 //! has a second place for it.
 
-ghost use Rattle.std.specs.Prelude.{◌≡◌, ◌≢◌, ◌⊎◌, ◌↔◌, List, Option, codes, option_map, Err, true, IfErr, IfOk};
+ghost use Rattle.std.specs.Prelude.{◌≡◌, ◌≢◌, ◌⊎◌, ◌↔◌, List, Option, [], ◌∷◌, codes, option_map, Err, true, IfErr, IfOk, OnErr, OnOk};
 ghost use Rattle.std.specs.Io.KnownBytes.{Appends};
 ghost use Rattle.macs_config.specs.Identity.{Identity};
 ghost use Rattle.macs_disk.specs.declared.layout.Layout.{Layout};
@@ -14,6 +14,7 @@ ghost use Rattle.macs_edge.specs.declared.relaying.RelaySummary.{RelaySummary};
 ghost use Rattle.macs_fields.specs.First.{IsFirst};
 ghost use Rattle.macs_program.specs.Addresses.{AddressFaultHolds, SpellsBoth, address_faults};
 ghost use Rattle.macs_program.specs.Applying.{outcome_lines};
+ghost use Rattle.macs_program.specs.CaptureFiles.{Asks, Makes, Opens};
 ghost use Rattle.macs_program.specs.Capturing.{side_of};
 ghost use Rattle.macs_program.specs.Endpoints.{AppliesFile, AppliesIn, BreaksOff, BreaksOffIn, OpeningFails};
 ghost use Rattle.macs_program.specs.Endpoints.{PassEnds, PassEndsIn, PassesBetween, PassesIn, ShowsIn, shown_text};
@@ -29,9 +30,10 @@ ghost use Rattle.macs_program.specs.declared.values.ValueFault.{ValueFault};
 use crate::addresses::{Addresses, addresses_of};
 use crate::applying::apply_commands;
 use crate::capture_file::CaptureFile;
+use crate::captures::{Captures, SystemCaptures};
 use crate::capturing::{Direction, pass_frames};
 use crate::failure::Failure;
-use crate::files::{commands_of_file, make_capture, open_capture, open_disk};
+use crate::files::{commands_of_file, open_disk};
 use crate::new_disk::{NewFile, format_disk};
 use crate::output::print;
 use crate::relaying::{bind, relay_frames};
@@ -62,13 +64,14 @@ where
     T::File: DiskFile,
     ensures printed { IfOk result (λ status. (identity : Identity) × SpellsIdentity sci.now tx_block rx_block identity
         × (layout : Layout) × SpellsLayout (option_map (λ text. text.now) block.entry) layout
-        × Formats T.File.file layout identity
+        × Formats T.File.file is_over layout identity
         × Appends (W.contents out.old) (W.contents out.new) (line (codes "formatted")) × (status ≡ Status.Done)) }
     ensures usage { IfErr result (λ failure. failure_status failure ≡ Status.Usage → ((fault : ValueFault)
         × ValueFaultHolds sci.now tx_block rx_block (option_map (λ text. text.now) block.entry) fault) × (out.new ≡ out.old)) }
     ensures value { (fault : ValueFault) → (result ≡ Err (Failure.Value fault))
         ↔ IsFirst (ValueFaultHolds sci.now tx_block rx_block (option_map (λ text. text.now) block.entry)) value_faults fault }
-    ensures ended { IfErr result (λ failure. ((fault : ValueFault) × (failure ≡ Failure.Value fault))
+    ensures ended { IfErr result (λ failure. ((fault : ValueFault) × (failure ≡ Failure.Value fault)
+        × IsFirst (ValueFaultHolds sci.now tx_block rx_block (option_map (λ text. text.now) block.entry)) value_faults fault)
         ⊎ ((identity : Identity) × SpellsIdentity sci.now tx_block rx_block identity
         × FormatFails T.File.file is_over identity failure) ⊎ (failure ≡ Failure.Output)) }
     ensures silent { IfErr result (λ failure. failure ≢ Failure.Output → out.new ≡ out.old) }
@@ -177,10 +180,10 @@ where
     }
 }
 
-/// Takes a capture through an endpoint into another one.
+/// Takes a capture through an endpoint into another one. INPUT is opened first, and OUTPUT is made only where it is.
 #[inline(never)]
-fn pass_between<T: Files, D: SectorDisk, W: Stream>(
-    rt: &T,
+fn pass_between<C: Captures, D: SectorDisk, W: Stream>(
+    captures: &mut C,
     alloc: Global,
     endpoint: &mut Endpoint<D>,
     direction: Direction,
@@ -188,8 +191,9 @@ fn pass_between<T: Files, D: SectorDisk, W: Stream>(
     to: &str,
     out: &mut W,
 ) -> Result<Status, Failure>
-where
-    T::File: CaptureFile,
+    ensures order { OnOk result (Asks (C.asked captures.old) (C.asked captures.new) (Opens from.now ∷ Makes to.now ∷ [])) }
+    ensures front { OnErr result (Asks (C.asked captures.old) (C.asked captures.new) (Opens from.now ∷ [])
+        ⊎ Asks (C.asked captures.old) (C.asked captures.new) (Opens from.now ∷ Makes to.now ∷ [])) }
     ensures printed { IfOk result (λ status. (summary : Summary)
         × PassesBetween D.disk (side_of direction) endpoint.old summary endpoint.new
         × Appends (W.contents out.old) (W.contents out.new) (summary_line direction summary) × (status ≡ Status.Done)) }
@@ -198,8 +202,8 @@ where
     ensures silent { IfErr result (λ failure. failure ≢ Failure.Output → out.new ≡ out.old) }
     ensures broken { IfErr result (λ failure. failure ≡ Failure.Output → W.failed out.new ≡ true) }
 {
-    let mut source = open_capture(rt, alloc, from)?;
-    let mut sink = make_capture(rt, alloc, to)?;
+    let mut source = captures.open(from)?;
+    let mut sink = captures.make(to)?;
     pass_frames(alloc, endpoint, direction, &mut source, &mut sink, out)
 }
 
@@ -227,7 +231,10 @@ where
 {
     let disk = open_disk(rt, disk)?;
     match &mut Endpoint::open(disk) {
-        Ok(endpoint) => pass_between(rt, alloc, endpoint, direction, from, to, out),
+        Ok(endpoint) => {
+            let mut captures = SystemCaptures { rt, alloc };
+            pass_between(&mut captures, alloc, endpoint, direction, from, to, out)
+        }
         Err(refused) => Err(Failure::from(refused.fault)), // No frame was taken.
     }
 }
@@ -301,7 +308,8 @@ where
         ↔ IsFirst (AddressFaultHolds controlled.entry common.entry) address_faults fault }
     ensures usage { IfErr result (λ failure. failure_status failure ≡ Status.Usage
         → ((fault : AddressFault) × AddressFaultHolds controlled.entry common.entry fault) × (out.new ≡ out.old)) }
-    ensures ended { IfErr result (λ failure. ((fault : AddressFault) × (failure ≡ Failure.Address fault))
+    ensures ended { IfErr result (λ failure. ((fault : AddressFault) × (failure ≡ Failure.Address fault)
+        × IsFirst (AddressFaultHolds controlled.entry common.entry) address_faults fault)
         ⊎ OpeningFails T.File.file failure ⊎ RelayEndsIn T.File.file turns failure) }
     ensures names { IfErr result IsOfRelay }
     ensures silent { IfErr result (λ failure. failure ≢ Failure.Output → out.new ≡ out.old) }

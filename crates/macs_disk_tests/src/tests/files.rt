@@ -306,3 +306,9 @@ fn a_pipe_is_no_disk(rt: HostRuntime) -> Result<(), Fail> {
     let path = format!(in rt.alloc(); "/proc/self/fd/{}", reader.as_raw_fd())?;
     play(&rt, path.as_str(), PIPE)
 }
+
+/// A file that can be claimed, measured and read anew, and that the system does not sync.
+#[test]
+fn what_cannot_be_synced_is_no_disk(rt: HostRuntime) -> Result<(), Fail> {
+    play(&rt, "/proc/self/comm", &[Open(Err(FileFault::Device))])
+}

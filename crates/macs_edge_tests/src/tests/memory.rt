@@ -5,6 +5,25 @@ use linked_list_allocator::LocalHeap;
 use macs_edge::{ConfigFault, commands_of};
 use std::process::Abort;
 
+/// A command of few octets.
+const SHORT: &str = "[[command]]\ndo='tx-use'\nan=0\n";
+
+/// How many of them a command file has room for: together they have 1,048,553 octets, of at most 1,048,576.
+const MOST: usize = 36_157;
+
+/// However many commands a file has room for, they are read: there is no want of memory.
+#[test]
+fn a_file_of_the_limit_is_commands(rt: HostRuntime) {
+    let mut text = String::new(rt.alloc());
+    for _ in 0..MOST {
+        assert!(rt; text.push_str(SHORT).is_ok());
+    }
+    assert!(rt; text.len() == 1_048_553);
+    let file = toml::table_from_str(rt.alloc(), text.as_str()).expect(&rt, "a table");
+    let commands = commands_of(rt.alloc(), &file).ok().expect(&rt, "commands");
+    assert!(rt; commands.len() == MOST);
+}
+
 /// Heaps from 0 octets on, in steps of 16, until one suffices: each smaller one is refused as `Memory`, and gives no
 /// command. The others give the commands that are read in ample memory.
 #[test]

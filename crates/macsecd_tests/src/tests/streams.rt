@@ -121,6 +121,25 @@ impl Write for Failing {
     }
 }
 
+/// A writer that keeps what it takes until it is flushed.
+#[derive(Drop)]
+struct Lazy {
+    /// How many octets wait for a flush.
+    waiting: usize,
+}
+
+impl Write for Lazy {
+    fn write(&mut self, buf: &[u8]) -> io::Result<usize> {
+        self.waiting = self.waiting.saturating_add(buf.len());
+        Ok(buf.len())
+    }
+
+    fn flush(&mut self) -> io::Result<()> {
+        self.waiting = 0;
+        Ok(())
+    }
+}
+
 /// A reader that fails at its first read, and remembers that it was asked.
 #[derive(Drop)]
 struct Unread {
@@ -235,6 +254,26 @@ fn a_writer_that_fails_is_output(rt: HostRuntime) {
             let mut out = Failing { is_written };
             expect_written(&rt, rt.alloc(), word, &mut out, 5, "macsecd: output\n");
         }
+    }
+}
+
+/// Each text is flushed once it is written, on either stream: nothing waits at the end.
+#[test]
+fn nothing_that_is_printed_waits(rt: HostRuntime) {
+    for (word, status) in [("open", 0), ("--help", 0), ("frobnicate", 2)] {
+        let mut out = Lazy { waiting: 0 };
+        let mut err = Lazy { waiting: 0 };
+        let answer = status_of(
+            &rt,
+            rt.alloc(),
+            &[word],
+            &mut INPUT.as_bytes(),
+            &mut out,
+            &mut err,
+        );
+        assert_eq!(rt; answer, status, "on {word}");
+        assert_eq!(rt; out.waiting, 0, "on {word}");
+        assert_eq!(rt; err.waiting, 0, "on {word}");
     }
 }
 

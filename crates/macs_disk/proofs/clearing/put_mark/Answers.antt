@@ -5,6 +5,9 @@ use Rattle.macs_disk.specs.declared.layout.Layout.TheVariants.{Spaced}
 use Rattle.macs_disk.proofs.FileOpenings.{marked, sure-written}
 use Rattle.macs_disk.proofs.FoundAgain.{mark-stands, written-sure}
 use Rattle.macs_disk.proofs.FrontKept.{front-more, front-writes}
+use Rattle.std.specs.IoError.{error_kind}
+use Rattle.std.proofs.lemmas.Result.{err_from_is_err_and}
+use Rattle.macs_disk.proofs.InterruptedCalls.{interrupted-then, later-write-fails, write-fails}
 use Rattle.macs_disk.proofs.clearing.put_mark.Goals as goal
 
 pub returns-clause-marked : goal.returns-clause-marked
@@ -53,3 +56,17 @@ returns-clause-front g c behaves sure suited =
     front-more mark_place old mid (file c.write_zeros.new.file) first
     (front-writes mid (file c.write_zeros.new.file) mark_place (mark_place / mid.block) (mark_place + 512) _ _ (g.met.F.DiskFile.sound c.write_all.new.file also)
     (written-sure old mid mark_place _ _ sure marks) (mark-stands Spaced mid.block same).front (omega arith) (c.in_ok-write_zeros.ensures.effect also))
+
+pub returns-in_err-write_all-clause-cause : goal.returns-in_err-write_all-clause-cause
+returns-in_err-write_all-clause-cause g c =
+    let p = err_from_is_err_and c.from_residual.result c.from_residual.ensures.1 in
+    rw p.1 (write-fails _ _ (error_kind c.in_err-write_all.field-0.0) p.0 c.in_err-write_all.ensures.cause p.2)
+
+pub returns-in_err-write_zeros-clause-cause : goal.returns-in_err-write_zeros-clause-cause
+returns-in_err-write_zeros-clause-cause g c =
+    let p = err_from_is_err_and c.from_residual-in_err-write_zeros.result c.from_residual-in_err-write_zeros.ensures.1 in
+    rw p.1 (later-write-fails _ (g.F.DiskFile.failures c.write_all.new.file) _ p.0 c.in_ok-write_all.ensures.quiet
+    (write-fails _ _ (error_kind c.in_err-write_zeros.field-0.0) p.0 c.in_err-write_zeros.ensures.cause p.2))
+
+pub returns-clause-quiet : goal.returns-clause-quiet
+returns-clause-quiet g c = interrupted-then _ (g.F.DiskFile.failures c.write_all.new.file) _ c.in_ok-write_all.ensures.quiet c.in_ok-write_zeros.ensures.quiet

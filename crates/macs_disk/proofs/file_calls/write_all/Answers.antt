@@ -1,10 +1,16 @@
 use Rattle.std.proofs.Common.{rules, ◌≡◌, ◌<◌, ◌+◌, ◌-◌, ◌≤◌, ◌^◌, ℕ, arith, ap, length, ◌∙◌, refl, get_or}
 use Rattle.std.specs.IoError.{error_kind}
 use Rattle.std.specs.declared.io.ErrorKind.TheVariants.{Interrupted}
+use Rattle.macs_disk.specs.FileFailures.{Writes}
 use Rattle.macs_disk.specs.Files.{Behaves, FileState, IsSure}
 use Rattle.macs_disk.proofs.FileWrites.{write-more, write-sure, part-fits, failed-behind}
+use Rattle.macs_disk.proofs.FailedCalls.{none-failed, one-failed}
+use Rattle.macs_disk.proofs.InterruptedCalls.{interrupted-then, none-interrupted, none-yet, not-moved, one-interrupted}
 use Rattle.macs_disk.proofs.file_calls.write_all.Goals as goal
 use Rattle.macs_disk.proofs.file_calls.write_all.Goals.{in-Ok, in-Err+else-ne}
+
+pub loop-init : goal.loop-init
+loop-init g c = (omega arith, refl, search rules, search rules, none-yet _)
 
 pub loop-preserved : goal.loop-preserved
 loop-preserved g c =
@@ -23,6 +29,7 @@ loop-preserved g c =
             λ behaves is. write-more (file c.args.file.now) (file c.loop.file) (file c.write_at.new.self) c.args.at (c.args.at + done) done w.in-Ok.count (length from - done) from
                 (g.met.F.DiskFile.sound c.args.file.now behaves).wide (inv.2 behaves is) refl inv.0 fits ((w.in-Ok.ensures.effect (inv.1 ∙ behaves)).ok (sure behaves is)),
             λ behaves doubt. (w.in-Ok.ensures.effect (inv.1 ∙ behaves)).doubt (inv.3 behaves doubt),
+            interrupted-then _ (g.F.DiskFile.failures c.loop.file) _ inv.4 (none-interrupted _ _ (none-failed _ _ Writes error_kind _ w.in-Ok.ensures.failure)),
           )
       | in-Err+else-ne w ↦
           let is : error_kind w.in-Err.error ≡ Interrupted = search rules in
@@ -32,6 +39,7 @@ loop-preserved g c =
             c.write_at.ensures.steady ∙ inv.1,
             λ behaves sure. same behaves ∙ inv.2 behaves sure,
             λ behaves doubt. (w.in-Err.ensures.effect (inv.1 ∙ behaves)).doubt (inv.3 behaves doubt),
+            interrupted-then _ (g.F.DiskFile.failures c.loop.file) _ inv.4 (one-interrupted _ _ Writes (error_kind w.in-Err.error) (one-failed ℕ _ _ Writes error_kind w.in-Err.error w.in-Err.ensures.failure) is),
           )
     ]
 
@@ -51,3 +59,8 @@ returns-then-ne-clause-effect g c behaves =
           (g.met.F.DiskFile.sound c.args.file.now behaves).wide small (inv.2 behaves is) refl (omega (arith, inv.0)) (effect.err sure);
       doubt = λ is. effect.doubt (inv.3 behaves is);
     }
+
+pub returns-then-ne-clause-cause : goal.returns-then-ne-clause-cause
+returns-then-ne-clause-cause g c =
+    not-moved _ (g.F.DiskFile.failures c.loop.file) _ Writes (error_kind c.in-Err.error) c.loop.invariant.4
+    (one-failed ℕ _ _ Writes error_kind c.in-Err.error c.in-Err.ensures.failure) (search rules)

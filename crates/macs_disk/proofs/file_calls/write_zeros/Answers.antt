@@ -1,8 +1,15 @@
-use Rattle.std.proofs.Common.{◌≡◌, ◌≤◌, ℕ, inl, arith, ap, ◌∙◌, length, replicate, take}
+use Rattle.std.proofs.Common.{rules, ◌≡◌, ◌≤◌, ℕ, inl, inr, refl, arith, ap, ◌∙◌, length, replicate, take}
 use Rattle.std.proofs.lemmas.List.{length-replicate, take-replicate}
+use Rattle.std.specs.IoError.{error_kind}
+use Rattle.std.proofs.lemmas.Result.{err_from_is_err_and}
+use Rattle.macs_disk.specs.FileFailures.{Writes}
 use Rattle.macs_disk.specs.Files.{FileState, IsSure}
 use Rattle.macs_disk.proofs.FileWrites.{failed-writes, write-sure, zeros-failed, zeros-more}
+use Rattle.macs_disk.proofs.InterruptedCalls.{interrupted-then, later-not-moved, none-yet}
 use Rattle.macs_disk.proofs.file_calls.write_zeros.Goals as goal
+
+pub loop-init : goal.loop-init
+loop-init g c = (omega arith, inr refl, refl, search rules, search rules, none-yet _)
 
 pub loop-preserved : goal.loop-preserved
 loop-preserved g c =
@@ -20,6 +27,7 @@ loop-preserved g c =
           zeros-more (file c.args.file.now) (file c.loop.file) (file c.write_all.new.file) c.args.from c.loop.at count _ (g.met.F.DiskFile.sound c.args.file.now behaves).wide
           (inv.3 behaves is) inv.0 (take-replicate count 4096 0 short) ((c.in_ok-write_all.ensures.effect (inv.2 ∙ behaves)).ok sure),
       λ behaves doubt. (c.in_ok-write_all.ensures.effect (inv.2 ∙ behaves)).doubt (inv.4 behaves doubt),
+      interrupted-then _ (g.F.DiskFile.failures c.loop.file) _ inv.5 c.in_ok-write_all.ensures.quiet,
     )
 
 pub returns-in_err-write_all-clause-effect : goal.returns-in_err-write_all-clause-effect
@@ -38,3 +46,8 @@ returns-in_err-write_all-clause-effect g c behaves =
     (g.met.F.DiskFile.sound c.args.file.now behaves).wide (inv.3 behaves is) inv.0 ((c.in_err-write_all.ensures.effect (inv.2 ∙ behaves)).err sure)
     (omega (arith, long, least, more)))
     (λ is. (c.in_err-write_all.ensures.effect (inv.2 ∙ behaves)).doubt (inv.4 behaves is))
+
+pub returns-in_err-write_all-clause-cause : goal.returns-in_err-write_all-clause-cause
+returns-in_err-write_all-clause-cause g c =
+    let p = err_from_is_err_and c.from_residual.result c.from_residual.ensures.1 in
+    rw (p.1, p.2) (later-not-moved _ (g.F.DiskFile.failures c.loop.file) _ Writes (error_kind c.in_err-write_all.field-0.0) c.loop.invariant.5 c.in_err-write_all.ensures.cause)

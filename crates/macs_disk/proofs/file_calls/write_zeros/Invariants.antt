@@ -1,5 +1,6 @@
 -- Zeros were written from the front up to here, and nothing else.
 use Rattle.std.proofs.Common.{◌≡◌, ◌≤◌, ◌-◌, ◌⊎◌, false, replicate}
+use Rattle.macs_disk.specs.FileFailures.{OnlyInterrupted}
 use Rattle.macs_disk.specs.Files.{Behaves, IsSure, file_after_write}
 use Rattle.macs_disk.proofs.file_calls.write_zeros.Given as goal
 
@@ -9,3 +10,4 @@ invariant-loop g l = (l.initial.from ≤ l.at) × ((l.at ≤ l.initial.to) ⊎ (
     × (Behaves (g.F.DiskFile.file l.initial.file) → IsSure (g.F.DiskFile.file l.initial.file)
     → g.F.DiskFile.file l.file ≡ file_after_write (g.F.DiskFile.file l.initial.file) l.initial.from (replicate (l.at - l.initial.from) 0))
     × (Behaves (g.F.DiskFile.file l.initial.file) → (g.F.DiskFile.file l.initial.file).is_sure ≡ false → (g.F.DiskFile.file l.file).is_sure ≡ false)
+    × OnlyInterrupted (g.F.DiskFile.failures l.initial.file) (g.F.DiskFile.failures l.file)

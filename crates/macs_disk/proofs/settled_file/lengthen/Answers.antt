@@ -1,7 +1,12 @@
-use Rattle.std.proofs.Common.{◌≡◌, ◌%◌, ◌/◌, ap, ◌∙◌, arith, sym, ℕ}
+use Rattle.std.proofs.Common.{◌≡◌, ◌%◌, ◌/◌, ap, ◌∙◌, arith, inl, refl, sym, ℕ}
+use Rattle.std.specs.IoError.{error_kind}
+use Rattle.std.proofs.lemmas.Result.{err_from_is_err_and}
+use Rattle.macs_disk.specs.FileFailures.{Syncs}
 use Rattle.macs_disk.specs.Files.{Behaves}
 use Rattle.macs_disk.proofs.FoundAgain.{written-sure}
 use Rattle.macs_disk.proofs.FrontKept.{front-after-sync, front-more, front-writes, packed-end}
+use Rattle.macs_disk.proofs.FailedCalls.{one-failed}
+use Rattle.macs_disk.proofs.InterruptedCalls.{none-yet, sync-fails, write-fails}
 use Rattle.macs_disk.proofs.settled_file.lengthen.Goals as goal
 
 pub returns-in_err-write_zeros-clause-front : goal.returns-in_err-write_zeros-clause-front
@@ -36,3 +41,17 @@ returns-clause-front g c behaves sure size whole suited =
     (size ∙ packed-end old suited (ap (λ (n : ℕ). n % 512) (sym size) ∙ whole)) (omega arith) zeros)
     (front-after-sync c.args.octets mid (file c.sync.new.self) _ (g.met.F.DiskFile.sound c.write_zeros.new.file also) (written-sure old mid c.args.octets _ _ sure zeros)
     (c.in_ok-sync.ensures.effect also))
+
+pub returns-then-sectors-clause-cause : goal.returns-then-sectors-clause-cause
+returns-then-sectors-clause-cause g c = inl (refl, none-yet _)
+
+pub returns-in_err-write_zeros-clause-cause : goal.returns-in_err-write_zeros-clause-cause
+returns-in_err-write_zeros-clause-cause g c =
+    let p = err_from_is_err_and c.from_residual.result c.from_residual.ensures.1 in
+    rw p.1 (write-fails _ _ (error_kind c.in_err-write_zeros.field-0.0) p.0 c.in_err-write_zeros.ensures.cause p.2)
+
+pub returns-in_err-sync-clause-cause : goal.returns-in_err-sync-clause-cause
+returns-in_err-sync-clause-cause g c =
+    let p = err_from_is_err_and c.from_residual-in_err-sync.result c.from_residual-in_err-sync.ensures.1 in
+    rw p.1 (sync-fails _ (g.F.DiskFile.failures c.write_zeros.new.file) _ (error_kind c.in_err-sync.field-0.0) p.0 c.in_ok-write_zeros.ensures.quiet
+    (one-failed (Unit {0}) _ _ Syncs error_kind c.in_err-sync.field-0.0 c.in_err-sync.ensures.failure) p.2)

@@ -4,6 +4,7 @@ use Rattle.macs_disk.specs.FileDisks.{IsBlank, disk_in_file}
 use Rattle.macs_disk.specs.Files.{Behaves}
 use Rattle.macs_endpoint.specs.Formatting.{IsFormat}
 use Rattle.macs_program.proofs.Made.{of-the-system}
+use Rattle.macs_program.specs.NewDisks.{IsFree}
 use Rattle.macs_program.proofs.new_disk.format_disk.Goals as goal
 
 pub returns-clause-formats : goal.returns-clause-formats
@@ -12,6 +13,7 @@ returns-clause-formats g c =
     let disk = c.in_ok-disk.disk in
     record {
       blank = disk;
+      free = subst (λ f. Behaves (file f) → IsFree c.args.how.is_over (file f)) (sym c.in_ok-disk.ensures.given) c.in_ok-disk.ensures.free;
       made = subst (λ f. Behaves (file f) → IsBlank (file f) (file disk.file) c.args.how.layout (disk_in_file file disk))
           (sym c.in_ok-disk.ensures.given) c.in_ok-disk.ensures.blank;
       new = c.format.new.disk;

@@ -40,7 +40,8 @@ returns-clause-value g c =
 pub returns-in_err-given-clause-ended : goal.returns-in_err-given-clause-ended
 returns-in_err-given-clause-ended g c =
     let p = err_from_is_err_and c.from_residual.result c.from_residual.ensures.1 in
-    rw p.1 (inl (c.in_err-given.field-0.0, p.2))
+    let fault = c.in_err-given.field-0.0 in
+    rw p.1 (inl (fault, p.2, (c.given_by.ensures.fault fault).0 c.in_err-given.was))
 
 pub returns-in_err-format_disk-clause-ended : goal.returns-in_err-format_disk-clause-ended
 returns-in_err-format_disk-clause-ended g c =

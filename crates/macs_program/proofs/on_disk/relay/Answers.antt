@@ -45,7 +45,8 @@ returns-clause-names g c = IfErr-weaker c.relay_over.result _ _ behind-of-relay 
 pub returns-in_err-addresses-clause-ended : goal.returns-in_err-addresses-clause-ended
 returns-in_err-addresses-clause-ended g c =
     let p = err_from_is_err_and c.from_residual.result c.from_residual.ensures.1 in
-    rw p.1 (inl (c.in_err-addresses.field-0.0, p.2))
+    let fault = c.in_err-addresses.field-0.0 in
+    rw p.1 (inl (fault, p.2, (c.addresses_of.ensures.fault fault).0 c.in_err-addresses.was))
 
 pub returns-clause-ended : goal.returns-clause-ended
 returns-clause-ended g c = IfErr-weaker c.relay_over.result _ _ (λ failure ends. inr ends) c.relay_over.ensures.ended

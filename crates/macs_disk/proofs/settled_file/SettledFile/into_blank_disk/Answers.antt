@@ -6,6 +6,8 @@ use Rattle.macs_disk.specs.declared.layout.Layout.{Layout}
 use Rattle.macs_disk.proofs.FileCalls.{disk_by}
 use Rattle.macs_disk.proofs.FileOpenings.{blank}
 use Rattle.macs_disk.proofs.FoundAgain.{found-cleared, found-still}
+use Rattle.std.proofs.lemmas.Result.{err_from_is_err_and}
+use Rattle.macs_disk.proofs.InterruptedCalls.{write-refused}
 use Rattle.macs_disk.proofs.settled_file.SettledFile.into_blank_disk.Goals as goal
 
 pub returns-clause-known : goal.returns-clause-known
@@ -41,3 +43,8 @@ returns-clause-again g c behaves settled =
     let cleared = c.in_ok-clear.ensures.cleared behaves sure settled.1 in
     found-still file layout new.layout sectors new.sectors ready new.file false new.is_failed c.new.ensures.layout c.new.ensures.sectors c.new.ensures.file (λ _. refl)
     (λ _. (found-cleared before (file ready) layout sectors cleared whole count, λ _. cleared.is_sure))
+
+pub returns-in_err-clear-clause-refused : goal.returns-in_err-clear-clause-refused
+returns-in_err-clear-clause-refused g c =
+    let p = err_from_is_err_and c.from_residual.result c.from_residual.ensures.1 in
+    write-refused g.F.DiskFile.failures c.args.self.file c.clear.new.file c.in_err-clear.field-0.0 p.0 c.from_residual.result p.1 p.2 c.in_err-clear.ensures.cause

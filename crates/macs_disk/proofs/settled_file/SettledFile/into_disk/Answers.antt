@@ -4,6 +4,8 @@ use Rattle.macs_disk.specs.declared.layout.Layout.{Layout}
 use Rattle.macs_disk.proofs.FileCalls.{disk_by}
 use Rattle.macs_disk.proofs.FileOpenings.{opened, still}
 use Rattle.macs_disk.proofs.FoundAgain.{extent-sure, found-extent, found-still}
+use Rattle.std.proofs.lemmas.Result.{err_from_is_err_and}
+use Rattle.macs_disk.proofs.InterruptedCalls.{extend-refused}
 use Rattle.macs_disk.proofs.settled_file.SettledFile.into_disk.Goals as goal
 
 pub returns-clause-known : goal.returns-clause-known
@@ -35,3 +37,8 @@ returns-clause-again g c behaves settled =
       found-extent before (file ready) c.args.least extent.sectors extent.layout is c.in_ok-extent.ensures.spaced whole,
       λ _. extent-sure before (file ready) c.args.least extent.sectors extent.layout is is_still.0,
     ))
+
+pub returns-in_err-extent-clause-refused : goal.returns-in_err-extent-clause-refused
+returns-in_err-extent-clause-refused g c =
+    let p = err_from_is_err_and c.from_residual.result c.from_residual.ensures.1 in
+    extend-refused g.F.DiskFile.failures c.args.self.file c.prepare.new.file c.in_err-extent.field-0.0 p.0 c.from_residual.result p.1 p.2 c.in_err-extent.ensures.cause

@@ -1,0 +1,104 @@
+-- Calls of a file that were interrupted, and one that failed behind them.
+use Rattle.std.proofs.Common.{◌≡◌, ◌≢◌, ◌⊎◌, ◌∙◌, ◌++◌, inl, inr, List, [], ◌∷◌, Option, Some, None, Result, Ok, Err, IfErr, ap, append-nil, append_assoc, refl, subst, sym}
+use Rattle.std.proofs.lemmas.List.Elements.{All-append}
+use Rattle.std.proofs.lemmas.Bool.{false≢true}
+use Rattle.std.specs.Prelude.{IsErr}
+use Rattle.std.specs.declared.io.ErrorKind.{ErrorKind}
+use Rattle.std.specs.declared.io.ErrorKind.TheVariants.{Interrupted, OutOfMemory}
+use Rattle.macs_disk.specs.FileFailures.{ExtendFails, FailedCall, FailsLast, FileCall, IsFaultOfKind, IsInterrupted, MoveFails, NoneFailed, OneFailed, OnlyInterrupted, Reads, Syncs, WriteFails, Writes}
+use Rattle.macs_disk.specs.declared.file_fault.FileFault.{FileFault}
+use Rattle.macs_disk.specs.declared.file_fault.FileFault.TheVariants as fault
+
+-- ---- interrupted calls
+
+pub none-yet : (before : Option (List FailedCall)) → OnlyInterrupted before before
+none-yet None = tt
+none-yet (Some before) = ([], tt, ap Some (sym (append-nil before)))
+
+pub none-interrupted : (before after : Option (List FailedCall)) → NoneFailed before after → OnlyInterrupted before after
+none-interrupted None after none = tt
+none-interrupted (Some before) after none = ([], tt, none ∙ ap Some (sym (append-nil before)))
+
+pub one-interrupted : (before after : Option (List FailedCall)) (call : FileCall) (kind : ErrorKind) → OneFailed before after call kind → kind ≡ Interrupted
+    → OnlyInterrupted before after
+one-interrupted None after call kind one is = tt
+one-interrupted (Some before) after call kind one is = (record { call = call; kind = kind } ∷ [], (is, tt), one)
+
+pub interrupted-then : (before between after : Option (List FailedCall)) → OnlyInterrupted before between → OnlyInterrupted between after
+    → OnlyInterrupted before after
+interrupted-then None between after first second = tt
+interrupted-then (Some before) between after (more, each, is) second =
+    let (others, also, last) = subst (λ (b : Option (List FailedCall)). OnlyInterrupted b after) is second in
+    (more ++ others, All-append IsInterrupted more others each also, last ∙ ap Some (append_assoc before more others))
+
+-- ---- and one that failed
+
+pub fails-last : (before between after : Option (List FailedCall)) (call : FileCall) (kind : ErrorKind) → OnlyInterrupted before between
+    → OneFailed between after call kind → FailsLast before after call kind
+fails-last before between after call kind first one = (between, first, one)
+
+pub later-fails-last : (before between after : Option (List FailedCall)) (call : FileCall) (kind : ErrorKind) → OnlyInterrupted before between
+    → FailsLast between after call kind → FailsLast before after call kind
+later-fails-last before between after call kind first (last, second, one) = (last, interrupted-then before between last first second, one)
+
+pub not-moved : (before between after : Option (List FailedCall)) (call : FileCall) (kind : ErrorKind) → OnlyInterrupted before between
+    → OneFailed between after call kind → kind ≢ Interrupted → MoveFails before after call kind
+not-moved before between after call kind first one other = inl (other, fails-last before between after call kind first one)
+
+-- a call that moved nothing, or too many calls
+pub moved-nothing : (before between after : Option (List FailedCall)) (call : FileCall) (kind : ErrorKind) → OnlyInterrupted before between
+    → NoneFailed between after → kind ≢ OutOfMemory → MoveFails before after call kind
+moved-nothing before between after call kind first none ample = inr (ample, interrupted-then before between after first (none-interrupted between after none))
+
+pub later-not-moved : (before between after : Option (List FailedCall)) (call : FileCall) (kind : ErrorKind) → OnlyInterrupted before between
+    → MoveFails between after call kind → MoveFails before after call kind
+later-not-moved before between after call kind first (inl (other, last)) = inl (other, later-fails-last before between after call kind first last)
+later-not-moved before between after call kind first (inr (ample, second)) = inr (ample, interrupted-then before between after first second)
+
+-- octets that are not moved, by the answer
+pub fails-of : {T E : Type 0} (before after : Option (List FailedCall)) (call : FileCall) (kind : E → ErrorKind) (answer : Result T E) → IsErr answer
+    → IfErr answer (λ error. MoveFails before after call (kind error)) → (k : ErrorKind) × MoveFails before after call k
+fails-of before after call kind (Ok value) is fails = absurd (false≢true is)
+fails-of before after call kind (Err error) is fails = (kind error, fails)
+
+-- ---- and its fault
+
+open-of : (kind : ErrorKind) (it : FileFault) → kind ≢ OutOfMemory → IsFaultOfKind kind it → it ≡ fault.Open
+open-of kind fault.Open ample is = refl
+open-of kind fault.Length ample is = absurd (is.0 refl)
+open-of kind fault.Device ample is = absurd (is.1 refl)
+open-of kind fault.Memory ample is = absurd (ample (is.2.0 refl))
+
+pub write-fails : (before after : Option (List FailedCall)) (kind : ErrorKind) (it : FileFault) → MoveFails before after Writes kind → IsFaultOfKind kind it
+    → WriteFails before after it
+write-fails before after kind it (inl (other, last)) is = inr (Writes, kind, inl refl, last, is)
+write-fails before after kind it (inr (ample, only)) is = inl (open-of kind it ample is, only)
+
+pub sync-fails : (before between after : Option (List FailedCall)) (kind : ErrorKind) (it : FileFault) → OnlyInterrupted before between
+    → OneFailed between after Syncs kind → IsFaultOfKind kind it → WriteFails before after it
+sync-fails before between after kind it first one is = inr (Syncs, kind, inr refl, fails-last before between after Syncs kind first one, is)
+
+pub later-write-fails : (before between after : Option (List FailedCall)) (it : FileFault) → OnlyInterrupted before between → WriteFails between after it
+    → WriteFails before after it
+later-write-fails before between after it first (inl (is, second)) = inl (is, interrupted-then before between after first second)
+later-write-fails before between after it first (inr (call, kind, which, last, is)) =
+    inr (call, kind, which, later-fails-last before between after call kind first last, is)
+
+pub mark-not-read : (before after : Option (List FailedCall)) (kind : ErrorKind) (it : FileFault) → it ≡ fault.Device → MoveFails before after Reads kind
+    → ExtendFails before after it
+mark-not-read before after kind it is fails = inl (is, kind, fails)
+
+-- a file that becomes no disk is let go
+pub extend-refused : {F T : Type 0} (failures : F → Option (List FailedCall)) (file left : F) (fails handed : FileFault) (result : Result T FileFault)
+    → result ≡ Err handed → handed ≡ fails → ExtendFails (failures file) (failures left) fails
+    → IfErr result (λ fails. (left : F) × ExtendFails (failures file) (failures left) fails)
+extend-refused {F} {T} failures file left fails handed result is same why =
+    subst (λ (r : Result T FileFault). IfErr r (λ fails. (left : F) × ExtendFails (failures file) (failures left) fails)) (sym is)
+    (left, subst (λ (f : FileFault). ExtendFails (failures file) (failures left) f) (sym same) why)
+
+pub write-refused : {F T : Type 0} (failures : F → Option (List FailedCall)) (file left : F) (fails handed : FileFault) (result : Result T FileFault)
+    → result ≡ Err handed → handed ≡ fails → WriteFails (failures file) (failures left) fails
+    → IfErr result (λ fails. (left : F) × WriteFails (failures file) (failures left) fails)
+write-refused {F} {T} failures file left fails handed result is same why =
+    subst (λ (r : Result T FileFault). IfErr r (λ fails. (left : F) × WriteFails (failures file) (failures left) fails)) (sym is)
+    (left, subst (λ (f : FileFault). WriteFails (failures file) (failures left) f) (sym same) why)
