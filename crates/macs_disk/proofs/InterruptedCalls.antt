@@ -1,10 +1,10 @@
 -- Calls of a file that were interrupted, and one that failed behind them.
 use Rattle.std.proofs.Common.{◌≡◌, ◌≢◌, ◌⊎◌, ◌∙◌, ◌++◌, inl, inr, List, [], ◌∷◌, Option, Some, None, Result, Ok, Err, IfErr, ap, append-nil, append_assoc, refl, subst, sym}
-use Rattle.std.proofs.lemmas.List.Elements.{All-append}
+use Rattle.std.proofs.lemmas.List.Elements.{All-append, All-from_recursion, All-nil}
 use Rattle.std.proofs.lemmas.Bool.{false≢true}
 use Rattle.std.specs.Prelude.{IsErr}
 use Rattle.std.specs.declared.io.ErrorKind.{ErrorKind}
-use Rattle.std.specs.declared.io.ErrorKind.TheVariants.{Interrupted, OutOfMemory}
+use Rattle.std.specs.declared.io.ErrorKind.TheVariants.{Interrupted, OutOfMemory, TimedOut, UnexpectedEof, WriteZero}
 use Rattle.macs_disk.specs.FileFailures.{ExtendFails, FailedCall, FailsLast, FileCall, IsFaultOfKind, IsInterrupted, MoveFails, NoneFailed, OneFailed, OnlyInterrupted, Reads, Syncs, WriteFails, Writes}
 use Rattle.macs_disk.specs.declared.file_fault.FileFault.{FileFault}
 use Rattle.macs_disk.specs.declared.file_fault.FileFault.TheVariants as fault
@@ -13,16 +13,17 @@ use Rattle.macs_disk.specs.declared.file_fault.FileFault.TheVariants as fault
 
 pub none-yet : (before : Option (List FailedCall)) → OnlyInterrupted before before
 none-yet None = tt
-none-yet (Some before) = ([], tt, ap Some (sym (append-nil before)))
+none-yet (Some before) = ([], All-nil IsInterrupted, ap Some (sym (append-nil before)))
 
 pub none-interrupted : (before after : Option (List FailedCall)) → NoneFailed before after → OnlyInterrupted before after
 none-interrupted None after none = tt
-none-interrupted (Some before) after none = ([], tt, none ∙ ap Some (sym (append-nil before)))
+none-interrupted (Some before) after none = ([], All-nil IsInterrupted, none ∙ ap Some (sym (append-nil before)))
 
 pub one-interrupted : (before after : Option (List FailedCall)) (call : FileCall) (kind : ErrorKind) → OneFailed before after call kind → kind ≡ Interrupted
     → OnlyInterrupted before after
 one-interrupted None after call kind one is = tt
-one-interrupted (Some before) after call kind one is = (record { call = call; kind = kind } ∷ [], (is, tt), one)
+one-interrupted (Some before) after call kind one is =
+    let failed : FailedCall = record { call = call; kind = kind } in (failed ∷ [], All-from_recursion IsInterrupted (failed ∷ []) (is, tt), one)
 
 pub interrupted-then : (before between after : Option (List FailedCall)) → OnlyInterrupted before between → OnlyInterrupted between after
     → OnlyInterrupted before after
@@ -43,17 +44,37 @@ later-fails-last before between after call kind first (last, second, one) = (las
 
 pub not-moved : (before between after : Option (List FailedCall)) (call : FileCall) (kind : ErrorKind) → OnlyInterrupted before between
     → OneFailed between after call kind → kind ≢ Interrupted → MoveFails before after call kind
-not-moved before between after call kind first one other = inl (other, fails-last before between after call kind first one)
+not-moved before between after call kind first one other = (other, inl (fails-last before between after call kind first one))
 
--- a call that moved nothing, or too many calls
+-- the errors of moves themselves are of these kinds
+abbrev pub IsOfMoves : ErrorKind → Type 0
+IsOfMoves kind = (kind ≡ UnexpectedEof) ⊎ (kind ≡ WriteZero) ⊎ (kind ≡ TimedOut)
+
+uninterrupted : (kind : ErrorKind) → IsOfMoves kind → kind ≢ Interrupted
+uninterrupted kind (inl is) same = cc
+uninterrupted kind (inr (inl is)) same = cc
+uninterrupted kind (inr (inr is)) same = cc
+
+ample : (kind : ErrorKind) → IsOfMoves kind → kind ≢ OutOfMemory
+ample kind (inl is) same = cc
+ample kind (inr (inl is)) same = cc
+ample kind (inr (inr is)) same = cc
+
+-- too many calls
+pub moved-late : (before after : Option (List FailedCall)) (call : FileCall) (kind : ErrorKind) → OnlyInterrupted before after → IsOfMoves kind
+    → MoveFails before after call kind
+moved-late before after call kind only is = (uninterrupted kind is, inr (ample kind is, only))
+
+-- a call that moved nothing
 pub moved-nothing : (before between after : Option (List FailedCall)) (call : FileCall) (kind : ErrorKind) → OnlyInterrupted before between
-    → NoneFailed between after → kind ≢ OutOfMemory → MoveFails before after call kind
-moved-nothing before between after call kind first none ample = inr (ample, interrupted-then before between after first (none-interrupted between after none))
+    → NoneFailed between after → IsOfMoves kind → MoveFails before after call kind
+moved-nothing before between after call kind first none is =
+    moved-late before after call kind (interrupted-then before between after first (none-interrupted between after none)) is
 
 pub later-not-moved : (before between after : Option (List FailedCall)) (call : FileCall) (kind : ErrorKind) → OnlyInterrupted before between
     → MoveFails between after call kind → MoveFails before after call kind
-later-not-moved before between after call kind first (inl (other, last)) = inl (other, later-fails-last before between after call kind first last)
-later-not-moved before between after call kind first (inr (ample, second)) = inr (ample, interrupted-then before between after first second)
+later-not-moved before between after call kind first (other, inl last) = (other, inl (later-fails-last before between after call kind first last))
+later-not-moved before between after call kind first (other, inr (much, second)) = (other, inr (much, interrupted-then before between after first second))
 
 -- octets that are not moved, by the answer
 pub fails-of : {T E : Type 0} (before after : Option (List FailedCall)) (call : FileCall) (kind : E → ErrorKind) (answer : Result T E) → IsErr answer
@@ -64,15 +85,15 @@ fails-of before after call kind (Err error) is fails = (kind error, fails)
 -- ---- and its fault
 
 open-of : (kind : ErrorKind) (it : FileFault) → kind ≢ OutOfMemory → IsFaultOfKind kind it → it ≡ fault.Open
-open-of kind fault.Open ample is = refl
-open-of kind fault.Length ample is = absurd (is.0 refl)
-open-of kind fault.Device ample is = absurd (is.1 refl)
-open-of kind fault.Memory ample is = absurd (ample (is.2.0 refl))
+open-of kind fault.Open much is = refl
+open-of kind fault.Length much is = absurd (is.0 refl)
+open-of kind fault.Device much is = absurd (is.1 refl)
+open-of kind fault.Memory much is = absurd (much (is.2.0 refl))
 
 pub write-fails : (before after : Option (List FailedCall)) (kind : ErrorKind) (it : FileFault) → MoveFails before after Writes kind → IsFaultOfKind kind it
     → WriteFails before after it
-write-fails before after kind it (inl (other, last)) is = inr (Writes, kind, inl refl, last, is)
-write-fails before after kind it (inr (ample, only)) is = inl (open-of kind it ample is, only)
+write-fails before after kind it (other, inl last) is = inr (Writes, kind, inl refl, last, is)
+write-fails before after kind it (other, inr (much, only)) is = inl (open-of kind it much is, only)
 
 pub sync-fails : (before between after : Option (List FailedCall)) (kind : ErrorKind) (it : FileFault) → OnlyInterrupted before between
     → OneFailed between after Syncs kind → IsFaultOfKind kind it → WriteFails before after it

@@ -69,11 +69,11 @@ OnlyInterrupted (Some before) after = (more : List FailedCall) × All IsInterrup
 abbrev pub FailsLast : Option (List FailedCall) → Option (List FailedCall) → FileCall → ErrorKind → Type 0
 FailsLast before after call kind = (between : Option (List FailedCall)) × OnlyInterrupted before between × OneFailed between after call kind
 
--- octets are not moved, which is an error of this kind: such a call failed for another cause than an interruption; or none did, and one
--- moved nothing
+-- octets are not moved, which is an error of this kind, and not of an interruption: such a call failed so; or none did but interrupted ones,
+-- and one moved nothing
 abbrev pub MoveFails : Option (List FailedCall) → Option (List FailedCall) → FileCall → ErrorKind → Type 0
 MoveFails before after call kind =
-    ((kind ≢ Interrupted) × FailsLast before after call kind) ⊎ ((kind ≢ OutOfMemory) × OnlyInterrupted before after)
+    (kind ≢ Interrupted) × (FailsLast before after call kind ⊎ ((kind ≢ OutOfMemory) × OnlyInterrupted before after))
 
 -- why a file is not written: a write or a sync failed, and this is its fault; or none did, and one wrote nothing, or the file may not be
 -- made so long

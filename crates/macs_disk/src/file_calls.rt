@@ -49,6 +49,8 @@ pub fn read_exact_at<F: DiskFile>(file: &mut F, from: u64, into: &mut [u8; 512])
     ensures same { Behaves (F.file file.old) → F.file file.new ≡ F.file file.old }
     ensures octets { Behaves (F.file file.old) → IsSure (F.file file.old)
         → OnOk result (into.new ≡ values_from (F.file file.old).seen from 512) }
+    ensures quiet { OnOk result (OnlyInterrupted (F.failures file.old) (F.failures file.new)) }
+    ensures cause { IfErr result (λ error. MoveFails (F.failures file.old) (F.failures file.new) Reads (error_kind error)) }
 {
     if from >= u64::MAX - 512 {
         return Err(io::Error::from(io::ErrorKind::UnexpectedEof));

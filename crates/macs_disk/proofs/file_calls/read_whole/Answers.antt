@@ -5,7 +5,7 @@ use Rattle.macs_disk.specs.FileFailures.{Reads}
 use Rattle.macs_disk.specs.Files.{Behaves, FileState, IsSure, values_from}
 use Rattle.macs_disk.proofs.FileReads.{values-none, read-more, read-none, length-filled, room-fits}
 use Rattle.macs_disk.proofs.FailedCalls.{none-failed, one-failed}
-use Rattle.macs_disk.proofs.InterruptedCalls.{interrupted-then, none-interrupted, none-yet, not-moved, one-interrupted}
+use Rattle.macs_disk.proofs.InterruptedCalls.{interrupted-then, moved-late, moved-nothing, none-interrupted, none-yet, not-moved, one-interrupted}
 use Rattle.macs_disk.proofs.file_calls.read_whole.Goals as goal
 use Rattle.macs_disk.proofs.file_calls.read_whole.Goals.{in-Ok, in-Err+else-ne}
 
@@ -45,3 +45,10 @@ pub returns-then-ne-clause-cause : goal.returns-then-ne-clause-cause
 returns-then-ne-clause-cause g c =
     not-moved _ (g.F.DiskFile.failures c.loop.file) _ Reads (error_kind c.in-Err.error) c.loop.invariant.5
     (one-failed ℕ _ _ Reads error_kind c.in-Err.error c.in-Err.ensures.failure) (search rules)
+
+pub returns-in-Ok-eq0-clause-cause : goal.returns-in-Ok-eq0-clause-cause
+returns-in-Ok-eq0-clause-cause g c =
+    moved-nothing _ (g.F.DiskFile.failures c.loop.file) _ Reads _ c.loop.invariant.5 (none-failed _ _ Reads error_kind _ c.in-Ok-eq0.ensures.failure) (search rules)
+
+pub returns-clause-cause : goal.returns-clause-cause
+returns-clause-cause g c = moved-late _ _ Reads _ c.loop.invariant.5 (search rules)

@@ -3,9 +3,9 @@ use Rattle.std.specs.IoError.{error_kind}
 use Rattle.std.specs.declared.io.ErrorKind.TheVariants.{Interrupted}
 use Rattle.macs_disk.specs.FileFailures.{Writes}
 use Rattle.macs_disk.specs.Files.{Behaves, FileState, IsSure}
-use Rattle.macs_disk.proofs.FileWrites.{write-more, write-sure, part-fits, failed-behind}
+use Rattle.macs_disk.proofs.FileWrites.{write-more, write-sure, part-fits, failed-behind, some-none}
 use Rattle.macs_disk.proofs.FailedCalls.{none-failed, one-failed}
-use Rattle.macs_disk.proofs.InterruptedCalls.{interrupted-then, none-interrupted, none-yet, not-moved, one-interrupted}
+use Rattle.macs_disk.proofs.InterruptedCalls.{interrupted-then, moved-late, moved-nothing, none-interrupted, none-yet, not-moved, one-interrupted}
 use Rattle.macs_disk.proofs.file_calls.write_all.Goals as goal
 use Rattle.macs_disk.proofs.file_calls.write_all.Goals.{in-Ok, in-Err+else-ne}
 
@@ -60,7 +60,33 @@ returns-then-ne-clause-effect g c behaves =
       doubt = λ is. effect.doubt (inv.3 behaves is);
     }
 
+pub returns-in-Ok-eq0-clause-effect : goal.returns-in-Ok-eq0-clause-effect
+returns-in-Ok-eq0-clause-effect g c behaves =
+    let inv = c.loop.invariant in
+    let file = g.F.DiskFile.file in
+    let done = c.loop.done in
+    let from = c.args.from.now in
+    let small : (i : ℕ) → get_or from i 0 < 2 ^ 8 = λ i. (let fits = c.type_inv.from i in omega (arith, fits)) in
+    let effect = c.in-Ok-eq0.ensures.effect (inv.1 ∙ behaves) in
+    let zero : c.in-Ok-eq0.field-0 ≡ 0 = search rules in
+    record {
+      ok = λ _. tt;
+      err = λ is.
+          let sure : IsSure (file c.loop.file) = ap (λ (f : FileState). f.is_sure) (inv.2 behaves is) ∙ write-sure (file c.args.file.now) c.args.at _ ∙ is in
+          let none = rw zero at (effect.ok sure) in
+          failed-behind (file c.args.file.now) (file c.loop.file) (file c.write_at.new.self) c.args.at (c.args.at + done) done (length from - done) from
+          (g.met.F.DiskFile.sound c.args.file.now behaves).wide small (inv.2 behaves is) refl (omega (arith, inv.0)) (some-none _ _ _ _ none);
+      doubt = λ is. effect.doubt (inv.3 behaves is);
+    }
+
 pub returns-then-ne-clause-cause : goal.returns-then-ne-clause-cause
 returns-then-ne-clause-cause g c =
     not-moved _ (g.F.DiskFile.failures c.loop.file) _ Writes (error_kind c.in-Err.error) c.loop.invariant.4
     (one-failed ℕ _ _ Writes error_kind c.in-Err.error c.in-Err.ensures.failure) (search rules)
+
+pub returns-in-Ok-eq0-clause-cause : goal.returns-in-Ok-eq0-clause-cause
+returns-in-Ok-eq0-clause-cause g c =
+    moved-nothing _ (g.F.DiskFile.failures c.loop.file) _ Writes _ c.loop.invariant.4 (none-failed _ _ Writes error_kind _ c.in-Ok-eq0.ensures.failure) (search rules)
+
+pub returns-clause-cause : goal.returns-clause-cause
+returns-clause-cause g c = moved-late _ _ Writes _ c.loop.invariant.4 (search rules)

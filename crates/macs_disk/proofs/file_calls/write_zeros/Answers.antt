@@ -5,7 +5,7 @@ use Rattle.std.proofs.lemmas.Result.{err_from_is_err_and}
 use Rattle.macs_disk.specs.FileFailures.{Writes}
 use Rattle.macs_disk.specs.Files.{FileState, IsSure}
 use Rattle.macs_disk.proofs.FileWrites.{failed-writes, write-sure, zeros-failed, zeros-more}
-use Rattle.macs_disk.proofs.InterruptedCalls.{interrupted-then, later-not-moved, none-yet}
+use Rattle.macs_disk.proofs.InterruptedCalls.{interrupted-then, later-not-moved, moved-late, none-yet}
 use Rattle.macs_disk.proofs.file_calls.write_zeros.Goals as goal
 
 pub loop-init : goal.loop-init
@@ -51,3 +51,6 @@ pub returns-in_err-write_all-clause-cause : goal.returns-in_err-write_all-clause
 returns-in_err-write_all-clause-cause g c =
     let p = err_from_is_err_and c.from_residual.result c.from_residual.ensures.1 in
     rw (p.1, p.2) (later-not-moved _ (g.F.DiskFile.failures c.loop.file) _ Writes (error_kind c.in_err-write_all.field-0.0) c.loop.invariant.5 c.in_err-write_all.ensures.cause)
+
+pub returns-clause-cause : goal.returns-clause-cause
+returns-clause-cause g c = moved-late _ _ Writes _ c.loop.invariant.5 (search rules)

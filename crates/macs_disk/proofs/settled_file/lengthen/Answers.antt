@@ -42,8 +42,8 @@ returns-clause-front g c behaves sure size whole suited =
     (front-after-sync c.args.octets mid (file c.sync.new.self) _ (g.met.F.DiskFile.sound c.write_zeros.new.file also) (written-sure old mid c.args.octets _ _ sure zeros)
     (c.in_ok-sync.ensures.effect also))
 
-pub returns-then-sectors-clause-cause : goal.returns-then-sectors-clause-cause
-returns-then-sectors-clause-cause g c = inl (refl, none-yet _)
+pub returns-then-sectors-ge-TOO_MANY_SECTORS-clause-cause : goal.returns-then-sectors-ge-TOO_MANY_SECTORS-clause-cause
+returns-then-sectors-ge-TOO_MANY_SECTORS-clause-cause g c = inl (refl, none-yet _)
 
 pub returns-in_err-write_zeros-clause-cause : goal.returns-in_err-write_zeros-clause-cause
 returns-in_err-write_zeros-clause-cause g c =

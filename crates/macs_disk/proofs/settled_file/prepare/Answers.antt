@@ -15,8 +15,8 @@ returns-in_err-layout-clause-cause g c =
     let (kind, fails) = c.in_err-layout.ensures.cause in
     rw p.1 (mark-not-read _ _ kind p.0 p.2 fails)
 
-pub returns-then-layout-clause-cause : goal.returns-then-layout-clause-cause
-returns-then-layout-clause-cause g c = inr (inl (refl, c.in_ok-layout.ensures.quiet))
+pub returns-then-eq-clause-cause : goal.returns-then-eq-clause-cause
+returns-then-eq-clause-cause g c = inr (inl (refl, c.in_ok-layout.ensures.quiet))
 
 pub returns-in_err-lengthen-clause-cause : goal.returns-in_err-lengthen-clause-cause
 returns-in_err-lengthen-clause-cause g c =
