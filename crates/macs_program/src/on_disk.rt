@@ -4,7 +4,7 @@
 //! the stack holds one at a time. What a subcommand does with it is a function that is not inlined: else the compiler
 //! has a second place for it.
 
-ghost use Rattle.std.specs.Prelude.{◌≡◌, ◌≢◌, ◌⊎◌, ◌↔◌, List, Option, [], ◌∷◌, codes, option_map, Err, true, IfErr, IfOk, OnErr, OnOk};
+ghost use Rattle.std.specs.Prelude.{◌≡◌, ◌≢◌, ◌⊎◌, ◌↔◌, List, Option, [], ◌∷◌, codes, option_map, Err, false, true, IfErr, IfOk, OnErr, OnOk};
 ghost use Rattle.std.specs.Io.KnownBytes.{Appends};
 ghost use Rattle.macs_config.specs.Identity.{Identity};
 ghost use Rattle.macs_disk.specs.declared.layout.Layout.{Layout};
@@ -191,9 +191,12 @@ fn pass_between<C: Captures, D: SectorDisk, W: Stream>(
     to: &str,
     out: &mut W,
 ) -> Result<Status, Failure>
-    ensures order { OnOk result (Asks (C.asked captures.old) (C.asked captures.new) (Opens from.now ∷ Makes to.now ∷ [])) }
-    ensures front { OnErr result (Asks (C.asked captures.old) (C.asked captures.new) (Opens from.now ∷ [])
-        ⊎ Asks (C.asked captures.old) (C.asked captures.new) (Opens from.now ∷ Makes to.now ∷ [])) }
+    ensures order { OnOk result (Asks (C.asked captures.old) (C.asked captures.new)
+        (Opens from.now true ∷ Makes to.now true ∷ [])) }
+    // What was opened and made, where the run failed: OUTPUT is not made where INPUT is not opened.
+    ensures front { OnErr result (Asks (C.asked captures.old) (C.asked captures.new) (Opens from.now false ∷ [])
+        ⊎ Asks (C.asked captures.old) (C.asked captures.new) (Opens from.now true ∷ Makes to.now false ∷ [])
+        ⊎ Asks (C.asked captures.old) (C.asked captures.new) (Opens from.now true ∷ Makes to.now true ∷ [])) }
     ensures printed { IfOk result (λ status. (summary : Summary)
         × PassesBetween D.disk (side_of direction) endpoint.old summary endpoint.new
         × Appends (W.contents out.old) (W.contents out.new) (summary_line direction summary) × (status ≡ Status.Done)) }

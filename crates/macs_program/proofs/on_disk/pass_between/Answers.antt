@@ -29,17 +29,17 @@ returns-clause-ended g c = stops-between _ _ _ _ _ _ _ _ c.pass_frames.result c.
 pub returns-in_err-source-clause-front : goal.returns-in_err-source-clause-front
 returns-in_err-source-clause-front g c =
     let p = err_from_is_err_and c.from_residual.result c.from_residual.ensures.1 in
-    rw p.1 (inl c.open.ensures.asked)
+    rw p.1 (inl c.in_err-source.ensures.refused)
 
 pub returns-in_err-sink-clause-front : goal.returns-in_err-sink-clause-front
 returns-in_err-sink-clause-front g c =
     let p = err_from_is_err_and c.from_residual-in_err-sink.result c.from_residual-in_err-sink.ensures.1 in
-    rw p.1 (inr (asked-both _ (g.C.Captures.asked c.open.new.self) _ _ _ c.open.ensures.asked c.make.ensures.asked))
+    rw p.1 (inr (inl (asked-both _ (g.C.Captures.asked c.open.new.self) _ _ _ c.in_ok-source.ensures.opened c.in_err-sink.ensures.refused)))
 
 pub returns-clause-order : goal.returns-clause-order
 returns-clause-order g c =
-    on-both c.pass_frames.result (asked-both _ (g.C.Captures.asked c.open.new.self) _ _ _ c.open.ensures.asked c.make.ensures.asked)
+    on-both c.pass_frames.result (asked-both _ (g.C.Captures.asked c.open.new.self) _ _ _ c.in_ok-source.ensures.opened c.in_ok-sink.ensures.made)
 
 pub returns-clause-front : goal.returns-clause-front
 returns-clause-front g c =
-    told c.pass_frames.result (inr (asked-both _ (g.C.Captures.asked c.open.new.self) _ _ _ c.open.ensures.asked c.make.ensures.asked))
+    told c.pass_frames.result (inr (inr (asked-both _ (g.C.Captures.asked c.open.new.self) _ _ _ c.in_ok-source.ensures.opened c.in_ok-sink.ensures.made)))
