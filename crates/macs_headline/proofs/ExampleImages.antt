@@ -134,7 +134,7 @@ raised_is = λ i. record {
 
 full_meaning : meaning_of this_edition full_content ≡ Some full_standing
 full_meaning =
-    meaning-more this_edition second_records served_content served_standing full_standing (omega arith) served_meaning
+    meaning-more this_edition second_records served_content served_standing full_standing (omega arith) refl served_meaning
     (same-again 244 (kept.SetValidate served_config.validate) raised_standing refl ∙ ap Some raised_is)
 
 -- ---- while the journal begins anew
@@ -285,7 +285,7 @@ ended_is edition =
 last_meaning : (edition : Edition) → edition.format_two ≡ true → IsConfig edition example_identity served_config
     → meaning_of edition last_content ≡ Some (last_standing edition)
 last_meaning edition takes_two is =
-    meaning-more edition third_records anew_content (full_to edition) (last_standing edition) (omega arith)
+    meaning-more edition third_records anew_content (full_to edition) (last_standing edition) (omega arith) refl
     (meaning-anew edition full_content full_snapshot (full_to edition) takes_two (snapshot_meaning edition is)) (ap Some (ended_is edition))
 
 pub larger : IsUpTo this_edition later_edition
@@ -302,6 +302,7 @@ checked-is image found = (
     content = ended_content;
     found = found;
     stands = meaning-more this_edition (checked ∷ []) last_content (last_standing this_edition) (checked_standing this_edition)
-        (let count : last_content.head.count ≡ 6 = snapshot-size in omega (arith, count, last-size)) (last_meaning this_edition refl served-is-config) refl;
+        (let count : last_content.head.count ≡ 6 = snapshot-size in omega (arith, count, last-size)) refl
+        (last_meaning this_edition refl served-is-config) refl;
   },
 )

@@ -1,6 +1,8 @@
 -- A disk that the first edition of the program formatted, and what an opening makes of it.
-use Rattle.std.proofs.Common.{◌≡◌, ◌≤◌, ◌+◌, ◌^◌, ◌-◌, ◌++◌, inl, ℕ, true, List, [], ◌∷◌, Some, Ok, refl, sym, subst, arith}
+use Rattle.std.proofs.Common.{◌≡◌, ◌≤◌, ◌<◌, ◌+◌, ◌^◌, ◌-◌, ◌++◌, inl, inr, ℕ, true, List, replicate, [], ◌∷◌, Some, Ok, refl, sym, subst, arith}
 use Rattle.std.specs.List.{AllByRecursion}
+use Rattle.std.proofs.lemmas.List.Elements.{All-replicate}
+use Rattle.macs_fields.specs.Fields.{IsOctets}
 use Rattle.macs_config.specs.Config.{Edition, IsUpTo, first_edition, this_edition}
 use Rattle.macs_disk.specs.Disk.{Disk}
 use Rattle.macs_disk.specs.States.{zero_sector}
@@ -16,10 +18,12 @@ use Rattle.macs_store.specs.Replay.{meaning_of}
 use Rattle.macs_store.specs.Snapshot.{rx_records, rx_records_of, snapshot, spent_records, tx_records}
 use Rattle.macs_store.specs.Standing.{new_standing}
 use Rattle.macs_endpoint.specs.Restart.{Fits, Resumes, opened_state}
-use Rattle.macs_endpoint.specs.State.{no_logs}
+use Rattle.macs_endpoint.specs.State.{Commands, RefusedLong, State, no_logs}
+use Rattle.macs_endpoint.specs.Step.{Step}
 use Rattle.macs_headline.specs.Binding.{HasHistory}
 use Rattle.macs_headline.specs.Example.{example_identity, example_sectors}
-use Rattle.macs_headline.specs.ExampleMigration.{IsOldDisk, IsWorkedMigration, begun_image, migrated_image, later_lives, old_content, old_head, old_image, old_lives, old_standing, opened_end}
+use Rattle.macs_headline.specs.ExampleMigration.{IsOldDisk, IsWorkedMigration, begun_image, install_long, migrated_image, later_lives, old_content, old_head, old_image, old_lives, old_standing, opened_end}
+use Rattle.macs_headline.specs.ExampleLives.{answered}
 use Rattle.macs_headline.specs.History.{Blank, Formats, Formatted, IsHistory, IsLifeSoFar, Leads, formatted_state}
 use Rattle.macs_headline.specs.Images.{blank_image}
 use Rattle.macs_headline.proofs.Built.{closed-gate, opened-found, opened-other}
@@ -118,14 +122,36 @@ old_fits sectors large = record {
   });
 }
 
+-- the state of that edition, which a refused command leaves
+abbrev refusing : State
+refusing = formatted_state first_edition example_identity
+
+long_range : IsOctets 32 (replicate 32 7)
+long_range = record { size = refl; each = All-replicate (λ octet. octet < 2 ^ 8) 32 7 (omega arith) }
+
+refused_long : Step refusing (Commands install_long) RefusedLong refusing
+refused_long = inr (refl, (refl, refl, refl))
+
+old_life : (sectors : ℕ) → least_sectors ≤ sectors
+    → IsLifeSoFar sectors (Formatted refusing) first_edition old_image (answered (Commands install_long) RefusedLong ∷ []) refusing
+old_life sectors large = record {
+  fits = old_fits sectors large;
+  found = new_standing first_edition example_identity;
+  is_found = (large, record { content = old_content; found = old_found; stands = old_meaning first_edition });
+  in_range = ((omega arith, inr long_range, omega arith, omega arith), tt);
+  steps = (refusing, refused_long, refl);
+}
+
 old_history : (disk : Disk) → IsOldDisk disk → HasHistory first_edition disk old_lives
 old_history disk is =
-    let past = Formatted (formatted_state first_edition example_identity) in
+    let past = Formatted refusing in
     let size = is.size in
-    settled-disks first_edition disk old_lives past old_image is.honest is.settled (past, formatted_life, refl) (old_fits disk.sectors (omega (arith, size)))
+    let large : least_sectors ≤ disk.sectors = omega (arith, size) in
+    settled-disks first_edition disk old_lives past old_image is.honest is.settled
+    (past, formatted_life, (past, (refusing, old_life disk.sectors large, tt, refl), refl)) (old_fits disk.sectors large)
 
 up_to_this : IsUpTo first_edition this_edition
-up_to_this = record { channels = omega arith; long_keys = λ is. is; format_two = λ is. refl }
+up_to_this = record { channels = omega arith; long_keys = λ is. refl; format_two = λ is. refl }
 
 begun_is : StandingIs this_edition example_sectors begun_image (Ok old_standing)
 begun_is = (omega arith, record { content = old_content; found = begun_found; stands = old_meaning this_edition })
@@ -171,15 +197,19 @@ life_anew = record {
 
 whole_history : IsHistory example_sectors (old_lives ++ later_lives) (Formatted opened_end)
 whole_history = (
-  Formatted (formatted_state first_edition example_identity),
+  Formatted refusing,
   formatted_life,
   (
-    Formatted opened_end,
-    (opened_end, life_after_cut, tt, refl),
+    Formatted refusing,
+    (refusing, old_life example_sectors (omega arith), tt, refl),
     (
       Formatted opened_end,
-      (opened_end, life_anew, tt, refl),
-      refl,
+      (opened_end, life_after_cut, tt, refl),
+      (
+        Formatted opened_end,
+        (opened_end, life_anew, tt, refl),
+        refl,
+      ),
     ),
   ),
 )

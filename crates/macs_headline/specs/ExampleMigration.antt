@@ -1,6 +1,9 @@
 -- A disk that the first edition of the program formatted: what it is to this one, whose opening begins its journal anew.
-use Rattle.std.specs.Prelude.{◌≡◌, true, List, [], ◌∷◌, ◌++◌, None}
+use Rattle.std.specs.Prelude.{◌≡◌, true, List, [], ◌∷◌, ◌++◌, replicate, None}
+use Rattle.macs_aes.specs.declared.keys.Key.TheVariants.{Long}
 use Rattle.macs_config.specs.Config.{first_edition, this_edition}
+use Rattle.macs_config.specs.declared.command.Command.{Command}
+use Rattle.macs_config.specs.declared.command.Command.TheVariants.{TxInstall}
 use Rattle.macs_disk.specs.Disk.{Disk, IsHonest, now}
 use Rattle.macs_disk.specs.States.{Image, settled_state}
 use Rattle.macs_record.specs.Heads.{Head}
@@ -13,9 +16,10 @@ use Rattle.macs_store.specs.Found.{IsToMigrate, StandAlike}
 use Rattle.macs_store.specs.Snapshot.{snapshot}
 use Rattle.macs_store.specs.Standing.{Standing, new_standing}
 use Rattle.macs_endpoint.specs.Restart.{opened_state}
-use Rattle.macs_endpoint.specs.State.{State, no_logs}
+use Rattle.macs_endpoint.specs.State.{Commands, RefusedLong, State, no_logs}
 use Rattle.macs_headline.specs.Binding.{HasHistory}
 use Rattle.macs_headline.specs.Example.{example_identity, example_sectors}
+use Rattle.macs_headline.specs.ExampleLives.{answered}
 use Rattle.macs_headline.specs.History.{Formats, Formatted, IsHistory, Life, Serves}
 use Rattle.macs_headline.specs.Images.{blank_image, compacted_image, image_while_compacted, image_with_area, image_with_open_head}
 
@@ -37,9 +41,14 @@ pub record IsOldDisk (disk : Disk) : Type 0 where
   pub size : disk.sectors ≡ example_sectors
   pub settled : now disk ≡ settled_state old_image
 
--- what was done with it
+-- a key of 256 bits is to be installed
+abbrev pub install_long : Command
+install_long = TxInstall 0 (Long (replicate 32 7)) 1 true 0
+
+-- what was done with it: it was formatted, and a life refused that command for the length of its key
 abbrev pub old_lives : List Life
-old_lives = Formats first_edition example_identity true ∷ []
+old_lives =
+    Formats first_edition example_identity true ∷ Serves first_edition old_image (answered (Commands install_long) RefusedLong ∷ []) None ∷ []
 
 -- what it stands for to this edition
 abbrev pub old_standing : Standing
@@ -62,7 +71,7 @@ later_lives = Serves this_edition begun_image [] None ∷ Serves this_edition mi
 abbrev pub opened_end : State
 opened_end = opened_state old_standing no_logs
 
--- Such a disk has that history to the edition that formatted it, and so to this one. To this one it is to begin anew. While that is done it
+-- Such a disk has that history to the edition that formatted it, and so to this one, which names no such refusal. To this one it is to begin anew. While that is done it
 -- stands for what it stood for, and so it does once it is done, in the second area and in format two. So lives of this edition go on from it.
 pub record IsWorkedMigration : Type 0 where
   pub formatted : (disk : Disk) → IsOldDisk disk → HasHistory first_edition disk old_lives

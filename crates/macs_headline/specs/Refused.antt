@@ -1,18 +1,17 @@
 -- The headline on calls that are refused: for the first reason that holds, and for none that does not.
 use Rattle.std.specs.Prelude.{◌≡◌, ◌≢◌, ◌⊎◌, ◌<◌, ◌≤◌, ◌+◌, ◌-◌, ◌^◌, ℕ, List, [], ◌∷◌, length, slice_range, take, Option, Some, None, Ok, Err}
 use Rattle.macs_fields.specs.First.{first}
-use Rattle.macs_config.specs.Apply.{refusal_of}
+use Rattle.macs_config.specs.Apply.{LongKey, Named, Reason, refusal_of}
 use Rattle.macs_config.specs.Config.{max_spent}
 use Rattle.macs_config.specs.declared.command.Command.{Command}
 use Rattle.macs_config.specs.declared.command.SciMode.{SciMode}
 use Rattle.macs_config.specs.declared.command.SciMode.TheVariants.{EndStation, Explicit, Implicit}
-use Rattle.macs_config.specs.declared.refusal.Refusal.{Refusal}
 use Rattle.macs_journal.specs.Renewal.{last_generation}
 use Rattle.macs_txsc.specs.Transmit.{tx_faults}
 use Rattle.macs_txsc.specs.declared.fault.TxFault.{TxFault}
 use Rattle.macs_txsc.specs.declared.fault.TxFault.TheVariants.{Exhausted, ForeignSource, NoEncodingSa, NoNumber, Runt, TooLong}
 use Rattle.macs_endpoint.specs.Queue.{last_ticket, queue_length}
-use Rattle.macs_endpoint.specs.State.{Advanced, Advances, Call, Commands, Protects, Protected, Ran, Refilled, Refills, Reply, State, Submits, Submitted, state_after_fault, state_with_in_hand, tx_side}
+use Rattle.macs_endpoint.specs.State.{Advanced, AdvancedLong, Advances, Call, Commands, Protected, Protects, Ran, Refilled, Refills, RefusedLong, Reply, State, Submits, Submitted, state_after_fault, state_with_in_hand, tx_side}
 use Rattle.macs_endpoint.specs.Step.{Step, state_with_waiting, state_without_first}
 use Rattle.macs_endpoint.specs.declared.fault.CommandFault.TheVariants as ran
 use Rattle.macs_endpoint.specs.declared.fault.ProtectFault.TheVariants as protect
@@ -24,7 +23,7 @@ use Rattle.macs_endpoint.specs.declared.queue.Waiting.{Waiting}
 use Rattle.macs_headline.specs.Moments.{Moment}
 
 -- the first reason to refuse a command in this state, if there is one
-abbrev pub refusal_at : State → Command → Option Refusal
+abbrev pub refusal_at : State → Command → Option Reason
 refusal_at s command = refusal_of s.edition s.identity s.config command
 
 -- the first of the faults of a plain frame that are looked for before its number is known to be reserved, if one holds
@@ -44,7 +43,8 @@ TakesFirst old new = (w : Waiting) × (rest : List Waiting) × (old.waiting ≡ 
 abbrev pub IsExact : State → Call → Reply → State → Type 0
 IsExact old (Commands command) (Ran (Ok done)) new = (old.waiting ≡ []) × (refusal_at old command ≡ None)
 IsExact old (Commands command) (Ran (Err ran.Busy)) new = (old.waiting ≢ []) × (new ≡ old)
-IsExact old (Commands command) (Ran (Err (ran.Refused refusal))) new = (old.waiting ≡ []) × (refusal_at old command ≡ Some refusal) × (new ≡ old)
+IsExact old (Commands command) (Ran (Err (ran.Refused refusal))) new = (old.waiting ≡ []) × (refusal_at old command ≡ Some (Named refusal)) × (new ≡ old)
+IsExact old (Commands command) RefusedLong new = (old.waiting ≡ []) × (refusal_at old command ≡ Some LongKey) × (new ≡ old)
 IsExact old (Commands command) (Ran (Err ran.GenerationsSpent)) new = (old.waiting ≡ []) × (refusal_at old command ≡ None) × (new ≡ old)
 IsExact old (Commands command) (Ran (Err ran.Disk)) new =
     (old.waiting ≡ []) × (refusal_at old command ≡ None) × (new ≡ state_after_fault (state_with_in_hand old command))
@@ -65,7 +65,10 @@ IsExact old Advances (Advanced (Ok (Done ticket (Ok done)))) new =
     (w : Waiting) × (rest : List Waiting) × (old.waiting ≡ w ∷ rest) × (ticket ≡ w.ticket) × (refusal_at old w.command ≡ None)
 IsExact old Advances (Advanced (Ok (Done ticket (Err (ran.Refused refusal))))) new =
     (w : Waiting) × (rest : List Waiting) × (old.waiting ≡ w ∷ rest) × (ticket ≡ w.ticket) × (old.in_hand ≡ None)
-    × (refusal_at old w.command ≡ Some refusal) × (new ≡ state_without_first old rest)
+    × (refusal_at old w.command ≡ Some (Named refusal)) × (new ≡ state_without_first old rest)
+IsExact old Advances (AdvancedLong ticket) new =
+    (w : Waiting) × (rest : List Waiting) × (old.waiting ≡ w ∷ rest) × (ticket ≡ w.ticket) × (old.in_hand ≡ None)
+    × (refusal_at old w.command ≡ Some LongKey) × (new ≡ state_without_first old rest)
 IsExact old Advances (Advanced (Ok (Done ticket (Err ran.GenerationsSpent)))) new =
     (w : Waiting) × (rest : List Waiting) × (old.waiting ≡ w ∷ rest) × (ticket ≡ w.ticket) × (old.in_hand ≡ None)
     × (refusal_at old w.command ≡ None) × (new ≡ state_without_first old rest)

@@ -242,7 +242,7 @@ impl Rx {
         Some(channel.counters.of(verdict))
     }
 
-    /// Whether another channel may be added: fewer than 8 stand.
+    /// Whether another channel may be added: fewer than 32 stand.
     pub fn has_room(&self) -> bool
         ensures { result ≡ nat_lt (length (rx_side_of self.now).channels) this_edition.channels }
     {
