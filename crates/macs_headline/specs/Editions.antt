@@ -63,9 +63,9 @@ HasLongKey (kept.RxInstall sci an sa start) = length sa.key ≢ 16
 HasLongKey r = ⊥
 
 -- What an edition takes: one channel more where fewer exist than it takes, and ChannelsFull is answered for no other reason; each key of a command in range
--- where it takes long keys, and else keys of 16 octets alone; and areas of format two, where it reads them, as those of format one where no record is of a long key, and
--- else none; an area of format one with a record of a long key stands for nothing. A record of a command that
--- the edition accepts stands for what the command makes, whatever is installed.
+-- where it takes long keys, and else keys of 16 octets alone; and areas of format two, where it reads them, as those of format one where no record is of a long
+-- key, and else none; an area of format one with a record of a long key stands for nothing. A record of a command that the edition accepts stands for what the
+-- command makes, whatever is installed.
 pub record EditionsTake : Type 0 where
   pub channels : (edition : Edition) (identity : Identity) (c : Config) (sci : List ℕ) → length c.channels < edition.channels
       → ¬ (refusal_of edition identity c (RxAdd sci) ≡ Some (Named ChannelsFull))

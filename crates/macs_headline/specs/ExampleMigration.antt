@@ -71,8 +71,8 @@ later_lives = Serves this_edition begun_image [] None ∷ Serves this_edition mi
 abbrev pub opened_end : State
 opened_end = opened_state old_standing no_logs
 
--- Such a disk has that history to the edition that formatted it, and so to this one, which names no such refusal. To this one it is to begin anew. While that is done it
--- stands for what it stood for, and so it does once it is done, in the second area and in format two. So lives of this edition go on from it.
+-- Such a disk has that history to the edition that formatted it, and so to this one, which names no such refusal. To this one it is to begin anew. While that
+-- is done it stands for what it stood for, and so it does once it is done, in the second area and in format two. So lives of this edition go on from it.
 pub record IsWorkedMigration : Type 0 where
   pub formatted : (disk : Disk) → IsOldDisk disk → HasHistory first_edition disk old_lives
   pub ours : (disk : Disk) → IsOldDisk disk → HasHistory this_edition disk old_lives
