@@ -18,7 +18,7 @@ ghost use Rattle.macs_headline.specs.Binding.{FaultsAreFailures, FramesAreDelive
 ghost use Rattle.macs_headline.specs.Binding.{FusesChangeNone, IdleFindsNoWork, IsNewDisk, LargerFind, LargerGoOn};
 ghost use Rattle.macs_headline.specs.Binding.{LivesAreMoments, LivesFit, LivesFitUnbegun, LivesKeepCommands};
 ghost use Rattle.macs_headline.specs.Binding.{LivesAreDeeds, LivesEndExactly, LivesKeepTickets, TheseAreNew};
-ghost use Rattle.macs_headline.specs.Binding.{NewDeedsAreHistories};
+ghost use Rattle.macs_headline.specs.Binding.{NewDeedsAreHistories, OpeningsBeginAnew};
 ghost use Rattle.macs_headline.specs.Binding.{NewDisksHaveHistories, OpeningsFind, PassedOnHaveHistories, RefusalsAreFailures, SettledHaveHistories, SpentAreSpent};
 ghost use Rattle.macs_headline.specs.Begun.{CutsBegin, CutsChangeNone, InHandWasBegun};
 ghost use Rattle.macs_headline.specs.Changing.{CommandsChange, IsFirstConfiguration, PrintsAre};
@@ -167,7 +167,8 @@ pub fn headline()
     ensures reasons_are_named { ReasonsAreNamed }
     // A plain frame that is refused for a fault has it.
     ensures faults_are_named { (sectors : ℕ) → FaultsAreNamed sectors }
-    // How many commands may wait, how many tickets and spent keys there are, and how often a journal begins anew.
+    // How many commands may wait, how many tickets and spent keys there are, how often a journal begins anew, and what
+    // this edition and the first one take.
     ensures limits { LimitsAre }
     // After a device fault each call is answered that the endpoint is stopped, and changes nothing; before one none is.
     ensures stopped_stays { (sectors : ℕ) → StoppedStays sectors }
@@ -251,6 +252,9 @@ pub fn histories<D: SectorDisk>()
     // An opening is refused only where a device call failed, where the disk was not formatted for sure, or for a
     // last generation in an older format.
     ensures refusals { RefusalsAreFailures D.disk }
+    // An opening of a journal of format two writes nothing, nor does one that is refused for what stands on the disk.
+    // One of format one is begun anew, once, and what it stands for stays, wherever that is cut short.
+    ensures begun_anew { OpeningsBeginAnew D.disk }
     // A step is answered Idle only where there is no work.
     ensures idle { IdleFindsNoWork D.disk }
     // A call is answered GenerationsSpent only where the journal is at its end.
@@ -285,11 +289,14 @@ pub fn worked_history()
     peer_frame_in_range();
 }
 
-/// A disk that the first edition of the program formatted has that history to this one too, whose opening begins
-/// its journal anew: what it stands for does not change.
+/// A disk that the first edition of the program formatted, and from which it sent a frame, has that history to this
+/// one too, whose opening begins its journal anew: what it stands for does not change, and lives go on from it with
+/// keys of both lengths.
 pub fn worked_migration()
     ensures { IsWorkedMigration }
-{}
+{
+    peer_frame_in_range();
+}
 
 /// A disk of zeros in memory is new.
 pub fn new_disks()
