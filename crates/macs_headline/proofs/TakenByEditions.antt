@@ -9,7 +9,7 @@ use Rattle.macs_config.specs.declared.command.Command.{Command}
 use Rattle.macs_config.specs.declared.command.Command.TheVariants.{RxAdd}
 use Rattle.macs_config.specs.declared.refusal.Refusal.TheVariants.{ChannelTaken, ChannelsFull, OwnSci}
 use Rattle.macs_config.proofs.Editions.{never-long}
-use Rattle.macs_store.specs.Replay.{replay_of}
+use Rattle.macs_store.specs.Replay.{accepted_standing, replay_of}
 use Rattle.macs_headline.specs.Editions.{EditionsTake}
 use Rattle.macs_headline.proofs.Ledger.{some_one}
 use Rattle.macs_headline.proofs.ReadByEditions.{all-short, kept-records, one-long, short-keys}
@@ -80,4 +80,6 @@ editions-take = record {
       ap (λ (b : Bool). cond b (replay_of edition identity count records) None) (one-long records r among long);
   one_format = λ edition identity count records one. ap (λ (b : Bool). cond (b && true) (replay_of edition identity count records) None) one;
   kept = kept-records;
+  tx_kept = λ s after an sa start made. ap accepted_standing made;
+  rx_kept = λ s after sci an sa start made. ap accepted_standing made;
 }
