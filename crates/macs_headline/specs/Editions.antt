@@ -12,18 +12,7 @@ use Rattle.macs_config.specs.declared.command.Command.TheVariants.{RxAdd, RxInst
 use Rattle.macs_config.specs.declared.refusal.Refusal.TheVariants.{ChannelsFull}
 use Rattle.macs_record.specs.declared.format.Format.TheVariants.{One, Two}
 use Rattle.macs_record.specs.declared.record.Record.{Record}
--- a record keeps an association with a key of other than 16 octets
-abbrev pub HasLongKey : Record → Type 0
-HasLongKey (kept.TxSa an sa ceiling) = length sa.key ≢ 16
-HasLongKey (kept.RxSa sci an sa ceiling) = length sa.key ≢ 16
-HasLongKey (kept.TxInstall an sa start) = length sa.key ≢ 16
-HasLongKey (kept.RxInstall sci an sa start) = length sa.key ≢ 16
-HasLongKey r = ⊥
-
--- What an edition takes. ChannelsFull is answered to a command that adds a channel alone, and only where as many exist as the edition takes. LongKey is answered
--- to no command in range where it takes long keys, and else a command that installs is accepted with a key of 16 octets alone. Areas of format two are read by
--- their records alone, where the edition reads them, so as those of format one where no record is of a long key, and else not; an area of format one with a
--- record of a long key stands for nothing. A record of a command that it accepts stands for what the command makes, whatever is installed.
+use Rattle.macs_record.specs.declared.record.Record.TheVariants as kept
 use Rattle.macs_store.specs.Commands.{command_of}
 use Rattle.macs_store.specs.Replay.{reading_of, replay_of, standing_after_record}
 use Rattle.macs_store.specs.Standing.{Standing, accept}
@@ -68,7 +57,6 @@ key_in (TxInstall an key start confidential offset) = Some (octets_of_key key)
 key_in (RxInstall sci an key start offset) = Some (octets_of_key key)
 key_in command = None
 
-<<<<<<< HEAD
 -- a record keeps an association with a key of other than 16 octets
 abbrev pub HasLongKey : Record → Type 0
 HasLongKey (kept.TxSa an sa ceiling) = length sa.key ≢ 16
@@ -77,15 +65,10 @@ HasLongKey (kept.TxInstall an sa start) = length sa.key ≢ 16
 HasLongKey (kept.RxInstall sci an sa start) = length sa.key ≢ 16
 HasLongKey r = ⊥
 
--- What an edition takes: one channel more where fewer exist than it takes, and ChannelsFull is answered for no other reason; each key of a command in range
--- where it takes long keys, and else keys of 16 octets alone; and areas of format two, where it reads them, by their records alone, so as those of format one
--- where no record is of a long key, and else none; an area of format one with a record of a long key stands for nothing. A record of a command that the
--- edition accepts stands for what the command makes, whatever is installed.
-=======
 -- What an edition takes. ChannelsFull is answered to a command that adds a channel alone, and only where as many exist as the edition takes. LongKey is answered
--- to no command in range where it takes long keys, and else a command that installs is accepted with a key of 16 octets alone. Areas of format two are read as those of format
--- one, where the edition reads them, and else not. A record of a command that it accepts stands for what the command makes, whatever is installed.
->>>>>>> f236256 (DRAFT: clauses)
+-- to no command in range where it takes long keys, and else a command that installs is accepted with a key of 16 octets alone. Areas of format two are read by
+-- their records alone, where the edition reads them, so as those of format one where no record is of a long key, and else not; an area of format one with a
+-- record of a long key stands for nothing. A record of a command that it accepts stands for what the command makes, whatever is installed.
 pub record EditionsTake : Type 0 where
   pub channels : (edition : Edition) (identity : Identity) (c : Config) (sci : List ℕ) → length c.channels < edition.channels
       → ¬ (refusal_of edition identity c (RxAdd sci) ≡ Some (Named ChannelsFull))
@@ -107,9 +90,9 @@ pub record EditionsTake : Type 0 where
   pub kept : (s after : Standing) (record_kept : Record) (command : Command) → command_of record_kept ≡ Some command → accept s command ≡ Ok after
       → standing_after_record s record_kept ≡ Some after
   pub tx_kept : (s after : Standing) (an : ℕ) (sa : TxSa) (start : ℕ) → accept s (tx_install an sa start) ≡ Ok after
-      → standing_after_record s (recorded.TxInstall an sa start) ≡ Some after
+      → standing_after_record s (kept.TxInstall an sa start) ≡ Some after
   pub rx_kept : (s after : Standing) (sci : List ℕ) (an : ℕ) (sa : RxSa) (start : ℕ) → accept s (rx_install sci an sa start) ≡ Ok after
-      → standing_after_record s (recorded.RxInstall sci an sa start) ≡ Some after
+      → standing_after_record s (kept.RxInstall sci an sa start) ≡ Some after
 
 -- an edition is larger than another one that takes no more channels, long keys only where it does, and areas of format two only where it does
 abbrev pub TheseAreLarger : Type 0
