@@ -65,4 +65,6 @@ module _ (sectors : ℕ) where
           (through s mid (opened_state fits.found mid.logs) command hand makes fits.restart);
     };
     come_upon = λ s edition image fits. fits;
+    come_upon_none = λ identities edition image large none. inl (large, none);
+    come_upon_new = λ identities identity edition image among is. inr (identity, among, is);
   }

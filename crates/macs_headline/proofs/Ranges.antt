@@ -446,4 +446,4 @@ module _ (sectors : ℕ) where
   frames-are-standard s m plain pn out new step = by_frame m.edition s plain pn out new step (moment_range s m)
 
   pub of-its-edition : OfItsEdition sectors
-  of-its-edition s m = (moment_range s m).same
+  of-its-edition = (λ s m. (moment_range s m).same, λ edition identity. refl)

@@ -1,10 +1,10 @@
 -- A command is refused for a reason that it has, and where it has one.
-use Rattle.std.proofs.Common.{◌≡◌, ◌≢◌, ◌⊎◌, ◌↔◌, ◌≤◌, ◌||◌, ◌&&◌, ◌==◌, inl, inr, ℕ, Bool, true, false, cond, not, nat_le, List, [], ◌∷◌, drop, length, Option, Some, None, is_none, is_some, bytes_eq, refl, sym, ◌∙◌, ap, subst}
+use Rattle.std.proofs.Common.{◌≡◌, ◌≢◌, ◌⊎◌, ◌↔◌, ◌≤◌, ◌||◌, ◌&&◌, ◌==◌, inl, inr, ℕ, Bool, true, false, cond, not, nat_le, List, [], ◌∷◌, map, drop, length, Option, Some, None, is_none, is_some, bytes_eq, refl, sym, ◌∙◌, ap, subst}
 use Rattle.std.specs.Prelude.{IsSome, if◌then◌else◌}
 use Rattle.std.proofs.lemmas.Bool.{eq-eqb, eqb-true, false≢true, le-leb, leb-true, or_left, or_right}
 use Rattle.std.proofs.lemmas.Slice.Eq.{bytes_eq-Decides}
 use Rattle.macs_aes.specs.Keys.{octets_of_key}
-use Rattle.macs_fields.specs.First.{first}
+use Rattle.macs_fields.specs.First.{IsFirst, first}
 use Rattle.macs_fields.specs.declared.fields.Offset.TheVariants.{Fifty, Thirty, Zero}
 use Rattle.macs_config.specs.Apply.{LongKey, Named, Reason, are_channels_full, are_spent_full, has_no_channel, has_wrong_offset, has_wrong_start, is_channel_taken, is_encoding, is_in_use, is_key_spent, is_long_key, is_own_sci, is_slot_empty, is_slot_taken, is_wrong_end_station, offset_at, refusal_of, refusals}
 use Rattle.macs_config.specs.Association.{is_end_station}
@@ -211,6 +211,20 @@ module _ (edition : Edition) (identity : Identity) (c : Config) where
     first_named [] r agree e = absurd (some_none r e)
     first_named (row ∷ rows) r agree e = named_by row.0 row.1 (first rows) r agree.0 (first_named rows r agree.1) e
 
+    -- none before it holds
+    first_by : (refusal : Reason) (b : Bool) (rows : List (Reason × Bool)) (r : Reason) → b ≡ test refusal
+        → (first rows ≡ Some r → IsFirst (IsReasonOf edition identity c command) (map (λ (row : Reason × Bool). row.0) rows) r)
+        → cond b (Some refusal) (first rows) ≡ Some r
+        → (IsReasonOf edition identity c command refusal × (r ≡ refusal))
+        ⊎ ((¬ IsReasonOf edition identity c command refusal) × IsFirst (IsReasonOf edition identity c command) (map (λ (row : Reason × Bool). row.0) rows) r)
+    first_by refusal true rows r is later e = inl ((reason refusal).0 (sym is), sym (some_one (Some refusal) refusal r refl e))
+    first_by refusal false rows r is later e = inr (λ has. false≢true (is ∙ (reason refusal).1 has), later e)
+
+    is_first : (rows : List (Reason × Bool)) (r : Reason) → Agree rows → first rows ≡ Some r
+        → IsFirst (IsReasonOf edition identity c command) (map (λ (row : Reason × Bool). row.0) rows) r
+    is_first [] r agree e = absurd (some_none r e)
+    is_first (row ∷ rows) r agree e = first_by row.0 row.1 rows r agree.0 (is_first rows r agree.1) e
+
     agree : Agree (refusals edition identity c command)
     agree = (refl, (refl, (refl, (refl, (refl, (refl, (refl, (refl, (refl, (refl, (refl, (refl, (refl, tt)))))))))))))
 
@@ -239,5 +253,7 @@ module _ (edition : Edition) (identity : Identity) (c : Config) where
 pub reasons-are-named : ReasonsAreNamed
 reasons-are-named = record {
   named = λ edition identity c command refusal is. is_named edition identity c command refusal is;
+  first = λ edition identity c command refusal is.
+      is_first edition identity c command (refusals edition identity c command) refusal (agree edition identity c command) is;
   held = λ edition identity c command refusal has. is_held edition identity c command refusal has;
 }

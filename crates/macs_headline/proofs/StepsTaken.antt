@@ -29,7 +29,7 @@ use Rattle.macs_endpoint.specs.declared.queue.Waiting.{Waiting}
 use Rattle.macs_endpoint.specs.State.{Advanced, AdvancedLong, Advances, Call, Commands, Protected, Protects, Ran, Received, Receives, Refilled, Refills, RefusedLong, Reply, State, Submits, Submitted, rx_side}
 use Rattle.macs_endpoint.specs.Step.{AdvanceStep, CommandStep, Ends, IsStopped, ProtectStep, RefillStep, RunningStep, Step, SubmitStep, TakesUp, state_after_delivery, state_after_hold}
 use Rattle.macs_headline.specs.Deliveries.{IsInTime, IsVerifiedAnswer}
-use Rattle.macs_headline.specs.Received.{IsTimely, TimelyAreDelivered}
+use Rattle.macs_headline.specs.Received.{IsTimely, TheseAreTimely, TimelyAreDelivered}
 use Rattle.macs_headline.specs.Refused.{IsExact, TakesFirst, refusal_at}
 use Rattle.macs_headline.specs.Steps.{IsReplyOf, IsToldWhole, StepsAreTaken}
 use Rattle.macs_headline.specs.Stopping.{TellsStopped}
@@ -180,6 +180,16 @@ module _ (s : State) (frame plain sci : List ℕ) (numbers : Numbers) (timely : 
       inr (held, subst (λ (a : Arrival). a.numbers.next ≤ a.pn) same above)
   becomes new out verdict (inr (running, inr (a, also, inr (delivered, is_out, is)))) =
       inl (subst (λ (v : Verdict). IsVerifiedAnswer (Ok v)) (sym delivered) (verified-kind (nat_lt a.pn a.numbers.lowest)))
+
+pub these-are-timely : TheseAreTimely
+these-are-timely s frame plain sci sa numbers named association are_numbers verified guarded = record {
+  sa = sa;
+  named = named;
+  association = association;
+  are_numbers = are_numbers;
+  verified = verified;
+  guarded = guarded;
+}
 
 pub timely-are-delivered : TimelyAreDelivered
 timely-are-delivered s new frame plain sci out numbers verdict timely step = becomes s frame plain sci numbers timely new out verdict step

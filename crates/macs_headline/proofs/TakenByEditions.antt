@@ -12,7 +12,7 @@ use Rattle.macs_config.proofs.Editions.{never-long}
 use Rattle.macs_store.specs.Replay.{accepted_standing, replay_of}
 use Rattle.macs_headline.specs.Editions.{EditionsTake}
 use Rattle.macs_headline.proofs.Ledger.{some_one}
-use Rattle.macs_headline.proofs.ReadByEditions.{all-short, kept-records, one-long, short-keys}
+use Rattle.macs_headline.proofs.ReadByEditions.{all-short, kept-records, one-long, short-keys, short-taken}
 
 -- ---- the test of the first reason
 
@@ -72,6 +72,7 @@ editions-take = record {
       full_is edition c command (channels_row edition identity c command (first_row (refusals edition identity c command) (Named ChannelsFull) is));
   long_keys = λ edition identity c command is takes. never-long edition takes identity c command is;
   short_keys = short-keys;
+  short_taken = short-taken;
   two_read = λ edition identity count records two. ap (λ (b : Bool). cond (b && true) (replay_of edition identity count records) None) two;
   formats = λ edition identity count records two short.
       ap (λ (b : Bool). cond (b && true) (replay_of edition identity count records) None) two

@@ -3,7 +3,7 @@ use Rattle.std.specs.Prelude.{◌≡◌, ◌≢◌, ◌⊎◌, ◌↔◌, ◌≤
 use Rattle.macs_frame.specs.Tag.{tag_of}
 use Rattle.macs_config.specs.Config.{Edition, IsUpTo, this_edition}
 use Rattle.macs_config.specs.Identity.{Identity}
-use Rattle.macs_disk.specs.Disk.{Disk, FailsOnce, IsHonest, LeftSince, MayLeave, now}
+use Rattle.macs_disk.specs.Disk.{Disk, IsHonest, LeftSince, MayLeave, now}
 use Rattle.macs_disk.specs.Fused.{fused_disk}
 use Rattle.macs_disk.specs.States.{Image, settled_state, state_after_sync}
 use Rattle.macs_record.specs.declared.format.Format.TheVariants.{One, Two}
@@ -323,11 +323,15 @@ SpentAreSpent {D} disk_of = (last after : EndpointValue D) (call : Call) (reply 
 
 -- ---- device faults
 
+-- one failed call more was counted, or the disk is worn, so that one may have failed uncounted
+abbrev pub CountsOneFailure : Disk → Disk → Type 0
+CountsOneFailure old new = (new.failures ≡ old.failures + 1) ⊎ (new.worn ≡ true)
+
 -- Where a call is answered Disk, one device call of it failed, or the disk is worn; over each other call no failure is counted.
 abbrev pub FaultsAreFailures : {D : Type 0} → (D → Disk) → Type 0
 FaultsAreFailures {D} disk_of = (disk : D) (first last after : EndpointValue D) (turns : List (Transition D)) (call : Call) (reply : Reply)
     → LivesFrom disk_of disk first turns last → IsCall disk_of last call reply after
-    → (TellsFault reply × FailsOnce (disk_in disk_of last) (disk_in disk_of after))
+    → (TellsFault reply × CountsOneFailure (disk_in disk_of last) (disk_in disk_of after))
     ⊎ ((¬ TellsFault reply) × ((disk_in disk_of after).failures ≡ (disk_in disk_of last).failures))
 
 -- ---- openings that are refused
@@ -337,7 +341,7 @@ FaultsAreFailures {D} disk_of = (disk : D) (first last after : EndpointValue D) 
 abbrev pub RefusalsAreFailures : {D : Type 0} → (D → Disk) → Type 0
 RefusalsAreFailures {D} disk_of = (disk : D) (before : List Life) (refused : RecoverRefused D) → HasHistory this_edition (disk_of disk) before
     → IsOpening disk_of disk (Err refused)
-    → ((refused.fault ≡ DiskFault) × FailsOnce (disk_of disk) (disk_of refused.disk))
+    → ((refused.fault ≡ DiskFault) × CountsOneFailure (disk_of disk) (disk_of refused.disk))
     ⊎ (((refused.fault ≡ NotFormatted) × ((edition : Edition) (identity : Identity) → ¬ Contains before (Formats edition identity true))
     × ((edition : Edition) (image : Image) (exchanges : List Exchange) (cut : Option Call) → ¬ Contains before (Serves edition image exchanges cut)))
     ⊎ IsSpentFor this_edition (now (disk_of disk)).seen refused.fault)

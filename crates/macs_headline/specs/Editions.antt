@@ -1,5 +1,5 @@
 -- The headline on editions: what an endpoint of one edition does, one of an edition that takes as much or more does too.
-use Rattle.std.specs.Prelude.{◌≡◌, ◌≢◌, ◌<◌, ◌≤◌, true, false, ℕ, List, Contains, length, Option, Some, None, IfSome, Ok, Err}
+use Rattle.std.specs.Prelude.{◌≡◌, ◌≢◌, ◌<◌, ◌≤◌, ◌⊎◌, true, false, ℕ, List, Contains, length, Option, Some, None, IfSome, Ok, Err}
 use Rattle.macs_aes.specs.Keys.{octets_of_key}
 use Rattle.macs_config.specs.Apply.{IsCommand, LongKey, Named, Reason, apply, refusal_of}
 use Rattle.macs_config.specs.Config.{Config, Edition, IsUpTo}
@@ -10,12 +10,18 @@ use Rattle.macs_config.specs.declared.association.TxSa.{TxSa}
 use Rattle.macs_config.specs.declared.command.Command.{Command}
 use Rattle.macs_config.specs.declared.command.Command.TheVariants.{RxAdd, RxInstall, TxInstall}
 use Rattle.macs_config.specs.declared.refusal.Refusal.TheVariants.{ChannelsFull}
+use Rattle.macs_disk.specs.States.{Image}
 use Rattle.macs_record.specs.declared.format.Format.TheVariants.{One, Two}
 use Rattle.macs_record.specs.declared.record.Record.{Record}
 use Rattle.macs_record.specs.declared.record.Record.TheVariants as kept
+use Rattle.macs_journal.specs.Areas.{least_sectors}
+use Rattle.macs_journal.specs.Formatting.{first_content, first_head}
+use Rattle.macs_journal.specs.Found.{Content, HasJournal, content_with_record}
+use Rattle.macs_journal.specs.Renewal.{compacted}
 use Rattle.macs_store.specs.Commands.{command_of}
-use Rattle.macs_store.specs.Replay.{reading_of, replay_of, standing_after_record}
-use Rattle.macs_store.specs.Standing.{Standing, accept}
+use Rattle.macs_store.specs.Found.{StandingIs}
+use Rattle.macs_store.specs.Replay.{meaning_of, reading_of, replay_of, snapshot_of, standing_after_record}
+use Rattle.macs_store.specs.Standing.{Standing, accept, new_standing, standing_with_rx_ceiling, standing_with_tx_ceiling}
 use Rattle.macs_endpoint.specs.Restart.{Restart}
 use Rattle.macs_endpoint.specs.State.{Advanced, AdvancedLong, Call, Ran, RefusedLong, Reply, State}
 use Rattle.macs_endpoint.specs.Step.{Step}
@@ -66,7 +72,8 @@ HasLongKey (kept.RxInstall sci an sa start) = length sa.key ≢ 16
 HasLongKey r = ⊥
 
 -- What an edition takes. ChannelsFull is answered to a command that adds a channel alone, and only where as many exist as the edition takes. LongKey is answered
--- to no command in range where it takes long keys, and else a command that installs is accepted with a key of 16 octets alone. Areas of format two are read by
+-- to no command in range where it takes long keys, and else a command that installs is accepted with a key of 16 octets alone; it is answered to none with a key
+-- of 16 octets. Areas of format two are read by
 -- their records alone, where the edition reads them, so as those of format one where no record is of a long key, and else not; an area of format one with a
 -- record of a long key stands for nothing. A record of a command that it accepts stands for what the command makes, whatever is installed.
 pub record EditionsTake : Type 0 where
@@ -78,6 +85,8 @@ pub record EditionsTake : Type 0 where
       → ¬ (refusal_of edition identity c command ≡ Some LongKey)
   pub short_keys : (edition : Edition) (identity : Identity) (c new : Config) (command : Command) → edition.long_keys ≡ false
       → apply edition identity c command ≡ Ok new → IfSome (key_in command) (λ key. length key ≡ 16)
+  pub short_taken : (edition : Edition) (identity : Identity) (c : Config) (command : Command) → IfSome (key_in command) (λ key. length key ≡ 16)
+      → ¬ (refusal_of edition identity c command ≡ Some LongKey)
   pub two_read : (edition : Edition) (identity : Identity) (count : ℕ) (records : List Record) → edition.format_two ≡ true
       → reading_of edition Two identity count records ≡ replay_of edition identity count records
   pub formats : (edition : Edition) (identity : Identity) (count : ℕ) (records : List Record) → edition.format_two ≡ true
@@ -93,6 +102,24 @@ pub record EditionsTake : Type 0 where
       → standing_after_record s (kept.TxInstall an sa start) ≡ Some after
   pub rx_kept : (s after : Standing) (sci : List ℕ) (an : ℕ) (sa : RxSa) (start : ℕ) → accept s (rx_install sci an sa start) ≡ Ok after
       → standing_after_record s (kept.RxInstall sci an sa start) ≡ Some after
+
+-- How an edition reads a disk, whatever is installed. A journal that is found stands for what its content means. A new one of format one means a new endpoint.
+-- With one record more, which its format has, a content means what the record makes of what it meant; and a journal that begins anew, with records that stand
+-- for what it meant, means that. A record that raises the ceiling of an association does so.
+pub record EditionsRead : Type 0 where
+  pub stands : (edition : Edition) (sectors : ℕ) (image : Image) (c : Content) (s : Standing) → least_sectors ≤ sectors → HasJournal image c
+      → meaning_of edition c ≡ Some s → StandingIs edition sectors image (Ok s)
+  pub new_one : (edition : Edition) (identity : Identity)
+      → meaning_of edition (record (first_content identity) { head = record (first_head identity) { format = One } }) ≡ Some (new_standing edition identity)
+  pub one_more : (edition : Edition) (c : Content) (r : Record) (s after : Standing) → c.head.count ≤ length c.records
+      → (c.head.format ≡ Two) ⊎ (¬ HasLongKey r) → meaning_of edition c ≡ Some s → standing_after_record s r ≡ Some after
+      → meaning_of edition (content_with_record c r) ≡ Some after
+  pub anew : (edition : Edition) (c : Content) (s : Standing) (records : List Record) → edition.format_two ≡ true → meaning_of edition c ≡ Some s
+      → snapshot_of edition s.identity records ≡ Some s → meaning_of edition (compacted c records) ≡ Some s
+  pub tx_raised : (s : Standing) (an old ceiling : ℕ) → s.ceilings.tx an ≡ Some old → old < ceiling
+      → standing_after_record s (kept.TxCeiling an ceiling) ≡ Some (standing_with_tx_ceiling s an ceiling)
+  pub rx_raised : (s : Standing) (sci : List ℕ) (an old ceiling : ℕ) → s.ceilings.rx sci an ≡ Some old → old < ceiling
+      → standing_after_record s (kept.RxCeiling sci an ceiling) ≡ Some (standing_with_rx_ceiling s sci an ceiling)
 
 -- an edition is larger than another one that takes no more channels, long keys only where it does, and areas of format two only where it does
 abbrev pub TheseAreLarger : Type 0

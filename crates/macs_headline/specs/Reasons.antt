@@ -1,6 +1,7 @@
 -- The headline on the reasons for which a command is refused.
 use Rattle.std.specs.Prelude.{◌≡◌, ◌≢◌, ◌⊎◌, ◌≤◌, ℕ, true, false, List, [], ◌∷◌, drop, length, Option, Some, None, IsSome}
 use Rattle.macs_aes.specs.Keys.{octets_of_key}
+use Rattle.macs_fields.specs.First.{IsFirst}
 use Rattle.macs_config.specs.Apply.{LongKey, Named, Reason, refusal_of}
 use Rattle.macs_config.specs.Config.{Config, Edition, is_among, is_spent, max_spent, rx_fingerprint, takes_key, tx_fingerprint}
 use Rattle.macs_config.specs.Identity.{Identity}
@@ -44,9 +45,17 @@ IsReasonOf edition identity c (TxInstall an key start confidential offset) LongK
 IsReasonOf edition identity c (RxInstall sci an key start offset) LongKey = takes_key edition (octets_of_key key) ≡ false
 IsReasonOf edition identity c command reason = ⊥
 
--- A command that is refused for a reason has it; and one that has any is refused.
+-- the reasons, in the order in which they are looked for
+abbrev pub reasons_in_order : List Reason
+reasons_in_order =
+    Named StartRange ∷ Named OffsetChoice ∷ Named OwnSci ∷ Named EndStationSci ∷ Named NoChannel ∷ Named ChannelTaken ∷ Named ChannelsFull ∷ Named SlotTaken
+    ∷ Named SlotEmpty ∷ Named InUse ∷ Named KeySpent ∷ Named SpentFull ∷ LongKey ∷ []
+
+-- A command that is refused for a reason has it, and none that comes before it; and one that has any is refused.
 pub record ReasonsAreNamed : Type 0 where
   pub named : (edition : Edition) (identity : Identity) (c : Config) (command : Command) (reason : Reason)
       → refusal_of edition identity c command ≡ Some reason → IsReasonOf edition identity c command reason
+  pub first : (edition : Edition) (identity : Identity) (c : Config) (command : Command) (reason : Reason)
+      → refusal_of edition identity c command ≡ Some reason → IsFirst (IsReasonOf edition identity c command) reasons_in_order reason
   pub held : (edition : Edition) (identity : Identity) (c : Config) (command : Command) (reason : Reason) → IsReasonOf edition identity c command reason
       → ¬ (refusal_of edition identity c command ≡ None)

@@ -1,6 +1,6 @@
 -- The headline on calls that are refused: for the first reason that holds, and for none that does not.
 use Rattle.std.specs.Prelude.{◌≡◌, ◌≢◌, ◌⊎◌, ◌<◌, ◌≤◌, ◌+◌, ◌-◌, ◌^◌, ℕ, true, false, List, [], ◌∷◌, length, slice_range, take, Option, Some, None, Ok, Err}
-use Rattle.macs_fields.specs.First.{first}
+use Rattle.macs_fields.specs.First.{IsFirst, first}
 use Rattle.macs_config.specs.Apply.{LongKey, Named, Reason, refusal_of}
 use Rattle.macs_config.specs.Config.{first_edition, max_spent, this_edition}
 use Rattle.macs_config.specs.declared.command.Command.{Command}
@@ -99,10 +99,16 @@ IsFaultOf s plain NoEncodingSa = (an : ℕ) → s.config.encoding ≡ Some an �
 IsFaultOf s plain Exhausted = (an : ℕ) × (s.config.encoding ≡ Some an) × (s.next an ≡ Some (2 ^ 32))
 IsFaultOf s plain NoNumber = (an : ℕ) × (pn : ℕ) × (s.config.encoding ≡ Some an) × (s.next an ≡ Some pn) × (pn < 2 ^ 32)
 
--- A plain frame that is refused for a fault has it; and one that goes out has none of them, but that its number was not used.
+-- the faults, in the order in which they are looked for
+abbrev pub faults_in_order : List TxFault
+faults_in_order = Runt ∷ TooLong ∷ ForeignSource ∷ NoEncodingSa ∷ Exhausted ∷ NoNumber ∷ []
+
+-- A plain frame that is refused for a fault has it, and none that comes before it; and one that goes out has none of them, but that its number was not used.
 pub record FaultsAreNamed (sectors : ℕ) : Type 0 where
   pub named : (s : State) → Moment sectors s → (plain : List ℕ) (fault : TxFault) (out : List ℕ) (new : State)
       → Step s (Protects plain) (Protected (Err (protect.Tx fault)) out) new → IsFaultOf s plain fault
+  pub first : (s : State) → Moment sectors s → (plain : List ℕ) (fault : TxFault) (out : List ℕ) (new : State)
+      → Step s (Protects plain) (Protected (Err (protect.Tx fault)) out) new → IsFirst (IsFaultOf s plain) faults_in_order fault
   pub none : (s new : State) (plain out : List ℕ) (fault : TxFault) (pn : ℕ) → Step s (Protects plain) (Protected (Ok pn) out) new → fault ≢ NoNumber
       → ¬ IsFaultOf s plain fault
 
