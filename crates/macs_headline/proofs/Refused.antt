@@ -64,7 +64,7 @@ by_submit old c (Err submit.Stopped) new h = absurd h
 by_end : (old : State) (w : Waiting) (rest : List Waiting) (ticket : ℕ) (result : Result (Unit {0}) CommandFault) (new : State) → old.waiting ≡ w ∷ rest
     → ticket ≡ w.ticket → Ends old w rest result new → IsExact old Advances (Advanced (Ok (Done ticket result))) new
 by_end old w rest ticket (Ok done) new waiting is_ticket makes =
-    (w, rest, waiting, is_ticket, made_for (state_without_first old rest) w.command new makes)
+    (w, rest, waiting, is_ticket, made_for (state_without_first old rest) w.command new makes, ap (λ (s : State). s.in_hand) makes.2)
 by_end old w rest ticket (Err (ran.Refused refusal)) new waiting is_ticket (idle, why, is) =
     (w, rest, waiting, is_ticket, idle, refused_for old w.command refusal why, is)
 by_end old w rest ticket (Err ran.GenerationsSpent) new waiting is_ticket (idle, accepts, is) =

@@ -10,7 +10,7 @@ use Rattle.macs_config.specs.declared.command.Command.TheVariants.{RxAdd}
 use Rattle.macs_config.specs.declared.refusal.Refusal.{Refusal}
 use Rattle.macs_config.specs.declared.refusal.Refusal.TheVariants.{ChannelTaken, ChannelsFull, OwnSci}
 use Rattle.macs_config.proofs.Editions.{never-long}
-use Rattle.macs_store.specs.Replay.{replay_of}
+use Rattle.macs_store.specs.Replay.{accepted_standing, replay_of}
 use Rattle.macs_headline.specs.Editions.{EditionsTake}
 use Rattle.macs_headline.proofs.Ledger.{some_one}
 use Rattle.macs_headline.proofs.ReadByEditions.{kept-records, short-keys}
@@ -76,4 +76,6 @@ editions-take = record {
   formats = λ edition identity count records two. ap (λ (b : Bool). cond b (replay_of edition identity count records) None) two;
   one_format = λ edition identity count records one. ap (λ (b : Bool). cond b (replay_of edition identity count records) None) one;
   kept = kept-records;
+  tx_kept = λ s after an sa start made. ap accepted_standing made;
+  rx_kept = λ s after sci an sa start made. ap accepted_standing made;
 }

@@ -1,20 +1,23 @@
 -- A plain frame that is refused for a fault has it.
-use Rattle.std.proofs.Common.{◌≡◌, ◌⊎◌, ◌<◌, ◌≤◌, ◌+◌, ◌^◌, ◌&&◌, inl, inr, ℕ, Bool, true, false, not, List, [], ◌∷◌, length, take, Option, Some, None, bytes_eq, refl, sym, ◌∙◌, ap, subst, arith}
+use Rattle.std.proofs.Common.{◌≡◌, ◌≢◌, ◌⊎◌, ◌<◌, ◌≤◌, ◌+◌, ◌^◌, ◌&&◌, inl, inr, ℕ, Bool, true, false, not, List, [], ◌∷◌, length, take, Option, Some, None, Ok, Err, bytes_eq, refl, sym, ◌∙◌, ap, subst, arith}
 use Rattle.std.specs.Prelude.{is_none, nat_lt, slice_range}
-use Rattle.std.proofs.lemmas.Bool.{eqb-false, eqb-true, false≢true, ltb-true, not-true}
+use Rattle.std.proofs.lemmas.Bool.{eqb-false, eqb-true, false≢true, ltb-false, ltb-true, not-true}
 use Rattle.macs_fields.specs.First.{first}
 use Rattle.macs_frame.specs.Protection.{overhead}
 use Rattle.macs_config.specs.Association.{is_end_station}
 use Rattle.macs_config.specs.declared.association.TxSa.{TxSa}
 use Rattle.macs_config.specs.declared.command.SciMode.{SciMode}
 use Rattle.macs_config.specs.declared.command.SciMode.TheVariants.{EndStation, Explicit, Implicit}
-use Rattle.macs_config.proofs.Channels.{bytes_eq-itself}
+use Rattle.macs_config.proofs.Channels.{bytes_eq-itself, same_octets}
 use Rattle.macs_txsc.specs.Transmit.{Outgoing, is_own_source, is_used_up, name_in, next_outgoing, outgoing_at, outgoing_with, tx_faults}
 use Rattle.macs_txsc.specs.declared.fault.TxFault.{TxFault}
 use Rattle.macs_txsc.specs.declared.fault.TxFault.TheVariants.{Exhausted, ForeignSource, NoEncodingSa, NoNumber, Runt, TooLong}
-use Rattle.macs_endpoint.specs.State.{State, tx_side}
+use Rattle.macs_endpoint.specs.State.{Protected, Protects, State, tx_side}
+use Rattle.macs_endpoint.specs.Step.{Step}
+use Rattle.macs_endpoint.specs.declared.fault.ProtectFault.TheVariants as protect
 use Rattle.macs_headline.specs.Refused.{FaultsAreNamed, IsFaultOf, longer_in}
-use Rattle.macs_headline.proofs.Accepted.{no-test}
+use Rattle.macs_headline.specs.Moments.{Moment}
+use Rattle.macs_headline.proofs.Accepted.{NoTest, no-test}
 use Rattle.macs_headline.proofs.Effects.{outgoing_is}
 use Rattle.macs_headline.proofs.Ledger.{some_one}
 use Rattle.macs_headline.proofs.Ranges.{next-range}
@@ -101,11 +104,12 @@ by_test s plain Exhausted test =
 by_test s plain NoNumber test = absurd test
 
 module _ (sectors : ℕ) where
-  pub faults-are-named : FaultsAreNamed sectors
-  faults-are-named s m plain fault out new (inl (stopped, answer, is)) = absurd answer
-  faults-are-named s m plain fault out new (inr (running, (inl is_first, empty, is))) =
+  is_named : (s : State) → Moment sectors s → (plain : List ℕ) (fault : TxFault) (out : List ℕ) (new : State)
+      → Step s (Protects plain) (Protected (Err (protect.Tx fault)) out) new → IsFaultOf s plain fault
+  is_named s m plain fault out new (inl (stopped, answer, is)) = absurd answer
+  is_named s m plain fault out new (inr (running, (inl is_first, empty, is))) =
       by_test s plain fault (first_in s plain fault is_first)
-  faults-are-named s m plain fault out new (inr (running, (inr (none, is_fault), empty, is))) =
+  is_named s m plain fault out new (inr (running, (inr (none, is_fault), empty, is))) =
       let tests = no-test (tx_faults (tx_side s) plain) none in
       let next = is_left (next_outgoing (tx_side s)) tests.1.1.1.0 tests.1.1.1.1.0 in
       let there = outgoing_is (tx_side s) s.config.encoding next.0 next.1 in
@@ -113,3 +117,54 @@ module _ (sectors : ℕ) where
       let apart = next.2 in
       let below : next.0.pn < 2 ^ 32 = omega (arith, most, apart) in
       subst (IsFaultOf s plain) (sym is_fault) (next.0.an, next.0.pn, there.encoding_is, there.next_is, below)
+
+-- ---- a frame that goes out
+
+too_long_back : (mode : SciMode) (sci : List ℕ) (n : ℕ) → 9216 < n + longer_in mode → 9216 < n + overhead (name_in mode sci)
+too_long_back Explicit sci n is = is
+too_long_back EndStation sci n is = is
+too_long_back Implicit sci n is = is
+
+own_by : (mode : SciMode) (own : Bool) → (is_end_station mode && not own) ≡ false → mode ≡ EndStation → own ≡ true
+own_by mode true test is = refl
+own_by mode false test is = absurd (false≢true (sym test ∙ ap (λ (m : SciMode). is_end_station m && true) is))
+
+none_in : {X : Type 0} (o : Option X) (x : X) → o ≡ Some x → o ≡ None → ⊥
+none_in o x is none = cc
+
+module _ (s : State) (plain : List ℕ) (none : first (tx_faults (tx_side s) plain) ≡ None) where
+  tests : NoTest (tx_faults (tx_side s) plain)
+  tests = no-test (tx_faults (tx_side s) plain) none
+
+  has_none : (fault : TxFault) → fault ≢ NoNumber → ¬ IsFaultOf s plain fault
+  has_none Runt other has = let most = ltb-false (length plain) 14 tests.0 in omega (arith, has, most)
+  has_none TooLong other has =
+      let long = too_long_back s.config.mode s.identity.sci (length plain) has in
+      let most = ltb-false 9216 (length plain + overhead (name_in s.config.mode s.identity.sci)) tests.1.0 in
+      omega (arith, long, most)
+  has_none ForeignSource other has =
+      has.1 (same_octets (slice_range plain 6 12) (take 6 s.identity.sci) (own_by s.config.mode (is_own_source s.identity.sci plain) tests.1.1.0 has.0))
+  has_none NoEncodingSa other has =
+      let next = is_left (next_outgoing (tx_side s)) tests.1.1.1.0 tests.1.1.1.1.0 in
+      let there = outgoing_is (tx_side s) s.config.encoding next.0 next.1 in
+      elim (has next.0.an there.encoding_is) [
+        | inl no_sa ↦ none_in (s.config.tx next.0.an) next.0.sa there.sa_is no_sa
+        | inr no_next ↦ none_in (s.next next.0.an) next.0.pn there.next_is no_next
+      ]
+  has_none Exhausted other has =
+      let next = is_left (next_outgoing (tx_side s)) tests.1.1.1.0 tests.1.1.1.1.0 in
+      let there = outgoing_is (tx_side s) s.config.encoding next.0 next.1 in
+      let one = some_one s.config.encoding next.0.an has.0 there.encoding_is has.1 in
+      next.2 (some_one (s.next next.0.an) next.0.pn (2 ^ 32) there.next_is (ap (λ (an : ℕ). s.next an) one ∙ has.2))
+  has_none NoNumber other has = other refl
+
+by_sent : (s new : State) (plain out : List ℕ) (fault : TxFault) (pn : ℕ) → Step s (Protects plain) (Protected (Ok pn) out) new → fault ≢ NoNumber
+    → ¬ IsFaultOf s plain fault
+by_sent s new plain out fault pn (inl (stopped, answer, is)) other has = absurd answer
+by_sent s new plain out fault pn (inr (running, (none, goes_out))) other has = has_none s plain none fault other has
+
+pub faults-are-named : (sectors : ℕ) → FaultsAreNamed sectors
+faults-are-named sectors = record {
+  named = is_named sectors;
+  none = by_sent;
+}

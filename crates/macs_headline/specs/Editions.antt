@@ -4,12 +4,16 @@ use Rattle.macs_aes.specs.Keys.{octets_of_key}
 use Rattle.macs_config.specs.Apply.{IsCommand, apply, refusal_of}
 use Rattle.macs_config.specs.Config.{Config, Edition, IsUpTo}
 use Rattle.macs_config.specs.Identity.{Identity}
+use Rattle.macs_config.specs.Judged.{rx_install, tx_install}
+use Rattle.macs_config.specs.declared.association.RxSa.{RxSa}
+use Rattle.macs_config.specs.declared.association.TxSa.{TxSa}
 use Rattle.macs_config.specs.declared.command.Command.{Command}
 use Rattle.macs_config.specs.declared.command.Command.TheVariants.{RxAdd, RxInstall, TxInstall}
 use Rattle.macs_config.specs.declared.refusal.Refusal.{Refusal}
 use Rattle.macs_config.specs.declared.refusal.Refusal.TheVariants.{ChannelsFull, LongKey}
 use Rattle.macs_record.specs.declared.format.Format.TheVariants.{One, Two}
 use Rattle.macs_record.specs.declared.record.Record.{Record}
+use Rattle.macs_record.specs.declared.record.Record.TheVariants as recorded
 use Rattle.macs_store.specs.Commands.{command_of}
 use Rattle.macs_store.specs.Replay.{reading_of, standing_after_record}
 use Rattle.macs_store.specs.Standing.{Standing, accept}
@@ -52,9 +56,9 @@ key_in (TxInstall an key start confidential offset) = Some (octets_of_key key)
 key_in (RxInstall sci an key start offset) = Some (octets_of_key key)
 key_in command = None
 
--- What an edition takes: one channel more where fewer exist than it takes, and ChannelsFull is answered for no other reason; each key of a command in range
--- where it takes long keys, and else keys of 16 octets alone; and areas of format two, where it reads them, as those of format one, and else none. A record of a command that
--- the edition accepts stands for what the command makes, whatever is installed.
+-- What an edition takes. ChannelsFull is answered to a command that adds a channel alone, and only where as many exist as the edition takes. LongKey is answered
+-- to no command in range where it takes long keys, and else a command that installs is accepted with a key of 16 octets alone. Areas of format two are read as those of format
+-- one, where the edition reads them, and else not. A record of a command that it accepts stands for what the command makes, whatever is installed.
 pub record EditionsTake : Type 0 where
   pub channels : (edition : Edition) (identity : Identity) (c : Config) (sci : List ℕ) → length c.channels < edition.channels
       → ¬ (refusal_of edition identity c (RxAdd sci) ≡ Some ChannelsFull)
@@ -70,6 +74,10 @@ pub record EditionsTake : Type 0 where
       → reading_of edition Two identity count records ≡ None
   pub kept : (s after : Standing) (record_kept : Record) (command : Command) → command_of record_kept ≡ Some command → accept s command ≡ Ok after
       → standing_after_record s record_kept ≡ Some after
+  pub tx_kept : (s after : Standing) (an : ℕ) (sa : TxSa) (start : ℕ) → accept s (tx_install an sa start) ≡ Ok after
+      → standing_after_record s (recorded.TxInstall an sa start) ≡ Some after
+  pub rx_kept : (s after : Standing) (sci : List ℕ) (an : ℕ) (sa : RxSa) (start : ℕ) → accept s (rx_install sci an sa start) ≡ Ok after
+      → standing_after_record s (recorded.RxInstall sci an sa start) ≡ Some after
 
 -- an edition is larger than another one that takes no more channels, long keys only where it does, and areas of format two only where it does
 abbrev pub TheseAreLarger : Type 0

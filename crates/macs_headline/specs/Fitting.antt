@@ -9,10 +9,12 @@ use Rattle.macs_store.specs.Standing.{Standing}
 use Rattle.macs_endpoint.specs.Restart.{Fits}
 use Rattle.macs_endpoint.specs.State.{State}
 use Rattle.macs_endpoint.specs.Step.{Makes}
+use Rattle.macs_headline.specs.History.{FitsPast, Formatted}
 use Rattle.macs_headline.specs.Numbers.{IsMoved, IsSkipped}
 
 -- An image fits a state that stands for its identity and its configuration, in a program of no smaller edition, with numbers that moved no further than a restart
--- moves them, and none where there was none. And what fits the state after the command in hand fits the state.
+-- moves them, and none where there was none. What fits the state after the command in hand fits the state. A program may come upon each image that fits the state in which
+-- the lives ended.
 pub record RestartsFit (sectors : ℕ) : Type 0 where
   pub kept : (s : State) (edition : Edition) (image : Image) (found : Standing) → StandingIs edition sectors image (Ok found) → IsUpTo s.edition edition
       → found.identity ≡ s.identity → found.config ≡ s.config
@@ -25,3 +27,4 @@ pub record RestartsFit (sectors : ℕ) : Type 0 where
       → Fits edition sectors image s
   pub carried : (s mid : State) (command : Command) (edition : Edition) (image : Image) → s.in_hand ≡ Some command → Makes s command mid
       → Fits edition sectors image mid → Fits edition sectors image s
+  pub come_upon : (s : State) (edition : Edition) (image : Image) → Fits edition sectors image s → FitsPast edition sectors (Formatted s) image

@@ -38,7 +38,7 @@ TakesFirst old new = (w : Waiting) × (rest : List Waiting) × (old.waiting ≡ 
 
 -- What an answer says of reasons, and what a refusal leaves. A command is refused for the first reason that holds, is done only where none does, and is
 -- answered Busy where one waits, and there alone; only one that is not refused is in hand after a device fault. The first that waits is refused so where it
--- is not in hand, and leaves the queue. A refill is Busy where one waits, and there alone. A step that is answered Idle, or ends a reservation, changes
+-- is not in hand, and leaves the queue; once it is done nothing is in hand. A refill is Busy where one waits, and there alone. A step that is answered Idle, or ends a reservation, changes
 -- nothing; one that goes on with work, or whose device call fails, may have taken the first that waits in hand.
 -- A plain frame is refused for its first fault, or for want of a number where it has none; nothing is in `out` then. A refusal changes nothing else.
 abbrev pub IsExact : State → Call → Reply → State → Type 0
@@ -63,6 +63,7 @@ IsExact old Advances (Advanced (Ok Worked)) new = (new ≡ old) ⊎ TakesFirst o
 IsExact old Advances (Advanced (Err step.Disk)) new = (new ≡ state_after_fault old) ⊎ ((mid : State) × TakesFirst old mid × (new ≡ state_after_fault mid))
 IsExact old Advances (Advanced (Ok (Done ticket (Ok done)))) new =
     (w : Waiting) × (rest : List Waiting) × (old.waiting ≡ w ∷ rest) × (ticket ≡ w.ticket) × (refusal_at old w.command ≡ None)
+    × (new.in_hand ≡ None)
 IsExact old Advances (Advanced (Ok (Done ticket (Err (ran.Refused refusal))))) new =
     (w : Waiting) × (rest : List Waiting) × (old.waiting ≡ w ∷ rest) × (ticket ≡ w.ticket) × (old.in_hand ≡ None)
     × (refusal_at old w.command ≡ Some refusal) × (new ≡ state_without_first old rest)
@@ -95,10 +96,12 @@ IsFaultOf s plain NoEncodingSa = (an : ℕ) → s.config.encoding ≡ Some an �
 IsFaultOf s plain Exhausted = (an : ℕ) × (s.config.encoding ≡ Some an) × (s.next an ≡ Some (2 ^ 32))
 IsFaultOf s plain NoNumber = (an : ℕ) × (pn : ℕ) × (s.config.encoding ≡ Some an) × (s.next an ≡ Some pn) × (pn < 2 ^ 32)
 
--- a plain frame that is refused for a fault has it
-abbrev pub FaultsAreNamed : ℕ → Type 0
-FaultsAreNamed sectors = (s : State) → Moment sectors s → (plain : List ℕ) (fault : TxFault) (out : List ℕ) (new : State)
-    → Step s (Protects plain) (Protected (Err (protect.Tx fault)) out) new → IsFaultOf s plain fault
+-- A plain frame that is refused for a fault has it; and one that goes out has none of them, but that its number was not used.
+pub record FaultsAreNamed (sectors : ℕ) : Type 0 where
+  pub named : (s : State) → Moment sectors s → (plain : List ℕ) (fault : TxFault) (out : List ℕ) (new : State)
+      → Step s (Protects plain) (Protected (Err (protect.Tx fault)) out) new → IsFaultOf s plain fault
+  pub none : (s new : State) (plain out : List ℕ) (fault : TxFault) (pn : ℕ) → Step s (Protects plain) (Protected (Ok pn) out) new → fault ≢ NoNumber
+      → ¬ IsFaultOf s plain fault
 
 -- ---- each call
 
