@@ -1,4 +1,4 @@
--- A plain frame that is refused for a fault has it.
+-- A plain frame that is refused for a fault has it, and one that goes out has none.
 use Rattle.std.proofs.Common.{◌≡◌, ◌≢◌, ◌⊎◌, ◌<◌, ◌≤◌, ◌+◌, ◌^◌, ◌&&◌, inl, inr, ℕ, Bool, true, false, not, List, [], ◌∷◌, length, take, Option, Some, None, Ok, Err, bytes_eq, refl, sym, ◌∙◌, ap, subst, arith}
 use Rattle.std.specs.Prelude.{is_none, nat_lt, slice_range}
 use Rattle.std.proofs.lemmas.Bool.{eqb-false, eqb-true, false≢true, ltb-false, ltb-true, not-true}
@@ -118,7 +118,7 @@ module _ (sectors : ℕ) where
       let below : next.0.pn < 2 ^ 32 = omega (arith, most, apart) in
       subst (IsFaultOf s plain) (sym is_fault) (next.0.an, next.0.pn, there.encoding_is, there.next_is, below)
 
--- ---- a frame that goes out
+-- ---- a frame that goes out has none but the last
 
 too_long_back : (mode : SciMode) (sci : List ℕ) (n : ℕ) → 9216 < n + longer_in mode → 9216 < n + overhead (name_in mode sci)
 too_long_back Explicit sci n is = is
@@ -130,17 +130,21 @@ own_by mode true test is = refl
 own_by mode false test is = absurd (false≢true (sym test ∙ ap (λ (m : SciMode). is_end_station m && true) is))
 
 none_in : {X : Type 0} (o : Option X) (x : X) → o ≡ Some x → o ≡ None → ⊥
-none_in o x is none = cc
+none_in o x is none = absurd (cc)
 
 module _ (s : State) (plain : List ℕ) (none : first (tx_faults (tx_side s) plain) ≡ None) where
   tests : NoTest (tx_faults (tx_side s) plain)
   tests = no-test (tx_faults (tx_side s) plain) none
 
   has_none : (fault : TxFault) → fault ≢ NoNumber → ¬ IsFaultOf s plain fault
-  has_none Runt other has = let most = ltb-false (length plain) 14 tests.0 in omega (arith, has, most)
+  has_none Runt other has =
+      let few : length plain < 14 = has in
+      let most : 14 ≤ length plain = ltb-false (length plain) 14 tests.0 in
+      omega (arith, few, most)
   has_none TooLong other has =
-      let long = too_long_back s.config.mode s.identity.sci (length plain) has in
-      let most = ltb-false 9216 (length plain + overhead (name_in s.config.mode s.identity.sci)) tests.1.0 in
+      let size = length plain + overhead (name_in s.config.mode s.identity.sci) in
+      let long : 9216 < size = too_long_back s.config.mode s.identity.sci (length plain) has in
+      let most : size ≤ 9216 = ltb-false 9216 size tests.1.0 in
       omega (arith, long, most)
   has_none ForeignSource other has =
       has.1 (same_octets (slice_range plain 6 12) (take 6 s.identity.sci) (own_by s.config.mode (is_own_source s.identity.sci plain) tests.1.1.0 has.0))

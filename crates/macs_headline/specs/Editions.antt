@@ -56,9 +56,10 @@ key_in (TxInstall an key start confidential offset) = Some (octets_of_key key)
 key_in (RxInstall sci an key start offset) = Some (octets_of_key key)
 key_in command = None
 
--- What an edition takes. ChannelsFull is answered to a command that adds a channel alone, and only where as many exist as the edition takes. LongKey is answered
--- to no command in range where it takes long keys, and else a command that installs is accepted with a key of 16 octets alone. Areas of format two are read as those of format
--- one, where the edition reads them, and else not. A record of a command that it accepts stands for what the command makes, whatever is installed.
+-- What an edition takes. ChannelsFull is answered to a command that adds a channel alone, and only where as many exist as the edition takes. LongKey is
+-- answered to no command in range where it takes long keys, and else a command that installs is accepted with a key of 16 octets alone. Areas of format two
+-- are read as those of format one, where the edition reads them, and else not. A record of a command that it accepts stands for what the command makes,
+-- whatever is installed; so does one of an association that a command asks for.
 pub record EditionsTake : Type 0 where
   pub channels : (edition : Edition) (identity : Identity) (c : Config) (sci : List ℕ) → length c.channels < edition.channels
       → ¬ (refusal_of edition identity c (RxAdd sci) ≡ Some ChannelsFull)

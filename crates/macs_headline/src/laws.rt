@@ -165,7 +165,7 @@ pub fn headline()
     ensures refusals_are_exact { (sectors : ℕ) → RefusalsAreExact sectors }
     // A command that is refused for a reason has it, and one that has any is refused.
     ensures reasons_are_named { ReasonsAreNamed }
-    // A plain frame that is refused for a fault has it.
+    // A plain frame that is refused for a fault has it, and one that goes out has none of the first five.
     ensures faults_are_named { (sectors : ℕ) → FaultsAreNamed sectors }
     // How many commands may wait, how many tickets and spent keys there are, and how often a journal begins anew.
     ensures limits { LimitsAre }
