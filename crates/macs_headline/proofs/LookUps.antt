@@ -5,10 +5,10 @@ use Rattle.std.specs.Option.{option_and_then}
 use Rattle.macs_headline.proofs.Ledger.{some_one}
 
 pub none-some : {X : Type 0} (x : X) → ◌≡◌ {A = Option X} None (Some x) → ⊥
-none-some x is = cc
+none-some x is = absurd (cc)
 
 pub some-none : {X : Type 0} (o : Option X) (x : X) → o ≡ Some x → o ≡ None → ⊥
-some-none o x is none = cc
+some-none o x is none = absurd (cc)
 
 -- one that finds nothing
 pub no-one : {X : Type 0} (o : Option X) → ((x : X) → ¬ (o ≡ Some x)) → o ≡ None

@@ -1,4 +1,4 @@
--- A plain frame that is refused for a fault has it.
+-- A plain frame that is refused for a fault has it, and none before it; and one that goes out has none.
 use Rattle.std.proofs.Common.{◌≡◌, ◌≢◌, ◌⊎◌, ◌<◌, ◌≤◌, ◌+◌, ◌^◌, ◌&&◌, inl, inr, ℕ, Bool, true, false, not, List, [], ◌∷◌, length, take, Option, Some, None, Ok, Err, bytes_eq, refl, sym, ◌∙◌, ap, subst, arith}
 use Rattle.std.specs.Prelude.{is_none, nat_lt, slice_range}
 use Rattle.std.proofs.lemmas.Bool.{eqb-false, eqb-true, false≢true, ltb-false, ltb-true, not-true}
@@ -115,7 +115,7 @@ own_by mode true test is = refl
 own_by mode false test is = absurd (false≢true (sym test ∙ ap (λ (m : SciMode). is_end_station m && true) is))
 
 none_in : {X : Type 0} (o : Option X) (x : X) → o ≡ Some x → o ≡ None → ⊥
-none_in o x is none = cc
+none_in o x is none = absurd (cc)
 
 is_some : (o : Option Outgoing) → is_none o ≡ false → (it : Outgoing) × (o ≡ Some it)
 is_some None is = absurd (false≢true (sym is))
@@ -137,10 +137,14 @@ LacksTestIn s plain fault =
     (is_used_up (next_outgoing (tx_side s))) fault
 
 lacks : (s : State) (plain : List ℕ) (fault : TxFault) → LacksTestIn s plain fault → ¬ IsFaultOf s plain fault
-lacks s plain Runt test has = let most = ltb-false (length plain) 14 test in omega (arith, has, most)
+lacks s plain Runt test has =
+    let few : length plain < 14 = has in
+    let most : 14 ≤ length plain = ltb-false (length plain) 14 test in
+    omega (arith, few, most)
 lacks s plain TooLong test has =
-    let long = too_long_back s.config.mode s.identity.sci (length plain) has in
-    let most = ltb-false 9216 (length plain + overhead (name_in s.config.mode s.identity.sci)) test in
+    let size = length plain + overhead (name_in s.config.mode s.identity.sci) in
+    let long : 9216 < size = too_long_back s.config.mode s.identity.sci (length plain) has in
+    let most : size ≤ 9216 = ltb-false 9216 size test in
     omega (arith, long, most)
 lacks s plain ForeignSource test has =
     has.1 (same_octets (slice_range plain 6 12) (take 6 s.identity.sci) (own_by s.config.mode (is_own_source s.identity.sci plain) test has.0))

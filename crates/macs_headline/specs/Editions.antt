@@ -13,7 +13,7 @@ use Rattle.macs_config.specs.declared.refusal.Refusal.TheVariants.{ChannelsFull}
 use Rattle.macs_disk.specs.States.{Image}
 use Rattle.macs_record.specs.declared.format.Format.TheVariants.{One, Two}
 use Rattle.macs_record.specs.declared.record.Record.{Record}
-use Rattle.macs_record.specs.declared.record.Record.TheVariants as kept
+use Rattle.macs_record.specs.declared.record.Record.TheVariants as recorded
 use Rattle.macs_journal.specs.Areas.{least_sectors}
 use Rattle.macs_journal.specs.Formatting.{first_content, first_head}
 use Rattle.macs_journal.specs.Found.{Content, HasJournal, content_with_record}
@@ -65,17 +65,17 @@ key_in command = None
 
 -- a record keeps an association with a key of other than 16 octets
 abbrev pub HasLongKey : Record → Type 0
-HasLongKey (kept.TxSa an sa ceiling) = length sa.key ≢ 16
-HasLongKey (kept.RxSa sci an sa ceiling) = length sa.key ≢ 16
-HasLongKey (kept.TxInstall an sa start) = length sa.key ≢ 16
-HasLongKey (kept.RxInstall sci an sa start) = length sa.key ≢ 16
+HasLongKey (recorded.TxSa an sa ceiling) = length sa.key ≢ 16
+HasLongKey (recorded.RxSa sci an sa ceiling) = length sa.key ≢ 16
+HasLongKey (recorded.TxInstall an sa start) = length sa.key ≢ 16
+HasLongKey (recorded.RxInstall sci an sa start) = length sa.key ≢ 16
 HasLongKey r = ⊥
 
 -- What an edition takes. ChannelsFull is answered to a command that adds a channel alone, and only where as many exist as the edition takes. LongKey is answered
 -- to no command in range where it takes long keys, and else a command that installs is accepted with a key of 16 octets alone; it is answered to none with a key
--- of 16 octets. Areas of format two are read by
--- their records alone, where the edition reads them, so as those of format one where no record is of a long key, and else not; an area of format one with a
--- record of a long key stands for nothing. A record of a command that it accepts stands for what the command makes, whatever is installed.
+-- of 16 octets. Areas of format two are read by their records alone, where the edition reads them, so as those of format one where no record is of a long key,
+-- and else not; an area of format one with a record of a long key stands for nothing. A record of a command that it accepts stands for what the command makes,
+-- whatever is installed; so does one of an association that a command asks for.
 pub record EditionsTake : Type 0 where
   pub channels : (edition : Edition) (identity : Identity) (c : Config) (sci : List ℕ) → length c.channels < edition.channels
       → ¬ (refusal_of edition identity c (RxAdd sci) ≡ Some (Named ChannelsFull))
@@ -99,9 +99,9 @@ pub record EditionsTake : Type 0 where
   pub kept : (s after : Standing) (record_kept : Record) (command : Command) → command_of record_kept ≡ Some command → accept s command ≡ Ok after
       → standing_after_record s record_kept ≡ Some after
   pub tx_kept : (s after : Standing) (an : ℕ) (sa : TxSa) (start : ℕ) → accept s (tx_install an sa start) ≡ Ok after
-      → standing_after_record s (kept.TxInstall an sa start) ≡ Some after
+      → standing_after_record s (recorded.TxInstall an sa start) ≡ Some after
   pub rx_kept : (s after : Standing) (sci : List ℕ) (an : ℕ) (sa : RxSa) (start : ℕ) → accept s (rx_install sci an sa start) ≡ Ok after
-      → standing_after_record s (kept.RxInstall sci an sa start) ≡ Some after
+      → standing_after_record s (recorded.RxInstall sci an sa start) ≡ Some after
 
 -- How an edition reads a disk, whatever is installed. A journal that is found stands for what its content means. A new one of format one means a new endpoint.
 -- With one record more, which its format has, a content means what the record makes of what it meant; and a journal that begins anew, with records that stand
@@ -117,9 +117,9 @@ pub record EditionsRead : Type 0 where
   pub anew : (edition : Edition) (c : Content) (s : Standing) (records : List Record) → edition.format_two ≡ true → meaning_of edition c ≡ Some s
       → snapshot_of edition s.identity records ≡ Some s → meaning_of edition (compacted c records) ≡ Some s
   pub tx_raised : (s : Standing) (an old ceiling : ℕ) → s.ceilings.tx an ≡ Some old → old < ceiling
-      → standing_after_record s (kept.TxCeiling an ceiling) ≡ Some (standing_with_tx_ceiling s an ceiling)
+      → standing_after_record s (recorded.TxCeiling an ceiling) ≡ Some (standing_with_tx_ceiling s an ceiling)
   pub rx_raised : (s : Standing) (sci : List ℕ) (an old ceiling : ℕ) → s.ceilings.rx sci an ≡ Some old → old < ceiling
-      → standing_after_record s (kept.RxCeiling sci an ceiling) ≡ Some (standing_with_rx_ceiling s sci an ceiling)
+      → standing_after_record s (recorded.RxCeiling sci an ceiling) ≡ Some (standing_with_rx_ceiling s sci an ceiling)
 
 -- an edition is larger than another one that takes no more channels, long keys only where it does, and areas of format two only where it does
 abbrev pub TheseAreLarger : Type 0

@@ -37,8 +37,8 @@ TakesFirst old new = (w : Waiting) × (rest : List Waiting) × (old.waiting ≡ 
 
 -- What an answer says of reasons, and what a refusal leaves. A command is refused for the first reason that holds, is done only where none does, and is
 -- answered Busy where one waits, and there alone; only one that is not refused is in hand after a device fault. The first that waits is refused so where it
--- is not in hand, and leaves the queue; once it is done nothing is in hand. A refill is Busy where one waits, and there alone. A step that is answered Idle, or ends a reservation, changes
--- nothing; one that goes on with work, or whose device call fails, may have taken the first that waits in hand.
+-- is not in hand, and leaves the queue; once it is done nothing is in hand. A refill is Busy where one waits, and there alone. A step that is answered
+-- Idle, or ends a reservation, changes nothing; one that goes on with work, or whose device call fails, may have taken the first that waits in hand.
 -- A plain frame is refused for its first fault, or for want of a number where it has none; nothing is in `out` then. A refusal changes nothing else.
 abbrev pub IsExact : State → Call → Reply → State → Type 0
 IsExact old (Commands command) (Ran (Ok done)) new = (old.waiting ≡ []) × (refusal_at old command ≡ None)
@@ -103,7 +103,7 @@ IsFaultOf s plain NoNumber = (an : ℕ) × (pn : ℕ) × (s.config.encoding ≡ 
 abbrev pub faults_in_order : List TxFault
 faults_in_order = Runt ∷ TooLong ∷ ForeignSource ∷ NoEncodingSa ∷ Exhausted ∷ NoNumber ∷ []
 
--- A plain frame that is refused for a fault has it, and none that comes before it; and one that goes out has none of them, but that its number was not used.
+-- A plain frame that is refused for a fault has it, and none that comes before it; and one that goes out has none of the first five.
 pub record FaultsAreNamed (sectors : ℕ) : Type 0 where
   pub named : (s : State) → Moment sectors s → (plain : List ℕ) (fault : TxFault) (out : List ℕ) (new : State)
       → Step s (Protects plain) (Protected (Err (protect.Tx fault)) out) new → IsFaultOf s plain fault

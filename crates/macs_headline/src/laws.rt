@@ -174,7 +174,7 @@ pub fn headline()
     ensures refusals_are_exact { (sectors : ℕ) → RefusalsAreExact sectors }
     // A command that is refused for a reason has it, and none before it; and one that has any is refused.
     ensures reasons_are_named { ReasonsAreNamed }
-    // A plain frame that is refused for a fault has it, and none before it.
+    // A plain frame that is refused for a fault has it, and none before it; and one that goes out has none of the first five.
     ensures faults_are_named { (sectors : ℕ) → FaultsAreNamed sectors }
     // How many commands may wait, how many tickets and spent keys there are, how often a journal begins anew, and what
     // this edition and the first one take.
