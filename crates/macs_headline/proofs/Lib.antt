@@ -51,6 +51,7 @@ pub mod GoingOn
 pub mod Configurations
 pub mod ExactEnds
 pub mod Moments
+pub mod BegunAnew
 pub mod Idling
 pub mod Spending
 pub mod Tickets

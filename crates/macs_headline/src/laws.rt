@@ -18,7 +18,7 @@ ghost use Rattle.macs_headline.specs.Binding.{FaultsAreFailures, FramesAreDelive
 ghost use Rattle.macs_headline.specs.Binding.{FusesChangeNone, IdleFindsNoWork, IsNewDisk, LargerFind, LargerGoOn};
 ghost use Rattle.macs_headline.specs.Binding.{LivesAreMoments, LivesFit, LivesFitUnbegun, LivesKeepCommands};
 ghost use Rattle.macs_headline.specs.Binding.{LivesAreDeeds, LivesEndExactly, LivesKeepTickets, TheseAreNew};
-ghost use Rattle.macs_headline.specs.Binding.{NewDeedsAreHistories};
+ghost use Rattle.macs_headline.specs.Binding.{NewDeedsAreHistories, OpeningsBeginAnew};
 ghost use Rattle.macs_headline.specs.Binding.{NewDisksHaveHistories, OpeningsFind, PassedOnHaveHistories, RefusalsAreFailures, SettledHaveHistories, SpentAreSpent};
 ghost use Rattle.macs_headline.specs.Begun.{CutsBegin, CutsChangeNone, InHandWasBegun};
 ghost use Rattle.macs_headline.specs.Changing.{CommandsChange, IsFirstConfiguration, PrintsAre};
@@ -251,6 +251,9 @@ pub fn histories<D: SectorDisk>()
     // An opening is refused only where a device call failed, where the disk was not formatted for sure, or for a
     // last generation in an older format.
     ensures refusals { RefusalsAreFailures D.disk }
+    // An opening of a journal of format two writes nothing, nor does one that is refused for what stands on the disk.
+    // One of format one is begun anew, once, and what it stands for stays, wherever that is cut short.
+    ensures begun_anew { OpeningsBeginAnew D.disk }
     // A step is answered Idle only where there is no work.
     ensures idle { IdleFindsNoWork D.disk }
     // A call is answered GenerationsSpent only where the journal is at its end.
