@@ -1,8 +1,8 @@
 -- The headline on calls that are refused: for the first reason that holds, and for none that does not.
-use Rattle.std.specs.Prelude.{◌≡◌, ◌≢◌, ◌⊎◌, ◌<◌, ◌≤◌, ◌+◌, ◌-◌, ◌^◌, ℕ, List, [], ◌∷◌, length, slice_range, take, Option, Some, None, Ok, Err}
+use Rattle.std.specs.Prelude.{◌≡◌, ◌≢◌, ◌⊎◌, ◌<◌, ◌≤◌, ◌+◌, ◌-◌, ◌^◌, ℕ, true, false, List, [], ◌∷◌, length, slice_range, take, Option, Some, None, Ok, Err}
 use Rattle.macs_fields.specs.First.{first}
 use Rattle.macs_config.specs.Apply.{LongKey, Named, Reason, refusal_of}
-use Rattle.macs_config.specs.Config.{max_spent}
+use Rattle.macs_config.specs.Config.{first_edition, max_spent, this_edition}
 use Rattle.macs_config.specs.declared.command.Command.{Command}
 use Rattle.macs_config.specs.declared.command.SciMode.{SciMode}
 use Rattle.macs_config.specs.declared.command.SciMode.TheVariants.{EndStation, Explicit, Implicit}
@@ -111,8 +111,11 @@ RefusalsAreExact sectors = (s : State) → Moment sectors s → (call : Call) (r
 
 -- ---- limits
 
--- Sixteen commands may wait; a life has 2^64 - 1 tickets; a side 512 spent keys; a journal begins anew up to generation 2^64 - 1.
+-- Sixteen commands may wait; a life has 2^64 - 1 tickets; a side 512 spent keys; a journal begins anew up to generation 2^64 - 1. The first edition takes 8
+-- receive channels, no long keys and no areas of format two; this one takes 32, and both.
 pub record LimitsAre : Type 0 where
+  pub first_one : (first_edition.channels ≡ 8) × (first_edition.long_keys ≡ false) × (first_edition.format_two ≡ false)
+  pub this_one : (this_edition.channels ≡ 32) × (this_edition.long_keys ≡ true) × (this_edition.format_two ≡ true)
   pub queue : queue_length ≡ 16
   pub tickets : last_ticket ≡ 2 ^ 64 - 1
   pub spent : max_spent ≡ 512

@@ -167,7 +167,8 @@ pub fn headline()
     ensures reasons_are_named { ReasonsAreNamed }
     // A plain frame that is refused for a fault has it.
     ensures faults_are_named { (sectors : ℕ) → FaultsAreNamed sectors }
-    // How many commands may wait, how many tickets and spent keys there are, and how often a journal begins anew.
+    // How many commands may wait, how many tickets and spent keys there are, how often a journal begins anew, and what
+    // this edition and the first one take.
     ensures limits { LimitsAre }
     // After a device fault each call is answered that the endpoint is stopped, and changes nothing; before one none is.
     ensures stopped_stays { (sectors : ℕ) → StoppedStays sectors }
