@@ -105,6 +105,8 @@ numbers b 3 = none
 # A key of 256 bits, and one of 128 bits: both are kept by records and by a snapshot.
 story a long and a short key outlive a power loss and a compaction
 with long=000102030405060708090a0b0c0d0e0f101112131415161718191a1b1c1d1e1f short=000102030405060708090a0b0c0d0e0f
+and loss=last
+and loss=durable
 use new
 tx-install 0 $long 1
 tx-install 1 $short 1
@@ -112,7 +114,7 @@ tx-use 0
 protect 62 = 1
 tx-use 1
 protect 62 = 1
-power-loss last
+power-loss $loss
 open
 next 0 = 5
 next 1 = 5
