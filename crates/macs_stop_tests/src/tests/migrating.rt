@@ -3,10 +3,10 @@
 use super::SECTORS;
 use super::cutting::{Cut, Kind, Stop, format_again, fused, identity};
 use super::disks::{blank, copy, durable};
-use super::judging::open_fused;
+use super::judging::{judge, open_fused};
 use super::known::Known;
 use super::life::take;
-use super::script::SCRIPT;
+use super::script::{Part, SCRIPT};
 use super::stops::{After, Totals, lose_in_each_way};
 use super::tearing::Pending;
 use macs_disk::{MemDisk, SectorDisk};
@@ -16,6 +16,9 @@ use std::process::Abort;
 
 /// How many parts of the script are played before: four commands, and twelve frames each way.
 const PARTS: usize = 5;
+
+/// As many records as an area has slots.
+const AREA: u32 = 256;
 
 /// Where the body of a head has its version, whose last octet this is.
 const VERSION: usize = 11;
@@ -129,4 +132,26 @@ fn openings_behind_a_cut_migration_are_stopped_at_each_call(rt: HostRuntime) {
     };
     let stopped = stop_at_each(&rt, rt.alloc(), CALLS - 2, CALLS, After::StopsMigrations);
     assert!(rt; stopped == totals);
+}
+
+/// The rest of the script goes on from it, with a key of 256 bits, and as many records more as an area has slots:
+/// the journal begins anew over the area that was of format one, whose gates are open.
+fn go_on(rt: &impl Abort, alloc: Global) {
+    let Cut { disk, known } = older(rt, alloc);
+    let mut known = known;
+    match Endpoint::open(disk) {
+        Ok(mut endpoint) => {
+            for part in &SCRIPT[PARTS..] {
+                assert!(rt; take(rt, &mut endpoint, &mut known, *part).is_ok());
+            }
+            assert!(rt; take(rt, &mut endpoint, &mut known, Part::Windows(AREA)).is_ok());
+            judge(rt, endpoint.into_disk(), &known);
+        }
+        Err(_) => panic!(rt; "not opened"),
+    }
+}
+
+#[test]
+fn the_script_goes_on_behind_a_migration(rt: HostRuntime) {
+    go_on(&rt, rt.alloc());
 }
