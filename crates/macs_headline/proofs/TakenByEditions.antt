@@ -72,6 +72,7 @@ editions-take = record {
       full_is edition c command (channels_row edition identity c command (first_row (refusals edition identity c command) (Named ChannelsFull) is));
   long_keys = λ edition identity c command is takes. never-long edition takes identity c command is;
   short_keys = short-keys;
+  two_read = λ edition identity count records two. ap (λ (b : Bool). cond (b && true) (replay_of edition identity count records) None) two;
   formats = λ edition identity count records two short.
       ap (λ (b : Bool). cond (b && true) (replay_of edition identity count records) None) two
       ∙ sym (ap (λ (b : Bool). cond b (replay_of edition identity count records) None) (all-short records short));

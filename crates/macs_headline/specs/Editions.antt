@@ -11,7 +11,7 @@ use Rattle.macs_record.specs.declared.format.Format.TheVariants.{One, Two}
 use Rattle.macs_record.specs.declared.record.Record.{Record}
 use Rattle.macs_record.specs.declared.record.Record.TheVariants as kept
 use Rattle.macs_store.specs.Commands.{command_of}
-use Rattle.macs_store.specs.Replay.{reading_of, standing_after_record}
+use Rattle.macs_store.specs.Replay.{reading_of, replay_of, standing_after_record}
 use Rattle.macs_store.specs.Standing.{Standing, accept}
 use Rattle.macs_endpoint.specs.Restart.{Restart}
 use Rattle.macs_endpoint.specs.State.{Advanced, AdvancedLong, Call, Ran, RefusedLong, Reply, State}
@@ -63,9 +63,9 @@ HasLongKey (kept.RxInstall sci an sa start) = length sa.key ≢ 16
 HasLongKey r = ⊥
 
 -- What an edition takes: one channel more where fewer exist than it takes, and ChannelsFull is answered for no other reason; each key of a command in range
--- where it takes long keys, and else keys of 16 octets alone; and areas of format two, where it reads them, as those of format one where no record is of a long
--- key, and else none; an area of format one with a record of a long key stands for nothing. A record of a command that the edition accepts stands for what the
--- command makes, whatever is installed.
+-- where it takes long keys, and else keys of 16 octets alone; and areas of format two, where it reads them, by their records alone, so as those of format one
+-- where no record is of a long key, and else none; an area of format one with a record of a long key stands for nothing. A record of a command that the
+-- edition accepts stands for what the command makes, whatever is installed.
 pub record EditionsTake : Type 0 where
   pub channels : (edition : Edition) (identity : Identity) (c : Config) (sci : List ℕ) → length c.channels < edition.channels
       → ¬ (refusal_of edition identity c (RxAdd sci) ≡ Some (Named ChannelsFull))
@@ -75,6 +75,8 @@ pub record EditionsTake : Type 0 where
       → ¬ (refusal_of edition identity c command ≡ Some LongKey)
   pub short_keys : (edition : Edition) (identity : Identity) (c new : Config) (command : Command) → edition.long_keys ≡ false
       → apply edition identity c command ≡ Ok new → IfSome (key_in command) (λ key. length key ≡ 16)
+  pub two_read : (edition : Edition) (identity : Identity) (count : ℕ) (records : List Record) → edition.format_two ≡ true
+      → reading_of edition Two identity count records ≡ replay_of edition identity count records
   pub formats : (edition : Edition) (identity : Identity) (count : ℕ) (records : List Record) → edition.format_two ≡ true
       → ((r : Record) → Contains records r → ¬ HasLongKey r)
       → reading_of edition Two identity count records ≡ reading_of edition One identity count records
