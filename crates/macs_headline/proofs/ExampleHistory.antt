@@ -190,7 +190,7 @@ first_steps =
     widening_steps)))
 
 -- A key that is spent is refused.
-refused_by : (b : Bool) (rest : Option Reason) (answer : Config) → b ≡ true → answer_or_refusal (cond b (Some (Named KeySpent)) rest) answer ≡ Err (Named KeySpent)
+pub refused_by : (b : Bool) (rest : Option Reason) (answer : Config) → b ≡ true → answer_or_refusal (cond b (Some (Named KeySpent)) rest) answer ≡ Err (Named KeySpent)
 refused_by true rest answer is = refl
 refused_by false rest answer is = absurd (cc)
 

@@ -186,7 +186,7 @@ default_fit : (role : Role) → length (spent_of role default) ≤ max_spent
 default_fit Transmit = omega arith
 default_fit Receive = omega arith
 
-default_config : IsConfig this_edition example_identity default
+pub default_config : IsConfig this_edition example_identity default
 default_config = record {
   encoding_stands = tt;
   end_station = λ is. absurd (cc);
@@ -222,7 +222,7 @@ served-is-config =
 abbrev pub full_to : Edition → Standing
 full_to edition = record full_standing { edition = edition }
 
-both_some : {A B : Type 0} (b : Bool) (x : A) (y : B) → is_some (cond b (Some x) None) ≡ is_some (cond b (Some y) None)
+pub both_some : {A B : Type 0} (b : Bool) (x : A) (y : B) → is_some (cond b (Some x) None) ≡ is_some (cond b (Some y) None)
 both_some true x y = refl
 both_some false x y = refl
 

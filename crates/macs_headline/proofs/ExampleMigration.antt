@@ -1,36 +1,49 @@
 -- A disk that the first edition of the program formatted, and what an opening makes of it.
-use Rattle.std.proofs.Common.{◌≡◌, ◌≤◌, ◌<◌, ◌+◌, ◌^◌, ◌-◌, ◌++◌, inl, inr, ℕ, true, List, replicate, [], ◌∷◌, Some, Ok, refl, sym, subst, arith}
+use Rattle.std.proofs.Common.{◌≡◌, ◌≤◌, ◌<◌, ◌^◌, ◌-◌, ◌==◌, ◌++◌, ◌∙◌, inl, inr, ℕ, Bool, true, false, cond, List, replicate, [], ◌∷◌, take, Some, None, Ok, Err, refl, sym, ap, subst, arith}
+use Rattle.std.specs.Prelude.{All}
 use Rattle.std.specs.List.{AllByRecursion}
-use Rattle.std.proofs.lemmas.List.Elements.{All-replicate}
+use Rattle.std.specs.Option.{option_map}
+use Rattle.std.proofs.lemmas.List.Elements.{All-from_recursion, All-replicate}
 use Rattle.macs_fields.specs.Fields.{IsOctets}
-use Rattle.macs_config.specs.Config.{Edition, IsUpTo, first_edition, this_edition}
+use Rattle.macs_config.specs.Apply.{Named, apply, config_after}
+use Rattle.macs_config.specs.Config.{Config, Edition, IsConfig, IsUpTo, default, first_edition, is_spent, rx_fingerprint, this_edition, tx_fingerprint}
+use Rattle.macs_config.specs.declared.command.Command.{Command}
+use Rattle.macs_config.specs.declared.refusal.Refusal.TheVariants.{KeySpent}
+use Rattle.macs_config.proofs.Kept.{apply-keeps}
 use Rattle.macs_disk.specs.Disk.{Disk}
 use Rattle.macs_disk.specs.States.{zero_sector}
 use Rattle.macs_record.specs.Heads.{IsHead}
 use Rattle.macs_record.specs.Layout.{IsRecord}
 use Rattle.macs_record.specs.Settings.{default_settings}
 use Rattle.macs_record.specs.declared.record.Record.{Record}
-use Rattle.macs_journal.specs.Areas.{gate, least_sectors}
+use Rattle.macs_journal.specs.Areas.{gate, least_sectors, slots}
 use Rattle.macs_journal.specs.Compacting.{compacted, next_head}
 use Rattle.macs_journal.specs.Found.{HasJournal, IsGateOpen}
+use Rattle.macs_rxsc.specs.Receive.{Numbers, first_numbers, numbers_after_delivery, numbers_after_hold}
 use Rattle.macs_store.specs.Found.{IsToMigrate, StandAlike, StandingIs}
-use Rattle.macs_store.specs.Replay.{meaning_of}
+use Rattle.macs_store.specs.Replay.{meaning_of, snapshot_of}
 use Rattle.macs_store.specs.Snapshot.{rx_records, rx_records_of, snapshot, spent_records, tx_records}
-use Rattle.macs_store.specs.Standing.{new_standing}
-use Rattle.macs_endpoint.specs.Restart.{Fits, Resumes, opened_state}
-use Rattle.macs_endpoint.specs.State.{Commands, RefusedLong, State, no_logs}
-use Rattle.macs_endpoint.specs.Step.{Step}
+use Rattle.macs_store.specs.Standing.{IsStanding, new_standing, no_ceilings}
+use Rattle.macs_store.proofs.Snapshots.{snapshot-stands}
+use Rattle.macs_endpoint.specs.Restart.{Fits, Resumes, TxRises, opened_state}
+use Rattle.macs_endpoint.specs.State.{Commands, RefusedLong, State, rx_side}
+use Rattle.macs_endpoint.specs.Step.{Step, Steps, state_after_command, state_after_delivery, state_after_frame, state_after_hold}
 use Rattle.macs_headline.specs.Binding.{HasHistory}
-use Rattle.macs_headline.specs.Example.{example_identity, example_sectors}
-use Rattle.macs_headline.specs.ExampleMigration.{IsOldDisk, IsWorkedMigration, begun_image, install_long, migrated_image, later_lives, old_content, old_head, old_image, old_lives, old_standing, opened_end}
-use Rattle.macs_headline.specs.ExampleLives.{answered}
+use Rattle.macs_headline.specs.Example.{add_peer, example_identity, example_plain, example_sectors, install_own, install_own_again, install_peer, install_peer_again, own_key, own_sa, peer_frame, peer_key, peer_sa, peer_sci, use_own}
+use Rattle.macs_headline.specs.ExampleMigration.{IsOldDisk, IsWorkedMigration, begun_image, install_long, later_lives, long_config, long_content, long_exchanges, long_image, long_records, long_standing, migrated_content, migrated_image, old_content, old_exchanges, old_head, old_image, old_lives, old_records, spent_exchanges, used_config, used_content, used_image, used_records, used_standing}
 use Rattle.macs_headline.specs.History.{Blank, Formats, Formatted, IsHistory, IsLifeSoFar, Leads, formatted_state}
 use Rattle.macs_headline.specs.Images.{blank_image}
-use Rattle.macs_headline.proofs.Built.{closed-gate, opened-found, opened-other}
-use Rattle.macs_headline.proofs.BuiltAnew.{anew-found, written-found}
+use Rattle.macs_headline.proofs.Built.{area-other, closed-gate, opened-found, opened-other, records-found, records-other}
+use Rattle.macs_headline.proofs.BuiltAnew.{anew-found, meaning-anew, meaning-more, written-found}
 use Rattle.macs_headline.proofs.Chains.{settled-disks}
-use Rattle.macs_headline.proofs.ExampleRecords.{head-range}
+use Rattle.macs_headline.proofs.ExampleFits.{away, rx_all}
+use Rattle.macs_headline.proofs.ExampleFrames.{arrival, peer-arrives}
+use Rattle.macs_headline.proofs.ExampleHistory.{refused_by}
+use Rattle.macs_headline.proofs.ExampleImages.{both_some, default_config}
+use Rattle.macs_headline.proofs.ExampleRecords.{head-range, key-range, long-key-range, peer-range, print_range}
+use Rattle.macs_headline.proofs.ExampleStates.{outgoing}
 use Rattle.macs_headline.proofs.Older.{older}
+use Rattle.macs_headline.proofs.Places.{put-that, put_rx}
 
 -- ---- images
 
@@ -45,7 +58,7 @@ old_range = record {
   rx_block = head-range.rx_block;
 }
 
-next_range : IsHead (next_head old_head 1)
+next_range : IsHead (next_head used_content.head 3)
 next_range = record {
   generation = omega arith;
   generations = omega arith;
@@ -59,6 +72,30 @@ next_range = record {
 settings_range : AllByRecursion IsRecord (default_settings ∷ [])
 settings_range = ((omega arith, tt), tt)
 
+old_ranges : AllByRecursion IsRecord old_records
+old_ranges = ((omega arith, inl (key-range 1 (omega arith)), (omega arith, omega arith)), (omega arith, tt))
+
+used_ranges : AllByRecursion IsRecord used_records
+used_ranges = (
+  (omega arith, omega arith),
+  (
+    (omega arith, inl (key-range 1 (omega arith)), (omega arith, omega arith)),
+    ((omega arith, omega arith, All-from_recursion (IsOctets 32) (tx_fingerprint own_key ∷ []) (print_range own_key, tt)), tt),
+  ),
+)
+
+long_ranges : AllByRecursion IsRecord long_records
+long_ranges = (
+  (omega arith, (omega arith, omega arith)),
+  (
+    peer-range,
+    (
+      (peer-range, omega arith, inr (long-key-range 2 (omega arith)), (omega arith, omega arith)),
+      ((peer-range, omega arith, (omega arith, omega arith)), tt),
+    ),
+  ),
+)
+
 far_old : (i : ℕ) → 514 ≤ i → old_image i ≡ zero_sector
 far_old i far =
     opened-other blank_image 0 old_head (default_settings ∷ []) i (omega (arith, far)) (omega (arith, far)) (λ j lt. omega (arith, far, lt))
@@ -71,40 +108,98 @@ old_found =
     opened-found blank_image 0 old_head (default_settings ∷ []) (omega arith) old_range refl (omega arith) settings_range
     (λ j lt. closed-gate blank_image 0 (j + 1) refl) (λ opens. absurd (closed_old 0 opens))
 
-begun_found : HasJournal begun_image old_content
-begun_found = written-found old_image old_content old_found 1 refl (next_head old_head 1) (default_settings ∷ []) (omega arith) (closed_old 0)
+used_found : HasJournal used_image used_content
+used_found = records-found old_records old_image old_content (omega arith) old_ranges old_found
 
-migrated_found : HasJournal migrated_image (compacted old_content (default_settings ∷ []))
-migrated_found = anew-found old_image old_content old_found 1 refl (default_settings ∷ []) next_range (omega arith) settings_range (λ k le. closed_old k)
+far_used : (i : ℕ) → 514 ≤ i → used_image i ≡ zero_sector
+far_used i far = records-other old_records old_image old_content i (omega arith) far ∙ far_old i far
+
+closed_used : (k : ℕ) → ¬ IsGateOpen used_image 1 k
+closed_used k = closed-gate used_image 1 k (far_used (gate 1 k) (omega arith))
+
+begun_found : HasJournal begun_image used_content
+begun_found = written-found used_image used_content used_found 1 refl (next_head used_content.head 3) (take 2 used_records) (omega arith) (closed_used 0)
+
+begun_closed : (k : ℕ) → k ≤ slots → ¬ IsGateOpen begun_image 1 k
+begun_closed k le =
+    closed-gate begun_image 1 k
+    (area-other used_image 1 (next_head used_content.head 3) (take 2 used_records) (gate 1 k) (omega arith) (λ j lt. omega arith) ∙ far_used (gate 1 k) (omega arith))
+
+migrated_found : HasJournal migrated_image migrated_content
+migrated_found = anew-found begun_image used_content begun_found 1 refl used_records next_range (omega arith) used_ranges begun_closed
+
+long_found : HasJournal long_image long_content
+long_found = records-found long_records migrated_image migrated_content (omega arith) long_ranges migrated_found
 
 -- ---- what they stand for
 
 old_meaning : (edition : Edition) → meaning_of edition old_content ≡ Some (new_standing edition example_identity)
 old_meaning edition = refl
 
-old_snapshot : snapshot old_standing ≡ default_settings ∷ []
-unfolding snapshot tx_records rx_records rx_records_of spent_records
-old_snapshot = refl
+used_first : meaning_of first_edition used_content ≡ Some (used_standing first_edition)
+used_first = refl
 
-old_is : IsToMigrate this_edition old_image old_content old_standing
-old_is = record {
-  is = record { found = old_found; stands = old_meaning this_edition; old = refl };
+used_this : meaning_of this_edition used_content ≡ Some (used_standing this_edition)
+used_this = refl
+
+-- a command that is accepted
+next_config : (old new : Config) (command : Command) → apply this_edition example_identity old command ≡ Ok new → IsConfig this_edition example_identity old
+    → IsConfig this_edition example_identity new
+next_config old new command done is = apply-keeps this_edition example_identity old new command done is
+
+used_is_config : IsConfig this_edition example_identity used_config
+used_is_config =
+    let installed = config_after default install_own in
+    next_config installed used_config use_own refl (next_config default installed install_own refl default_config)
+
+long_is_config : IsConfig this_edition example_identity long_config
+long_is_config =
+    let added = config_after used_config add_peer in
+    next_config added long_config install_peer refl (next_config used_config added add_peer refl used_is_config)
+
+used_stands : IsStanding (used_standing this_edition)
+used_stands = record { tx = λ an. both_some (an == 0) 5 own_sa; rx = λ sci an. refl }
+
+snapshot_is : snapshot (used_standing this_edition) ≡ used_records
+unfolding snapshot tx_records rx_records rx_records_of spent_records
+snapshot_is = refl
+
+snapshot_meaning : snapshot_of this_edition example_identity used_records ≡ Some (used_standing this_edition)
+snapshot_meaning =
+    subst (λ (rs : List Record). snapshot_of this_edition example_identity rs ≡ Some (used_standing this_edition)) snapshot_is
+    (snapshot-stands (used_standing this_edition) used_is_config used_stands
+    (λ an above. put-that (λ an. None) 0 an (Some own_sa) (omega (arith, above))) (λ sci an above. refl))
+
+migrated_meaning : meaning_of this_edition migrated_content ≡ Some (used_standing this_edition)
+migrated_meaning = meaning-anew this_edition used_content used_records (used_standing this_edition) refl snapshot_meaning
+
+long_meaning : meaning_of this_edition long_content ≡ Some long_standing
+long_meaning =
+    meaning-more this_edition long_records migrated_content (used_standing this_edition) long_standing (omega arith) refl migrated_meaning refl
+
+used_is : IsToMigrate this_edition used_image used_content (used_standing this_edition)
+used_is = record {
+  is = record { found = used_found; stands = used_this; old = refl };
   next = λ last. let same : 1 ≡ 2 ^ 64 - 1 = last in absurd (omega (arith, same));
 }
 
-old_alike : StandAlike this_edition old_image migrated_image
-old_alike = record {
-  standing = old_standing;
-  first = record { content = old_content; found = old_found; stands = old_meaning this_edition };
-  second = record { content = compacted old_content (default_settings ∷ []); found = migrated_found; stands = refl };
+used_alike : StandAlike this_edition used_image migrated_image
+used_alike = record {
+  standing = used_standing this_edition;
+  first = record { content = used_content; found = used_found; stands = used_this };
+  second = record { content = migrated_content; found = migrated_found; stands = migrated_meaning };
 }
 
--- ---- the history
+-- ---- the life of the first edition
 
 formatted_life : Leads example_sectors (Blank []) (Formats first_edition example_identity true) (Formatted (formatted_state first_edition example_identity))
 formatted_life = refl
 
-old_fits : (sectors : ℕ) → least_sectors ≤ sectors → Fits first_edition sectors old_image (formatted_state first_edition example_identity)
+-- the state behind the `format`
+abbrev made : State
+made = formatted_state first_edition example_identity
+
+old_fits : (sectors : ℕ) → least_sectors ≤ sectors → Fits first_edition sectors old_image made
 old_fits sectors large = record {
   found = new_standing first_edition example_identity;
   is_found = (large, record { content = old_content; found = old_found; stands = old_meaning first_edition });
@@ -122,50 +217,68 @@ old_fits sectors large = record {
   });
 }
 
--- the state of that edition, which a refused command leaves
-abbrev refusing : State
-refusing = formatted_state first_edition example_identity
+-- the endpoint's own association is installed and used, and a frame goes out
+abbrev r1 : State
+r1 = state_after_command made install_own (config_after default install_own)
+
+abbrev r2 : State
+r2 = state_after_command r1 use_own used_config
+
+abbrev old_end : State
+old_end = state_after_frame r2 (outgoing 1)
 
 long_range : IsOctets 32 (replicate 32 7)
 long_range = record { size = refl; each = All-replicate (λ octet. octet < 2 ^ 8) 32 7 (omega arith) }
 
-refused_long : Step refusing (Commands install_long) RefusedLong refusing
+plain_range : All (λ octet. octet < 2 ^ 8) example_plain
+plain_range = All-replicate (λ octet. octet < 2 ^ 8) 14 0 (omega arith)
+
+refused_long : Step made (Commands install_long) RefusedLong made
 refused_long = inr (refl, (refl, refl, refl))
 
+old_steps : Steps made old_exchanges old_end
+old_steps = (
+  made,
+  refused_long,
+  (
+    r1,
+    inr (refl, (refl, (config_after default install_own, refl, refl))),
+    (
+      r2,
+      inr (refl, (refl, (used_config, refl, refl))),
+      (
+        old_end,
+        inr (refl, (refl, (outgoing 1, refl, refl, refl, refl))),
+        refl,
+      ),
+    ),
+  ),
+)
+
 old_life : (sectors : ℕ) → least_sectors ≤ sectors
-    → IsLifeSoFar sectors (Formatted refusing) first_edition old_image (answered (Commands install_long) RefusedLong ∷ []) refusing
+    → IsLifeSoFar sectors (Formatted made) first_edition old_image old_exchanges old_end
 old_life sectors large = record {
   fits = old_fits sectors large;
   found = new_standing first_edition example_identity;
   is_found = (large, record { content = old_content; found = old_found; stands = old_meaning first_edition });
-  in_range = ((omega arith, inr long_range, omega arith, omega arith), tt);
-  steps = (refusing, refused_long, refl);
+  in_range = (
+    (omega arith, inr long_range, omega arith, omega arith),
+    ((omega arith, inl (key-range 1 (omega arith)), omega arith, omega arith), (omega arith, (plain_range, tt))),
+  );
+  steps = old_steps;
 }
 
-old_history : (disk : Disk) → IsOldDisk disk → HasHistory first_edition disk old_lives
-old_history disk is =
-    let past = Formatted refusing in
-    let size = is.size in
-    let large : least_sectors ≤ disk.sectors = omega (arith, size) in
-    settled-disks first_edition disk old_lives past old_image is.honest is.settled
-    (past, formatted_life, (past, (refusing, old_life disk.sectors large, tt, refl), refl)) (old_fits disk.sectors large)
+tx_old : (own : Bool) → TxRises 4 (cond own (Some 2) (cond own (Some 1) None)) (cond own (Some 5) None)
+tx_old true = (5, refl, omega arith, omega arith, omega arith)
+tx_old false = refl
 
-up_to_this : IsUpTo first_edition this_edition
-up_to_this = record { channels = omega arith; long_keys = λ is. refl; format_two = λ is. refl }
-
-begun_is : StandingIs this_edition example_sectors begun_image (Ok old_standing)
-begun_is = (omega arith, record { content = old_content; found = begun_found; stands = old_meaning this_edition })
-
-migrated_is : StandingIs this_edition example_sectors migrated_image (Ok old_standing)
-migrated_is = (omega arith, record { content = compacted old_content (default_settings ∷ []); found = migrated_found; stands = refl })
-
--- an opening of this edition resumes what an edition left, where nothing was installed
-resumes_as : (edition : Edition) → IsUpTo edition this_edition → Resumes (opened_state (new_standing edition example_identity) no_logs) opened_end
-resumes_as edition up_to = record {
+-- an edition resumes what that life left
+old_resumed : (edition : Edition) → IsUpTo first_edition edition → Resumes old_end (opened_state (used_standing edition) old_end.logs)
+old_resumed edition up_to = record {
   edition = up_to;
   identity = refl;
   config = refl;
-  next = λ an. refl;
+  next = λ an. tx_old (an == 0);
   numbers = λ sci an. refl;
   logs = refl;
   running = refl;
@@ -174,53 +287,214 @@ resumes_as edition up_to = record {
   tickets = refl;
 }
 
-up_to_itself : IsUpTo this_edition this_edition
-up_to_itself = record { channels = omega arith; long_keys = λ is. is; format_two = λ is. is }
+up_to_this : IsUpTo first_edition this_edition
+up_to_this = record { channels = omega arith; long_keys = λ is. refl; format_two = λ is. refl }
 
-life_after_cut : IsLifeSoFar example_sectors (Formatted (formatted_state first_edition example_identity)) this_edition begun_image [] opened_end
-life_after_cut = record {
-  fits = record { found = old_standing; is_found = begun_is; restart = inl (resumes_as first_edition up_to_this) };
-  found = old_standing;
-  is_found = begun_is;
-  in_range = tt;
-  steps = refl;
+up_to_itself : (edition : Edition) → IsUpTo edition edition
+up_to_itself edition = record { channels = omega arith; long_keys = λ is. is; format_two = λ is. is }
+
+used_fits : (sectors : ℕ) → least_sectors ≤ sectors → Fits first_edition sectors used_image old_end
+used_fits sectors large = record {
+  found = used_standing first_edition;
+  is_found = (large, record { content = used_content; found = used_found; stands = used_first });
+  restart = inl (old_resumed first_edition (up_to_itself first_edition));
 }
 
-life_anew : IsLifeSoFar example_sectors (Formatted opened_end) this_edition migrated_image [] opened_end
-life_anew = record {
-  fits = record { found = old_standing; is_found = migrated_is; restart = inl (resumes_as this_edition up_to_itself) };
-  found = old_standing;
-  is_found = migrated_is;
-  in_range = tt;
-  steps = refl;
-}
+old_history : (disk : Disk) → IsOldDisk disk → HasHistory first_edition disk old_lives
+old_history disk is =
+    let past = Formatted made in
+    let size = is.size in
+    let large : least_sectors ≤ disk.sectors = omega (arith, size) in
+    settled-disks first_edition disk old_lives (Formatted old_end) used_image is.honest is.settled
+    (past, formatted_life, (Formatted old_end, (old_end, old_life disk.sectors large, tt, refl), refl)) (used_fits disk.sectors large)
 
-whole_history : IsHistory example_sectors (old_lives ++ later_lives) (Formatted opened_end)
-whole_history = (
-  Formatted refusing,
-  formatted_life,
+-- ---- the lives of this edition
+
+begun_is : StandingIs this_edition example_sectors begun_image (Ok (used_standing this_edition))
+begun_is = (omega arith, record { content = used_content; found = begun_found; stands = used_this })
+
+long_is : StandingIs this_edition example_sectors long_image (Ok long_standing)
+long_is = (omega arith, record { content = long_content; found = long_found; stands = long_meaning })
+
+abbrev a0 : State
+a0 = opened_state (used_standing this_edition) old_end.logs
+
+-- frame 5
+abbrev a1 : State
+a1 = state_after_frame a0 (outgoing 5)
+
+-- the peer's channel, and its association
+abbrev a2 : State
+a2 = state_after_command a1 add_peer (config_after used_config add_peer)
+
+abbrev a3 : State
+a3 = state_after_command a2 install_peer long_config
+
+-- its numbers, before the frame comes, once it is held back, and once it is delivered
+abbrev before_frame : Numbers
+before_frame = first_numbers 1
+
+abbrev after_hold : Numbers
+after_hold = numbers_after_hold before_frame 5
+
+abbrev after_delivery : Numbers
+after_delivery = numbers_after_delivery 0 after_hold 5
+
+abbrev a4 : State
+a4 = state_after_hold a3 (arrival before_frame)
+
+abbrev long_end : State
+long_end = state_after_delivery a4 (arrival after_hold)
+
+abbrev b0 : State
+b0 = opened_state long_standing long_end.logs
+
+abbrev last_end : State
+last_end = state_after_frame b0 (outgoing 9)
+
+long_steps : Steps a0 long_exchanges long_end
+long_steps = (
+  a0,
+  inr (refl, (refl, refl)),
   (
-    Formatted refusing,
-    (refusing, old_life example_sectors (omega arith), tt, refl),
+    a1,
+    inr (refl, (refl, (outgoing 5, refl, refl, refl, refl))),
     (
-      Formatted opened_end,
-      (opened_end, life_after_cut, tt, refl),
+      a2,
+      inr (refl, (refl, (config_after used_config add_peer, refl, refl))),
       (
-        Formatted opened_end,
-        (opened_end, life_anew, tt, refl),
+        a3,
+        inr (refl, (refl, (long_config, refl, refl))),
+        (
+          a4,
+          inr (refl, inr (arrival before_frame, peer-arrives (rx_side a3) before_frame refl refl refl (λ on late. omega (arith, late)), inl (refl, omega arith, refl, refl))),
+          (
+            a4,
+            inr (refl, (refl, refl)),
+            (
+              long_end,
+              inr (refl, inr (arrival after_hold, peer-arrives (rx_side a4) after_hold refl refl refl (λ on late. omega (arith, late)), inr (refl, refl, refl))),
+              refl,
+            ),
+          ),
+        ),
+      ),
+    ),
+  ),
+)
+
+own_spent : apply this_edition example_identity long_config install_own_again ≡ Err (Named KeySpent)
+own_spent =
+    refused_by (is_spent long_config.spent_tx (tx_fingerprint own_key)) None (config_after long_config install_own_again)
+    (long_is_config.tx_spent 0 own_sa (omega arith) refl)
+
+peer_spent : apply this_edition example_identity long_config install_peer_again ≡ Err (Named KeySpent)
+peer_spent =
+    refused_by (is_spent long_config.spent_rx (rx_fingerprint peer_sci peer_key)) None (config_after long_config install_peer_again)
+    (long_is_config.rx_spent peer_sci 0 peer_sa (omega arith) refl)
+
+spent_steps : Steps b0 spent_exchanges last_end
+spent_steps = (
+  b0,
+  inr (refl, (refl, own_spent, refl)),
+  (
+    b0,
+    inr (refl, (refl, peer_spent, refl)),
+    (
+      b0,
+      inr (refl, (refl, refl)),
+      (
+        last_end,
+        inr (refl, (refl, (outgoing 9, refl, refl, refl, refl))),
         refl,
       ),
     ),
   ),
 )
 
-pub is-worked-migration : IsWorkedMigration
-is-worked-migration = record {
-  formatted = old_history;
-  ours = λ disk is. older first_edition this_edition up_to_this disk old_lives (old_history disk is);
-  old = old_is;
-  begun = begun_found;
-  anew = subst (λ (records : List Record). HasJournal migrated_image (compacted old_content records)) (sym old_snapshot) migrated_found;
-  alike = old_alike;
-  history = whole_history;
+tx_long : (own : Bool) → TxRises 4 (cond own (Some 6) (cond own (Some 5) None)) (cond own (Some 9) (cond own (Some 5) None))
+tx_long true = (9, refl, omega arith, omega arith, omega arith)
+tx_long false = refl
+
+fits_begun : Fits this_edition example_sectors begun_image old_end
+fits_begun = record { found = used_standing this_edition; is_found = begun_is; restart = inl (old_resumed this_edition up_to_this) }
+
+fits_long : Fits this_edition example_sectors long_image long_end
+fits_long = record {
+  found = long_standing;
+  is_found = long_is;
+  restart = inl (record {
+    edition = up_to_itself this_edition;
+    identity = refl;
+    config = refl;
+    next = λ an. tx_long (an == 0);
+    numbers = rx_all long_end.numbers b0.numbers (9, refl, omega arith, omega arith) (λ sci an apart. (
+      away a4.numbers (Some after_delivery) sci an apart ∙ away a3.numbers (Some after_hold) sci an apart ∙ away a2.numbers (Some before_frame) sci an apart,
+      ap (option_map first_numbers) (away (put_rx no_ceilings.rx peer_sci 0 (Some 1)) (Some 9) sci an apart ∙ away no_ceilings.rx (Some 1) sci an apart),
+    ));
+    logs = refl;
+    running = refl;
+    idle = refl;
+    waiting = refl;
+    tickets = refl;
+  });
 }
+
+module _ (peer : All (λ octet. octet < 2 ^ 8) (peer_frame 5)) where
+  long_life : IsLifeSoFar example_sectors (Formatted old_end) this_edition begun_image long_exchanges long_end
+  long_life = record {
+    fits = fits_begun;
+    found = used_standing this_edition;
+    is_found = begun_is;
+    in_range = (
+      tt,
+      (plain_range, (peer-range, ((peer-range, omega arith, inr (long-key-range 2 (omega arith)), omega arith, omega arith), (peer, (tt, (peer, tt)))))),
+    );
+    steps = long_steps;
+  }
+
+  last_life : IsLifeSoFar example_sectors (Formatted long_end) this_edition long_image spent_exchanges last_end
+  last_life = record {
+    fits = fits_long;
+    found = long_standing;
+    is_found = long_is;
+    in_range = (
+      (omega arith, inl (key-range 1 (omega arith)), omega arith, omega arith),
+      ((peer-range, omega arith, inr (long-key-range 2 (omega arith)), omega arith, omega arith), (tt, (plain_range, tt))),
+    );
+    steps = spent_steps;
+  }
+
+  whole_history : IsHistory example_sectors (old_lives ++ later_lives) (Formatted last_end)
+  whole_history = (
+    Formatted made,
+    formatted_life,
+    (
+      Formatted old_end,
+      (old_end, old_life example_sectors (omega arith), tt, refl),
+      (
+        Formatted long_end,
+        (long_end, long_life, tt, refl),
+        (
+          Formatted last_end,
+          (last_end, last_life, tt, refl),
+          refl,
+        ),
+      ),
+    ),
+  )
+
+  pub is-worked-migration : IsWorkedMigration
+  is-worked-migration = record {
+    formatted = old_history;
+    ours = λ disk is. older first_edition this_edition up_to_this disk old_lives (old_history disk is);
+    old = used_is;
+    begun = begun_found;
+    anew = subst (λ (records : List Record). HasJournal migrated_image (compacted used_content records)) (sym snapshot_is) migrated_found;
+    alike = used_alike;
+    form = refl;
+    last = last_end;
+    history = whole_history;
+    used = refl;
+    given = refl;
+  }

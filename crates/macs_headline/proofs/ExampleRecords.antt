@@ -54,7 +54,7 @@ digest_range h zero = All-nil IsOctet
 digest_range h (suc n) = All-append IsOctet (digest_bytes h n) (to_be_bytes w32 (slice_index h n)) (digest_range h n) (word-range (slice_index h n))
 
 -- a fingerprint has 32 octets
-print_range : (octets : List ℕ) → IsOctets 32 (sha256 octets)
+pub print_range : (octets : List ℕ) → IsOctets 32 (sha256 octets)
 unfolding sha256
 print_range octets = record { size = length-sha256 octets; each = digest_range (final_hash initial_hash_256 octets) 8 }
 

@@ -289,11 +289,14 @@ pub fn worked_history()
     peer_frame_in_range();
 }
 
-/// A disk that the first edition of the program formatted has that history to this one too, whose opening begins
-/// its journal anew: what it stands for does not change.
+/// A disk that the first edition of the program formatted, and from which it sent a frame, has that history to this
+/// one too, whose opening begins its journal anew: what it stands for does not change, and lives go on from it with
+/// keys of both lengths.
 pub fn worked_migration()
     ensures { IsWorkedMigration }
-{}
+{
+    peer_frame_in_range();
+}
 
 /// A disk of zeros in memory is new.
 pub fn new_disks()
