@@ -10,19 +10,20 @@ use Rattle.macs_config.specs.Config.{Config, Edition, IsConfig, IsUpTo, default,
 use Rattle.macs_config.specs.declared.command.Command.{Command}
 use Rattle.macs_config.specs.declared.refusal.Refusal.TheVariants.{KeySpent}
 use Rattle.macs_config.proofs.Kept.{apply-keeps}
-use Rattle.macs_disk.specs.Disk.{Disk}
+use Rattle.macs_disk.specs.Disk.{Disk, MayLeave}
 use Rattle.macs_disk.specs.States.{zero_sector}
-use Rattle.macs_record.specs.Heads.{IsHead}
-use Rattle.macs_record.specs.Layout.{IsRecord}
+use Rattle.macs_record.specs.Heads.{IsHead, head_sector_of}
+use Rattle.macs_record.specs.Layout.{IsRecord, sector_of}
 use Rattle.macs_record.specs.Settings.{default_settings}
 use Rattle.macs_record.specs.declared.record.Record.{Record}
-use Rattle.macs_journal.specs.Areas.{gate, least_sectors, slots}
+use Rattle.macs_record.specs.declared.record.Record.TheVariants as kept
+use Rattle.macs_journal.specs.Areas.{gate, head_body, least_sectors, slot_body, slots}
 use Rattle.macs_journal.specs.Compacting.{compacted, next_head}
 use Rattle.macs_journal.specs.Found.{HasJournal, IsGateOpen}
 use Rattle.macs_rxsc.specs.Receive.{Numbers, first_numbers, numbers_after_delivery, numbers_after_hold}
 use Rattle.macs_store.specs.Found.{IsToMigrate, StandAlike, StandingIs}
 use Rattle.macs_store.specs.Replay.{meaning_of, snapshot_of}
-use Rattle.macs_store.specs.Snapshot.{rx_records, rx_records_of, snapshot, spent_records, tx_records}
+use Rattle.macs_store.specs.Snapshot.{rx_records, rx_records_of, settings_record, snapshot, spent_records, tx_records}
 use Rattle.macs_store.specs.Standing.{IsStanding, new_standing, no_ceilings}
 use Rattle.macs_store.proofs.Snapshots.{snapshot-stands}
 use Rattle.macs_endpoint.specs.Restart.{Fits, Resumes, TxRises, opened_state}
@@ -30,12 +31,14 @@ use Rattle.macs_endpoint.specs.State.{Commands, RefusedLong, State, rx_side}
 use Rattle.macs_endpoint.specs.Step.{Step, Steps, state_after_command, state_after_delivery, state_after_frame, state_after_hold}
 use Rattle.macs_headline.specs.Binding.{HasHistory}
 use Rattle.macs_headline.specs.Example.{add_peer, example_identity, example_plain, example_sectors, install_own, install_own_again, install_peer, install_peer_again, own_key, own_sa, peer_frame, peer_key, peer_sa, peer_sci, use_own}
-use Rattle.macs_headline.specs.ExampleMigration.{IsOldDisk, IsWorkedMigration, begun_image, install_long, later_lives, long_config, long_content, long_exchanges, long_image, long_records, long_standing, migrated_content, migrated_image, old_content, old_exchanges, old_head, old_image, old_lives, old_records, spent_exchanges, used_config, used_content, used_image, used_records, used_standing}
+use Rattle.macs_headline.specs.ExampleCuts.{body_writes, state_after_writes}
+use Rattle.macs_headline.specs.ExampleMigration.{IsOldDisk, IsWorkedMigration, beginning_disk, begun_image, install_long, later_lives, long_config, long_content, long_exchanges, long_image, long_records, long_standing, migrated_content, migrated_image, old_content, old_exchanges, old_head, old_image, old_lives, old_records, spent_exchanges, used_config, used_content, used_image, used_records, used_standing}
 use Rattle.macs_headline.specs.History.{Blank, Formats, Formatted, IsHistory, IsLifeSoFar, Leads, formatted_state}
-use Rattle.macs_headline.specs.Images.{blank_image}
+use Rattle.macs_headline.specs.Images.{blank_image, image_with_area, image_with_bodies}
 use Rattle.macs_headline.proofs.Built.{area-other, closed-gate, opened-found, opened-other, records-found, records-other}
 use Rattle.macs_headline.proofs.BuiltAnew.{anew-found, meaning-anew, meaning-more, written-found}
 use Rattle.macs_headline.proofs.Chains.{settled-disks}
+use Rattle.macs_headline.proofs.ExampleCuts.{head-sector, record_sector, torn_kept, torn_whole}
 use Rattle.macs_headline.proofs.ExampleFits.{away, rx_all}
 use Rattle.macs_headline.proofs.ExampleFrames.{arrival, peer-arrives}
 use Rattle.macs_headline.proofs.ExampleHistory.{refused_by}
@@ -119,6 +122,21 @@ closed_used k = closed-gate used_image 1 k (far_used (gate 1 k) (omega arith))
 
 begun_found : HasJournal begun_image used_content
 begun_found = written-found used_image used_content used_found 1 refl (next_head used_content.head 3) (take 2 used_records) (omega arith) (closed_used 0)
+
+-- three sectors are pending, and a power loss may leave in each what was written
+left_begun : MayLeave beginning_disk begun_image
+unfolding state_after_writes body_writes image_with_area image_with_bodies
+left_begun =
+    let settings = settings_record used_config in
+    let own = kept.TxSa 0 own_sa 5 in
+    let head = next_head used_content.head 3 in
+    record {
+      kept = λ i clean.
+          torn_kept (i == head_body 1) (i == slot_body 1 0) (i == slot_body 1 1) (head_sector_of head) (sector_of settings) (sector_of own) (used_image i) clean;
+      whole = λ i pending.
+          torn_whole (i == head_body 1) (i == slot_body 1 0) (i == slot_body 1 1) (head_sector_of head) (sector_of settings) (sector_of own) (used_image i)
+          (head-sector head next_range) (record_sector settings used_ranges.0 refl) (record_sector own used_ranges.1.0 refl) pending;
+    }
 
 begun_closed : (k : ℕ) → k ≤ slots → ¬ IsGateOpen begun_image 1 k
 begun_closed k le =
@@ -489,6 +507,7 @@ module _ (peer : All (λ octet. octet < 2 ^ 8) (peer_frame 5)) where
     formatted = old_history;
     ours = λ disk is. older first_edition this_edition up_to_this disk old_lives (old_history disk is);
     old = used_is;
+    left_begun = left_begun;
     begun = begun_found;
     anew = subst (λ (records : List Record). HasJournal migrated_image (compacted used_content records)) (sym snapshot_is) migrated_found;
     alike = used_alike;

@@ -7,7 +7,7 @@ use Rattle.macs_config.specs.declared.command.Command.{Command}
 use Rattle.macs_config.specs.declared.command.Command.TheVariants.{TxInstall}
 use Rattle.macs_config.specs.declared.command.Role.TheVariants.{Transmit}
 use Rattle.macs_config.specs.declared.refusal.Refusal.TheVariants.{KeySpent}
-use Rattle.macs_disk.specs.Disk.{Disk, IsHonest, now}
+use Rattle.macs_disk.specs.Disk.{Disk, IsHonest, MayLeave, now}
 use Rattle.macs_disk.specs.States.{Image, settled_state}
 use Rattle.macs_record.specs.Heads.{Head}
 use Rattle.macs_record.specs.Settings.{default_settings}
@@ -26,6 +26,7 @@ use Rattle.macs_endpoint.specs.State.{Commands, RefusedLong, State}
 use Rattle.macs_endpoint.specs.Step.{Exchange}
 use Rattle.macs_headline.specs.Binding.{HasHistory}
 use Rattle.macs_headline.specs.Example.{add_peer, example_identity, example_plain, example_sectors, install_own, install_own_again, install_peer, install_peer_again, own_key, own_sa, peer_sa, peer_sci, use_own}
+use Rattle.macs_headline.specs.ExampleCuts.{compaction_states, disk_through}
 use Rattle.macs_headline.specs.ExampleLives.{answered, obeyed, own_use, peer_delivery, received, refilled, refused, sent}
 use Rattle.macs_headline.specs.History.{Formats, Formatted, IsHistory, Life, Serves}
 use Rattle.macs_headline.specs.Images.{blank_image, compacted_image, content_with_records, image_while_compacted, image_with_area, image_with_open_head, image_with_records}
@@ -95,6 +96,10 @@ used_records = settings_record used_config ∷ kept.TxSa 0 own_sa 5 ∷ kept.Spe
 abbrev pub begun_image : Image
 begun_image = image_while_compacted used_image used_content 3 (take 2 used_records)
 
+-- The disk then, from the call on that is next to find it: 257 reads of gates and a sync changed nothing, and three writes followed.
+abbrev pub beginning_disk : Disk
+beginning_disk = disk_through (compaction_states used_image used_content used_records) 261
+
 -- the next one finishes that: the journal is in the second area, in format two
 abbrev pub migrated_content : Content
 migrated_content = compacted used_content used_records
@@ -134,7 +139,8 @@ long_standing = record {
   edition = this_edition;
   identity = example_identity;
   config = long_config;
-  ceilings = ceilings_with_rx (ceilings_with_rx (ceilings_with_tx (ceilings_with_tx no_ceilings 0 (Some 5)) 0 (Some 9)) peer_sci 0 (Some 1)) peer_sci 0 (Some 9);
+  ceilings = ceilings_with_rx (ceilings_with_rx (ceilings_with_tx (ceilings_with_tx no_ceilings 0 (Some 5)) 0 (Some 9)) peer_sci 0 (Some 1)) peer_sci 0
+      (Some 9);
 }
 
 -- Both keys are spent, and a frame goes out with number 9.
@@ -145,13 +151,15 @@ spent_exchanges = refused install_own_again KeySpent ∷ refused install_peer_ag
 abbrev pub later_lives : List Life
 later_lives = Serves this_edition begun_image long_exchanges None ∷ Serves this_edition long_image spent_exchanges None ∷ []
 
--- Such a disk has that history to the edition that formatted it, and so to this one, which names no such refusal. To this one it is to begin anew. While that is
--- done it stands for what it stood for, and so it does once it is done, in the second area and in format two. So lives of this edition go on from it: with keys of
--- both lengths, side by side. Over all of them three frames went out under the short key, and one was delivered under the long one.
+-- Such a disk has that history to the edition that formatted it, and so to this one, which names no such refusal. To this one it is to begin anew. While that
+-- is done, also where a power loss cuts it, it stands for what it stood for, and so it does once it is done, in the second area and in format two. So lives of
+-- this edition go on from it, with keys of both lengths side by side. Over all of them three frames went out under the short key, and one was delivered under
+-- the long one.
 pub record IsWorkedMigration : Type 0 where
   pub formatted : (disk : Disk) → IsOldDisk disk → HasHistory first_edition disk old_lives
   pub ours : (disk : Disk) → IsOldDisk disk → HasHistory this_edition disk old_lives
   pub old : IsToMigrate this_edition used_image used_content (used_standing this_edition)
+  pub left_begun : MayLeave beginning_disk begun_image
   pub begun : HasJournal begun_image used_content
   pub anew : HasJournal migrated_image (compacted used_content (snapshot (used_standing this_edition)))
   pub alike : StandAlike this_edition used_image migrated_image
