@@ -104,6 +104,7 @@ beginning_disk = disk_through (compaction_states used_image used_content used_re
 abbrev pub migrated_content : Content
 migrated_content = compacted used_content used_records
 
+-- and its image, over what that had left
 abbrev pub migrated_image : Image
 migrated_image = compacted_image begun_image used_content used_records
 

@@ -22,8 +22,7 @@ const OPEN: &str = "4d5345434f50454e";
 const SETTINGS: &str = "4d5245430100010000000000ff";
 
 const SHOWN: Outcome = Outcome::Done(
-    "\
-sci 12153524c0895e81
+    "sci 12153524c0895e81
 blocks tx 4 rx 4
 validate strict
 replay on window 0
