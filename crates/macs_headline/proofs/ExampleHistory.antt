@@ -34,12 +34,12 @@ use Rattle.macs_headline.proofs.ExampleRecords.{key-range, long-key-range, peer-
 use Rattle.macs_headline.proofs.ExampleStates.{after_delay, after_delivery, after_hold, before_frame, c1, c2, c3, c4, c5, first_end, fourth_end, last_config, last_state, late_numbers, outgoing, s0, s1, s2, s3, s4, s5, s6, s7, s8, s9, s10, s11, s12, s13, s14, s15, s16, s17, second_end, t0, t1, t2, t3, t4, third_end, u0, u1, u2, unguarded_config, v0, v1, waits, x0, x1}
 
 -- the same call, with the same answer, that changes nothing
-same_steps : (n : ℕ) (s : State) (e : Exchange) → Step s e.call e.reply s → Steps s (replicate n e) s
+pub same_steps : (n : ℕ) (s : State) (e : Exchange) → Step s e.call e.reply s → Steps s (replicate n e) s
 same_steps zero s e step = refl
 same_steps (suc n) s e step = (s, step, same_steps n s e step)
 
 -- steps, and then more
-steps_on : (old mid new : State) (xs ys : List Exchange) → Steps old xs mid → Steps mid ys new → Steps old (xs ++ ys) new
+pub steps_on : (old mid new : State) (xs ys : List Exchange) → Steps old xs mid → Steps mid ys new → Steps old (xs ++ ys) new
 steps_on old mid new [] ys one two = subst (λ (s : State). Steps s ys new) one two
 steps_on old mid new (x ∷ xs) ys one two = (one.0, one.1, steps_on one.0 mid new xs ys one.2 two)
 
@@ -338,7 +338,7 @@ plain_range : All (λ octet. octet < 2 ^ 8) example_plain
 plain_range = All-replicate (λ octet. octet < 2 ^ 8) 14 0 (omega arith)
 
 -- calls in their ranges, and then more
-range_on : (xs ys : List Exchange) → AreInRange xs → AreInRange ys → AreInRange (xs ++ ys)
+pub range_on : (xs ys : List Exchange) → AreInRange xs → AreInRange ys → AreInRange (xs ++ ys)
 range_on [] ys one two = two
 range_on (x ∷ xs) ys one two = (one.0, range_on xs ys one.1 two)
 

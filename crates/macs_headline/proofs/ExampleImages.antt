@@ -109,13 +109,13 @@ once : {X : Type 0} (b : Bool) (x y z : X) → cond b x (cond b y z) ≡ cond b 
 once true x y z = refl
 once false x y z = refl
 
-put_twice : {X : Type 0} (f : ℕ → X) (at : ℕ) (x y : X) → put (put f at x) at y ≡ put f at y
+pub put_twice : {X : Type 0} (f : ℕ → X) (at : ℕ) (x y : X) → put (put f at x) at y ≡ put f at y
 put_twice f at x y = fun_ext (λ i. once (i == at) y x (f i))
 
-served_tx : served_standing.ceilings.tx ≡ put no_ceilings.tx 0 (Some 9)
+pub served_tx : served_standing.ceilings.tx ≡ put no_ceilings.tx 0 (Some 9)
 served_tx = put_twice no_ceilings.tx 0 (Some 5) (Some 9)
 
-served_rx : served_standing.ceilings.rx ≡ put_rx no_ceilings.rx peer_sci 0 (Some 9)
+pub served_rx : served_standing.ceilings.rx ≡ put_rx no_ceilings.rx peer_sci 0 (Some 9)
 served_rx =
     put_at-twice no_ceilings.rx peer_sci (put (no_ceilings.rx peer_sci) 0 (Some 1)) (put (put (no_ceilings.rx peer_sci) 0 (Some 1)) 0 (Some 9))
     ∙ ap (λ (f : ℕ → Option ℕ). put_at no_ceilings.rx peer_sci f) (put_twice (no_ceilings.rx peer_sci) 0 (Some 1) (Some 9))
@@ -226,7 +226,7 @@ pub both_some : {A B : Type 0} (b : Bool) (x : A) (y : B) → is_some (cond b (S
 both_some true x y = refl
 both_some false x y = refl
 
-both_at : {A B : Type 0} (b : Bool) (f g : ℕ → Option A) (h k : ℕ → Option B) → ((i : ℕ) → is_some (f i) ≡ is_some (h i)) → ((i : ℕ) → is_some (g i) ≡ is_some (k i))
+pub both_at : {A B : Type 0} (b : Bool) (f g : ℕ → Option A) (h k : ℕ → Option B) → ((i : ℕ) → is_some (f i) ≡ is_some (h i)) → ((i : ℕ) → is_some (g i) ≡ is_some (k i))
     → (i : ℕ) → is_some (cond b f g i) ≡ is_some (cond b h k i)
 both_at true f g h k here there = here
 both_at false f g h k here there = there

@@ -1,52 +1,64 @@
 -- A disk that the first edition of the program formatted, and what an opening makes of it.
-use Rattle.std.proofs.Common.{◌≡◌, ◌≤◌, ◌<◌, ◌^◌, ◌-◌, ◌==◌, ◌++◌, ◌∙◌, inl, inr, ℕ, Bool, true, false, cond, List, replicate, [], ◌∷◌, take, Some, None, Ok, Err, refl, sym, ap, subst, arith}
+use Rattle.std.proofs.Common.{◌≡◌, ◌≤◌, ◌<◌, ◌^◌, ◌-◌, ◌==◌, ◌++◌, ◌∙◌, inl, inr, ℕ, Bool, true, false, cond, List, replicate, [], ◌∷◌, length, take, bytes_eq, Option, Some, None, Ok, Err, refl, sym, ap, subst, arith}
 use Rattle.std.specs.Prelude.{All}
 use Rattle.std.specs.List.{AllByRecursion}
 use Rattle.std.specs.Option.{option_map}
+use Rattle.std.proofs.lemmas.Bool.{cases_eq}
+use Rattle.std.proofs.lemmas.List.{length-replicate}
 use Rattle.std.proofs.lemmas.List.Elements.{All-from_recursion, All-replicate}
 use Rattle.macs_fields.specs.Fields.{IsOctets}
 use Rattle.macs_config.specs.Apply.{Named, apply, config_after}
 use Rattle.macs_config.specs.Config.{Config, Edition, IsConfig, IsUpTo, default, first_edition, is_spent, rx_fingerprint, this_edition, tx_fingerprint}
+use Rattle.macs_config.specs.Tables.{put}
 use Rattle.macs_config.specs.declared.command.Command.{Command}
+use Rattle.macs_config.specs.declared.command.Role.TheVariants.{Receive, Transmit}
+use Rattle.macs_config.specs.declared.command.Validate.TheVariants.{Strict}
 use Rattle.macs_config.specs.declared.refusal.Refusal.TheVariants.{KeySpent}
 use Rattle.macs_config.proofs.Kept.{apply-keeps}
 use Rattle.macs_disk.specs.Disk.{Disk, MayLeave}
-use Rattle.macs_disk.specs.States.{zero_sector}
+use Rattle.macs_disk.specs.States.{Image, put_sector, zero_sector}
+use Rattle.macs_disk.proofs.Images.{put-other, put-same}
+use Rattle.macs_record.specs.Gates.{closed_gate, open_gate}
 use Rattle.macs_record.specs.Heads.{IsHead, head_sector_of}
 use Rattle.macs_record.specs.Layout.{IsRecord, sector_of}
 use Rattle.macs_record.specs.Settings.{default_settings}
 use Rattle.macs_record.specs.declared.record.Record.{Record}
 use Rattle.macs_record.specs.declared.record.Record.TheVariants as kept
+use Rattle.macs_journal.specs.Appending.{free_body, free_gate}
 use Rattle.macs_journal.specs.Areas.{gate, head_body, least_sectors, slot_body, slots}
 use Rattle.macs_journal.specs.Compacting.{compacted, next_head}
-use Rattle.macs_journal.specs.Found.{HasJournal, IsGateOpen}
+use Rattle.macs_journal.specs.Found.{Content, HasJournal, IsGateOpen, content_with_record}
+use Rattle.macs_journal.proofs.Current.{alone}
 use Rattle.macs_rxsc.specs.Receive.{Numbers, first_numbers, numbers_after_delivery, numbers_after_hold}
 use Rattle.macs_store.specs.Found.{IsToMigrate, StandAlike, StandingIs}
 use Rattle.macs_store.specs.Replay.{meaning_of, snapshot_of}
 use Rattle.macs_store.specs.Snapshot.{rx_records, rx_records_of, settings_record, snapshot, spent_records, tx_records}
-use Rattle.macs_store.specs.Standing.{IsStanding, new_standing, no_ceilings}
+use Rattle.macs_store.specs.Standing.{IsStanding, Standing, ceilings_with_tx, new_standing, no_ceilings}
 use Rattle.macs_store.proofs.Snapshots.{snapshot-stands}
 use Rattle.macs_endpoint.specs.Restart.{Fits, Resumes, TxRises, opened_state}
-use Rattle.macs_endpoint.specs.State.{Commands, RefusedLong, State, rx_side}
-use Rattle.macs_endpoint.specs.Step.{Step, Steps, state_after_command, state_after_delivery, state_after_frame, state_after_hold}
+use Rattle.macs_endpoint.specs.Calls.{IsInRange}
+use Rattle.macs_endpoint.specs.State.{Commands, RefusedLong, State, rx_side, state_with_in_hand}
+use Rattle.macs_endpoint.specs.Step.{Exchange, Step, Steps, state_after_command, state_after_delivery, state_after_frame, state_after_hold}
 use Rattle.macs_headline.specs.Binding.{HasHistory}
-use Rattle.macs_headline.specs.Example.{add_peer, example_identity, example_plain, example_sectors, install_own, install_own_again, install_peer, install_peer_again, own_key, own_sa, peer_frame, peer_key, peer_sa, peer_sci, use_own}
+use Rattle.macs_headline.specs.Example.{add_peer, example_identity, example_plain, example_sectors, install_own, install_own_again, install_peer, install_peer_again, own_key, own_sa, peer_frame, peer_key, peer_sa, peer_sci, stay_strict, use_own}
 use Rattle.macs_headline.specs.ExampleCuts.{body_writes, state_after_writes}
-use Rattle.macs_headline.specs.ExampleMigration.{IsOldDisk, IsWorkedMigration, beginning_disk, begun_image, install_long, later_lives, long_config, long_content, long_exchanges, long_image, long_records, long_standing, migrated_content, migrated_image, old_content, old_exchanges, old_head, old_image, old_lives, old_records, spent_exchanges, used_config, used_content, used_image, used_records, used_standing}
+use Rattle.macs_headline.specs.ExampleLives.{obeyed}
+use Rattle.macs_headline.specs.ExampleMigration.{IsOldDisk, IsWorkedMigration, again_content, again_exchanges, again_image, beginning_disk, begun_image, closed_image, filled_content, filled_image, filled_records, filled_snapshot, filled_standing, front_exchanges, install_long, later_lives, long_config, long_content, long_exchanges, long_image, long_records, long_standing, migrated_content, migrated_image, old_content, old_exchanges, old_head, old_image, old_lives, old_records, spent_exchanges, used_config, used_content, used_image, used_records, used_standing}
 use Rattle.macs_headline.specs.History.{Blank, Formats, Formatted, IsHistory, IsLifeSoFar, Leads, formatted_state}
-use Rattle.macs_headline.specs.Images.{blank_image, image_with_area, image_with_bodies}
+use Rattle.macs_headline.specs.Images.{blank_image, image_with_area, image_with_bodies, image_with_next_body, image_with_record, image_with_records}
 use Rattle.macs_headline.proofs.Built.{area-other, closed-gate, opened-found, opened-other, records-found, records-other}
-use Rattle.macs_headline.proofs.BuiltAnew.{anew-found, meaning-anew, meaning-more, written-found}
+use Rattle.macs_headline.proofs.BuiltAnew.{anew-found, meaning-anew, meaning-more, same-again, written-found}
 use Rattle.macs_headline.proofs.Chains.{settled-disks}
 use Rattle.macs_headline.proofs.ExampleCuts.{head-sector, record_sector, torn_kept, torn_whole}
 use Rattle.macs_headline.proofs.ExampleFits.{away, rx_all}
 use Rattle.macs_headline.proofs.ExampleFrames.{arrival, peer-arrives}
-use Rattle.macs_headline.proofs.ExampleHistory.{refused_by}
-use Rattle.macs_headline.proofs.ExampleImages.{both_some, default_config}
-use Rattle.macs_headline.proofs.ExampleRecords.{head-range, key-range, long-key-range, peer-range, print_range}
+use Rattle.macs_headline.proofs.ExampleHistory.{range_on, refused_by, same_steps, steps_on}
+use Rattle.macs_headline.proofs.ExampleImages.{both_at, both_some, default_config, put_twice, served_rx, served_tx}
+use Rattle.macs_headline.proofs.ExampleRecords.{head-range, key-range, long-key-range, peer-range, print_range, snapshot-ranges}
 use Rattle.macs_headline.proofs.ExampleStates.{outgoing}
+use Rattle.macs_headline.proofs.Lists.{each-same}
 use Rattle.macs_headline.proofs.Older.{older}
-use Rattle.macs_headline.proofs.Places.{put-that, put_rx}
+use Rattle.macs_headline.proofs.Places.{put-that, put_rx, put_rx-that}
 
 -- ---- images
 
@@ -149,6 +161,140 @@ migrated_found = anew-found begun_image used_content begun_found 1 refl used_rec
 long_found : HasJournal long_image long_content
 long_found = records-found long_records migrated_image migrated_content (omega arith) long_ranges migrated_found
 
+-- ---- the area is full, and the journal begins anew in the first one
+
+repeated : length (replicate 248 (kept.SetValidate Strict)) ≡ 248
+repeated = length-replicate 248 (kept.SetValidate Strict)
+
+filled_ranges : AllByRecursion IsRecord filled_records
+filled_ranges = ((omega arith, (omega arith, omega arith)), each-same IsRecord 248 (kept.SetValidate Strict) tt)
+
+filled_found : HasJournal filled_image filled_content
+filled_found = records-found filled_records long_image long_content (omega (arith, repeated)) filled_ranges long_found
+
+-- sectors in front of the area are not written
+records_before : (rs : List Record) (image : Image) (c : Content) (i : ℕ) → i < head_body c.area → image_with_records image c rs i ≡ image i
+unfolding image_with_records
+records_before [] image c i front = refl
+records_before (r ∷ rs) image c i front =
+    records_before rs (image_with_record image c r) (content_with_record c r) i front
+    ∙ put-other (image_with_next_body image c r) (free_gate c) i open_gate (omega (arith, front))
+    ∙ put-other image (free_body c) i (sector_of r) (omega (arith, front))
+
+-- nor is a gate of the first area, but those of two slots
+used_gate : (k : ℕ) → k ≢ 2 → k ≢ 3 → used_image (gate 0 k) ≡ old_image (gate 0 k)
+unfolding image_with_records
+used_gate k no_two no_three =
+    let first = kept.TxInstall 0 own_sa 1 in
+    let second = kept.TxUse 0 in
+    let mid = image_with_record old_image old_content first in
+    let c = content_with_record old_content first in
+    put-other (image_with_next_body mid c second) (free_gate c) (gate 0 k) open_gate (omega (arith, no_three))
+    ∙ put-other mid (free_body c) (gate 0 k) (sector_of second) (omega arith)
+    ∙ put-other (image_with_next_body old_image old_content first) (free_gate old_content) (gate 0 k) open_gate (omega (arith, no_two))
+    ∙ put-other old_image (free_body old_content) (gate 0 k) (sector_of first) (omega arith)
+
+-- what the later lives wrote is in the second area
+filled_front : (i : ℕ) → i < 514 → filled_image i ≡ used_image i
+filled_front i front =
+    records_before filled_records long_image long_content i (omega (arith, front))
+    ∙ records_before long_records migrated_image migrated_content i (omega (arith, front))
+    ∙ opened-other begun_image 1 (next_head used_content.head 3) used_records i (omega (arith, front)) (omega (arith, front)) (λ j lt. omega (arith, front))
+    ∙ area-other used_image 1 (next_head used_content.head 3) (take 2 used_records) i (omega (arith, front)) (λ j lt. omega (arith, front))
+
+filled_gate : (k : ℕ) → k ≤ slots → k ≢ 0 → k ≢ 2 → k ≢ 3 → filled_image (gate 0 k) ≡ zero_sector
+filled_gate k le no_zero no_two no_three =
+    filled_front (gate 0 k) (omega (arith, le)) ∙ used_gate k no_two no_three
+    ∙ opened-other blank_image 0 old_head (default_settings ∷ []) (gate 0 k) (omega arith) (omega (arith, no_zero)) (λ j lt. omega arith)
+
+gate_zero : closed_gate ≡ zero_sector
+unfolding zero_sector
+gate_zero = refl
+
+-- the images while the gates are closed
+abbrev one_closed : Image
+one_closed = put_sector filled_image (gate 0 0) closed_gate
+
+abbrev two_closed : Image
+two_closed = put_sector one_closed (gate 0 2) closed_gate
+
+closed_other : (i : ℕ) → i ≢ gate 0 0 → i ≢ gate 0 2 → i ≢ gate 0 3 → closed_image i ≡ filled_image i
+closed_other i no_zero no_two no_three =
+    put-other two_closed (gate 0 3) i closed_gate no_three ∙ put-other one_closed (gate 0 2) i closed_gate no_two
+    ∙ put-other filled_image (gate 0 0) i closed_gate no_zero
+
+closed_first : closed_image (gate 0 0) ≡ zero_sector
+closed_first =
+    put-other two_closed (gate 0 3) (gate 0 0) closed_gate (omega arith) ∙ put-other one_closed (gate 0 2) (gate 0 0) closed_gate (omega arith)
+    ∙ put-same filled_image (gate 0 0) (gate 0 0) closed_gate refl ∙ gate_zero
+
+closed_second : closed_image (gate 0 2) ≡ zero_sector
+closed_second =
+    put-other two_closed (gate 0 3) (gate 0 2) closed_gate (omega arith) ∙ put-same one_closed (gate 0 2) (gate 0 2) closed_gate refl ∙ gate_zero
+
+closed_third : closed_image (gate 0 3) ≡ zero_sector
+closed_third = put-same two_closed (gate 0 3) (gate 0 3) closed_gate refl ∙ gate_zero
+
+closed_each : (k : ℕ) → k ≤ slots → closed_image (gate 0 k) ≡ zero_sector
+closed_each k le = elim (cases_eq k 0) [
+  | inl at_zero ↦ ap (λ (n : ℕ). closed_image (gate 0 n)) at_zero ∙ closed_first
+  | inr no_zero ↦ elim (cases_eq k 2) [
+    | inl at_two ↦ ap (λ (n : ℕ). closed_image (gate 0 n)) at_two ∙ closed_second
+    | inr no_two ↦ elim (cases_eq k 3) [
+      | inl at_three ↦ ap (λ (n : ℕ). closed_image (gate 0 n)) at_three ∙ closed_third
+      | inr no_three ↦
+          closed_other (gate 0 k) (omega (arith, no_zero)) (omega (arith, no_two)) (omega (arith, no_three)) ∙ filled_gate k le no_zero no_two no_three
+    ]
+  ]
+]
+
+shut : (k : ℕ) → k ≤ slots → ¬ IsGateOpen closed_image 0 k
+shut k le = closed-gate closed_image 0 k (closed_each k le)
+
+closed_found : HasJournal closed_image filled_content
+closed_found =
+    alone filled_image closed_image filled_content filled_found
+    (λ i from until. closed_other i (omega (arith, from)) (omega (arith, from)) (omega (arith, from)))
+    (λ opens. absurd (shut 0 (omega arith) opens))
+
+-- ---- its snapshot
+
+abbrev six_records : List Record
+six_records =
+    settings_record long_config
+    ∷ kept.TxSa 0 own_sa 13
+    ∷ kept.Channel peer_sci
+    ∷ kept.RxSa peer_sci 0 peer_sa 9
+    ∷ kept.Spent Transmit (tx_fingerprint own_key ∷ [])
+    ∷ kept.Spent Receive (rx_fingerprint peer_sci peer_key ∷ [])
+    ∷ []
+
+filled_is : filled_snapshot ≡ six_records
+unfolding snapshot tx_records rx_records rx_records_of spent_records
+filled_is = refl
+
+filled_size : length filled_snapshot ≡ 6
+filled_size = ap length filled_is
+
+six_ranges : AllByRecursion IsRecord six_records
+six_ranges = ((omega arith, omega arith), snapshot-ranges.1)
+
+again_head : IsHead (next_head filled_content.head (length filled_snapshot))
+again_head = record {
+  generation = omega arith;
+  generations = omega arith;
+  some = omega (arith, filled_size);
+  few = omega (arith, filled_size);
+  sci = head-range.sci;
+  tx_block = head-range.tx_block;
+  rx_block = head-range.rx_block;
+}
+
+again_found : HasJournal again_image again_content
+again_found =
+    anew-found closed_image filled_content closed_found 0 refl filled_snapshot again_head (omega (arith, filled_size))
+    (subst (AllByRecursion IsRecord) (sym filled_is) six_ranges) shut
+
 -- ---- what they stand for
 
 old_meaning : (edition : Edition) → meaning_of edition old_content ≡ Some (new_standing edition example_identity)
@@ -194,6 +340,37 @@ migrated_meaning = meaning-anew this_edition used_content used_records (used_sta
 long_meaning : meaning_of this_edition long_content ≡ Some long_standing
 long_meaning =
     meaning-more this_edition long_records migrated_content (used_standing this_edition) long_standing (omega arith) refl migrated_meaning refl
+
+-- one ceiling in the place of two
+abbrev raised_standing : Standing
+raised_standing = record long_standing { ceilings = ceilings_with_tx long_standing.ceilings 0 (Some 13) }
+
+raised_is : raised_standing ≡ filled_standing
+raised_is = λ i. record {
+  edition = this_edition;
+  identity = example_identity;
+  config = long_config;
+  ceilings = record { tx = (ap (λ (f : ℕ → Option ℕ). put f 0 (Some 13)) served_tx ∙ put_twice no_ceilings.tx 0 (Some 9) (Some 13)) i; rx = served_rx i };
+}
+
+filled_meaning : meaning_of this_edition filled_content ≡ Some filled_standing
+filled_meaning =
+    meaning-more this_edition filled_records long_content long_standing filled_standing (omega arith) refl long_meaning
+    (same-again 248 (kept.SetValidate Strict) raised_standing refl ∙ ap Some raised_is)
+
+filled_stands : IsStanding filled_standing
+filled_stands = record {
+  tx = λ an. both_some (an == 0) 13 own_sa;
+  rx = λ sci. both_at (bytes_eq sci peer_sci) (put (λ an. None) 0 (Some 9)) (λ an. None) (put (λ an. None) 0 (Some peer_sa)) (λ an. None)
+      (λ an. both_some (an == 0) 9 peer_sa) (λ an. refl);
+}
+
+again_meaning : meaning_of this_edition again_content ≡ Some filled_standing
+again_meaning =
+    meaning-anew this_edition filled_content filled_snapshot filled_standing refl
+    (snapshot-stands filled_standing long_is_config filled_stands
+    (λ an above. put-that (λ an. None) 0 an (Some own_sa) (omega (arith, above)))
+    (λ sci an above. put_rx-that (λ sci an. None) peer_sci 0 sci an (Some peer_sa) (λ same here. omega (arith, above, here))))
 
 used_is : IsToMigrate this_edition used_image used_content (used_standing this_edition)
 used_is = record {
@@ -367,8 +544,18 @@ long_end = state_after_delivery a4 (arrival after_hold)
 abbrev b0 : State
 b0 = opened_state long_standing long_end.logs
 
+abbrev spent_end : State
+spent_end = state_after_frame b0 (outgoing 9)
+
+-- the command in which the power goes is in hand
+abbrev filled_end : State
+filled_end = state_with_in_hand spent_end stay_strict
+
+abbrev c0 : State
+c0 = opened_state filled_standing spent_end.logs
+
 abbrev last_end : State
-last_end = state_after_frame b0 (outgoing 9)
+last_end = state_after_frame c0 (outgoing 13)
 
 long_steps : Steps a0 long_exchanges long_end
 long_steps = (
@@ -411,8 +598,8 @@ peer_spent =
     refused_by (is_spent long_config.spent_rx (rx_fingerprint peer_sci peer_key)) None (config_after long_config install_peer_again)
     (long_is_config.rx_spent peer_sci 0 peer_sa (omega arith) refl)
 
-spent_steps : Steps b0 spent_exchanges last_end
-spent_steps = (
+front_steps : Steps b0 front_exchanges spent_end
+front_steps = (
   b0,
   inr (refl, (refl, own_spent, refl)),
   (
@@ -422,11 +609,27 @@ spent_steps = (
       b0,
       inr (refl, (refl, refl)),
       (
-        last_end,
+        spent_end,
         inr (refl, (refl, (outgoing 9, refl, refl, refl, refl))),
         refl,
       ),
     ),
+  ),
+)
+
+spent_steps : Steps b0 spent_exchanges spent_end
+spent_steps =
+    steps_on b0 spent_end spent_end front_exchanges (replicate 248 (obeyed stay_strict)) front_steps
+    (same_steps 248 spent_end (obeyed stay_strict) (inr (refl, (refl, (config_after long_config stay_strict, refl, refl)))))
+
+again_steps : Steps c0 again_exchanges last_end
+again_steps = (
+  c0,
+  inr (refl, (refl, refl)),
+  (
+    last_end,
+    inr (refl, (refl, (outgoing 13, refl, refl, refl, refl))),
+    refl,
   ),
 )
 
@@ -458,6 +661,35 @@ fits_long = record {
   });
 }
 
+tx_filled : (own : Bool) → TxRises 4 (cond own (Some 10) (cond own (Some 9) (cond own (Some 5) None))) (cond own (Some 13) None)
+tx_filled true = (13, refl, omega arith, omega arith, omega arith)
+tx_filled false = refl
+
+again_is : StandingIs this_edition example_sectors again_image (Ok filled_standing)
+again_is = (omega arith, record { content = again_content; found = again_found; stands = again_meaning })
+
+-- the command in hand was not followed
+fits_again : Fits this_edition example_sectors again_image filled_end
+fits_again = record {
+  found = filled_standing;
+  is_found = again_is;
+  restart = inl (record {
+    edition = up_to_itself this_edition;
+    identity = refl;
+    config = refl;
+    next = λ an. tx_filled (an == 0);
+    numbers = rx_all filled_end.numbers c0.numbers (9, refl, omega arith, omega arith) (λ sci an apart. (
+      ap (option_map first_numbers) (away (put_rx no_ceilings.rx peer_sci 0 (Some 1)) (Some 9) sci an apart ∙ away no_ceilings.rx (Some 1) sci an apart),
+      ap (option_map first_numbers) (away no_ceilings.rx (Some 9) sci an apart),
+    ));
+    logs = refl;
+    running = refl;
+    idle = refl;
+    waiting = refl;
+    tickets = refl;
+  });
+}
+
 module _ (peer : All (λ octet. octet < 2 ^ 8) (peer_frame 5)) where
   long_life : IsLifeSoFar example_sectors (Formatted old_end) this_edition begun_image long_exchanges long_end
   long_life = record {
@@ -471,16 +703,26 @@ module _ (peer : All (λ octet. octet < 2 ^ 8) (peer_frame 5)) where
     steps = long_steps;
   }
 
-  last_life : IsLifeSoFar example_sectors (Formatted long_end) this_edition long_image spent_exchanges last_end
-  last_life = record {
+  spent_life : IsLifeSoFar example_sectors (Formatted long_end) this_edition long_image spent_exchanges spent_end
+  spent_life = record {
     fits = fits_long;
     found = long_standing;
     is_found = long_is;
-    in_range = (
+    in_range = range_on front_exchanges (replicate 248 (obeyed stay_strict)) (
       (omega arith, inl (key-range 1 (omega arith)), omega arith, omega arith),
       ((peer-range, omega arith, inr (long-key-range 2 (omega arith)), omega arith, omega arith), (tt, (plain_range, tt))),
-    );
+    )
+        (each-same (λ (e : Exchange). IsInRange e.call) 248 (obeyed stay_strict) tt);
     steps = spent_steps;
+  }
+
+  last_life : IsLifeSoFar example_sectors (Formatted filled_end) this_edition again_image again_exchanges last_end
+  last_life = record {
+    fits = fits_again;
+    found = filled_standing;
+    is_found = again_is;
+    in_range = (tt, (plain_range, tt));
+    steps = again_steps;
   }
 
   whole_history : IsHistory example_sectors (old_lives ++ later_lives) (Formatted last_end)
@@ -494,9 +736,13 @@ module _ (peer : All (λ octet. octet < 2 ^ 8) (peer_frame 5)) where
         Formatted long_end,
         (long_end, long_life, tt, refl),
         (
-          Formatted last_end,
-          (last_end, last_life, tt, refl),
-          refl,
+          Formatted filled_end,
+          (spent_end, spent_life, tt, refl),
+          (
+            Formatted last_end,
+            (last_end, last_life, tt, refl),
+            refl,
+          ),
         ),
       ),
     ),
@@ -511,7 +757,8 @@ module _ (peer : All (λ octet. octet < 2 ^ 8) (peer_frame 5)) where
     begun = begun_found;
     anew = subst (λ (records : List Record). HasJournal migrated_image (compacted used_content records)) (sym snapshot_is) migrated_found;
     alike = used_alike;
-    form = refl;
+    full = refl;
+    again = (refl, refl, refl, again_found);
     last = last_end;
     history = whole_history;
     used = refl;

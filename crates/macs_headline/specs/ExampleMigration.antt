@@ -6,14 +6,17 @@ use Rattle.macs_config.specs.Config.{Config, Edition, default, first_edition, th
 use Rattle.macs_config.specs.declared.command.Command.{Command}
 use Rattle.macs_config.specs.declared.command.Command.TheVariants.{TxInstall}
 use Rattle.macs_config.specs.declared.command.Role.TheVariants.{Transmit}
+use Rattle.macs_config.specs.declared.command.Validate.TheVariants.{Strict}
 use Rattle.macs_config.specs.declared.refusal.Refusal.TheVariants.{KeySpent}
 use Rattle.macs_disk.specs.Disk.{Disk, IsHonest, MayLeave, now}
-use Rattle.macs_disk.specs.States.{Image, settled_state}
+use Rattle.macs_disk.specs.States.{Image, put_sector, settled_state}
+use Rattle.macs_record.specs.Gates.{closed_gate}
 use Rattle.macs_record.specs.Heads.{Head}
 use Rattle.macs_record.specs.Settings.{default_settings}
 use Rattle.macs_record.specs.declared.format.Format.TheVariants.{One, Two}
 use Rattle.macs_record.specs.declared.record.Record.{Record}
 use Rattle.macs_record.specs.declared.record.Record.TheVariants as kept
+use Rattle.macs_journal.specs.Areas.{gate}
 use Rattle.macs_journal.specs.Compacting.{compacted}
 use Rattle.macs_journal.specs.Formatting.{first_head}
 use Rattle.macs_journal.specs.Found.{Content, HasJournal}
@@ -25,7 +28,7 @@ use Rattle.macs_store.specs.Standing.{Standing, ceilings_with_rx, ceilings_with_
 use Rattle.macs_endpoint.specs.State.{Commands, RefusedLong, State}
 use Rattle.macs_endpoint.specs.Step.{Exchange}
 use Rattle.macs_headline.specs.Binding.{HasHistory}
-use Rattle.macs_headline.specs.Example.{add_peer, example_identity, example_plain, example_sectors, install_own, install_own_again, install_peer, install_peer_again, own_key, own_sa, peer_sa, peer_sci, use_own}
+use Rattle.macs_headline.specs.Example.{add_peer, example_identity, example_plain, example_sectors, install_own, install_own_again, install_peer, install_peer_again, own_key, own_sa, peer_sa, peer_sci, stay_strict, use_own}
 use Rattle.macs_headline.specs.ExampleCuts.{compaction_states, disk_through}
 use Rattle.macs_headline.specs.ExampleLives.{answered, obeyed, own_use, peer_delivery, received, refilled, refused, sent}
 use Rattle.macs_headline.specs.History.{Formats, Formatted, IsHistory, Life, Serves}
@@ -145,17 +148,66 @@ long_standing = record {
 }
 
 -- Both keys are spent, and a frame goes out with number 9.
+abbrev pub front_exchanges : List Exchange
+front_exchanges = refused install_own_again KeySpent ∷ refused install_peer_again KeySpent ∷ refilled ∷ sent 9 ∷ []
+
+-- Then a command is given until the area is full, and the power goes in the next one, when the journal has begun anew.
 abbrev pub spent_exchanges : List Exchange
-spent_exchanges = refused install_own_again KeySpent ∷ refused install_peer_again KeySpent ∷ refilled ∷ sent 9 ∷ []
+spent_exchanges = front_exchanges ++ replicate 248 (obeyed stay_strict)
+
+-- the records of that
+abbrev pub filled_records : List Record
+filled_records = kept.TxCeiling 0 13 ∷ replicate 248 (kept.SetValidate Strict)
+
+-- the journal with them: 256 records
+abbrev pub filled_content : Content
+filled_content = content_with_records long_content filled_records
+
+-- and the disk
+abbrev pub filled_image : Image
+filled_image = image_with_records long_image long_content filled_records
+
+-- what stands
+abbrev pub filled_standing : Standing
+filled_standing = record {
+  edition = this_edition;
+  identity = example_identity;
+  config = long_config;
+  ceilings = ceilings_with_rx (ceilings_with_tx no_ceilings 0 (Some 13)) peer_sci 0 (Some 9);
+}
+
+-- as a snapshot
+abbrev pub filled_snapshot : List Record
+filled_snapshot = snapshot filled_standing
+
+-- the gates of the first area that read open are closed: that of its head of format one, and those of the two records behind its snapshot
+abbrev pub closed_image : Image
+closed_image = put_sector (put_sector (put_sector filled_image (gate 0 0) closed_gate) (gate 0 2) closed_gate) (gate 0 3) closed_gate
+
+-- and the journal begins anew there
+abbrev pub again_content : Content
+again_content = compacted filled_content filled_snapshot
+
+-- the disk then
+abbrev pub again_image : Image
+again_image = compacted_image closed_image filled_content filled_snapshot
+
+-- a last life sends frame 13
+abbrev pub again_exchanges : List Exchange
+again_exchanges = refilled ∷ sent 13 ∷ []
 
 -- what this edition does with the disk: an opening that is cut short is no life; the next one comes upon what that left
 abbrev pub later_lives : List Life
-later_lives = Serves this_edition begun_image long_exchanges None ∷ Serves this_edition long_image spent_exchanges None ∷ []
+later_lives =
+    Serves this_edition begun_image long_exchanges None
+    ∷ Serves this_edition long_image spent_exchanges (Some (Commands stay_strict))
+    ∷ Serves this_edition again_image again_exchanges None
+    ∷ []
 
 -- Such a disk has that history to the edition that formatted it, and so to this one, which names no such refusal. To this one it is to begin anew. While that
 -- is done, also where a power loss cuts it, it stands for what it stood for, and so it does once it is done, in the second area and in format two. So lives of
--- this edition go on from it, with keys of both lengths side by side. Over all of them three frames went out under the short key, and one was delivered under
--- the long one.
+-- this edition go on from it, with keys of both lengths side by side, and the journal begins anew once more, in the first area. Over all of them four frames
+-- went out under the short key, and one was delivered under the long one.
 pub record IsWorkedMigration : Type 0 where
   pub formatted : (disk : Disk) → IsOldDisk disk → HasHistory first_edition disk old_lives
   pub ours : (disk : Disk) → IsOldDisk disk → HasHistory this_edition disk old_lives
@@ -164,8 +216,9 @@ pub record IsWorkedMigration : Type 0 where
   pub begun : HasJournal begun_image used_content
   pub anew : HasJournal migrated_image (compacted used_content (snapshot (used_standing this_edition)))
   pub alike : StandAlike this_edition used_image migrated_image
-  pub form : long_content.head.format ≡ Two
+  pub full : length filled_content.records ≡ 256
+  pub again : (again_content.area ≡ 0) × (again_content.head.generation ≡ 3) × (again_content.head.format ≡ Two) × HasJournal again_image again_content
   pub last : State
   pub history : IsHistory example_sectors (old_lives ++ later_lives) (Formatted last)
-  pub used : last.logs.used ≡ map own_use (9 ∷ 5 ∷ 1 ∷ [])
+  pub used : last.logs.used ≡ map own_use (13 ∷ 9 ∷ 5 ∷ 1 ∷ [])
   pub given : last.logs.given ≡ peer_delivery AsOk ∷ []
