@@ -10,6 +10,7 @@ ghost use Rattle.macs_disk.specs.Memory.{blank_memory};
 ghost use Rattle.macs_disk.specs.States.{Image, IsImage};
 ghost use Rattle.macs_disk.specs.declared.file.FileDisk.{FileDisk};
 ghost use Rattle.macs_disk.specs.declared.layout.Layout.{Layout};
+ghost use Rattle.macs_disk.specs.declared.layout.Layout.TheVariants.{Packed, Spaced};
 ghost use Rattle.macs_journal.specs.Areas.{least_sectors};
 ghost use Rattle.macs_headline.specs.Answered.{AnswersAreHeld, MomentsAreHistories};
 ghost use Rattle.macs_headline.specs.Binding.{CallsAreDeeds, ChainsAnswer, ChainsKeepSizes, ChainsTell, CutFramesAreBelow};
@@ -339,6 +340,8 @@ pub fn files<F: DiskFile>()
         → IsLeftAsShown F.file it → IsFoundAgain F.file it → Behaves (F.file (file_left it))
         → IsHonest (disk_in_file F.file it) → HasNothingNew (F.file (file_left it)) file → IsOpened file 0 again new
         → (again ≡ layout_of it) × LosesPower (disk_in_file F.file it) (disk_in_file F.file it).clock new }
+    // Blocks of 512 octets suit both layouts, and those of 4,096 the one in which sectors lie apart.
+    ensures blocks { (suits Packed 512 ≡ true) × (suits Spaced 512 ≡ true) × (suits Spaced 4096 ≡ true) }
 {
     a_file_is_left_as_its_disk::<F>();
 }
