@@ -1,5 +1,5 @@
 -- The example is a history.
-use Rattle.std.proofs.Common.{◌≡◌, ◌<◌, ◌^◌, inl, inr, ℕ, zero, suc, Bool, true, false, cond, List, [], ◌∷◌, ◌++◌, drop, take, replicate, Option, Some, None, Err, refl, subst, arith}
+use Rattle.std.proofs.Common.{◌≡◌, ◌<◌, ◌≤◌, ◌^◌, inl, inr, ℕ, zero, suc, Bool, true, false, cond, List, [], ◌∷◌, ◌++◌, drop, take, replicate, Option, Some, None, Err, refl, subst, arith}
 use Rattle.std.specs.Prelude.{All}
 use Rattle.std.specs.List.{AllByRecursion}
 use Rattle.std.proofs.lemmas.List.Elements.{All-replicate}
@@ -479,6 +479,7 @@ module _ (peer : All (λ octet. octet < 2 ^ 8) (peer_frame 5)) where
     pending = gate-pending;
     read = refl;
     early = early_disk;
+    later = (larger, λ up_to. let few : 64 ≤ 32 = up_to.channels in omega (arith, few));
     older = older this_edition later_edition larger killed_disk early_lives early_disk;
     found_without = last-is last_image last-found;
     finds = larger-finds this_edition later_edition larger example_sectors ended_image (checked_standing this_edition) (checked-is ended_image ended-found);
