@@ -12,8 +12,8 @@ some-none o x is none = absurd (cc)
 
 -- one that finds nothing
 pub no-one : {X : Type 0} (o : Option X) → ((x : X) → ¬ (o ≡ Some x)) → o ≡ None
-no-one None no = refl
-no-one (Some x) no = absurd (no x refl)
+no-one None none = refl
+no-one (Some x) none = absurd (none x refl)
 
 -- one in what another one found
 pub then-none : {X Y : Type 0} (f : X → Option Y) (o : Option X) → (option_and_then f o ≡ None) ↔ ((x : X) → o ≡ Some x → f x ≡ None)

@@ -170,15 +170,15 @@ same_one one fault is = sym (some_one (Some one) one fault refl is)
 first_of : (P : TxFault → Type 0) (a b c d e : Bool) (fault : TxFault) → ((f : TxFault) → HasTest a b c d e f → P f)
     → ((f : TxFault) → LacksTest a b c d e f → ¬ P f)
     → first ((Runt, a) ∷ (TooLong, b) ∷ (ForeignSource, c) ∷ (NoEncodingSa, d) ∷ (Exhausted, e) ∷ []) ≡ Some fault → IsFirst P faults_in_order fault
-first_of P true b c d e fault yes no is = inl (yes Runt refl, same_one Runt fault is)
-first_of P false true c d e fault yes no is = inr (no Runt refl, inl (yes TooLong refl, same_one TooLong fault is))
-first_of P false false true d e fault yes no is =
-    inr (no Runt refl, inr (no TooLong refl, inl (yes ForeignSource refl, same_one ForeignSource fault is)))
-first_of P false false false true e fault yes no is =
-    inr (no Runt refl, inr (no TooLong refl, inr (no ForeignSource refl, inl (yes NoEncodingSa refl, same_one NoEncodingSa fault is))))
-first_of P false false false false true fault yes no is =
-    inr (no Runt refl, inr (no TooLong refl, inr (no ForeignSource refl, inr (no NoEncodingSa refl, inl (yes Exhausted refl, same_one Exhausted fault is)))))
-first_of P false false false false false fault yes no is = absurd (cc)
+first_of P true b c d e fault has not_so is = inl (has Runt refl, same_one Runt fault is)
+first_of P false true c d e fault has not_so is = inr (not_so Runt refl, inl (has TooLong refl, same_one TooLong fault is))
+first_of P false false true d e fault has not_so is =
+    inr (not_so Runt refl, inr (not_so TooLong refl, inl (has ForeignSource refl, same_one ForeignSource fault is)))
+first_of P false false false true e fault has not_so is =
+    inr (not_so Runt refl, inr (not_so TooLong refl, inr (not_so ForeignSource refl, inl (has NoEncodingSa refl, same_one NoEncodingSa fault is))))
+first_of P false false false false true fault has not_so is =
+    inr (not_so Runt refl, inr (not_so TooLong refl, inr (not_so ForeignSource refl, inr (not_so NoEncodingSa refl, inl (has Exhausted refl, same_one Exhausted fault is)))))
+first_of P false false false false false fault has not_so is = absurd (cc)
 
 -- no test holds, and the next number was not used
 first_unnumbered : (s : State) (plain : List ℕ) → NoTest (tx_faults (tx_side s) plain) → IsFaultOf s plain NoNumber
