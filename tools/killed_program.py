@@ -3,8 +3,9 @@
 
     python3 tools/killed_program.py
 
-It takes the proved program (`tools/prove`), strace (Debian's package) and a folder for temporary files on a real disk. Three runs of the program are killed: `format`, `apply` of
-four commands, and `protect` of a capture of 400 frames of 1,500 octets at blocks of 32, which reserves packet numbers between frames that go out. A run is first traced
+It takes the proved program (`tools/prove`), strace (Debian's package) and a folder for temporary files on a real disk. Four runs of the program are killed: `format`, `apply` of
+four commands, `protect` of a capture of 400 frames of 1,500 octets at blocks of 32, which reserves packet numbers between frames that go out, and `show` of a file of format one,
+which brings it up to date. That file is one of format two with version 1 in its heads, as an older program wrote it. A run is first traced
 whole: which system calls it makes on its disk file, and the octets that it writes. Then it is made again for each of these calls, and killed as that call begins.
 
 A kill alone loses nothing, since the operating system keeps what was written. So the power loss is made by hand: a sector that was written and not synced is left
@@ -14,7 +15,8 @@ sync after it. The same is left in each such sector; where there are two, each p
 What is asserted of what `show` finds then:
   format   an endpoint as it was asked for, or none; then `format` makes one without `--over`, unless a sector was left that no `format` wrote;
   apply    the configuration after the commands of which a line was printed, or after those and one more;
-  protect  the configuration as it was, and a next packet number above all that went out.
+  protect  the configuration as it was, and a next packet number above all that went out;
+  show     what it shows of the file of format two, to the octet, and a head of version 2 then.
 It prints how many kills and how many power losses there were.
 """
 
@@ -30,6 +32,7 @@ TOP = os.path.abspath(os.path.join(os.path.dirname(__file__), ".."))
 PROVE = os.path.join(TOP, "tools/prove")
 SECTOR = 512
 OPEN = b"MSECOPEN" + bytes(504)
+HEAD = b"MSECHEAD"
 CALLS = ["openat", "pread64", "pwrite64", "fsync", "fdatasync", "fadvise64", "ftruncate", "fallocate", "flock", "fcntl", "close"]
 SCI = "0200000000010001"
 FRAMES = 400
@@ -165,6 +168,14 @@ def show(macsecd, disk):
     return subprocess.run([macsecd, "show", disk], capture_output=True, text=True)
 
 
+def make_older(path, older):
+    """A copy of a disk file with version 1 in each head."""
+    octets = bytearray(open(path, "rb").read())
+    for found in re.finditer(HEAD, bytes(octets)):
+        octets[found.start() + 11] = 1
+    open(older, "wb").write(octets)
+
+
 def configuration(text):
     """What `show` prints but for packet numbers, which an opening may raise."""
     return re.sub(r"(next|lowest) \d+", "", text)
@@ -221,9 +232,19 @@ def main():
             sent = numbers_in(at("out"))
             most.append(len(sent))
             assert sent == sorted(set(sent)) and all(number < following for number in sent), (sent, following)
+
+        make_older(at("ready"), at("old"))
+        shown = show(macsecd, at("ready")).stdout
+
+        def judge_migrated(disk, _printed, _image):
+            found = show(macsecd, disk)
+            assert found.returncode == 0 and found.stdout == shown, found
+            assert HEAD + b"\0\0\0\2" in open(disk, "rb").read(), disk
+
         kill_at_each(folder, "format", None, lambda disk: [macsecd, "format", disk, SCI, BLOCK, BLOCK], judge_format)
         kill_at_each(folder, "apply", at("new"), lambda disk: [macsecd, "apply", disk, at("commands")], judge_apply)
         kill_at_each(folder, "protect", at("ready"), lambda disk: [macsecd, "protect", disk, at("frames"), at("out")], judge_protect)
+        kill_at_each(folder, "migrate", at("old"), lambda disk: [macsecd, "show", disk], judge_migrated)
         print(f"protect: up to {max(most)} frames had gone out")
     finally:
         shutil.rmtree(folder)

@@ -3,7 +3,7 @@ use Rattle.std.proofs.Common.{◌≡◌, ◌∙◌, ℕ, Bool, true, false, cond
 use Rattle.std.proofs.lemmas.Bool.{and_from, and_parts, leb-false, lt-leb, ltb-true, lt-ltb, not-false}
 use Rattle.macs_aes.specs.Keys.{octets_of_key}
 use Rattle.macs_fields.specs.First.{first}
-use Rattle.macs_config.specs.Apply.{IsCommand, IsKey, apply, are_channels_full, are_spent_full, config_after, has_no_channel, has_wrong_offset, has_wrong_start, is_channel_taken, is_in_use, is_key_spent, is_long_key, is_own_sci, is_slot_empty, is_slot_taken, is_wrong_end_station, refusal_of}
+use Rattle.macs_config.specs.Apply.{IsCommand, IsKey, LongKey, Named, Reason, apply, are_channels_full, are_spent_full, config_after, has_no_channel, has_wrong_offset, has_wrong_start, is_channel_taken, is_in_use, is_key_spent, is_long_key, is_own_sci, is_slot_empty, is_slot_taken, is_wrong_end_station, refusal_of}
 use Rattle.macs_config.specs.Config.{Config, Edition, IsConfig, IsUpTo, default, has_channel, takes_key}
 use Rattle.macs_config.specs.Identity.{Identity}
 use Rattle.macs_config.specs.Snapshot.{are_ordered, whole_config, may_follow, place_of, config_of_parts, config_with_part, config_with_parts}
@@ -11,28 +11,27 @@ use Rattle.macs_config.specs.declared.command.Command.{Command}
 use Rattle.macs_config.specs.declared.command.Command.TheVariants.{RxAdd, RxDrop, RxInstall, RxRemove, SetReplay, SetSciMode, SetValidate, TxInstall, TxRemove, TxUse}
 use Rattle.macs_config.specs.declared.part.Part.{Part}
 use Rattle.macs_config.specs.declared.part.Part.TheVariants.{Settings, TxSa, Channel, RxSa, Spent}
-use Rattle.macs_config.specs.declared.refusal.Refusal.{Refusal}
-use Rattle.macs_config.specs.declared.refusal.Refusal.TheVariants.{ChannelTaken, ChannelsFull, EndStationSci, InUse, KeySpent, LongKey, NoChannel, OffsetChoice, OwnSci, SlotEmpty, SlotTaken, SpentFull, StartRange}
+use Rattle.macs_config.specs.declared.refusal.Refusal.TheVariants.{ChannelTaken, ChannelsFull, EndStationSci, InUse, KeySpent, NoChannel, OffsetChoice, OwnSci, SlotEmpty, SlotTaken, SpentFull, StartRange}
 use Rattle.macs_config.proofs.Kept.{applied_by}
 use Rattle.macs_config.proofs.Refused.{taken_by}
 
 -- a channel that is refused by no test is refused by none where fewer are full
 add_by : (own taken full fuller : Bool) → (full ≡ false → fuller ≡ false)
-    → cond own (Some OwnSci) (cond taken (Some ChannelTaken) (cond full (Some ChannelsFull) None)) ≡ None
-    → cond own (Some OwnSci) (cond taken (Some ChannelTaken) (cond fuller (Some ChannelsFull) None)) ≡ None
+    → cond own (Some (Named OwnSci)) (cond taken (Some (Named ChannelTaken)) (cond full (Some (Named ChannelsFull)) None)) ≡ None
+    → cond own (Some (Named OwnSci)) (cond taken (Some (Named ChannelTaken)) (cond fuller (Some (Named ChannelsFull)) None)) ≡ None
 add_by true taken full fuller room is = cc
 add_by false true full fuller room is = cc
 add_by false false true fuller room is = cc
-add_by false false false fuller room is = ap (λ (test : Bool). cond test (Some ChannelsFull) None) (room refl)
+add_by false false false fuller room is = ap (λ (test : Bool). cond test (Some (Named ChannelsFull)) None) (room refl)
 
 -- an install that is refused by no test is refused by none where fewer keys are too long
-last_behind : (refusal : Refusal) (test : Bool) (others : List (Refusal × Bool)) (long longer : Bool)
+last_behind : (refusal : Reason) (test : Bool) (others : List (Reason × Bool)) (long longer : Bool)
     → (first (others ++ (LongKey, long) ∷ []) ≡ None → first (others ++ (LongKey, longer) ∷ []) ≡ None)
     → cond test (Some refusal) (first (others ++ (LongKey, long) ∷ [])) ≡ None → cond test (Some refusal) (first (others ++ (LongKey, longer) ∷ [])) ≡ None
 last_behind refusal true others long longer later is = cc
 last_behind refusal false others long longer later is = later is
 
-last_by : (rows : List (Refusal × Bool)) (long longer : Bool) → (long ≡ false → longer ≡ false)
+last_by : (rows : List (Reason × Bool)) (long longer : Bool) → (long ≡ false → longer ≡ false)
     → first (rows ++ (LongKey, long) ∷ []) ≡ None → first (rows ++ (LongKey, longer) ∷ []) ≡ None
 last_by [] true longer fewer is = cc
 last_by [] false longer fewer is = ap (λ (test : Bool). cond test (Some LongKey) None) (fewer refl)
@@ -67,8 +66,8 @@ module _ (small large : Edition) (up_to : IsUpTo small large) where
   not_refused identity c (SetSciMode mode) is = is
   not_refused identity c (TxInstall an key start confidential offset) is =
       let install = TxInstall an key start confidential offset in
-      last_by ((StartRange, has_wrong_start install) ∷ (OffsetChoice, has_wrong_offset install) ∷ (SlotTaken, is_slot_taken c install)
-      ∷ (KeySpent, is_key_spent c install) ∷ (SpentFull, are_spent_full c install) ∷ [])
+      last_by ((Named StartRange, has_wrong_start install) ∷ (Named OffsetChoice, has_wrong_offset install) ∷ (Named SlotTaken, is_slot_taken c install)
+      ∷ (Named KeySpent, is_key_spent c install) ∷ (Named SpentFull, are_spent_full c install) ∷ [])
       (is_long_key small install) (is_long_key large install) (not_long (octets_of_key key)) is
   not_refused identity c (TxUse an) is = is
   not_refused identity c (TxRemove an) is = is
@@ -78,8 +77,8 @@ module _ (small large : Edition) (up_to : IsUpTo small large) where
   not_refused identity c (RxDrop sci) is = is
   not_refused identity c (RxInstall sci an key start offset) is =
       let install = RxInstall sci an key start offset in
-      last_by ((StartRange, has_wrong_start install) ∷ (OffsetChoice, has_wrong_offset install) ∷ (NoChannel, has_no_channel c install)
-      ∷ (SlotTaken, is_slot_taken c install) ∷ (KeySpent, is_key_spent c install) ∷ (SpentFull, are_spent_full c install) ∷ [])
+      last_by ((Named StartRange, has_wrong_start install) ∷ (Named OffsetChoice, has_wrong_offset install) ∷ (Named NoChannel, has_no_channel c install)
+      ∷ (Named SlotTaken, is_slot_taken c install) ∷ (Named KeySpent, is_key_spent c install) ∷ (Named SpentFull, are_spent_full c install) ∷ [])
       (is_long_key small install) (is_long_key large install) (not_long (octets_of_key key)) is
   not_refused identity c (RxRemove sci an) is = is
 
@@ -165,8 +164,8 @@ module _ (small large : Edition) (up_to : IsUpTo small large) where
 
 -- the last refusal is none where its test fails
 last-never : (start offset own station none taken full slot empty encoding spent keys long : Bool) → long ≡ false
-    → ¬ (first ((StartRange, start) ∷ (OffsetChoice, offset) ∷ (OwnSci, own) ∷ (EndStationSci, station) ∷ (NoChannel, none) ∷ (ChannelTaken, taken)
-    ∷ (ChannelsFull, full) ∷ (SlotTaken, slot) ∷ (SlotEmpty, empty) ∷ (InUse, encoding) ∷ (KeySpent, spent) ∷ (SpentFull, keys) ∷ (LongKey, long) ∷ []) ≡ Some LongKey)
+    → ¬ (first ((Named StartRange, start) ∷ (Named OffsetChoice, offset) ∷ (Named OwnSci, own) ∷ (Named EndStationSci, station) ∷ (Named NoChannel, none) ∷ (Named ChannelTaken, taken)
+    ∷ (Named ChannelsFull, full) ∷ (Named SlotTaken, slot) ∷ (Named SlotEmpty, empty) ∷ (Named InUse, encoding) ∷ (Named KeySpent, spent) ∷ (Named SpentFull, keys) ∷ (LongKey, long) ∷ []) ≡ Some LongKey)
 last-never true offset own station none taken full slot empty encoding spent keys long fails is = cc
 last-never false true own station none taken full slot empty encoding spent keys long fails is = cc
 last-never false false true station none taken full slot empty encoding spent keys long fails is = cc

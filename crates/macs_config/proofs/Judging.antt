@@ -1,5 +1,5 @@
 -- What the check of a command judges, and what it makes of a configuration.
-use Rattle.std.proofs.Common.{◌≡◌, ◌==◌, ◌∙◌, ◌↔◌, if◌then◌else◌, [], ◌∷◌, ◌||◌, ◌&&◌, ◌<◌, ℕ, List, Bool, true, false, not, nat_le, length, get_or, Option, Some, None, is_none, is_some, Result, Ok, Err, refl, sym, ap, arith}
+use Rattle.std.proofs.Common.{◌≡◌, ◌==◌, ◌∙◌, ◌↔◌, ◌⊎◌, if◌then◌else◌, [], ◌∷◌, ◌||◌, ◌&&◌, ◌<◌, ℕ, List, Bool, true, false, not, nat_le, length, get_or, Option, Some, None, is_none, is_some, Result, Ok, Err, refl, sym, ap, arith, inl, inr}
 use Rattle.std.proofs.lemmas.Bool.{eq-eqb, ne_eqb}
 use Rattle.std.proofs.lemmas.List.{get_or_default}
 use Rattle.macs_aes.specs.Keys.{HasItsLength, key_of_octets, key_of_octets-octets_of_key, octets_of_key}
@@ -8,7 +8,7 @@ use Rattle.macs_fields.specs.Fields.{octets_of}
 use Rattle.macs_fields.specs.First.{first}
 use Rattle.macs_fields.specs.declared.fields.Offset.{Offset}
 use Rattle.macs_fields.specs.declared.fields.Offset.TheVariants.{Zero, Thirty, Fifty}
-use Rattle.macs_config.specs.Apply.{answer_or_refusal, config_after, offset_at, refusal_of}
+use Rattle.macs_config.specs.Apply.{LongKey, Named, Reason, answer_or_refusal, config_after, offset_at, refusal_of}
 use Rattle.macs_config.specs.Association.{is_confidential, offset_of}
 use Rattle.macs_config.specs.Config.{Config, has_channel, is_spent, max_spent, rx_fingerprint, takes_key, this_edition, tx_fingerprint}
 use Rattle.macs_config.specs.Identity.{Identity}
@@ -22,7 +22,7 @@ use Rattle.macs_config.specs.declared.checked.Judged.TheVariants as judged
 use Rattle.macs_config.specs.declared.command.Command.{Command}
 use Rattle.macs_config.specs.declared.command.Command.TheVariants.{SetValidate, SetReplay, SetSciMode, TxInstall, TxUse, TxRemove, RxAdd, RxDrop, RxInstall, RxRemove}
 use Rattle.macs_config.specs.declared.refusal.Refusal.{Refusal}
-use Rattle.macs_config.specs.declared.refusal.Refusal.TheVariants.{StartRange, OffsetChoice, OwnSci, EndStationSci, NoChannel, ChannelTaken, ChannelsFull, SlotTaken, SlotEmpty, InUse, KeySpent, SpentFull, LongKey}
+use Rattle.macs_config.specs.declared.refusal.Refusal.TheVariants.{StartRange, OffsetChoice, OwnSci, EndStationSci, NoChannel, ChannelTaken, ChannelsFull, SlotTaken, SlotEmpty, InUse, KeySpent, SpentFull}
 
 -- ---- what it makes of a configuration
 
@@ -110,61 +110,63 @@ slot-is tx place an other result test within same is holds =
 -- ---- what is answered
 
 -- what a key is refused as
-abbrev pub key_refused : Bool → Bool → Bool → Option Refusal
-key_refused spent full long = if spent then Some KeySpent else if full then Some SpentFull else if long then Some LongKey else None
+abbrev pub key_refused : Bool → Bool → Option Refusal
+key_refused spent full = if spent then Some KeySpent else if full then Some SpentFull else None
+
+-- a key has one of the two lengths, and both are taken
+pub each-taken : (key : List ℕ) → (length key ≡ 16) ⊎ (length key ≡ 32) → takes_key this_edition key ≡ true
+each-taken key (inl short) = ap (λ (n : ℕ). (n == 32) || (n == 16)) short
+each-taken key (inr long) = ap (λ (n : ℕ). (n == 32) || (n == 16)) long
 
 module _ (command : Command) where
   -- what a check answers by the tests that an install can fail
-  abbrev answer_by : Bool → Bool → Bool → Bool → Bool → Bool → Bool → Result Command Refusal
+  abbrev answer_by : Bool → Bool → Bool → Bool → Bool → Bool → Bool → Result Command Reason
   answer_by start offset none taken spent full long = answer_or_refusal (first (
-      (StartRange, start) ∷ (OffsetChoice, offset) ∷ (OwnSci, false) ∷ (EndStationSci, false) ∷ (NoChannel, none) ∷ (ChannelTaken, false)
-      ∷ (ChannelsFull, false) ∷ (SlotTaken, taken) ∷ (SlotEmpty, false) ∷ (InUse, false) ∷ (KeySpent, spent) ∷ (SpentFull, full) ∷ (LongKey, long) ∷ [])) command
+      (Named StartRange, start) ∷ (Named OffsetChoice, offset) ∷ (Named OwnSci, false) ∷ (Named EndStationSci, false) ∷ (Named NoChannel, none) ∷ (Named ChannelTaken, false)
+      ∷ (Named ChannelsFull, false) ∷ (Named SlotTaken, taken) ∷ (Named SlotEmpty, false) ∷ (Named InUse, false) ∷ (Named KeySpent, spent) ∷ (Named SpentFull, full) ∷ (LongKey, long) ∷ [])) command
 
-  refused-as : (spent full long : Bool) (refusal : Refusal) → Some refusal ≡ key_refused spent full long
-      → Err refusal ≡ answer_by false false false false spent full long
-  refused-as true full long refusal is = ap Err (let same : refusal ≡ KeySpent = cc in same)
-  refused-as false true long refusal is = ap Err (let same : refusal ≡ SpentFull = cc in same)
-  refused-as false false true refusal is = ap Err (let same : refusal ≡ LongKey = cc in same)
-  refused-as false false false refusal is = cc
+  refused-as : (spent full long : Bool) (refusal : Refusal) → Some refusal ≡ key_refused spent full
+      → Err (Named refusal) ≡ answer_by false false false false spent full long
+  refused-as true full long refusal is = ap (λ (r : Refusal). Err (Named r)) (let same : refusal ≡ KeySpent = cc in same)
+  refused-as false true long refusal is = ap (λ (r : Refusal). Err (Named r)) (let same : refusal ≡ SpentFull = cc in same)
+  refused-as false false long refusal is = cc
 
-  taken-as : (spent full long : Bool) → None ≡ key_refused spent full long → Ok command ≡ answer_by false false false false spent full long
-  taken-as true full long is = cc
-  taken-as false true long is = cc
-  taken-as false false true is = cc
-  taken-as false false false is = refl
+  taken-as : (spent full long : Bool) → long ≡ false → None ≡ key_refused spent full
+      → Ok command ≡ answer_by false false false false spent full long
+  taken-as true full long short is = cc
+  taken-as false true long short is = cc
+  taken-as false false true short is = cc
+  taken-as false false false short is = refl
 
   module _ (start offset none taken spent full long : Bool) where
-    by-start : start ≡ true → Err StartRange ≡ answer_by start offset none taken spent full long
+    by-start : start ≡ true → Err (Named StartRange) ≡ answer_by start offset none taken spent full long
     by-start is = sym (λ i. answer_by (is i) offset none taken spent full long)
 
     module _ (above : start ≡ false) where
-      by-offset : offset ≡ true → Err OffsetChoice ≡ answer_by start offset none taken spent full long
+      by-offset : offset ≡ true → Err (Named OffsetChoice) ≡ answer_by start offset none taken spent full long
       by-offset is = sym (λ i. answer_by (above i) (is i) none taken spent full long)
 
       module _ (right : offset ≡ false) where
-        by-channel : none ≡ true → Err NoChannel ≡ answer_by start offset none taken spent full long
+        by-channel : none ≡ true → Err (Named NoChannel) ≡ answer_by start offset none taken spent full long
         by-channel is = sym (λ i. answer_by (above i) (right i) (is i) taken spent full long)
 
         module _ (there : none ≡ false) where
-          by-slot : taken ≡ true → Err SlotTaken ≡ answer_by start offset none taken spent full long
+          by-slot : taken ≡ true → Err (Named SlotTaken) ≡ answer_by start offset none taken spent full long
           by-slot is = sym (λ i. answer_by (above i) (right i) (there i) (is i) spent full long)
 
           module _ (free : taken ≡ false) where
             all-pass : answer_by false false false false spent full long ≡ answer_by start offset none taken spent full long
             all-pass = sym (λ i. answer_by (above i) (right i) (there i) (free i) spent full long)
 
-            by-key : (refusal : Refusal) → Some refusal ≡ key_refused spent full long → Err refusal ≡ answer_by start offset none taken spent full long
+            by-key : (refusal : Refusal) → Some refusal ≡ key_refused spent full → Err (Named refusal) ≡ answer_by start offset none taken spent full long
             by-key refusal is = refused-as spent full long refusal is ∙ all-pass
 
-            by-none : None ≡ key_refused spent full long → Ok command ≡ answer_by start offset none taken spent full long
-            by-none is = taken-as spent full long is ∙ all-pass
+            by-none : long ≡ false → None ≡ key_refused spent full → Ok command ≡ answer_by start offset none taken spent full long
+            by-none short is = taken-as spent full long short is ∙ all-pass
 
--- a key that is refused as nothing is taken
-key-taken : (spent full long : Bool) → None ≡ key_refused spent full long → long ≡ false
-key-taken true full long is = cc
-key-taken false true long is = cc
-key-taken false false true is = cc
-key-taken false false false is = refl
+-- the key that is made of octets that are taken is none that is too long
+key-taken : (octets : List ℕ) → takes_key this_edition octets ≡ true → not (takes_key this_edition (octets_of_key (key_of_octets octets))) ≡ false
+key-taken octets taken = ap (λ (key : List ℕ). not (takes_key this_edition key)) (octets-back octets) ∙ ap not taken
 
 -- ---- a transmit install
 
@@ -184,38 +186,39 @@ module _ (identity : Identity) (c : Config) (an : ℕ) (key : Key) (start : ℕ)
   abbrev tx_long : Bool
   tx_long = not (takes_key this_edition (octets_of_key key))
 
-  abbrev tx_answer : Result Command Refusal
+  abbrev tx_answer : Result Command Reason
   tx_answer = answer_or_refusal (refusal_of this_edition identity c tx_asked) tx_asked
 
-  pub tx-no-start : (start == 0) ≡ true → Err StartRange ≡ tx_answer
+  pub tx-no-start : (start == 0) ≡ true → Err (Named StartRange) ≡ tx_answer
   tx-no-start = by-start tx_asked (start == 0) tx_wrong false (is_some (c.tx an)) tx_spent tx_full tx_long
 
   module _ (above : (start == 0) ≡ false) where
-    pub tx-no-offset : tx_wrong ≡ true → Err OffsetChoice ≡ tx_answer
+    pub tx-no-offset : tx_wrong ≡ true → Err (Named OffsetChoice) ≡ tx_answer
     tx-no-offset = by-offset tx_asked (start == 0) tx_wrong false (is_some (c.tx an)) tx_spent tx_full tx_long above
 
     module _ (right : tx_wrong ≡ false) where
-      pub tx-no-slot : is_some (c.tx an) ≡ true → Err SlotTaken ≡ tx_answer
+      pub tx-no-slot : is_some (c.tx an) ≡ true → Err (Named SlotTaken) ≡ tx_answer
       tx-no-slot = by-slot tx_asked (start == 0) tx_wrong false (is_some (c.tx an)) tx_spent tx_full tx_long above right refl
 
       module _ (free : is_some (c.tx an) ≡ false) where
-        pub tx-no-key : (refusal : Refusal) → Some refusal ≡ key_refused tx_spent tx_full tx_long → Err refusal ≡ tx_answer
+        pub tx-no-key : (refusal : Refusal) → Some refusal ≡ key_refused tx_spent tx_full → Err (Named refusal) ≡ tx_answer
         tx-no-key = by-key tx_asked (start == 0) tx_wrong false (is_some (c.tx an)) tx_spent tx_full tx_long above right refl free
 
-        pub tx-passes : None ≡ key_refused tx_spent tx_full tx_long → Ok tx_asked ≡ tx_answer
+        pub tx-passes : tx_long ≡ false → None ≡ key_refused tx_spent tx_full → Ok tx_asked ≡ tx_answer
         tx-passes = by-none tx_asked (start == 0) tx_wrong false (is_some (c.tx an)) tx_spent tx_full tx_long above right refl free
 
 module _ (an : ℕ) (sa : TxSa) (start : ℕ) where
   -- what was judged of it
-  pub tx-judged : (fingerprint : List ℕ) (spent full : Bool) → 0 < start → fingerprint ≡ tx_fingerprint sa.key
-      → None ≡ key_refused spent full (not (takes_key this_edition (octets_of_key (key_of_octets sa.key))))
-      → IsJudged (judged.TxInstall an sa start fingerprint)
-  tx-judged fingerprint spent full above is unrefused = (
+  pub tx-judged : (fingerprint : List ℕ) → 0 < start → fingerprint ≡ tx_fingerprint sa.key → IsJudged (judged.TxInstall an sa start fingerprint)
+  tx-judged fingerprint above is = (
     ap Some (is ∙ ap tx_fingerprint (sym (octets-back sa.key))),
     a-start start above,
     right-protection sa.protection,
-    key-taken spent full _ unrefused,
   )
+
+  -- its key is taken
+  pub tx-short : (length sa.key ≡ 16) ⊎ (length sa.key ≡ 32) → not (takes_key this_edition (octets_of_key (key_of_octets sa.key))) ≡ false
+  tx-short size = key-taken sa.key (each-taken sa.key size)
 
   -- the command that asked for it
   pub tx-asked : (key : Key) → HasItsLength key → (from : ℕ) (confidential : Bool) (octets : ℕ) → sa.key ≡ octets_of_key key → start ≡ from
@@ -243,42 +246,43 @@ module _ (identity : Identity) (c : Config) (sci : List ℕ) (an : ℕ) (key : K
   abbrev rx_none : Bool
   rx_none = not (has_channel c sci)
 
-  abbrev rx_answer : Result Command Refusal
+  abbrev rx_answer : Result Command Reason
   rx_answer = answer_or_refusal (refusal_of this_edition identity c rx_asked) rx_asked
 
-  pub rx-no-start : (start == 0) ≡ true → Err StartRange ≡ rx_answer
+  pub rx-no-start : (start == 0) ≡ true → Err (Named StartRange) ≡ rx_answer
   rx-no-start = by-start rx_asked (start == 0) (is_none (offset_at octets)) rx_none (is_some (c.rx sci an)) rx_spent rx_full rx_long
 
   module _ (above : (start == 0) ≡ false) where
-    pub rx-no-offset : is_none (offset_at octets) ≡ true → Err OffsetChoice ≡ rx_answer
+    pub rx-no-offset : is_none (offset_at octets) ≡ true → Err (Named OffsetChoice) ≡ rx_answer
     rx-no-offset = by-offset rx_asked (start == 0) (is_none (offset_at octets)) rx_none (is_some (c.rx sci an)) rx_spent rx_full rx_long above
 
     module _ (right : is_none (offset_at octets) ≡ false) where
-      pub rx-no-channel : rx_none ≡ true → Err NoChannel ≡ rx_answer
+      pub rx-no-channel : rx_none ≡ true → Err (Named NoChannel) ≡ rx_answer
       rx-no-channel = by-channel rx_asked (start == 0) (is_none (offset_at octets)) rx_none (is_some (c.rx sci an)) rx_spent rx_full rx_long above right
 
       module _ (there : rx_none ≡ false) where
-        pub rx-no-slot : is_some (c.rx sci an) ≡ true → Err SlotTaken ≡ rx_answer
+        pub rx-no-slot : is_some (c.rx sci an) ≡ true → Err (Named SlotTaken) ≡ rx_answer
         rx-no-slot = by-slot rx_asked (start == 0) (is_none (offset_at octets)) rx_none (is_some (c.rx sci an)) rx_spent rx_full rx_long above right there
 
         module _ (free : is_some (c.rx sci an) ≡ false) where
-          pub rx-no-key : (refusal : Refusal) → Some refusal ≡ key_refused rx_spent rx_full rx_long → Err refusal ≡ rx_answer
+          pub rx-no-key : (refusal : Refusal) → Some refusal ≡ key_refused rx_spent rx_full → Err (Named refusal) ≡ rx_answer
           rx-no-key = by-key rx_asked (start == 0) (is_none (offset_at octets)) rx_none (is_some (c.rx sci an)) rx_spent rx_full rx_long above right there free
 
-          pub rx-passes : None ≡ key_refused rx_spent rx_full rx_long → Ok rx_asked ≡ rx_answer
+          pub rx-passes : rx_long ≡ false → None ≡ key_refused rx_spent rx_full → Ok rx_asked ≡ rx_answer
           rx-passes = by-none rx_asked (start == 0) (is_none (offset_at octets)) rx_none (is_some (c.rx sci an)) rx_spent rx_full rx_long above right there free
 
 module _ (sci : List ℕ) (an : ℕ) (sa : RxSa) (start : ℕ) where
   -- what was judged of it
-  pub rx-judged : (fingerprint : List ℕ) (spent full : Bool) → 0 < start → fingerprint ≡ rx_fingerprint sci sa.key
-      → None ≡ key_refused spent full (not (takes_key this_edition (octets_of_key (key_of_octets sa.key))))
-      → IsJudged (judged.RxInstall sci an sa start fingerprint)
-  rx-judged fingerprint spent full above is unrefused = (
+  pub rx-judged : (fingerprint : List ℕ) → 0 < start → fingerprint ≡ rx_fingerprint sci sa.key → IsJudged (judged.RxInstall sci an sa start fingerprint)
+  rx-judged fingerprint above is = (
     ap Some (is ∙ ap (rx_fingerprint sci) (sym (octets-back sa.key))),
     a-start start above,
     right-offset sa.offset,
-    key-taken spent full _ unrefused,
   )
+
+  -- its key is taken
+  pub rx-short : (length sa.key ≡ 16) ⊎ (length sa.key ≡ 32) → not (takes_key this_edition (octets_of_key (key_of_octets sa.key))) ≡ false
+  rx-short size = key-taken sa.key (each-taken sa.key size)
 
   -- the command that asked for it
   pub rx-asked : (key : Key) → HasItsLength key → (from octets : ℕ) → sa.key ≡ octets_of_key key → start ≡ from → octets ≡ octets_of sa.offset

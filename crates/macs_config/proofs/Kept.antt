@@ -3,7 +3,7 @@ use Rattle.std.proofs.Common.{◌≡◌, ◌∙◌, ◌<◌, ℕ, Bool, true, fa
 use Rattle.std.proofs.lemmas.Bool.{leb-false, not-false, or_from, or_left, or_right}
 use Rattle.macs_aes.specs.Keys.{octets_of_key}
 use Rattle.macs_fields.specs.First.{first}
-use Rattle.macs_config.specs.Apply.{apply, config_after, is_channel_taken, are_channels_full, is_long_key, offset_or_zero, is_wrong_end_station, is_in_use, is_encoding, is_key_spent, has_no_channel, offset_at, is_own_sci, refusal_of, refusals, is_slot_empty, are_spent_full, answer_or_refusal}
+use Rattle.macs_config.specs.Apply.{Reason, apply, config_after, is_channel_taken, are_channels_full, is_long_key, offset_or_zero, is_wrong_end_station, is_in_use, is_encoding, is_key_spent, has_no_channel, offset_at, is_own_sci, refusal_of, refusals, is_slot_empty, are_spent_full, answer_or_refusal}
 use Rattle.macs_config.specs.Association.{is_end_station, protection_of}
 use Rattle.macs_config.specs.Config.{Config, Edition, IsConfig, is_among, is_spent, max_spent, put_among, rx_fingerprint, takes_key, tx_fingerprint}
 use Rattle.macs_config.specs.Identity.{Identity, is_port_one}
@@ -14,7 +14,6 @@ use Rattle.macs_config.specs.declared.command.Command.{Command}
 use Rattle.macs_config.specs.declared.command.Command.TheVariants.{RxAdd, RxDrop, RxInstall, RxRemove, SetReplay, SetSciMode, SetValidate, TxInstall, TxRemove, TxUse}
 use Rattle.macs_config.specs.declared.command.SciMode.{SciMode}
 use Rattle.macs_config.specs.declared.command.SciMode.TheVariants.{EndStation, Explicit, Implicit}
-use Rattle.macs_config.specs.declared.refusal.Refusal.{Refusal}
 use Rattle.macs_config.proofs.Channels.{among-filter, among-put_among, ascending-filter, ascending-put_among, bytes_eq-itself, length-filter-le, length-put_among, not_among-filter}
 use Rattle.macs_config.proofs.Spent.{among-before, among-behind, distinct-push}
 use Rattle.macs_config.proofs.Sides.{AreChannels, IsReceiveSide, IsSpentList, IsTransmitSide, channels_of, from_sides, receive_side, transmit_side}
@@ -36,7 +35,7 @@ no_test : {R : Type 0} (rows : List (R × Bool)) → first rows ≡ None → NoT
 no_test [] is = tt
 no_test (row ∷ rows) is = no_test_by row.0 row.1 rows (no_test rows) is
 
-pub applied_by : (refusal : Option Refusal) (made new : Config) → answer_or_refusal refusal made ≡ Ok new → (refusal ≡ None) × (made ≡ new)
+pub applied_by : (refusal : Option Reason) (made new : Config) → answer_or_refusal refusal made ≡ Ok new → (refusal ≡ None) × (made ≡ new)
 applied_by None made new is = (refl, cc)
 applied_by (Some refusal) made new is = cc
 

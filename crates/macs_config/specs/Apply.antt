@@ -16,7 +16,7 @@ use Rattle.macs_config.specs.declared.command.Command.TheVariants.{SetValidate, 
 use Rattle.macs_config.specs.declared.command.Role.{Role}
 use Rattle.macs_config.specs.declared.command.Role.TheVariants.{Transmit, Receive}
 use Rattle.macs_config.specs.declared.refusal.Refusal.{Refusal}
-use Rattle.macs_config.specs.declared.refusal.Refusal.TheVariants.{StartRange, OffsetChoice, OwnSci, EndStationSci, NoChannel, ChannelTaken, ChannelsFull, SlotTaken, SlotEmpty, InUse, KeySpent, SpentFull, LongKey}
+use Rattle.macs_config.specs.declared.refusal.Refusal.TheVariants.{StartRange, OffsetChoice, OwnSci, EndStationSci, NoChannel, ChannelTaken, ChannelsFull, SlotTaken, SlotEmpty, InUse, KeySpent, SpentFull}
 
 -- ---- ranges
 
@@ -38,6 +38,13 @@ IsCommand (RxDrop sci) = IsSci sci
 IsCommand (RxInstall sci an key start offset) =
     IsSci sci × IsAn an × IsKey (octets_of_key key) × (start < 2 ^ 32) × (offset < 2 ^ 8)
 IsCommand (RxRemove sci an) = IsSci sci × IsAn an
+
+-- ---- why a command is refused
+
+-- one of the refusals that this program names, or the one that an edition without long keys had beside them: the key is longer than it takes
+pub data Reason : Type 0 where
+  Named : Refusal → Reason
+  LongKey : Reason
 
 -- ---- the tests of the refusals, each on every command
 
@@ -127,26 +134,26 @@ is_long_key edition (TxInstall an key start confidential offset) = not (takes_ke
 is_long_key edition (RxInstall sci an key start offset) = not (takes_key edition (octets_of_key key))
 is_long_key edition command = false
 
--- every refusal with its test, in the order in which they are looked for
-abbrev pub refusals : Edition → Identity → Config → Command → List (Refusal × Bool)
+-- every reason with its test, in the order in which they are looked for
+abbrev pub refusals : Edition → Identity → Config → Command → List (Reason × Bool)
 refusals edition identity c command =
-    (StartRange, has_wrong_start command)
-    ∷ (OffsetChoice, has_wrong_offset command)
-    ∷ (OwnSci, is_own_sci identity command)
-    ∷ (EndStationSci, is_wrong_end_station identity command)
-    ∷ (NoChannel, has_no_channel c command)
-    ∷ (ChannelTaken, is_channel_taken c command)
-    ∷ (ChannelsFull, are_channels_full edition c command)
-    ∷ (SlotTaken, is_slot_taken c command)
-    ∷ (SlotEmpty, is_slot_empty c command)
-    ∷ (InUse, is_in_use c command)
-    ∷ (KeySpent, is_key_spent c command)
-    ∷ (SpentFull, are_spent_full c command)
+    (Named StartRange, has_wrong_start command)
+    ∷ (Named OffsetChoice, has_wrong_offset command)
+    ∷ (Named OwnSci, is_own_sci identity command)
+    ∷ (Named EndStationSci, is_wrong_end_station identity command)
+    ∷ (Named NoChannel, has_no_channel c command)
+    ∷ (Named ChannelTaken, is_channel_taken c command)
+    ∷ (Named ChannelsFull, are_channels_full edition c command)
+    ∷ (Named SlotTaken, is_slot_taken c command)
+    ∷ (Named SlotEmpty, is_slot_empty c command)
+    ∷ (Named InUse, is_in_use c command)
+    ∷ (Named KeySpent, is_key_spent c command)
+    ∷ (Named SpentFull, are_spent_full c command)
     ∷ (LongKey, is_long_key edition command)
     ∷ []
 
--- the first refusal that holds of a command, if any does
-abbrev pub refusal_of : Edition → Identity → Config → Command → Option Refusal
+-- the first reason to refuse a command, if there is any
+abbrev pub refusal_of : Edition → Identity → Config → Command → Option Reason
 refusal_of edition identity c command = first (refusals edition identity c command)
 
 -- ---- effects
@@ -178,13 +185,23 @@ config_after c (RxInstall sci an key start offset) = record c {
 }
 config_after c (RxRemove sci an) = record c { rx = put_at c.rx sci (put (c.rx sci) an None) }
 
--- the refusal, or the answer where there is none
-abbrev pub answer_or_refusal : {X : Type 0} → Option Refusal → X → Result X Refusal
+-- the reason, or the answer where there is none
+abbrev pub answer_or_refusal : {X : Type 0} → Option Reason → X → Result X Reason
 answer_or_refusal None answer = Ok answer
-answer_or_refusal (Some refusal) answer = Err refusal
+answer_or_refusal (Some reason) answer = Err reason
 
--- the configuration after a command, or the first refusal that holds
-abbrev pub apply : Edition → Identity → Config → Command → Result Config Refusal
+-- what this program answers, its refusal as the reason that it is
+abbrev pub with_reason : {X : Type 0} → Result X Refusal → Result X Reason
+with_reason (Ok answer) = Ok answer
+with_reason (Err refusal) = Err (Named refusal)
+
+-- the reason that a refusal is, if there is one
+abbrev pub reason_named : Option Refusal → Option Reason
+reason_named None = None
+reason_named (Some refusal) = Some (Named refusal)
+
+-- the configuration after a command, or the first reason to refuse it
+abbrev pub apply : Edition → Identity → Config → Command → Result Config Reason
 apply edition identity c command = answer_or_refusal (refusal_of edition identity c command) (config_after c command)
 
 -- the fingerprint that a command spends, if it installs

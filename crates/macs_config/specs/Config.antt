@@ -27,9 +27,9 @@ pub record Edition : Type 0 where
 abbrev pub first_edition : Edition
 first_edition = record { channels = 8; long_keys = false; format_two = false }
 
--- the edition that this program is of: as the first, and journals of format two
+-- the edition that this program is of: at most 32 receive channels, keys of 32 octets too, and areas of format two too
 abbrev pub this_edition : Edition
-this_edition = record { channels = 8; long_keys = false; format_two = true }
+this_edition = record { channels = 32; long_keys = true; format_two = true }
 
 -- whatever the smaller edition takes the larger takes too
 pub record IsUpTo (small large : Edition) : Type 0 where

@@ -6,9 +6,9 @@ use Rattle.macs_aes.specs.declared.keys.Key.TheVariants.{Long, Short}
 use Rattle.macs_fields.specs.Fields.{octets_of}
 use Rattle.macs_fields.specs.declared.fields.Offset.{Offset}
 use Rattle.macs_fields.specs.declared.fields.Offset.TheVariants.{Zero, Thirty, Fifty}
-use Rattle.macs_config.specs.Apply.{fingerprint_of, has_wrong_offset, has_wrong_start, is_long_key, offset_at, offset_or_zero}
+use Rattle.macs_config.specs.Apply.{fingerprint_of, has_wrong_offset, has_wrong_start, offset_at, offset_or_zero}
 use Rattle.macs_config.specs.Association.{is_confidential, offset_of, protection_of}
-use Rattle.macs_config.specs.Config.{Config, put_among, rx_fingerprint, this_edition, tx_fingerprint}
+use Rattle.macs_config.specs.Config.{Config, put_among, rx_fingerprint, tx_fingerprint}
 use Rattle.macs_config.specs.Tables.{put, put_at}
 use Rattle.macs_config.specs.declared.association.Protection.{Protection}
 use Rattle.macs_config.specs.declared.association.Protection.TheVariants.{Integrity, Confidentiality}
@@ -46,10 +46,10 @@ fingerprint_in (judged.TxInstall an sa start fingerprint) = Some fingerprint
 fingerprint_in (judged.RxInstall sci an sa start fingerprint) = Some fingerprint
 fingerprint_in other = None
 
--- Its fingerprint is the one that the command spends; the command has a start and an offset that may be, and a key that this edition takes.
+-- Its fingerprint is the one that the command spends; the command has a start and an offset that may be.
 abbrev pub IsJudged : Judged → Type 0
 IsJudged j = (fingerprint_in j ≡ fingerprint_of (asked_by j)) × (has_wrong_start (asked_by j) ≡ false)
-    × (has_wrong_offset (asked_by j) ≡ false) × (is_long_key this_edition (asked_by j) ≡ false)
+    × (has_wrong_offset (asked_by j) ≡ false)
 
 -- ---- effects
 

@@ -1,19 +1,18 @@
 //! Whether a command may be applied.
 
-ghost use Rattle.std.specs.Prelude.{◌≡◌, Some, None, not, length, nat_le, if◌then◌else◌};
-ghost use Rattle.macs_config.specs.Apply.{refusal_of, answer_or_refusal};
-ghost use Rattle.macs_config.specs.Config.{is_spent, max_spent, takes_key, this_edition};
+ghost use Rattle.std.specs.Prelude.{◌≡◌, Some, None, length, nat_le, if◌then◌else◌};
+ghost use Rattle.macs_config.specs.Apply.{answer_or_refusal, reason_named, refusal_of, with_reason};
+ghost use Rattle.macs_config.specs.Config.{is_spent, max_spent, this_edition};
 ghost use Rattle.macs_config.specs.Identity.{is_port_one};
 ghost use Rattle.macs_config.specs.Judged.{IsJudged, asked_by, rx_install, tx_install};
 ghost use Rattle.macs_config.specs.Value.{config_in};
 ghost use Rattle.macs_config.specs.declared.command.Command.TheVariants.{SetSciMode, TxInstall, TxUse, TxRemove, RxAdd, RxDrop, RxInstall, RxRemove};
-ghost use Rattle.macs_config.specs.declared.refusal.Refusal.TheVariants.{KeySpent, LongKey, SpentFull};
+ghost use Rattle.macs_config.specs.declared.refusal.Refusal.TheVariants.{KeySpent, SpentFull};
 
 use crate::association::{Protection, RxSa, TxSa};
 use crate::checked::{Checked, Judged};
 use crate::command::{Command, SciMode};
 use crate::contents::{Contents, MAX_CHANNELS};
-use crate::edition::takes_key;
 use crate::fingerprint::{Fingerprint, rx_fingerprint, tx_fingerprint};
 use crate::identity::Identity;
 use crate::refusal::Refusal;
@@ -30,7 +29,7 @@ pub(crate) fn check(
     identity: &Identity,
     command: &Command,
 ) -> Result<Checked, Refusal>
-    ensures { result ≡ answer_or_refusal (refusal_of this_edition identity.now (config_in contents.now) command.now) command.now }
+    ensures { with_reason result ≡ answer_or_refusal (refusal_of this_edition identity.now (config_in contents.now) command.now) command.now }
 {
     match *command {
         Command::SetValidate(validate) => Ok(Checked::of(Judged::SetValidate(validate))),
@@ -77,7 +76,7 @@ pub(crate) fn check(
 /// What the check of a command that spends no key answers.
 fn unless_refused(refusal: Option<Refusal>, judged: Judged) -> Result<Checked, Refusal>
     requires { IsJudged judged }
-    ensures { result ≡ answer_or_refusal refusal (asked_by judged) }
+    ensures { with_reason result ≡ answer_or_refusal (reason_named refusal) (asked_by judged) }
 {
     match refusal {
         Some(refusal) => Err(refusal),
@@ -86,7 +85,7 @@ fn unless_refused(refusal: Option<Refusal>, judged: Judged) -> Result<Checked, R
 }
 
 fn sci_mode_refusal(identity: &Identity, mode: SciMode) -> Option<Refusal>
-    ensures { (c : _) → result ≡ refusal_of this_edition identity.now c (SetSciMode mode) }
+    ensures { (c : _) → reason_named result ≡ refusal_of this_edition identity.now c (SetSciMode mode) }
 {
     if mode == SciMode::EndStation && !is_port_one(identity.sci()) {
         Some(Refusal::EndStationSci)
@@ -111,7 +110,7 @@ fn check_tx_install(
     confidential: bool,
     offset: u8,
 ) -> Result<Checked, Refusal>
-    ensures { (identity : _) → result ≡ answer_or_refusal (refusal_of this_edition identity (config_in contents.now)
+    ensures { (identity : _) → with_reason result ≡ answer_or_refusal (refusal_of this_edition identity (config_in contents.now)
         (TxInstall an key.now start confidential offset)) (TxInstall an key.now start confidential offset) }
 {
     let Some(start) = Pn::new(start) else {
@@ -130,7 +129,7 @@ fn check_tx_install(
 
 /// What is judged of an install of a transmit association.
 pub(crate) fn check_tx(contents: &Contents, an: An, sa: TxSa, start: Pn) -> Result<Checked, Refusal>
-    ensures { (identity : _) → result ≡ answer_or_refusal (refusal_of this_edition identity (config_in contents.now)
+    ensures { (identity : _) → with_reason result ≡ answer_or_refusal (refusal_of this_edition identity (config_in contents.now)
         (tx_install an sa start)) (tx_install an sa start) }
 {
     let _number = start.get(); // It is above 0.
@@ -139,7 +138,7 @@ pub(crate) fn check_tx(contents: &Contents, an: An, sa: TxSa, start: Pn) -> Resu
     }
     let octets = sa.key.as_slice();
     let fingerprint = tx_fingerprint(octets);
-    if let Some(refusal) = key_refusal(&contents.spent_tx, octets, &fingerprint) {
+    if let Some(refusal) = key_refusal(&contents.spent_tx, &fingerprint) {
         return Err(refusal);
     }
     Ok(Checked::of(Judged::TxInstall {
@@ -151,7 +150,7 @@ pub(crate) fn check_tx(contents: &Contents, an: An, sa: TxSa, start: Pn) -> Resu
 }
 
 fn tx_use_refusal(contents: &Contents, an: An) -> Option<Refusal>
-    ensures { (identity : _) → result ≡ refusal_of this_edition identity (config_in contents.now) (TxUse an) }
+    ensures { (identity : _) → reason_named result ≡ refusal_of this_edition identity (config_in contents.now) (TxUse an) }
 {
     if contents.tx[an.get() as usize].is_some() {
         None
@@ -161,7 +160,7 @@ fn tx_use_refusal(contents: &Contents, an: An) -> Option<Refusal>
 }
 
 fn tx_remove_refusal(contents: &Contents, an: An) -> Option<Refusal>
-    ensures { (identity : _) → result ≡ refusal_of this_edition identity (config_in contents.now) (TxRemove an) }
+    ensures { (identity : _) → reason_named result ≡ refusal_of this_edition identity (config_in contents.now) (TxRemove an) }
 {
     if contents.tx[an.get() as usize].is_none() {
         Some(Refusal::SlotEmpty)
@@ -173,7 +172,7 @@ fn tx_remove_refusal(contents: &Contents, an: An) -> Option<Refusal>
 }
 
 fn rx_add_refusal(contents: &Contents, identity: &Identity, sci: Sci) -> Option<Refusal>
-    ensures { result ≡ refusal_of this_edition identity.now (config_in contents.now) (RxAdd sci) }
+    ensures { reason_named result ≡ refusal_of this_edition identity.now (config_in contents.now) (RxAdd sci) }
 {
     if sci == identity.sci() {
         Some(Refusal::OwnSci)
@@ -187,7 +186,7 @@ fn rx_add_refusal(contents: &Contents, identity: &Identity, sci: Sci) -> Option<
 }
 
 fn rx_drop_refusal(contents: &Contents, sci: Sci) -> Option<Refusal>
-    ensures { (identity : _) → result ≡ refusal_of this_edition identity (config_in contents.now) (RxDrop sci) }
+    ensures { (identity : _) → reason_named result ≡ refusal_of this_edition identity (config_in contents.now) (RxDrop sci) }
 {
     if contents.has_channel(sci) {
         None
@@ -204,7 +203,7 @@ fn check_rx_install(
     start: u32,
     offset: u8,
 ) -> Result<Checked, Refusal>
-    ensures { (identity : _) → result ≡ answer_or_refusal (refusal_of this_edition identity (config_in contents.now)
+    ensures { (identity : _) → with_reason result ≡ answer_or_refusal (refusal_of this_edition identity (config_in contents.now)
         (RxInstall sci an key.now start offset)) (RxInstall sci an key.now start offset) }
 {
     let Some(start) = Pn::new(start) else {
@@ -226,7 +225,7 @@ pub(crate) fn check_rx(
     sa: RxSa,
     start: Pn,
 ) -> Result<Checked, Refusal>
-    ensures { (identity : _) → result ≡ answer_or_refusal (refusal_of this_edition identity (config_in contents.now)
+    ensures { (identity : _) → with_reason result ≡ answer_or_refusal (refusal_of this_edition identity (config_in contents.now)
         (rx_install sci an sa start)) (rx_install sci an sa start) }
 {
     let _number = start.get(); // It is above 0.
@@ -238,7 +237,7 @@ pub(crate) fn check_rx(
     }
     let octets = sa.key.as_slice();
     let fingerprint = rx_fingerprint(sci, octets);
-    if let Some(refusal) = key_refusal(&contents.spent_rx, octets, &fingerprint) {
+    if let Some(refusal) = key_refusal(&contents.spent_rx, &fingerprint) {
         return Err(refusal);
     }
     Ok(Checked::of(Judged::RxInstall {
@@ -251,7 +250,7 @@ pub(crate) fn check_rx(
 }
 
 fn rx_remove_refusal(contents: &Contents, sci: Sci, an: An) -> Option<Refusal>
-    ensures { (identity : _) → result ≡ refusal_of this_edition identity (config_in contents.now) (RxRemove sci an) }
+    ensures { (identity : _) → reason_named result ≡ refusal_of this_edition identity (config_in contents.now) (RxRemove sci an) }
 {
     if !contents.has_channel(sci) {
         Some(Refusal::NoChannel)
@@ -262,18 +261,15 @@ fn rx_remove_refusal(contents: &Contents, sci: Sci, an: An) -> Option<Refusal>
     }
 }
 
-/// What keeps a key of these octets, and its fingerprint, from being spent among those of its side.
-fn key_refusal(spent: &SpentKeys, octets: &[u8], fingerprint: &Fingerprint) -> Option<Refusal>
+/// What keeps a key of this fingerprint from being spent among those of its side.
+fn key_refusal(spent: &SpentKeys, fingerprint: &Fingerprint) -> Option<Refusal>
     ensures { result ≡ (if is_spent spent.now fingerprint.now then Some KeySpent
-        else if nat_le max_spent (length spent.now) then Some SpentFull
-        else if not (takes_key this_edition octets.now) then Some LongKey else None) }
+        else if nat_le max_spent (length spent.now) then Some SpentFull else None) }
 {
     if spent.contains(fingerprint) {
         Some(Refusal::KeySpent)
     } else if spent.len() >= MAX_SPENT {
         Some(Refusal::SpentFull)
-    } else if !takes_key(octets) {
-        Some(Refusal::LongKey)
     } else {
         None
     }

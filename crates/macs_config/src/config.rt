@@ -3,7 +3,7 @@
 ghost use Rattle.std.specs.Prelude.{◌≡◌, ◌≤◌, ◌↔◌, ℕ, List, false, if◌then◌else◌, length, slice_get, IfSome, None, Some, Ok, Err, IfOk, OnOk, OnErr};
 ghost use Rattle.std.specs.Option.{option_map};
 ghost use Rattle.macs_aes.specs.Keys.{octets_of_key};
-ghost use Rattle.macs_config.specs.Apply.{answer_or_refusal, apply, refusal_of};
+ghost use Rattle.macs_config.specs.Apply.{Named, answer_or_refusal, apply, refusal_of, with_reason};
 ghost use Rattle.macs_config.specs.Config.{IsConfig, default, has_channel, is_spent, rx_fingerprint, spent_of, this_edition, tx_fingerprint};
 ghost use Rattle.macs_config.specs.Judged.{rx_install, tx_install};
 ghost use Rattle.macs_config.specs.Snapshot.{config_of_listed, config_of_parts};
@@ -96,7 +96,7 @@ impl Config {
     /// hashes its key here, and nowhere after it.
     pub fn check(&self, command: &Command) -> Result<Checked, Refusal>
         ensures refused { (refusal : Refusal) → (result ≡ Err refusal)
-            ↔ (refusal_of this_edition self.now.identity (config_of self.now) command.now ≡ Some refusal) }
+            ↔ (refusal_of this_edition self.now.identity (config_of self.now) command.now ≡ Some (Named refusal)) }
         ensures fits { OnOk result (refusal_of this_edition self.now.identity (config_of self.now) command.now ≡ None) }
         ensures checked { IfOk result (λ checked. checked ≡ command.now) }
     {
@@ -105,7 +105,7 @@ impl Config {
 
     /// What `check` judges of the command that installs this transmit association.
     pub fn check_tx(&self, an: An, sa: TxSa, start: Pn) -> Result<Checked, Refusal>
-        ensures { result ≡ answer_or_refusal (refusal_of this_edition self.now.identity (config_of self.now)
+        ensures { with_reason result ≡ answer_or_refusal (refusal_of this_edition self.now.identity (config_of self.now)
             (tx_install an sa start)) (tx_install an sa start) }
     {
         check_tx(&self.contents, an, sa, start)
@@ -113,7 +113,7 @@ impl Config {
 
     /// What `check` judges of the command that installs this receive association.
     pub fn check_rx(&self, sci: Sci, an: An, sa: RxSa, start: Pn) -> Result<Checked, Refusal>
-        ensures { result ≡ answer_or_refusal (refusal_of this_edition self.now.identity (config_of self.now)
+        ensures { with_reason result ≡ answer_or_refusal (refusal_of this_edition self.now.identity (config_of self.now)
             (rx_install sci an sa start)) (rx_install sci an sa start) }
     {
         check_rx(&self.contents, sci, an, sa, start)
@@ -133,7 +133,7 @@ impl Config {
         ensures applied { OnOk result
             (apply this_edition self.old.identity (config_of self.old) command.now ≡ Ok (config_of self.new)) }
         ensures refused { (refusal : Refusal) → (result ≡ Err refusal)
-            ↔ (apply this_edition self.old.identity (config_of self.old) command.now ≡ Err refusal) }
+            ↔ (apply this_edition self.old.identity (config_of self.old) command.now ≡ Err (Named refusal)) }
         ensures identity { self.new.identity ≡ self.old.identity }
         ensures same { OnErr result (self.new ≡ self.old) }
     {

@@ -8,7 +8,7 @@ use arrayvec::ArrayVec;
 use macs_fields::{ASSOCIATIONS, An, Sci};
 
 /// How many receive channels may stand.
-pub const MAX_CHANNELS: usize = 8;
+pub const MAX_CHANNELS: usize = 32;
 
 /// A receive channel, with its associations by their numbers.
 #[derive(Default, Drop)]

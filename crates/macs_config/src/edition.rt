@@ -3,13 +3,15 @@
 ghost use Rattle.std.specs.Prelude.{◌≡◌};
 ghost use Rattle.macs_config.specs.Config.{takes_key, this_edition};
 
-/// How many octets a key has that this edition takes: those of GCM-AES-128 (IEEE Std 802.1AE-2018,
-/// 14.5).
-const KEY_OCTETS: usize = 16;
+/// How many octets a key of GCM-AES-128 has (IEEE Std 802.1AE-2018, 14.5).
+const SHORT: usize = 16;
+
+/// How many octets a key of GCM-AES-256 has (IEEE Std 802.1AE-2018, 14.6).
+const LONG: usize = 32;
 
 /// Whether this edition takes a key of these octets.
-pub fn takes_key(octets: &[u8]) -> bool
+pub(crate) fn takes_key(octets: &[u8]) -> bool
     ensures { result ≡ takes_key this_edition octets.now }
 {
-    octets.len() == KEY_OCTETS
+    octets.len() == LONG || octets.len() == SHORT
 }

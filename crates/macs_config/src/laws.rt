@@ -4,14 +4,13 @@
 ghost use Rattle.std.specs.Prelude.{◌≡◌, ◌<◌, ◌^◌, ◌++◌, ℕ, List, true, Some, Ok};
 ghost use Rattle.macs_aes.specs.Keys.{octets_of_key};
 ghost use Rattle.macs_fields.specs.Fields.{IsAn, IsSci};
-ghost use Rattle.macs_config.specs.Apply.{IsCommand, IsKey, apply, refusal_of, spent_by};
+ghost use Rattle.macs_config.specs.Apply.{IsCommand, IsKey, LongKey, apply, refusal_of, spent_by};
 ghost use Rattle.macs_config.specs.Config.{Config, Edition, IsConfig, IsUpTo, default, spent_of};
 ghost use Rattle.macs_config.specs.Identity.{Identity, IsIdentity};
 ghost use Rattle.macs_config.specs.Snapshot.{config_of_parts};
 ghost use Rattle.macs_config.specs.declared.command.Command.{Command};
 ghost use Rattle.macs_config.specs.declared.command.Role.{Role};
 ghost use Rattle.macs_config.specs.declared.part.Part.{Part};
-ghost use Rattle.macs_config.specs.declared.refusal.Refusal.TheVariants.{LongKey};
 
 use crate::{Command, Identity};
 use macs_aes::Key;

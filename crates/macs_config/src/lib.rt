@@ -24,7 +24,6 @@ pub use checked::{Checked, Judged};
 pub use command::{Command, Replay, Role, SciMode, Validate};
 pub use config::Config;
 pub use contents::MAX_CHANNELS;
-pub use edition::takes_key;
 pub use fingerprint::Fingerprint;
 pub use identity::Identity;
 pub use part::{Fingerprints, MAX_FINGERPRINTS, Part};

@@ -17,7 +17,7 @@ pub enum Refusal {
     NoChannel,
     /// A receive channel of that SCI stands.
     ChannelTaken,
-    /// As many receive channels stand as may: 8.
+    /// As many receive channels stand as may: 32.
     ChannelsFull,
     /// An association stands at that number.
     SlotTaken,
@@ -29,6 +29,4 @@ pub enum Refusal {
     KeySpent,
     /// As many keys are spent on that side as may be: 512.
     SpentFull,
-    /// The key has 32 octets, and this edition takes keys of 16 alone.
-    LongKey,
 }

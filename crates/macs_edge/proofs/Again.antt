@@ -25,7 +25,7 @@ use Rattle.macs_rxsc.proofs.Steps.{arrives_once}
 use Rattle.macs_store.specs.Value.{standing_in}
 use Rattle.macs_endpoint.specs.Calls.{IsCall}
 use Rattle.macs_endpoint.specs.Rooms.{IsEncodingAn}
-use Rattle.macs_endpoint.specs.State.{Advanced, Call, Logs, Protects, Protected, Ran, Received, Receives, Refilled, Refills, Reply, State, Submitted, no_logs, rx_side, tx_side}
+use Rattle.macs_endpoint.specs.State.{Advanced, AdvancedLong, Call, Logs, Protected, Protects, Ran, Received, Receives, Refilled, Refills, RefusedLong, Reply, State, Submitted, no_logs, rx_side, tx_side}
 use Rattle.macs_endpoint.specs.Step.{ArriveStep, IsStopped, RunningStep, Step, state_after_delivery, state_after_hold}
 use Rattle.macs_endpoint.specs.Value.{EndpointValue, IsSoundEndpoint, state_of}
 use Rattle.macs_endpoint.specs.declared.fault.ProtectFault.TheVariants as protect
@@ -207,6 +207,8 @@ module _ (s : State) (frame : List ℕ) (a : Arrival) (arrives : Arrives (rx_sid
   step-again (Refilled result) passed t settles step = absurd settles
   step-again (Submitted result) passed t settles step = absurd settles
   step-again (Advanced result) passed t settles step = absurd settles
+  step-again RefusedLong passed t settles step = absurd settles
+  step-again (AdvancedLong ticket) passed t settles step = absurd settles
   step-again (Protected result out) passed t settles (inl stopped) = absurd stopped.1
   step-again (Protected result out) passed t settles (inr ran) = absurd ran.1
 
@@ -231,6 +233,8 @@ waits_how (Ran result) waits = absurd waits
 waits_how (Refilled result) waits = absurd waits
 waits_how (Submitted result) waits = absurd waits
 waits_how (Advanced result) waits = absurd waits
+waits_how RefusedLong waits = absurd waits
+waits_how (AdvancedLong ticket) waits = absurd waits
 
 -- a frame is held back by arriving
 held_how : (s t : State) (frame out : List ℕ) → Step s (Receives frame) (Received (Ok HeldBack) out) t
@@ -426,6 +430,8 @@ module _ {D : Type 0} (disk_of : D → Disk) where
       never (Refilled result) s run = s
       never (Submitted result) s run = s
       never (Advanced result) s run = s
+      never RefusedLong s run = s
+      never (AdvancedLong ticket) s run = s
     not_stopped Common frame reply is call = elim (call.behaves.step no_logs).1 [
       | inl stopped ↦ (let running = runs no_logs in let s = stopped.0 in cc)
       | inr ran ↦ never reply is ran.1
@@ -438,6 +444,8 @@ module _ {D : Type 0} (disk_of : D → Disk) where
       never (Refilled result) s run = s
       never (Submitted result) s run = s
       never (Advanced result) s run = s
+      never RefusedLong s run = s
+      never (AdvancedLong ticket) s run = s
 
     -- so where nothing passes now the frame is left out
     pub dropped_again : (side : Side) (frame : List ℕ) (first : Reply) (out : List ℕ) (what : Outcome) → Waits first

@@ -6,7 +6,7 @@ use Rattle.macs_txsc.specs.declared.fault.TxFault.TheVariants.{Runt, ForeignSour
 use Rattle.macs_txsc.specs.declared.fault.TxFault.TheVariants as tx
 use Rattle.macs_rxsc.specs.declared.verdict.Verdict.TheVariants.{Delivered, Discarded, HeldBack}
 use Rattle.macs_endpoint.specs.Lives.{Lives, Transition}
-use Rattle.macs_endpoint.specs.State.{Advanced, Advances, Protected, Ran, Received, Refilled, Reply, Submitted}
+use Rattle.macs_endpoint.specs.State.{Advanced, AdvancedLong, Advances, Protected, Ran, Received, Refilled, RefusedLong, Reply, Submitted}
 use Rattle.macs_endpoint.specs.Step.{IsStopped}
 use Rattle.macs_endpoint.specs.Value.{EndpointValue}
 use Rattle.macs_endpoint.specs.declared.fault.ProtectFault.TheVariants as protect
@@ -109,6 +109,8 @@ given-passed (Ran result) out settles = absurd settles
 given-passed (Refilled result) out settles = absurd settles
 given-passed (Submitted result) out settles = absurd settles
 given-passed (Advanced result) out settles = absurd settles
+given-passed RefusedLong out settles = absurd settles
+given-passed (AdvancedLong ticket) out settles = absurd settles
 
 given-dropped : (reply : Reply) → Settles reply None → given_by reply ≡ []
 given-dropped (Protected (Ok pn) o) settles = absurd cc
@@ -121,6 +123,8 @@ given-dropped (Ran result) settles = refl
 given-dropped (Refilled result) settles = refl
 given-dropped (Submitted result) settles = refl
 given-dropped (Advanced result) settles = refl
+given-dropped RefusedLong settles = refl
+given-dropped (AdvancedLong ticket) settles = refl
 
 given-waits : (reply : Reply) → Waits reply → given_by reply ≡ []
 given-waits (Protected (Ok pn) o) waits = absurd waits
@@ -133,6 +137,8 @@ given-waits (Ran result) waits = refl
 given-waits (Refilled result) waits = refl
 given-waits (Submitted result) waits = refl
 given-waits (Advanced result) waits = refl
+given-waits RefusedLong waits = refl
+given-waits (AdvancedLong ticket) waits = refl
 
 given-stopped : (side : Side) (frame : List ℕ) (reply : Reply) → IsStopped (call_on side frame) reply → given_by reply ≡ []
 given-stopped Controlled frame (Protected (Ok pn) o) stopped = absurd stopped
@@ -142,6 +148,8 @@ given-stopped Controlled frame (Ran result) stopped = refl
 given-stopped Controlled frame (Refilled result) stopped = refl
 given-stopped Controlled frame (Submitted result) stopped = refl
 given-stopped Controlled frame (Advanced result) stopped = refl
+given-stopped Controlled frame RefusedLong stopped = refl
+given-stopped Controlled frame (AdvancedLong ticket) stopped = refl
 given-stopped Common frame (Received (Ok verdict) o) stopped = absurd stopped
 given-stopped Common frame (Received (Err s) o) stopped = refl
 given-stopped Common frame (Protected result o) stopped = absurd stopped
@@ -149,6 +157,8 @@ given-stopped Common frame (Ran result) stopped = refl
 given-stopped Common frame (Refilled result) stopped = refl
 given-stopped Common frame (Submitted result) stopped = refl
 given-stopped Common frame (Advanced result) stopped = refl
+given-stopped Common frame RefusedLong stopped = refl
+given-stopped Common frame (AdvancedLong ticket) stopped = refl
 
 abbrev other : Side → Side
 other Controlled = Common

@@ -10,7 +10,7 @@ use Rattle.macs_rxsc.specs.Receive.{Arrival, Arrives, RxStep, RxStepHolds, given
 use Rattle.macs_rxsc.specs.declared.verdict.Verdict.{Verdict}
 use Rattle.macs_rxsc.specs.declared.verdict.Verdict.TheVariants.{Delivered, Discarded, HeldBack}
 use Rattle.macs_rxsc.proofs.Steps.{arrives_once}
-use Rattle.macs_endpoint.specs.State.{Advanced, Protected, Protects, Ran, Received, Receives, Refilled, Reply, State, Submitted, rx_side, tx_side}
+use Rattle.macs_endpoint.specs.State.{Advanced, AdvancedLong, Protected, Protects, Ran, Received, Receives, Refilled, RefusedLong, Reply, State, Submitted, rx_side, tx_side}
 use Rattle.macs_endpoint.specs.Step.{Step, state_after_delivery, state_after_frame}
 use Rattle.macs_endpoint.specs.declared.fault.ProtectFault.TheVariants as protect
 use Rattle.macs_edge.specs.Settling.{Settles, call_on}
@@ -49,6 +49,8 @@ protects s t plain (Ran result) passed step settles = absurd settles
 protects s t plain (Refilled result) passed step settles = absurd settles
 protects s t plain (Submitted result) passed step settles = absurd settles
 protects s t plain (Advanced result) passed step settles = absurd settles
+protects s t plain RefusedLong passed step settles = absurd settles
+protects s t plain (AdvancedLong ticket) passed step settles = absurd settles
 
 goes_once : (s : State) (plain : List ℕ) (a b : Option (List ℕ)) (t u : State) → Goes s plain a t → Goes s plain b u → (a ≡ b) × (t ≡ u)
 goes_once s plain a b t u (inl (o, none, is, x, y)) (inl (p, none', is', x', y')) =
@@ -90,6 +92,8 @@ receives s t frame (Ran result) passed step settles = absurd settles
 receives s t frame (Refilled result) passed step settles = absurd settles
 receives s t frame (Submitted result) passed step settles = absurd settles
 receives s t frame (Advanced result) passed step settles = absurd settles
+receives s t frame RefusedLong passed step settles = absurd settles
+receives s t frame (AdvancedLong ticket) passed step settles = absurd settles
 
 comes_once : (s : State) (frame : List ℕ) (a b : Option (List ℕ)) (t u : State) → Comes s frame a t → Comes s frame b u → (a ≡ b) × (t ≡ u)
 comes_once s frame a b t u (inl (step, is, x, y)) (inl (step', is', x', y')) =

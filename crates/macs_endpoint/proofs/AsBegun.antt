@@ -10,7 +10,7 @@ use Rattle.macs_endpoint.specs.Ceilings.{CeilingsAfter, Raise, standing_with_rai
 use Rattle.macs_endpoint.specs.Lasting.{Lasts}
 use Rattle.macs_endpoint.specs.Limits.{IsStill}
 use Rattle.macs_endpoint.specs.Lives.{Lives, Transition}
-use Rattle.macs_endpoint.specs.State.{Advanced, Advances, Call, Commands, Logs, Protected, Protects, Ran, Received, Receives, Refilled, Refills, Reply, State, Submits, Submitted, no_logs}
+use Rattle.macs_endpoint.specs.State.{Advanced, AdvancedLong, Advances, Call, Commands, Logs, Protected, Protects, Ran, Received, Receives, Refilled, Refills, RefusedLong, Reply, State, Submits, Submitted, no_logs}
 use Rattle.macs_endpoint.specs.Step.{AdvanceStep, RunningStep, SubmitStep}
 use Rattle.macs_endpoint.specs.Value.{EndpointValue, IsAtRest, IsKeeping, IsReserving, IsSoundEndpoint, is_stopped, state_of}
 use Rattle.macs_endpoint.specs.declared.fault.CommandFault.TheVariants as ran
@@ -112,6 +112,8 @@ module _ {D : Type 0} (disk_of : D → Disk) (from to : Standing) (old new : End
     runs Advances (Advanced result) run moves still rests does stands = advances result moves ((does run).goes_on busy) stands
     runs (Protects plain) (Protected result out) run moves still rests does stands = keeps (alike-protect s t plain result out moves).0 still
     runs (Receives frame) (Received result out) run moves still rests does stands = keeps (alike-receive s t frame result out moves).0 still
+    runs (Commands command) RefusedLong run moves still rests does stands = absurd still
+    runs Advances (AdvancedLong ticket) run moves still rests does stands = absurd still
     runs call reply run moves still rests does stands = absurd moves
 
   leads_on : (call : Call) (reply : Reply) → IsCall disk_of old call reply new → LeadsTo from to new

@@ -11,7 +11,7 @@ use Rattle.macs_endpoint.specs.Limits.{IsStill}
 use Rattle.macs_endpoint.specs.Lives.{Lives, Transition}
 use Rattle.macs_endpoint.specs.Needed.{raise_in}
 use Rattle.macs_endpoint.specs.Queue.{first_waiting}
-use Rattle.macs_endpoint.specs.State.{Advanced, Advances, Call, Commands, Logs, Protected, Protects, Ran, Received, Receives, Refilled, Refills, Reply, State, Submits, Submitted, no_logs}
+use Rattle.macs_endpoint.specs.State.{Advanced, AdvancedLong, Advances, Call, Commands, Logs, Protected, Protects, Ran, Received, Receives, Refilled, Refills, RefusedLong, Reply, State, Submits, Submitted, no_logs}
 use Rattle.macs_endpoint.specs.Step.{AdvanceStep, IsStopped, RunningStep, SubmitStep}
 use Rattle.macs_endpoint.specs.Value.{EndpointValue, IsAtRest, IsKeeping, IsReserving, IsSoundEndpoint, is_stopped, state_of}
 use Rattle.macs_endpoint.specs.declared.fault.CommandFault.TheVariants as ran
@@ -202,6 +202,8 @@ module _ {D : Type 0} (disk_of : D → Disk) (old new : EndpointValue D) (kept :
     runs (Receives frame) (Received result out) moves still does whose free =
         let like = alike-receive s t frame result out moves in
         stays (Received result out) refl like.0 still whose (waits_still like.1)
+    runs (Commands command) RefusedLong moves still does whose free = absurd still
+    runs Advances (AdvancedLong ticket) moves still does whose free = absurd still
     runs call reply moves still does whose free = absurd moves
 
   uses : (call : Call) (reply : Reply) → IsCall disk_of old call reply new → IsNotDone reply → Uses reply

@@ -5,7 +5,7 @@ use Rattle.macs_rxsc.specs.Receive.{Numbers}
 use Rattle.macs_store.specs.Standing.{Standing, accept}
 use Rattle.macs_endpoint.specs.Ceilings.{CeilingsAfter, IsRefilled, Raise, StandsAfter, first_raise, standing_with_raise, standing_with_reserved}
 use Rattle.macs_endpoint.specs.Queue.{first_command}
-use Rattle.macs_endpoint.specs.State.{Advanced, Advances, Call, Commands, Protects, Protected, Ran, Received, Receives, Refilled, Refills, Reply, State, Submits, Submitted, command_made, rx_side, state_after_fault, state_with_in_hand, tx_side}
+use Rattle.macs_endpoint.specs.State.{Advanced, AdvancedLong, Advances, Call, Commands, Protected, Protects, Ran, Received, Receives, Refilled, Refills, RefusedLong, Reply, State, Submits, Submitted, command_made, rx_side, state_after_fault, state_with_in_hand, tx_side}
 use Rattle.macs_endpoint.specs.Step.{Step, next_after, numbers_after, state_with_waiting, state_without_first}
 use Rattle.macs_endpoint.specs.declared.fault.CommandFault.TheVariants as ran
 use Rattle.macs_endpoint.specs.declared.fault.RefillFault.TheVariants as refill
@@ -64,6 +64,9 @@ module _ (s t : State) where
   call-changes (Commands command) (Ran (Err ran.Stopped)) quiet (inr runs) = absurd runs.1
   call-changes (Commands command) (Refilled result) quiet made = absurd (no-answer made)
   call-changes (Commands command) (Submitted result) quiet made = absurd (no-answer made)
+  call-changes (Commands command) RefusedLong quiet (inl stopped) = absurd stopped.1
+  call-changes (Commands command) RefusedLong quiet (inr runs) = same s t runs.1.2
+  call-changes (Commands command) (AdvancedLong ticket) quiet made = absurd (no-answer made)
   call-changes (Commands command) (Advanced result) quiet made = absurd (no-answer made)
   call-changes (Commands command) (Protected result out) quiet made = absurd (no-answer made)
   call-changes (Commands command) (Received result out) quiet made = absurd (no-answer made)
@@ -76,6 +79,8 @@ module _ (s t : State) where
   call-changes Refills (Ran result) quiet made = absurd (no-answer made)
   call-changes Refills (Submitted result) quiet made = absurd (no-answer made)
   call-changes Refills (Advanced result) quiet made = absurd (no-answer made)
+  call-changes Refills RefusedLong quiet made = absurd (no-answer made)
+  call-changes Refills (AdvancedLong ticket) quiet made = absurd (no-answer made)
   call-changes Refills (Protected result out) quiet made = absurd (no-answer made)
   call-changes Refills (Received result out) quiet made = absurd (no-answer made)
   call-changes (Submits command) (Submitted result) quiet (inl stopped) = same s t stopped.2
@@ -86,6 +91,8 @@ module _ (s t : State) where
   call-changes (Submits command) (Ran result) quiet made = absurd (no-answer made)
   call-changes (Submits command) (Refilled result) quiet made = absurd (no-answer made)
   call-changes (Submits command) (Advanced result) quiet made = absurd (no-answer made)
+  call-changes (Submits command) RefusedLong quiet made = absurd (no-answer made)
+  call-changes (Submits command) (AdvancedLong ticket) quiet made = absurd (no-answer made)
   call-changes (Submits command) (Protected result out) quiet made = absurd (no-answer made)
   call-changes (Submits command) (Received result out) quiet made = absurd (no-answer made)
   call-changes Advances (Advanced (Ok result)) quiet (inl stopped) = absurd stopped.1
@@ -115,6 +122,9 @@ module _ (s t : State) where
   call-changes Advances (Ran result) quiet made = absurd (no-answer made)
   call-changes Advances (Refilled result) quiet made = absurd (no-answer made)
   call-changes Advances (Submitted result) quiet made = absurd (no-answer made)
+  call-changes Advances RefusedLong quiet made = absurd (no-answer made)
+  call-changes Advances (AdvancedLong ticket) quiet (inl stopped) = absurd stopped.1
+  call-changes Advances (AdvancedLong ticket) quiet (inr runs) = same (state_without_first s runs.1.1) t runs.1.4.2
   call-changes Advances (Protected result out) quiet made = absurd (no-answer made)
   call-changes Advances (Received result out) quiet made = absurd (no-answer made)
   call-changes (Protects plain) reply quiet made = absurd quiet
@@ -160,6 +170,8 @@ module _ (s : State) (f g : Standing) (reserving : Option Raise) (P : Standing â
   stands-keep (Commands command) (Ran (Err (ran.Refused refusal))) stands spares holds = to f stands holds
   stands-keep (Commands command) (Refilled result) stands spares holds = to f stands holds
   stands-keep (Commands command) (Submitted result) stands spares holds = to f stands holds
+  stands-keep (Commands command) RefusedLong stands spares holds = to f stands holds
+  stands-keep (Commands command) (AdvancedLong ticket) stands spares holds = to f stands holds
   stands-keep (Commands command) (Advanced result) stands spares holds = to f stands holds
   stands-keep (Commands command) (Protected result out) stands spares holds = to f stands holds
   stands-keep (Commands command) (Received result out) stands spares holds = to f stands holds
@@ -173,6 +185,8 @@ module _ (s : State) (f g : Standing) (reserving : Option Raise) (P : Standing â
   stands-keep Refills (Refilled (Err refill.Busy)) stands spares holds = to f stands holds
   stands-keep Refills (Ran result) stands spares holds = to f stands holds
   stands-keep Refills (Submitted result) stands spares holds = to f stands holds
+  stands-keep Refills RefusedLong stands spares holds = to f stands holds
+  stands-keep Refills (AdvancedLong ticket) stands spares holds = to f stands holds
   stands-keep Refills (Advanced result) stands spares holds = to f stands holds
   stands-keep Refills (Protected result out) stands spares holds = to f stands holds
   stands-keep Refills (Received result out) stands spares holds = to f stands holds
@@ -185,6 +199,8 @@ module _ (s : State) (f g : Standing) (reserving : Option Raise) (P : Standing â
   stands-keep Advances (Ran result) stands spares holds = to f stands holds
   stands-keep Advances (Refilled result) stands spares holds = to f stands holds
   stands-keep Advances (Submitted result) stands spares holds = to f stands holds
+  stands-keep Advances RefusedLong stands spares holds = to f stands holds
+  stands-keep Advances (AdvancedLong ticket) stands spares holds = to f stands holds
   stands-keep Advances (Protected result out) stands spares holds = to f stands holds
   stands-keep Advances (Received result out) stands spares holds = to f stands holds
   stands-keep (Submits command) reply stands spares holds = to f stands holds

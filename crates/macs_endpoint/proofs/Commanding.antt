@@ -1,6 +1,6 @@
 -- A command that does not wait: it is kept and followed, or refused, or cut short.
 use Rattle.std.proofs.Common.{◌≡◌, ◌≤◌, ◌+◌, [], inl, inr, ℕ, true, false, not, ◌&&◌, if◌then◌else◌, List, Option, Some, None, Result, Ok, Err, is_ok, IsOk, refl, sym, ◌∙◌, ap, subst, arith}
-use Rattle.macs_config.specs.Apply.{IsCommand, apply}
+use Rattle.macs_config.specs.Apply.{IsCommand, Named, Reason, apply}
 use Rattle.macs_config.specs.Config.{Config, this_edition}
 use Rattle.macs_config.specs.Identity.{IsIdentity}
 use Rattle.macs_config.specs.declared.command.Command.{Command}
@@ -45,7 +45,7 @@ use Rattle.macs_endpoint.proofs.InHand.{at-rest, kept-backed}
 
 -- ---- refusals
 
-pub by_accepted : (s : Standing) (command : Command) (result : Result Config Refusal) → IsOk (standing_or_refusal s command result) → IsOk result
+pub by_accepted : (s : Standing) (command : Command) (result : Result Config Reason) → IsOk (standing_or_refusal s command result) → IsOk result
 by_accepted s command (Ok config) is = refl
 by_accepted s command (Err refusal) is = absurd cc
 
@@ -111,7 +111,7 @@ module _ {D : Type 0} (disk_of : D → disk.Disk) (e : EndpointValue D) (command
   turned_backed backed = record { size = backed.size; stored = backed.stored; fits = backed.fits; form = backed.form }
 
   pub refused-command : (refusal : Refusal) → is_stopped e ≡ false → e.waiting ≡ []
-      → apply this_edition (standing_in e.store).identity (standing_in e.store).config command ≡ Err refusal
+      → apply this_edition (standing_in e.store).identity (standing_in e.store).config command ≡ Err (Named refusal)
       → KeepsCommand disk_of e command (Err (Refused refusal)) (record e { turn = turn.Reservation })
   refused-command refusal running none refused = record {
     call = unmoved (Refused refusal) (record e { turn = turn.Reservation }) refl refl (λ logs. inr (running, (none, refused, refl))) refl refl tt refl tt refl turned_backed;
@@ -123,9 +123,9 @@ module _ {D : Type 0} (disk_of : D → disk.Disk) (e : EndpointValue D) (command
 
 -- ---- a command that is accepted
 
-pub ok_not_err : {X : Type 0} (result : Result X Refusal) (refusal : Refusal) → IsOk result → result ≡ Err refusal → ⊥
-ok_not_err (Ok x) refusal is not = absurd cc
-ok_not_err (Err other) refusal is not = absurd cc
+pub ok_not_err : {X : Type 0} (result : Result X Reason) (reason : Reason) → IsOk result → result ≡ Err reason → ⊥
+ok_not_err (Ok x) reason is not = absurd cc
+ok_not_err (Err other) reason is not = absurd cc
 
 module _ {D : Type 0} (disk_of : D → disk.Disk) (e : EndpointValue D) (kept : IsSoundEndpoint e) (command : Command) (ranges : IsCommand command)
     (running : is_stopped e ≡ false) (idle : IsIdle e.store) (none : e.waiting ≡ []) (accepted : IsOk (accept (standing_in e.store) command)) where
@@ -351,6 +351,6 @@ module _ {D : Type 0} (disk_of : D → disk.Disk) (e : EndpointValue D) (kept : 
   -- no other refusal is left
   pub spent_only : (at : CommitFault) (s : store.StoreValue D) → (¬ (at ≡ commit.Disk)) → Commits disk_of e.store command (Err at) s → at ≡ commit.GenerationsSpent
   spent_only commit.Stopped s other commits = absurd (not_stopped (is_stopped e) (commits.stopped.0 refl) running)
-  spent_only (commit.Refused refusal) s other commits = absurd (ok_not_err (accept (standing_in e.store) command) refusal accepted ((commits.refused refusal).0 refl).1)
+  spent_only (commit.Refused refusal) s other commits = absurd (ok_not_err (accept (standing_in e.store) command) (Named refusal) accepted ((commits.refused refusal).0 refl).1)
   spent_only commit.GenerationsSpent s other commits = refl
   spent_only commit.Disk s other commits = absurd (other refl)

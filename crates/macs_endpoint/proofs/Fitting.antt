@@ -1,13 +1,12 @@
 -- What a power loss leaves fits the state: what stands on the disk is a restart of it.
 use Rattle.std.proofs.Common.{◌≡◌, ◌≤◌, ◌<◌, ◌^◌, ◌==◌, ◌&&◌, ◌∷◌, ◌∙◌, [], ℕ, zero, suc, Bool, true, false, not, cond, if◌then◌else◌, inl, inr, List, bytes_eq, Option, Some, None, Result, Ok, Err, is_ok, refl, sym, ap, subst, arith}
 use Rattle.std.specs.Option.{option_map}
-use Rattle.macs_config.specs.Apply.{IsCommand, apply, has_wrong_start}
+use Rattle.macs_config.specs.Apply.{IsCommand, Reason, apply, has_wrong_start}
 use Rattle.macs_config.specs.Config.{Config, Edition, this_edition}
 use Rattle.macs_config.specs.Identity.{Identity}
 use Rattle.macs_config.specs.Tables.{put, put_at}
 use Rattle.macs_config.specs.declared.command.Command.{Command}
 use Rattle.macs_config.specs.declared.command.Command.TheVariants.{SetValidate, SetReplay, SetSciMode, TxInstall, TxUse, TxRemove, RxAdd, RxDrop, RxInstall, RxRemove}
-use Rattle.macs_config.specs.declared.refusal.Refusal.{Refusal}
 use Rattle.macs_config.proofs.Tables.{put_all}
 use Rattle.macs_disk.specs.States.{Image}
 use Rattle.macs_journal.specs.Areas.{least_sectors}
@@ -164,7 +163,7 @@ command-ahead identity (RxRemove sci an) next numbers c ranges numbered are = re
   few = few-put numbers sci an None ranges.1 are.few;
 }
 
-accepted_parts : (s : Standing) (command : Command) (result : Result Config Refusal) (made : Standing) → standing_or_refusal s command result ≡ Ok made
+accepted_parts : (s : Standing) (command : Command) (result : Result Config Reason) (made : Standing) → standing_or_refusal s command result ≡ Ok made
     → (config : Config) × (result ≡ Ok config)
     × (made ≡ record s { config = config; ceilings = ceilings_after s.identity command s.ceilings })
 accepted_parts s command (Ok config) made is = (config, refl, cc)

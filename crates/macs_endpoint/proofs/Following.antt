@@ -7,7 +7,7 @@ use Rattle.std.proofs.Math.Path.{fun_ext}
 use Rattle.macs_aes.specs.Keys.{octets_of_key}
 use Rattle.macs_aes.specs.declared.keys.Key.{Key}
 use Rattle.macs_fields.specs.declared.fields.Offset.{Offset}
-use Rattle.macs_config.specs.Apply.{apply, config_after, offset_or_zero, offset_at, refusal_of}
+use Rattle.macs_config.specs.Apply.{Reason, apply, config_after, offset_or_zero, offset_at, refusal_of}
 use Rattle.macs_config.specs.Association.{is_confidential, offset_of, protection_of}
 use Rattle.macs_config.specs.Config.{Config}
 use Rattle.macs_config.specs.Tables.{put, put_at}
@@ -19,7 +19,6 @@ use Rattle.macs_config.specs.declared.command.Command.{Command}
 use Rattle.macs_config.specs.declared.command.Command.TheVariants.{RxInstall, SetReplay, SetValidate, TxInstall}
 use Rattle.macs_config.specs.declared.command.Replay.{Replay}
 use Rattle.macs_config.specs.declared.command.Validate.{Validate}
-use Rattle.macs_config.specs.declared.refusal.Refusal.{Refusal}
 use Rattle.macs_config.proofs.Kept.{applied_by}
 use Rattle.macs_config.proofs.Tables.{put-here, put_rx-here}
 use Rattle.macs_txsc.specs.Transmit.{TxSide}
@@ -42,7 +41,7 @@ with_config s command config = record s { config = config; ceilings = ceilings_a
 abbrev made : Standing → Command → Standing
 made s command = with_config s command (config_after s.config command)
 
-accepted_by : (s : Standing) (command : Command) (outcome : Result Config Refusal) (after : Standing) → standing_or_refusal s command outcome ≡ Ok after
+accepted_by : (s : Standing) (command : Command) (outcome : Result Config Reason) (after : Standing) → standing_or_refusal s command outcome ≡ Ok after
     → (config : Config) × (outcome ≡ Ok config) × (with_config s command config ≡ after)
 accepted_by s command (Ok config) after is = (config, refl, cc)
 accepted_by s command (Err refusal) after is = cc

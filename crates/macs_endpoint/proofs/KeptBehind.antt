@@ -1,9 +1,8 @@
 -- A command behind a reservation that was in hand.
 use Rattle.std.proofs.Common.{◌≡◌, ◌≤◌, ◌+◌, ◌⊎◌, [], inl, inr, ℕ, true, false, Some, None, Result, Ok, Err, is_err, IsErrOf, IsOk, OnOk, refl, sym, ◌∙◌, ap, subst, arith}
-use Rattle.macs_config.specs.Apply.{IsCommand, apply}
+use Rattle.macs_config.specs.Apply.{IsCommand, Named, Reason, apply}
 use Rattle.macs_config.specs.Config.{Config, this_edition}
 use Rattle.macs_config.specs.declared.command.Command.{Command}
-use Rattle.macs_config.specs.declared.refusal.Refusal.{Refusal}
 use Rattle.macs_disk.specs.Disk.{IsHonest}
 use Rattle.macs_disk.specs.Disk as disk
 use Rattle.macs_disk.proofs.Moments.{FailsOnce-before, Leaves-join, Leaves-weaker, Works-on}
@@ -48,7 +47,7 @@ pub ended-well : {D : Type 0} (disk_of : D → disk.Disk) (e mid : EndpointValue
 ended-well disk_of e mid (Ok done) is ends = ends
 ended-well disk_of e mid (Err fault) is ends = absurd cc
 
-ok_standing : (s : Standing) (command : Command) (result : Result Config Refusal) → IsOk result → IsOk (standing_or_refusal s command result)
+ok_standing : (s : Standing) (command : Command) (result : Result Config Reason) → IsOk result → IsOk (standing_or_refusal s command result)
 ok_standing s command (Ok config) is = refl
 ok_standing s command (Err refusal) is = absurd cc
 
@@ -263,5 +262,5 @@ module _ {D : Type 0} (disk_of : D → disk.Disk) (e : EndpointValue D) (command
         let step = keeps.call.behaves.step no_logs in
         absurd (elim step.1 [
           | inl stops ↦ stops.1
-          | inr going ↦ ok_not_err (apply this_edition (standing_in mid.store).identity (standing_in mid.store).config command) refusal behind_applies going.1.1
+          | inr going ↦ ok_not_err (apply this_edition (standing_in mid.store).identity (standing_in mid.store).config command) (Named refusal) behind_applies going.1.1
         ])

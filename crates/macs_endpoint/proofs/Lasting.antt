@@ -8,7 +8,7 @@ use Rattle.macs_endpoint.specs.Calls.{AdvancesIn, IsCall, Rests}
 use Rattle.macs_endpoint.specs.Lasting.{Lasts, steps_in_call, steps_made}
 use Rattle.macs_endpoint.specs.Limits.{IsStill}
 use Rattle.macs_endpoint.specs.Lives.{Lives, Transition}
-use Rattle.macs_endpoint.specs.State.{Advanced, Advances, Call, Commands, Logs, Protected, Protects, Ran, Received, Receives, Refilled, Refills, Reply, State, Submits, Submitted, no_logs}
+use Rattle.macs_endpoint.specs.State.{Advanced, AdvancedLong, Advances, Call, Commands, Logs, Protected, Protects, Ran, Received, Receives, Refilled, Refills, RefusedLong, Reply, State, Submits, Submitted, no_logs}
 use Rattle.macs_endpoint.specs.Step.{AdvanceStep, RunningStep}
 use Rattle.macs_endpoint.specs.Value.{EndpointValue, is_stopped, state_of}
 use Rattle.macs_endpoint.specs.declared.fault.CommandFault.TheVariants as ran
@@ -76,6 +76,8 @@ module _ {D : Type 0} (disk_of : D → Disk) (old new : EndpointValue D) (busy :
     runs Advances (Advanced result) run moves still rests advanced = advances result moves ((advanced run).goes_on busy)
     runs (Protects plain) (Protected result out) run moves still rests advanced = same (Protects plain) refl still
     runs (Receives frame) (Received result out) run moves still rests advanced = same (Receives frame) refl still
+    runs (Commands command) RefusedLong run moves still rests advanced = absurd still
+    runs Advances (AdvancedLong ticket) run moves still rests advanced = absurd still
     runs call reply run moves still rests advanced = absurd moves
 
   pub leaves_fewer : (call : Call) (reply : Reply) → IsCall disk_of old call reply new → LeavesFewer call

@@ -11,7 +11,7 @@ use Rattle.macs_endpoint.specs.Limits.{IsStill}
 use Rattle.macs_endpoint.specs.Lives.{Lives, Transition}
 use Rattle.macs_endpoint.specs.Needed.{raise_in}
 use Rattle.macs_endpoint.specs.Queue.{first_waiting}
-use Rattle.macs_endpoint.specs.State.{Advanced, Advances, Call, Commands, Logs, Protected, Protects, Ran, Received, Receives, Refilled, Refills, Reply, State, Submits, Submitted, no_logs, rx_side, tx_side}
+use Rattle.macs_endpoint.specs.State.{Advanced, AdvancedLong, Advances, Call, Commands, Logs, Protected, Protects, Ran, Received, Receives, Refilled, Refills, RefusedLong, Reply, State, Submits, Submitted, no_logs, rx_side, tx_side}
 use Rattle.macs_endpoint.specs.Step.{AdvanceStep, Ends, IsStopped, RunningStep, SubmitStep}
 use Rattle.macs_endpoint.specs.Value.{EndpointValue, IsAtRest, IsKeeping, IsReserving, IsSoundEndpoint, is_stopped, state_of}
 use Rattle.macs_endpoint.specs.declared.fault.CommandFault.{CommandFault}
@@ -93,6 +93,8 @@ module _ {D : Type 0} (disk_of : D → Disk) (old new : EndpointValue D) where
     dones call (Ran result) moves whose = inl refl
     dones call (Refilled result) moves whose = inl refl
     dones call (Submitted result) moves whose = inl refl
+    dones call RefusedLong moves whose = inl refl
+    dones call (AdvancedLong ticket) moves whose = inl refl
     dones call (Protected result out) moves whose = inl refl
     dones call (Received result out) moves whose = inl refl
     dones call (Advanced (Err fault)) moves whose = inl refl
@@ -231,6 +233,8 @@ module _ {D : Type 0} (disk_of : D → Disk) (old new : EndpointValue D) where
           stays (Protected result out) refl (alike-protect u v plain result out moves).0 still whose
       runs (Receives frame) (Received result out) run moves still does stands whose calm =
           stays (Received result out) refl (alike-receive u v frame result out moves).0 still whose
+      runs (Commands command) RefusedLong run moves still does stands whose calm = absurd still
+      runs Advances (AdvancedLong ticket) run moves still does stands whose calm = absurd still
       runs call reply run moves still does stands whose calm = absurd moves
 
     reserves : (call : Call) (reply : Reply) → IsCall disk_of old call reply new → IsNotReserved reply → IsStillQuiet reply

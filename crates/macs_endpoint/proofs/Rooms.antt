@@ -36,7 +36,7 @@ use Rattle.macs_endpoint.specs.Needed.{raise_in}
 use Rattle.macs_endpoint.specs.Value.{IsSoundEndpoint, IsRxWithin, IsTxWithin, EndpointValue, state_of}
 use Rattle.macs_endpoint.specs.Lives.{Lives, Transition}
 use Rattle.macs_endpoint.specs.Rooms.{HasRoom, IsBelow, IsEncodingAn, RxStays, SparesRx, SparesTx, TxStays, frames_in_reply, frames_sent}
-use Rattle.macs_endpoint.specs.State.{Advanced, Advances, Call, Commands, Protects, Protected, Ran, Received, Receives, Refilled, Refills, Reply, State, Submits, Submitted, command_made, no_logs, rx_side, tx_side}
+use Rattle.macs_endpoint.specs.State.{Advanced, AdvancedLong, Advances, Call, Commands, Protected, Protects, Ran, Received, Receives, Refilled, Refills, RefusedLong, Reply, State, Submits, Submitted, command_made, no_logs, rx_side, tx_side}
 use Rattle.macs_endpoint.specs.Step.{Step, next_after}
 use Rattle.macs_endpoint.specs.declared.fault.ProtectFault.TheVariants as protect
 use Rattle.macs_endpoint.specs.declared.progress.Step.TheVariants.{Idle}
@@ -234,6 +234,8 @@ module _ (count used an : ℕ) (s t : State) (f g : Standing) where
   covers_step reserving (Protects plain) (Refilled result) step stands keeps covers = absurd (no-answer step)
   covers_step reserving (Protects plain) (Submitted result) step stands keeps covers = absurd (no-answer step)
   covers_step reserving (Protects plain) (Advanced result) step stands keeps covers = absurd (no-answer step)
+  covers_step reserving (Protects plain) RefusedLong step stands keeps covers = absurd (no-answer step)
+  covers_step reserving (Protects plain) (AdvancedLong ticket) step stands keeps covers = absurd (no-answer step)
   covers_step reserving (Protects plain) (Received result out) step stands keeps covers = absurd (no-answer step)
   covers_step reserving (Receives frame) (Received result out) (inl step) stands keeps covers =
       covers_stay (frames_in_reply s.config.encoding an (Received result out)) (ap next_of step.2) stands covers
@@ -247,6 +249,8 @@ module _ (count used an : ℕ) (s t : State) (f g : Standing) where
   covers_step reserving (Receives frame) (Refilled result) step stands keeps covers = absurd (no-answer step)
   covers_step reserving (Receives frame) (Submitted result) step stands keeps covers = absurd (no-answer step)
   covers_step reserving (Receives frame) (Advanced result) step stands keeps covers = absurd (no-answer step)
+  covers_step reserving (Receives frame) RefusedLong step stands keeps covers = absurd (no-answer step)
+  covers_step reserving (Receives frame) (AdvancedLong ticket) step stands keeps covers = absurd (no-answer step)
   covers_step reserving (Receives frame) (Protected result out) step stands keeps covers = absurd (no-answer step)
 
 -- ---- reception

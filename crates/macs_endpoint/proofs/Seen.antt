@@ -13,7 +13,7 @@ use Rattle.macs_rxsc.proofs.Steps.{arrives_once}
 use Rattle.macs_endpoint.specs.Calls.{IsCall}
 use Rattle.macs_endpoint.specs.Lives.{Lives, Transition}
 use Rattle.macs_endpoint.specs.Rooms.{IsBelow, RxStays, SparesRx}
-use Rattle.macs_endpoint.specs.State.{Advanced, Advances, Call, Commands, Protects, Protected, Ran, Received, Receives, Refilled, Refills, Reply, State, Submits, Submitted, command_made, no_logs, rx_side}
+use Rattle.macs_endpoint.specs.State.{Advanced, AdvancedLong, Advances, Call, Commands, Protected, Protects, Ran, Received, Receives, Refilled, Refills, RefusedLong, Reply, State, Submits, Submitted, command_made, no_logs, rx_side}
 use Rattle.macs_endpoint.specs.Step.{ArriveStep, Step, numbers_after}
 use Rattle.macs_endpoint.specs.Value.{EndpointValue, IsSoundEndpoint, state_of}
 use Rattle.macs_endpoint.specs.declared.fault.ProtectFault.TheVariants as protect
@@ -135,6 +135,8 @@ module _ (sci : List ℕ) (an pn : ℕ) where
     seen-step (Protects plain) (Refilled result) step spares seen = absurd (no-answer step)
     seen-step (Protects plain) (Submitted result) step spares seen = absurd (no-answer step)
     seen-step (Protects plain) (Advanced result) step spares seen = absurd (no-answer step)
+    seen-step (Protects plain) RefusedLong step spares seen = absurd (no-answer step)
+    seen-step (Protects plain) (AdvancedLong ticket) step spares seen = absurd (no-answer step)
     seen-step (Protects plain) (Received result out) step spares seen = absurd (no-answer step)
     seen-step (Receives frame) (Received result out) (inl step) spares seen = seen-same (ap numbers_in step.2) seen
     seen-step (Receives frame) (Received (Ok verdict) out) (inr step) spares seen = elim step.1 [
@@ -151,6 +153,8 @@ module _ (sci : List ℕ) (an pn : ℕ) where
     seen-step (Receives frame) (Refilled result) step spares seen = absurd (no-answer step)
     seen-step (Receives frame) (Submitted result) step spares seen = absurd (no-answer step)
     seen-step (Receives frame) (Advanced result) step spares seen = absurd (no-answer step)
+    seen-step (Receives frame) RefusedLong step spares seen = absurd (no-answer step)
+    seen-step (Receives frame) (AdvancedLong ticket) step spares seen = absurd (no-answer step)
     seen-step (Receives frame) (Protected result out) step spares seen = absurd (no-answer step)
 
 -- ---- an endpoint

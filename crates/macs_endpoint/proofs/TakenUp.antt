@@ -1,9 +1,8 @@
 -- The first command that waits: it is taken in hand with its first device call, or is refused.
 use Rattle.std.proofs.Common.{◌≡◌, ◌≤◌, [], ◌∷◌, ◌&&◌, inl, inr, ℕ, Bool, true, false, not, if◌then◌else◌, List, length, Option, Some, None, Result, Ok, Err, is_ok, IsOk, refl, sym, ◌∙◌, ap, subst, arith}
-use Rattle.macs_config.specs.Apply.{IsCommand, apply}
+use Rattle.macs_config.specs.Apply.{IsCommand, Named, Reason, apply}
 use Rattle.macs_config.specs.Config.{Config, this_edition}
 use Rattle.macs_config.specs.declared.command.Command.{Command}
-use Rattle.macs_config.specs.declared.refusal.Refusal.{Refusal}
 use Rattle.macs_disk.specs.Disk as disk
 use Rattle.macs_journal.specs.Areas.{least_sectors}
 use Rattle.macs_txsc.specs.Value as txsc
@@ -52,12 +51,12 @@ front-is waiting head first others popped waits =
 
 -- ---- what the store says of it
 
-pub refused_by : (s : Standing) (command : Command) (result : Result Config Refusal) (refusal : Refusal)
-    → standing_or_refusal s command result ≡ Err refusal → result ≡ Err refusal
-refused_by s command (Ok config) refusal is = absurd cc
-refused_by s command (Err other) refusal is = let same : other ≡ refusal = cc in ap Err same
+pub refused_by : (s : Standing) (command : Command) (result : Result Config Reason) (reason : Reason)
+    → standing_or_refusal s command result ≡ Err reason → result ≡ Err reason
+refused_by s command (Ok config) reason is = absurd cc
+refused_by s command (Err other) reason is = let same : other ≡ reason = cc in ap Err same
 
-accepted_by : (s : Standing) (command : Command) (result : Result Config Refusal) → IsOk (standing_or_refusal s command result) → is_ok result ≡ true
+accepted_by : (s : Standing) (command : Command) (result : Result Config Reason) → IsOk (standing_or_refusal s command result) → is_ok result ≡ true
 accepted_by s command (Ok config) is = refl
 accepted_by s command (Err refusal) is = absurd cc
 
@@ -87,7 +86,7 @@ module _ {D : Type 0} (disk_of : D → disk.Disk) (e : EndpointValue D) (kept : 
   old = standing_in e.store
 
   -- what the configuration says of it
-  abbrev judged : Result Config Refusal
+  abbrev judged : Result Config Reason
   judged = apply this_edition old.identity old.config first.command
 
   resting : IsAtRest e
@@ -232,7 +231,7 @@ module _ {D : Type 0} (disk_of : D → disk.Disk) (e : EndpointValue D) (kept : 
     by_fault commit.Disk s starts next = absurd (starts.names refl)
     by_fault (commit.Refused refusal) s starts next =
         refused_call (ran.Refused refusal)
-        (λ logs. (resting.in_hand running, refused_by old first.command judged refusal ((starts.refused refusal).0 refl).1, left_state logs)) tt next
+        (λ logs. (resting.in_hand running, refused_by old first.command judged (Named refusal) ((starts.refused refusal).0 refl).1, left_state logs)) tt next
     by_fault commit.GenerationsSpent s starts next =
         let spent = starts.spent.0 refl in
         refused_call ran.GenerationsSpent (λ logs. (resting.in_hand running, accepted_by old first.command judged spent.0, left_state logs)) spent.1 next

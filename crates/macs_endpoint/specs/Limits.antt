@@ -8,7 +8,7 @@ use Rattle.macs_store.specs.Keeps.{IsSpent}
 use Rattle.macs_store.specs.Value.{IsIdle, standing_in}
 use Rattle.macs_endpoint.specs.Needed.{raise_in}
 use Rattle.macs_endpoint.specs.Value.{EndpointValue, state_of}
-use Rattle.macs_endpoint.specs.State.{Advanced, Advances, Call, Commands, Protects, Protected, Ran, Received, Receives, Refilled, Refills, Reply, Submits, Submitted, no_logs, rx_side, tx_side}
+use Rattle.macs_endpoint.specs.State.{Advanced, AdvancedLong, Advances, Call, Commands, Protects, Protected, Ran, Received, Receives, Refilled, Refills, RefusedLong, Reply, Submits, Submitted, no_logs, rx_side, tx_side}
 use Rattle.macs_endpoint.specs.declared.fault.CommandFault.TheVariants as ran
 use Rattle.macs_endpoint.specs.declared.fault.ProtectFault.TheVariants.{Tx}
 use Rattle.macs_endpoint.specs.declared.fault.RefillFault.TheVariants as refill
@@ -26,9 +26,9 @@ IsLimited old (Receives frame) (Received (Ok HeldBack) out) new =
     (a : Arrival) × Arrives (rx_side (state_of old no_logs)) frame a × (is_below ((standing_in old.store).ceilings.rx a.sci a.an) a.pn ≡ false)
 IsLimited old call reply new = Unit {0}
 
--- Frames, commands that are to wait, work that is refused before it begins and a stopped endpoint leave the store as it was, and with it the
--- disk and its clock. Where no work is in hand so do a command that is answered GenerationsSpent, and a refill where no ceiling is needed or no
--- change is kept any more.
+-- This program refuses no command for the length of its key. Frames, commands that are to wait, work that is refused before it begins and a stopped endpoint
+-- leave the store as it was, and with it the disk and its clock. Where no work is in hand so do a command that is answered GenerationsSpent, and a refill where
+-- no ceiling is needed or no change is kept any more.
 abbrev pub IsStill : {D : Type 0} → EndpointValue D → Call → Reply → EndpointValue D → Type 0
 IsStill old (Commands command) (Ran (Err (ran.Refused refusal))) new = new.store ≡ old.store
 IsStill old (Commands command) (Ran (Err ran.Busy)) new = new.store ≡ old.store
@@ -43,4 +43,6 @@ IsStill old Advances (Advanced (Err step.Stopped)) new = new.store ≡ old.store
 IsStill old (Submits command) (Submitted result) new = new.store ≡ old.store
 IsStill old (Protects plain) (Protected result out) new = new.store ≡ old.store
 IsStill old (Receives frame) (Received result out) new = new.store ≡ old.store
+IsStill old (Commands command) RefusedLong new = ⊥
+IsStill old Advances (AdvancedLong ticket) new = ⊥
 IsStill old call reply new = Unit {0}

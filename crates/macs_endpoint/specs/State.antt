@@ -115,7 +115,8 @@ pub data Call : Type 0 where
   Protects : (plain : List ℕ) → Call
   Receives : (frame : List ℕ) → Call
 
--- what is answered, with what stands in `out` then
+-- What is answered, with what stands in `out` then. The last two are answers of an edition without long keys: a command, and the first that
+-- waited, was refused for the length of its key.
 pub data Reply : Type 0 where
   Ran : Result (Unit {0}) CommandFault → Reply
   Refilled : Result (Unit {0}) RefillFault → Reply
@@ -123,6 +124,8 @@ pub data Reply : Type 0 where
   Advanced : Result Progress StepFault → Reply
   Protected : Result ℕ ProtectFault → (out : List ℕ) → Reply
   Received : Result Verdict Stopped → (out : List ℕ) → Reply
+  RefusedLong : Reply
+  AdvancedLong : (ticket : ℕ) → Reply
 
 -- the command that this call of an endpoint in this state made durable, if it was one: it takes effect now
 abbrev pub command_made : State → Call → Reply → Option Command

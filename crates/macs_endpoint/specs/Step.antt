@@ -2,7 +2,7 @@
 use Rattle.std.specs.Prelude.{◌≡◌, ◌⊎◌, ◌<◌, ◌≤◌, ◌+◌, ℕ, true, false, List, [], ◌∷◌, ◌++◌, length, Option, Some, None, Result, Ok, Err}
 use Rattle.std.specs.Option.{option_map}
 use Rattle.macs_fields.specs.First.{IsFirst, first}
-use Rattle.macs_config.specs.Apply.{apply}
+use Rattle.macs_config.specs.Apply.{LongKey, Named, apply}
 use Rattle.macs_config.specs.Config.{Config}
 use Rattle.macs_config.specs.Tables.{put, put_at}
 use Rattle.macs_config.specs.declared.command.Command.{Command}
@@ -28,7 +28,7 @@ use Rattle.macs_endpoint.specs.declared.progress.Step.{Step as Progress}
 use Rattle.macs_endpoint.specs.declared.progress.Step.TheVariants.{Done, Idle, Reserved, Worked}
 use Rattle.macs_endpoint.specs.declared.queue.Waiting.{Waiting}
 use Rattle.macs_endpoint.specs.Queue.{last_ticket, queue_length, with_waiting}
-use Rattle.macs_endpoint.specs.State.{Accepts, Advanced, Advances, Call, Commands, NoneWait, Protects, Protected, Ran, Received, Receives, Refilled, Refills, Reply, State, Submits, Submitted, state_after_fault, state_with_in_hand, rx_side, tx_side}
+use Rattle.macs_endpoint.specs.State.{Accepts, Advanced, AdvancedLong, Advances, Call, Commands, NoneWait, Protects, Protected, Ran, Received, Receives, Refilled, Refills, RefusedLong, Reply, State, Submits, Submitted, state_after_fault, state_with_in_hand, rx_side, tx_side}
 
 -- ---- commands
 
@@ -65,10 +65,14 @@ abbrev pub CommandStep : State → Command → Result (Unit {0}) CommandFault �
 CommandStep old command (Ok done) new = NoneWait old × Makes old command new
 CommandStep old command (Err ran.Busy) new = (¬ NoneWait old) × (new ≡ old)
 CommandStep old command (Err (ran.Refused refusal)) new =
-    NoneWait old × (apply old.edition old.identity old.config command ≡ Err refusal) × (new ≡ old)
+    NoneWait old × (apply old.edition old.identity old.config command ≡ Err (Named refusal)) × (new ≡ old)
 CommandStep old command (Err ran.GenerationsSpent) new = NoneWait old × Accepts old command × (new ≡ old)
 CommandStep old command (Err ran.Disk) new = NoneWait old × Accepts old command × (new ≡ state_after_fault (state_with_in_hand old command))
 CommandStep old command (Err ran.Stopped) new = ⊥
+
+-- an edition that does not take the key of a command refuses it for that, and nothing changes
+abbrev pub RefusesLong : State → Command → State → Type 0
+RefusesLong old command new = NoneWait old × (apply old.edition old.identity old.config command ≡ Err LongKey) × (new ≡ old)
 
 -- ---- commands that wait
 
@@ -101,7 +105,7 @@ state_without_first s rest = record s { waiting = rest; in_hand = None }
 abbrev pub Ends : State → Waiting → List Waiting → Result (Unit {0}) CommandFault → State → Type 0
 Ends old first rest (Ok done) new = Makes (state_without_first old rest) first.command new
 Ends old first rest (Err (ran.Refused refusal)) new =
-    (old.in_hand ≡ None) × (apply old.edition old.identity old.config first.command ≡ Err refusal) × (new ≡ state_without_first old rest)
+    (old.in_hand ≡ None) × (apply old.edition old.identity old.config first.command ≡ Err (Named refusal)) × (new ≡ state_without_first old rest)
 Ends old first rest (Err ran.GenerationsSpent) new = (old.in_hand ≡ None) × Accepts old first.command × (new ≡ state_without_first old rest)
 Ends old first rest (Err fault) new = ⊥
 
@@ -115,6 +119,16 @@ AdvanceStep old (Ok (Done ticket result)) new =
 AdvanceStep old (Err step.GenerationsSpent) new = new ≡ old
 AdvanceStep old (Err step.Disk) new = (new ≡ state_after_fault old) ⊎ ((mid : State) × TakesUp old mid × (new ≡ state_after_fault mid))
 AdvanceStep old (Err step.Stopped) new = ⊥
+
+-- the first waiting command, which is not in hand, is refused for the length of its key
+abbrev pub RefusesFirst : State → Waiting → List Waiting → State → Type 0
+RefusesFirst old first rest new =
+    (old.in_hand ≡ None) × (apply old.edition old.identity old.config first.command ≡ Err LongKey) × (new ≡ state_without_first old rest)
+
+-- a step of an edition that does not take the key of the first waiting command
+abbrev pub AdvancesLong : State → ℕ → State → Type 0
+AdvancesLong old ticket new =
+    (first : Waiting) × (rest : List Waiting) × (old.waiting ≡ first ∷ rest) × (ticket ≡ first.ticket) × RefusesFirst old first rest new
 
 -- ---- work on the disk
 
@@ -186,6 +200,8 @@ RunningStep old (Submits command) (Submitted result) new = SubmitStep old comman
 RunningStep old Advances (Advanced result) new = AdvanceStep old result new
 RunningStep old (Protects plain) (Protected result out) new = ProtectStep old plain result out new
 RunningStep old (Receives frame) (Received result out) new = ReceiveStep old frame result out new
+RunningStep old (Commands command) RefusedLong new = RefusesLong old command new
+RunningStep old Advances (AdvancedLong ticket) new = AdvancesLong old ticket new
 RunningStep old call reply new = ⊥
 
 -- a call is answered with Stopped

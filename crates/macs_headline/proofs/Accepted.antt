@@ -4,14 +4,13 @@ use Rattle.std.proofs.lemmas.Bool.{false≢true, or_left}
 use Rattle.macs_aes.specs.Keys.{octets_of_key}
 use Rattle.macs_aes.specs.declared.keys.Key.{Key}
 use Rattle.macs_fields.specs.First.{first}
-use Rattle.macs_config.specs.Apply.{answer_or_refusal, apply, config_after, has_wrong_offset, has_wrong_start, is_slot_taken, is_wrong_end_station, offset_at, offset_or_zero, refusal_of, refusals}
+use Rattle.macs_config.specs.Apply.{Reason, answer_or_refusal, apply, config_after, has_wrong_offset, has_wrong_start, is_slot_taken, is_wrong_end_station, offset_at, offset_or_zero, refusal_of, refusals}
 use Rattle.macs_config.specs.Association.{protection_of}
 use Rattle.macs_config.specs.Config.{Config, Edition, is_spent, rx_fingerprint, tx_fingerprint}
 use Rattle.macs_config.specs.Identity.{Identity}
 use Rattle.macs_config.specs.declared.association.TxSa.{TxSa}
 use Rattle.macs_config.specs.declared.command.Command.{Command}
 use Rattle.macs_config.specs.declared.command.Command.TheVariants.{RxInstall, TxInstall}
-use Rattle.macs_config.specs.declared.refusal.Refusal.{Refusal}
 use Rattle.macs_config.proofs.Channels.{bytes_eq-itself}
 use Rattle.macs_config.proofs.Kept.{applied_by}
 use Rattle.macs_config.proofs.Spent.{among-behind}
@@ -37,7 +36,7 @@ accepted edition identity c command new is =
     let made = applied_by (refusal_of edition identity c command) (config_after c command) new is in
     (made.0, sym made.1)
 
-accepted_by : (why : Option Refusal) (config : Config) → is_ok (answer_or_refusal why config) ≡ true → why ≡ None
+accepted_by : (why : Option Reason) (config : Config) → is_ok (answer_or_refusal why config) ≡ true → why ≡ None
 accepted_by None config is = refl
 accepted_by (Some refusal) config is = absurd (cc)
 

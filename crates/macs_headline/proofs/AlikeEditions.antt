@@ -2,18 +2,17 @@
 use Rattle.std.proofs.Common.{◌≡◌, ◌++◌, ◌&&◌, inl, inr, ℕ, Bool, true, false, cond, not, is_ok, nat_le, List, [], ◌∷◌, length, Option, Some, None, Result, Ok, Err, bytes_eq, refl, ap, subst, arith}
 use Rattle.std.proofs.lemmas.Bool.{false≢true, leb-false, lt-leb}
 use Rattle.macs_fields.specs.First.{first}
-use Rattle.macs_config.specs.Apply.{answer_or_refusal, apply, are_spent_full, config_after, has_no_channel, has_wrong_offset, has_wrong_start, is_key_spent, is_long_key, is_slot_taken, refusal_of}
+use Rattle.macs_config.specs.Apply.{LongKey, Named, Reason, answer_or_refusal, apply, are_spent_full, config_after, has_no_channel, has_wrong_offset, has_wrong_start, is_key_spent, is_long_key, is_slot_taken, refusal_of}
 use Rattle.macs_config.specs.Config.{Config, Edition, IsUpTo, has_channel}
 use Rattle.macs_config.specs.Identity.{Identity}
 use Rattle.macs_config.specs.declared.command.Command.{Command}
 use Rattle.macs_config.specs.declared.command.Command.TheVariants.{RxAdd, RxDrop, RxInstall, RxRemove, SetReplay, SetSciMode, SetValidate, TxInstall, TxRemove, TxUse}
-use Rattle.macs_config.specs.declared.refusal.Refusal.{Refusal}
-use Rattle.macs_config.specs.declared.refusal.Refusal.TheVariants.{ChannelTaken, ChannelsFull, KeySpent, LongKey, NoChannel, OffsetChoice, OwnSci, SlotTaken, SpentFull, StartRange}
+use Rattle.macs_config.specs.declared.refusal.Refusal.TheVariants.{ChannelTaken, ChannelsFull, KeySpent, NoChannel, OffsetChoice, OwnSci, SlotTaken, SpentFull, StartRange}
 use Rattle.macs_config.proofs.Editions.{larger-applies}
 use Rattle.macs_config.proofs.Refused.{taken_by}
 use Rattle.macs_rxsc.specs.declared.verdict.Verdict.{Verdict}
 use Rattle.macs_endpoint.specs.Restart.{Restart, Resumes, state_taking, state_taking_alone, state_taking_first}
-use Rattle.macs_endpoint.specs.State.{Accepts, Advanced, Advances, Call, Commands, Protects, Protected, Ran, Received, Receives, Refilled, Refills, Reply, State, Submits, Submitted, state_with_in_hand}
+use Rattle.macs_endpoint.specs.State.{Accepts, Advanced, AdvancedLong, Advances, Call, Commands, Protected, Protects, Ran, Received, Receives, Refilled, Refills, RefusedLong, Reply, State, Submits, Submitted, state_with_in_hand}
 use Rattle.macs_endpoint.specs.Step.{AdvanceStep, CommandStep, Ends, Makes, ProtectStep, ReceiveStep, RefillStep, RunningStep, Step, SubmitStep, TakesUp, state_without_first}
 use Rattle.macs_endpoint.specs.declared.fault.CommandFault.{CommandFault}
 use Rattle.macs_endpoint.specs.declared.fault.CommandFault.TheVariants as ran
@@ -40,26 +39,26 @@ these-are-larger small large channels long two = record { channels = channels; l
 
 -- ---- reasons
 
-none_first : (r : Refusal) → ◌≡◌ {A = Option Refusal} None (Some r) → ⊥
+none_first : (r : Reason) → ◌≡◌ {A = Option Reason} None (Some r) → ⊥
 none_first r is = cc
 
 -- a channel that is refused, and not since all are taken, is refused so where fewer are full
-add_refused : (own taken full fuller : Bool) (r : Refusal) → (full ≡ false → fuller ≡ false) → ¬ IsOfEdition r
-    → cond own (Some OwnSci) (cond taken (Some ChannelTaken) (cond full (Some ChannelsFull) None)) ≡ Some r
-    → cond own (Some OwnSci) (cond taken (Some ChannelTaken) (cond fuller (Some ChannelsFull) None)) ≡ Some r
+add_refused : (own taken full fuller : Bool) (r : Reason) → (full ≡ false → fuller ≡ false) → ¬ IsOfEdition r
+    → cond own (Some (Named OwnSci)) (cond taken (Some (Named ChannelTaken)) (cond full (Some (Named ChannelsFull)) None)) ≡ Some r
+    → cond own (Some (Named OwnSci)) (cond taken (Some (Named ChannelTaken)) (cond fuller (Some (Named ChannelsFull)) None)) ≡ Some r
 add_refused true taken full fuller r room other is = is
 add_refused false true full fuller r room other is = is
-add_refused false false true fuller r room other is = absurd (other (subst IsOfEdition (some_one (Some ChannelsFull) ChannelsFull r refl is) tt))
+add_refused false false true fuller r room other is = absurd (other (subst IsOfEdition (some_one (Some (Named ChannelsFull)) (Named ChannelsFull) r refl is) tt))
 add_refused false false false fuller r room other is = absurd (none_first r is)
 
 -- an install that is refused, and not for the length of its key, is refused so whichever keys are too long
-test_refused : (refusal : Refusal) (test : Bool) (others : List (Refusal × Bool)) (long longer : Bool) (r : Refusal)
+test_refused : (refusal : Reason) (test : Bool) (others : List (Reason × Bool)) (long longer : Bool) (r : Reason)
     → (first (others ++ (LongKey, long) ∷ []) ≡ Some r → first (others ++ (LongKey, longer) ∷ []) ≡ Some r)
     → cond test (Some refusal) (first (others ++ (LongKey, long) ∷ [])) ≡ Some r → cond test (Some refusal) (first (others ++ (LongKey, longer) ∷ [])) ≡ Some r
 test_refused refusal true others long longer r later is = is
 test_refused refusal false others long longer r later is = later is
 
-last_refused : (rows : List (Refusal × Bool)) (long longer : Bool) (r : Refusal) → ¬ IsOfEdition r
+last_refused : (rows : List (Reason × Bool)) (long longer : Bool) (r : Reason) → ¬ IsOfEdition r
     → first (rows ++ (LongKey, long) ∷ []) ≡ Some r → first (rows ++ (LongKey, longer) ∷ []) ≡ Some r
 last_refused [] true longer r other is = absurd (other (subst IsOfEdition (some_one (Some LongKey) LongKey r refl is) tt))
 last_refused [] false longer r other is = absurd (none_first r is)
@@ -72,15 +71,15 @@ module _ (small large : Edition) (up_to : IsUpTo small large) where
       let wider = up_to.channels in
       lt-leb large.channels n (omega arith)
 
-  refused_alike : (identity : Identity) (c : Config) (command : Command) (r : Refusal) → ¬ IsOfEdition r → refusal_of small identity c command ≡ Some r
+  refused_alike : (identity : Identity) (c : Config) (command : Command) (r : Reason) → ¬ IsOfEdition r → refusal_of small identity c command ≡ Some r
       → refusal_of large identity c command ≡ Some r
   refused_alike identity c (SetValidate validate) r other is = is
   refused_alike identity c (SetReplay on window) r other is = is
   refused_alike identity c (SetSciMode mode) r other is = is
   refused_alike identity c (TxInstall an key start confidential offset) r other is =
       let install = TxInstall an key start confidential offset in
-      last_refused ((StartRange, has_wrong_start install) ∷ (OffsetChoice, has_wrong_offset install) ∷ (SlotTaken, is_slot_taken c install)
-      ∷ (KeySpent, is_key_spent c install) ∷ (SpentFull, are_spent_full c install) ∷ [])
+      last_refused ((Named StartRange, has_wrong_start install) ∷ (Named OffsetChoice, has_wrong_offset install) ∷ (Named SlotTaken, is_slot_taken c install)
+      ∷ (Named KeySpent, is_key_spent c install) ∷ (Named SpentFull, are_spent_full c install) ∷ [])
       (is_long_key small install) (is_long_key large install) r other is
   refused_alike identity c (TxUse an) r other is = is
   refused_alike identity c (TxRemove an) r other is = is
@@ -90,16 +89,16 @@ module _ (small large : Edition) (up_to : IsUpTo small large) where
   refused_alike identity c (RxDrop sci) r other is = is
   refused_alike identity c (RxInstall sci an key start offset) r other is =
       let install = RxInstall sci an key start offset in
-      last_refused ((StartRange, has_wrong_start install) ∷ (OffsetChoice, has_wrong_offset install) ∷ (NoChannel, has_no_channel c install)
-      ∷ (SlotTaken, is_slot_taken c install) ∷ (KeySpent, is_key_spent c install) ∷ (SpentFull, are_spent_full c install) ∷ [])
+      last_refused ((Named StartRange, has_wrong_start install) ∷ (Named OffsetChoice, has_wrong_offset install) ∷ (Named NoChannel, has_no_channel c install)
+      ∷ (Named SlotTaken, is_slot_taken c install) ∷ (Named KeySpent, is_key_spent c install) ∷ (Named SpentFull, are_spent_full c install) ∷ [])
       (is_long_key small install) (is_long_key large install) r other is
   refused_alike identity c (RxRemove sci an) r other is = is
 
   -- a command is refused so too
-  refuses : (identity : Identity) (c : Config) (command : Command) (r : Refusal) → ¬ IsOfEdition r → apply small identity c command ≡ Err r
+  refuses : (identity : Identity) (c : Config) (command : Command) (r : Reason) → ¬ IsOfEdition r → apply small identity c command ≡ Err r
       → apply large identity c command ≡ Err r
   refuses identity c command r other is =
-      ap (λ (why : Option Refusal). answer_or_refusal why (config_after c command))
+      ap (λ (why : Option Reason). answer_or_refusal why (config_after c command))
       (refused_alike identity c command r other (refused_by (refusal_of small identity c command) (config_after c command) r is))
 
   -- and accepted
@@ -107,7 +106,7 @@ module _ (small large : Edition) (up_to : IsUpTo small large) where
   accepts identity c command is =
       let none = no-refusal small identity c command is in
       let done : apply small identity c command ≡ Ok (config_after c command) = taken_by (refusal_of small identity c command) (config_after c command) none in
-      ap (λ (r : Result Config Refusal). is_ok r) (larger-applies small large up_to identity c (config_after c command) command done)
+      ap (λ (r : Result Config Reason). is_ok r) (larger-applies small large up_to identity c (config_after c command) command done)
 
 -- ---- steps
 
@@ -129,7 +128,7 @@ module _ (large : Edition) where
   by_command old c (Err ran.Stopped) new up_to other h = absurd h
   by_command old c (Err ran.Busy) new up_to other (some, is) = (some, alike new old is)
   by_command old c (Err (ran.Refused refusal)) new up_to other (none, why, is) =
-      (none, refuses old.edition large up_to old.identity old.config c refusal other why, alike new old is)
+      (none, refuses old.edition large up_to old.identity old.config c (Named refusal) other why, alike new old is)
   by_command old c (Err ran.GenerationsSpent) new up_to other (none, is_accepted, is) = (none, accepts_alike old c up_to is_accepted, alike new old is)
   by_command old c (Err ran.Disk) new up_to other (none, is_accepted, is) =
       (none, accepts_alike old c up_to is_accepted, ap (λ (s : State). with_edition s large) is)
@@ -157,7 +156,7 @@ module _ (large : Edition) where
       → ¬ TellsEdition (Advanced (Ok (Done ticket result))) → Ends old w rest result new → Ends (with_edition old large) w rest result (with_edition new large)
   by_end old w rest ticket (Ok done) new up_to other makes = makes_alike (state_without_first old rest) w.command new up_to makes
   by_end old w rest ticket (Err (ran.Refused refusal)) new up_to other (idle, why, is) =
-      (idle, refuses old.edition large up_to old.identity old.config w.command refusal other why, ap (λ (s : State). with_edition s large) is)
+      (idle, refuses old.edition large up_to old.identity old.config w.command (Named refusal) other why, ap (λ (s : State). with_edition s large) is)
   by_end old w rest ticket (Err ran.GenerationsSpent) new up_to other (idle, is_accepted, is) =
       (idle, accepts_alike old w.command up_to is_accepted, ap (λ (s : State). with_edition s large) is)
   by_end old w rest ticket (Err fault) new up_to other h = absurd h
@@ -200,6 +199,8 @@ module _ (large : Edition) where
   by_call old Advances (Advanced result) new up_to other h = by_advance old result new up_to other h
   by_call old (Protects plain) (Protected result out) new up_to other h = by_protect old plain result out new h
   by_call old (Receives frame) (Received result out) new up_to other h = by_receive old frame result out new h
+  by_call old (Commands c) RefusedLong new up_to other h = absurd (other tt)
+  by_call old Advances (AdvancedLong ticket) new up_to other h = absurd (other tt)
   by_call old call reply new up_to other h = absurd h
 
   by_step : (old new : State) (call : Call) (reply : Reply) → IsUpTo old.edition large → ¬ TellsEdition reply → Step old call reply new

@@ -20,7 +20,7 @@ use Rattle.macs_endpoint.specs.declared.fault.SubmitFault.TheVariants as submit
 use Rattle.macs_endpoint.specs.declared.progress.Step.{Step as Progress}
 use Rattle.macs_endpoint.specs.declared.progress.Step.TheVariants.{Done, Worked}
 use Rattle.macs_endpoint.specs.declared.queue.Waiting.{Waiting}
-use Rattle.macs_endpoint.specs.State.{Advanced, Advances, Call, Commands, Protects, Protected, Ran, Received, Receives, Refilled, Refills, Reply, State, Submits, Submitted, state_with_in_hand}
+use Rattle.macs_endpoint.specs.State.{Advanced, AdvancedLong, Advances, Call, Commands, Protected, Protects, Ran, Received, Receives, Refilled, Refills, RefusedLong, Reply, State, Submits, Submitted, state_with_in_hand}
 use Rattle.macs_endpoint.specs.Step.{AdvanceStep, CommandStep, Ends, Exchange, ProtectStep, ReceiveStep, RefillStep, RunningStep, Step, Steps, SubmitStep, TakesUp}
 use Rattle.macs_headline.specs.Begun.{CutsChangeNone, InHandWasBegun, MayBegin, WasBegun}
 use Rattle.macs_headline.specs.Commands.{waiting_at_end}
@@ -109,6 +109,8 @@ by_call old (Submits c) (Submitted result) new h was = by_submit old c result ne
 by_call old Advances (Advanced result) new h was = by_advance old result new h was
 by_call old (Protects plain) (Protected result out) new h was = by_protect old plain result out new h was
 by_call old (Receives frame) (Received result out) new h was = by_receive old frame result out new h was
+by_call old (Commands c) RefusedLong new (none, why, is) was = same_state old new is was
+by_call old Advances (AdvancedLong ticket) new (first, rest, waiting, is_ticket, (idle, why, is)) was = none_in_hand new (ap (λ (s : State). s.in_hand) is)
 by_call old call reply new h was = absurd h
 
 by_step : (old : State) (call : Call) (reply : Reply) (new : State) → Step old call reply new → IsAccepted old → IsAccepted new

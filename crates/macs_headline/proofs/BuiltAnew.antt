@@ -8,13 +8,14 @@ use Rattle.macs_disk.specs.States.{Image}
 use Rattle.macs_record.specs.Gates.{IsOpen}
 use Rattle.macs_record.specs.Heads.{Head, IsHead, IsHeadOf}
 use Rattle.macs_record.specs.Layout.{IsRecord}
+use Rattle.macs_record.specs.declared.format.Format.TheVariants.{Two}
 use Rattle.macs_record.specs.declared.record.Record.{Record}
 use Rattle.macs_journal.specs.Areas.{IsArea, gate, head_body, other_area, slots}
 use Rattle.macs_journal.specs.Compacting.{compacted, next_head}
 use Rattle.macs_journal.specs.Found.{Content, HasJournal, IsGateOpen, IsPast, content_with_record}
 use Rattle.macs_journal.proofs.Current.{alone}
 use Rattle.macs_store.specs.Replay.{meaning_of, replay_of, snapshot_of, standing_after_record, standing_after_records}
-use Rattle.macs_store.proofs.Formats.{meaning-read}
+use Rattle.macs_store.proofs.Formats.{meaning-read, two-read}
 use Rattle.macs_store.specs.Standing.{Standing}
 use Rattle.macs_store.proofs.Keeping.{standing-with}
 use Rattle.macs_headline.specs.Images.{content_with_records, image_with_area, image_with_open_head}
@@ -71,14 +72,14 @@ and_then f None b is = absurd (cc)
 and_then f (Some a) b is = (a, refl, is)
 
 -- several records more
-pub meaning-more : (edition : Edition) (rs : List Record) (c : Content) (s t : Standing) → c.head.count ≤ length c.records → meaning_of edition c ≡ Some s
-    → standing_after_records s rs ≡ Some t → meaning_of edition (content_with_records c rs) ≡ Some t
-meaning-more edition [] c s t within stands made =
+pub meaning-more : (edition : Edition) (rs : List Record) (c : Content) (s t : Standing) → c.head.count ≤ length c.records → c.head.format ≡ Two
+    → meaning_of edition c ≡ Some s → standing_after_records s rs ≡ Some t → meaning_of edition (content_with_records c rs) ≡ Some t
+meaning-more edition [] c s t within two stands made =
     subst (λ (records : List Record). meaning_of edition (record c { records = records }) ≡ Some t) (sym (append-nil c.records)) (stands ∙ made)
-meaning-more edition (r ∷ rs) c s t within stands made =
+meaning-more edition (r ∷ rs) c s t within two stands made =
     let size : length (c.records ++ r ∷ []) ≡ length c.records + 1 = length_push c.records r in
     let next = and_then (λ (next : Standing). standing_after_records next rs) (standing_after_record s r) t made in
-    let more = meaning-more edition rs (content_with_record c r) next.0 t (omega (arith, size, within)) (standing-with edition c r s within stands ∙ next.1) next.2 in
+    let more = meaning-more edition rs (content_with_record c r) next.0 t (omega (arith, size, within)) two (standing-with edition c r s within two stands ∙ next.1) next.2 in
     subst (λ (records : List Record). meaning_of edition (record c { records = records }) ≡ Some t) (append_assoc c.records (r ∷ []) rs) more
 
 -- a record that changes nothing, many times
@@ -96,4 +97,4 @@ meaning-anew edition c records s takes_two is =
     let none : drop n records ≡ [] = drop_all n records (omega arith) in
     let split : replay_of edition c.head.identity n records ≡ option_and_then (λ (next : Standing). Some next) (snapshot_of edition c.head.identity records) =
     λ i. option_and_then (λ (next : Standing). standing_after_records next (none i)) (snapshot_of edition c.head.identity (all i)) in
-    meaning-read edition (compacted c records) takes_two ∙ split ∙ ap (option_and_then (λ (next : Standing). Some next)) is
+    meaning-read edition (compacted c records) (two-read edition takes_two) ∙ split ∙ ap (option_and_then (λ (next : Standing). Some next)) is

@@ -1,7 +1,7 @@
 -- What each command makes of the configuration, and what it leaves alone.
-use Rattle.std.proofs.Common.{◌≡◌, ◌&&◌, ◌||◌, ◌==◌, ℕ, Bool, true, false, cond, not, List, [], ◌∷◌, Option, Some, None, is_none, bytes_eq, filter, refl, sym, ◌∙◌, ap, subst}
-use Rattle.std.specs.Prelude.{IsSomeAnd}
-use Rattle.std.proofs.lemmas.Bool.{eqb-true, false≢true, not-false, or_parts}
+use Rattle.std.proofs.Common.{◌≡◌, ◌⊎◌, ◌&&◌, ◌||◌, ◌==◌, inl, inr, ℕ, Bool, true, false, cond, not, List, [], ◌∷◌, Option, Some, None, is_none, bytes_eq, filter, refl, sym, ◌∙◌, ap, subst}
+use Rattle.std.specs.Prelude.{Contains, IsSomeAnd}
+use Rattle.std.proofs.lemmas.Bool.{eqb-true, false≢true, not-false, or_left, or_parts, or_right}
 use Rattle.macs_aes.specs.Keys.{octets_of_key}
 use Rattle.macs_aes.specs.declared.keys.Key.{Key}
 use Rattle.macs_fields.specs.Fields.{octets_of}
@@ -17,6 +17,7 @@ use Rattle.macs_config.specs.declared.command.Command.TheVariants.{RxAdd, RxDrop
 use Rattle.macs_config.proofs.Channels.{among-filter, among-put_among, bytes_eq-itself, not_among-filter, same_octets}
 use Rattle.macs_headline.specs.Changing.{ChangesAsNamed, CommandsChange, IsDone, IsFirstConfiguration, IsOnChannel, IsOnEncoding, IsOnMode, IsOnReplay, IsOnRx, IsOnTx, IsOnValidate, IsRxAsked, IsTxAsked, PrintsAre}
 use Rattle.macs_headline.proofs.Accepted.{accepted, right-offset, tx_of}
+use Rattle.macs_headline.proofs.Lists.{contains-cases, contains-first, contains-later, contains-none}
 use Rattle.macs_headline.proofs.Places.{put-that, put-this, put_at-that, put_at-this, put_rx-that, put_rx-this}
 
 pub is-first-configuration : IsFirstConfiguration
@@ -171,5 +172,28 @@ commands-change edition identity old new command made =
 
 -- ---- spent keys
 
+or_cases : (x y : Bool) → (x || y) ≡ true → (x ≡ true) ⊎ (y ≡ true)
+or_cases true y is = inl refl
+or_cases false y is = inr is
+
+among_to : (items : List (List ℕ)) (item : List ℕ) → is_among items item ≡ true → Contains items item
+among_to [] item is = absurd (false≢true is)
+among_to (x ∷ xs) item is = elim (or_cases (bytes_eq x item) (is_among xs item) is) [
+  | inl here ↦ subst (Contains (x ∷ xs)) (same_octets x item here) (contains-first x xs)
+  | inr later ↦ contains-later x xs item (among_to xs item later)
+]
+
+among_from : (items : List (List ℕ)) (item : List ℕ) → Contains items item → is_among items item ≡ true
+among_from [] item has = absurd (contains-none item has)
+among_from (x ∷ xs) item has = elim (contains-cases x xs item has) [
+  | inl here ↦ or_left (bytes_eq x item) (is_among xs item) (subst (λ (y : List ℕ). bytes_eq y item ≡ true) here (bytes_eq-itself item))
+  | inr later ↦ or_right (bytes_eq x item) (is_among xs item) (among_from xs item later)
+]
+
 pub prints-are : PrintsAre
-prints-are = record { transmit = λ key. refl; receive = λ sci key. refl }
+prints-are = record {
+  transmit = λ key. refl;
+  receive = λ sci key. refl;
+  among = λ items item. (among_to items item, among_from items item);
+  spent = λ prints print. (among_to prints print, among_from prints print);
+}

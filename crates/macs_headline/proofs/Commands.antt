@@ -25,8 +25,8 @@ use Rattle.macs_endpoint.specs.declared.progress.Step.{Step as Progress}
 use Rattle.macs_endpoint.specs.declared.progress.Step.TheVariants.{Done, Worked}
 use Rattle.macs_endpoint.specs.declared.queue.Waiting.{Waiting}
 use Rattle.macs_endpoint.specs.Restart.{Restart, opened_state}
-use Rattle.macs_endpoint.specs.State.{Advanced, Advances, Call, Commands, Protects, Protected, Ran, Received, Receives, Refilled, Refills, Reply, State, Submits, Submitted}
-use Rattle.macs_endpoint.specs.Step.{AdvanceStep, CommandStep, Ends, Exchange, IsStopped, ProtectStep, ReceiveStep, RefillStep, RunningStep, Step, Steps, SubmitStep, TakesUp}
+use Rattle.macs_endpoint.specs.State.{Advanced, AdvancedLong, Advances, Call, Commands, Protected, Protects, Ran, Received, Receives, Refilled, Refills, RefusedLong, Reply, State, Submits, Submitted}
+use Rattle.macs_endpoint.specs.Step.{AdvanceStep, CommandStep, Ends, RefusesFirst, Exchange, IsStopped, ProtectStep, ReceiveStep, RefillStep, RunningStep, Step, Steps, SubmitStep, TakesUp}
 use Rattle.macs_headline.specs.Commands.{CommandsKept, CommandsMake, FindsPrefix, acknowledged_by, acknowledged_commands, acknowledged_from, waiting_after, waiting_from, without_first}
 use Rattle.macs_headline.specs.History.{logs_of, state_at_end}
 use Rattle.macs_headline.proofs.Effects.{Core}
@@ -150,6 +150,16 @@ by_end old first rest ticket (Err ran.GenerationsSpent) new is_ticket (idle, acc
 }
 by_end old first rest ticket (Err fault) new is_ticket h = absurd h
 
+-- so is one whose key is too long, and none takes effect
+by_long : (old : State) (first : Waiting) (rest : List Waiting) (ticket : ℕ) (new : State) → ticket ≡ first.ticket → RefusesFirst old first rest new
+    → IsMadeBy old new [] (without_first ticket (first ∷ rest))
+by_long old first rest ticket new is_ticket (idle, why, is) = record {
+  edition = ap (λ (s : State). s.edition) is;
+  identity = ap (λ (s : State). s.identity) is;
+  made = ap (λ (s : State). s.config) is;
+  waiting = ap (λ (s : State). s.waiting) is ∙ sym (chosen first.ticket ticket rest (first ∷ rest) (sym is_ticket));
+}
+
 by_advance : (old : State) (result : Result Progress StepFault) (new : State) → AdvanceStep old result new
     → IsMadeByCall old new Advances (Advanced result)
 by_advance old (Ok Worked) new (inl is) = unchanged old new is
@@ -209,12 +219,16 @@ by_call old (Submits c) (Submitted result) new h = by_submit old c result new h
 by_call old Advances (Advanced result) new h = by_advance old result new h
 by_call old (Protects plain) (Protected result out) new h = by_protect old plain result out new h
 by_call old (Receives frame) (Received result out) new h = by_receive old frame result out new h
+by_call old (Commands c) RefusedLong new (none, why, is) = unchanged old new is
+by_call old Advances (AdvancedLong ticket) new (first, rest, waiting, is_ticket, ends) =
+    subst (λ (w : List Waiting). IsMadeBy old new [] (without_first ticket w)) (sym waiting) (by_long old first rest ticket new is_ticket ends)
 by_call old call reply new h = absurd h
 
 by_stopped : (old : State) (call : Call) (reply : Reply) (new : State) → IsStopped call reply → new ≡ old → IsMadeByCall old new call reply
 by_stopped old (Commands c) (Ran (Ok done)) new h is = absurd h
 by_stopped old (Submits c) (Submitted (Ok ticket)) new h is = absurd h
 by_stopped old Advances (Advanced (Ok progress)) new h is = absurd h
+by_stopped old Advances (AdvancedLong ticket) new h is = absurd h
 by_stopped old call reply new h is = unchanged old new is
 
 by_step : (old : State) (call : Call) (reply : Reply) (new : State) → Step old call reply new → IsMadeByCall old new call reply

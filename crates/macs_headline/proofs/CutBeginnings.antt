@@ -1,9 +1,8 @@
 -- A call that is cut short, and may begin a command that is not refused, has it in hand.
 use Rattle.std.proofs.Common.{◌≡◌, ◌&&◌, Bool, true, false, cond, not, is_ok, List, [], ◌∷◌, Option, Some, None, refl, ◌∙◌, ap}
 use Rattle.std.proofs.lemmas.Bool.{and_from, not_from_false}
-use Rattle.macs_config.specs.Apply.{answer_or_refusal, apply, config_after}
+use Rattle.macs_config.specs.Apply.{Reason, answer_or_refusal, apply, config_after}
 use Rattle.macs_config.specs.declared.command.Command.{Command}
-use Rattle.macs_config.specs.declared.refusal.Refusal.{Refusal}
 use Rattle.macs_endpoint.specs.Queue.{first_command}
 use Rattle.macs_endpoint.specs.Restart.{state_taking, state_taking_alone, state_taking_first}
 use Rattle.macs_endpoint.specs.State.{State, state_with_in_hand}
@@ -13,7 +12,7 @@ use Rattle.macs_headline.specs.Refused.{refusal_at}
 use Rattle.macs_headline.proofs.Ledger.{some_one}
 
 pub accepts-unrefused : (s : State) (c : Command) → refusal_at s c ≡ None → is_ok (apply s.edition s.identity s.config c) ≡ true
-accepts-unrefused s c none = ap (λ (why : Option Refusal). is_ok (answer_or_refusal why (config_after s.config c))) none
+accepts-unrefused s c none = ap (λ (why : Option Reason). is_ok (answer_or_refusal why (config_after s.config c))) none
 
 taking : (s : State) (c : Command) → s.stopped ≡ false → refusal_at s c ≡ None → state_taking s c ≡ state_with_in_hand s c
 taking s c running none =

@@ -19,7 +19,7 @@ use Rattle.macs_endpoint.specs.Calls.{IsCall}
 use Rattle.macs_endpoint.specs.Limits.{IsStill}
 use Rattle.macs_endpoint.specs.Queue.{first_command}
 use Rattle.macs_endpoint.specs.Restart.{Fits, Resumes, opened_state, state_during, state_taking, state_taking_alone, state_taking_first}
-use Rattle.macs_endpoint.specs.State.{Advanced, Advances, Call, Commands, Logs, NoneWait, Protects, Protected, Receives, Received, Ran, Refilled, Refills, Reply, State, Submits, Submitted, state_after_fault, state_with_in_hand}
+use Rattle.macs_endpoint.specs.State.{Advanced, AdvancedLong, Advances, Call, Commands, Logs, NoneWait, Protected, Protects, Ran, Received, Receives, Refilled, Refills, RefusedLong, Reply, State, Submits, Submitted, state_after_fault, state_with_in_hand}
 use Rattle.macs_endpoint.specs.Step.{AdvanceStep, CommandStep, Ends, RefillStep, Step, TakesUp, state_after_command, state_without_first}
 use Rattle.macs_endpoint.specs.Value.{EndpointValue, IsAtRest, IsBacked, IsKeeping, IsReserving, IsSoundEndpoint, disk_in, state_of}
 
@@ -282,6 +282,7 @@ module _ (edition : Edition) (sectors : ℕ) (image : Image) where
       → FitsHere (state_during old (Commands c))
   during-command old c reply new settled (inl (stopped, answer, is)) fits = fits_during old (Commands c) settled (subst FitsHere is fits)
   during-command old c (Ran result) new settled (inr (running, h)) fits = by_command old c result new running settled h fits
+  during-command old c RefusedLong new settled (inr (running, (none, why, is))) fits = fits_during old (Commands c) settled (subst FitsHere is fits)
   during-command old c reply new settled (inr (running, h)) fits = absurd h
 
   pub during-refill : (old : State) (reply : Reply) (new : State) → Step old Refills reply new → FitsHere new → FitsHere old
@@ -292,6 +293,8 @@ module _ (edition : Edition) (sectors : ℕ) (image : Image) where
   pub during-step : (old : State) (reply : Reply) (new : State) → IsSettled old → Step old Advances reply new → FitsHere new → FitsHere (state_during old Advances)
   during-step old reply new settled (inl (stopped, answer, is)) fits = fits_during old Advances settled (subst FitsHere is fits)
   during-step old (Advanced result) new settled (inr (running, h)) fits = by_advance old result new running settled h fits
+  during-step old (AdvancedLong ticket) new settled (inr (running, (first, rest, waiting, is_ticket, (idle, why, is)))) fits =
+      fits_during old Advances settled (fits_refused old rest (subst FitsHere is fits))
   during-step old reply new settled (inr (running, h)) fits = absurd h
 
 -- ---- calls of an endpoint

@@ -28,7 +28,7 @@ use Rattle.macs_endpoint.specs.declared.fault.SubmitFault.TheVariants as submit
 use Rattle.macs_endpoint.specs.declared.progress.Step.{Step as Progress}
 use Rattle.macs_endpoint.specs.declared.progress.Step.TheVariants.{Done, Worked}
 use Rattle.macs_endpoint.specs.declared.queue.Waiting.{Waiting}
-use Rattle.macs_endpoint.specs.State.{Advanced, Advances, Call, Commands, Delivery, Protects, Protected, Ran, Received, Receives, Refilled, Refills, Reply, State, Submits, Submitted, Use, rx_side, tx_side}
+use Rattle.macs_endpoint.specs.State.{Advanced, AdvancedLong, Advances, Call, Commands, Delivery, Protected, Protects, Ran, Received, Receives, Refilled, Refills, RefusedLong, Reply, State, Submits, Submitted, Use, rx_side, tx_side}
 use Rattle.macs_endpoint.specs.Step.{AdvanceStep, CommandStep, Ends, ProtectStep, ReceiveStep, RefillStep, RunningStep, Step, SubmitStep, TakesUp, next_after, numbers_after}
 use Rattle.macs_headline.proofs.Places.{put_rx}
 
@@ -176,6 +176,8 @@ by_call old (Submits c) (Submitted result) new h = by_submit old c result new h
 by_call old Advances (Advanced result) new h = by_advance old result new h
 by_call old (Protects plain) (Protected result out) new h = by_protect old plain result out new h
 by_call old (Receives frame) (Received result out) new h = by_receive old frame result out new h
+by_call old (Commands c) RefusedLong new (none, why, is) = NoEffect (ap core is)
+by_call old Advances (AdvancedLong ticket) new (first, rest, waiting, is_ticket, (idle, why, is)) = NoEffect (ap core is)
 by_call old call reply new h = absurd h
 
 pub effect-of : (old : State) (call : Call) (reply : Reply) (new : State) → Step old call reply new → Effect old.edition (core old) (core new)

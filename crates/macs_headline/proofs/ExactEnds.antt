@@ -1,9 +1,8 @@
 -- The state in which a life ends, exactly: that after the last answer, or that with one command in hand.
 use Rattle.std.proofs.Common.{◌≡◌, ◌&&◌, Bool, true, false, cond, not, is_ok, List, [], ◌∷◌, Option, Some, None, refl, ◌∙◌, ap}
-use Rattle.macs_config.specs.Apply.{answer_or_refusal, config_after}
+use Rattle.macs_config.specs.Apply.{Reason, answer_or_refusal, config_after}
 use Rattle.macs_config.specs.Config.{Config}
 use Rattle.macs_config.specs.declared.command.Command.{Command}
-use Rattle.macs_config.specs.declared.refusal.Refusal.{Refusal}
 use Rattle.macs_disk.specs.Disk.{Disk}
 use Rattle.macs_endpoint.specs.Advancing.{Piece, ToKeep, ToRaise, next_piece, piece_among}
 use Rattle.macs_endpoint.specs.Ceilings.{Raise}
@@ -22,13 +21,13 @@ use Rattle.macs_headline.proofs.Ledger.{some_one}
 
 -- ---- a command is taken, or not
 
-taken_by : (stopped : Bool) (why : Option Refusal) (config : Config) (a b : State) → stopped ≡ false → why ≡ None
+taken_by : (stopped : Bool) (why : Option Reason) (config : Config) (a b : State) → stopped ≡ false → why ≡ None
     → cond (not stopped && is_ok (answer_or_refusal why config)) a b ≡ a
 taken_by true why config a b running accepted = absurd (cc)
 taken_by false None config a b running accepted = refl
 taken_by false (Some refusal) config a b running accepted = absurd (cc)
 
-untaken_by : (stopped : Bool) (why : Option Refusal) (config : Config) (a b : State) → (stopped ≡ false → why ≡ None → ⊥)
+untaken_by : (stopped : Bool) (why : Option Reason) (config : Config) (a b : State) → (stopped ≡ false → why ≡ None → ⊥)
     → cond (not stopped && is_ok (answer_or_refusal why config)) a b ≡ b
 untaken_by true why config a b never = refl
 untaken_by false None config a b never = absurd (never refl refl)

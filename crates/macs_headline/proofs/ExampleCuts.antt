@@ -65,7 +65,7 @@ octet_at xs range i = elim (cases_lt i (length xs)) [
   | inr behind ↦ subst (λ (v : ℕ). v < 2 ^ 8) (sym (get_or_past xs i 0 behind)) (omega arith)
 ]
 
-record_sector : (r : Record) → IsRecord r → small (front_of r) ≡ true → IsSector (sector_of r)
+pub record_sector : (r : Record) → IsRecord r → small (front_of r) ≡ true → IsSector (sector_of r)
 record_sector r range is = record {
   size = sector_length r range;
   octets = octet_at (sector_of r) (padded_range (front_of r) (All-from_recursion IsOctet (front_of r) (small_octets (front_of r) is)));
@@ -334,24 +334,28 @@ double_range : (x : ℕ) → All IsOctet (to_be_bytes w64 x)
 double_range x = All-from_recursion IsOctet (to_be_bytes w64 x)
     (omega arith, (omega arith, (omega arith, (omega arith, (omega arith, (omega arith, (omega arith, (omega arith, tt))))))))
 
-head_octets_range : All IsOctet (head_octets head)
-head_octets_range =
-    let tx = to_be_bytes w32 head.identity.tx_block in
-    let rx = to_be_bytes w32 head.identity.rx_block in
-    let count = to_be_bytes w32 head.count in
-    let generation = to_be_bytes w64 head.generation in
-    let version = to_be_bytes w32 (version_of head.format) in
-    let sci = head.identity.sci in
-    let blocks = All-append IsOctet tx rx (word-range head.identity.tx_block) (word-range head.identity.rx_block) in
-    let identity = All-append IsOctet sci (tx ++ rx) head-range.sci.each blocks in
-    let counted = All-append IsOctet count (sci ++ (tx ++ rx)) (word-range head.count) identity in
-    let generated = All-append IsOctet generation (count ++ (sci ++ (tx ++ rx))) (double_range head.generation) counted in
-    let versioned = All-append IsOctet version (generation ++ (count ++ (sci ++ (tx ++ rx)))) (word-range (version_of head.format)) generated in
+head_octets_range : (h : Head) → IsHead h → All IsOctet (head_octets h)
+head_octets_range h is =
+    let tx = to_be_bytes w32 h.identity.tx_block in
+    let rx = to_be_bytes w32 h.identity.rx_block in
+    let count = to_be_bytes w32 h.count in
+    let generation = to_be_bytes w64 h.generation in
+    let version = to_be_bytes w32 (version_of h.format) in
+    let sci = h.identity.sci in
+    let blocks = All-append IsOctet tx rx (word-range h.identity.tx_block) (word-range h.identity.rx_block) in
+    let identity = All-append IsOctet sci (tx ++ rx) is.sci.each blocks in
+    let counted = All-append IsOctet count (sci ++ (tx ++ rx)) (word-range h.count) identity in
+    let generated = All-append IsOctet generation (count ++ (sci ++ (tx ++ rx))) (double_range h.generation) counted in
+    let versioned = All-append IsOctet version (generation ++ (count ++ (sci ++ (tx ++ rx)))) (word-range (version_of h.format)) generated in
     All-append IsOctet head_mark (version ++ (generation ++ (count ++ (sci ++ (tx ++ rx)))))
     (All-from_recursion IsOctet head_mark (small_octets head_mark refl)) versioned
 
+-- a head is a sector
+pub head-sector : (h : Head) → IsHead h → IsSector (head_sector_of h)
+head-sector h is = record { size = head_sector_length h is; octets = octet_at (head_sector_of h) (padded_range (head_octets h) (head_octets_range h is)) }
+
 head_whole : IsSector (head_sector_of head)
-head_whole = record { size = head_sector_length head next_range; octets = octet_at (head_sector_of head) (padded_range (head_octets head) head_octets_range) }
+head_whole = head-sector head next_range
 
 settings_whole : IsSector (sector_of (settings_record served_config))
 settings_whole = record_sector (settings_record served_config) snapshot-ranges.0 refl
@@ -360,13 +364,13 @@ own_whole : IsSector (sector_of (kept.TxSa 0 own_sa 13))
 own_whole = record_sector (kept.TxSa 0 own_sa 13) snapshot-ranges.1.0 refl
 
 -- what is pending at one of three places is any of these, and the rest is durable
-torn_kept : (a b c : Bool) (x y z w : List ℕ) → cond c true (cond b true (cond a true false)) ≡ false → cond c z (cond b y (cond a x w)) ≡ w
+pub torn_kept : (a b c : Bool) (x y z w : List ℕ) → cond c true (cond b true (cond a true false)) ≡ false → cond c z (cond b y (cond a x w)) ≡ w
 torn_kept a b true x y z w is = absurd (cc)
 torn_kept a true false x y z w is = absurd (cc)
 torn_kept true false false x y z w is = absurd (cc)
 torn_kept false false false x y z w is = refl
 
-torn_whole : (a b c : Bool) (x y z w : List ℕ) → IsSector x → IsSector y → IsSector z → cond c true (cond b true (cond a true false)) ≡ true
+pub torn_whole : (a b c : Bool) (x y z w : List ℕ) → IsSector x → IsSector y → IsSector z → cond c true (cond b true (cond a true false)) ≡ true
     → IsSector (cond c z (cond b y (cond a x w)))
 torn_whole a b true x y z w is_x is_y is_z is = is_z
 torn_whole a true false x y z w is_x is_y is_z is = is_y

@@ -26,11 +26,11 @@ fits-new = new-fits example_sectors new_image example_identity new-is
 rx_none : (old new : Option Numbers) → old ≡ None → new ≡ None → RxRises 4 old new
 rx_none old new is js = subst (λ (o : Option Numbers). RxRises 4 o new) (sym is) js
 
-away : {X : Type 0} (f : List ℕ → ℕ → Option X) (x : Option X) (sci : List ℕ) (an : ℕ) → (sci ≡ peer_sci → an ≡ 0 → ⊥) → put_rx f peer_sci 0 x sci an ≡ f sci an
+pub away : {X : Type 0} (f : List ℕ → ℕ → Option X) (x : Option X) (sci : List ℕ) (an : ℕ) → (sci ≡ peer_sci → an ≡ 0 → ⊥) → put_rx f peer_sci 0 x sci an ≡ f sci an
 away f x sci an apart = put_rx-that f peer_sci 0 sci an x apart
 
 -- what holds of the peer's association, and of those that have no numbers, holds of all
-rx_all : (old new : List ℕ → ℕ → Option Numbers) → RxRises 4 (old peer_sci 0) (new peer_sci 0)
+pub rx_all : (old new : List ℕ → ℕ → Option Numbers) → RxRises 4 (old peer_sci 0) (new peer_sci 0)
     → ((sci : List ℕ) (an : ℕ) → (sci ≡ peer_sci → an ≡ 0 → ⊥) → (old sci an ≡ None) × (new sci an ≡ None))
     → (sci : List ℕ) (an : ℕ) → RxRises 4 (old sci an) (new sci an)
 rx_all old new here none sci an = elim (cases_place sci an peer_sci 0) [

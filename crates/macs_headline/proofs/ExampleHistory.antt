@@ -1,14 +1,13 @@
 -- The example is a history.
-use Rattle.std.proofs.Common.{◌≡◌, ◌<◌, ◌^◌, inl, inr, ℕ, zero, suc, Bool, true, false, cond, List, [], ◌∷◌, ◌++◌, drop, take, replicate, Option, Some, None, Err, refl, subst, arith}
+use Rattle.std.proofs.Common.{◌≡◌, ◌<◌, ◌≤◌, ◌^◌, inl, inr, ℕ, zero, suc, Bool, true, false, cond, List, [], ◌∷◌, ◌++◌, drop, take, replicate, Option, Some, None, Err, refl, subst, arith}
 use Rattle.std.specs.Prelude.{All}
 use Rattle.std.specs.List.{AllByRecursion}
 use Rattle.std.proofs.lemmas.List.Elements.{All-replicate}
 use Rattle.macs_fields.specs.Fields.{IsAn}
-use Rattle.macs_aes.specs.declared.keys.Key.TheVariants.{Short}
-use Rattle.macs_config.specs.Apply.{answer_or_refusal, apply, config_after}
+use Rattle.macs_aes.specs.declared.keys.Key.TheVariants.{Long, Short}
+use Rattle.macs_config.specs.Apply.{Named, Reason, answer_or_refusal, apply, config_after}
 use Rattle.macs_config.specs.Config.{Config, is_spent, rx_fingerprint, this_edition, tx_fingerprint}
 use Rattle.macs_config.specs.declared.command.Command.TheVariants.{RxInstall, TxInstall}
-use Rattle.macs_config.specs.declared.refusal.Refusal.{Refusal}
 use Rattle.macs_config.specs.declared.refusal.Refusal.TheVariants.{KeySpent}
 use Rattle.macs_journal.proofs.Holding.{holding-image}
 use Rattle.macs_rxsc.specs.Receive.{BelowLowest}
@@ -31,16 +30,16 @@ use Rattle.macs_headline.proofs.ExampleCuts.{compacting-holds, cut-left, gate-pe
 use Rattle.macs_headline.proofs.ExampleFits.{fits-cut, fits-killed, fits-last, fits-new, fits-served}
 use Rattle.macs_headline.proofs.ExampleFrames.{arrival, peer-arrives, peer-late}
 use Rattle.macs_headline.proofs.ExampleImages.{checked-is, cut-is, cut-stands, ended-found, full-slots, larger, last-found, last-is, new-generation, new-is, served-is, served-is-config, served_standing, unfinished-is}
-use Rattle.macs_headline.proofs.ExampleRecords.{key-range, peer-range}
+use Rattle.macs_headline.proofs.ExampleRecords.{key-range, long-key-range, peer-range}
 use Rattle.macs_headline.proofs.ExampleStates.{after_delay, after_delivery, after_hold, before_frame, c1, c2, c3, c4, c5, first_end, fourth_end, last_config, last_state, late_numbers, outgoing, s0, s1, s2, s3, s4, s5, s6, s7, s8, s9, s10, s11, s12, s13, s14, s15, s16, s17, second_end, t0, t1, t2, t3, t4, third_end, u0, u1, u2, unguarded_config, v0, v1, waits, x0, x1}
 
 -- the same call, with the same answer, that changes nothing
-same_steps : (n : ℕ) (s : State) (e : Exchange) → Step s e.call e.reply s → Steps s (replicate n e) s
+pub same_steps : (n : ℕ) (s : State) (e : Exchange) → Step s e.call e.reply s → Steps s (replicate n e) s
 same_steps zero s e step = refl
 same_steps (suc n) s e step = (s, step, same_steps n s e step)
 
 -- steps, and then more
-steps_on : (old mid new : State) (xs ys : List Exchange) → Steps old xs mid → Steps mid ys new → Steps old (xs ++ ys) new
+pub steps_on : (old mid new : State) (xs ys : List Exchange) → Steps old xs mid → Steps mid ys new → Steps old (xs ++ ys) new
 steps_on old mid new [] ys one two = subst (λ (s : State). Steps s ys new) one two
 steps_on old mid new (x ∷ xs) ys one two = (one.0, one.1, steps_on one.0 mid new xs ys one.2 two)
 
@@ -191,16 +190,16 @@ first_steps =
     widening_steps)))
 
 -- A key that is spent is refused.
-refused_by : (b : Bool) (rest : Option Refusal) (answer : Config) → b ≡ true → answer_or_refusal (cond b (Some KeySpent) rest) answer ≡ Err KeySpent
+pub refused_by : (b : Bool) (rest : Option Reason) (answer : Config) → b ≡ true → answer_or_refusal (cond b (Some (Named KeySpent)) rest) answer ≡ Err (Named KeySpent)
 refused_by true rest answer is = refl
 refused_by false rest answer is = absurd (cc)
 
-own_spent : apply this_edition example_identity served_config install_own_again ≡ Err KeySpent
+own_spent : apply this_edition example_identity served_config install_own_again ≡ Err (Named KeySpent)
 own_spent =
     refused_by (is_spent served_config.spent_tx (tx_fingerprint own_key)) None (config_after served_config install_own_again)
     (served-is-config.tx_spent 0 own_sa (omega arith) refl)
 
-peer_spent : apply this_edition example_identity served_config install_peer_again ≡ Err KeySpent
+peer_spent : apply this_edition example_identity served_config install_peer_again ≡ Err (Named KeySpent)
 peer_spent =
     refused_by (is_spent served_config.spent_rx (rx_fingerprint peer_sci peer_key)) None (config_after served_config install_peer_again)
     (served-is-config.rx_spent peer_sci 0 peer_sa (omega arith) refl)
@@ -339,15 +338,15 @@ plain_range : All (λ octet. octet < 2 ^ 8) example_plain
 plain_range = All-replicate (λ octet. octet < 2 ^ 8) 14 0 (omega arith)
 
 -- calls in their ranges, and then more
-range_on : (xs ys : List Exchange) → AreInRange xs → AreInRange ys → AreInRange (xs ++ ys)
+pub range_on : (xs ys : List Exchange) → AreInRange xs → AreInRange ys → AreInRange (xs ++ ys)
 range_on [] ys one two = two
 range_on (x ∷ xs) ys one two = (one.0, range_on xs ys one.1 two)
 
 install_own_range : (an : ℕ) → IsAn an → IsInRange (Commands (TxInstall an (Short own_key) 1 true 0))
 install_own_range an range = (range, inl (key-range 1 (omega arith)), omega arith, omega arith)
 
-install_peer_range : (an : ℕ) → IsAn an → IsInRange (Commands (RxInstall peer_sci an (Short peer_key) 1 0))
-install_peer_range an range = (peer-range, range, inl (key-range 2 (omega arith)), omega arith, omega arith)
+install_peer_range : (an : ℕ) → IsAn an → IsInRange (Commands (RxInstall peer_sci an (Long peer_key) 1 0))
+install_peer_range an range = (peer-range, range, inr (long-key-range 2 (omega arith)), omega arith, omega arith)
 
 own_range : AreInRange (part 0 4)
 own_range = (install_own_range 0 (omega arith), (omega arith, (plain_range, (plain_range, tt))))
@@ -480,6 +479,7 @@ module _ (peer : All (λ octet. octet < 2 ^ 8) (peer_frame 5)) where
     pending = gate-pending;
     read = refl;
     early = early_disk;
+    later = (larger, λ up_to. let few : 64 ≤ 32 = up_to.channels in omega (arith, few));
     older = older this_edition later_edition larger killed_disk early_lives early_disk;
     found_without = last-is last_image last-found;
     finds = larger-finds this_edition later_edition larger example_sectors ended_image (checked_standing this_edition) (checked-is ended_image ended-found);

@@ -109,13 +109,13 @@ once : {X : Type 0} (b : Bool) (x y z : X) → cond b x (cond b y z) ≡ cond b 
 once true x y z = refl
 once false x y z = refl
 
-put_twice : {X : Type 0} (f : ℕ → X) (at : ℕ) (x y : X) → put (put f at x) at y ≡ put f at y
+pub put_twice : {X : Type 0} (f : ℕ → X) (at : ℕ) (x y : X) → put (put f at x) at y ≡ put f at y
 put_twice f at x y = fun_ext (λ i. once (i == at) y x (f i))
 
-served_tx : served_standing.ceilings.tx ≡ put no_ceilings.tx 0 (Some 9)
+pub served_tx : served_standing.ceilings.tx ≡ put no_ceilings.tx 0 (Some 9)
 served_tx = put_twice no_ceilings.tx 0 (Some 5) (Some 9)
 
-served_rx : served_standing.ceilings.rx ≡ put_rx no_ceilings.rx peer_sci 0 (Some 9)
+pub served_rx : served_standing.ceilings.rx ≡ put_rx no_ceilings.rx peer_sci 0 (Some 9)
 served_rx =
     put_at-twice no_ceilings.rx peer_sci (put (no_ceilings.rx peer_sci) 0 (Some 1)) (put (put (no_ceilings.rx peer_sci) 0 (Some 1)) 0 (Some 9))
     ∙ ap (λ (f : ℕ → Option ℕ). put_at no_ceilings.rx peer_sci f) (put_twice (no_ceilings.rx peer_sci) 0 (Some 1) (Some 9))
@@ -134,7 +134,7 @@ raised_is = λ i. record {
 
 full_meaning : meaning_of this_edition full_content ≡ Some full_standing
 full_meaning =
-    meaning-more this_edition second_records served_content served_standing full_standing (omega arith) served_meaning
+    meaning-more this_edition second_records served_content served_standing full_standing (omega arith) refl served_meaning
     (same-again 244 (kept.SetValidate served_config.validate) raised_standing refl ∙ ap Some raised_is)
 
 -- ---- while the journal begins anew
@@ -186,7 +186,7 @@ default_fit : (role : Role) → length (spent_of role default) ≤ max_spent
 default_fit Transmit = omega arith
 default_fit Receive = omega arith
 
-default_config : IsConfig this_edition example_identity default
+pub default_config : IsConfig this_edition example_identity default
 default_config = record {
   encoding_stands = tt;
   end_station = λ is. absurd (cc);
@@ -222,11 +222,11 @@ served-is-config =
 abbrev pub full_to : Edition → Standing
 full_to edition = record full_standing { edition = edition }
 
-both_some : {A B : Type 0} (b : Bool) (x : A) (y : B) → is_some (cond b (Some x) None) ≡ is_some (cond b (Some y) None)
+pub both_some : {A B : Type 0} (b : Bool) (x : A) (y : B) → is_some (cond b (Some x) None) ≡ is_some (cond b (Some y) None)
 both_some true x y = refl
 both_some false x y = refl
 
-both_at : {A B : Type 0} (b : Bool) (f g : ℕ → Option A) (h k : ℕ → Option B) → ((i : ℕ) → is_some (f i) ≡ is_some (h i)) → ((i : ℕ) → is_some (g i) ≡ is_some (k i))
+pub both_at : {A B : Type 0} (b : Bool) (f g : ℕ → Option A) (h k : ℕ → Option B) → ((i : ℕ) → is_some (f i) ≡ is_some (h i)) → ((i : ℕ) → is_some (g i) ≡ is_some (k i))
     → (i : ℕ) → is_some (cond b f g i) ≡ is_some (cond b h k i)
 both_at true f g h k here there = here
 both_at false f g h k here there = there
@@ -285,7 +285,7 @@ ended_is edition =
 last_meaning : (edition : Edition) → edition.format_two ≡ true → IsConfig edition example_identity served_config
     → meaning_of edition last_content ≡ Some (last_standing edition)
 last_meaning edition takes_two is =
-    meaning-more edition third_records anew_content (full_to edition) (last_standing edition) (omega arith)
+    meaning-more edition third_records anew_content (full_to edition) (last_standing edition) (omega arith) refl
     (meaning-anew edition full_content full_snapshot (full_to edition) takes_two (snapshot_meaning edition is)) (ap Some (ended_is edition))
 
 pub larger : IsUpTo this_edition later_edition
@@ -302,6 +302,7 @@ checked-is image found = (
     content = ended_content;
     found = found;
     stands = meaning-more this_edition (checked ∷ []) last_content (last_standing this_edition) (checked_standing this_edition)
-        (let count : last_content.head.count ≡ 6 = snapshot-size in omega (arith, count, last-size)) (last_meaning this_edition refl served-is-config) refl;
+        (let count : last_content.head.count ≡ 6 = snapshot-size in omega (arith, count, last-size)) refl
+        (last_meaning this_edition refl served-is-config) refl;
   },
 )

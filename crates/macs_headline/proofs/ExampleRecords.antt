@@ -1,5 +1,5 @@
 -- The records of the example are in their ranges, and its snapshot has these six.
-use Rattle.std.proofs.Common.{◌≡◌, ◌<◌, ◌^◌, inl, ℕ, zero, suc, List, [], ◌∷◌, replicate, refl, arith}
+use Rattle.std.proofs.Common.{◌≡◌, ◌<◌, ◌^◌, inl, inr, ℕ, zero, suc, List, [], ◌∷◌, replicate, refl, arith}
 use Rattle.std.specs.Prelude.{All, slice_index}
 use Rattle.std.specs.List.{AllByRecursion}
 use Rattle.std.specs.Int.{to_be_bytes, w32}
@@ -42,6 +42,9 @@ peer-range = sci-range 7 (omega arith)
 pub key-range : (x : ℕ) → IsOctet x → IsOctets 16 (replicate 16 x)
 key-range x lt = record { size = refl; each = All-replicate IsOctet 16 x lt }
 
+pub long-key-range : (x : ℕ) → IsOctet x → IsOctets 32 (replicate 32 x)
+long-key-range x lt = record { size = refl; each = All-replicate IsOctet 32 x lt }
+
 pub word-range : (x : ℕ) → All IsOctet (to_be_bytes w32 x)
 word-range x = All-from_recursion IsOctet (to_be_bytes w32 x) (omega arith, (omega arith, (omega arith, (omega arith, tt))))
 
@@ -51,7 +54,7 @@ digest_range h zero = All-nil IsOctet
 digest_range h (suc n) = All-append IsOctet (digest_bytes h n) (to_be_bytes w32 (slice_index h n)) (digest_range h n) (word-range (slice_index h n))
 
 -- a fingerprint has 32 octets
-print_range : (octets : List ℕ) → IsOctets 32 (sha256 octets)
+pub print_range : (octets : List ℕ) → IsOctets 32 (sha256 octets)
 unfolding sha256
 print_range octets = record { size = length-sha256 octets; each = digest_range (final_hash initial_hash_256 octets) 8 }
 
@@ -80,7 +83,7 @@ first-ranges = (
       (
         peer-range,
         (
-          (peer-range, omega arith, inl (key-range 2 (omega arith)), (omega arith, omega arith)),
+          (peer-range, omega arith, inr (long-key-range 2 (omega arith)), (omega arith, omega arith)),
           (omega arith, ((peer-range, omega arith, (omega arith, omega arith)), tt)),
         ),
       ),
@@ -122,7 +125,7 @@ snapshot-ranges = (
     (
       peer-range,
       (
-        (peer-range, omega arith, inl (key-range 2 (omega arith)), (omega arith, omega arith)),
+        (peer-range, omega arith, inr (long-key-range 2 (omega arith)), (omega arith, omega arith)),
         (
           (omega arith, omega arith, All-from_recursion (IsOctets 32) (tx_fingerprint own_key ∷ []) (print_range own_key, tt)),
           ((omega arith, omega arith, All-from_recursion (IsOctets 32) (rx_fingerprint peer_sci peer_key ∷ []) (print_range _, tt)), tt),

@@ -64,4 +64,7 @@ module _ (sectors : ℕ) where
       restart = subst (λ (logs : Logs). Restart s (opened_state fits.found logs)) (ap (λ (t : State). t.logs) makes.2)
           (through s mid (opened_state fits.found mid.logs) command hand makes fits.restart);
     };
+    come_upon = λ s edition image fits. fits;
+    come_upon_none = λ identities edition image large none. inl (large, none);
+    come_upon_new = λ identities identity edition image among is. inr (identity, among, is);
   }

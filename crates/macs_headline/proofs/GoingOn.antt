@@ -1,5 +1,15 @@
 -- Histories go on with each life that there may be.
-use Rattle.std.proofs.Common.{◌++◌, ℕ, inr, true, false, [], ◌∷◌, None, refl}
+use Rattle.std.proofs.Common.{◌≡◌, ◌++◌, ℕ, inl, inr, true, false, [], ◌∷◌, Some, None, refl, ◌∙◌, ap}
+use Rattle.macs_config.specs.Config.{Edition}
+use Rattle.macs_disk.specs.States.{Image}
+use Rattle.macs_record.specs.declared.format.Format.{Format}
+use Rattle.macs_record.specs.declared.format.Format.TheVariants.{One}
+use Rattle.macs_journal.specs.Found.{Content, HasJournal}
+use Rattle.macs_journal.specs.Renewal.{last_generation}
+use Rattle.macs_journal.specs.declared.fault.JournalFault.TheVariants.{GenerationsSpent, NotFormatted}
+use Rattle.macs_store.specs.Found.{IsAtLast}
+use Rattle.macs_store.specs.Replay.{meaning_of, migrates}
+use Rattle.macs_store.specs.Standing.{Standing}
 use Rattle.macs_endpoint.specs.Restart.{opened_state}
 use Rattle.macs_endpoint.specs.Step.{Exchange}
 use Rattle.macs_headline.specs.GoingOn.{LivesGoOn}
@@ -8,6 +18,16 @@ use Rattle.macs_headline.specs.Moments.{Moment}
 use Rattle.macs_headline.proofs.Answered.{history-on, life-on}
 use Rattle.macs_headline.proofs.Chains.{exchanges-on}
 use Rattle.macs_headline.proofs.Lists.{contains-front}
+
+-- a journal that an edition cannot begin anew
+at_last : (edition : Edition) (image : Image) (c : Content) (s : Standing) → HasJournal image c → meaning_of edition c ≡ Some s → c.head.format ≡ One
+    → edition.format_two ≡ true → c.head.generation ≡ last_generation → IsAtLast edition image
+at_last edition image c s found stands one two last = record {
+  content = c;
+  standing = s;
+  is = record { found = found; stands = stands; old = ap (λ (f : Format). migrates edition f) one ∙ two };
+  last = last;
+}
 
 pub lives-go-on : (sectors : ℕ) → LivesGoOn sectors
 lives-go-on sectors = record {
@@ -40,6 +60,12 @@ lives-go-on sectors = record {
       history-on sectors m.lives m.past (Serves m.edition m.image m.exchanges cut) (Formatted (state_at_end s cut)) m.history (s, m.life, in_range, refl);
   refused = λ lives past edition image fault history fits why.
       history-on sectors lives past (Refuses edition image fault) past history (fits, why, refl);
+  refused_blank = λ lives identities edition image history large none.
+      history-on sectors lives (Blank identities) (Refuses edition image NotFormatted) (Blank identities) history
+      (inl (large, none), inr (large, none), refl);
+  refused_last = λ lives past edition image c s history fits large found stands one two last.
+      history-on sectors lives past (Refuses edition image GenerationsSpent) past history
+      (fits, inr (large, at_last edition image c s found stands one two last), refl);
   formatted = λ lives identities edition identity history.
       history-on sectors lives (Blank identities) (Formats edition identity true) (Formatted (formatted_state edition identity)) history refl;
   not_formatted = λ lives identities edition identity history.

@@ -21,7 +21,7 @@ use Rattle.macs_endpoint.specs.declared.progress.Step.{Step as Progress}
 use Rattle.macs_endpoint.specs.declared.progress.Step.TheVariants.{Done, Worked}
 use Rattle.macs_endpoint.specs.declared.queue.Waiting.{Waiting}
 use Rattle.macs_endpoint.specs.Restart.{opened_state, state_taking_alone, state_taking_first}
-use Rattle.macs_endpoint.specs.State.{Advanced, Advances, Call, Commands, Protects, Protected, Ran, Received, Receives, Refilled, Refills, Reply, State, Submits, Submitted, state_with_in_hand}
+use Rattle.macs_endpoint.specs.State.{Advanced, AdvancedLong, Advances, Call, Commands, Protected, Protects, Ran, Received, Receives, Refilled, Refills, RefusedLong, Reply, State, Submits, Submitted, state_with_in_hand}
 use Rattle.macs_endpoint.specs.Step.{AdvanceStep, CommandStep, Ends, Exchange, ProtectStep, ReceiveStep, RefillStep, RunningStep, Step, Steps, SubmitStep, TakesUp}
 use Rattle.macs_headline.specs.Commands.{InHandWasGiven, WasHandedIn, failing, waiting_at_end}
 use Rattle.macs_headline.specs.History.{logs_of, state_at_end}
@@ -144,6 +144,8 @@ module _ (Failed : Command → Type 0) where
   by_call old Advances (Advanced result) new told running h held = by_advance old result new running h held
   by_call old (Protects plain) (Protected result out) new told running h held = by_protect old plain result out new running h held
   by_call old (Receives frame) (Received result out) new told running h held = by_receive old frame result out new running h held
+  by_call old (Commands c) RefusedLong new told running (none, why, is) held = same_held old new is held
+  by_call old Advances (AdvancedLong ticket) new told running (first, rest, waiting, is_ticket, (idle, why, is)) held = none_held new (ap (λ (s : State). s.in_hand) is)
   by_call old call reply new told running h held = absurd h
 
   by_step : (old : State) (call : Call) (reply : Reply) (new : State) → IsTold call reply → Step old call reply new → IsHeld old → IsHeld new

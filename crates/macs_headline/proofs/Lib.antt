@@ -1,5 +1,6 @@
 pub mod Lists
 pub mod Ledger
+pub mod LookUps
 pub mod Places
 pub mod Accepted
 pub mod Changing
@@ -23,6 +24,7 @@ pub mod TxFaults
 pub mod Deliveries
 pub mod Received
 pub mod Naming
+pub mod Verdicts
 pub mod Moving
 pub mod Steps
 pub mod StepsTaken
@@ -31,6 +33,7 @@ pub mod Reasons
 pub mod AlikeEditions
 pub mod ReadByEditions
 pub mod TakenByEditions
+pub mod ReadOn
 pub mod Begun
 pub mod CutBeginnings
 pub mod Stopping
@@ -51,7 +54,9 @@ pub mod GoingOn
 pub mod Configurations
 pub mod ExactEnds
 pub mod Moments
+pub mod BegunAnew
 pub mod Idling
+pub mod Cases
 pub mod Spending
 pub mod Tickets
 pub mod RefusedDays

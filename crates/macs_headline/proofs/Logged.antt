@@ -13,7 +13,7 @@ use Rattle.macs_rxsc.specs.declared.verdict.Verdict.{Verdict}
 use Rattle.macs_rxsc.specs.declared.verdict.Verdict.TheVariants.{Delivered}
 use Rattle.macs_endpoint.specs.Calls.{IsInRange}
 use Rattle.macs_endpoint.specs.Restart.{opened_state}
-use Rattle.macs_endpoint.specs.State.{Advanced, Advances, Call, Commands, Delivery, Logs, Protects, Protected, Ran, Received, Receives, Refilled, Refills, Reply, State, Submits, Submitted, Use}
+use Rattle.macs_endpoint.specs.State.{Advanced, AdvancedLong, Advances, Call, Commands, Delivery, Logs, Protected, Protects, Ran, Received, Receives, Refilled, Refills, RefusedLong, Reply, State, Submits, Submitted, Use}
 use Rattle.macs_endpoint.specs.Step.{AdvanceStep, CommandStep, Ends, Exchange, ProtectStep, ReceiveStep, RefillStep, RunningStep, Step, Steps, SubmitStep, TakesUp}
 use Rattle.macs_endpoint.specs.declared.fault.CommandFault.{CommandFault}
 use Rattle.macs_endpoint.specs.declared.fault.CommandFault.TheVariants as ran
@@ -116,6 +116,8 @@ by_call old (Submits c) (Submitted result) new h = Nothing (by_submit old c resu
 by_call old Advances (Advanced result) new h = Nothing (by_advance old result new h)
 by_call old (Protects plain) (Protected result out) new h = by_protect old plain result out new h
 by_call old (Receives frame) (Received result out) new h = by_receive old frame result out new h
+by_call old (Commands c) RefusedLong new (none, why, is) = Nothing (logs_stay old new is)
+by_call old Advances (AdvancedLong ticket) new (first, rest, waiting, is_ticket, (idle, why, is)) = Nothing (ap (λ (s : State). s.logs) is)
 by_call old call reply new h = absurd h
 
 adds : (old : State) (call : Call) (reply : Reply) (new : State) → Step old call reply new → Adds old new (with_answer call reply)

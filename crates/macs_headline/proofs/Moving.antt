@@ -22,7 +22,7 @@ use Rattle.macs_endpoint.specs.declared.fault.SubmitFault.TheVariants as submit
 use Rattle.macs_endpoint.specs.declared.progress.Step.{Step as Progress}
 use Rattle.macs_endpoint.specs.declared.progress.Step.TheVariants.{Done, Idle, Reserved, Worked}
 use Rattle.macs_endpoint.specs.declared.queue.Waiting.{Waiting}
-use Rattle.macs_endpoint.specs.State.{Advanced, Advances, Call, Commands, Protects, Protected, Ran, Received, Receives, Refilled, Refills, Reply, State, Submits, Submitted, tx_side}
+use Rattle.macs_endpoint.specs.State.{Advanced, AdvancedLong, Advances, Call, Commands, Protected, Protects, Ran, Received, Receives, Refilled, Refills, RefusedLong, Reply, State, Submits, Submitted, tx_side}
 use Rattle.macs_endpoint.specs.Step.{AdvanceStep, CommandStep, Ends, IsStopped, ProtectStep, ReceiveStep, RefillStep, RunningStep, SubmitStep, TakesUp, next_after, numbers_after}
 use Rattle.macs_store.specs.Standing.{Standing}
 use Rattle.macs_endpoint.specs.Restart.{Restart, RxRises, TxRises, opened_state}
@@ -197,6 +197,9 @@ by_call old (Submits c) (Submitted result) new h = when_still old (Submits c) (S
 by_call old Advances (Advanced result) new h = by_advance old result new h
 by_call old (Protects plain) (Protected result out) new h = by_protect old plain result out new h
 by_call old (Receives frame) (Received result out) new h = by_receive old frame result out new h
+by_call old (Commands c) RefusedLong new (none, why, is) = when_still old (Commands c) RefusedLong new (still old new is)
+by_call old Advances (AdvancedLong ticket) new (first, rest, waiting, is_ticket, (idle, why, is)) =
+    when_still old Advances (AdvancedLong ticket) new (ap (λ (s : State). s.next) is, ap (λ (s : State). s.numbers) is)
 by_call old call reply new h = absurd h
 
 pub numbers-move : (sectors : ℕ) → NumbersMove sectors
@@ -253,6 +256,8 @@ call_sets old (Submits given) (Submitted result) new c h effect = absurd effect
 call_sets old Advances (Advanced result) new c h effect = advance_sets old result new c h effect
 call_sets old (Protects plain) (Protected result out) new c h effect = absurd effect
 call_sets old (Receives frame) (Received result out) new c h effect = absurd effect
+call_sets old (Commands given) RefusedLong new c h effect = absurd effect
+call_sets old Advances (AdvancedLong ticket) new c h effect = absurd effect
 call_sets old call reply new c h effect = absurd h
 
 -- none takes effect in an endpoint that is stopped

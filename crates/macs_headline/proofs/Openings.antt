@@ -1,21 +1,40 @@
 -- The headline on openings that are refused, and on lives that change nothing.
 use Rattle.std.proofs.Common.{◌≡◌, ◌⊎◌, inl, inr, ℕ, Bool, true, false, List, Result, Ok, Err, refl, sym, ap, subst}
+use Rattle.std.proofs.lemmas.Bool.{false≢true}
 use Rattle.macs_config.specs.Config.{Edition}
 use Rattle.macs_config.specs.Identity.{Identity}
 use Rattle.macs_disk.specs.States.{Image}
+use Rattle.macs_record.specs.declared.format.Format.{Format}
+use Rattle.macs_record.specs.declared.format.Format.TheVariants.{One, Two}
 use Rattle.macs_journal.specs.declared.fault.JournalFault.{JournalFault}
 use Rattle.macs_journal.specs.declared.fault.JournalFault.TheVariants.{Disk, GenerationsSpent, NotFormatted}
 use Rattle.macs_store.specs.Found.{IsUnfitTo, StandingIs}
+use Rattle.macs_store.specs.Replay.{migrates}
 use Rattle.macs_store.specs.Standing.{Standing, new_standing}
 use Rattle.macs_store.proofs.OneStanding.{one_standing}
 use Rattle.macs_endpoint.specs.State.{State}
 use Rattle.macs_endpoint.specs.Restart.{Fits}
 use Rattle.macs_headline.specs.History.{Blank, FitsPast, Formats, Formatted, Leads, Past, logs_of}
-use Rattle.macs_headline.specs.Openings.{AreAsBefore, IsSpentFor, NothingChanges, RefusedForDiskOrBlank, RefusedForDiskOrSpent}
+use Rattle.macs_headline.specs.Openings.{AreAsBefore, IsSpentFor, NothingChanges, RefusedForDiskOrBlank, RefusedForDiskOrSpent, SpentAreLast}
 use Rattle.macs_headline.proofs.Histories.{found-or-refused}
 
 same_fault : (a b : JournalFault) → ◌≡◌ {A = Result Standing JournalFault} (Err a) (Err b) → a ≡ b
 same_fault a b is = cc
+
+-- ---- a last generation
+
+-- the formats that an edition does not keep
+old_format : (edition : Edition) (format : Format) → migrates edition format ≡ true → (format ≡ One) × (edition.format_two ≡ true)
+old_format edition One is = (refl, is)
+old_format edition Two is = absurd (false≢true is)
+
+pub spent-are-last : SpentAreLast
+spent-are-last edition image fault spent =
+    let at = spent.1 in
+    let old = old_format edition at.content.head.format at.is.old in
+    (at.content, at.is.found, old.0, old.1, at.last)
+
+-- ---- refused openings
 
 module _ (sectors : ℕ) where
   -- where an image stands for something

@@ -18,7 +18,7 @@ use Rattle.macs_endpoint.specs.declared.fault.RefillFault.TheVariants as refill
 use Rattle.macs_endpoint.specs.declared.fault.Stopped.{Stopped}
 use Rattle.macs_rxsc.specs.declared.verdict.Verdict.{Verdict}
 use Rattle.macs_endpoint.specs.Restart.{Restart, opened_state}
-use Rattle.macs_endpoint.specs.State.{Call, Commands, Logs, Protects, Protected, Ran, Received, Receives, Refilled, Refills, Reply, State, no_logs}
+use Rattle.macs_endpoint.specs.State.{Call, Commands, Logs, Protected, Protects, Ran, Received, Receives, Refilled, Refills, RefusedLong, Reply, State, no_logs}
 use Rattle.macs_endpoint.specs.Step.{CommandStep, Exchange, ProtectStep, ReceiveStep, RefillStep, RunningStep, Step, Steps}
 use Rattle.macs_headline.specs.History.{Blank, FitsPast, FormatLeads, Formats, Formatted, IsLifeSoFar, LeadOn, Leads, Life, Past, Refuses, Serves, logs_of}
 use Rattle.macs_headline.specs.Answered.{WasAnswered}
@@ -102,6 +102,7 @@ module _ (identity : Identity) (IsOurCommand : Command → Type 0) (IsOurConfig 
   by_call old Refills (Refilled result) new its h ours = by_refill old result new h ours
   by_call old (Protects plain) (Protected result out) new its h ours = by_protect old plain result out new h ours
   by_call old (Receives frame) (Received result out) new its h ours = by_receive old frame result out new h ours
+  by_call old (Commands c) RefusedLong new its (none, why, is) ours = same_ours old new is ours
   by_call old (Commands c) reply new its h ours = absurd h
   by_call old Refills reply new its h ours = absurd h
   by_call old (Protects plain) reply new its h ours = absurd h

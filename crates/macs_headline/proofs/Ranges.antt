@@ -40,7 +40,7 @@ use Rattle.macs_endpoint.specs.declared.progress.Step.{Step as Progress}
 use Rattle.macs_endpoint.specs.declared.progress.Step.TheVariants.{Done, Worked}
 use Rattle.macs_endpoint.specs.declared.queue.Waiting.{Waiting}
 use Rattle.macs_endpoint.specs.Restart.{Restart, Resumes, TxRises, opened_state, state_taking, state_taking_alone, state_taking_first}
-use Rattle.macs_endpoint.specs.State.{Advanced, Advances, Call, Commands, Protects, Protected, Ran, Received, Receives, Refilled, Refills, Reply, State, Submits, Submitted, no_logs, state_with_in_hand, tx_side}
+use Rattle.macs_endpoint.specs.State.{Advanced, AdvancedLong, Advances, Call, Commands, Protected, Protects, Ran, Received, Receives, Refilled, Refills, RefusedLong, Reply, State, Submits, Submitted, no_logs, state_with_in_hand, tx_side}
 use Rattle.macs_endpoint.specs.Step.{AdvanceStep, CommandStep, Ends, Exchange, Makes, ProtectStep, ReceiveStep, RefillStep, RunningStep, Step, Steps, SubmitStep, TakesUp, next_after, state_without_first}
 use Rattle.macs_headline.specs.Frames.{FramesAreStandard, IsNamedIn, IsStandardFrame}
 use Rattle.macs_headline.specs.History.{Blank, FitsPast, FormatLeads, Formats, Formatted, IsLifeSoFar, LeadOn, Leads, Life, Past, Refuses, Serves, formatted_state, logs_of, state_at_end}
@@ -295,6 +295,9 @@ module _ (edition : Edition) where
   by_call old Advances (Advanced result) new given h ranged = by_advance old result new h ranged
   by_call old (Protects plain) (Protected result out) new given h ranged = by_protect old plain result out new h ranged
   by_call old (Receives frame) (Received result out) new given h ranged = by_receive old frame result out new h ranged
+  by_call old (Commands c) RefusedLong new given (none, why, is) ranged = same_range old new is ranged
+  by_call old Advances (AdvancedLong ticket) new given (first, rest, waiting, is_ticket, (idle, why, is)) ranged =
+      same_range (state_without_first old rest) new is (without_first old rest (first_command old first rest waiting ranged).1 ranged)
   by_call old call reply new given h ranged = absurd h
 
   by_step : (old : State) (call : Call) (reply : Reply) (new : State) → IsInRange call → Step old call reply new
@@ -443,4 +446,4 @@ module _ (sectors : ℕ) where
   frames-are-standard s m plain pn out new step = by_frame m.edition s plain pn out new step (moment_range s m)
 
   pub of-its-edition : OfItsEdition sectors
-  of-its-edition s m = (moment_range s m).same
+  of-its-edition = (λ s m. (moment_range s m).same, λ edition identity. refl)

@@ -1,12 +1,12 @@
 -- A command is refused for a reason that it has, and where it has one.
-use Rattle.std.proofs.Common.{◌≡◌, ◌≢◌, ◌⊎◌, ◌↔◌, ◌≤◌, ◌||◌, ◌&&◌, ◌==◌, inl, inr, ℕ, Bool, true, false, cond, not, nat_le, List, [], ◌∷◌, drop, length, Option, Some, None, is_none, is_some, bytes_eq, refl, sym, ◌∙◌, ap, subst}
+use Rattle.std.proofs.Common.{◌≡◌, ◌≢◌, ◌⊎◌, ◌↔◌, ◌≤◌, ◌||◌, ◌&&◌, ◌==◌, inl, inr, ℕ, Bool, true, false, cond, not, nat_le, List, [], ◌∷◌, map, drop, length, Option, Some, None, is_none, is_some, bytes_eq, refl, sym, ◌∙◌, ap, subst}
 use Rattle.std.specs.Prelude.{IsSome, if◌then◌else◌}
 use Rattle.std.proofs.lemmas.Bool.{eq-eqb, eqb-true, false≢true, le-leb, leb-true, or_left, or_right}
 use Rattle.std.proofs.lemmas.Slice.Eq.{bytes_eq-Decides}
 use Rattle.macs_aes.specs.Keys.{octets_of_key}
-use Rattle.macs_fields.specs.First.{first}
+use Rattle.macs_fields.specs.First.{IsFirst, first}
 use Rattle.macs_fields.specs.declared.fields.Offset.TheVariants.{Fifty, Thirty, Zero}
-use Rattle.macs_config.specs.Apply.{are_channels_full, are_spent_full, has_no_channel, has_wrong_offset, has_wrong_start, is_channel_taken, is_encoding, is_in_use, is_key_spent, is_long_key, is_own_sci, is_slot_empty, is_slot_taken, is_wrong_end_station, offset_at, refusal_of, refusals}
+use Rattle.macs_config.specs.Apply.{LongKey, Named, Reason, are_channels_full, are_spent_full, has_no_channel, has_wrong_offset, has_wrong_start, is_channel_taken, is_encoding, is_in_use, is_key_spent, is_long_key, is_own_sci, is_slot_empty, is_slot_taken, is_wrong_end_station, offset_at, refusal_of, refusals}
 use Rattle.macs_config.specs.Association.{is_end_station}
 use Rattle.macs_config.specs.Config.{Config, Edition, is_among, max_spent, takes_key}
 use Rattle.macs_config.specs.Identity.{Identity, is_port_one}
@@ -14,8 +14,7 @@ use Rattle.macs_config.specs.declared.command.Command.{Command}
 use Rattle.macs_config.specs.declared.command.Command.TheVariants.{RxAdd, RxDrop, RxInstall, RxRemove, SetSciMode, TxInstall, TxRemove, TxUse}
 use Rattle.macs_config.specs.declared.command.SciMode.{SciMode}
 use Rattle.macs_config.specs.declared.command.SciMode.TheVariants.{EndStation, Explicit, Implicit}
-use Rattle.macs_config.specs.declared.refusal.Refusal.{Refusal}
-use Rattle.macs_config.specs.declared.refusal.Refusal.TheVariants.{ChannelTaken, ChannelsFull, EndStationSci, InUse, KeySpent, LongKey, NoChannel, OffsetChoice, OwnSci, SlotEmpty, SlotTaken, SpentFull, StartRange}
+use Rattle.macs_config.specs.declared.refusal.Refusal.TheVariants.{ChannelTaken, ChannelsFull, EndStationSci, InUse, KeySpent, NoChannel, OffsetChoice, OwnSci, SlotEmpty, SlotTaken, SpentFull, StartRange}
 use Rattle.macs_headline.specs.Reasons.{IsNoOffset, IsReasonOf, ReasonsAreNamed}
 use Rattle.macs_headline.proofs.Accepted.{NoTest, no-test}
 use Rattle.macs_headline.proofs.Ledger.{some_one}
@@ -80,17 +79,17 @@ tx_offset confidential offset =
 -- ---- each reason
 
 module _ (edition : Edition) (identity : Identity) (c : Config) where
-  by_start : (command : Command) → (has_wrong_start command ≡ true) ↔ IsReasonOf edition identity c command StartRange
+  by_start : (command : Command) → (has_wrong_start command ≡ true) ↔ IsReasonOf edition identity c command (Named StartRange)
   by_start (TxInstall an key start confidential offset) = (λ is. eqb-true start 0 is, λ is. eq-eqb start 0 is)
   by_start (RxInstall sci an key start offset) = (λ is. eqb-true start 0 is, λ is. eq-eqb start 0 is)
   by_start command = (λ is. absurd (false≢true is), λ no. absurd no)
 
-  by_offset : (command : Command) → (has_wrong_offset command ≡ true) ↔ IsReasonOf edition identity c command OffsetChoice
+  by_offset : (command : Command) → (has_wrong_offset command ≡ true) ↔ IsReasonOf edition identity c command (Named OffsetChoice)
   by_offset (TxInstall an key start confidential offset) = tx_offset confidential offset
   by_offset (RxInstall sci an key start offset) = no_offset offset
   by_offset command = (λ is. absurd (false≢true is), λ no. absurd no)
 
-  by_own : (command : Command) → (is_own_sci identity command ≡ true) ↔ IsReasonOf edition identity c command OwnSci
+  by_own : (command : Command) → (is_own_sci identity command ≡ true) ↔ IsReasonOf edition identity c command (Named OwnSci)
   by_own (RxAdd sci) = let same = bytes_eq-Decides sci identity.sci in (λ is. same.0 is, λ is. same.1 is)
   by_own command = (λ is. absurd (false≢true is), λ no. absurd no)
 
@@ -113,30 +112,30 @@ module _ (edition : Edition) (identity : Identity) (c : Config) where
     λ no. refl,
   )
 
-  by_station : (command : Command) → (is_wrong_end_station identity command ≡ true) ↔ IsReasonOf edition identity c command EndStationSci
+  by_station : (command : Command) → (is_wrong_end_station identity command ≡ true) ↔ IsReasonOf edition identity c command (Named EndStationSci)
   by_station (SetSciMode mode) = station_by mode (is_port_one identity.sci) refl
   by_station command = (λ is. absurd (false≢true is), λ no. absurd no)
 
-  by_channel : (command : Command) → (has_no_channel c command ≡ true) ↔ IsReasonOf edition identity c command NoChannel
+  by_channel : (command : Command) → (has_no_channel c command ≡ true) ↔ IsReasonOf edition identity c command (Named NoChannel)
   by_channel (RxDrop sci) = is_not (is_among c.channels sci)
   by_channel (RxInstall sci an key start offset) = is_not (is_among c.channels sci)
   by_channel (RxRemove sci an) = is_not (is_among c.channels sci)
   by_channel command = (λ is. absurd (false≢true is), λ no. absurd no)
 
-  by_taken : (command : Command) → (is_channel_taken c command ≡ true) ↔ IsReasonOf edition identity c command ChannelTaken
+  by_taken : (command : Command) → (is_channel_taken c command ≡ true) ↔ IsReasonOf edition identity c command (Named ChannelTaken)
   by_taken (RxAdd sci) = (λ is. is, λ is. is)
   by_taken command = (λ is. absurd (false≢true is), λ no. absurd no)
 
-  by_full : (command : Command) → (are_channels_full edition c command ≡ true) ↔ IsReasonOf edition identity c command ChannelsFull
+  by_full : (command : Command) → (are_channels_full edition c command ≡ true) ↔ IsReasonOf edition identity c command (Named ChannelsFull)
   by_full (RxAdd sci) = (λ is. leb-true edition.channels (length c.channels) is, λ is. le-leb edition.channels (length c.channels) is)
   by_full command = (λ is. absurd (false≢true is), λ no. absurd no)
 
-  by_slot : (command : Command) → (is_slot_taken c command ≡ true) ↔ IsReasonOf edition identity c command SlotTaken
+  by_slot : (command : Command) → (is_slot_taken c command ≡ true) ↔ IsReasonOf edition identity c command (Named SlotTaken)
   by_slot (TxInstall an key start confidential offset) = (λ is. is, λ is. is)
   by_slot (RxInstall sci an key start offset) = (λ is. is, λ is. is)
   by_slot command = (λ is. absurd (false≢true is), λ no. absurd no)
 
-  by_empty : (command : Command) → (is_slot_empty c command ≡ true) ↔ IsReasonOf edition identity c command SlotEmpty
+  by_empty : (command : Command) → (is_slot_empty c command ≡ true) ↔ IsReasonOf edition identity c command (Named SlotEmpty)
   by_empty (TxUse an) = is_empty (c.tx an)
   by_empty (TxRemove an) = is_empty (c.tx an)
   by_empty (RxRemove sci an) = is_empty (c.rx sci an)
@@ -147,16 +146,16 @@ module _ (edition : Edition) (identity : Identity) (c : Config) where
   encoding_by (Some n) an =
       (λ is. ap (λ (m : ℕ). Some m) (eqb-true n an is), λ is. eq-eqb n an (some_one (Some n) n an refl is))
 
-  by_use : (command : Command) → (is_in_use c command ≡ true) ↔ IsReasonOf edition identity c command InUse
+  by_use : (command : Command) → (is_in_use c command ≡ true) ↔ IsReasonOf edition identity c command (Named InUse)
   by_use (TxRemove an) = encoding_by c.encoding an
   by_use command = (λ is. absurd (false≢true is), λ no. absurd no)
 
-  by_spent : (command : Command) → (is_key_spent c command ≡ true) ↔ IsReasonOf edition identity c command KeySpent
+  by_spent : (command : Command) → (is_key_spent c command ≡ true) ↔ IsReasonOf edition identity c command (Named KeySpent)
   by_spent (TxInstall an key start confidential offset) = (λ is. is, λ is. is)
   by_spent (RxInstall sci an key start offset) = (λ is. is, λ is. is)
   by_spent command = (λ is. absurd (false≢true is), λ no. absurd no)
 
-  by_many : (command : Command) → (are_spent_full c command ≡ true) ↔ IsReasonOf edition identity c command SpentFull
+  by_many : (command : Command) → (are_spent_full c command ≡ true) ↔ IsReasonOf edition identity c command (Named SpentFull)
   by_many (TxInstall an key start confidential offset) = (λ is. leb-true max_spent (length c.spent_tx) is, λ is. le-leb max_spent (length c.spent_tx) is)
   by_many (RxInstall sci an key start offset) = (λ is. leb-true max_spent (length c.spent_rx) is, λ is. le-leb max_spent (length c.spent_rx) is)
   by_many command = (λ is. absurd (false≢true is), λ no. absurd no)
@@ -169,76 +168,92 @@ module _ (edition : Edition) (identity : Identity) (c : Config) where
   -- ---- all of them
 
   module _ (command : Command) where
-    abbrev test : Refusal → Bool
-    test StartRange = has_wrong_start command
-    test OffsetChoice = has_wrong_offset command
-    test OwnSci = is_own_sci identity command
-    test EndStationSci = is_wrong_end_station identity command
-    test NoChannel = has_no_channel c command
-    test ChannelTaken = is_channel_taken c command
-    test ChannelsFull = are_channels_full edition c command
-    test SlotTaken = is_slot_taken c command
-    test SlotEmpty = is_slot_empty c command
-    test InUse = is_in_use c command
-    test KeySpent = is_key_spent c command
-    test SpentFull = are_spent_full c command
+    abbrev test : Reason → Bool
+    test (Named StartRange) = has_wrong_start command
+    test (Named OffsetChoice) = has_wrong_offset command
+    test (Named OwnSci) = is_own_sci identity command
+    test (Named EndStationSci) = is_wrong_end_station identity command
+    test (Named NoChannel) = has_no_channel c command
+    test (Named ChannelTaken) = is_channel_taken c command
+    test (Named ChannelsFull) = are_channels_full edition c command
+    test (Named SlotTaken) = is_slot_taken c command
+    test (Named SlotEmpty) = is_slot_empty c command
+    test (Named InUse) = is_in_use c command
+    test (Named KeySpent) = is_key_spent c command
+    test (Named SpentFull) = are_spent_full c command
     test LongKey = is_long_key edition command
 
-    reason : (refusal : Refusal) → (test refusal ≡ true) ↔ IsReasonOf edition identity c command refusal
-    reason StartRange = by_start command
-    reason OffsetChoice = by_offset command
-    reason OwnSci = by_own command
-    reason EndStationSci = by_station command
-    reason NoChannel = by_channel command
-    reason ChannelTaken = by_taken command
-    reason ChannelsFull = by_full command
-    reason SlotTaken = by_slot command
-    reason SlotEmpty = by_empty command
-    reason InUse = by_use command
-    reason KeySpent = by_spent command
-    reason SpentFull = by_many command
+    reason : (refusal : Reason) → (test refusal ≡ true) ↔ IsReasonOf edition identity c command refusal
+    reason (Named StartRange) = by_start command
+    reason (Named OffsetChoice) = by_offset command
+    reason (Named OwnSci) = by_own command
+    reason (Named EndStationSci) = by_station command
+    reason (Named NoChannel) = by_channel command
+    reason (Named ChannelTaken) = by_taken command
+    reason (Named ChannelsFull) = by_full command
+    reason (Named SlotTaken) = by_slot command
+    reason (Named SlotEmpty) = by_empty command
+    reason (Named InUse) = by_use command
+    reason (Named KeySpent) = by_spent command
+    reason (Named SpentFull) = by_many command
     reason LongKey = by_key command
 
-    abbrev Agree : List (Refusal × Bool) → Type 0
+    abbrev Agree : List (Reason × Bool) → Type 0
     Agree [] = Unit {0}
     Agree (row ∷ rows) = (row.1 ≡ test row.0) × Agree rows
 
-    named_by : (refusal : Refusal) (b : Bool) (rest : Option Refusal) (r : Refusal) → b ≡ test refusal → (rest ≡ Some r → test r ≡ true)
+    named_by : (refusal : Reason) (b : Bool) (rest : Option Reason) (r : Reason) → b ≡ test refusal → (rest ≡ Some r → test r ≡ true)
         → cond b (Some refusal) rest ≡ Some r → test r ≡ true
-    named_by refusal true rest r is later e = sym (subst (λ (x : Refusal). true ≡ test x) (some_one (Some refusal) refusal r refl e) is)
+    named_by refusal true rest r is later e = sym (subst (λ (x : Reason). true ≡ test x) (some_one (Some refusal) refusal r refl e) is)
     named_by refusal false rest r is later e = later e
 
-    first_named : (rows : List (Refusal × Bool)) (r : Refusal) → Agree rows → first rows ≡ Some r → test r ≡ true
+    first_named : (rows : List (Reason × Bool)) (r : Reason) → Agree rows → first rows ≡ Some r → test r ≡ true
     first_named [] r agree e = absurd (some_none r e)
     first_named (row ∷ rows) r agree e = named_by row.0 row.1 (first rows) r agree.0 (first_named rows r agree.1) e
+
+    -- none before it holds
+    first_by : (refusal : Reason) (b : Bool) (rows : List (Reason × Bool)) (r : Reason) → b ≡ test refusal
+        → (first rows ≡ Some r → IsFirst (IsReasonOf edition identity c command) (map (λ (row : Reason × Bool). row.0) rows) r)
+        → cond b (Some refusal) (first rows) ≡ Some r
+        → (IsReasonOf edition identity c command refusal × (r ≡ refusal))
+        ⊎ ((¬ IsReasonOf edition identity c command refusal) × IsFirst (IsReasonOf edition identity c command) (map (λ (row : Reason × Bool). row.0) rows) r)
+    first_by refusal true rows r is later e = inl ((reason refusal).0 (sym is), sym (some_one (Some refusal) refusal r refl e))
+    first_by refusal false rows r is later e = inr (λ has. false≢true (is ∙ (reason refusal).1 has), later e)
+
+    is_first : (rows : List (Reason × Bool)) (r : Reason) → Agree rows → first rows ≡ Some r
+        → IsFirst (IsReasonOf edition identity c command) (map (λ (row : Reason × Bool). row.0) rows) r
+    is_first [] r agree e = absurd (some_none r e)
+    is_first (row ∷ rows) r agree e = first_by row.0 row.1 rows r agree.0 (is_first rows r agree.1) e
 
     agree : Agree (refusals edition identity c command)
     agree = (refl, (refl, (refl, (refl, (refl, (refl, (refl, (refl, (refl, (refl, (refl, (refl, (refl, tt)))))))))))))
 
-    no_tests : NoTest (refusals edition identity c command) → (r : Refusal) → test r ≡ false
-    no_tests none StartRange = none.0
-    no_tests none OffsetChoice = none.1.0
-    no_tests none OwnSci = none.1.1.0
-    no_tests none EndStationSci = none.1.1.1.0
-    no_tests none NoChannel = none.1.1.1.1.0
-    no_tests none ChannelTaken = none.1.1.1.1.1.0
-    no_tests none ChannelsFull = none.1.1.1.1.1.1.0
-    no_tests none SlotTaken = none.1.1.1.1.1.1.1.0
-    no_tests none SlotEmpty = none.1.1.1.1.1.1.1.1.0
-    no_tests none InUse = none.1.1.1.1.1.1.1.1.1.0
-    no_tests none KeySpent = none.1.1.1.1.1.1.1.1.1.1.0
-    no_tests none SpentFull = none.1.1.1.1.1.1.1.1.1.1.1.0
+    no_tests : NoTest (refusals edition identity c command) → (r : Reason) → test r ≡ false
+    no_tests none (Named StartRange) = none.0
+    no_tests none (Named OffsetChoice) = none.1.0
+    no_tests none (Named OwnSci) = none.1.1.0
+    no_tests none (Named EndStationSci) = none.1.1.1.0
+    no_tests none (Named NoChannel) = none.1.1.1.1.0
+    no_tests none (Named ChannelTaken) = none.1.1.1.1.1.0
+    no_tests none (Named ChannelsFull) = none.1.1.1.1.1.1.0
+    no_tests none (Named SlotTaken) = none.1.1.1.1.1.1.1.0
+    no_tests none (Named SlotEmpty) = none.1.1.1.1.1.1.1.1.0
+    no_tests none (Named InUse) = none.1.1.1.1.1.1.1.1.1.0
+    no_tests none (Named KeySpent) = none.1.1.1.1.1.1.1.1.1.1.0
+    no_tests none (Named SpentFull) = none.1.1.1.1.1.1.1.1.1.1.1.0
     no_tests none LongKey = none.1.1.1.1.1.1.1.1.1.1.1.1.0
 
-    is_named : (refusal : Refusal) → refusal_of edition identity c command ≡ Some refusal → IsReasonOf edition identity c command refusal
+    is_named : (refusal : Reason) → refusal_of edition identity c command ≡ Some refusal → IsReasonOf edition identity c command refusal
     is_named refusal is = (reason refusal).0 (first_named (refusals edition identity c command) refusal agree is)
 
-    is_held : (refusal : Refusal) → IsReasonOf edition identity c command refusal → ¬ (refusal_of edition identity c command ≡ None)
+    is_held : (refusal : Reason) → IsReasonOf edition identity c command refusal → ¬ (refusal_of edition identity c command ≡ None)
     is_held refusal has none =
         false≢true (sym (no_tests (no-test (refusals edition identity c command) none) refusal) ∙ (reason refusal).1 has)
 
 pub reasons-are-named : ReasonsAreNamed
 reasons-are-named = record {
   named = λ edition identity c command refusal is. is_named edition identity c command refusal is;
+  first = λ edition identity c command refusal is.
+      is_first edition identity c command (refusals edition identity c command) refusal (agree edition identity c command) is;
   held = λ edition identity c command refusal has. is_held edition identity c command refusal has;
 }

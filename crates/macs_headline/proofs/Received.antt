@@ -33,7 +33,7 @@ use Rattle.macs_endpoint.specs.declared.progress.Step.{Step as Progress}
 use Rattle.macs_endpoint.specs.declared.progress.Step.TheVariants.{Done, Worked}
 use Rattle.macs_endpoint.specs.declared.queue.Waiting.{Waiting}
 use Rattle.macs_endpoint.specs.Restart.{opened_state}
-use Rattle.macs_endpoint.specs.State.{Advanced, Advances, Call, Commands, Protects, Protected, Ran, Received, Receives, Refilled, Refills, Reply, State, Submits, Submitted, rx_side}
+use Rattle.macs_endpoint.specs.State.{Advanced, AdvancedLong, Advances, Call, Commands, Protected, Protects, Ran, Received, Receives, Refilled, Refills, RefusedLong, Reply, State, Submits, Submitted, rx_side}
 use Rattle.macs_endpoint.specs.Step.{AdvanceStep, CommandStep, Ends, Exchange, ProtectStep, ReceiveStep, RefillStep, RunningStep, Step, Steps, SubmitStep, TakesUp, numbers_after}
 use Rattle.macs_headline.specs.Deliveries.{IsVerifiedAnswer}
 use Rattle.macs_headline.specs.History.{logs_of}
@@ -279,6 +279,8 @@ module _ (sci : List ℕ) (an pn : ℕ) where
   by_call old Advances (Advanced result) new h was = inl (by_advance old result new h was)
   by_call old (Protects plain) (Protected result out) new h was = inl (same_seen old new (by_protect old plain result out new h) was)
   by_call old (Receives frame) (Received result out) new h was = by_receive old frame result out new h was
+  by_call old (Commands c) RefusedLong new (none, why, is) was = inl (same_seen old new (ap (λ (s : State). s.numbers) is) was)
+  by_call old Advances (AdvancedLong ticket) new (first, rest, waiting, is_ticket, (idle, why, is)) was = inl (same_seen old new (ap (λ (s : State). s.numbers) is) was)
   by_call old call reply new h was = absurd h
 
   by_step : (old : State) (call : Call) (reply : Reply) (new : State) → Step old call reply new → WasSeenHere new.numbers

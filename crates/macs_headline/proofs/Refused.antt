@@ -1,9 +1,8 @@
 -- Calls are refused for the first reason that holds.
 use Rattle.std.proofs.Common.{◌≡◌, inl, inr, ℕ, List, ◌∷◌, Option, Some, None, Result, Ok, Err, refl, ap}
-use Rattle.macs_config.specs.Apply.{answer_or_refusal, apply, config_after, refusal_of}
+use Rattle.macs_config.specs.Apply.{LongKey, Named, Reason, answer_or_refusal, apply, config_after, refusal_of}
 use Rattle.macs_config.specs.Config.{Config}
 use Rattle.macs_config.specs.declared.command.Command.{Command}
-use Rattle.macs_config.specs.declared.refusal.Refusal.{Refusal}
 use Rattle.macs_endpoint.specs.declared.fault.CommandFault.{CommandFault}
 use Rattle.macs_endpoint.specs.declared.fault.CommandFault.TheVariants as ran
 use Rattle.macs_endpoint.specs.declared.fault.ProtectFault.{ProtectFault}
@@ -17,20 +16,20 @@ use Rattle.macs_endpoint.specs.declared.fault.SubmitFault.TheVariants as submit
 use Rattle.macs_endpoint.specs.declared.progress.Step.{Step as Progress}
 use Rattle.macs_endpoint.specs.declared.progress.Step.TheVariants.{Done, Idle, Reserved, Worked}
 use Rattle.macs_endpoint.specs.declared.queue.Waiting.{Waiting}
-use Rattle.macs_endpoint.specs.State.{Advanced, Advances, Call, Commands, Protects, Protected, Ran, Receives, Refilled, Refills, Reply, State, Submits, Submitted}
+use Rattle.macs_endpoint.specs.State.{Advanced, AdvancedLong, Advances, Call, Commands, Protected, Protects, Ran, Receives, Refilled, Refills, RefusedLong, Reply, State, Submits, Submitted}
 use Rattle.macs_endpoint.specs.Step.{AdvanceStep, CommandStep, Ends, IsStopped, Makes, ProtectStep, RefillStep, RunningStep, Step, SubmitStep, TakesUp, state_without_first}
 use Rattle.macs_headline.specs.Refused.{IsExact, LimitsAre, RefusalsAreExact, TakesFirst, refusal_at}
 use Rattle.macs_headline.proofs.Accepted.{accepted, no-refusal}
 
 -- ---- reasons
 
-pub refused_by : (why : Option Refusal) (config : Config) (refusal : Refusal) → answer_or_refusal why config ≡ Err refusal → why ≡ Some refusal
-refused_by None config refusal is = absurd (cc)
-refused_by (Some first) config refusal is = let one : first ≡ refusal = cc in ap (λ (r : Refusal). Some r) one
+pub refused_by : (why : Option Reason) (config : Config) (reason : Reason) → answer_or_refusal why config ≡ Err reason → why ≡ Some reason
+refused_by None config reason is = absurd (cc)
+refused_by (Some first) config reason is = let one : first ≡ reason = cc in ap (λ (r : Reason). Some r) one
 
 -- a command that is refused is so for its first reason
-refused_for : (s : State) (c : Command) (refusal : Refusal) → apply s.edition s.identity s.config c ≡ Err refusal → refusal_at s c ≡ Some refusal
-refused_for s c refusal is = refused_by (refusal_of s.edition s.identity s.config c) (config_after s.config c) refusal is
+refused_for : (s : State) (c : Command) (reason : Reason) → apply s.edition s.identity s.config c ≡ Err reason → refusal_at s c ≡ Some reason
+refused_for s c reason is = refused_by (refusal_of s.edition s.identity s.config c) (config_after s.config c) reason is
 
 -- one that takes effect has none
 made_for : (s : State) (c : Command) (new : State) → Makes s c new → refusal_at s c ≡ None
@@ -44,7 +43,7 @@ by_command old c (Ok done) new (none, makes) = (none, made_for old c new makes)
 by_command old c (Err ran.Stopped) new h = absurd h
 by_command old c (Err ran.Disk) new (none, accepts, is) = (none, no-refusal old.edition old.identity old.config c accepts, is)
 by_command old c (Err ran.Busy) new (some, is) = (some, is)
-by_command old c (Err (ran.Refused refusal)) new (none, why, is) = (none, refused_for old c refusal why, is)
+by_command old c (Err (ran.Refused refusal)) new (none, why, is) = (none, refused_for old c (Named refusal) why, is)
 by_command old c (Err ran.GenerationsSpent) new (none, accepts, is) = (none, no-refusal old.edition old.identity old.config c accepts, is)
 
 by_refill : (old : State) (result : Result (Unit {0}) RefillFault) (new : State) → RefillStep old result new → IsExact old Refills (Refilled result) new
@@ -64,9 +63,9 @@ by_submit old c (Err submit.Stopped) new h = absurd h
 by_end : (old : State) (w : Waiting) (rest : List Waiting) (ticket : ℕ) (result : Result (Unit {0}) CommandFault) (new : State) → old.waiting ≡ w ∷ rest
     → ticket ≡ w.ticket → Ends old w rest result new → IsExact old Advances (Advanced (Ok (Done ticket result))) new
 by_end old w rest ticket (Ok done) new waiting is_ticket makes =
-    (w, rest, waiting, is_ticket, made_for (state_without_first old rest) w.command new makes)
+    (w, rest, waiting, is_ticket, made_for (state_without_first old rest) w.command new makes, ap (λ (s : State). s.in_hand) makes.2)
 by_end old w rest ticket (Err (ran.Refused refusal)) new waiting is_ticket (idle, why, is) =
-    (w, rest, waiting, is_ticket, idle, refused_for old w.command refusal why, is)
+    (w, rest, waiting, is_ticket, idle, refused_for old w.command (Named refusal) why, is)
 by_end old w rest ticket (Err ran.GenerationsSpent) new waiting is_ticket (idle, accepts, is) =
     (w, rest, waiting, is_ticket, idle, no-refusal old.edition old.identity old.config w.command accepts, is)
 by_end old w rest ticket (Err fault) new waiting is_ticket h = absurd h
@@ -100,6 +99,9 @@ by_call old (Submits c) (Submitted result) new h = by_submit old c result new h
 by_call old Advances (Advanced result) new h = by_advance old result new h
 by_call old (Protects plain) (Protected result out) new h = by_protect old plain result out new h
 by_call old (Receives frame) reply new h = tt
+by_call old (Commands c) RefusedLong new (none, why, is) = (none, refused_for old c LongKey why, is)
+by_call old Advances (AdvancedLong ticket) new (w, rest, waiting, is_ticket, (idle, why, is)) =
+    (w, rest, waiting, is_ticket, idle, refused_for old w.command LongKey why, is)
 by_call old call reply new h = absurd h
 
 -- an answer that the endpoint is stopped gives no reason
@@ -122,4 +124,4 @@ refusals-are-exact sectors s m call reply new step = by_step s call reply new st
 -- ---- limits
 
 pub limits-are : LimitsAre
-limits-are = record { queue = refl; tickets = refl; spent = refl; generations = refl }
+limits-are = record { first_one = (refl, refl, refl); this_one = (refl, refl, refl); queue = refl; tickets = refl; spent = refl; generations = refl }

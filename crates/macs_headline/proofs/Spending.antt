@@ -6,7 +6,7 @@ use Rattle.macs_store.specs.Keeps.{IsSpent}
 use Rattle.macs_store.specs.Value.{StoreValue, generation, used_slots}
 use Rattle.macs_endpoint.specs.Advancing.{AdvancesAs, BeginsWith, GoesOn, Piece, ToKeep, ToRaise, next_piece}
 use Rattle.macs_endpoint.specs.Calls.{IsCall}
-use Rattle.macs_endpoint.specs.State.{Advanced, Advances, Call, Commands, Protected, Protects, Ran, Received, Receives, Refilled, Refills, Reply, State, Submits, Submitted, no_logs}
+use Rattle.macs_endpoint.specs.State.{Advanced, AdvancedLong, Advances, Call, Commands, Protected, Protects, Ran, Received, Receives, Refilled, Refills, RefusedLong, Reply, State, Submits, Submitted, no_logs}
 use Rattle.macs_endpoint.specs.Step.{Step}
 use Rattle.macs_endpoint.specs.Value.{EndpointValue, is_stopped, state_of}
 use Rattle.macs_endpoint.specs.declared.fault.CommandFault.TheVariants as ran
@@ -86,6 +86,8 @@ module _ {D : Type 0} (disk_of : D → Disk) where
   by_call old new (Submits c) reply is tells call = absurd (no_submit c reply is tells)
   by_call old new (Protects plain) reply is tells call = absurd (no_protect plain reply is tells)
   by_call old new (Receives frame) reply is tells call = absurd (no_receive frame reply is tells)
+  by_call old new (Commands c) RefusedLong is tells call = absurd tells
+  by_call old new Advances (AdvancedLong ticket) is tells call = absurd tells
   by_call old new c reply is tells call = absurd is
 
   pub spent-are-spent : SpentAreSpent disk_of

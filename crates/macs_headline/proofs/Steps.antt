@@ -24,8 +24,8 @@ use Rattle.macs_endpoint.specs.declared.fault.SubmitFault.TheVariants as submit
 use Rattle.macs_endpoint.specs.declared.progress.Step.{Step as Progress}
 use Rattle.macs_endpoint.specs.declared.progress.Step.TheVariants.{Done, Idle, Reserved, Worked}
 use Rattle.macs_endpoint.specs.declared.queue.Waiting.{Waiting}
-use Rattle.macs_endpoint.specs.State.{Advanced, Advances, Call, Commands, Protects, Protected, Ran, Received, Receives, Refilled, Refills, Reply, State, Submits, Submitted, rx_side, state_after_fault, state_with_in_hand}
-use Rattle.macs_endpoint.specs.Step.{AdvanceStep, CommandStep, Ends, IsStopped, Makes, ProtectStep, ReceiveStep, RefillStep, RunningStep, SubmitStep, TakesUp, state_after_command, state_after_delivery, state_after_frame, state_after_hold, state_without_first}
+use Rattle.macs_endpoint.specs.State.{Advanced, AdvancedLong, Advances, Call, Commands, Protected, Protects, Ran, Received, Receives, Refilled, Refills, RefusedLong, Reply, State, Submits, Submitted, rx_side, state_after_fault, state_with_in_hand}
+use Rattle.macs_endpoint.specs.Step.{AdvanceStep, AdvancesLong, CommandStep, Ends, RefusesFirst, IsStopped, Makes, ProtectStep, ReceiveStep, RefillStep, RunningStep, SubmitStep, TakesUp, state_after_command, state_after_delivery, state_after_frame, state_after_hold, state_without_first}
 use Rattle.macs_headline.specs.Steps.{AreOne, IsReplyOf, RepliesAreOfCalls, StepsAreOne, state_but_hand}
 
 -- two that are one
@@ -92,6 +92,17 @@ done_once old ticket result a b (first, rest, waiting, is_ticket, ends) (other, 
     ends_once old first rest result a b ends
     (subst (λ (w : Waiting). Ends old w rest result b) (sym same) (subst (λ (ws : List Waiting). Ends old other ws result b) (sym alike) also))
 
+ends_long_once : (old : State) (first : Waiting) (rest : List Waiting) (a b : State) → RefusesFirst old first rest a → RefusesFirst old first rest b → a ≡ b
+ends_long_once old first rest a b (idle, why, is) (free, also, so) = is ∙ sym so
+
+refused_once : (old : State) (ticket : ℕ) (a b : State) → AdvancesLong old ticket a → AdvancesLong old ticket b → a ≡ b
+refused_once old ticket a b (first, rest, waiting, is_ticket, ends) (other, others, wait, its_ticket, also) =
+    let one : first ∷ rest ≡ other ∷ others = sym waiting ∙ wait in
+    let same : first ≡ other = cc in
+    let alike : rest ≡ others = cc in
+    ends_long_once old first rest a b ends
+    (subst (λ (w : Waiting). RefusesFirst old w rest b) (sym same) (subst (λ (ws : List Waiting). RefusesFirst old other ws b) (sym alike) also))
+
 by_advance : (old : State) (result : Result Progress StepFault) (a b : State) → AdvanceStep old result a → AdvanceStep old result b → AreOne (Advanced result) a b
 by_advance old (Ok Idle) a b is so = one_state (Advanced (Ok Idle)) a b (is ∙ sym so)
 by_advance old (Ok Worked) a b one other =
@@ -146,6 +157,8 @@ by_call old (Submits c) (Submitted result) a b one other = one_state (Submitted 
 by_call old Advances (Advanced result) a b one other = by_advance old result a b one other
 by_call old (Protects plain) (Protected result out) a b one other = one_state (Protected result out) a b (by_protect old plain result out a b one other)
 by_call old (Receives frame) (Received result out) a b one other = one_state (Received result out) a b (by_receive old frame result out a b one other)
+by_call old (Commands c) RefusedLong a b (none, why, is) (again, also, so) = one_state RefusedLong a b (is ∙ sym so)
+by_call old Advances (AdvancedLong ticket) a b one other = one_state (AdvancedLong ticket) a b (refused_once old ticket a b one other)
 by_call old call reply a b h other = absurd h
 
 pub steps-are-one : StepsAreOne
@@ -163,6 +176,8 @@ by_running old (Submits c) (Submitted result) new h = tt
 by_running old Advances (Advanced result) new h = tt
 by_running old (Protects plain) (Protected result out) new h = tt
 by_running old (Receives frame) (Received result out) new h = tt
+by_running old (Commands c) RefusedLong new h = tt
+by_running old Advances (AdvancedLong ticket) new h = tt
 by_running old call reply new h = absurd h
 
 by_stopped : (call : Call) (reply : Reply) → IsStopped call reply → IsReplyOf call reply

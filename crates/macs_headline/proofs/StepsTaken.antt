@@ -4,9 +4,8 @@ use Rattle.std.specs.Prelude.{Option, Some, None, nat_lt}
 use Rattle.std.proofs.lemmas.Bool.{ltb-false, ltb-true}
 use Rattle.macs_fields.proofs.FirstRefusal.{none-first}
 use Rattle.macs_frame.specs.Tag.{tag_of}
-use Rattle.macs_config.specs.Apply.{answer_or_refusal, apply, config_after}
+use Rattle.macs_config.specs.Apply.{LongKey, Named, Reason, answer_or_refusal, apply, config_after}
 use Rattle.macs_config.specs.declared.command.Command.{Command}
-use Rattle.macs_config.specs.declared.refusal.Refusal.{Refusal}
 use Rattle.macs_rxsc.specs.Receive.{Arrival, Arrives, Numbers, RxStepHolds, delivery_kind, rx_steps}
 use Rattle.macs_rxsc.specs.declared.verdict.Kind.{Kind}
 use Rattle.macs_rxsc.specs.declared.verdict.Kind.TheVariants.{Delayed, Ok as AsOk}
@@ -27,10 +26,10 @@ use Rattle.macs_endpoint.specs.declared.fault.SubmitFault.TheVariants as submit
 use Rattle.macs_endpoint.specs.declared.progress.Step.{Step as Progress}
 use Rattle.macs_endpoint.specs.declared.progress.Step.TheVariants.{Done, Idle, Reserved, Worked}
 use Rattle.macs_endpoint.specs.declared.queue.Waiting.{Waiting}
-use Rattle.macs_endpoint.specs.State.{Advanced, Advances, Call, Commands, Protects, Protected, Ran, Received, Receives, Refilled, Refills, Reply, State, Submits, Submitted, rx_side}
+use Rattle.macs_endpoint.specs.State.{Advanced, AdvancedLong, Advances, Call, Commands, Protected, Protects, Ran, Received, Receives, Refilled, Refills, RefusedLong, Reply, State, Submits, Submitted, rx_side}
 use Rattle.macs_endpoint.specs.Step.{AdvanceStep, CommandStep, Ends, IsStopped, ProtectStep, RefillStep, RunningStep, Step, SubmitStep, TakesUp, state_after_delivery, state_after_hold}
 use Rattle.macs_headline.specs.Deliveries.{IsInTime, IsVerifiedAnswer}
-use Rattle.macs_headline.specs.Received.{IsTimely, TimelyAreDelivered}
+use Rattle.macs_headline.specs.Received.{IsTimely, TheseAreTimely, TimelyAreDelivered}
 use Rattle.macs_headline.specs.Refused.{IsExact, TakesFirst, refusal_at}
 use Rattle.macs_headline.specs.Steps.{IsReplyOf, IsToldWhole, StepsAreTaken}
 use Rattle.macs_headline.specs.Stopping.{TellsStopped}
@@ -39,15 +38,15 @@ use Rattle.macs_headline.proofs.Deliveries.{verified-kind}
 
 -- ---- answers that say all
 
-refused_for : (s : State) (c : Command) (refusal : Refusal) → refusal_at s c ≡ Some refusal → apply s.edition s.identity s.config c ≡ Err refusal
-refused_for s c refusal why = ap (λ (o : Option Refusal). answer_or_refusal o (config_after s.config c)) why
+refused_for : (s : State) (c : Command) (reason : Reason) → refusal_at s c ≡ Some reason → apply s.edition s.identity s.config c ≡ Err reason
+refused_for s c reason why = ap (λ (o : Option Reason). answer_or_refusal o (config_after s.config c)) why
 
 by_command : (old : State) (c : Command) (result : Result (Unit {0}) CommandFault) (new : State) → IsToldWhole (Commands c) (Ran result)
     → IsExact old (Commands c) (Ran result) new → CommandStep old c result new
 by_command old c (Ok done) new whole h = absurd whole
 by_command old c (Err ran.Stopped) new whole h = absurd (whole refl)
 by_command old c (Err ran.Busy) new whole (some, is) = (some, is)
-by_command old c (Err (ran.Refused refusal)) new whole (none, why, is) = (none, refused_for old c refusal why, is)
+by_command old c (Err (ran.Refused refusal)) new whole (none, why, is) = (none, refused_for old c (Named refusal) why, is)
 by_command old c (Err ran.GenerationsSpent) new whole (none, why, is) = (none, accepts-unrefused old c why, is)
 by_command old c (Err ran.Disk) new whole (none, why, is) = (none, accepts-unrefused old c why, is)
 
@@ -73,7 +72,7 @@ by_end : (old : State) (ticket : ℕ) (result : Result (Unit {0}) CommandFault) 
     → IsExact old Advances (Advanced (Ok (Done ticket result))) new → AdvanceStep old (Ok (Done ticket result)) new
 by_end old ticket (Ok done) new whole h = absurd whole
 by_end old ticket (Err (ran.Refused refusal)) new whole (w, rest, waiting, is_ticket, idle, why, is) =
-    (w, rest, waiting, is_ticket, (idle, refused_for old w.command refusal why, is))
+    (w, rest, waiting, is_ticket, (idle, refused_for old w.command (Named refusal) why, is))
 by_end old ticket (Err ran.GenerationsSpent) new whole (w, rest, waiting, is_ticket, idle, why, is) =
     (w, rest, waiting, is_ticket, (idle, accepts-unrefused old w.command why, is))
 by_end old ticket (Err fault) new whole h = absurd h
@@ -102,6 +101,9 @@ by_call old Refills (Refilled result) new whole h = by_refill old result new who
 by_call old (Submits c) (Submitted result) new whole h = by_submit old c result new whole h
 by_call old Advances (Advanced result) new whole h = by_advance old result new whole h
 by_call old (Protects plain) (Protected result out) new whole h = by_protect old plain result out new whole h
+by_call old (Commands c) RefusedLong new whole (none, why, is) = (none, refused_for old c LongKey why, is)
+by_call old Advances (AdvancedLong ticket) new whole (w, rest, waiting, is_ticket, idle, why, is) =
+    (w, rest, waiting, is_ticket, (idle, refused_for old w.command LongKey why, is))
 by_call old call reply new whole h = absurd whole
 
 -- ---- an endpoint that is stopped
@@ -139,6 +141,8 @@ stopped_call (Submits c) (Submitted result) is tells = stopped_submit c result t
 stopped_call Advances (Advanced result) is tells = stopped_advance result tells
 stopped_call (Protects plain) (Protected result out) is tells = stopped_protect plain result out tells
 stopped_call (Receives frame) (Received result out) is tells = stopped_receive frame result out tells
+stopped_call (Commands c) RefusedLong is tells = absurd tells
+stopped_call Advances (AdvancedLong ticket) is tells = absurd tells
 stopped_call call reply is tells = absurd is
 
 -- ---- frames that verify and are not late
@@ -176,6 +180,16 @@ module _ (s : State) (frame plain sci : List ℕ) (numbers : Numbers) (timely : 
       inr (held, subst (λ (a : Arrival). a.numbers.next ≤ a.pn) same above)
   becomes new out verdict (inr (running, inr (a, also, inr (delivered, is_out, is)))) =
       inl (subst (λ (v : Verdict). IsVerifiedAnswer (Ok v)) (sym delivered) (verified-kind (nat_lt a.pn a.numbers.lowest)))
+
+pub these-are-timely : TheseAreTimely
+these-are-timely s frame plain sci sa numbers named association are_numbers verified guarded = record {
+  sa = sa;
+  named = named;
+  association = association;
+  are_numbers = are_numbers;
+  verified = verified;
+  guarded = guarded;
+}
 
 pub timely-are-delivered : TimelyAreDelivered
 timely-are-delivered s new frame plain sci out numbers verdict timely step = becomes s frame plain sci numbers timely new out verdict step

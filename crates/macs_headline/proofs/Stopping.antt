@@ -18,7 +18,7 @@ use Rattle.macs_endpoint.specs.declared.progress.Step.{Step as Progress}
 use Rattle.macs_endpoint.specs.declared.progress.Step.TheVariants.{Done, Worked}
 use Rattle.macs_endpoint.specs.declared.queue.Waiting.{Waiting}
 use Rattle.macs_endpoint.specs.Restart.{opened_state}
-use Rattle.macs_endpoint.specs.State.{Advanced, Advances, Call, Commands, Protects, Protected, Ran, Received, Receives, Refilled, Refills, Reply, State, Submits, Submitted}
+use Rattle.macs_endpoint.specs.State.{Advanced, AdvancedLong, Advances, Call, Commands, Protected, Protects, Ran, Received, Receives, Refilled, Refills, RefusedLong, Reply, State, Submits, Submitted}
 use Rattle.macs_endpoint.specs.Step.{AdvanceStep, CommandStep, Ends, Exchange, IsStopped, ProtectStep, ReceiveStep, RefillStep, RunningStep, Step, Steps, SubmitStep, TakesUp}
 use Rattle.macs_headline.specs.History.{logs_of}
 use Rattle.macs_headline.specs.Stopping.{HadFault, StoppedStays, TellsFault, TellsStopped}
@@ -106,6 +106,9 @@ by_call old (Protects plain) (Protected result out) new h =
     goes_on old (Protected result out) new (by_protect old plain result out new h) (λ told. told)
 by_call old (Receives frame) (Received result out) new h =
     goes_on old (Received result out) new (by_receive old frame result out new h) (λ told. told)
+by_call old (Commands c) RefusedLong new (none, why, is) = goes_on old RefusedLong new (ap (λ (s : State). s.stopped) is) (λ told. told)
+by_call old Advances (AdvancedLong ticket) new (first, rest, waiting, is_ticket, (idle, why, is)) =
+    goes_on old (AdvancedLong ticket) new (ap (λ (s : State). s.stopped) is) (λ told. told)
 by_call old call reply new h = absurd h
 
 by_step : (old : State) (call : Call) (reply : Reply) (new : State) → Step old call reply new → StopsAs old reply new
@@ -143,6 +146,8 @@ not_running old (Submits c) (Submitted result) new told h = told
 not_running old Advances (Advanced result) new told h = told
 not_running old (Protects plain) (Protected result out) new told h = told
 not_running old (Receives frame) (Received (Ok verdict) out) new told h = told
+not_running old (Commands c) RefusedLong new told h = told
+not_running old Advances (AdvancedLong ticket) new told h = told
 not_running old call reply new told h = h
 
 was_stopped : (old : State) (call : Call) (reply : Reply) (new : State) → Step old call reply new → TellsStopped reply → old.stopped ≡ true

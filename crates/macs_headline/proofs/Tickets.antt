@@ -21,8 +21,8 @@ use Rattle.macs_endpoint.specs.declared.queue.Waiting.{Waiting}
 use Rattle.macs_endpoint.specs.Lives.{exchange_of}
 use Rattle.macs_endpoint.specs.Queue.{with_waiting}
 use Rattle.macs_endpoint.specs.Restart.{opened_state}
-use Rattle.macs_endpoint.specs.State.{Advanced, Advances, Call, Commands, Logs, Protects, Protected, Ran, Received, Receives, Refilled, Refills, Reply, State, Submits, Submitted, no_logs}
-use Rattle.macs_endpoint.specs.Step.{AdvanceStep, CommandStep, Ends, Exchange, IsStopped, ProtectStep, ReceiveStep, RefillStep, RunningStep, Step, Steps, SubmitStep, TakesUp}
+use Rattle.macs_endpoint.specs.State.{Advanced, AdvancedLong, Advances, Call, Commands, Logs, Protected, Protects, Ran, Received, Receives, Refilled, Refills, RefusedLong, Reply, State, Submits, Submitted, no_logs}
+use Rattle.macs_endpoint.specs.Step.{AdvanceStep, CommandStep, Ends, RefusesFirst, Exchange, IsStopped, ProtectStep, ReceiveStep, RefillStep, RunningStep, Step, Steps, SubmitStep, TakesUp}
 use Rattle.macs_endpoint.specs.Value.{state_of}
 use Rattle.macs_store.specs.Standing.{Standing}
 use Rattle.macs_store.specs.Value.{standing_in}
@@ -99,6 +99,17 @@ by_advance old (Err advance.Disk) new (inr (mid, takes, is)) =
 by_advance old (Err advance.Stopped) new h = absurd h
 by_advance old result new is = alike old new (ap (λ (s : State). s.tickets) is) (ap (λ (s : State). s.waiting) is)
 
+-- so is one whose key is too long
+ended_long : (old : State) (first : Waiting) (rest : List Waiting) (ticket : ℕ) (new : State) → old.waiting ≡ first ∷ rest → ticket ≡ first.ticket
+    → RefusesFirst old first rest new → IsTicketStep old new [] (ticket ∷ [])
+ended_long old first rest ticket new waiting is_ticket (idle, why, is) =
+    let given : new.tickets ≡ old.tickets = ap (λ (s : State). s.tickets) is in
+    let left : new.waiting ≡ rest = ap (λ (s : State). s.waiting) is in
+    record {
+      order = λ later after. subst (λ (n : ℕ). AreInOrder n later) given after;
+      kept = append-nil (tickets_of old.waiting) ∙ ap tickets_of waiting ∙ (λ i. sym is_ticket i ∷ tickets_of (sym left i));
+    }
+
 by_protect : (old : State) (plain : List ℕ) (result : Result ℕ ProtectFault) (out : List ℕ) (new : State) → ProtectStep old plain result out new
     → IsTicketStep old new [] []
 by_protect old plain (Ok pn) out new (none, (o, is_o, is_pn, is_out, is)) = alike old new (ap (λ (s : State). s.tickets) is) (ap (λ (s : State). s.waiting) is)
@@ -122,6 +133,8 @@ by_call old (Submits c) (Submitted result) new h = by_submit old c result new h
 by_call old Advances (Advanced result) new h = by_advance old result new h
 by_call old (Protects plain) (Protected result out) new h = by_protect old plain result out new h
 by_call old (Receives frame) (Received result out) new h = by_receive old frame result out new h
+by_call old (Commands c) RefusedLong new (none, why, is) = alike old new (ap (λ (s : State). s.tickets) is) (ap (λ (s : State). s.waiting) is)
+by_call old Advances (AdvancedLong ticket) new (first, rest, waiting, is_ticket, ends) = ended_long old first rest ticket new waiting is_ticket ends
 by_call old call reply new h = absurd h
 
 by_stopped : (old : State) (call : Call) (reply : Reply) (new : State) → IsStopped call reply → new ≡ old → IsStepBy old new reply

@@ -1,20 +1,23 @@
--- A plain frame that is refused for a fault has it.
-use Rattle.std.proofs.Common.{◌≡◌, ◌⊎◌, ◌<◌, ◌≤◌, ◌+◌, ◌^◌, ◌&&◌, inl, inr, ℕ, Bool, true, false, not, List, [], ◌∷◌, length, take, Option, Some, None, bytes_eq, refl, sym, ◌∙◌, ap, subst, arith}
+-- A plain frame that is refused for a fault has it, and none before it; and one that goes out has none.
+use Rattle.std.proofs.Common.{◌≡◌, ◌≢◌, ◌⊎◌, ◌<◌, ◌≤◌, ◌+◌, ◌^◌, ◌&&◌, inl, inr, ℕ, Bool, true, false, not, List, [], ◌∷◌, length, take, Option, Some, None, Ok, Err, bytes_eq, refl, sym, ◌∙◌, ap, subst, arith}
 use Rattle.std.specs.Prelude.{is_none, nat_lt, slice_range}
-use Rattle.std.proofs.lemmas.Bool.{eqb-false, eqb-true, false≢true, ltb-true, not-true}
-use Rattle.macs_fields.specs.First.{first}
+use Rattle.std.proofs.lemmas.Bool.{eqb-false, eqb-true, false≢true, ltb-false, ltb-true, not-true}
+use Rattle.macs_fields.specs.First.{IsFirst, first}
 use Rattle.macs_frame.specs.Protection.{overhead}
 use Rattle.macs_config.specs.Association.{is_end_station}
 use Rattle.macs_config.specs.declared.association.TxSa.{TxSa}
 use Rattle.macs_config.specs.declared.command.SciMode.{SciMode}
 use Rattle.macs_config.specs.declared.command.SciMode.TheVariants.{EndStation, Explicit, Implicit}
-use Rattle.macs_config.proofs.Channels.{bytes_eq-itself}
+use Rattle.macs_config.proofs.Channels.{bytes_eq-itself, same_octets}
 use Rattle.macs_txsc.specs.Transmit.{Outgoing, is_own_source, is_used_up, name_in, next_outgoing, outgoing_at, outgoing_with, tx_faults}
 use Rattle.macs_txsc.specs.declared.fault.TxFault.{TxFault}
 use Rattle.macs_txsc.specs.declared.fault.TxFault.TheVariants.{Exhausted, ForeignSource, NoEncodingSa, NoNumber, Runt, TooLong}
-use Rattle.macs_endpoint.specs.State.{State, tx_side}
-use Rattle.macs_headline.specs.Refused.{FaultsAreNamed, IsFaultOf, longer_in}
-use Rattle.macs_headline.proofs.Accepted.{no-test}
+use Rattle.macs_endpoint.specs.State.{Protected, Protects, State, tx_side}
+use Rattle.macs_endpoint.specs.Step.{Step}
+use Rattle.macs_endpoint.specs.declared.fault.ProtectFault.TheVariants as protect
+use Rattle.macs_headline.specs.Refused.{FaultsAreNamed, IsFaultOf, faults_in_order, longer_in}
+use Rattle.macs_headline.specs.Moments.{Moment}
+use Rattle.macs_headline.proofs.Accepted.{NoTest, no-test}
 use Rattle.macs_headline.proofs.Effects.{outgoing_is}
 use Rattle.macs_headline.proofs.Ledger.{some_one}
 use Rattle.macs_headline.proofs.Ranges.{next-range}
@@ -100,12 +103,105 @@ by_test s plain Exhausted test =
     (last.0.an, there.encoding_is, there.next_is ∙ ap (λ (n : ℕ). Some n) last.2)
 by_test s plain NoNumber test = absurd test
 
+-- ---- what it says that a test does not hold
+
+too_long_back : (mode : SciMode) (sci : List ℕ) (n : ℕ) → 9216 < n + longer_in mode → 9216 < n + overhead (name_in mode sci)
+too_long_back Explicit sci n is = is
+too_long_back EndStation sci n is = is
+too_long_back Implicit sci n is = is
+
+own_by : (mode : SciMode) (own : Bool) → (is_end_station mode && not own) ≡ false → mode ≡ EndStation → own ≡ true
+own_by mode true test is = refl
+own_by mode false test is = absurd (false≢true (sym test ∙ ap (λ (m : SciMode). is_end_station m && true) is))
+
+none_in : {X : Type 0} (o : Option X) (x : X) → o ≡ Some x → o ≡ None → ⊥
+none_in o x is none = absurd (cc)
+
+is_some : (o : Option Outgoing) → is_none o ≡ false → (it : Outgoing) × (o ≡ Some it)
+is_some None is = absurd (false≢true (sym is))
+is_some (Some o) is = (o, refl)
+
+-- the test of a fault does not hold; for the last of them, nor does that of the one before it
+abbrev LacksTest : Bool → Bool → Bool → Bool → Bool → TxFault → Type 0
+LacksTest a b c d e Runt = a ≡ false
+LacksTest a b c d e TooLong = b ≡ false
+LacksTest a b c d e ForeignSource = c ≡ false
+LacksTest a b c d e NoEncodingSa = d ≡ false
+LacksTest a b c d e Exhausted = (d ≡ false) × (e ≡ false)
+LacksTest a b c d e NoNumber = ⊥
+
+abbrev LacksTestIn : State → List ℕ → TxFault → Type 0
+LacksTestIn s plain fault =
+    LacksTest (nat_lt (length plain) 14) (nat_lt 9216 (length plain + overhead (name_in s.config.mode s.identity.sci)))
+    (is_end_station s.config.mode && not (is_own_source s.identity.sci plain)) (is_none (next_outgoing (tx_side s)))
+    (is_used_up (next_outgoing (tx_side s))) fault
+
+lacks : (s : State) (plain : List ℕ) (fault : TxFault) → LacksTestIn s plain fault → ¬ IsFaultOf s plain fault
+lacks s plain Runt test has =
+    let few : length plain < 14 = has in
+    let most : 14 ≤ length plain = ltb-false (length plain) 14 test in
+    omega (arith, few, most)
+lacks s plain TooLong test has =
+    let size = length plain + overhead (name_in s.config.mode s.identity.sci) in
+    let long : 9216 < size = too_long_back s.config.mode s.identity.sci (length plain) has in
+    let most : size ≤ 9216 = ltb-false 9216 size test in
+    omega (arith, long, most)
+lacks s plain ForeignSource test has =
+    has.1 (same_octets (slice_range plain 6 12) (take 6 s.identity.sci) (own_by s.config.mode (is_own_source s.identity.sci plain) test has.0))
+lacks s plain NoEncodingSa test has =
+    let next = is_some (next_outgoing (tx_side s)) test in
+    let there = outgoing_is (tx_side s) s.config.encoding next.0 next.1 in
+    elim (has next.0.an there.encoding_is) [
+      | inl no_sa ↦ none_in (s.config.tx next.0.an) next.0.sa there.sa_is no_sa
+      | inr no_next ↦ none_in (s.next next.0.an) next.0.pn there.next_is no_next
+    ]
+lacks s plain Exhausted test has =
+    let next = is_left (next_outgoing (tx_side s)) test.0 test.1 in
+    let there = outgoing_is (tx_side s) s.config.encoding next.0 next.1 in
+    let one = some_one s.config.encoding next.0.an has.0 there.encoding_is has.1 in
+    next.2 (some_one (s.next next.0.an) next.0.pn (2 ^ 32) there.next_is (ap (λ (an : ℕ). s.next an) one ∙ has.2))
+lacks s plain NoNumber test has = test
+
+-- ---- the first of them
+
+same_one : (one fault : TxFault) → ◌≡◌ {A = Option TxFault} (Some one) (Some fault) → fault ≡ one
+same_one one fault is = sym (some_one (Some one) one fault refl is)
+
+first_of : (P : TxFault → Type 0) (a b c d e : Bool) (fault : TxFault) → ((f : TxFault) → HasTest a b c d e f → P f)
+    → ((f : TxFault) → LacksTest a b c d e f → ¬ P f)
+    → first ((Runt, a) ∷ (TooLong, b) ∷ (ForeignSource, c) ∷ (NoEncodingSa, d) ∷ (Exhausted, e) ∷ []) ≡ Some fault → IsFirst P faults_in_order fault
+first_of P true b c d e fault has not_so is = inl (has Runt refl, same_one Runt fault is)
+first_of P false true c d e fault has not_so is = inr (not_so Runt refl, inl (has TooLong refl, same_one TooLong fault is))
+first_of P false false true d e fault has not_so is =
+    inr (not_so Runt refl, inr (not_so TooLong refl, inl (has ForeignSource refl, same_one ForeignSource fault is)))
+first_of P false false false true e fault has not_so is =
+    inr (not_so Runt refl, inr (not_so TooLong refl, inr (not_so ForeignSource refl, inl (has NoEncodingSa refl, same_one NoEncodingSa fault is))))
+first_of P false false false false true fault has not_so is =
+    inr (not_so Runt refl, inr (not_so TooLong refl, inr (not_so ForeignSource refl, inr (not_so NoEncodingSa refl, inl (has Exhausted refl, same_one Exhausted fault is)))))
+first_of P false false false false false fault has not_so is = absurd (cc)
+
+-- no test holds, and the next number was not used
+first_unnumbered : (s : State) (plain : List ℕ) → NoTest (tx_faults (tx_side s) plain) → IsFaultOf s plain NoNumber
+    → IsFirst (IsFaultOf s plain) faults_in_order NoNumber
+first_unnumbered s plain tests has =
+    inr (
+      lacks s plain Runt tests.0,
+      inr (
+        lacks s plain TooLong tests.1.0,
+        inr (
+          lacks s plain ForeignSource tests.1.1.0,
+          inr (lacks s plain NoEncodingSa tests.1.1.1.0, inr (lacks s plain Exhausted (tests.1.1.1.0, tests.1.1.1.1.0), inl (has, refl))),
+        ),
+      ),
+    )
+
 module _ (sectors : ℕ) where
-  pub faults-are-named : FaultsAreNamed sectors
-  faults-are-named s m plain fault out new (inl (stopped, answer, is)) = absurd answer
-  faults-are-named s m plain fault out new (inr (running, (inl is_first, empty, is))) =
+  is_named : (s : State) → Moment sectors s → (plain : List ℕ) (fault : TxFault) (out : List ℕ) (new : State)
+      → Step s (Protects plain) (Protected (Err (protect.Tx fault)) out) new → IsFaultOf s plain fault
+  is_named s m plain fault out new (inl (stopped, answer, is)) = absurd answer
+  is_named s m plain fault out new (inr (running, (inl is_first, empty, is))) =
       by_test s plain fault (first_in s plain fault is_first)
-  faults-are-named s m plain fault out new (inr (running, (inr (none, is_fault), empty, is))) =
+  is_named s m plain fault out new (inr (running, (inr (none, is_fault), empty, is))) =
       let tests = no-test (tx_faults (tx_side s) plain) none in
       let next = is_left (next_outgoing (tx_side s)) tests.1.1.1.0 tests.1.1.1.1.0 in
       let there = outgoing_is (tx_side s) s.config.encoding next.0 next.1 in
@@ -113,3 +209,38 @@ module _ (sectors : ℕ) where
       let apart = next.2 in
       let below : next.0.pn < 2 ^ 32 = omega (arith, most, apart) in
       subst (IsFaultOf s plain) (sym is_fault) (next.0.an, next.0.pn, there.encoding_is, there.next_is, below)
+
+  is_first : (s : State) → Moment sectors s → (plain : List ℕ) (fault : TxFault) (out : List ℕ) (new : State)
+      → Step s (Protects plain) (Protected (Err (protect.Tx fault)) out) new → IsFirst (IsFaultOf s plain) faults_in_order fault
+  is_first s m plain fault out new (inl (stopped, answer, is)) = absurd answer
+  is_first s m plain fault out new (inr (running, (inl found, empty, is))) =
+      first_of (IsFaultOf s plain) (nat_lt (length plain) 14) (nat_lt 9216 (length plain + overhead (name_in s.config.mode s.identity.sci)))
+      (is_end_station s.config.mode && not (is_own_source s.identity.sci plain)) (is_none (next_outgoing (tx_side s)))
+      (is_used_up (next_outgoing (tx_side s))) fault (by_test s plain) (lacks s plain) found
+  is_first s m plain fault out new (inr (running, (inr (none, is_fault), empty, is))) =
+      let has = is_named s m plain NoNumber out new (inr (running, (inr (none, refl), empty, is))) in
+      subst (IsFirst (IsFaultOf s plain) faults_in_order) (sym is_fault)
+      (first_unnumbered s plain (no-test (tx_faults (tx_side s) plain) none) has)
+
+-- ---- a frame that goes out
+
+has_none : (s : State) (plain : List ℕ) → NoTest (tx_faults (tx_side s) plain) → (fault : TxFault) → fault ≢ NoNumber → ¬ IsFaultOf s plain fault
+has_none s plain tests Runt other has = lacks s plain Runt tests.0 has
+has_none s plain tests TooLong other has = lacks s plain TooLong tests.1.0 has
+has_none s plain tests ForeignSource other has = lacks s plain ForeignSource tests.1.1.0 has
+has_none s plain tests NoEncodingSa other has = lacks s plain NoEncodingSa tests.1.1.1.0 has
+has_none s plain tests Exhausted other has = lacks s plain Exhausted (tests.1.1.1.0, tests.1.1.1.1.0) has
+has_none s plain tests NoNumber other has = other refl
+
+by_sent : (s new : State) (plain out : List ℕ) (fault : TxFault) (pn : ℕ) → Step s (Protects plain) (Protected (Ok pn) out) new → fault ≢ NoNumber
+    → ¬ IsFaultOf s plain fault
+by_sent s new plain out fault pn (inl (stopped, answer, is)) other has = absurd answer
+by_sent s new plain out fault pn (inr (running, (none, goes_out))) other has =
+    has_none s plain (no-test (tx_faults (tx_side s) plain) none) fault other has
+
+pub faults-are-named : (sectors : ℕ) → FaultsAreNamed sectors
+faults-are-named sectors = record {
+  named = is_named sectors;
+  first = is_first sectors;
+  none = by_sent;
+}

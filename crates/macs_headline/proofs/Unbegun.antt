@@ -12,7 +12,7 @@ use Rattle.macs_endpoint.specs.Ceilings.{Raise}
 use Rattle.macs_endpoint.specs.Needed.{raise_in}
 use Rattle.macs_endpoint.specs.Queue.{first_waiting}
 use Rattle.macs_endpoint.specs.Restart.{Fits, state_during, state_taking_first}
-use Rattle.macs_endpoint.specs.State.{Advanced, Advances, Logs, Reply, State, state_after_fault, state_with_in_hand}
+use Rattle.macs_endpoint.specs.State.{Advanced, AdvancedLong, Advances, Logs, Reply, State, state_after_fault, state_with_in_hand}
 use Rattle.macs_endpoint.specs.Step.{AdvanceStep, TakesUp}
 use Rattle.macs_endpoint.specs.Value.{EndpointValue, IsAtRest, IsBacked, IsKeeping, IsReserving, IsSoundEndpoint, disk_in, is_stopped, state_of}
 use Rattle.macs_endpoint.specs.declared.fault.StepFault.{StepFault}
@@ -106,6 +106,7 @@ module _ {D : Type 0} (disk_of : D → Disk) (last after : EndpointValue D) (log
         | inl stopped ↦ let both : true ≡ false = sym stopped.0 ∙ running in absurd (cc)
         | inr ran ↦ left_still result is step.0 ran.1 left
       ]
+  cut_still (AdvancedLong ticket) is left = absurd is.behaves.still
   cut_still reply is left =
       let step = is.behaves.step logs in
       elim step.1 [

@@ -1,17 +1,20 @@
 -- What binds the program to the headline: whatever is done with a disk that has a history is one, and a disk that is new has the empty one.
-use Rattle.std.specs.Prelude.{◌≡◌, ◌⊎◌, ◌↔◌, ◌≤◌, ◌-◌, ◌^◌, true, false, is_ok, ◌++◌, ℕ, List, [], ◌∷◌, map, Contains, Option, Some, None, Result, Ok, Err}
+use Rattle.std.specs.Prelude.{◌≡◌, ◌≢◌, ◌⊎◌, ◌↔◌, ◌≤◌, ◌+◌, ◌-◌, ◌^◌, true, false, is_ok, ◌++◌, ℕ, List, [], ◌∷◌, length, map, Contains, Option, Some, None, Result, Ok, Err}
 use Rattle.macs_frame.specs.Tag.{tag_of}
 use Rattle.macs_config.specs.Config.{Edition, IsUpTo, this_edition}
 use Rattle.macs_config.specs.Identity.{Identity}
-use Rattle.macs_disk.specs.Disk.{Disk, FailsOnce, IsHonest, MayLeave, now}
+use Rattle.macs_disk.specs.Disk.{Disk, IsHonest, LeftSince, MayLeave, now}
 use Rattle.macs_disk.specs.Fused.{fused_disk}
-use Rattle.macs_disk.specs.States.{Image, settled_state}
+use Rattle.macs_disk.specs.States.{Image, settled_state, state_after_sync}
+use Rattle.macs_record.specs.declared.format.Format.TheVariants.{One, Two}
 use Rattle.macs_journal.specs.Areas.{least_sectors}
-use Rattle.macs_journal.specs.Found.{IsNotFormatted}
+use Rattle.macs_journal.specs.Found.{Content, HasFormat, HasJournal, IsNotFormatted}
+use Rattle.macs_journal.specs.Rewriting.{IsSettled}
 use Rattle.macs_journal.specs.declared.fault.JournalFault.{JournalFault}
 use Rattle.macs_journal.specs.declared.fault.JournalFault.TheVariants.{Disk as DiskFault, NotFormatted}
 use Rattle.macs_journal.specs.declared.recovery.RecoverRefused.{RecoverRefused}
-use Rattle.macs_store.specs.Found.{StandingIs}
+use Rattle.macs_store.specs.Found.{StandingIs, StandsFor}
+use Rattle.macs_store.specs.Snapshot.{snapshot}
 use Rattle.macs_store.specs.Standing.{Standing}
 use Rattle.macs_store.specs.Value.{IsIdle, generation, standing_in, used_slots}
 use Rattle.macs_endpoint.specs.Advancing.{Piece, ToKeep, ToRaise, next_piece}
@@ -320,11 +323,15 @@ SpentAreSpent {D} disk_of = (last after : EndpointValue D) (call : Call) (reply 
 
 -- ---- device faults
 
+-- one failed call more was counted, or the disk is worn, so that one may have failed uncounted
+abbrev pub CountsOneFailure : Disk → Disk → Type 0
+CountsOneFailure old new = (new.failures ≡ old.failures + 1) ⊎ (new.worn ≡ true)
+
 -- Where a call is answered Disk, one device call of it failed, or the disk is worn; over each other call no failure is counted.
 abbrev pub FaultsAreFailures : {D : Type 0} → (D → Disk) → Type 0
 FaultsAreFailures {D} disk_of = (disk : D) (first last after : EndpointValue D) (turns : List (Transition D)) (call : Call) (reply : Reply)
     → LivesFrom disk_of disk first turns last → IsCall disk_of last call reply after
-    → (TellsFault reply × FailsOnce (disk_in disk_of last) (disk_in disk_of after))
+    → (TellsFault reply × CountsOneFailure (disk_in disk_of last) (disk_in disk_of after))
     ⊎ ((¬ TellsFault reply) × ((disk_in disk_of after).failures ≡ (disk_in disk_of last).failures))
 
 -- ---- openings that are refused
@@ -334,10 +341,56 @@ FaultsAreFailures {D} disk_of = (disk : D) (first last after : EndpointValue D) 
 abbrev pub RefusalsAreFailures : {D : Type 0} → (D → Disk) → Type 0
 RefusalsAreFailures {D} disk_of = (disk : D) (before : List Life) (refused : RecoverRefused D) → HasHistory this_edition (disk_of disk) before
     → IsOpening disk_of disk (Err refused)
-    → ((refused.fault ≡ DiskFault) × FailsOnce (disk_of disk) (disk_of refused.disk))
+    → ((refused.fault ≡ DiskFault) × CountsOneFailure (disk_of disk) (disk_of refused.disk))
     ⊎ (((refused.fault ≡ NotFormatted) × ((edition : Edition) (identity : Identity) → ¬ Contains before (Formats edition identity true))
     × ((edition : Edition) (image : Image) (exchanges : List Exchange) (cut : Option Call) → ¬ Contains before (Serves edition image exchanges cut)))
     ⊎ IsSpentFor this_edition (now (disk_of disk)).seen refused.fault)
+
+-- ---- what an opening makes of a journal
+
+-- nothing was written between these: at each moment the disk is as it was, or as a sync leaves it
+abbrev pub IsUnwritten : Disk → Disk → Type 0
+IsUnwritten old new = (k : ℕ) → old.clock ≤ k → k ≤ new.clock → (new.past k ≡ now old) ⊎ (new.past k ≡ state_after_sync (now old))
+
+-- A journal that was begun anew, once: in the other area, in the next generation and in format two, of the same endpoint. Its records are those of a snapshot
+-- of what the one before it stood for, with the ceilings of that.
+pub record IsBegunAnew (before after : Content) (s : Standing) : Type 0 where
+  pub area : after.area ≡ 1 - before.area
+  pub generation : after.head.generation ≡ before.head.generation + 1
+  pub format : after.head.format ≡ Two
+  pub identity : after.head.identity ≡ before.head.identity
+  pub count : after.head.count ≡ length (snapshot s)
+  pub records : after.records ≡ snapshot s
+
+-- the image stands for the same as what was read
+abbrev pub StandsAsRead : Disk → Image → Type 0
+StandsAsRead old image = (s : Standing) × StandsFor this_edition (now old).seen s × StandsFor this_edition image s
+
+-- What an opening makes of the journal of an honest disk. Whatever it answers, and wherever it is cut short, what is left could be left before, or stands for
+-- the same; and where a journal of format one was there, and has a next generation, that one is left, or the one that was begun anew. An opening of a journal
+-- of format two writes nothing, nor does one that is refused for what stands on the disk. After Ok nothing is pending, each image is in format two, and a
+-- journal of format one was begun anew, which was not in the last generation.
+pub record OpeningsBeginAnew {D : Type 0} (disk_of : D → Disk) : Type 0 where
+  pub alike : (disk : D) (result : Result (EndpointValue D) (RecoverRefused D)) → IsHonest (disk_of disk) → IsOpening disk_of disk result
+      → (image : Image) → LeftSince (disk_after_opening disk_of result) (disk_of disk).clock image
+      → MayLeave (disk_of disk) image ⊎ StandsAsRead (disk_of disk) image
+  pub either : (disk : D) (result : Result (EndpointValue D) (RecoverRefused D)) → IsHonest (disk_of disk) → IsOpening disk_of disk result
+      → (c : Content) (s : Standing) → HasJournal (now (disk_of disk)).seen c → StandsFor this_edition (now (disk_of disk)).seen s → c.head.format ≡ One
+      → c.head.generation ≢ 2 ^ 64 - 1 → (image : Image) → LeftSince (disk_after_opening disk_of result) (disk_of disk).clock image
+      → MayLeave (disk_of disk) image ⊎ (HasJournal image c ⊎ ((after : Content) × IsBegunAnew c after s × HasJournal image after))
+  pub unwritten : (disk : D) (result : Result (EndpointValue D) (RecoverRefused D)) → IsHonest (disk_of disk) → IsOpening disk_of disk result
+      → HasFormat (now (disk_of disk)).seen Two → IsUnwritten (disk_of disk) (disk_after_opening disk_of result)
+  pub refused : (disk : D) (refused : RecoverRefused D) → IsHonest (disk_of disk) → IsOpening disk_of disk (Err refused) → refused.fault ≢ DiskFault
+      → IsUnwritten (disk_of disk) (disk_of refused.disk)
+  pub settled : (disk : D) (first : EndpointValue D) → IsHonest (disk_of disk) → IsOpening disk_of disk (Ok first) → IsSettled (now (disk_in disk_of first))
+  pub format : (disk : D) (first : EndpointValue D) → IsHonest (disk_of disk) → IsOpening disk_of disk (Ok first)
+      → (image : Image) → MayLeave (disk_in disk_of first) image → HasFormat image Two
+  pub anew : (disk : D) (first : EndpointValue D) (c : Content) → IsHonest (disk_of disk) → IsOpening disk_of disk (Ok first)
+      → HasJournal (now (disk_of disk)).seen c → c.head.format ≡ One
+      → (after : Content) × IsBegunAnew c after (standing_in first.store)
+      × ((image : Image) → MayLeave (disk_in disk_of first) image → HasJournal image after × StandsFor this_edition image (standing_in first.store))
+  pub last : (disk : D) (first : EndpointValue D) (c : Content) → IsHonest (disk_of disk) → IsOpening disk_of disk (Ok first)
+      → HasJournal (now (disk_of disk)).seen c → c.head.format ≡ One → c.head.generation ≢ 2 ^ 64 - 1
 
 -- ---- deeds
 

@@ -9,7 +9,7 @@ use Rattle.macs_store.specs.Found.{StandingIs}
 use Rattle.macs_store.specs.Standing.{Standing}
 use Rattle.macs_endpoint.specs.Queue.{first_command, with_waiting}
 use Rattle.macs_endpoint.specs.Restart.{Fits}
-use Rattle.macs_endpoint.specs.State.{Advanced, Advances, Call, Commands, Ran, Reply, State, Submits, Submitted}
+use Rattle.macs_endpoint.specs.State.{Advanced, AdvancedLong, Advances, Call, Commands, Ran, Reply, State, Submits, Submitted}
 use Rattle.macs_endpoint.specs.Step.{Exchange}
 use Rattle.macs_endpoint.specs.declared.fault.CommandFault.TheVariants as ran
 use Rattle.macs_endpoint.specs.declared.progress.Step.TheVariants.{Done}
@@ -39,6 +39,7 @@ acknowledged_by waiting call reply = []
 abbrev pub waiting_after : List Waiting → Call → Reply → List Waiting
 waiting_after waiting (Submits command) (Submitted (Ok ticket)) = with_waiting waiting ticket command
 waiting_after waiting Advances (Advanced (Ok (Done ticket result))) = without_first ticket waiting
+waiting_after waiting Advances (AdvancedLong ticket) = without_first ticket waiting
 waiting_after waiting call reply = waiting
 
 -- those that were acknowledged while these waited at first, in their order

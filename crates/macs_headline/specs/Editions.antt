@@ -1,20 +1,29 @@
 -- The headline on editions: what an endpoint of one edition does, one of an edition that takes as much or more does too.
-use Rattle.std.specs.Prelude.{◌≡◌, ◌<◌, ◌≤◌, true, false, ℕ, List, length, Option, Some, None, IfSome, Ok, Err}
+use Rattle.std.specs.Prelude.{◌≡◌, ◌≢◌, ◌<◌, ◌≤◌, ◌⊎◌, true, false, ℕ, List, Contains, length, Option, Some, None, IfSome, Ok, Err}
 use Rattle.macs_aes.specs.Keys.{octets_of_key}
-use Rattle.macs_config.specs.Apply.{IsCommand, apply, refusal_of}
+use Rattle.macs_config.specs.Apply.{IsCommand, LongKey, Named, Reason, apply, refusal_of}
 use Rattle.macs_config.specs.Config.{Config, Edition, IsUpTo}
 use Rattle.macs_config.specs.Identity.{Identity}
+use Rattle.macs_config.specs.Judged.{rx_install, tx_install}
+use Rattle.macs_config.specs.declared.association.RxSa.{RxSa}
+use Rattle.macs_config.specs.declared.association.TxSa.{TxSa}
 use Rattle.macs_config.specs.declared.command.Command.{Command}
 use Rattle.macs_config.specs.declared.command.Command.TheVariants.{RxAdd, RxInstall, TxInstall}
-use Rattle.macs_config.specs.declared.refusal.Refusal.{Refusal}
-use Rattle.macs_config.specs.declared.refusal.Refusal.TheVariants.{ChannelsFull, LongKey}
+use Rattle.macs_config.specs.declared.refusal.Refusal.TheVariants.{ChannelsFull}
+use Rattle.macs_disk.specs.States.{Image}
 use Rattle.macs_record.specs.declared.format.Format.TheVariants.{One, Two}
 use Rattle.macs_record.specs.declared.record.Record.{Record}
+use Rattle.macs_record.specs.declared.record.Record.TheVariants as recorded
+use Rattle.macs_journal.specs.Areas.{least_sectors}
+use Rattle.macs_journal.specs.Formatting.{first_content, first_head}
+use Rattle.macs_journal.specs.Found.{Content, HasJournal, content_with_record}
+use Rattle.macs_journal.specs.Renewal.{compacted}
 use Rattle.macs_store.specs.Commands.{command_of}
-use Rattle.macs_store.specs.Replay.{reading_of, standing_after_record}
-use Rattle.macs_store.specs.Standing.{Standing, accept}
+use Rattle.macs_store.specs.Found.{StandingIs}
+use Rattle.macs_store.specs.Replay.{meaning_of, reading_of, replay_of, snapshot_of, standing_after_record}
+use Rattle.macs_store.specs.Standing.{Standing, accept, new_standing, standing_with_rx_ceiling, standing_with_tx_ceiling}
 use Rattle.macs_endpoint.specs.Restart.{Restart}
-use Rattle.macs_endpoint.specs.State.{Advanced, Call, Ran, Reply, State}
+use Rattle.macs_endpoint.specs.State.{Advanced, AdvancedLong, Call, Ran, RefusedLong, Reply, State}
 use Rattle.macs_endpoint.specs.Step.{Step}
 use Rattle.macs_endpoint.specs.declared.fault.CommandFault.TheVariants as ran
 use Rattle.macs_endpoint.specs.declared.progress.Step.TheVariants.{Done}
@@ -25,15 +34,17 @@ abbrev pub with_edition : State → Edition → State
 with_edition s edition = record s { edition = edition }
 
 -- a command is refused for what the edition does not take
-abbrev pub IsOfEdition : Refusal → Type 0
-IsOfEdition ChannelsFull = Unit {0}
+abbrev pub IsOfEdition : Reason → Type 0
+IsOfEdition (Named ChannelsFull) = Unit {0}
 IsOfEdition LongKey = Unit {0}
-IsOfEdition refusal = ⊥
+IsOfEdition reason = ⊥
 
 -- an answer says so of a command
 abbrev pub TellsEdition : Reply → Type 0
-TellsEdition (Ran (Err (ran.Refused refusal))) = IsOfEdition refusal
-TellsEdition (Advanced (Ok (Done ticket (Err (ran.Refused refusal))))) = IsOfEdition refusal
+TellsEdition (Ran (Err (ran.Refused refusal))) = IsOfEdition (Named refusal)
+TellsEdition (Advanced (Ok (Done ticket (Err (ran.Refused refusal))))) = IsOfEdition (Named refusal)
+TellsEdition RefusedLong = Unit {0}
+TellsEdition (AdvancedLong ticket) = Unit {0}
 TellsEdition reply = ⊥
 
 -- What an endpoint of an edition does, one of a larger edition does too: each step, but for a refusal for what the edition does not take; each command that a
@@ -52,24 +63,63 @@ key_in (TxInstall an key start confidential offset) = Some (octets_of_key key)
 key_in (RxInstall sci an key start offset) = Some (octets_of_key key)
 key_in command = None
 
--- What an edition takes: one channel more where fewer exist than it takes, and ChannelsFull is answered for no other reason; each key of a command in range
--- where it takes long keys, and else keys of 16 octets alone; and areas of format two, where it reads them, as those of format one, and else none. A record of a command that
--- the edition accepts stands for what the command makes, whatever is installed.
+-- a record keeps an association with a key of other than 16 octets
+abbrev pub HasLongKey : Record → Type 0
+HasLongKey (recorded.TxSa an sa ceiling) = length sa.key ≢ 16
+HasLongKey (recorded.RxSa sci an sa ceiling) = length sa.key ≢ 16
+HasLongKey (recorded.TxInstall an sa start) = length sa.key ≢ 16
+HasLongKey (recorded.RxInstall sci an sa start) = length sa.key ≢ 16
+HasLongKey r = ⊥
+
+-- What an edition takes. ChannelsFull is answered to a command that adds a channel alone, and only where as many exist as the edition takes. LongKey is answered
+-- to no command in range where it takes long keys, and else a command that installs is accepted with a key of 16 octets alone; it is answered to none with a key
+-- of 16 octets. Areas of format two are read by their records alone, where the edition reads them, so as those of format one where no record is of a long key,
+-- and else not; an area of format one with a record of a long key stands for nothing. A record of a command that it accepts stands for what the command makes,
+-- whatever is installed; so does one of an association that a command asks for.
 pub record EditionsTake : Type 0 where
   pub channels : (edition : Edition) (identity : Identity) (c : Config) (sci : List ℕ) → length c.channels < edition.channels
-      → ¬ (refusal_of edition identity c (RxAdd sci) ≡ Some ChannelsFull)
-  pub full : (edition : Edition) (identity : Identity) (c : Config) (command : Command) → refusal_of edition identity c command ≡ Some ChannelsFull
+      → ¬ (refusal_of edition identity c (RxAdd sci) ≡ Some (Named ChannelsFull))
+  pub full : (edition : Edition) (identity : Identity) (c : Config) (command : Command) → refusal_of edition identity c command ≡ Some (Named ChannelsFull)
       → (sci : List ℕ) × (command ≡ RxAdd sci) × (edition.channels ≤ length c.channels)
   pub long_keys : (edition : Edition) (identity : Identity) (c : Config) (command : Command) → IsCommand command → edition.long_keys ≡ true
       → ¬ (refusal_of edition identity c command ≡ Some LongKey)
   pub short_keys : (edition : Edition) (identity : Identity) (c new : Config) (command : Command) → edition.long_keys ≡ false
       → apply edition identity c command ≡ Ok new → IfSome (key_in command) (λ key. length key ≡ 16)
+  pub short_taken : (edition : Edition) (identity : Identity) (c : Config) (command : Command) → IfSome (key_in command) (λ key. length key ≡ 16)
+      → ¬ (refusal_of edition identity c command ≡ Some LongKey)
+  pub two_read : (edition : Edition) (identity : Identity) (count : ℕ) (records : List Record) → edition.format_two ≡ true
+      → reading_of edition Two identity count records ≡ replay_of edition identity count records
   pub formats : (edition : Edition) (identity : Identity) (count : ℕ) (records : List Record) → edition.format_two ≡ true
+      → ((r : Record) → Contains records r → ¬ HasLongKey r)
       → reading_of edition Two identity count records ≡ reading_of edition One identity count records
+  pub long_records : (edition : Edition) (identity : Identity) (count : ℕ) (records : List Record) (r : Record) → Contains records r → HasLongKey r
+      → reading_of edition One identity count records ≡ None
   pub one_format : (edition : Edition) (identity : Identity) (count : ℕ) (records : List Record) → edition.format_two ≡ false
       → reading_of edition Two identity count records ≡ None
   pub kept : (s after : Standing) (record_kept : Record) (command : Command) → command_of record_kept ≡ Some command → accept s command ≡ Ok after
       → standing_after_record s record_kept ≡ Some after
+  pub tx_kept : (s after : Standing) (an : ℕ) (sa : TxSa) (start : ℕ) → accept s (tx_install an sa start) ≡ Ok after
+      → standing_after_record s (recorded.TxInstall an sa start) ≡ Some after
+  pub rx_kept : (s after : Standing) (sci : List ℕ) (an : ℕ) (sa : RxSa) (start : ℕ) → accept s (rx_install sci an sa start) ≡ Ok after
+      → standing_after_record s (recorded.RxInstall sci an sa start) ≡ Some after
+
+-- How an edition reads a disk, whatever is installed. A journal that is found stands for what its content means. A new one of format one means a new endpoint.
+-- With one record more, which its format has, a content means what the record makes of what it meant; and a journal that begins anew, with records that stand
+-- for what it meant, means that. A record that raises the ceiling of an association does so.
+pub record EditionsRead : Type 0 where
+  pub stands : (edition : Edition) (sectors : ℕ) (image : Image) (c : Content) (s : Standing) → least_sectors ≤ sectors → HasJournal image c
+      → meaning_of edition c ≡ Some s → StandingIs edition sectors image (Ok s)
+  pub new_one : (edition : Edition) (identity : Identity)
+      → meaning_of edition (record (first_content identity) { head = record (first_head identity) { format = One } }) ≡ Some (new_standing edition identity)
+  pub one_more : (edition : Edition) (c : Content) (r : Record) (s after : Standing) → c.head.count ≤ length c.records
+      → (c.head.format ≡ Two) ⊎ (¬ HasLongKey r) → meaning_of edition c ≡ Some s → standing_after_record s r ≡ Some after
+      → meaning_of edition (content_with_record c r) ≡ Some after
+  pub anew : (edition : Edition) (c : Content) (s : Standing) (records : List Record) → edition.format_two ≡ true → meaning_of edition c ≡ Some s
+      → snapshot_of edition s.identity records ≡ Some s → meaning_of edition (compacted c records) ≡ Some s
+  pub tx_raised : (s : Standing) (an old ceiling : ℕ) → s.ceilings.tx an ≡ Some old → old < ceiling
+      → standing_after_record s (recorded.TxCeiling an ceiling) ≡ Some (standing_with_tx_ceiling s an ceiling)
+  pub rx_raised : (s : Standing) (sci : List ℕ) (an old ceiling : ℕ) → s.ceilings.rx sci an ≡ Some old → old < ceiling
+      → standing_after_record s (recorded.RxCeiling sci an ceiling) ≡ Some (standing_with_rx_ceiling s sci an ceiling)
 
 -- an edition is larger than another one that takes no more channels, long keys only where it does, and areas of format two only where it does
 abbrev pub TheseAreLarger : Type 0

@@ -4,7 +4,7 @@ use Rattle.macs_frame.specs.Protection.{protected_frame}
 use Rattle.macs_fields.specs.declared.fields.Offset.TheVariants.{Zero}
 use Rattle.macs_frame.specs.declared.tag.ScName.TheVariants.{Explicit}
 use Rattle.macs_frame.specs.declared.tag.SecTag.{SecTag}
-use Rattle.macs_aes.specs.declared.keys.Key.TheVariants.{Short}
+use Rattle.macs_aes.specs.declared.keys.Key.TheVariants.{Long, Short}
 use Rattle.macs_config.specs.Config.{Edition}
 use Rattle.macs_config.specs.Identity.{Identity}
 use Rattle.macs_config.specs.declared.association.Protection.TheVariants.{Confidentiality}
@@ -20,7 +20,7 @@ example_sectors = 1028
 
 -- an edition that takes more
 abbrev pub later_edition : Edition
-later_edition = record { channels = 32; long_keys = true; format_two = true }
+later_edition = record { channels = 64; long_keys = true; format_two = true }
 
 -- 02-00-00-00-00-01, port 00-01
 abbrev pub own_sci : List ℕ
@@ -34,13 +34,13 @@ peer_sci = 2 ∷ 0 ∷ 0 ∷ 0 ∷ 0 ∷ 7 ∷ 0 ∷ 1 ∷ []
 abbrev pub example_identity : Identity
 example_identity = record { sci = own_sci; tx_block = 4; rx_block = 4 }
 
--- the key that frames go out under
+-- the key that frames go out under, of 128 bits
 abbrev pub own_key : List ℕ
 own_key = replicate 16 1
 
--- the key that the peer's frames are under
+-- the key that the peer's frames are under, of 256 bits
 abbrev pub peer_key : List ℕ
-peer_key = replicate 16 2
+peer_key = replicate 32 2
 
 -- ---- frames
 
@@ -88,7 +88,7 @@ add_peer = RxAdd peer_sci
 
 -- its association, from packet number 1 on
 abbrev pub install_peer : Command
-install_peer = RxInstall peer_sci 0 (Short peer_key) 1 0
+install_peer = RxInstall peer_sci 0 (Long peer_key) 1 0
 
 -- which goes again
 abbrev pub remove_peer : Command
@@ -116,7 +116,7 @@ install_own_again = TxInstall 1 (Short own_key) 1 true 0
 
 -- the peer's key for association 1
 abbrev pub install_peer_again : Command
-install_peer_again = RxInstall peer_sci 1 (Short peer_key) 1 0
+install_peer_again = RxInstall peer_sci 1 (Long peer_key) 1 0
 
 -- validation as it is
 abbrev pub stay_strict : Command

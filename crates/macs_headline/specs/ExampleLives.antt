@@ -1,6 +1,6 @@
 -- The example of a history: its lives, over these images.
 use Rattle.std.specs.Prelude.{◌≡◌, ℕ, true, false, List, [], ◌∷◌, map, replicate, take, length, Some, None, Ok, Err}
-use Rattle.macs_config.specs.Config.{this_edition}
+use Rattle.macs_config.specs.Config.{IsUpTo, this_edition}
 use Rattle.macs_config.specs.declared.command.Command.{Command}
 use Rattle.macs_config.specs.declared.command.Command.TheVariants.{TxRemove}
 use Rattle.macs_config.specs.declared.refusal.Refusal.{Refusal}
@@ -172,6 +172,7 @@ pub record IsWorkedHistory : Type 0 where
   pub pending : (now killed_disk).pending (free_gate last_content) ≡ true
   pub read : (now killed_disk).seen ≡ ended_image
   pub early : HasHistory this_edition killed_disk early_lives
+  pub later : IsUpTo this_edition later_edition × (¬ IsUpTo later_edition this_edition)
   pub older : HasHistory later_edition killed_disk early_lives
   pub found_without : StandingIs this_edition example_sectors last_image (Ok (last_standing this_edition))
   pub finds : StandingIs later_edition example_sectors ended_image (Ok (checked_standing later_edition))

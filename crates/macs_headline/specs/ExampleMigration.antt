@@ -1,23 +1,40 @@
 -- A disk that the first edition of the program formatted: what it is to this one, whose opening begins its journal anew.
-use Rattle.std.specs.Prelude.{◌≡◌, true, List, [], ◌∷◌, ◌++◌, None}
-use Rattle.macs_config.specs.Config.{first_edition, this_edition}
-use Rattle.macs_disk.specs.Disk.{Disk, IsHonest, now}
-use Rattle.macs_disk.specs.States.{Image, settled_state}
+use Rattle.std.specs.Prelude.{◌≡◌, true, List, [], ◌∷◌, ◌++◌, fold, map, replicate, take, length, None, Some}
+use Rattle.macs_aes.specs.declared.keys.Key.TheVariants.{Long}
+use Rattle.macs_config.specs.Apply.{config_after}
+use Rattle.macs_config.specs.Config.{Config, Edition, default, first_edition, this_edition, tx_fingerprint}
+use Rattle.macs_config.specs.declared.command.Command.{Command}
+use Rattle.macs_config.specs.declared.command.Command.TheVariants.{TxInstall}
+use Rattle.macs_config.specs.declared.command.Role.TheVariants.{Transmit}
+use Rattle.macs_config.specs.declared.command.Validate.TheVariants.{Strict}
+use Rattle.macs_config.specs.declared.refusal.Refusal.TheVariants.{KeySpent}
+use Rattle.macs_disk.specs.Disk.{Disk, IsHonest, MayLeave, now}
+use Rattle.macs_disk.specs.States.{Image, put_sector, settled_state}
+use Rattle.macs_record.specs.Gates.{closed_gate}
 use Rattle.macs_record.specs.Heads.{Head}
 use Rattle.macs_record.specs.Settings.{default_settings}
-use Rattle.macs_record.specs.declared.format.Format.TheVariants.{One}
+use Rattle.macs_record.specs.declared.format.Format.TheVariants.{One, Two}
+use Rattle.macs_record.specs.declared.record.Record.{Record}
+use Rattle.macs_record.specs.declared.record.Record.TheVariants as kept
+use Rattle.macs_journal.specs.Areas.{gate}
 use Rattle.macs_journal.specs.Compacting.{compacted}
 use Rattle.macs_journal.specs.Formatting.{first_head}
 use Rattle.macs_journal.specs.Found.{Content, HasJournal}
+use Rattle.macs_rxsc.specs.declared.verdict.Kind.TheVariants.{Ok as AsOk}
+use Rattle.macs_rxsc.specs.declared.verdict.Verdict.TheVariants.{Delivered, HeldBack}
 use Rattle.macs_store.specs.Found.{IsToMigrate, StandAlike}
-use Rattle.macs_store.specs.Snapshot.{snapshot}
-use Rattle.macs_store.specs.Standing.{Standing, new_standing}
-use Rattle.macs_endpoint.specs.Restart.{opened_state}
-use Rattle.macs_endpoint.specs.State.{State, no_logs}
+use Rattle.macs_store.specs.Snapshot.{settings_record, snapshot}
+use Rattle.macs_store.specs.Standing.{Standing, ceilings_with_rx, ceilings_with_tx, no_ceilings}
+use Rattle.macs_endpoint.specs.State.{Commands, RefusedLong, State}
+use Rattle.macs_endpoint.specs.Step.{Exchange}
 use Rattle.macs_headline.specs.Binding.{HasHistory}
-use Rattle.macs_headline.specs.Example.{example_identity, example_sectors}
+use Rattle.macs_headline.specs.Example.{add_peer, example_identity, example_plain, example_sectors, install_own, install_own_again, install_peer, install_peer_again, own_key, own_sa, peer_sa, peer_sci, stay_strict, use_own}
+use Rattle.macs_headline.specs.ExampleCuts.{compaction_states, disk_through}
+use Rattle.macs_headline.specs.ExampleLives.{answered, obeyed, own_use, peer_delivery, received, refilled, refused, sent}
 use Rattle.macs_headline.specs.History.{Formats, Formatted, IsHistory, Life, Serves}
-use Rattle.macs_headline.specs.Images.{blank_image, compacted_image, image_while_compacted, image_with_area, image_with_open_head}
+use Rattle.macs_headline.specs.Images.{blank_image, compacted_image, content_with_records, image_while_compacted, image_with_area, image_with_open_head, image_with_records}
+
+-- ---- formatted by the first edition
 
 -- the head that it wrote, of format one
 abbrev pub old_head : Head
@@ -31,44 +48,177 @@ old_content = record { area = 0; head = old_head; records = default_settings ∷
 abbrev pub old_image : Image
 old_image = image_with_open_head (image_with_area blank_image 0 old_head (default_settings ∷ [])) 0
 
+-- ---- a life of the first edition
+
+-- a key of 256 bits is to be installed
+abbrev pub install_long : Command
+install_long = TxInstall 0 (Long (replicate 32 7)) 1 true 0
+
+-- That is refused for the length of the key. The endpoint's own association is installed, under a key of 128 bits, and a frame goes out.
+abbrev pub old_exchanges : List Exchange
+old_exchanges = answered (Commands install_long) RefusedLong ∷ obeyed install_own ∷ obeyed use_own ∷ sent 1 ∷ []
+
+-- what was done with the disk by then
+abbrev pub old_lives : List Life
+old_lives = Formats first_edition example_identity true ∷ Serves first_edition old_image old_exchanges None ∷ []
+
+-- the records that it kept
+abbrev pub old_records : List Record
+old_records = kept.TxInstall 0 own_sa 1 ∷ kept.TxUse 0 ∷ []
+
+-- the journal with them, of format one
+abbrev pub used_content : Content
+used_content = content_with_records old_content old_records
+
+-- and the disk
+abbrev pub used_image : Image
+used_image = image_with_records old_image old_content old_records
+
 -- nothing is pending on it
 pub record IsOldDisk (disk : Disk) : Type 0 where
   pub honest : IsHonest disk
   pub size : disk.sectors ≡ example_sectors
-  pub settled : now disk ≡ settled_state old_image
+  pub settled : now disk ≡ settled_state used_image
 
--- what was done with it
-abbrev pub old_lives : List Life
-old_lives = Formats first_edition example_identity true ∷ []
+-- ---- its journal begins anew
 
--- what it stands for to this edition
-abbrev pub old_standing : Standing
-old_standing = new_standing this_edition example_identity
+-- the configuration that it has
+abbrev pub used_config : Config
+used_config = fold config_after default (install_own ∷ use_own ∷ [])
 
--- While its journal begins anew all bodies are written, and the head gate is not.
+-- what it stands for to an edition
+abbrev pub used_standing : Edition → Standing
+used_standing edition =
+    record { edition = edition; identity = example_identity; config = used_config; ceilings = ceilings_with_tx no_ceilings 0 (Some 5) }
+
+-- as a snapshot
+abbrev pub used_records : List Record
+used_records = settings_record used_config ∷ kept.TxSa 0 own_sa 5 ∷ kept.Spent Transmit (tx_fingerprint own_key ∷ []) ∷ []
+
+-- An opening by this edition is cut short: the bodies of the head and of the first two records are written, and the head gate is not.
 abbrev pub begun_image : Image
-begun_image = image_while_compacted old_image old_content 1 (default_settings ∷ [])
+begun_image = image_while_compacted used_image used_content 3 (take 2 used_records)
 
--- It began anew.
+-- The disk then, from the call on that is next to find it: 257 reads of gates and a sync changed nothing, and three writes followed.
+abbrev pub beginning_disk : Disk
+beginning_disk = disk_through (compaction_states used_image used_content used_records) 261
+
+-- the next one finishes that: the journal is in the second area, in format two
+abbrev pub migrated_content : Content
+migrated_content = compacted used_content used_records
+
+-- and its image, over what that had left
 abbrev pub migrated_image : Image
-migrated_image = compacted_image old_image old_content (default_settings ∷ [])
+migrated_image = compacted_image begun_image used_content used_records
 
--- what this edition does with it: an opening that is cut short is no life; the next one comes upon what that left, and another upon the journal
--- that began anew
+-- ---- lives of this edition
+
+-- Behind that opening a frame goes out under the key of 128 bits, with number 5. The peer's association is installed, under one of 256 bits; its frame is
+-- held back until its number is reserved, and then delivered. Then the power goes.
+abbrev pub long_exchanges : List Exchange
+long_exchanges =
+    refilled ∷ sent 5 ∷ obeyed add_peer ∷ obeyed install_peer
+    ∷ received HeldBack [] ∷ refilled ∷ received (Delivered AsOk) example_plain
+    ∷ []
+
+-- the records of that
+abbrev pub long_records : List Record
+long_records = kept.TxCeiling 0 9 ∷ kept.RxAdd peer_sci ∷ kept.RxInstall peer_sci 0 peer_sa 1 ∷ kept.RxCeiling peer_sci 0 9 ∷ []
+
+-- the journal with them, of format two
+abbrev pub long_content : Content
+long_content = content_with_records migrated_content long_records
+
+-- and the disk
+abbrev pub long_image : Image
+long_image = image_with_records migrated_image migrated_content long_records
+
+-- the configuration then
+abbrev pub long_config : Config
+long_config = fold config_after used_config (add_peer ∷ install_peer ∷ [])
+
+-- what stands
+abbrev pub long_standing : Standing
+long_standing = record {
+  edition = this_edition;
+  identity = example_identity;
+  config = long_config;
+  ceilings = ceilings_with_rx (ceilings_with_rx (ceilings_with_tx (ceilings_with_tx no_ceilings 0 (Some 5)) 0 (Some 9)) peer_sci 0 (Some 1)) peer_sci 0
+      (Some 9);
+}
+
+-- Both keys are spent, and a frame goes out with number 9.
+abbrev pub front_exchanges : List Exchange
+front_exchanges = refused install_own_again KeySpent ∷ refused install_peer_again KeySpent ∷ refilled ∷ sent 9 ∷ []
+
+-- Then a command is given until the area is full, and the power goes in the next one, when the journal has begun anew.
+abbrev pub spent_exchanges : List Exchange
+spent_exchanges = front_exchanges ++ replicate 248 (obeyed stay_strict)
+
+-- the records of that
+abbrev pub filled_records : List Record
+filled_records = kept.TxCeiling 0 13 ∷ replicate 248 (kept.SetValidate Strict)
+
+-- the journal with them: 256 records
+abbrev pub filled_content : Content
+filled_content = content_with_records long_content filled_records
+
+-- and the disk
+abbrev pub filled_image : Image
+filled_image = image_with_records long_image long_content filled_records
+
+-- what stands
+abbrev pub filled_standing : Standing
+filled_standing = record {
+  edition = this_edition;
+  identity = example_identity;
+  config = long_config;
+  ceilings = ceilings_with_rx (ceilings_with_tx no_ceilings 0 (Some 13)) peer_sci 0 (Some 9);
+}
+
+-- as a snapshot
+abbrev pub filled_snapshot : List Record
+filled_snapshot = snapshot filled_standing
+
+-- the gates of the first area that read open are closed: that of its head of format one, and those of the two records behind its snapshot
+abbrev pub closed_image : Image
+closed_image = put_sector (put_sector (put_sector filled_image (gate 0 0) closed_gate) (gate 0 2) closed_gate) (gate 0 3) closed_gate
+
+-- and the journal begins anew there
+abbrev pub again_content : Content
+again_content = compacted filled_content filled_snapshot
+
+-- the disk then
+abbrev pub again_image : Image
+again_image = compacted_image closed_image filled_content filled_snapshot
+
+-- a last life sends frame 13
+abbrev pub again_exchanges : List Exchange
+again_exchanges = refilled ∷ sent 13 ∷ []
+
+-- what this edition does with the disk: an opening that is cut short is no life; the next one comes upon what that left
 abbrev pub later_lives : List Life
-later_lives = Serves this_edition begun_image [] None ∷ Serves this_edition migrated_image [] None ∷ []
+later_lives =
+    Serves this_edition begun_image long_exchanges None
+    ∷ Serves this_edition long_image spent_exchanges (Some (Commands stay_strict))
+    ∷ Serves this_edition again_image again_exchanges None
+    ∷ []
 
--- and in which state it ends
-abbrev pub opened_end : State
-opened_end = opened_state old_standing no_logs
-
--- Such a disk has that history to the edition that formatted it, and so to this one. To this one it is to begin anew. While that is done it
--- stands for what it stood for, and so it does once it is done, in the second area and in format two. So lives of this edition go on from it.
+-- Such a disk has that history to the edition that formatted it, and so to this one, which names no such refusal. To this one it is to begin anew. While that
+-- is done, also where a power loss cuts it, it stands for what it stood for, and so it does once it is done, in the second area and in format two. So lives of
+-- this edition go on from it, with keys of both lengths side by side, and the journal begins anew once more, in the first area. Over all of them four frames
+-- went out under the short key, and one was delivered under the long one.
 pub record IsWorkedMigration : Type 0 where
   pub formatted : (disk : Disk) → IsOldDisk disk → HasHistory first_edition disk old_lives
   pub ours : (disk : Disk) → IsOldDisk disk → HasHistory this_edition disk old_lives
-  pub old : IsToMigrate this_edition old_image old_content old_standing
-  pub begun : HasJournal begun_image old_content
-  pub anew : HasJournal migrated_image (compacted old_content (snapshot old_standing))
-  pub alike : StandAlike this_edition old_image migrated_image
-  pub history : IsHistory example_sectors (old_lives ++ later_lives) (Formatted opened_end)
+  pub old : IsToMigrate this_edition used_image used_content (used_standing this_edition)
+  pub left_begun : MayLeave beginning_disk begun_image
+  pub begun : HasJournal begun_image used_content
+  pub anew : HasJournal migrated_image (compacted used_content (snapshot (used_standing this_edition)))
+  pub alike : StandAlike this_edition used_image migrated_image
+  pub full : length filled_content.records ≡ 256
+  pub again : (again_content.area ≡ 0) × (again_content.head.generation ≡ 3) × (again_content.head.format ≡ Two) × HasJournal again_image again_content
+  pub last : State
+  pub history : IsHistory example_sectors (old_lives ++ later_lives) (Formatted last)
+  pub used : last.logs.used ≡ map own_use (13 ∷ 9 ∷ 5 ∷ 1 ∷ [])
+  pub given : last.logs.given ≡ peer_delivery AsOk ∷ []

@@ -1,11 +1,15 @@
 -- How histories go on: with openings, calls and their ends, refused openings and formats, of programs of any edition.
-use Rattle.std.specs.Prelude.{◌≡◌, ◌⊎◌, ◌++◌, ℕ, true, false, List, [], ◌∷◌, Contains, Option, IfSome, Err}
+use Rattle.std.specs.Prelude.{◌≡◌, ◌⊎◌, ◌≤◌, ◌++◌, ◌-◌, ◌^◌, ℕ, true, false, List, [], ◌∷◌, Contains, Option, Some, IfSome}
 use Rattle.macs_config.specs.Config.{Edition}
 use Rattle.macs_config.specs.Identity.{Identity}
 use Rattle.macs_disk.specs.States.{Image}
+use Rattle.macs_record.specs.declared.format.Format.TheVariants.{One}
+use Rattle.macs_journal.specs.Areas.{least_sectors}
+use Rattle.macs_journal.specs.Found.{Content, HasJournal, IsNotFormatted}
 use Rattle.macs_journal.specs.declared.fault.JournalFault.{JournalFault}
-use Rattle.macs_journal.specs.declared.fault.JournalFault.TheVariants.{Disk}
+use Rattle.macs_journal.specs.declared.fault.JournalFault.TheVariants.{Disk, GenerationsSpent, NotFormatted}
 use Rattle.macs_store.specs.Found.{IsUnfitTo}
+use Rattle.macs_store.specs.Replay.{meaning_of}
 use Rattle.macs_store.specs.Standing.{Standing}
 use Rattle.macs_endpoint.specs.Calls.{IsInRange}
 use Rattle.macs_endpoint.specs.Restart.{opened_state}
@@ -16,8 +20,9 @@ use Rattle.macs_headline.specs.History.{Blank, FitsPast, Formats, Formatted, IsH
 use Rattle.macs_headline.specs.Moments.{IsFoundAfter, Moment}
 
 -- A life begins with what an opening finds; it goes on with each step, whose answer is one of the history; and it may end at each moment, in a call or between
--- two. An opening is refused for a device call that failed, or for what is there, which may be a journal in the last generation, of a format that the edition
--- begins anew. A `format` answers Ok where the disk is not formatted for sure, and it may fail on each disk.
+-- two. An opening is refused for a device call that failed, or for what is there. So it may be where no head gate is open, as long as the disk is not formatted for
+-- sure, and where an edition that reads areas of format two comes upon a journal of format one in generation 2^64 - 1. A `format` answers Ok where the disk is
+-- not formatted for sure, and it may fail on each disk.
 pub record LivesGoOn (sectors : ℕ) : Type 0 where
   pub none : IsHistory sectors [] (Blank [])
   pub begun : (past : Past) (found : Standing) (f : IsFoundAfter sectors past found) → (m : Moment sectors (opened_state found (logs_of past)))
@@ -30,6 +35,11 @@ pub record LivesGoOn (sectors : ℕ) : Type 0 where
   pub refused : (lives : List Life) (past : Past) (edition : Edition) (image : Image) (fault : JournalFault) → IsHistory sectors lives past
       → FitsPast edition sectors past image → (fault ≡ Disk) ⊎ IsUnfitTo edition sectors image fault
       → IsHistory sectors (lives ++ Refuses edition image fault ∷ []) past
+  pub refused_blank : (lives : List Life) (identities : List Identity) (edition : Edition) (image : Image) → IsHistory sectors lives (Blank identities)
+      → least_sectors ≤ sectors → IsNotFormatted image → IsHistory sectors (lives ++ Refuses edition image NotFormatted ∷ []) (Blank identities)
+  pub refused_last : (lives : List Life) (past : Past) (edition : Edition) (image : Image) (c : Content) (s : Standing) → IsHistory sectors lives past
+      → FitsPast edition sectors past image → least_sectors ≤ sectors → HasJournal image c → meaning_of edition c ≡ Some s → c.head.format ≡ One
+      → edition.format_two ≡ true → c.head.generation ≡ 2 ^ 64 - 1 → IsHistory sectors (lives ++ Refuses edition image GenerationsSpent ∷ []) past
   pub formatted : (lives : List Life) (identities : List Identity) (edition : Edition) (identity : Identity) → IsHistory sectors lives (Blank identities)
       → IsHistory sectors (lives ++ Formats edition identity true ∷ []) (Formatted (formatted_state edition identity))
   pub not_formatted : (lives : List Life) (identities : List Identity) (edition : Edition) (identity : Identity) → IsHistory sectors lives (Blank identities)

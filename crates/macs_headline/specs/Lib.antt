@@ -11,6 +11,7 @@ pub mod Deliveries
 pub mod Windows
 pub mod Moving
 pub mod Received
+pub mod Verdicts
 pub mod Steps
 pub mod Editions
 pub mod Changing
@@ -25,6 +26,7 @@ pub mod Formats
 pub mod Deeds
 pub mod Endings
 pub mod Binding
+pub mod Cases
 pub mod Days
 pub mod Nights
 pub mod Watches

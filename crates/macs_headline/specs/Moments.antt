@@ -1,6 +1,7 @@
 -- Moments of a history: a life under way, and an opening after it.
 use Rattle.std.specs.Prelude.{◌≡◌, ℕ, List, Contains, Ok}
 use Rattle.macs_config.specs.Config.{Edition, IsUpTo}
+use Rattle.macs_config.specs.Identity.{Identity}
 use Rattle.macs_disk.specs.States.{Image}
 use Rattle.macs_rxsc.specs.declared.verdict.Kind.{Kind}
 use Rattle.macs_store.specs.Found.{StandingIs}
@@ -8,7 +9,7 @@ use Rattle.macs_store.specs.Standing.{Standing}
 use Rattle.macs_endpoint.specs.Restart.{Fits}
 use Rattle.macs_endpoint.specs.State.{Logs, State}
 use Rattle.macs_endpoint.specs.Step.{Exchange}
-use Rattle.macs_headline.specs.History.{FitsPast, IsHistory, IsLifeSoFar, Life, Past}
+use Rattle.macs_headline.specs.History.{FitsPast, IsHistory, IsLifeSoFar, Life, Past, formatted_state}
 
 -- A moment of a history: behind these lives one is under way, in which the endpoint is in this state.
 pub record Moment (sectors : ℕ) (s : State) : Type 0 where
@@ -32,9 +33,11 @@ pub record IsFoundAfter (sectors : ℕ) (past : Past) (found : Standing) : Type 
 
 -- ---- editions
 
--- an endpoint is of the edition of the program that opened its disk, at each moment of that life
+-- An endpoint is of the edition of the program that opened its disk, at each moment of that life; and one whose disk was formatted just now, of that of the
+-- program that formatted it.
 abbrev pub OfItsEdition : ℕ → Type 0
-OfItsEdition sectors = (s : State) (m : Moment sectors s) → s.edition ≡ m.edition
+OfItsEdition sectors = ((s : State) (m : Moment sectors s) → s.edition ≡ m.edition)
+    × ((edition : Edition) (identity : Identity) → (formatted_state edition identity).edition ≡ edition)
 
 -- and one that opens the disk after it is of no smaller edition
 abbrev pub EditionsRise : ℕ → Type 0

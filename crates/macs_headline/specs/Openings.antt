@@ -1,8 +1,10 @@
 -- The headline on openings: why one is refused, what that changes, and under which identity one finds a disk.
-use Rattle.std.specs.Prelude.{◌≡◌, ◌⊎◌, ◌↔◌, ℕ, Bool, List, Contains}
+use Rattle.std.specs.Prelude.{◌≡◌, ◌⊎◌, ◌↔◌, ◌-◌, ◌^◌, ℕ, Bool, true, List, Contains}
 use Rattle.macs_config.specs.Config.{Edition}
 use Rattle.macs_config.specs.Identity.{Identity}
 use Rattle.macs_disk.specs.States.{Image}
+use Rattle.macs_record.specs.declared.format.Format.TheVariants.{One}
+use Rattle.macs_journal.specs.Found.{Content, HasJournal}
 use Rattle.macs_journal.specs.declared.fault.JournalFault.{JournalFault}
 use Rattle.macs_journal.specs.declared.fault.JournalFault.TheVariants.{Disk, GenerationsSpent, NotFormatted}
 use Rattle.macs_store.specs.Found.{IsAtLast}
@@ -14,6 +16,11 @@ use Rattle.macs_headline.specs.Moments.{IsFoundAfter}
 -- since a journal of a format that the edition begins anew is in the last generation
 abbrev pub IsSpentFor : Edition → Image → JournalFault → Type 0
 IsSpentFor edition image fault = (fault ≡ GenerationsSpent) × IsAtLast edition image
+
+-- That is a journal of format one, in generation 2^64 - 1, and the edition reads areas of format two.
+abbrev pub SpentAreLast : Type 0
+SpentAreLast = (edition : Edition) (image : Image) (fault : JournalFault) → IsSpentFor edition image fault
+    → (c : Content) × HasJournal image c × (c.head.format ≡ One) × (edition.format_two ≡ true) × (c.head.generation ≡ 2 ^ 64 - 1)
 
 -- once `format` has answered Ok, only for a device call that failed, or for that
 abbrev pub RefusedForDiskOrSpent : ℕ → Type 0

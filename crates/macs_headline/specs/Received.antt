@@ -81,6 +81,13 @@ pub record IsTimely (s : State) (frame plain sci : List ℕ) (numbers : Numbers)
   pub verified : Verified frame sa.key sci (octets_of sa.offset) plain
   pub guarded : s.config.replay.on ≡ true → numbers.lowest ≤ (tag_of frame).pn
 
+-- So is each frame that verifies under the association that its tag names, where replay protection is off or its packet number is not below the lowest
+-- acceptable one there, whatever is installed.
+abbrev pub TheseAreTimely : Type 0
+TheseAreTimely = (s : State) (frame plain sci : List ℕ) (sa : RxSa) (numbers : Numbers) → channel_of (rx_side s) frame ≡ Some sci
+    → s.config.rx sci (tag_of frame).an ≡ Some sa → s.numbers sci (tag_of frame).an ≡ Some numbers → Verified frame sa.key sci (octets_of sa.offset) plain
+    → (s.config.replay.on ≡ true → numbers.lowest ≤ (tag_of frame).pn) → IsTimely s frame plain sci numbers
+
 -- An endpoint that runs delivers such a frame as verified, or holds it back, and that only where its packet number is not below the next one there.
 abbrev pub TimelyAreDelivered : Type 0
 TimelyAreDelivered = (s new : State) (frame plain sci out : List ℕ) (numbers : Numbers) (verdict : Verdict) → IsTimely s frame plain sci numbers

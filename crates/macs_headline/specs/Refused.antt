@@ -1,18 +1,17 @@
 -- The headline on calls that are refused: for the first reason that holds, and for none that does not.
-use Rattle.std.specs.Prelude.{◌≡◌, ◌≢◌, ◌⊎◌, ◌<◌, ◌≤◌, ◌+◌, ◌-◌, ◌^◌, ℕ, List, [], ◌∷◌, length, slice_range, take, Option, Some, None, Ok, Err}
-use Rattle.macs_fields.specs.First.{first}
-use Rattle.macs_config.specs.Apply.{refusal_of}
-use Rattle.macs_config.specs.Config.{max_spent}
+use Rattle.std.specs.Prelude.{◌≡◌, ◌≢◌, ◌⊎◌, ◌<◌, ◌≤◌, ◌+◌, ◌-◌, ◌^◌, ℕ, true, false, List, [], ◌∷◌, length, slice_range, take, Option, Some, None, Ok, Err}
+use Rattle.macs_fields.specs.First.{IsFirst, first}
+use Rattle.macs_config.specs.Apply.{LongKey, Named, Reason, refusal_of}
+use Rattle.macs_config.specs.Config.{first_edition, max_spent, this_edition}
 use Rattle.macs_config.specs.declared.command.Command.{Command}
 use Rattle.macs_config.specs.declared.command.SciMode.{SciMode}
 use Rattle.macs_config.specs.declared.command.SciMode.TheVariants.{EndStation, Explicit, Implicit}
-use Rattle.macs_config.specs.declared.refusal.Refusal.{Refusal}
 use Rattle.macs_journal.specs.Renewal.{last_generation}
 use Rattle.macs_txsc.specs.Transmit.{tx_faults}
 use Rattle.macs_txsc.specs.declared.fault.TxFault.{TxFault}
 use Rattle.macs_txsc.specs.declared.fault.TxFault.TheVariants.{Exhausted, ForeignSource, NoEncodingSa, NoNumber, Runt, TooLong}
 use Rattle.macs_endpoint.specs.Queue.{last_ticket, queue_length}
-use Rattle.macs_endpoint.specs.State.{Advanced, Advances, Call, Commands, Protects, Protected, Ran, Refilled, Refills, Reply, State, Submits, Submitted, state_after_fault, state_with_in_hand, tx_side}
+use Rattle.macs_endpoint.specs.State.{Advanced, AdvancedLong, Advances, Call, Commands, Protected, Protects, Ran, Refilled, Refills, RefusedLong, Reply, State, Submits, Submitted, state_after_fault, state_with_in_hand, tx_side}
 use Rattle.macs_endpoint.specs.Step.{Step, state_with_waiting, state_without_first}
 use Rattle.macs_endpoint.specs.declared.fault.CommandFault.TheVariants as ran
 use Rattle.macs_endpoint.specs.declared.fault.ProtectFault.TheVariants as protect
@@ -24,7 +23,7 @@ use Rattle.macs_endpoint.specs.declared.queue.Waiting.{Waiting}
 use Rattle.macs_headline.specs.Moments.{Moment}
 
 -- the first reason to refuse a command in this state, if there is one
-abbrev pub refusal_at : State → Command → Option Refusal
+abbrev pub refusal_at : State → Command → Option Reason
 refusal_at s command = refusal_of s.edition s.identity s.config command
 
 -- the first of the faults of a plain frame that are looked for before its number is known to be reserved, if one holds
@@ -38,13 +37,14 @@ TakesFirst old new = (w : Waiting) × (rest : List Waiting) × (old.waiting ≡ 
 
 -- What an answer says of reasons, and what a refusal leaves. A command is refused for the first reason that holds, is done only where none does, and is
 -- answered Busy where one waits, and there alone; only one that is not refused is in hand after a device fault. The first that waits is refused so where it
--- is not in hand, and leaves the queue. A refill is Busy where one waits, and there alone. A step that is answered Idle, or ends a reservation, changes
--- nothing; one that goes on with work, or whose device call fails, may have taken the first that waits in hand.
+-- is not in hand, and leaves the queue; once it is done nothing is in hand. A refill is Busy where one waits, and there alone. A step that is answered
+-- Idle, or ends a reservation, changes nothing; one that goes on with work, or whose device call fails, may have taken the first that waits in hand.
 -- A plain frame is refused for its first fault, or for want of a number where it has none; nothing is in `out` then. A refusal changes nothing else.
 abbrev pub IsExact : State → Call → Reply → State → Type 0
 IsExact old (Commands command) (Ran (Ok done)) new = (old.waiting ≡ []) × (refusal_at old command ≡ None)
 IsExact old (Commands command) (Ran (Err ran.Busy)) new = (old.waiting ≢ []) × (new ≡ old)
-IsExact old (Commands command) (Ran (Err (ran.Refused refusal))) new = (old.waiting ≡ []) × (refusal_at old command ≡ Some refusal) × (new ≡ old)
+IsExact old (Commands command) (Ran (Err (ran.Refused refusal))) new = (old.waiting ≡ []) × (refusal_at old command ≡ Some (Named refusal)) × (new ≡ old)
+IsExact old (Commands command) RefusedLong new = (old.waiting ≡ []) × (refusal_at old command ≡ Some LongKey) × (new ≡ old)
 IsExact old (Commands command) (Ran (Err ran.GenerationsSpent)) new = (old.waiting ≡ []) × (refusal_at old command ≡ None) × (new ≡ old)
 IsExact old (Commands command) (Ran (Err ran.Disk)) new =
     (old.waiting ≡ []) × (refusal_at old command ≡ None) × (new ≡ state_after_fault (state_with_in_hand old command))
@@ -63,9 +63,13 @@ IsExact old Advances (Advanced (Ok Worked)) new = (new ≡ old) ⊎ TakesFirst o
 IsExact old Advances (Advanced (Err step.Disk)) new = (new ≡ state_after_fault old) ⊎ ((mid : State) × TakesFirst old mid × (new ≡ state_after_fault mid))
 IsExact old Advances (Advanced (Ok (Done ticket (Ok done)))) new =
     (w : Waiting) × (rest : List Waiting) × (old.waiting ≡ w ∷ rest) × (ticket ≡ w.ticket) × (refusal_at old w.command ≡ None)
+    × (new.in_hand ≡ None)
 IsExact old Advances (Advanced (Ok (Done ticket (Err (ran.Refused refusal))))) new =
     (w : Waiting) × (rest : List Waiting) × (old.waiting ≡ w ∷ rest) × (ticket ≡ w.ticket) × (old.in_hand ≡ None)
-    × (refusal_at old w.command ≡ Some refusal) × (new ≡ state_without_first old rest)
+    × (refusal_at old w.command ≡ Some (Named refusal)) × (new ≡ state_without_first old rest)
+IsExact old Advances (AdvancedLong ticket) new =
+    (w : Waiting) × (rest : List Waiting) × (old.waiting ≡ w ∷ rest) × (ticket ≡ w.ticket) × (old.in_hand ≡ None)
+    × (refusal_at old w.command ≡ Some LongKey) × (new ≡ state_without_first old rest)
 IsExact old Advances (Advanced (Ok (Done ticket (Err ran.GenerationsSpent)))) new =
     (w : Waiting) × (rest : List Waiting) × (old.waiting ≡ w ∷ rest) × (ticket ≡ w.ticket) × (old.in_hand ≡ None)
     × (refusal_at old w.command ≡ None) × (new ≡ state_without_first old rest)
@@ -95,10 +99,18 @@ IsFaultOf s plain NoEncodingSa = (an : ℕ) → s.config.encoding ≡ Some an �
 IsFaultOf s plain Exhausted = (an : ℕ) × (s.config.encoding ≡ Some an) × (s.next an ≡ Some (2 ^ 32))
 IsFaultOf s plain NoNumber = (an : ℕ) × (pn : ℕ) × (s.config.encoding ≡ Some an) × (s.next an ≡ Some pn) × (pn < 2 ^ 32)
 
--- a plain frame that is refused for a fault has it
-abbrev pub FaultsAreNamed : ℕ → Type 0
-FaultsAreNamed sectors = (s : State) → Moment sectors s → (plain : List ℕ) (fault : TxFault) (out : List ℕ) (new : State)
-    → Step s (Protects plain) (Protected (Err (protect.Tx fault)) out) new → IsFaultOf s plain fault
+-- the faults, in the order in which they are looked for
+abbrev pub faults_in_order : List TxFault
+faults_in_order = Runt ∷ TooLong ∷ ForeignSource ∷ NoEncodingSa ∷ Exhausted ∷ NoNumber ∷ []
+
+-- A plain frame that is refused for a fault has it, and none that comes before it; and one that goes out has none of the first five.
+pub record FaultsAreNamed (sectors : ℕ) : Type 0 where
+  pub named : (s : State) → Moment sectors s → (plain : List ℕ) (fault : TxFault) (out : List ℕ) (new : State)
+      → Step s (Protects plain) (Protected (Err (protect.Tx fault)) out) new → IsFaultOf s plain fault
+  pub first : (s : State) → Moment sectors s → (plain : List ℕ) (fault : TxFault) (out : List ℕ) (new : State)
+      → Step s (Protects plain) (Protected (Err (protect.Tx fault)) out) new → IsFirst (IsFaultOf s plain) faults_in_order fault
+  pub none : (s new : State) (plain out : List ℕ) (fault : TxFault) (pn : ℕ) → Step s (Protects plain) (Protected (Ok pn) out) new → fault ≢ NoNumber
+      → ¬ IsFaultOf s plain fault
 
 -- ---- each call
 
@@ -108,8 +120,11 @@ RefusalsAreExact sectors = (s : State) → Moment sectors s → (call : Call) (r
 
 -- ---- limits
 
--- Sixteen commands may wait; a life has 2^64 - 1 tickets; a side 512 spent keys; a journal begins anew up to generation 2^64 - 1.
+-- Sixteen commands may wait; a life has 2^64 - 1 tickets; a side 512 spent keys; a journal begins anew up to generation 2^64 - 1. The first edition takes 8
+-- receive channels, no long keys and no areas of format two; this one takes 32, and both.
 pub record LimitsAre : Type 0 where
+  pub first_one : (first_edition.channels ≡ 8) × (first_edition.long_keys ≡ false) × (first_edition.format_two ≡ false)
+  pub this_one : (this_edition.channels ≡ 32) × (this_edition.long_keys ≡ true) × (this_edition.format_two ≡ true)
   pub queue : queue_length ≡ 16
   pub tickets : last_ticket ≡ 2 ^ 64 - 1
   pub spent : max_spent ≡ 512

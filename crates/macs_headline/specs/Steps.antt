@@ -10,7 +10,7 @@ use Rattle.macs_rxsc.specs.Receive.{Numbers, RxStep, RxStepHolds, given_at, rx_s
 use Rattle.macs_rxsc.specs.declared.verdict.Kind.{Kind}
 use Rattle.macs_rxsc.specs.declared.verdict.Verdict.TheVariants.{Delivered, HeldBack}
 use Rattle.macs_endpoint.specs.Queue.{last_ticket, queue_length}
-use Rattle.macs_endpoint.specs.State.{Advanced, Advances, Call, Commands, Protected, Protects, Ran, Received, Receives, Refilled, Refills, Reply, State, Submits, Submitted, rx_side, tx_side}
+use Rattle.macs_endpoint.specs.State.{Advanced, AdvancedLong, Advances, Call, Commands, Protected, Protects, Ran, Received, Receives, Refilled, Refills, RefusedLong, Reply, State, Submits, Submitted, rx_side, tx_side}
 use Rattle.macs_endpoint.specs.Step.{Step, state_after_command, state_after_frame, state_with_waiting, state_without_first}
 use Rattle.macs_endpoint.specs.declared.fault.CommandFault.TheVariants as ran
 use Rattle.macs_endpoint.specs.declared.fault.ProtectFault.TheVariants as protect
@@ -56,6 +56,8 @@ IsReplyOf (Submits command) (Submitted result) = Unit {0}
 IsReplyOf Advances (Advanced result) = Unit {0}
 IsReplyOf (Protects plain) (Protected result out) = Unit {0}
 IsReplyOf (Receives frame) (Received result out) = Unit {0}
+IsReplyOf (Commands command) RefusedLong = Unit {0}
+IsReplyOf Advances (AdvancedLong ticket) = Unit {0}
 IsReplyOf call reply = ⊥
 
 -- each call is answered by a reply of its own function
@@ -73,6 +75,8 @@ IsToldWhole (Submits command) (Submitted (Err fault)) = fault ≢ submit.Stopped
 IsToldWhole Advances (Advanced (Ok (Done ticket (Ok done)))) = ⊥
 IsToldWhole Advances (Advanced result) = result ≢ Err step.Stopped
 IsToldWhole (Protects plain) (Protected (Err fault) out) = fault ≢ protect.Stopped
+IsToldWhole (Commands command) RefusedLong = Unit {0}
+IsToldWhole Advances (AdvancedLong ticket) = Unit {0}
 IsToldWhole call reply = ⊥
 
 -- An endpoint that runs, in a program of any edition, takes each of these steps, whatever is installed: a command takes effect, one waits, and takes effect; a

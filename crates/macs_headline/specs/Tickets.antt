@@ -1,6 +1,6 @@
 -- The headline on tickets.
 use Rattle.std.specs.Prelude.{◌≡◌, ◌+◌, ◌++◌, ℕ, List, [], ◌∷◌, flat_map, map, Ok}
-use Rattle.macs_endpoint.specs.State.{Advanced, Reply, State, Submitted}
+use Rattle.macs_endpoint.specs.State.{Advanced, AdvancedLong, Reply, State, Submitted}
 use Rattle.macs_endpoint.specs.Step.{Exchange}
 use Rattle.macs_endpoint.specs.declared.progress.Step.TheVariants.{Done}
 use Rattle.macs_endpoint.specs.declared.queue.Waiting.{Waiting}
@@ -14,6 +14,7 @@ given_by reply = []
 -- the ticket whose command an answer of `step` is done with, whatever became of it
 abbrev pub done_by : Reply → List ℕ
 done_by (Advanced (Ok (Done ticket result))) = ticket ∷ []
+done_by (AdvancedLong ticket) = ticket ∷ []
 done_by reply = []
 
 -- those that the calls of a life gave, in their order

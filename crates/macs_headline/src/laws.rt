@@ -10,6 +10,7 @@ ghost use Rattle.macs_disk.specs.Memory.{blank_memory};
 ghost use Rattle.macs_disk.specs.States.{Image, IsImage};
 ghost use Rattle.macs_disk.specs.declared.file.FileDisk.{FileDisk};
 ghost use Rattle.macs_disk.specs.declared.layout.Layout.{Layout};
+ghost use Rattle.macs_disk.specs.declared.layout.Layout.TheVariants.{Packed, Spaced};
 ghost use Rattle.macs_journal.specs.Areas.{least_sectors};
 ghost use Rattle.macs_headline.specs.Answered.{AnswersAreHeld, MomentsAreHistories};
 ghost use Rattle.macs_headline.specs.Binding.{CallsAreDeeds, ChainsAnswer, ChainsKeepSizes, ChainsTell, CutFramesAreBelow};
@@ -18,14 +19,15 @@ ghost use Rattle.macs_headline.specs.Binding.{FaultsAreFailures, FramesAreDelive
 ghost use Rattle.macs_headline.specs.Binding.{FusesChangeNone, IdleFindsNoWork, IsNewDisk, LargerFind, LargerGoOn};
 ghost use Rattle.macs_headline.specs.Binding.{LivesAreMoments, LivesFit, LivesFitUnbegun, LivesKeepCommands};
 ghost use Rattle.macs_headline.specs.Binding.{LivesAreDeeds, LivesEndExactly, LivesKeepTickets, TheseAreNew};
-ghost use Rattle.macs_headline.specs.Binding.{NewDeedsAreHistories};
+ghost use Rattle.macs_headline.specs.Binding.{NewDeedsAreHistories, OpeningsBeginAnew};
 ghost use Rattle.macs_headline.specs.Binding.{NewDisksHaveHistories, OpeningsFind, PassedOnHaveHistories, RefusalsAreFailures, SettledHaveHistories, SpentAreSpent};
 ghost use Rattle.macs_headline.specs.Begun.{CutsBegin, CutsChangeNone, InHandWasBegun};
+ghost use Rattle.macs_headline.specs.Cases.{CasesAre};
 ghost use Rattle.macs_headline.specs.Changing.{CommandsChange, IsFirstConfiguration, PrintsAre};
 ghost use Rattle.macs_headline.specs.Commands.{CommandsKept, FindsOne, InHandWasGiven};
 ghost use Rattle.macs_headline.specs.Configurations.{ConfigurationIs};
 ghost use Rattle.macs_headline.specs.Deliveries.{BareFramesAre, DeliveredBelow, DeliveriesAreVerified, GivenOnce, NeverOkAgain, OthersAreBare};
-ghost use Rattle.macs_headline.specs.Editions.{EditionsAlike, EditionsTake, TheseAreLarger};
+ghost use Rattle.macs_headline.specs.Editions.{EditionsAlike, EditionsRead, EditionsTake, TheseAreLarger};
 ghost use Rattle.macs_headline.specs.Endings.{DroppedPassOn, EndsAreEarlier, KillingsPassOn, LosesPower, PassedOnAgain, PowerLossesPassOn};
 ghost use Rattle.macs_headline.specs.Endings.{ReadsPassOn, SyncsPassOn, WritesBackAsSyncs, WrittenBackPassOn};
 ghost use Rattle.macs_headline.specs.ExampleLives.{IsWorkedHistory};
@@ -40,13 +42,15 @@ ghost use Rattle.macs_headline.specs.Numbers.{SkipsFewReceived, UsedBelow, UsedO
 ghost use Rattle.macs_headline.specs.Moments.{EditionsRise, OfItsEdition};
 ghost use Rattle.macs_headline.specs.Moving.{FramesChangeFew, NoneAppear, NumbersAreSet, NumbersMove, SidesAreConfigured};
 ghost use Rattle.macs_headline.specs.Reasons.{ReasonsAreNamed};
-ghost use Rattle.macs_headline.specs.Received.{ChannelsAreNamed, HeldAreAhead, LateAreDiscarded, SeenAreVerified, TimelyAreDelivered, UnverifiedAreSettled};
+ghost use Rattle.macs_headline.specs.Received.{ChannelsAreNamed, HeldAreAhead, LateAreDiscarded, SeenAreVerified, TheseAreTimely};
+ghost use Rattle.macs_headline.specs.Received.{TimelyAreDelivered, UnverifiedAreSettled};
 ghost use Rattle.macs_headline.specs.Refused.{FaultsAreNamed, LimitsAre, RefusalsAreExact};
 ghost use Rattle.macs_headline.specs.Steps.{RepliesAreOfCalls, StepsAreOne, StepsAreTaken};
 ghost use Rattle.macs_headline.specs.Stopping.{StoppedStays};
 ghost use Rattle.macs_headline.specs.Tickets.{TicketsKept};
+ghost use Rattle.macs_headline.specs.Verdicts.{VerdictsAreNamed};
 ghost use Rattle.macs_headline.specs.Windows.{WindowsAreKept};
-ghost use Rattle.macs_headline.specs.Openings.{IdentityWasGiven, NothingChanges, RefusedForDiskOrBlank, RefusedForDiskOrSpent};
+ghost use Rattle.macs_headline.specs.Openings.{IdentityWasGiven, NothingChanges, RefusedForDiskOrBlank, RefusedForDiskOrSpent, SpentAreLast};
 
 use crate::example::peer_frame_in_range;
 use macs_disk::laws::a_file_is_left_as_its_disk;
@@ -69,7 +73,9 @@ pub fn headline()
     ensures editions_alike { EditionsAlike }
     // An edition takes channels, long keys and areas of format two as it says.
     ensures editions_take { EditionsTake }
-    // An endpoint is of the edition of the program that opened its disk, and later ones are of no smaller edition.
+    // It reads a journal as the records say that it holds, whatever is installed.
+    ensures editions_read { EditionsRead }
+    // An endpoint is of the edition of the program that opened or formatted its disk, and later ones are of no smaller edition.
     ensures of_its_edition { (sectors : ℕ) → OfItsEdition sectors }
     ensures editions_rise { (sectors : ℕ) → EditionsRise sectors }
     // What any life answered was answered at a moment of the history, and what it used and delivered is held.
@@ -119,7 +125,7 @@ pub fn headline()
     ensures first_configuration { IsFirstConfiguration }
     // A command does what it says, and changes nothing that it does not name.
     ensures commands_change { CommandsChange }
-    // A spent key is known by its SHA-256, on the receive side with the SCI.
+    // A spent key is known by its SHA-256, on the receive side with the SCI, and by each octet of that.
     ensures prints { PrintsAre }
     // In one life tickets are given in order from 1, each is answered at most once, in order, and none is lost.
     ensures tickets_kept { (sectors : ℕ) → TicketsKept sectors }
@@ -135,8 +141,12 @@ pub fn headline()
     ensures unverified_are_settled { (sectors : ℕ) → UnverifiedAreSettled sectors }
     // With replay protection on, one below the lowest acceptable number is late, whether it verifies or not.
     ensures late_are_discarded { (sectors : ℕ) → LateAreDiscarded sectors }
+    // The verdict is that of the first reason which holds of the frame, by its octets.
+    ensures verdicts_are_named { VerdictsAreNamed }
     // A frame that verifies, and is not late, is delivered, or held back where its number is not below the next one.
     ensures timely_are_delivered { TimelyAreDelivered }
+    // Late are those alone that are below the lowest acceptable number under replay protection.
+    ensures as_timely { TheseAreTimely }
     // A frame is of the channel whose SCI its tag names, or of the only one where it names none.
     ensures channels_are_named { ChannelsAreNamed }
     // The lowest acceptable number of an association is at most the next one, and no further below it than the window.
@@ -163,16 +173,19 @@ pub fn headline()
     ensures replies { RepliesAreOfCalls }
     // A call is refused for the first reason that holds, and changes nothing then, but that a submitted command leaves the queue.
     ensures refusals_are_exact { (sectors : ℕ) → RefusalsAreExact sectors }
-    // A command that is refused for a reason has it, and one that has any is refused.
+    // A command that is refused for a reason has it, and none before it; and one that has any is refused.
     ensures reasons_are_named { ReasonsAreNamed }
-    // A plain frame that is refused for a fault has it.
+    // A plain frame that is refused for a fault has it, and none before it; and one that goes out has none of the first five.
     ensures faults_are_named { (sectors : ℕ) → FaultsAreNamed sectors }
-    // How many commands may wait, how many tickets and spent keys there are, and how often a journal begins anew.
+    // How many commands may wait, how many tickets and spent keys there are, how often a journal begins anew, and what
+    // this edition and the first one take.
     ensures limits { LimitsAre }
     // After a device fault each call is answered that the endpoint is stopped, and changes nothing; before one none is.
     ensures stopped_stays { (sectors : ℕ) → StoppedStays sectors }
     // After `format` has answered Ok an opening is refused for the disk alone, or for a last generation in an older format.
     ensures refused_for_disk_or_spent { (sectors : ℕ) → RefusedForDiskOrSpent sectors }
+    // That is generation 2^64 - 1 of a journal of format one.
+    ensures spent_are_last { SpentAreLast }
     // Before that it may also find no journal.
     ensures refused_for_disk_or_blank { (sectors : ℕ) → RefusedForDiskOrBlank sectors }
     // So it is over the lives of a history: as not formatted only where none of them formatted the disk for sure.
@@ -183,6 +196,8 @@ pub fn headline()
     ensures nothing_changes { (sectors : ℕ) → NothingChanges sectors }
     // An opening finds an identity that some `format` was given.
     ensures identity_was_given { (sectors : ℕ) → IdentityWasGiven sectors }
+    // What these clauses list by cases they list whole.
+    ensures cases { CasesAre }
 {}
 
 /// Where a history begins, and which disks have it.
@@ -251,6 +266,9 @@ pub fn histories<D: SectorDisk>()
     // An opening is refused only where a device call failed, where the disk was not formatted for sure, or for a
     // last generation in an older format.
     ensures refusals { RefusalsAreFailures D.disk }
+    // An opening of a journal of format two writes nothing, nor does one that is refused for what stands on the disk.
+    // One of format one is begun anew, once, and what it stands for stays, wherever that is cut short.
+    ensures begun_anew { OpeningsBeginAnew D.disk }
     // A step is answered Idle only where there is no work.
     ensures idle { IdleFindsNoWork D.disk }
     // A call is answered GenerationsSpent only where the journal is at its end.
@@ -285,11 +303,14 @@ pub fn worked_history()
     peer_frame_in_range();
 }
 
-/// A disk that the first edition of the program formatted has that history to this one too, whose opening begins
-/// its journal anew: what it stands for does not change.
+/// A disk that the first edition of the program formatted, and from which it sent a frame, has that history to this
+/// one too, whose opening begins its journal anew: what it stands for does not change, and lives go on from it with
+/// keys of both lengths.
 pub fn worked_migration()
     ensures { IsWorkedMigration }
-{}
+{
+    peer_frame_in_range();
+}
 
 /// A disk of zeros in memory is new.
 pub fn new_disks()
@@ -319,6 +340,8 @@ pub fn files<F: DiskFile>()
         → IsLeftAsShown F.file it → IsFoundAgain F.file it → Behaves (F.file (file_left it))
         → IsHonest (disk_in_file F.file it) → HasNothingNew (F.file (file_left it)) file → IsOpened file 0 again new
         → (again ≡ layout_of it) × LosesPower (disk_in_file F.file it) (disk_in_file F.file it).clock new }
+    // Blocks of 512 octets suit both layouts, and those of 4,096 the one in which sectors lie apart.
+    ensures blocks { (suits Packed 512 ≡ true) × (suits Spaced 512 ≡ true) × (suits Spaced 4096 ≡ true) }
 {
     a_file_is_left_as_its_disk::<F>();
 }

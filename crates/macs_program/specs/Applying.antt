@@ -60,7 +60,6 @@ refusal_name refusal.SlotEmpty = codes "SlotEmpty"
 refusal_name refusal.InUse = codes "InUse"
 refusal_name refusal.KeySpent = codes "KeySpent"
 refusal_name refusal.SpentFull = codes "SpentFull"
-refusal_name refusal.LongKey = codes "LongKey"
 
 -- the line of a command by its number, which was kept or refused
 abbrev pub outcome_line : ℕ → Option Refusal → List ℕ

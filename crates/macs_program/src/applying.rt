@@ -89,7 +89,6 @@ fn refusal_name(refusal: Refusal) -> &'static str
         Refusal::InUse => "InUse",
         Refusal::KeySpent => "KeySpent",
         Refusal::SpentFull => "SpentFull",
-        Refusal::LongKey => "LongKey",
     }
 }
 

@@ -1,9 +1,8 @@
 -- Commands as records.
 use Rattle.std.specs.Prelude.{◌||◌, if◌then◌else◌, Option, Some, None}
 use Rattle.macs_aes.specs.Keys.{octets_of_key}
-use Rattle.macs_config.specs.Apply.{offset_or_zero, offset_at, has_wrong_offset, has_wrong_start, is_long_key}
+use Rattle.macs_config.specs.Apply.{offset_or_zero, offset_at, has_wrong_offset, has_wrong_start}
 use Rattle.macs_config.specs.Association.{protection_of}
-use Rattle.macs_config.specs.Config.{this_edition}
 use Rattle.macs_config.specs.declared.checked.Judged.{Judged}
 use Rattle.macs_config.specs.declared.checked.Judged.TheVariants as judged
 use Rattle.macs_config.specs.declared.command.Command.{Command}
@@ -11,7 +10,7 @@ use Rattle.macs_config.specs.declared.command.Command.TheVariants as command
 use Rattle.macs_record.specs.declared.record.Record.{Record}
 use Rattle.macs_record.specs.declared.record.Record.TheVariants.{SetValidate, SetReplay, SetSciMode, TxInstall, TxUse, TxRemove, RxAdd, RxDrop, RxInstall, RxRemove}
 
--- the record of a command whose start, offset and key are taken
+-- the record of a command whose start and offset may be
 abbrev pub record_of_accepted : Command → Record
 record_of_accepted (command.SetValidate validate) = SetValidate validate
 record_of_accepted (command.SetReplay on window) = SetReplay (record { on = on; window = window })
@@ -26,9 +25,9 @@ record_of_accepted (command.RxInstall sci an key start offset) =
     RxInstall sci an (record { key = octets_of_key key; offset = offset_or_zero (offset_at offset) }) start
 record_of_accepted (command.RxRemove sci an) = RxRemove sci an
 
--- a command has a record unless its start is 0, its offset is no choice, or its key is longer than is taken
+-- a command has a record unless its start is 0, or its offset is no choice
 abbrev pub record_of : Command → Option Record
-record_of asked = if has_wrong_start asked || has_wrong_offset asked || is_long_key this_edition asked then None else Some (record_of_accepted asked)
+record_of asked = if has_wrong_start asked || has_wrong_offset asked then None else Some (record_of_accepted asked)
 
 -- the record of a command, by what its check judged
 abbrev pub record_judged : Judged → Record

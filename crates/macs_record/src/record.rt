@@ -1,8 +1,6 @@
 //! What a journal keeps.
 
-ghost use Rattle.std.specs.Prelude.{◌≡◌, if◌then◌else◌, Some, None};
-ghost use Rattle.macs_aes.specs.Keys.{octets_of_key};
-ghost use Rattle.macs_config.specs.Config.{takes_key, this_edition};
+ghost use Rattle.std.specs.Prelude.{◌≡◌, Some, None};
 ghost use Rattle.macs_config.specs.declared.command.Command.TheVariants.{RxInstall, TxInstall};
 ghost use Rattle.macs_record.specs.Commands.{record_judged, record_of};
 ghost use Rattle.macs_record.specs.Layout.{by_length, kind_of};
@@ -11,13 +9,12 @@ use crate::ceiling::Ceiling;
 use crate::kind::Kind;
 use macs_aes::{Key, KeyOctets};
 use macs_config::{
-    Checked, Command, Fingerprints, Judged, Protection, Replay, Role, RxSa, SciMode, TxSa,
-    Validate, takes_key,
+    Checked, Command, Fingerprints, Judged, Protection, Replay, Role, RxSa, SciMode, TxSa, Validate,
 };
 use macs_fields::{An, Offset, Pn, Sci};
 
 /// A record of a journal. Its kinds are of three groups: what a snapshot of a configuration has, the
-/// commands that are not refused for their start, offset or key, and raised ceilings.
+/// commands that are not refused for their start or offset, and raised ceilings.
 #[derive(Drop)]
 pub enum Record {
     /// The settings of a snapshot.
@@ -107,7 +104,7 @@ pub enum RecordFault {
 
 impl Record {
     /// The record of a command, `None` where its start is 0, its offset is none of 0, 30 and 50, or
-    /// not 0 without confidentiality, and where its key is long.
+    /// not 0 without confidentiality.
     pub fn command(command: &Command) -> Option<Record>
         ensures { result ≡ record_of command.now }
     {
@@ -276,17 +273,6 @@ fn by_length(key: KeyOctets, short: Kind, long: Kind) -> Kind
     }
 }
 
-/// The key of a command as a record has it, `None` where this edition does not take it.
-fn taken_key(key: Key) -> Option<KeyOctets>
-    ensures { result ≡ if takes_key this_edition (octets_of_key key) then Some (octets_of_key key) else None }
-{
-    if takes_key(key.as_slice()) {
-        Some(KeyOctets::of(key))
-    } else {
-        None
-    }
-}
-
 /// The record of a command that installs a transmit association.
 fn tx_install(an: An, key: Key, start: u32, confidential: bool, offset: u8) -> Option<Record>
     ensures { result ≡ record_of (TxInstall an key start confidential offset) }
@@ -294,7 +280,7 @@ fn tx_install(an: An, key: Key, start: u32, confidential: bool, offset: u8) -> O
     let offset = Offset::new(offset)?;
     let protection = Protection::chosen(confidential, offset)?;
     let start = Pn::new(start)?;
-    let key = taken_key(key)?;
+    let key = KeyOctets::of(key);
     let sa = TxSa { key, protection };
     Some(Record::TxInstall { an, sa, start })
 }
@@ -305,7 +291,7 @@ fn rx_install(sci: Sci, an: An, key: Key, start: u32, offset: u8) -> Option<Reco
 {
     let offset = Offset::new(offset)?;
     let start = Pn::new(start)?;
-    let key = taken_key(key)?;
+    let key = KeyOctets::of(key);
     let sa = RxSa { key, offset };
     Some(Record::RxInstall { sci, an, sa, start })
 }

@@ -87,7 +87,7 @@ impl Rx {
         self.table.slide(window);
     }
 
-    /// A new channel, of an SCI of which none stands, where fewer than 8 stand.
+    /// A new channel, of an SCI of which none stands, where fewer than 32 stand.
     pub fn add(&mut self, sci: Sci)
         requires free { has_channel (rx_side_of self.old) sci ≡ false }
         requires room { length (rx_side_of self.old).channels < this_edition.channels }
@@ -242,7 +242,7 @@ impl Rx {
         Some(channel.counters.of(verdict))
     }
 
-    /// Whether another channel may be added: fewer than 8 stand.
+    /// Whether another channel may be added: fewer than 32 stand.
     pub fn has_room(&self) -> bool
         ensures { result ≡ nat_lt (length (rx_side_of self.now).channels) this_edition.channels }
     {

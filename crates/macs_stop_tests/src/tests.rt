@@ -12,6 +12,7 @@ mod judging;
 mod kernel_files;
 mod known;
 mod life;
+mod migrating;
 mod script;
 mod serving;
 mod stops;

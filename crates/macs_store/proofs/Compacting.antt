@@ -2,12 +2,11 @@
 use Rattle.std.proofs.Common.{◌≡◌, ◌∙◌, Bool, true, false, if◌then◌else◌, List, [], ◌∷◌, length, take, drop, Option, Some, None, Result, Ok, Err, refl, ap, sym, arith}
 use Rattle.std.specs.Option.{option_and_then, option_map}
 use Rattle.std.proofs.lemmas.List.{drop_all, take_all}
-use Rattle.macs_config.specs.Apply.{apply}
+use Rattle.macs_config.specs.Apply.{Reason, apply}
 use Rattle.macs_config.specs.Config.{Config, Edition}
 use Rattle.macs_config.specs.Identity.{Identity}
 use Rattle.macs_config.specs.Snapshot.{config_of_parts}
 use Rattle.macs_config.specs.declared.command.Command.{Command}
-use Rattle.macs_config.specs.declared.refusal.Refusal.{Refusal}
 use Rattle.macs_journal.specs.Renewal.{compacted}
 use Rattle.macs_journal.specs.Found.{Content}
 use Rattle.macs_record.specs.declared.record.Record.{Record}
@@ -15,7 +14,7 @@ use Rattle.macs_record.specs.declared.record.Record.TheVariants.{RxCeiling, TxCe
 use Rattle.macs_store.specs.Commands.{command_of}
 use Rattle.macs_store.specs.Replay.{accepted_standing, ceilings_with_records, is_raise, meaning_of, snapshot_of, snapshot_parts, standing_after_command, standing_after_record, standing_after_records}
 use Rattle.macs_store.specs.Standing.{Ceilings, Standing, no_ceilings, standing_or_refusal, standing_with_rx_ceiling, standing_with_tx_ceiling}
-use Rattle.macs_store.proofs.Formats.{meaning-read, read-meaning}
+use Rattle.macs_store.proofs.Formats.{meaning-read, read-meaning, two-read}
 
 -- ---- what stands has the identity of the head
 
@@ -23,7 +22,7 @@ use Rattle.macs_store.proofs.Formats.{meaning-read, read-meaning}
 abbrev identity_in : Option Standing → Option Identity
 identity_in o = option_map (λ (s : Standing). s.identity) o
 
-accepted-identity : (s t : Standing) (command : Command) (result : Result Config Refusal)
+accepted-identity : (s t : Standing) (command : Command) (result : Result Config Reason)
     → accepted_standing (standing_or_refusal s command result) ≡ Some t → t.identity ≡ s.identity
 accepted-identity s t command (Ok config) is = let same = ap identity_in is in cc
 accepted-identity s t command (Err refusal) is = cc
@@ -77,6 +76,6 @@ meaning-compacted edition c s records takes_two is stands =
     let whole : take (length records) records ≡ records = take_all (length records) records (omega arith) in
     let none : drop (length records) records ≡ [] = drop_all (length records) records (omega arith) in
     let same : c.head.identity ≡ s.identity = sym (meaning-identity edition c s is) in
-    meaning-read edition (compacted c records) takes_two
+    meaning-read edition (compacted c records) (two-read edition takes_two)
     ∙ (λ i. option_and_then (λ s. standing_after_records s (none i)) (snapshot_of edition (same i) (whole i)))
     ∙ ap (λ (o : Option Standing). option_and_then (λ s. standing_after_records s []) o) stands

@@ -93,7 +93,7 @@ module _ {D : Type 0} (disk_of : D → Disk) (s : StoreValue D) (idle : IsIdle s
           holding = append-with (disk_of j.disk) j.place j.hand (snapshot (standing_in s)) stored.content (content_with_record stored.content r)
               (task-appends s.journal r j.hand starts.hand) (starts.holds stored.content holds);
           stands = stored.stands;
-          becomes = standing-with this_edition stored.content r (standing_in s) (held-within disk_of s.journal stored.content holds) stored.stands;
+          becomes = standing-with this_edition stored.content r (standing_in s) (held-within disk_of s.journal stored.content holds) stored.form stored.stands;
           leads = refl;
           form = stored.form;
           form_next = stored.form;

@@ -1,13 +1,12 @@
 -- What an image stands for to an edition, it stands for to one that takes as much or more.
 use Rattle.std.proofs.Common.{◌≡◌, ◌∙◌, ℕ, Bool, true, false, cond, refl, sym, ap, subst, arith, List, [], ◌∷◌, take, drop, Option, Some, None, Result, Ok, Err}
 use Rattle.std.specs.Option.{option_and_then, option_map}
-use Rattle.macs_config.specs.Apply.{apply}
+use Rattle.macs_config.specs.Apply.{Reason, apply}
 use Rattle.macs_config.specs.Config.{Config, Edition, IsUpTo}
 use Rattle.macs_config.specs.Identity.{Identity}
 use Rattle.macs_config.specs.Snapshot.{config_of_parts}
 use Rattle.macs_config.specs.declared.command.Command.{Command}
 use Rattle.macs_config.specs.declared.part.Part.{Part}
-use Rattle.macs_config.specs.declared.refusal.Refusal.{Refusal}
 use Rattle.macs_config.proofs.Editions.{larger-applies, larger-restores}
 use Rattle.macs_disk.specs.States.{Image}
 use Rattle.macs_record.specs.declared.record.Record.{Record}
@@ -45,11 +44,11 @@ module _ (small large : Edition) (up_to : IsUpTo small large) where
   if_made true s t is = let same : lower s ≡ t = cc in (sym (ap (λ (s : Standing). s.edition) same), ap (option_map higher) is)
   if_made false s t is = absurd (cc)
 
-  by_result : (s : Standing) (command : Command) (by_small by_large : Result Config Refusal) → ((c : Config) → by_small ≡ Ok c → by_large ≡ Ok c)
+  by_result : (s : Standing) (command : Command) (by_small by_large : Result Config Reason) → ((c : Config) → by_small ≡ Ok c → by_large ≡ Ok c)
       → (t : Standing) → Rises (accepted_standing (standing_or_refusal (lower s) command by_small)) (accepted_standing (standing_or_refusal (higher s) command by_large)) t
   by_result s command (Ok config) by_large wider t is =
       let first = if_made true (record s { config = config; ceilings = ceilings_after s.identity command s.ceilings }) t is in
-      (first.0, ap (λ (made : Result Config Refusal). accepted_standing (standing_or_refusal (higher s) command made)) (wider config refl) ∙ first.1)
+      (first.0, ap (λ (made : Result Config Reason). accepted_standing (standing_or_refusal (higher s) command made)) (wider config refl) ∙ first.1)
   by_result s command (Err refusal) by_large wider t is = absurd (cc)
 
   by_command : (s : Standing) (command : Option Command) (t : Standing) → Rises (standing_after_command (lower s) command) (standing_after_command (higher s) command) t
@@ -107,7 +106,7 @@ module _ (small large : Edition) (up_to : IsUpTo small large) where
       let c = is.1.content in
       let read = read-meaning small c s is.1.stands in
       let rises : meaning_of large c ≡ Some (standing_to large s) =
-      meaning-read large c (larger-reads small large up_to c.head.format read.0) ∙ (larger-replays c.head.identity c.head.count c.records s read.1).1 in
+      meaning-read large c (larger-reads small large up_to c.head.format c.records read.0) ∙ (larger-replays c.head.identity c.head.count c.records s read.1).1 in
       (is.0, record { content = c; found = is.1.found; stands = rises })
 
 -- and is of that edition

@@ -61,7 +61,7 @@ pub snapshot-some : (s : Standing) → 1 ≤ length (snapshot s)
 unfolding snapshot
 snapshot-some s = omega arith
 
-pub snapshot-few : (s : Standing) → length s.config.channels ≤ 8 → length (snapshot s) ≤ 115
+pub snapshot-few : (s : Standing) → length s.config.channels ≤ 32 → length (snapshot s) ≤ 235
 unfolding snapshot
 snapshot-few s few =
     let tx = tx_records s.config s.ceilings in

@@ -1,6 +1,7 @@
 -- A command or a raised ceiling is taken in hand, as its record is.
 use Rattle.std.proofs.Common.{◌≡◌, ◌∙◌, true, false, Option, Some, inl, inr, Result, Ok, Err, is_ok, IsOk, refl, sym, ap, subst}
 use Rattle.std.specs.Option.{IsSome}
+use Rattle.macs_config.specs.Apply.{Named, Reason}
 use Rattle.macs_config.specs.declared.command.Command.{Command}
 use Rattle.macs_config.specs.declared.refusal.Refusal.{Refusal}
 use Rattle.macs_disk.specs.Disk.{Disk}
@@ -75,7 +76,7 @@ module _ {D : Type 0} (disk_of : D → Disk) (s : StoreValue D) (command : Comma
     in_hand = tt;
   }
 
-  pub commit-refused : (refusal : Refusal) → is_stopped s ≡ false → accept (standing_in s) command ≡ Err refusal
+  pub commit-refused : (refusal : Refusal) → is_stopped s ≡ false → accept (standing_in s) command ≡ Err (Named refusal)
       → StartsCommit disk_of s command (Err (commit_fault.Refused refusal)) s
   commit-refused refusal runs is = record {
     stopped = (
@@ -83,8 +84,9 @@ module _ {D : Type 0} (disk_of : D → Disk) (s : StoreValue D) (command : Comma
       λ stopped. absurd (let no : true ≡ false = sym stopped ∙ runs in cc),
     );
     refused = λ other. (
-      λ same. (runs, let alike : refusal ≡ other = cc in is ∙ ap Err alike),
-      λ both. let alike : ◌≡◌ {A = Result Standing Refusal} (Err refusal) (Err other) = sym is ∙ both.1 in cc,
+      λ same. (runs, let alike : refusal ≡ other = cc in is ∙ ap (λ (r : Refusal). Err (Named r)) alike),
+      λ both. let alike : ◌≡◌ {A = Result Standing Reason} (Err (Named refusal)) (Err (Named other)) = sym is ∙ both.1 in
+          let one : refusal ≡ other = cc in ap (λ (r : Refusal). Err (commit_fault.Refused r)) one,
     );
     spent = (
       λ same. absurd (let no : commit_fault.Refused refusal ≡ commit_fault.GenerationsSpent = cc in cc),

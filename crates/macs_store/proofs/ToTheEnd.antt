@@ -1,6 +1,7 @@
 -- Work that is taken in hand and done to its end: what a call promises that does both.
 use Rattle.std.proofs.Common.{◌≡◌, ◌≤◌, ◌+◌, ◌∙◌, ℕ, true, false, Result, Ok, Err, is_ok, IsOk, inl, inr, refl, ap, sym, subst, arith}
 use Rattle.std.specs.Prelude.{IsErrOf}
+use Rattle.macs_config.specs.Apply.{Named}
 use Rattle.macs_config.specs.Config.{this_edition}
 use Rattle.macs_config.specs.declared.command.Command.{Command}
 use Rattle.macs_config.specs.declared.refusal.Refusal.{Refusal}
@@ -214,7 +215,7 @@ module _ {D : Type 0} (disk_of : D → Disk) (old : StoreValue D) (idle : IsIdle
     was_running : is_stopped old ≡ true → ⊥
     was_running is = let no = starts.stopped.1 is in cc
 
-    was_accepted : (refusal : Refusal) → accept (standing_in old) command ≡ Err refusal → ⊥
+    was_accepted : (refusal : Refusal) → accept (standing_in old) command ≡ Err (Named refusal) → ⊥
     was_accepted refusal is = let no : false ≡ true = sym (ap is_ok is) ∙ fits in cc
 
     had_room : IsSpent old → ⊥

@@ -347,7 +347,7 @@ module _ {D : Type 0} (disk_of : D → Disk) (s : StoreValue D) (runs : is_stopp
             holding = append-with (disk_of j.disk) j.place j.hand (snapshot (standing_in s)) stored.next (content_with_record stored.next r)
                 (task-appends mid r j.hand starts.hand) (starts.holds stored.next holds);
             stands = means;
-            becomes = standing-with this_edition stored.next r (standing_in s) (held-within disk_of mid stored.next holds) means;
+            becomes = standing-with this_edition stored.next r (standing_in s) (held-within disk_of mid stored.next holds) stored.form_next means;
             leads = refl;
             form = stored.form_next;
             form_next = stored.form_next;

@@ -1,5 +1,6 @@
 -- What the calls of a store promise that keep something.
 use Rattle.std.specs.Prelude.{◌≡◌, ◌≤◌, ◌+◌, ◌==◌, ◌↔◌, ◌⊎◌, ℕ, true, false, if◌then◌else◌, length, Result, Ok, Err, IsOk, OnOk, OnErr, IsErrOf}
+use Rattle.macs_config.specs.Apply.{Named}
 use Rattle.macs_config.specs.Config.{this_edition}
 use Rattle.macs_config.specs.declared.command.Command.{Command}
 use Rattle.macs_config.specs.declared.refusal.Refusal.{Refusal}
@@ -94,7 +95,7 @@ pub record IsCommitOf (old new : disk.Disk) (result : Result (Unit {0}) CommitFa
 pub record Commits {D : Type 0} (disk_of : D → disk.Disk) (old : StoreValue D) (command : Command) (result : Result (Unit {0}) CommitFault) (new : StoreValue D) : Type 0 where
   pub stopped : IsErrOf result commit.Stopped ↔ (is_stopped old ≡ true)
   pub refused : (refusal : Refusal) → (result ≡ Err (commit.Refused refusal))
-      ↔ ((is_stopped old ≡ false) × (accept (standing_in old) command ≡ Err refusal))
+      ↔ ((is_stopped old ≡ false) × (accept (standing_in old) command ≡ Err (Named refusal)))
   pub spent : IsErrOf result commit.GenerationsSpent ↔ (IsOk (accept (standing_in old) command) × IsSpent old)
   pub same : OnErr result (IsErrOf result commit.Disk ⊎ (new ≡ old))
   pub halted : IsErrOf result commit.Disk → (is_stopped new ≡ true) × (new.held ≡ old.held)

@@ -50,9 +50,9 @@ fingerprints_each = 15
 abbrev pub most_spent_records : ℕ
 most_spent_records = 35
 
--- the most records of a snapshot: the settings, 4 transmit associations, 8 channels of 4 associations each, and the spent keys of both sides
+-- the most records of a snapshot: the settings, 4 transmit associations, 32 channels of 4 associations each, and the spent keys of both sides
 abbrev pub most_records : ℕ
-most_records = 115
+most_records = 235
 
 -- the fingerprints of a side's record, by its place from 0 on
 abbrev pub fingerprints_at : List (List ℕ) → ℕ → List (List ℕ)

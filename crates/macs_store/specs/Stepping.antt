@@ -1,5 +1,6 @@
 -- What a store keeps, one device call at a time.
 use Rattle.std.specs.Prelude.{◌≡◌, ◌≤◌, ◌+◌, ◌↔◌, ◌⊎◌, true, false, Some, Result, Ok, Err, IsOk, OnOk, OnErr, IsErrOf}
+use Rattle.macs_config.specs.Apply.{Named}
 use Rattle.macs_config.specs.Config.{this_edition}
 use Rattle.macs_config.specs.declared.command.Command.{Command}
 use Rattle.macs_config.specs.declared.refusal.Refusal.{Refusal}
@@ -51,7 +52,7 @@ pub record Starts {D : Type 0} (disk_of : D → disk.Disk) (old : StoreValue D) 
 pub record StartsCommit {D : Type 0} (disk_of : D → disk.Disk) (old : StoreValue D) (command : Command) (result : Result (Unit {0}) CommitFault) (new : StoreValue D) : Type 0 where
   pub stopped : IsErrOf result commit.Stopped ↔ (is_stopped old ≡ true)
   pub refused : (refusal : Refusal) → (result ≡ Err (commit.Refused refusal))
-      ↔ ((is_stopped old ≡ false) × (accept (standing_in old) command ≡ Err refusal))
+      ↔ ((is_stopped old ≡ false) × (accept (standing_in old) command ≡ Err (Named refusal)))
   pub spent : IsErrOf result commit.GenerationsSpent ↔ (IsOk (accept (standing_in old) command) × IsSpent old)
   pub names : ¬ IsErrOf result commit.Disk
   pub same : OnErr result (new ≡ old)

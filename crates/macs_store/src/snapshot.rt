@@ -36,7 +36,7 @@ impl RecordSource for Standing {
 }
 
 impl Standing {
-    /// What holds of every snapshot: it stands for what it was taken of, in 1 to 115 records.
+    /// What holds of every snapshot: it stands for what it was taken of, in 1 to 235 records.
     pub(crate) fn facts(&self)
         ensures stands { snapshot_of this_edition self.now.config.identity (snapshot (standing_of self.now)) ≡ Some (standing_of self.now) }
         ensures some { 1 ≤ length (snapshot (standing_of self.now)) }
@@ -118,10 +118,10 @@ fn pass_tx_at(config: &Config, ceilings: &CeilingTable, an: An, walk: &mut Walk)
 
 /// Goes past receive channels.
 fn pass_channels(scis: &[Sci], walk: &mut Walk)
-    requires eight { length scis.now ≤ 8 }
-    requires room { walk.old.passed + 8 ≤ most_records }
+    requires fit { length scis.now ≤ 32 }
+    requires room { walk.old.passed + 32 ≤ most_records }
     ensures walked { walk.new ≡ walk_past_all walk.old (channel_records scis.now) }
-    ensures few { walk.new.passed ≤ walk.old.passed + 8 }
+    ensures few { walk.new.passed ≤ walk.old.passed + 32 }
 {
     for sci in scis {
         walk.pass(Record::Channel { sci: *sci });
@@ -131,10 +131,10 @@ fn pass_channels(scis: &[Sci], walk: &mut Walk)
 /// Goes past the receive associations of all channels, in their order.
 fn pass_rx(config: &Config, ceilings: &CeilingTable, scis: &[Sci], walk: &mut Walk)
     requires channels { scis.now ≡ (config_of config.now).channels }
-    requires eight { length scis.now ≤ 8 }
-    requires room { walk.old.passed + 32 ≤ most_records }
+    requires fit { length scis.now ≤ 32 }
+    requires room { walk.old.passed + 128 ≤ most_records }
     ensures walked { walk.new ≡ walk_past_all walk.old (rx_records (config_of config.now) (table_ceilings ceilings.now)) }
-    ensures few { walk.new.passed ≤ walk.old.passed + 32 }
+    ensures few { walk.new.passed ≤ walk.old.passed + 128 }
 {
     for sci in scis {
         pass_rx_of(config, ceilings, *sci, walk);

@@ -1,7 +1,7 @@
 //! What a journal's records stand for.
 
 ghost use Rattle.std.specs.Prelude.{◌≡◌, ◌≤◌, ◌↔◌, List, true, false, if◌then◌else◌, Some, None, IfSome, IsSome, Ok, Err, IsOk, IfOk, OnOk, length};
-ghost use Rattle.macs_config.specs.Apply.{apply};
+ghost use Rattle.macs_config.specs.Apply.{Named, apply};
 ghost use Rattle.macs_config.specs.Config as spec;
 ghost use Rattle.macs_config.specs.Config.{this_edition};
 ghost use Rattle.macs_config.specs.Judged.{asked_by};
@@ -9,7 +9,7 @@ ghost use Rattle.macs_config.specs.Snapshot.{config_of_parts};
 ghost use Rattle.macs_config.specs.Value.{config_of};
 ghost use Rattle.macs_config.specs.declared.part.Part.{Part};
 ghost use Rattle.macs_store.specs.Commands.{command_of};
-ghost use Rattle.macs_store.specs.Replay.{standing_after_command, standing_after_record, standing_after_records, snapshot_parts, reading_of, reads, replay_of, is_raise, snapshot_of, ceilings_with_records};
+ghost use Rattle.macs_store.specs.Replay.{standing_after_command, standing_after_record, standing_after_records, snapshot_parts, all_belong, is_long_kind, reading_of, reads, replay_of, is_raise, snapshot_of, ceilings_with_records};
 ghost use Rattle.macs_store.specs.Standing.{IsStanding, accept, ceilings_after, new_standing, no_ceilings, standing_with_rx_ceiling, standing_with_tx_ceiling};
 ghost use Rattle.macs_store.specs.Table.{StandingValue, table_ceilings, table_scis, standing_of};
 ghost use Rattle.macs_store.specs.Value.{IsOfRecord};
@@ -19,7 +19,7 @@ use crate::reading::{Snapshot, plain_command_of};
 use crate::table::CeilingTable;
 use macs_config::{Checked, Command, Config, Identity, Judged, Refusal};
 use macs_fields::{An, Sci};
-use macs_record::{Ceiling, Format, Record};
+use macs_record::{Ceiling, Format, Kind, Record};
 use std::marker::Model;
 
 /// What an endpoint goes on from: its configuration, and the ceilings of its packet numbers.
@@ -48,6 +48,26 @@ fn is_read(format: Format) -> bool
     }
 }
 
+/// Whether an area of this format may have records of these kinds: those of long keys are of format two alone.
+fn all_belong(format: Format, records: &[Record]) -> bool
+    ensures { result ≡ all_belong format records.now }
+{
+    match format {
+        Format::One => records.iter().all(|value| !is_long_kind(value.kind())),
+        Format::Two => true,
+    }
+}
+
+/// Whether a kind is one of the four of long keys.
+fn is_long_kind(kind: Kind) -> bool
+    ensures { result ≡ is_long_kind kind }
+{
+    match kind {
+        Kind::TxSaLong | Kind::RxSaLong | Kind::TxInstallLong | Kind::RxInstallLong => true,
+        _ => false,
+    }
+}
+
 impl Standing {
     /// What a disk is formatted with.
     pub(crate) fn new(identity: &Identity) -> Standing
@@ -60,14 +80,14 @@ impl Standing {
     }
 
     /// Makes it, in its place, what the records of an area of this format stand for under its identity, those of
-    /// the snapshot first, and answers whether they stand for something. Where they are refused, or this edition
-    /// does not read the format, nothing is said of what is left.
+    /// the snapshot first, and answers whether they stand for something. Where they are refused, one is of a kind that
+    /// the format does not have, or this edition does not read the format, nothing is said of what is left.
     pub(crate) fn read(&mut self, format: Format, count: usize, records: &[Record]) -> bool
         requires { count ≤ length records.now }
         ensures { reading_of this_edition format (standing_of self.old).identity count records.now
             ≡ (if result then Some (standing_of self.new) else None) }
     {
-        is_read(format) && self.replay(count, records)
+        is_read(format) && all_belong(format, records) && self.replay(count, records)
     }
 
     /// Makes it, in its place, what the records of a snapshot stand for under its identity, then those behind
@@ -200,7 +220,7 @@ impl Standing {
     pub(crate) fn check(&self, command: &Command) -> Result<Checked, Refusal>
         ensures fits { OnOk result (IsOk (accept (standing_of self.now) command.now)) }
         ensures checked { IfOk result (λ checked. checked ≡ command.now) }
-        ensures refused { (refusal : Refusal) → (result ≡ Err refusal) ↔ (accept (standing_of self.now) command.now ≡ Err refusal) }
+        ensures refused { (refusal : Refusal) → (result ≡ Err refusal) ↔ (accept (standing_of self.now) command.now ≡ Err (Named refusal)) }
     {
         self.config.check(command)
     }

@@ -1,6 +1,7 @@
 //! What an endpoint keeps, in memory and on its disk.
 
 ghost use Rattle.std.specs.Prelude.{◌≡◌, ◌<◌, ◌^◌, ◌↔◌, false, Err, IfOk, IsOk, IsSome, IsTrue, IfSome, OnOk};
+ghost use Rattle.macs_config.specs.Apply.{Named};
 ghost use Rattle.macs_config.specs.Value.{config_of};
 ghost use Rattle.macs_store.specs.Keeps.{Commits, Keeps};
 ghost use Rattle.macs_store.specs.Table.{standing_of};
@@ -46,7 +47,7 @@ impl<D: SectorDisk> Store<D> {
     pub fn check(&self, command: &Command) -> Result<Checked, Refusal>
         ensures fits { OnOk result (IsOk (accept (standing_in self.now) command.now)) }
         ensures checked { IfOk result (λ checked. checked ≡ command.now) }
-        ensures refused { (refusal : Refusal) → (result ≡ Err refusal) ↔ (accept (standing_in self.now) command.now ≡ Err refusal) }
+        ensures refused { (refusal : Refusal) → (result ≡ Err refusal) ↔ (accept (standing_in self.now) command.now ≡ Err (Named refusal)) }
     {
         self.standing.check(command)
     }

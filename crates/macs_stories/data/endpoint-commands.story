@@ -102,31 +102,59 @@ next 3 = 4294967296
 numbers b 0 = 9 9
 numbers b 3 = none
 
-# A key of 256 bits. Its first half is a key of 128 bits, which is taken.
-story a long key is refused and nothing is written
+# A key of 256 bits, and one of 128 bits: both are kept by records and by a snapshot.
+story a long and a short key outlive a power loss and a compaction
+with long=000102030405060708090a0b0c0d0e0f101112131415161718191a1b1c1d1e1f short=000102030405060708090a0b0c0d0e0f
+and loss=last
+and loss=durable
+use new
+tx-install 0 $long 1
+tx-install 1 $short 1
+tx-use 0
+protect 62 = 1
+tx-use 1
+protect 62 = 1
+power-loss $loss
+open
+next 0 = 5
+next 1 = 5
+refill
+protect 62 = 5
+each 1 256 set-replay on $
+close
+open-journal
+version = 2
+snapshot = 4
+close
+open
+next 0 = 5
+next 1 = 9
+tx-install 2 $long 1 = refused KeySpent
+tx-install 2 $short 1 = refused KeySpent
+tx-install 0 $long 1 = refused SlotTaken
+tx-install 1 $short 1 = refused SlotTaken
+
+# A key of 256 bits, and one of 128 bits that is its first half: each is another key than the other.
+story a long and a short key stand side by side
 with key=000102030405060708090a0b0c0d0e0f101112131415161718191a1b1c1d1e1f
 use new
 rx-add b
-calls = *
-tx-install 0 $key 1 = refused LongKey
-rx-install b 0 $key 1 = refused LongKey
-submit tx-install 0 $key 1 = 1
-step = done 1 refused LongKey
-submit rx-install b 0 $key 1 = 2
-step = done 2 refused LongKey
-calls = 0
-next 0 = none
-numbers b 0 = none
-tx-association 0 = none
-rx-association b 0 = none
-spent-tx $key = no
-spent-rx b $key = no
-tx-install 0 000102030405060708090a0b0c0d0e0f 1
-tx-install 1 $key 1 = refused LongKey
+tx-install 0 $key 1
+rx-install b 0 $key 1
 tx-install 0 $key 1 = refused SlotTaken
+tx-install 1 $key 1 = refused KeySpent
+spent-tx $key = yes
+spent-rx b $key = yes
+spent-tx 000102030405060708090a0b0c0d0e0f = no
+submit tx-install 1 000102030405060708090a0b0c0d0e0f 1 = 1
+finish = 3 done 1 ok
+rx-install b 1 000102030405060708090a0b0c0d0e0f 1
 spent-tx 000102030405060708090a0b0c0d0e0f = yes
-spent-tx $key = no
 power-loss last
 open
 next 0 = 5
-next 1 = none
+next 1 = 5
+tx-install 2 $key 1 = refused KeySpent
+rx-install b 2 $key 1 = refused KeySpent
+tx-install 2 000102030405060708090a0b0c0d0e0f 1 = refused KeySpent
+rx-install b 2 000102030405060708090a0b0c0d0e0f 1 = refused KeySpent

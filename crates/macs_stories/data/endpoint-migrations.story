@@ -126,6 +126,21 @@ zeros 3 1028 = yes
 put 2 record set-replay on 9
 open = BadJournal
 
+# Records of long keys are of format two alone.
+story a record of a long key in an area of format one is a bad journal
+with key=000102030405060708090a0b0c0d0e0f101112131415161718191a1b1c1d1e1f
+use old
+put 4 record tx-install 0 $key 1
+put 5 gate
+open = BadJournal
+open-store = BadJournal
+pending = 0
+zeros 514 1028 = yes
+put 0 head 1 1 12153524c0895e81 4 4
+open
+next 0 = 5
+tx-install 1 $key 1 = refused KeySpent
+
 story a journal of format two in the last generation is opened
 use old
 put 0 head 18446744073709551615 1 12153524c0895e81 4 4

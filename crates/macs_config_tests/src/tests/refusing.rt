@@ -35,7 +35,6 @@ fn refuses_transmit_installs(rt: HostRuntime) {
         (2, long, 0, false, 0, Refusal::StartRange),
         (2, long, 1, false, 30, Refusal::OffsetChoice),
         (0, long, 1, false, 0, Refusal::SlotTaken),
-        (2, long, 1, false, 0, Refusal::LongKey),
     ];
     for (number, key, start, confidential, offset, refusal) in cases {
         let an = an_of(&rt, number);
@@ -68,7 +67,6 @@ fn refuses_receive_installs(rt: HostRuntime) {
         (9, 3, long, 1, 31, Refusal::OffsetChoice),
         (6, 3, long, 1, 0, Refusal::NoChannel),
         (9, 2, long, 1, 0, Refusal::SlotTaken),
-        (9, 3, long, 1, 0, Refusal::LongKey),
     ];
     for (station, number, key, start, offset, refusal) in cases {
         let an = an_of(&rt, number);
@@ -81,6 +79,20 @@ fn refuses_receive_installs(rt: HostRuntime) {
         };
         expect_refusal(&rt, command, refusal);
     }
+}
+
+/// The long keys begin with the octets of those that are spent.
+#[test]
+fn takes_long_keys(rt: HostRuntime) {
+    let mut config = configured(&rt);
+    let transmit = tx_install(&rt, 2, long_key_from(0));
+    take(&rt, &mut config, transmit);
+    refuse(&rt, &mut config, transmit, Refusal::SlotTaken);
+    let receive = rx_install(&rt, peer(9), 3, long_key_from(32));
+    take(&rt, &mut config, receive);
+    refuse(&rt, &mut config, receive, Refusal::SlotTaken);
+    assert!(rt; config.is_spent_tx(&long_key_from(0)));
+    assert!(rt; config.is_spent_rx(peer(9), &long_key_from(32)));
 }
 
 #[test]
@@ -111,21 +123,21 @@ fn refuses_a_dropped_channel_first(rt: HostRuntime) {
 }
 
 #[test]
-fn refuses_the_ninth_channel(rt: HostRuntime) {
+fn refuses_the_thirty_third_channel(rt: HostRuntime) {
     let mut config = Config::new(&identity_of(&rt, OWN_SCI));
-    for station in 1..9 {
+    for station in 1..33 {
         take(&rt, &mut config, Command::RxAdd { sci: peer(station) });
     }
-    assert_eq!(rt; config.channels().len(), 8);
+    assert_eq!(rt; config.channels().len(), 32);
     let cases = [
-        (peer(9), Refusal::ChannelsFull),
+        (peer(33), Refusal::ChannelsFull),
         (peer(8), Refusal::ChannelTaken),
         (OWN_SCI, Refusal::OwnSci),
     ];
     for (sci, refusal) in cases {
         refuse(&rt, &mut config, Command::RxAdd { sci }, refusal);
     }
-    assert_eq!(rt; config.channels().len(), 8);
+    assert_eq!(rt; config.channels().len(), 32);
 }
 
 #[test]

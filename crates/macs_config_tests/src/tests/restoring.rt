@@ -351,36 +351,35 @@ fn refuses_what_is_not_whole(rt: HostRuntime) {
     assert!(rt; Config::restore(&other, &[station]).is_none());
 }
 
-/// A key of 32 octets is refused although it is spent.
 #[test]
-fn refuses_long_keys(rt: HostRuntime) {
+fn restores_long_keys(rt: HostRuntime) {
     let long = Key::Long([1; 32]);
     let parts = [
         plain(),
         tx_with_key(&rt, 1, long),
-        spent(Role::Transmit, TX_LONG_1),
-    ];
-    expect_refused(&rt, &parts, "a long key of the transmit side");
-    let parts = [
-        plain(),
         channel(FIRST),
         rx_with_key(&rt, FIRST, 1, long),
+        spent(Role::Transmit, TX_LONG_1),
         spent(Role::Receive, FIRST_LONG_1),
     ];
-    expect_refused(&rt, &parts, "a long key of the receive side");
+    let config = Config::restore(&identity(&rt), &parts).expect(&rt, "long keys");
+    assert!(rt; config.is_spent_tx(&long));
+    assert!(rt; config.is_spent_rx(FIRST, &long));
+    let parts = [plain(), tx_with_key(&rt, 1, long)];
+    expect_refused(&rt, &parts, "a long key that is not spent");
 }
 
 #[test]
 fn limits_channels(rt: HostRuntime) -> Result<(), Fail> {
     let mut parts = Vec::new(rt.alloc());
     parts.push(plain())?;
-    for port in 1..=8 {
+    for port in 1..=32 {
         parts.push(channel(Sci([6, 0, 0, 0, 0, 0, 0, port])))?;
     }
-    let config = Config::restore(&identity(&rt), &parts).expect(&rt, "eight channels");
-    assert_eq!(rt; config.channels().len(), 8);
-    parts.push(channel(Sci([6, 0, 0, 0, 0, 0, 0, 9])))?;
-    expect_refused(&rt, &parts, "nine channels");
+    let config = Config::restore(&identity(&rt), &parts).expect(&rt, "thirty-two channels");
+    assert_eq!(rt; config.channels().len(), 32);
+    parts.push(channel(Sci([6, 0, 0, 0, 0, 0, 0, 33])))?;
+    expect_refused(&rt, &parts, "thirty-three channels");
     Ok(())
 }
 

@@ -98,7 +98,7 @@ fn restored_with(rt: &impl Abort, transmit: Fingerprint, receive: Fingerprint) -
     Config::restore(&identity_of(rt, OWN_SCI), &parts).expect(rt, "restored")
 }
 
-/// A long key is found by all its octets, and refused as spent before it is refused as long.
+/// A long key is found by all its octets.
 #[test]
 fn knows_long_keys(rt: HostRuntime) {
     let mut config = restored_with(&rt, *LONG_KEY, *TENTH_LONG_KEY);
@@ -110,12 +110,19 @@ fn knows_long_keys(rt: HostRuntime) {
     assert!(rt; !config.is_spent_rx(peer(11), &spent));
     assert!(rt; !config.is_spent_rx(peer(10), &key_from(0)));
     take(&rt, &mut config, Command::RxAdd { sci: peer(10) });
-    for (key, refusal) in [(spent, Refusal::KeySpent), (new, Refusal::LongKey)] {
-        refuse(&rt, &mut config, tx_install(&rt, 0, key), refusal);
-        let install = rx_install(&rt, peer(10), 0, key);
-        refuse(&rt, &mut config, install, refusal);
-    }
-    assert_eq!(rt; (config.spent_tx(), config.spent_rx()), (1, 1));
+    let old = rx_install(&rt, peer(10), 0, spent);
+    refuse(
+        &rt,
+        &mut config,
+        tx_install(&rt, 0, spent),
+        Refusal::KeySpent,
+    );
+    refuse(&rt, &mut config, old, Refusal::KeySpent);
+    take(&rt, &mut config, tx_install(&rt, 0, new));
+    take(&rt, &mut config, rx_install(&rt, peer(10), 0, new));
+    assert_eq!(rt; (config.spent_tx(), config.spent_rx()), (2, 2));
+    let again = tx_install(&rt, 1, new);
+    refuse(&rt, &mut config, again, Refusal::KeySpent);
 }
 
 /// The key of a place among as many as may be spent, and one more.

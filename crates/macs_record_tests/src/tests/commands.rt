@@ -165,23 +165,38 @@ fn receive_associations(rt: HostRuntime) {
     }
 }
 
-/// An install with a long key has no record.
 #[test]
 fn long_keys(rt: HostRuntime) {
     let transmit = Command::TxInstall {
         an: an_of(&rt, 1),
         key: LONG_KEY,
-        start: 1,
+        start: 0x0102_0304,
         confidential: true,
-        offset: 0,
+        offset: 30,
     };
-    is_not_kept(&rt, transmit);
+    is_kept_as(
+        &rt,
+        transmit,
+        b"MREC\x14\x010123456789abcdefghijklmnopqrstuv\x01\x02\x03\x04\x01\x1e",
+    );
     let receive = Command::RxInstall {
         sci: SCI,
         an: an_of(&rt, 2),
         key: LONG_KEY,
         start: 1,
+        offset: 50,
+    };
+    is_kept_as(
+        &rt,
+        receive,
+        b"MREC\x15peer-A\x00\x07\x020123456789abcdefghijklmnopqrstuv\x00\x00\x00\x01\x32",
+    );
+    let no_start = Command::TxInstall {
+        an: an_of(&rt, 1),
+        key: LONG_KEY,
+        start: 0,
+        confidential: true,
         offset: 0,
     };
-    is_not_kept(&rt, receive);
+    is_not_kept(&rt, no_start);
 }

@@ -34,9 +34,8 @@ pub(super) struct Cut {
     pub(super) known: Known,
 }
 
-/// A blank disk behind a fuse.
-fn fused(rt: &impl Abort, alloc: Global, stop: Stop) -> Fuse<MemDisk> {
-    let disk = blank(rt, alloc);
+/// A disk behind the fuse of a stop.
+pub(super) fn fused(disk: MemDisk, stop: Stop) -> Fuse<MemDisk> {
     match stop.kind {
         Kind::Dead => Fuse::new(disk, stop.passed),
         Kind::Filled => Fuse::once(disk, stop.passed, [0xff; 512]),
@@ -60,7 +59,7 @@ pub(super) fn format_again(rt: &impl Abort, disk: &mut MemDisk) -> Result<(), Jo
 /// Plays the script from a blank disk on, to a stop or to its end: whether there was a stop, and what is left.
 pub(super) fn play_to(rt: &impl Abort, alloc: Global, stop: Stop) -> (bool, Cut) {
     let identity = identity(rt);
-    let mut disk = fused(rt, alloc, stop);
+    let mut disk = fused(blank(rt, alloc), stop);
     let mut known = Known::new(&identity);
     if let Err(fault) = format_fused(&mut disk, &identity) {
         assert!(rt; fault == JournalFault::Disk);

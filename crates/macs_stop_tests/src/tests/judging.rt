@@ -1,12 +1,14 @@
 //! What is found after a power loss, judged by what was known before.
 
 use super::cutting::{Cut, format_again};
+use super::disks::copy;
 use super::known::{Known, Passed};
 use super::life::{protect, receive};
-use super::tearing::pending;
+use super::tearing::{Pending, pending};
 use macs_disk::{Fuse, MemDisk, SectorDisk};
 use macs_endpoint::{Endpoint, OpenRefused};
 use macs_journal::JournalFault;
+use std::alloc::Global;
 use std::process::Abort;
 
 /// How many plain frames go out after an opening.
@@ -49,7 +51,12 @@ fn go_on<D: SectorDisk>(rt: &impl Abort, endpoint: &mut Endpoint<D>, passed: Pas
 
 /// The opening of a disk behind which so many device calls pass: the disk, and whether it was opened.
 fn open_behind(rt: &impl Abort, disk: MemDisk, calls: u64) -> (MemDisk, bool) {
-    match Endpoint::open(Fuse::new(disk, calls)) {
+    open_fused(rt, Fuse::new(disk, calls))
+}
+
+/// The opening of a disk behind a fuse: the disk, and whether it was opened.
+pub(super) fn open_fused(rt: &impl Abort, disk: Fuse<MemDisk>) -> (MemDisk, bool) {
+    match Endpoint::open(disk) {
         Ok(endpoint) => (endpoint.into_disk().into_inner(), true),
         Err(refused) => {
             let OpenRefused { disk, fault } = refused;
@@ -84,6 +91,30 @@ pub(super) fn judge_stopped_openings(rt: &impl Abort, disk: MemDisk, known: &Kno
         let (left, is_open) = open_behind(rt, left, calls);
         assert!(rt; !is_open);
         disk = open_whole(rt, left, known);
+    }
+    panic!(rt; "an opening without an end")
+}
+
+/// The same, each time over a copy of the disk, since an opening that is whole may begin the journal anew. Where the
+/// call that stops is the last sync of that, the new journal is found already, and the second opening is whole.
+pub(super) fn judge_stopped_migrations(
+    rt: &impl Abort,
+    alloc: Global,
+    disk: MemDisk,
+    known: &Known,
+) -> u64 {
+    let mut disk = disk;
+    let mut stops = 0_u64;
+    for calls in 0..MOST_CALLS {
+        let tried = copy(rt, alloc, &mut disk, &Pending::new());
+        let (left, is_open) = open_behind(rt, tried, calls);
+        if is_open {
+            judge(rt, left, known);
+            return stops;
+        }
+        let (left, is_open) = open_behind(rt, left, calls);
+        stops = stops.saturating_add(if is_open { 1 } else { 2 });
+        judge(rt, open_whole(rt, left, known), known);
     }
     panic!(rt; "an opening without an end")
 }

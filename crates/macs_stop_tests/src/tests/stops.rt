@@ -2,8 +2,12 @@
 
 use super::cutting::{Cut, Kind, Stop, play_to};
 use super::disks::copy;
-use super::judging::{judge, judge_formatted, judge_opened, judge_stopped_openings};
+use super::judging::{
+    judge, judge_formatted, judge_opened, judge_stopped_migrations, judge_stopped_openings,
+};
+use super::known::Known;
 use super::tearing::{pending, tear, ways};
+use macs_disk::MemDisk;
 use std::alloc::Global;
 use std::process::Abort;
 
@@ -72,33 +76,54 @@ fn stop_at(rt: &impl Abort, alloc: Global, stop: Stop, behind: Behind, totals: &
     assert!(rt; is_cut);
     totals.stops = totals.stops.saturating_add(1);
     match behind {
-        Behind::Loses => lose_in_each_way(rt, alloc, cut, false, totals),
-        Behind::StopsOpenings => lose_in_each_way(rt, alloc, cut, true, totals),
+        Behind::Loses => lose_cut(rt, alloc, cut, After::Opens, totals),
+        Behind::StopsOpenings => lose_cut(rt, alloc, cut, After::StopsOpenings, totals),
         Behind::Opens => judge_opened(rt, cut),
         Behind::Formats => judge_formatted(rt, cut),
     }
 }
 
+/// What is done behind a power loss.
+#[derive(Clone, Copy)]
+pub(super) enum After {
+    /// The disk is opened.
+    Opens,
+    /// Openings are stopped at each of their device calls, twice in a row.
+    StopsOpenings,
+    /// The same, of a disk whose opening may begin its journal anew.
+    StopsMigrations,
+}
+
+/// The power goes behind a life that was cut short.
+fn lose_cut(rt: &impl Abort, alloc: Global, cut: Cut, after: After, totals: &mut Totals) {
+    let Cut { disk, known } = cut;
+    lose_in_each_way(rt, alloc, disk, &known, after, totals);
+}
+
 /// The power goes in each of the ways, each on a copy of the disk.
-fn lose_in_each_way(
+pub(super) fn lose_in_each_way(
     rt: &impl Abort,
     alloc: Global,
-    cut: Cut,
-    stops_openings: bool,
+    disk: MemDisk,
+    known: &Known,
+    after: After,
     totals: &mut Totals,
 ) {
-    let Cut { mut disk, known } = cut;
+    let mut disk = disk;
     let torn = pending(rt, &disk);
     for way in 0..ways(torn.len()) {
         let mut disk = copy(rt, alloc, &mut disk, &torn);
         tear(rt, &mut disk, &torn, way);
         disk.crash();
         totals.losses = totals.losses.saturating_add(1);
-        if stops_openings {
-            let openings = judge_stopped_openings(rt, disk, &known);
-            totals.openings = totals.openings.saturating_add(openings);
-        } else {
-            judge(rt, disk, &known);
-        }
+        let openings = match after {
+            After::Opens => {
+                judge(rt, disk, known);
+                0
+            }
+            After::StopsOpenings => judge_stopped_openings(rt, disk, known),
+            After::StopsMigrations => judge_stopped_migrations(rt, alloc, disk, known),
+        };
+        totals.openings = totals.openings.saturating_add(openings);
     }
 }

@@ -102,16 +102,15 @@ offset = 0
 
 [[command]]
 do = 'tx-install'
-an = 0
+an = 1
 key = '000102030405060708090a0b0c0d0e0f'
 start = 1
 confidential = true
 offset = 0
 ";
 
-const LONG_LINES: &str = "1 refused LongKey\n2 ok\n3 refused LongKey\n4 ok\n";
+const LONG_LINES: &str = "1 ok\n2 ok\n3 ok\n4 ok\n";
 
-/// Only the key of 128 bits is spent.
 const LONG_SHOWN: &str = "sci 12153524c0895e81
 blocks tx 4 rx 4
 validate strict
@@ -119,11 +118,13 @@ replay on window 0
 sci-mode explicit
 encoding none
 tx 0 confidential offset 0 next 5
+tx 1 confidential offset 0 next 5
 channel ffffffffffff0001
-spent tx 1 rx 0
+rx ffffffffffff0001 3 offset 0 next 5 lowest 5
+spent tx 2 rx 1
 ";
 
-const LONG_REFUSED: &[Step] = &[
+const LONG_APPLIED: &[Step] = &[
     Run(
         &["format", "story-long/disk", "12153524C0895E81", "4", "4"],
         FORMATTED,
@@ -131,14 +132,14 @@ const LONG_REFUSED: &[Step] = &[
     Text("story-long/keys.toml", LONG_KEYS),
     Run(
         &["apply", "story-long/disk", "story-long/keys.toml"],
-        Outcome::Refused(LONG_LINES),
+        Outcome::Done(LONG_LINES),
     ),
     Run(&["show", "story-long/disk"], Outcome::Done(LONG_SHOWN)),
 ];
 
 #[test]
-fn long_keys_are_refused(rt: HostRuntime) -> Result<(), Fail> {
-    play(&rt, rt.alloc(), "story-long", LONG_REFUSED)
+fn long_keys_are_applied(rt: HostRuntime) -> Result<(), Fail> {
+    play(&rt, rt.alloc(), "story-long", LONG_APPLIED)
 }
 
 /// Both sides, with each setting changed.

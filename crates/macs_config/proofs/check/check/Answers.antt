@@ -1,14 +1,13 @@
 use Rattle.std.proofs.Common.{◌∙◌, Option, Result, ap}
-use Rattle.macs_config.specs.Apply.{answer_or_refusal}
+use Rattle.macs_config.specs.Apply.{Reason, answer_or_refusal}
 use Rattle.macs_config.specs.Value.{config_in}
 use Rattle.macs_config.specs.declared.command.Command.{Command}
 use Rattle.macs_config.specs.declared.command.Command.TheVariants.{SetSciMode, TxUse, TxRemove, RxDrop, RxRemove}
-use Rattle.macs_config.specs.declared.refusal.Refusal.{Refusal}
 use Rattle.macs_config.proofs.check.check.Goals as goal
 
 -- what is answered where no key is spent
-abbrev keyless : Command → Option Refusal → Result Command Refusal
-keyless command refusal = answer_or_refusal refusal command
+abbrev keyless : Command → Option Reason → Result Command Reason
+keyless command reason = answer_or_refusal reason command
 
 pub returns-in-SetSciMode : goal.returns-in-SetSciMode
 returns-in-SetSciMode c = rw c.in-SetSciMode.is (c.unless_refused.ensures ∙ ap (keyless (SetSciMode c.in-SetSciMode.mode)) (c.sci_mode_refusal.ensures (config_in c.args.contents.now)))

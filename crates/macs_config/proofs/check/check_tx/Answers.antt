@@ -1,24 +1,24 @@
-use Rattle.std.proofs.Common.{◌≡◌, ◌∙◌, ◌<◌, true, not, Ok, length, nat_le, sym, ap, arith, rules}
+use Rattle.std.proofs.Common.{◌≡◌, ◌∙◌, ◌<◌, true, Ok, length, nat_le, sym, ap, arith, rules}
 use Rattle.macs_aes.specs.Keys.{key_of_octets, octets_of_key}
 use Rattle.macs_fields.specs.Fields.{octets_of}
 use Rattle.macs_config.specs.Association.{is_confidential, offset_of}
-use Rattle.macs_config.specs.Config.{is_spent, max_spent, takes_key, this_edition, tx_fingerprint}
+use Rattle.macs_config.specs.Config.{is_spent, max_spent, tx_fingerprint}
 use Rattle.macs_config.specs.Judged.{octets-back}
 use Rattle.macs_config.specs.Value.{config_in}
-use Rattle.macs_config.proofs.Judging.{a-start, key_refused, right-protection, slot-is, tx-judged, tx-no-key, tx-no-slot, tx-passes}
+use Rattle.macs_config.proofs.Judging.{a-start, key_refused, right-protection, slot-is, tx-judged, tx-no-key, tx-no-slot, tx-passes, tx-short}
 use Rattle.macs_config.proofs.check.check_tx.Goals as goal
 use Rattle.macs_config.proofs.check.check_tx.Goals.{After-key_refusal}
 
 -- what its key is refused as
 key_is : (c : After-key_refusal) → c.key_refusal.result
     ≡ key_refused (is_spent (config_in c.args.contents.now).spent_tx (tx_fingerprint (octets_of_key (key_of_octets c.args.sa.key))))
-    (nat_le max_spent (length (config_in c.args.contents.now).spent_tx)) (not (takes_key this_edition (octets_of_key (key_of_octets c.args.sa.key))))
+    (nat_le max_spent (length (config_in c.args.contents.now).spent_tx))
 key_is c =
     let octets = c.as_slice-octets.ensures.octets ∙ sym (octets-back c.args.sa.key) in
     let fingerprint = c.tx_fingerprint-fingerprint.ensures ∙ ap tx_fingerprint octets in
     c.key_refusal.ensures
     ∙ (λ i. key_refused (is_spent (config_in c.args.contents.now).spent_tx (fingerprint i))
-    (nat_le max_spent (length (config_in c.args.contents.now).spent_tx)) (not (takes_key this_edition (octets i))))
+    (nat_le max_spent (length (config_in c.args.contents.now).spent_tx)))
 
 pub returns-then-is_some : goal.returns-then-is_some
 returns-then-is_some c identity =
@@ -38,9 +38,8 @@ returns-in-Some c identity =
 
 pub of-requires : goal.of-requires
 of-requires c =
-    tx-judged c.args.an c.args.sa c.args.start c.tx_fingerprint-fingerprint.result _ _ (rw c.get-number.ensures.value at c.get-number.ensures.above)
+    tx-judged c.args.an c.args.sa c.args.start c.tx_fingerprint-fingerprint.result (rw c.get-number.ensures.value at c.get-number.ensures.above)
     (c.tx_fingerprint-fingerprint.ensures ∙ ap tx_fingerprint c.as_slice-octets.ensures.octets)
-    (sym c.in_default.is ∙ key_is (goal.at.of-requires c).After-key_refusal)
 
 pub returns : goal.returns
 returns c identity =
@@ -49,4 +48,5 @@ returns c identity =
     (octets_of (offset_of c.args.sa.protection))
     (a-start c.args.start (rw c.get-number.ensures.value at c.get-number.ensures.above)) (right-protection c.args.sa.protection)
     (search rules)
+    (tx-short c.args.an c.args.sa c.args.start c.as_slice-octets.ensures.size)
     (sym c.in_default.is ∙ key_is (goal.at.returns c).After-key_refusal)

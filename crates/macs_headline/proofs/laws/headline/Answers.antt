@@ -1,6 +1,7 @@
 use Rattle.macs_headline.proofs.AlikeEditions.{editions-alike}
 use Rattle.macs_headline.proofs.Answered.{answers-are-held, delivered-below, given-once, moments-are-histories, never-ok-again, written-below, written-once}
 use Rattle.macs_headline.proofs.Begun.{cuts-change-none, in-hand-was-begun}
+use Rattle.macs_headline.proofs.Cases.{cases-are}
 use Rattle.macs_headline.proofs.Changing.{commands-change, is-first-configuration, prints-are}
 use Rattle.macs_headline.proofs.Commands.{commands-kept}
 use Rattle.macs_headline.proofs.Configurations.{configuration-is}
@@ -18,17 +19,19 @@ use Rattle.macs_headline.proofs.Moving.{frames-change-few, none-appear, numbers-
 use Rattle.macs_headline.proofs.Naming.{channels-are-named, late-are-discarded}
 use Rattle.macs_headline.proofs.Numbers.{begin-as-asked, given-apart, given-below, ok-apart, skips-few, skips-few-received, used-below, used-once, used-once-at-end, windows-are-kept}
 use Rattle.macs_headline.proofs.Older.{editions-rise}
-use Rattle.macs_headline.proofs.Openings.{nothing-changes, refused-for-disk-or-blank, refused-for-disk-or-spent}
+use Rattle.macs_headline.proofs.Openings.{nothing-changes, refused-for-disk-or-blank, refused-for-disk-or-spent, spent-are-last}
 use Rattle.macs_headline.proofs.Ranges.{frames-are-standard, of-its-edition}
+use Rattle.macs_headline.proofs.ReadOn.{editions-read}
 use Rattle.macs_headline.proofs.Reasons.{reasons-are-named}
 use Rattle.macs_headline.proofs.Received.{held-are-ahead, seen-are-verified, unverified-are-settled}
 use Rattle.macs_headline.proofs.Refused.{limits-are, refusals-are-exact}
 use Rattle.macs_headline.proofs.Steps.{replies-are-of-calls, steps-are-one}
-use Rattle.macs_headline.proofs.StepsTaken.{steps-are-taken, timely-are-delivered}
+use Rattle.macs_headline.proofs.StepsTaken.{steps-are-taken, these-are-timely, timely-are-delivered}
 use Rattle.macs_headline.proofs.Stopping.{stopped-stays}
 use Rattle.macs_headline.proofs.Tickets.{tickets-kept}
 use Rattle.macs_headline.proofs.TakenByEditions.{editions-take}
 use Rattle.macs_headline.proofs.TxFaults.{faults-are-named}
+use Rattle.macs_headline.proofs.Verdicts.{verdicts-are-named}
 use Rattle.macs_headline.proofs.laws.headline.Goals as goal
 
 pub returns-clause-nothing_forgotten : goal.returns-clause-nothing_forgotten
@@ -225,3 +228,18 @@ returns-clause-restarts_fit c = restarts-fit
 
 pub returns-clause-reasons_are_named : goal.returns-clause-reasons_are_named
 returns-clause-reasons_are_named c = reasons-are-named
+
+pub returns-clause-spent_are_last : goal.returns-clause-spent_are_last
+returns-clause-spent_are_last c = spent-are-last
+
+pub returns-clause-as_timely : goal.returns-clause-as_timely
+returns-clause-as_timely c = these-are-timely
+
+pub returns-clause-verdicts_are_named : goal.returns-clause-verdicts_are_named
+returns-clause-verdicts_are_named c = verdicts-are-named
+
+pub returns-clause-editions_read : goal.returns-clause-editions_read
+returns-clause-editions_read c = editions-read
+
+pub returns-clause-cases : goal.returns-clause-cases
+returns-clause-cases c = cases-are

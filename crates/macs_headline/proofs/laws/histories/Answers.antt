@@ -1,3 +1,4 @@
+use Rattle.macs_headline.proofs.BegunAnew.{openings-begin-anew}
 use Rattle.macs_headline.proofs.Chains.{calls-are-deeds, chains-answer, chains-keep-sizes, chains-tell, deeds-are-histories, lives-are-deeds, new-deeds-are-histories}
 use Rattle.macs_headline.proofs.ExactEnds.{lives-end-exactly}
 use Rattle.macs_headline.proofs.Faults.{faults-are-failures}
@@ -52,6 +53,9 @@ returns-clause-deliveries g c = frames-are-delivered-once g.D.SectorDisk.disk g.
 
 pub returns-clause-refusals : goal.returns-clause-refusals
 returns-clause-refusals g c = refusals-are-failures g.D.SectorDisk.disk g.met.D.SectorDisk.sound
+
+pub returns-clause-begun_anew : goal.returns-clause-begun_anew
+returns-clause-begun_anew g c = openings-begin-anew g.D.SectorDisk.disk g.met.D.SectorDisk.sound
 
 pub returns-clause-deeds : goal.returns-clause-deeds
 returns-clause-deeds g c = calls-are-deeds g.D.SectorDisk.disk

@@ -2,4 +2,4 @@ use Rattle.macs_headline.proofs.ExampleMigration.{is-worked-migration}
 use Rattle.macs_headline.proofs.laws.worked_migration.Goals as goal
 
 pub returns : goal.returns
-returns c = is-worked-migration
+returns c = is-worked-migration c.peer_frame_in_range.ensures

@@ -1,7 +1,7 @@
 use Rattle.std.proofs.Common.{◌∙◌, ℕ, Some, None, refl, ap}
 use Rattle.macs_config.proofs.OffsetChoice.{is_offset_at}
 use Rattle.macs_record.specs.declared.record.Record.TheVariants.{RxInstall}
-use Rattle.macs_record.proofs.Commands.{not_taken, rx_no_key, rx_no_offset, rx_no_start, rx_record, start_more, start_zero, taken}
+use Rattle.macs_record.proofs.Commands.{rx_no_offset, rx_no_start, rx_record, start_more, start_zero}
 use Rattle.macs_record.proofs.record.rx_install.Goals as goal
 
 pub returns-in_err-offset : goal.returns-in_err-offset
@@ -13,17 +13,9 @@ returns-in_err-start c =
     c.from_residual-in_err-start.ensures
     ∙ rx_no_start c.args.sci c.args.an c.args.key c.args.start c.args.offset (start_zero c.args.start (λ more. let there = c.in_err-start.ensures.within.1 more in cc))
 
-pub returns-in_err-key : goal.returns-in_err-key
-returns-in_err-key c =
-    c.from_residual-in_err-key.ensures
-    ∙ rx_no_key c.args.sci c.args.an c.args.key c.args.start c.args.offset c.in_ok-offset.offset
-    (is_offset_at (Some c.in_ok-offset.offset) c.args.offset c.in_ok-offset.ensures) (start_more c.args.start (c.in_ok-start.ensures.within.0 refl))
-    (not_taken _ _ c.in_err-key.ensures)
-
 pub returns : goal.returns
 returns c =
-    let key = taken _ _ _ c.in_ok-key.ensures in
-    ap (λ (n : ℕ). Some (RxInstall c.args.sci c.args.an (record { key = c.in_ok-key.key; offset = c.in_ok-offset.offset }) n)) c.in_ok-start.ensures.value
+    ap (λ (n : ℕ). Some (RxInstall c.args.sci c.args.an (record { key = c.of-key.result; offset = c.in_ok-offset.offset }) n)) c.in_ok-start.ensures.value
     ∙ rx_record c.args.sci c.args.an c.args.key c.args.start c.args.offset c.in_ok-offset.offset
     (is_offset_at (Some c.in_ok-offset.offset) c.args.offset c.in_ok-offset.ensures) (start_more c.args.start (c.in_ok-start.ensures.within.0 refl))
-    c.in_ok-key.key key.0 key.1
+    c.of-key.result c.of-key.ensures

@@ -1,7 +1,7 @@
 use Rattle.std.proofs.Common.{◌∙◌, ℕ, Some, None, refl, ap}
 use Rattle.macs_config.proofs.OffsetChoice.{is_offset_at}
 use Rattle.macs_record.specs.declared.record.Record.TheVariants.{TxInstall}
-use Rattle.macs_record.proofs.Commands.{not_taken, start_more, start_zero, taken, tx_no_key, tx_no_offset, tx_no_protection, tx_no_start, tx_record}
+use Rattle.macs_record.proofs.Commands.{start_more, start_zero, tx_no_offset, tx_no_protection, tx_no_start, tx_record}
 use Rattle.macs_record.proofs.record.tx_install.Goals as goal
 
 pub returns-in_err-offset : goal.returns-in_err-offset
@@ -19,17 +19,9 @@ returns-in_err-start c =
     c.from_residual-in_err-start.ensures
     ∙ tx_no_start c.args.an c.args.key c.args.start c.args.confidential c.args.offset (start_zero c.args.start (λ more. let there = c.in_err-start.ensures.within.1 more in cc))
 
-pub returns-in_err-key : goal.returns-in_err-key
-returns-in_err-key c =
-    c.from_residual-in_err-key.ensures
-    ∙ tx_no_key c.args.an c.args.key c.args.start c.args.confidential c.args.offset c.in_ok-offset.offset
-    (is_offset_at (Some c.in_ok-offset.offset) c.args.offset c.in_ok-offset.ensures) ((c.in_ok-offset.ensures c.in_ok-offset.offset).0 refl) c.in_ok-protection.protection
-    c.in_ok-protection.ensures (start_more c.args.start (c.in_ok-start.ensures.within.0 refl)) (not_taken _ _ c.in_err-key.ensures)
-
 pub returns : goal.returns
 returns c =
-    let key = taken _ _ _ c.in_ok-key.ensures in
-    ap (λ (n : ℕ). Some (TxInstall c.args.an (record { key = c.in_ok-key.key; protection = c.in_ok-protection.protection }) n)) c.in_ok-start.ensures.value
+    ap (λ (n : ℕ). Some (TxInstall c.args.an (record { key = c.of-key.result; protection = c.in_ok-protection.protection }) n)) c.in_ok-start.ensures.value
     ∙ tx_record c.args.an c.args.key c.args.start c.args.confidential c.args.offset c.in_ok-offset.offset
     (is_offset_at (Some c.in_ok-offset.offset) c.args.offset c.in_ok-offset.ensures) ((c.in_ok-offset.ensures c.in_ok-offset.offset).0 refl) c.in_ok-protection.protection
-    c.in_ok-protection.ensures (start_more c.args.start (c.in_ok-start.ensures.within.0 refl)) c.in_ok-key.key key.0 key.1
+    c.in_ok-protection.ensures (start_more c.args.start (c.in_ok-start.ensures.within.0 refl)) c.of-key.result c.of-key.ensures

@@ -1,16 +1,15 @@
 use Rattle.std.proofs.Common.{◌≡◌, ◌∙◌, Option, ap}
-use Rattle.macs_config.specs.Apply.{refusal_of, answer_or_refusal}
+use Rattle.macs_config.specs.Apply.{Reason, answer_or_refusal, refusal_of, with_reason}
 use Rattle.macs_config.specs.Config.{this_edition}
 use Rattle.macs_config.specs.Value.{ConfigValue, config_of}
-use Rattle.macs_config.specs.declared.refusal.Refusal.{Refusal}
 use Rattle.macs_config.proofs.Refused.{answered_unless, none_unless, refused_unless}
 use Rattle.macs_config.proofs.config.Config.check.Goals as goal
 use Rattle.macs_config.proofs.config.Config.check.Goals.{After-check}
 
-abbrev first : (c : After-check) → Option Refusal
+abbrev first : (c : After-check) → Option Reason
 first c = refusal_of this_edition c.args.self.now.identity (config_of c.args.self.now) c.args.command.now
 
-checked : (c : After-check) → c.check.result ≡ answer_or_refusal (first c) c.args.command.now
+checked : (c : After-check) → with_reason c.check.result ≡ answer_or_refusal (first c) c.args.command.now
 checked c =
     c.check.ensures
     ∙ ap (λ (s : ConfigValue). answer_or_refusal (refusal_of this_edition s.identity (config_of s) c.args.command.now) c.args.command.now) c.self.view_is

@@ -1,5 +1,5 @@
 use Rattle.std.proofs.Common.{◌≡◌, ◌∙◌, [], false, Err, IsOk, sym, ap, subst}
-use Rattle.macs_config.specs.Apply.{IsCommand, apply}
+use Rattle.macs_config.specs.Apply.{IsCommand, Named, apply}
 use Rattle.macs_config.specs.Config.{this_edition}
 use Rattle.macs_config.specs.declared.command.Command.{Command}
 use Rattle.macs_store.specs.Standing.{accept}
@@ -31,9 +31,9 @@ returns-in-Err g c =
     let refusal = c.in-Err.refusal in
     let running : is_stopped old ≡ false =
     ap (λ (e : EndpointValue g.row.D.Denot). is_stopped e) c.self.view_is ∙ sym c.is_stopped.ensures ∙ c.if-is_stopped.false in
-    let refused : apply this_edition (standing_in old.store).identity (standing_in old.store).config c.args.command ≡ Err refusal =
+    let refused : apply this_edition (standing_in old.store).identity (standing_in old.store).config c.args.command ≡ Err (Named refusal) =
     refused_by (standing_in old.store) c.args.command (apply this_edition (standing_in old.store).identity (standing_in old.store).config c.args.command)
-    refusal ((c.check.ensures.refused refusal).0 c.in-Err.is) in
+    (Named refusal) ((c.check.ensures.refused refusal).0 c.in-Err.is) in
     subst (λ (x : EndpointValue g.row.D.Denot). KeepsCommand d x c.args.command (Err (Refused refusal)) (record old { turn = Reservation })) c.self.view_is
     (refused-command d old c.args.command c.command_in_range.ensures refusal running (c.is_empty.ensures.0 c.if-not-is_empty.false) refused)
 

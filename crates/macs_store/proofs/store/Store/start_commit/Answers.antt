@@ -1,4 +1,5 @@
 use Rattle.std.proofs.Common.{◌≡◌, ◌∙◌, Err, IsOk, refl, sym, subst}
+use Rattle.macs_config.specs.Apply.{Named}
 use Rattle.macs_config.specs.declared.command.Command.{Command}
 use Rattle.macs_store.specs.Standing.{accept}
 use Rattle.macs_store.specs.Stepping.{StartsCommit}
@@ -25,5 +26,5 @@ returns-in-Ok g c =
 pub returns-in-Err : goal.returns-in-Err
 returns-in-Err g c =
     commit-refused g.D.SectorDisk.disk c.args.self.now c.args.command.now c.in-Err.refusal (sym c.is_stopped.ensures ∙ c.if-is_stopped.false)
-    (subst (λ (s : StoreValue g.row.D.Denot). accept (standing_in s) c.args.command.now ≡ Err c.in-Err.refusal) c.self.view_is
+    (subst (λ (s : StoreValue g.row.D.Denot). accept (standing_in s) c.args.command.now ≡ Err (Named c.in-Err.refusal)) c.self.view_is
     ((c.in-Err.ensures.refused c.in-Err.refusal).0 refl))

@@ -1,0 +1,51 @@
+-- The headline on the words of its own clauses that are lists of cases: none is left out of those that a clause asks for, and none is among those it leaves open.
+use Rattle.std.specs.Prelude.{◌≡◌, ◌≢◌, ◌⊎◌, ℕ, List, Contains, Result, Ok, Err}
+use Rattle.macs_config.specs.declared.command.Command.{Command}
+use Rattle.macs_config.specs.declared.refusal.Refusal.TheVariants.{ChannelsFull}
+use Rattle.macs_endpoint.specs.State.{Advanced, AdvancedLong, Advances, Commands, Delivery, Logs, Protected, Protects, Ran, Receives, RefusedLong, Refilled, Refills, Reply, State, Submits, Submitted}
+use Rattle.macs_endpoint.specs.declared.fault.CommandFault.{CommandFault}
+use Rattle.macs_endpoint.specs.declared.fault.CommandFault.TheVariants as ran
+use Rattle.macs_endpoint.specs.declared.fault.ProtectFault.{ProtectFault}
+use Rattle.macs_endpoint.specs.declared.fault.ProtectFault.TheVariants as protect
+use Rattle.macs_endpoint.specs.declared.fault.RefillFault.{RefillFault}
+use Rattle.macs_endpoint.specs.declared.fault.RefillFault.TheVariants as refill
+use Rattle.macs_endpoint.specs.declared.fault.StepFault.{StepFault}
+use Rattle.macs_endpoint.specs.declared.fault.StepFault.TheVariants as step
+use Rattle.macs_endpoint.specs.declared.fault.SubmitFault.{SubmitFault}
+use Rattle.macs_endpoint.specs.declared.fault.SubmitFault.TheVariants as submit
+use Rattle.macs_endpoint.specs.declared.progress.Step.{Step as Progress}
+use Rattle.macs_endpoint.specs.declared.progress.Step.TheVariants.{Done, Worked}
+use Rattle.macs_headline.specs.Binding.{TellsSpent}
+use Rattle.macs_headline.specs.Editions.{TellsEdition}
+use Rattle.macs_headline.specs.Moments.{WasGiven, WasUsed}
+use Rattle.macs_headline.specs.Moving.{IsFrameCall, state_but_numbers}
+use Rattle.macs_headline.specs.Steps.{IsToldWhole, LeavesOpen, state_but_hand}
+
+-- an answer that only an edition gives which takes less: of a command, or of one that waited
+abbrev pub IsOfSmaller : Reply → Type 0
+IsOfSmaller reply = (reply ≡ Ran (Err (ran.Refused ChannelsFull))) ⊎ ((reply ≡ RefusedLong)
+    ⊎ ((ticket : ℕ) × ((reply ≡ Advanced (Ok (Done ticket (Err (ran.Refused ChannelsFull))))) ⊎ (reply ≡ AdvancedLong ticket))))
+
+-- A plain frame and a received one are handed in by frame calls. Only `Worked` and `Disk` of a step leave open what is in hand; a larger edition may answer
+-- otherwise only where ChannelsFull or LongKey was; and GenerationsSpent is told of a command, a refill, a step, and a command that waited. What `IsExact` says of
+-- each answer is all of it, but of Ok, of `Stopped`, and of received frames. Each entry of the two lists was used, or given. Two states that are one but for what
+-- is in hand, or but for numbers and logs, differ in nothing else.
+pub record CasesAre : Type 0 where
+  pub sent : (plain : List ℕ) → IsFrameCall (Protects plain)
+  pub received : (frame : List ℕ) → IsFrameCall (Receives frame)
+  pub open_ones : (reply : Reply) → LeavesOpen reply → (reply ≡ Advanced (Ok Worked)) ⊎ (reply ≡ Advanced (Err step.Disk))
+  pub smaller : (reply : Reply) → TellsEdition reply → IsOfSmaller reply
+  pub spent_command : TellsSpent (Ran (Err ran.GenerationsSpent))
+  pub spent_refill : TellsSpent (Refilled (Err refill.GenerationsSpent))
+  pub spent_step : TellsSpent (Advanced (Err step.GenerationsSpent))
+  pub spent_done : (ticket : ℕ) → TellsSpent (Advanced (Ok (Done ticket (Err ran.GenerationsSpent))))
+  pub told_command : (c : Command) (fault : CommandFault) → fault ≢ ran.Stopped → IsToldWhole (Commands c) (Ran (Err fault))
+  pub told_refill : (result : Result (Unit {0}) RefillFault) → result ≢ Err refill.Stopped → IsToldWhole Refills (Refilled result)
+  pub told_submit : (c : Command) (fault : SubmitFault) → fault ≢ submit.Stopped → IsToldWhole (Submits c) (Submitted (Err fault))
+  pub told_step : (result : Result Progress StepFault) → result ≢ Err step.Stopped → ((ticket : ℕ) → result ≢ Ok (Done ticket (Ok tt)))
+      → IsToldWhole Advances (Advanced result)
+  pub told_protect : (plain out : List ℕ) (fault : ProtectFault) → fault ≢ protect.Stopped → IsToldWhole (Protects plain) (Protected (Err fault) out)
+  pub used : (logs : Logs) (key : List ℕ) (pn : ℕ) → Contains logs.used (record { key = key; pn = pn }) → WasUsed logs key pn
+  pub given : (logs : Logs) (d : Delivery) → Contains logs.given d → WasGiven logs d.sci d.key d.pn
+  pub one_but_hand : (a b : State) → state_but_hand a ≡ state_but_hand b → a.in_hand ≡ b.in_hand → a ≡ b
+  pub one_but_numbers : (a b : State) → state_but_numbers a ≡ state_but_numbers b → a.next ≡ b.next → a.numbers ≡ b.numbers → a.logs ≡ b.logs → a ≡ b
