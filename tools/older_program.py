@@ -1,7 +1,7 @@
 #!/usr/bin/env python3
 """Has an older program make disk files of format one, and looks at what this program makes of them.
 
-    python3 tools/older_program.py OLDER PROGRAM [--folder FOLDER] [--files NAME..] [--layouts NAME..]
+    python3 tools/older_program.py OLDER PROGRAM [--folder FOLDER] [--files NAME..] [--layouts NAME..] [--without-kills]
 
 OLDER is a macsecd that writes format one, as that of 2fc7e6a, built beside; PROGRAM is this one's, out/LEVEL/macsecd. It takes strace (Debian's
 package), and a folder for temporary files on a real disk, /tmp where none is named. OLDER makes these files, each in both layouts, packed
@@ -346,6 +346,8 @@ class Bench:
 
 def format_file(bench, older, name, block, sci=OWN):
     disk = bench.at(name)
+    if os.path.exists(disk):
+        os.remove(disk)
     bench.done(older, "format", disk, sci, str(TX_BLOCK), str(RX_BLOCK), "--block", str(block))
     return disk
 
@@ -365,7 +367,6 @@ def make_kinds(bench, older, block):
     bench.keep(older, peer, [tx_install(0, 3, 7, True, 30), {"do": "tx-use", "an": 0}])
     bench.done(older, "protect", peer, bench.at("plain"), bench.at("sent"))
     assert bench.done(older, "validate", disk, bench.at("sent"), bench.at("got")) == "delivered 2 discarded 0\n"
-    os.remove(peer)
     journal = Journal(sectors_of(disk))
     assert journal.area == 1 and journal.head.generation == 2 and journal.kinds() == set(range(1, 18)), journal.kinds()
     return disk
@@ -614,6 +615,7 @@ def main():
     words.add_argument("--folder")
     words.add_argument("--files", nargs="+", choices=FILES, default=list(FILES))
     words.add_argument("--layouts", nargs="+", choices=BLOCKS, default=list(BLOCKS))
+    words.add_argument("--without-kills", action="store_true")
     words = words.parse_args()
     folder = tempfile.mkdtemp(dir=words.folder)
     bench, kills, losses = Bench(folder), 0, 0
@@ -630,12 +632,14 @@ def main():
                 times = file.time()
                 took = ", ".join(f"{what} {took:.1f} ms" for what, took in times.items())
                 print(f"{name}, {layout}: shown as before; show took: {took}", flush=True)
+                if words.without_kills:
+                    continue
                 some, lost, contents, found = file.kill(f"{name}, {layout}")
                 kills, losses = kills + some, losses + lost
                 told = f"{contents} contents; OLDER showed the same after {found[1]} and said bad journal after {found[2]}"
                 print(f"{name}, {layout}: {told}", flush=True)
-                os.remove(file.disk)
-        print(f"{kills} kills, {losses} power losses: each time what was found is what was found before")
+        if not words.without_kills:
+            print(f"{kills} kills, {losses} power losses: each time what was found is what was found before")
     finally:
         shutil.rmtree(folder)
 
