@@ -1,12 +1,13 @@
 #!/usr/bin/env python3
 """Kills the program at each system call on its disk file, leaves what was not synced in each of several ways, and opens it again.
 
-    python3 tools/killed_program.py
+    python3 tools/killed_program.py [FOLDER]
 
-It takes the proved program (`tools/prove`), strace (Debian's package) and a folder for temporary files on a real disk. Four runs of the program are killed: `format`, `apply` of
-four commands, `protect` of a capture of 400 frames of 1,500 octets at blocks of 32, which reserves packet numbers between frames that go out, and `show` of a file of format one,
-which brings it up to date. That file is one of format two with version 1 in its heads, as an older program wrote it. A run is first traced
-whole: which system calls it makes on its disk file, and the octets that it writes. Then it is made again for each of these calls, and killed as that call begins.
+It takes the proved program (`tools/prove`), or with MACSECD_PROGRAM=PATH the one that is there, strace (Debian's package) and a folder for temporary files on a real disk, /tmp
+where none is named. Four runs of the program are killed: `format`, `apply` of four commands, `protect` of a capture of 400 frames of 1,500 octets at blocks of 32, which
+reserves packet numbers between frames that go out, and `show` of a file of format one, which brings it up to date. That file is what the program itself made, with version 1 in
+its head; `tools/older_program.py` has those of an older program. A run is first traced whole: which system calls it makes on its disk file, and the octets that it
+writes. Then it is made again for each of these calls, and killed as that call begins.
 
 A kill alone loses nothing, since the operating system keeps what was written. So the power loss is made by hand: a sector that was written and not synced is left
 with one of six contents: the octets of the last sync, the last write, zeros, ones, an open gate, or the first half of the last write and the octets of the last
@@ -31,7 +32,8 @@ import tempfile
 TOP = os.path.abspath(os.path.join(os.path.dirname(__file__), ".."))
 PROVE = os.path.join(TOP, "tools/prove")
 SECTOR = 512
-OPEN = b"MSECOPEN" + bytes(504)
+MARK = b"MSECOPEN"
+OPEN = MARK + bytes(SECTOR - len(MARK))
 HEAD = b"MSECHEAD"
 CALLS = ["openat", "pread64", "pwrite64", "fsync", "fdatasync", "fadvise64", "ftruncate", "fallocate", "flock", "fcntl", "close"]
 SCI = "0200000000010001"
@@ -62,7 +64,9 @@ window = 7
 
 
 def program():
-    """The proved program's path, which the script that builds it prints after its sum."""
+    """The path of the program that is named; else of the proved one, which the script that builds it prints after its sum."""
+    if "MACSECD_PROGRAM" in os.environ:
+        return os.path.abspath(os.environ["MACSECD_PROGRAM"])
     cpu = os.environ.get("MACSECD_CPU")
     told = subprocess.run([PROVE, *([cpu] if cpu else [])], check=True, stdout=subprocess.PIPE, text=True).stdout
     return os.path.join(TOP, told.split()[-1])
@@ -82,11 +86,12 @@ def octets_in(text):
 
 
 class Sectors:
-    """What a disk file has, by the calls that were made on it: what is durable, and what was written since."""
+    """What a disk file has, by the calls that were made on it: what is durable, and what was written since. A power loss spoils as many octets at a time as a block has."""
 
-    def __init__(self, path):
+    def __init__(self, path, block=SECTOR):
         self.durable = open(path, "rb").read() if os.path.exists(path) else b""
         self.pending = {}
+        self.block = block
 
     def follow(self, line):
         found = re.match(r"(\w+)\((.*)\) += (-?\d+)", line)
@@ -98,24 +103,38 @@ class Sectors:
             octets = octets_in(re.search(r'"(.*)"', inside)[1])[:answer]
             place = int(inside.split(",")[-1], 0)
             assert place % SECTOR == 0 and answer % SECTOR == 0, line
-            for at in range(answer // SECTOR):
-                self.pending[place // SECTOR + at] = octets[at * SECTOR : (at + 1) * SECTOR]
+            for start in range(0, answer, SECTOR):
+                self.write(place + start, octets[start : start + SECTOR])
         elif name in ("fsync", "fdatasync"):
-            size = max([len(self.durable)] + [(at + 1) * SECTOR for at in self.pending])
-            whole = bytearray(self.durable.ljust(size, b"\0"))
-            for at, octets in self.pending.items():
-                whole[at * SECTOR : (at + 1) * SECTOR] = octets
-            self.durable, self.pending = bytes(whole), {}
+            self.durable, self.pending = self.with_blocks(self.pending), {}
+
+    def write(self, place, octets):
+        """The block that has these octets is pending."""
+        at, start = divmod(place, self.block)
+        last = bytearray(self.pending.get(at, self.before(at)))
+        last[start : start + len(octets)] = octets
+        self.pending[at] = bytes(last)
+
+    def before(self, at):
+        """The durable octets of a block."""
+        return self.durable[at * self.block : (at + 1) * self.block].ljust(self.block, b"\0")
+
+    def with_blocks(self, blocks):
+        """The durable octets, with these in the places of some blocks."""
+        size = max([len(self.durable)] + [(at + 1) * self.block for at in blocks])
+        whole = bytearray(self.durable.ljust(size, b"\0"))
+        for at, octets in blocks.items():
+            whole[at * self.block : (at + 1) * self.block] = octets
+        return bytes(whole)
 
     def contents(self, at):
-        """The six contents that may be left in a sector."""
-        before = self.durable[at * SECTOR : (at + 1) * SECTOR].ljust(SECTOR, b"\0")
-        last = self.pending[at]
-        half = SECTOR // 2
-        return [before, last, bytes(SECTOR), b"\xff" * SECTOR, OPEN, last[:half] + before[half:]]
+        """The six contents that may be left in a block. Half of one that has a sector and zeros is half of that sector, so that it is torn too."""
+        block, half = self.block, SECTOR // 2
+        before, last = self.before(at), self.pending[at]
+        return [before, last, bytes(block), b"\xff" * block, OPEN.ljust(block, b"\0"), last[:half] + before[half:]]
 
     def images(self):
-        """What a power loss may leave: for each way the octets of each pending sector."""
+        """What a power loss may leave: for each way the octets of each pending block."""
         places = sorted(self.pending)
         if not places:
             return [{}]
@@ -125,8 +144,8 @@ class Sectors:
         return [dict(zip(places, same)) for same in zip(*each)]
 
 
-def kill_at_each(folder, name, start, words, judge):
-    """A run that begins with the disk file `start`, or none, is killed at each of its calls on the disk file."""
+def kill_at_each(folder, name, start, words, judge, block=SECTOR):
+    """A run that begins with the disk file `start`, or none, is killed at each of its calls on the disk file. How many kills and power losses that were."""
     disk = os.path.join(folder, "disk")
 
     def begin():
@@ -144,18 +163,14 @@ def kill_at_each(folder, name, start, words, judge):
         call = re.match(r"\w+", line)[0]
         counts[call] = counts.get(call, 0) + 1
         begin()
-        sectors = Sectors(disk)
+        sectors = Sectors(disk, block)
         killed, made = traced(disk, words(disk), ["-e", f"inject={call}:signal=KILL:when={counts[call]}"])
         assert killed.returncode == -9 or killed.returncode == 137, (line, killed)
         for each in made:
             sectors.follow(each)
         kills += 1
-        whole = sectors.durable
         for image in sectors.images():
-            size = max([len(whole)] + [(at + 1) * SECTOR for at in image])
-            octets = bytearray(whole.ljust(size, b"\0"))
-            for at, left in image.items():
-                octets[at * SECTOR : (at + 1) * SECTOR] = left
+            octets = sectors.with_blocks(image)
             if octets or os.path.exists(disk):
                 open(disk, "wb").write(octets)
             losses += 1
@@ -266,4 +281,5 @@ def numbers_in(path):
     return numbers
 
 
-main()
+if __name__ == "__main__":
+    main()

@@ -331,7 +331,7 @@ command-file = Key { at: 1, name: Key }
 command-file = Key { at: 1, name: Key }
 | command = [{do = "tx-install", an = 0, key = "000102030405060708090a0b0c0d0e0f101112131415161718191a1b1c1d1e", start = 1, confidential = true, offset = 0}]
 
-# Keys of 256 bits, with digits of either case. Which keys an endpoint takes is said when they are applied.
+# Keys of 256 bits, with digits of either case.
 story keys of 64 digits are read
 command-file = 2
 | [[command]]

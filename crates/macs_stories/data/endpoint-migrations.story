@@ -141,6 +141,65 @@ open
 next 0 = 5
 tx-install 1 $key 1 = refused KeySpent
 
+# How many channels may stand is the program's, whatever the format is.
+setup thirty-two channels
+use old
+put 4 record rx-add 1; put 5 gate
+put 6 record rx-add 2; put 7 gate
+put 8 record rx-add 3; put 9 gate
+put 10 record rx-add 4; put 11 gate
+put 12 record rx-add 5; put 13 gate
+put 14 record rx-add 6; put 15 gate
+put 16 record rx-add 7; put 17 gate
+put 18 record rx-add 8; put 19 gate
+put 20 record rx-add 9; put 21 gate
+put 22 record rx-add a; put 23 gate
+put 24 record rx-add b; put 25 gate
+put 26 record rx-add c; put 27 gate
+put 28 record rx-add d; put 29 gate
+put 30 record rx-add e; put 31 gate
+put 32 record rx-add f; put 33 gate
+put 34 record rx-add 10; put 35 gate
+put 36 record rx-add 11; put 37 gate
+put 38 record rx-add 12; put 39 gate
+put 40 record rx-add 13; put 41 gate
+put 42 record rx-add 14; put 43 gate
+put 44 record rx-add 15; put 45 gate
+put 46 record rx-add 16; put 47 gate
+put 48 record rx-add 17; put 49 gate
+put 50 record rx-add 18; put 51 gate
+put 52 record rx-add 19; put 53 gate
+put 54 record rx-add 1a; put 55 gate
+put 56 record rx-add 1b; put 57 gate
+put 58 record rx-add 1c; put 59 gate
+put 60 record rx-add 1d; put 61 gate
+put 62 record rx-add 1e; put 63 gate
+put 64 record rx-add 1f; put 65 gate
+put 66 record rx-add 20; put 67 gate
+
+story more channels than the older edition had are found in an area of format one
+use thirty-two channels
+open
+rx-add 21 = refused ChannelsFull
+rx-drop 20
+rx-add 21
+close
+open-journal
+version = 2
+snapshot = 33
+close
+
+story the thirty-third channel is refused in an area of either format
+with head=old-head
+with head=head
+use thirty-two channels
+put 0 $head 1 1 12153524c0895e81 4 4
+put 68 record rx-add 21; put 69 gate
+open = BadJournal
+put 69 zeros
+open
+rx-add 21 = refused ChannelsFull
+
 story a journal of format two in the last generation is opened
 use old
 put 0 head 18446744073709551615 1 12153524c0895e81 4 4

@@ -148,8 +148,12 @@ use whole
 write 524 record spent tx cc8cd41cef907c4d216069122c4b89936211361f9050a717a1e37ad1862e952f 630dcd2966c4336691125448bbb25b4ff412a49c732db2c8abc1b8581bd710dd
 write 526 record spent rx 175c5e3d52f3b9e3b39c1b6284e10a682199ed78cd36d6f2ce05e6120b952bc2 acdbdc3b48684c920ea4415ea3dbff25c7b123304ef80d1283894f0855557eb1
 
+# A fingerprint does not say how long its key is: it stands in areas of either format.
 story spent keys of 256 bits are read
+with head=head
+with head=old-head
 use long spent
+write 514 $head 2 6 0200000000010001 4 6
 open-store
 tx-ceiling 2 = 77
 spent-tx 000102030405060708090a0b0c0d0e0f101112131415161718191a1b1c1d1e1f = yes
@@ -157,18 +161,40 @@ spent-tx 000102030405060708090a0b0c0d0e0f = no
 spent-rx 12153524c0895e81 000102030405060708090a0b0c0d0e0f101112131415161718191a1b1c1d1e1f = yes
 spent-rx 0909090909090909 000102030405060708090a0b0c0d0e0f101112131415161718191a1b1c1d1e1f = no
 
-story a snapshot with a key of 256 bits is refused
+story a snapshot with keys of 256 bits is read
+use long spent
+write 518 record tx-association 2 000102030405060708090a0b0c0d0e0f101112131415161718191a1b1c1d1e1f clear 77
+write 522 record rx-association 12153524c0895e81 2 000102030405060708090a0b0c0d0e0f101112131415161718191a1b1c1d1e1f 0 80
+open-store
+tx-association 2 = 000102030405060708090a0b0c0d0e0f101112131415161718191a1b1c1d1e1f clear
+tx-ceiling 2 = 77
+rx-association 12153524c0895e81 2 = 000102030405060708090a0b0c0d0e0f101112131415161718191a1b1c1d1e1f 0
+rx-ceiling 12153524c0895e81 2 = 80
+
+story a snapshot with a key of 256 bits that is not spent is refused
+with at=1 record=tx-association,2,000102030405060708090a0b0c0d0e0f101112131415161718191a1b1c1d1e1f,clear,77
+with at=3 record=rx-association,12153524c0895e81,2,000102030405060708090a0b0c0d0e0f101112131415161718191a1b1c1d1e1f,0,80
+use new
+use whole
+write 516+2*$at record $record
+open-store = BadJournal
+
+story a snapshot with a key of 256 bits is refused in an area of format one
 with at=1 record=tx-association,2,000102030405060708090a0b0c0d0e0f101112131415161718191a1b1c1d1e1f,clear,77
 with at=3 record=rx-association,12153524c0895e81,2,000102030405060708090a0b0c0d0e0f101112131415161718191a1b1c1d1e1f,0,80
 use long spent
 write 516+2*$at record $record
+write 514 old-head 2 6 0200000000010001 4 6
 open-store = BadJournal
 
 # Records that install an association from packet number 1, by their octets: of kinds 9 and 14, and with a key of 256 bits
-# of kinds 20 and 21, which are made of no command.
+# of kinds 20 and 21.
 story records that install go on behind a snapshot
+with head=head
+with head=old-head
 use new
 use whole
+write 514 $head 2 6 0200000000010001 4 6
 write 528 4d5245430900000102030405060708090a0b0c0d0e0f000000010000; write 529 gate
 write 530 4d5245430e12153524c0895e8100000102030405060708090a0b0c0d0e0f0000000100; write 531 gate
 open-store
@@ -177,11 +203,23 @@ tx-ceiling 0 = 5
 rx-association 12153524c0895e81 0 = 000102030405060708090a0b0c0d0e0f 0
 rx-ceiling 12153524c0895e81 0 = 1
 
-story a record that installs a key of 256 bits is refused behind a snapshot
+story records that install keys of 256 bits go on behind a snapshot
+use new
+use whole
+write 528 4d5245431400000102030405060708090a0b0c0d0e0f101112131415161718191a1b1c1d1e1f000000010000; write 529 gate
+write 530 4d5245431512153524c0895e8100000102030405060708090a0b0c0d0e0f101112131415161718191a1b1c1d1e1f0000000100; write 531 gate
+open-store
+tx-association 0 = 000102030405060708090a0b0c0d0e0f101112131415161718191a1b1c1d1e1f clear
+tx-ceiling 0 = 5
+rx-association 12153524c0895e81 0 = 000102030405060708090a0b0c0d0e0f101112131415161718191a1b1c1d1e1f 0
+rx-ceiling 12153524c0895e81 0 = 1
+
+story a record that installs a key of 256 bits is refused behind a snapshot of format one
 with record=4d5245431400000102030405060708090a0b0c0d0e0f101112131415161718191a1b1c1d1e1f000000010000
 with record=4d5245431512153524c0895e8100000102030405060708090a0b0c0d0e0f101112131415161718191a1b1c1d1e1f0000000100
 use new
 use whole
+write 514 old-head 2 6 0200000000010001 4 6
 write 528 $record; write 529 gate
 open-store = BadJournal
 

@@ -13,7 +13,7 @@ mod help_text;
 mod input;
 mod link;
 mod link_files;
-mod old_files;
+mod older_files;
 mod opening;
 mod peers;
 mod relaying;

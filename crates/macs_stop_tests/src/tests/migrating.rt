@@ -1,4 +1,4 @@
-//! A disk of format one: its opening begins the journal anew, in format two, and is stopped at each of its device calls.
+//! Disks of format one: an opening begins the journal anew, in format two, and is stopped at each of its device calls.
 
 use super::SECTORS;
 use super::cutting::{Cut, Kind, Stop, format_again, fused, identity};
@@ -14,7 +14,16 @@ use macs_endpoint::Endpoint;
 use std::alloc::Global;
 use std::process::Abort;
 
-/// How many parts of the script are played before: four commands, and twelve frames each way.
+/// What an older program left.
+#[derive(Clone, Copy)]
+enum Old {
+    /// The first parts of the script: four commands, and twelve frames each way. The second area was never written.
+    Young,
+    /// The whole script: the second area is current, and the first one has 256 open gates.
+    Grown,
+}
+
+/// How many parts of the script the young disk has.
 const PARTS: usize = 5;
 
 /// As many records as an area has slots.
@@ -23,11 +32,14 @@ const AREA: u32 = 256;
 /// Where the body of a head has its version, whose last octet this is.
 const VERSION: usize = 11;
 
-/// What an opening of any format begins with: a sync, the reads of two head gates and a head body, of 255 gates behind
-/// the snapshot, and of the settings, four commands and eight ceilings.
+/// Where the heads of both areas are.
+const HEADS: [u64; 2] = [0, 514];
+
+/// An opening of the young disk, of any format, begins with a sync, the reads of two head gates and a head body, of 255
+/// gates behind the snapshot, and of the settings, four commands and eight ceilings.
 const FINDS: u64 = 1 + 3 + 255 + 13;
 
-/// The journal begins anew: the reads of 257 gates, a sync, the body of the head and of six records, a sync, the head
+/// Its journal begins anew: the reads of 257 gates, a sync, the body of the head and of six records, a sync, the head
 /// gate and a sync.
 const CALLS: u64 = FINDS + 257 + 1 + 7 + 1 + 1 + 1;
 
@@ -35,43 +47,68 @@ const CALLS: u64 = FINDS + 257 + 1 + 7 + 1 + 1 + 1;
 /// of six records.
 const OPENING: u64 = 1 + 4 + 250 + 6;
 
-/// The head of area 0 has version 1: so an older program wrote it.
-fn make_older(rt: &impl Abort, disk: &mut MemDisk) {
-    let mut head = durable(rt, disk, 0);
-    head[VERSION] = 1;
-    assert!(rt; disk.sectors() == SECTORS);
-    assert!(rt; disk.write(0, &head).is_ok());
+/// An opening of the grown disk finds six records of a snapshot, a command and six ceilings.
+const GROWN_FINDS: u64 = OPENING + 7;
+
+/// Of 257 gates each is read, and written closed but for that of the settings, the snapshot of the first area.
+const GROWN_CLOSED: u64 = GROWN_FINDS + 257 + 256;
+
+/// A hundred gates are closed, and another hundred.
+const GROWN_HUNDRED: u64 = GROWN_FINDS + 101 + 100;
+const GROWN_TWO_HUNDRED: u64 = GROWN_HUNDRED + 100 + 100;
+
+/// A sync, the body of the head and of six records, a sync, the head gate and a sync.
+const GROWN_CALLS: u64 = GROWN_CLOSED + 1 + 7 + 1 + 1 + 1;
+
+/// The heads have version 1: so an older program wrote them.
+fn make_older(rt: &impl Abort, disk: &mut MemDisk, old: Old) {
+    let heads = match old {
+        Old::Young => &HEADS[..1],
+        Old::Grown => HEADS.as_slice(),
+    };
+    for at in heads {
+        let mut head = durable(rt, disk, *at);
+        head[VERSION] = 1;
+        assert!(rt; *at < disk.sectors());
+        assert!(rt; disk.write(*at, &head).is_ok());
+    }
     assert!(rt; disk.sync().is_ok());
     disk.crash();
 }
 
-/// What the first parts of the script leave, in format one.
-fn older(rt: &impl Abort, alloc: Global) -> Cut {
+/// An older program's disk, and what was known at its end.
+fn older(rt: &impl Abort, alloc: Global, old: Old) -> Cut {
     let mut disk = blank(rt, alloc);
+    assert!(rt; disk.sectors() == SECTORS);
     assert!(rt; format_again(rt, &mut disk).is_ok());
     let mut known = Known::new(&identity(rt));
     known.is_formatted = true;
     match Endpoint::open(disk) {
         Ok(mut endpoint) => {
-            for part in &SCRIPT[..PARTS] {
+            let parts = match old {
+                Old::Young => &SCRIPT[..PARTS],
+                Old::Grown => SCRIPT.as_slice(),
+            };
+            for part in parts {
                 assert!(rt; take(rt, &mut endpoint, &mut known, *part).is_ok());
             }
             let mut disk = endpoint.into_disk();
-            make_older(rt, &mut disk);
+            make_older(rt, &mut disk, old);
             Cut { disk, known }
         }
         Err(_) => panic!(rt; "not opened"),
     }
 }
 
-/// The opening is stopped at each of these calls, in both ways, each on a copy of the disk; then the power goes.
-fn stop_at_each(rt: &impl Abort, alloc: Global, first: u64, end: u64, after: After) -> Totals {
+/// Its opening is stopped at each of these calls, in both ways, each on a copy of the disk; then the power goes.
+fn stop_at_each(rt: &impl Abort, alloc: Global, old: Old, calls: [u64; 2], after: After) -> Totals {
+    let [first, end] = calls;
     let mut totals = Totals {
         stops: 0,
         losses: 0,
         openings: 0,
     };
-    let Cut { mut disk, known } = older(rt, alloc);
+    let Cut { mut disk, known } = older(rt, alloc, old);
     for passed in first..end {
         for kind in [Kind::Dead, Kind::Filled] {
             let tried = copy(rt, alloc, &mut disk, &Pending::new());
@@ -84,26 +121,59 @@ fn stop_at_each(rt: &impl Abort, alloc: Global, first: u64, end: u64, after: Aft
     totals
 }
 
+/// So many stops and power losses, and no opening behind them is stopped.
+fn expect(rt: &impl Abort, alloc: Global, old: Old, calls: [u64; 2], losses: u64) {
+    let [first, end] = calls;
+    assert!(rt; first < end);
+    assert!(rt; end <= GROWN_CALLS);
+    let totals = Totals {
+        stops: 2 * (end - first),
+        losses,
+        openings: 0,
+    };
+    assert!(rt; stop_at_each(rt, alloc, old, calls, After::Opens) == totals);
+}
+
+/// The opening of an older program's disk has so many device calls.
+fn expect_calls(rt: &impl Abort, alloc: Global, old: Old, calls: u64) {
+    assert!(rt; 0 < calls);
+    let Cut { mut disk, .. } = older(rt, alloc, old);
+    for (passed, opens) in [(calls - 1, false), (calls, true)] {
+        let tried = copy(rt, alloc, &mut disk, &Pending::new());
+        let kind = Kind::Dead;
+        let (_, is_open) = open_fused(rt, fused(tried, Stop { passed, kind }));
+        assert!(rt; is_open == opens);
+    }
+}
+
 #[test]
 fn a_migration_has_so_many_device_calls(rt: HostRuntime) {
-    let Cut { mut disk, .. } = older(&rt, rt.alloc());
-    for (passed, opens) in [(CALLS - 1, false), (CALLS, true)] {
-        let tried = copy(&rt, rt.alloc(), &mut disk, &Pending::new());
-        let kind = Kind::Dead;
-        let (_, is_open) = open_fused(&rt, fused(tried, Stop { passed, kind }));
-        assert!(rt; is_open == opens);
+    expect_calls(&rt, rt.alloc(), Old::Young, CALLS);
+    expect_calls(&rt, rt.alloc(), Old::Grown, GROWN_CALLS);
+}
+
+/// The rest of the script is played on the young disk.
+#[test]
+fn the_script_goes_on_behind_a_migration(rt: HostRuntime) {
+    let Cut { disk, mut known } = older(&rt, rt.alloc(), Old::Young);
+    match Endpoint::open(disk) {
+        Ok(mut endpoint) => {
+            known.catch_up(&rt, &endpoint);
+            for part in &SCRIPT[PARTS..] {
+                assert!(rt; take(&rt, &mut endpoint, &mut known, *part).is_ok());
+            }
+            let mut disk = endpoint.into_disk();
+            disk.crash();
+            judge(&rt, disk, &known);
+        }
+        Err(_) => panic!(rt; "not opened"),
     }
 }
 
 /// Nothing is pending while the disk is read.
 #[test]
 fn what_comes_before_a_migration_is_stopped_at_each_call(rt: HostRuntime) {
-    let totals = Totals {
-        stops: 2 * FINDS,
-        losses: 2 * FINDS,
-        openings: 0,
-    };
-    assert!(rt; stop_at_each(&rt, rt.alloc(), 0, FINDS, After::Opens) == totals);
+    expect(&rt, rt.alloc(), Old::Young, [0, FINDS], 2 * FINDS);
 }
 
 /// The pending sectors are those of any compaction.
@@ -111,12 +181,34 @@ fn what_comes_before_a_migration_is_stopped_at_each_call(rt: HostRuntime) {
 fn a_migration_is_stopped_at_each_call(rt: HostRuntime) {
     let dead = 257 + 1 + 1 + 6 + 36 + 4 * 6 + 6 + 1 + 6;
     let filled = 257 + 1 + 6 + 36 + 5 * 6 + 6 + 6 + 6;
-    let totals = Totals {
-        stops: 2 * (CALLS - FINDS),
-        losses: dead + filled,
-        openings: 0,
-    };
-    assert!(rt; stop_at_each(&rt, rt.alloc(), FINDS, CALLS, After::Opens) == totals);
+    expect(&rt, rt.alloc(), Old::Young, [FINDS, CALLS], dead + filled);
+}
+
+/// At the read and the write of a gate as many sectors are pending as gates were closed before, and one more where a write
+/// filled its own.
+#[test]
+fn the_first_closed_gates_of_a_migration_are_stopped_at_each_call(rt: HostRuntime) {
+    let reads = 2 * (1 + 6 + 6 + 36 + 97 * 6);
+    let dead = 1 + 6 + 36 + 97 * 6;
+    let filled = 6 + 36 + 98 * 6;
+    let calls = [GROWN_FINDS, GROWN_HUNDRED];
+    expect(&rt, rt.alloc(), Old::Grown, calls, reads + dead + filled);
+}
+
+#[test]
+fn further_closed_gates_of_a_migration_are_stopped_at_each_call(rt: HostRuntime) {
+    let calls = [GROWN_HUNDRED, GROWN_TWO_HUNDRED];
+    expect(&rt, rt.alloc(), Old::Grown, calls, 4 * 100 * 6);
+}
+
+/// The last gates, their sync, and what comes behind it as in any compaction.
+#[test]
+fn the_end_of_such_a_migration_is_stopped_at_each_call(rt: HostRuntime) {
+    let gates = 4 * 56 * 6 + 2 * 6;
+    let dead = 1 + 6 + 36 + 4 * 6 + 6 + 1 + 6;
+    let filled = 6 + 36 + 5 * 6 + 6 + 6 + 6;
+    let calls = [GROWN_TWO_HUNDRED, GROWN_CALLS];
+    expect(&rt, rt.alloc(), Old::Grown, calls, gates + dead + filled);
 }
 
 /// The journal of format one is found, and begins anew again, unless the new head gate was left open: in one of six
@@ -130,7 +222,22 @@ fn openings_behind_a_cut_migration_are_stopped_at_each_call(rt: HostRuntime) {
         losses: before + after,
         openings: before * (2 * CALLS - 1) + after * 2 * OPENING,
     };
-    let stopped = stop_at_each(&rt, rt.alloc(), CALLS - 2, CALLS, After::StopsMigrations);
+    let calls = [CALLS - 2, CALLS];
+    let stopped = stop_at_each(&rt, rt.alloc(), Old::Young, calls, After::StopsMigrations);
+    assert!(rt; stopped == totals);
+}
+
+/// The last body of a record, and the sync behind it.
+#[test]
+fn openings_behind_a_cut_body_of_a_migration_are_stopped_at_each_call(rt: HostRuntime) {
+    let losses = 4 * 6;
+    let totals = Totals {
+        stops: 4,
+        losses,
+        openings: losses * (2 * CALLS - 1),
+    };
+    let calls = [CALLS - 4, CALLS - 2];
+    let stopped = stop_at_each(&rt, rt.alloc(), Old::Young, calls, After::StopsMigrations);
     assert!(rt; stopped == totals);
 }
 

@@ -7,8 +7,8 @@ use macs_disk::{MemDisk, SectorDisk};
 use macs_record::{SECTOR, open_gate};
 use std::process::Abort;
 
-/// The most sectors that are pending at once in the script.
-const MOST_PENDING: usize = 16;
+/// The most sectors that are pending at once: the gates of an area.
+const MOST_PENDING: usize = 257;
 
 /// The sectors that are pending.
 pub(super) type Pending = ArrayVec<u64, MOST_PENDING>;
