@@ -1,5 +1,5 @@
 -- A disk that the first edition of the program formatted, and what an opening makes of it.
-use Rattle.std.proofs.Common.{◌≡◌, ◌≤◌, ◌<◌, ◌^◌, ◌-◌, ◌==◌, ◌++◌, ◌∙◌, inl, inr, ℕ, Bool, true, false, cond, List, replicate, [], ◌∷◌, length, take, bytes_eq, Option, Some, None, Ok, Err, refl, sym, ap, subst, arith}
+use Rattle.std.proofs.Common.{◌≡◌, ◌≢◌, ◌≤◌, ◌<◌, ◌^◌, ◌+◌, ◌-◌, ◌==◌, ◌++◌, ◌∙◌, inl, inr, ℕ, Bool, true, false, cond, List, replicate, [], ◌∷◌, length, take, bytes_eq, Option, Some, None, Ok, Err, refl, sym, ap, subst, arith}
 use Rattle.std.specs.Prelude.{All}
 use Rattle.std.specs.List.{AllByRecursion}
 use Rattle.std.specs.Option.{option_map}
@@ -309,7 +309,7 @@ used_this = refl
 -- a command that is accepted
 next_config : (old new : Config) (command : Command) → apply this_edition example_identity old command ≡ Ok new → IsConfig this_edition example_identity old
     → IsConfig this_edition example_identity new
-next_config old new command done is = apply-keeps this_edition example_identity old new command done is
+next_config old new command done is = apply-keeps this_edition example_identity old new command is done
 
 used_is_config : IsConfig this_edition example_identity used_config
 used_is_config =

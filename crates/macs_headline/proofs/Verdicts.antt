@@ -181,4 +181,6 @@ verdicts-are-named = record {
   first = is_first;
   none = has_none;
   sci = λ frame. named_in (has_sci (control frame)) (end_station (control frame)) frame;
+  an = λ frame. refl;
+  pn = λ frame. refl;
 }

@@ -1,5 +1,5 @@
 -- The headline on the verdict on a received frame: what holds of a frame for each of them, and which comes first.
-use Rattle.std.specs.Prelude.{◌≡◌, ◌≢◌, ◌<◌, ◌≤◌, ◌⊎◌, ◌+◌, ◌++◌, ℕ, true, false, List, [], ◌∷◌, length, slice_index, slice_range, if◌then◌else◌, Option, Some, None, Ok}
+use Rattle.std.specs.Prelude.{◌≡◌, ◌≢◌, ◌<◌, ◌≤◌, ◌⊎◌, ◌+◌, ◌%◌, ◌++◌, ℕ, true, false, List, [], ◌∷◌, length, slice_index, slice_range, if◌then◌else◌, Option, Some, None, Ok}
 use Rattle.std.specs.Int.{w32, from_be_bytes}
 use Rattle.macs_fields.specs.Fields.{octets_of}
 use Rattle.macs_fields.specs.First.{IsFirst, NoneHolds}
@@ -79,10 +79,12 @@ reason_told (Delivered Invalid) = Some NotValid
 reason_told verdict = None
 
 -- A frame has the reason that its verdict tells, and none that comes before it; one that is delivered as verified, or held back, has none. A SecTAG names the SCI
--- that it spells out, or that of its source address.
+-- that it spells out, or that of its source address; its AN are the lowest two bits of octet 14, and its PN is in octets 16 to 19 (9.6 and 9.8).
 pub record VerdictsAreNamed : Type 0 where
   pub first : (s new : State) (frame out : List ℕ) (verdict : Verdict) (reason : Reason) → Step s (Receives frame) (Received (Ok verdict) out) new
       → reason_told verdict ≡ Some reason → IsFirst (IsCauseOf s frame) causes_in_order reason
   pub none : (s new : State) (frame out : List ℕ) (verdict : Verdict) → Step s (Receives frame) (Received (Ok verdict) out) new
       → reason_told verdict ≡ None → NoneHolds (IsCauseOf s frame) causes_in_order
   pub sci : (frame : List ℕ) → named_sci frame (name_of frame) ≡ sci_in_tag frame
+  pub an : (frame : List ℕ) → (tag_of frame).an ≡ slice_index frame 14 % 4
+  pub pn : (frame : List ℕ) → (tag_of frame).pn ≡ from_be_bytes w32 (slice_range frame 16 20)

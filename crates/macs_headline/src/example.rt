@@ -22,7 +22,7 @@ pub(crate) fn peer_frame_in_range()
     };
     let mut frame = FrameBuf::new();
     seal_frame(
-        &GcmKey::new(&Key::Short([2; 16])),
+        &GcmKey::new(&Key::Long([2; 32])),
         sci,
         &tag,
         Offset::Zero,
