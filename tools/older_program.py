@@ -496,6 +496,7 @@ class File:
             (["relay", "nowhere", "127.0.0.1:9", *free, "--turns", "1"], 2),
             (["format", OWN, str(TX_BLOCK), str(RX_BLOCK), "--block", str(self.block)], 4),
             (["format", OWN, str(TX_BLOCK), str(RX_BLOCK)], 4),
+            (["format", OWN, str(TX_BLOCK), str(RX_BLOCK), "--over"], 4),
         ]:
             disk = self.fresh()
             ended = bench.run(self.program, words[0], disk, *words[1:])

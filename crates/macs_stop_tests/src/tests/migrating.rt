@@ -32,8 +32,8 @@ const AREA: u32 = 256;
 /// Where the body of a head has its version, whose last octet this is.
 const VERSION: usize = 11;
 
-/// Where the heads of both areas are.
-const HEADS: [u64; 2] = [0, 514];
+/// Where the head of the second area is.
+const SECOND_HEAD: u64 = 514;
 
 /// An opening of the young disk, of any format, begins with a sync, the reads of two head gates and a head body, of 255
 /// gates behind the snapshot, and of the settings, four commands and eight ceilings.
@@ -55,25 +55,34 @@ const GROWN_CLOSED: u64 = GROWN_FINDS + 257 + 256;
 
 /// A hundred gates are closed, and another hundred.
 const GROWN_HUNDRED: u64 = GROWN_FINDS + 101 + 100;
+
 const GROWN_TWO_HUNDRED: u64 = GROWN_HUNDRED + 100 + 100;
 
 /// A sync, the body of the head and of six records, a sync, the head gate and a sync.
 const GROWN_CALLS: u64 = GROWN_CLOSED + 1 + 7 + 1 + 1 + 1;
 
-/// The heads have version 1: so an older program wrote them.
-fn make_older(rt: &impl Abort, disk: &mut MemDisk, old: Old) {
-    let heads = match old {
-        Old::Young => &HEADS[..1],
-        Old::Grown => HEADS.as_slice(),
-    };
-    for at in heads {
-        let mut head = durable(rt, disk, *at);
-        head[VERSION] = 1;
-        assert!(rt; *at < disk.sectors());
-        assert!(rt; disk.write(*at, &head).is_ok());
-    }
+/// A head has version 1: so an older program wrote it.
+fn make_older(rt: &impl Abort, disk: &mut MemDisk, at: u64) {
+    let mut head = durable(rt, disk, at);
+    head[VERSION] = 1;
+    assert!(rt; at < disk.sectors());
+    assert!(rt; disk.write(at, &head).is_ok());
     assert!(rt; disk.sync().is_ok());
     disk.crash();
+}
+
+/// Plays the parts of the script from one to before another.
+fn play_parts<D: SectorDisk>(
+    rt: &impl Abort,
+    endpoint: &mut Endpoint<D>,
+    known: &mut Known,
+    first: usize,
+    end: usize,
+) {
+    for place in first..end {
+        assert!(rt; place < SCRIPT.len());
+        assert!(rt; take(rt, endpoint, known, SCRIPT[place]).is_ok());
+    }
 }
 
 /// An older program's disk, and what was known at its end.
@@ -85,15 +94,16 @@ fn older(rt: &impl Abort, alloc: Global, old: Old) -> Cut {
     known.is_formatted = true;
     match Endpoint::open(disk) {
         Ok(mut endpoint) => {
-            let parts = match old {
-                Old::Young => &SCRIPT[..PARTS],
-                Old::Grown => SCRIPT.as_slice(),
+            let end = match old {
+                Old::Young => PARTS,
+                Old::Grown => SCRIPT.len(),
             };
-            for part in parts {
-                assert!(rt; take(rt, &mut endpoint, &mut known, *part).is_ok());
-            }
+            play_parts(rt, &mut endpoint, &mut known, 0, end);
             let mut disk = endpoint.into_disk();
-            make_older(rt, &mut disk, old);
+            make_older(rt, &mut disk, 0);
+            if let Old::Grown = old {
+                make_older(rt, &mut disk, SECOND_HEAD);
+            }
             Cut { disk, known }
         }
         Err(_) => panic!(rt; "not opened"),
@@ -159,9 +169,7 @@ fn the_script_goes_on_behind_a_migration(rt: HostRuntime) {
     match Endpoint::open(disk) {
         Ok(mut endpoint) => {
             known.catch_up(&rt, &endpoint);
-            for part in &SCRIPT[PARTS..] {
-                assert!(rt; take(&rt, &mut endpoint, &mut known, *part).is_ok());
-            }
+            play_parts(&rt, &mut endpoint, &mut known, PARTS, SCRIPT.len());
             let mut disk = endpoint.into_disk();
             disk.crash();
             judge(&rt, disk, &known);
@@ -211,34 +219,40 @@ fn the_end_of_such_a_migration_is_stopped_at_each_call(rt: HostRuntime) {
     expect(&rt, rt.alloc(), Old::Grown, calls, gates + dead + filled);
 }
 
-/// The journal of format one is found, and begins anew again, unless the new head gate was left open: in one of six
-/// contents where a write filled it, and in three of six at either sync of it.
-#[test]
-fn openings_behind_a_cut_migration_are_stopped_at_each_call(rt: HostRuntime) {
-    let before = 1 + 3 + 5 + 3;
-    let after = 1 + 3 + 3;
+/// Behind these calls of the young disk's opening there are so many power losses after which the journal of format one is
+/// found, and begins anew again, and so many after which that of format two is. Each call of the openings is stopped.
+fn expect_openings(rt: &impl Abort, alloc: Global, calls: [u64; 2], before: u64, after: u64) {
+    assert!(rt; before <= 12);
+    assert!(rt; after <= 12);
     let totals = Totals {
-        stops: 4,
+        stops: 2,
         losses: before + after,
         openings: before * (2 * CALLS - 1) + after * 2 * OPENING,
     };
-    let calls = [CALLS - 2, CALLS];
-    let stopped = stop_at_each(&rt, rt.alloc(), Old::Young, calls, After::StopsMigrations);
+    let stopped = stop_at_each(rt, alloc, Old::Young, calls, After::StopsMigrations);
     assert!(rt; stopped == totals);
 }
 
-/// The last body of a record, and the sync behind it.
 #[test]
 fn openings_behind_a_cut_body_of_a_migration_are_stopped_at_each_call(rt: HostRuntime) {
-    let losses = 4 * 6;
-    let totals = Totals {
-        stops: 4,
-        losses,
-        openings: losses * (2 * CALLS - 1),
-    };
-    let calls = [CALLS - 4, CALLS - 2];
-    let stopped = stop_at_each(&rt, rt.alloc(), Old::Young, calls, After::StopsMigrations);
-    assert!(rt; stopped == totals);
+    expect_openings(&rt, rt.alloc(), [CALLS - 4, CALLS - 3], 6 + 6, 0);
+}
+
+#[test]
+fn openings_behind_a_cut_sync_of_a_migration_are_stopped_at_each_call(rt: HostRuntime) {
+    expect_openings(&rt, rt.alloc(), [CALLS - 3, CALLS - 2], 6 + 6, 0);
+}
+
+/// The new head gate is open in one of six contents where a write filled it.
+#[test]
+fn openings_behind_a_cut_gate_of_a_migration_are_stopped_at_each_call(rt: HostRuntime) {
+    expect_openings(&rt, rt.alloc(), [CALLS - 2, CALLS - 1], 1 + 5, 1);
+}
+
+/// It is open in three of six contents.
+#[test]
+fn openings_behind_the_last_sync_of_a_migration_are_stopped_at_each_call(rt: HostRuntime) {
+    expect_openings(&rt, rt.alloc(), [CALLS - 1, CALLS], 3 + 3, 3 + 3);
 }
 
 /// The rest of the script goes on from it, with a key of 256 bits, and as many records more as an area has slots:
