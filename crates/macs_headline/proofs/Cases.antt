@@ -1,7 +1,7 @@
 -- The cases of the words that are lists of them.
-use Rattle.std.proofs.Common.{◌≡◌, ◌≢◌, ◌⊎◌, inl, inr, ℕ, List, Result, Ok, Err, refl}
+use Rattle.std.proofs.Common.{◌≡◌, ◌≢◌, ◌⊎◌, inl, inr, ℕ, Result, Ok, Err, refl}
 use Rattle.macs_config.specs.declared.refusal.Refusal.TheVariants.{ChannelsFull}
-use Rattle.macs_endpoint.specs.State.{Advanced, AdvancedLong, Advances, Logs, Ran, RefusedLong, Reply, State}
+use Rattle.macs_endpoint.specs.State.{Advanced, AdvancedLong, Advances, Ran, RefusedLong, Reply}
 use Rattle.macs_endpoint.specs.declared.fault.CommandFault.TheVariants as ran
 use Rattle.macs_endpoint.specs.declared.fault.StepFault.{StepFault}
 use Rattle.macs_endpoint.specs.declared.fault.StepFault.TheVariants as step

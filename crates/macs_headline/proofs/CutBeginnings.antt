@@ -1,5 +1,5 @@
 -- A call that is cut short, and may begin a command that is not refused, has it in hand.
-use Rattle.std.proofs.Common.{◌≡◌, ◌&&◌, Bool, true, false, cond, not, is_ok, List, [], ◌∷◌, Option, Some, None, refl, ◌∙◌, ap}
+use Rattle.std.proofs.Common.{◌≡◌, Bool, true, false, cond, not, is_ok, List, [], ◌∷◌, Option, Some, None, refl, ◌∙◌, ap}
 use Rattle.std.proofs.lemmas.Bool.{and_from, not_from_false}
 use Rattle.macs_config.specs.Apply.{Reason, answer_or_refusal, apply, config_after}
 use Rattle.macs_config.specs.declared.command.Command.{Command}

@@ -1,6 +1,6 @@
 -- What fits a state.
-use Rattle.std.proofs.Common.{◌≡◌, ◌≤◌, ◌+◌, ◌^◌, inl, inr, ℕ, List, refl, sym, ◌∙◌, ap, subst, arith}
-use Rattle.std.specs.Prelude.{Option, Some, None, IsSomeAnd, min}
+use Rattle.std.proofs.Common.{◌≡◌, ◌≤◌, ◌^◌, inl, inr, ℕ, refl, sym, ◌∙◌, ap, subst, arith}
+use Rattle.std.specs.Prelude.{Option, Some, None, IsSomeAnd}
 use Rattle.std.specs.Option.{option_map}
 use Rattle.macs_config.specs.Config.{Edition, IsUpTo}
 use Rattle.macs_config.specs.declared.command.Command.{Command}

@@ -1,6 +1,6 @@
 -- Which keys an edition installs, which records are in areas of format one, and that it reads the records of the commands that it accepts.
-use Rattle.std.proofs.Common.{◌≡◌, ◌≢◌, ◌==◌, ◌||◌, ◌&&◌, inl, inr, ℕ, Bool, true, false, not, List, [], ◌∷◌, length, Ok, refl, sym, ◌∙◌, ap}
-use Rattle.std.specs.Prelude.{Contains, Option, Some, None, IfSome, Result, if◌then◌else◌}
+use Rattle.std.proofs.Common.{◌≡◌, ◌≢◌, ◌==◌, ◌&&◌, inl, inr, ℕ, Bool, true, false, not, List, [], ◌∷◌, length, Ok, refl, sym, ◌∙◌, ap}
+use Rattle.std.specs.Prelude.{Contains, Option, Some, None, IfSome, if◌then◌else◌}
 use Rattle.std.proofs.lemmas.Bool.{and_from, eq-eqb, eqb-true, false≢true, ne_eqb, or_right}
 use Rattle.macs_aes.specs.Keys.{octets_of_key}
 use Rattle.macs_config.specs.Apply.{LongKey, apply, refusal_of, refusals}

@@ -1,12 +1,12 @@
 -- The steps that an endpoint may take, in a program of any edition.
-use Rattle.std.proofs.Common.{◌≡◌, ◌≤◌, ◌<◌, ◌⊎◌, inl, inr, ℕ, Bool, true, false, cond, List, ◌∷◌, Result, Ok, Err, refl, sym, ◌∙◌, ap, subst, arith}
-use Rattle.std.specs.Prelude.{Option, Some, None, nat_lt}
+use Rattle.std.proofs.Common.{◌≡◌, ◌≤◌, ◌<◌, ◌⊎◌, inl, inr, ℕ, Bool, true, false, cond, List, Result, Ok, Err, refl, sym, ap, subst, arith}
+use Rattle.std.specs.Prelude.{Option, Some, nat_lt}
 use Rattle.std.proofs.lemmas.Bool.{ltb-false, ltb-true}
 use Rattle.macs_fields.proofs.FirstRefusal.{none-first}
 use Rattle.macs_frame.specs.Tag.{tag_of}
 use Rattle.macs_config.specs.Apply.{LongKey, Named, Reason, answer_or_refusal, apply, config_after}
 use Rattle.macs_config.specs.declared.command.Command.{Command}
-use Rattle.macs_rxsc.specs.Receive.{Arrival, Arrives, Numbers, RxStepHolds, delivery_kind, rx_steps}
+use Rattle.macs_rxsc.specs.Receive.{Arrival, Arrives, Numbers, RxStepHolds, rx_steps}
 use Rattle.macs_rxsc.specs.declared.verdict.Kind.{Kind}
 use Rattle.macs_rxsc.specs.declared.verdict.Kind.TheVariants.{Delayed, Ok as AsOk}
 use Rattle.macs_rxsc.specs.declared.verdict.Verdict.{Verdict}
@@ -25,9 +25,8 @@ use Rattle.macs_endpoint.specs.declared.fault.SubmitFault.{SubmitFault}
 use Rattle.macs_endpoint.specs.declared.fault.SubmitFault.TheVariants as submit
 use Rattle.macs_endpoint.specs.declared.progress.Step.{Step as Progress}
 use Rattle.macs_endpoint.specs.declared.progress.Step.TheVariants.{Done, Idle, Reserved, Worked}
-use Rattle.macs_endpoint.specs.declared.queue.Waiting.{Waiting}
 use Rattle.macs_endpoint.specs.State.{Advanced, AdvancedLong, Advances, Call, Commands, Protected, Protects, Ran, Received, Receives, Refilled, Refills, RefusedLong, Reply, State, Submits, Submitted, rx_side}
-use Rattle.macs_endpoint.specs.Step.{AdvanceStep, CommandStep, Ends, IsStopped, ProtectStep, RefillStep, RunningStep, Step, SubmitStep, TakesUp, state_after_delivery, state_after_hold}
+use Rattle.macs_endpoint.specs.Step.{AdvanceStep, CommandStep, IsStopped, ProtectStep, RefillStep, RunningStep, Step, SubmitStep, TakesUp, state_after_delivery, state_after_hold}
 use Rattle.macs_headline.specs.Deliveries.{IsInTime, IsVerifiedAnswer}
 use Rattle.macs_headline.specs.Received.{IsTimely, TheseAreTimely, TimelyAreDelivered}
 use Rattle.macs_headline.specs.Refused.{IsExact, TakesFirst, refusal_at}

@@ -1,5 +1,5 @@
 -- What an edition takes.
-use Rattle.std.proofs.Common.{◌≡◌, ◌∙◌, ◌&&◌, ◌⊎◌, ◌≤◌, inl, inr, ℕ, Bool, true, false, cond, not, nat_le, List, [], ◌∷◌, length, Option, Some, None, bytes_eq, refl, sym, ap}
+use Rattle.std.proofs.Common.{◌≡◌, ◌∙◌, ◌&&◌, ◌⊎◌, ◌≤◌, inl, inr, ℕ, Bool, true, false, cond, nat_le, List, [], ◌∷◌, length, Option, Some, None, bytes_eq, refl, sym, ap}
 use Rattle.std.proofs.lemmas.Bool.{false≢true, leb-true, lt-leb}
 use Rattle.macs_fields.specs.First.{first}
 use Rattle.macs_config.specs.Apply.{Named, Reason, are_channels_full, refusals}

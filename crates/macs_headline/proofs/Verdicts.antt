@@ -3,7 +3,6 @@ use Rattle.std.proofs.Common.{◌≡◌, ◌↔◌, ◌&&◌, ◌||◌, ◌<◌,
 use Rattle.std.specs.Prelude.{IsSomeAnd, if◌then◌else◌, nat_lt, slice_range}
 use Rattle.std.specs.Option.{option_and_then}
 use Rattle.std.proofs.lemmas.Bool.{false≢true}
-use Rattle.macs_config.specs.declared.association.RxSa.{RxSa}
 use Rattle.macs_fields.specs.First.{IsFirst, NoneHolds}
 use Rattle.macs_frame.specs.Opening.{named_sci}
 use Rattle.macs_frame.specs.Tag.{IsGoodTag, changed, control, end_station, has_sci, sci_of, tag_of}
@@ -18,7 +17,6 @@ use Rattle.macs_rxsc.specs.declared.verdict.Verdict.{Verdict}
 use Rattle.macs_rxsc.specs.declared.verdict.Verdict.TheVariants.{Delivered, Discarded}
 use Rattle.macs_endpoint.specs.State.{Received, Receives, State, rx_side}
 use Rattle.macs_endpoint.specs.Step.{Step}
-use Rattle.macs_headline.specs.Received.{IsOfChannel}
 use Rattle.macs_headline.specs.Verdicts.{BreaksNoRule, IsCauseOf, VerdictsAreNamed, causes_in_order, reason_told}
 use Rattle.macs_headline.proofs.Ledger.{some_one}
 use Rattle.macs_headline.proofs.LookUps.{no-one, some-and, some-none, then-none, then-some}

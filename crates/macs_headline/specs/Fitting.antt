@@ -1,5 +1,5 @@
 -- The headline on what fits: which images an opening may come upon after a life, whatever is installed, and in programs of which editions.
-use Rattle.std.specs.Prelude.{◌≡◌, ◌≤◌, ◌^◌, ℕ, List, Contains, Option, Some, None, IsSomeAnd, Ok}
+use Rattle.std.specs.Prelude.{◌≡◌, ◌≤◌, ◌^◌, ℕ, List, Contains, Some, None, IsSomeAnd, Ok}
 use Rattle.macs_config.specs.Config.{Edition, IsUpTo}
 use Rattle.macs_config.specs.Identity.{Identity}
 use Rattle.macs_config.specs.declared.command.Command.{Command}
