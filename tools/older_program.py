@@ -69,7 +69,7 @@ def sectors_of(path):
 
 
 def has_rooms_of_zeros(path, block):
-    """Whether the octets behind each sector of a block are zeros, as long as no power loss spoilt a block."""
+    """Whether the octets after each sector of a block are zeros, as long as no power loss spoilt a block."""
     octets = open(path, "rb").read()
     return all(not any(octets[block * at + SECTOR : block * (at + 1)]) for at in range(1028))
 
@@ -105,7 +105,7 @@ class Journal:
         start = AREA * self.area
         gates = [is_open(sectors[start + 3 + 2 * slot]) for slot in range(self.head.count, SLOTS)]
         later = gates.index(False) if False in gates else len(gates)
-        assert not any(gates[later:]), "an open gate behind a closed one"
+        assert not any(gates[later:]), "an open gate after a closed one"
         self.used = self.head.count + later
         self.records = [sectors[start + 2 + 2 * slot] for slot in range(self.used)]
         self.kept = Kept(self.head, self.records)

@@ -1,4 +1,4 @@
--- Calls of a file that were interrupted, and one that failed behind them.
+-- Calls of a file that were interrupted, and one that failed after them.
 use Rattle.std.proofs.Common.{◌≡◌, ◌≢◌, ◌⊎◌, ◌∙◌, ◌++◌, inl, inr, List, [], ◌∷◌, Option, Some, None, Result, Ok, Err, IfErr, ap, append-nil, append_assoc, refl, subst, sym}
 use Rattle.std.proofs.lemmas.List.Elements.{All-append, All-from_recursion, All-nil}
 use Rattle.std.proofs.lemmas.Bool.{false≢true}

@@ -390,7 +390,7 @@ used_alike = record {
 formatted_life : Leads example_sectors (Blank []) (Formats first_edition example_identity true) (Formatted (formatted_state first_edition example_identity))
 formatted_life = refl
 
--- the state behind the `format`
+-- the state after the `format`
 abbrev made : State
 made = formatted_state first_edition example_identity
 

@@ -180,7 +180,7 @@ filled_standing = record {
 abbrev pub filled_snapshot : List Record
 filled_snapshot = snapshot filled_standing
 
--- the gates of the first area that read open are closed: that of its head of format one, and those of the two records behind its snapshot
+-- the gates of the first area that read open are closed: that of its head of format one, and those of the two records after its snapshot
 abbrev pub closed_image : Image
 closed_image = put_sector (put_sector (put_sector filled_image (gate 0 0) closed_gate) (gate 0 2) closed_gate) (gate 0 3) closed_gate
 

@@ -18,11 +18,11 @@ use Rattle.macs_headline.specs.Received.{IsOfChannel}
 
 -- ---- the octets of a SecTAG
 
--- the place of the first octet behind the SecTAG, which has 16 octets where SC is set, else 8 (IEEE Std 802.1AE-2018, 9.3)
+-- the place of the first octet after the SecTAG, which has 16 octets where SC is set, else 8 (IEEE Std 802.1AE-2018, 9.3)
 abbrev pub behind_tag : List ℕ → ℕ
 behind_tag frame = if has_bit (slice_index frame 14) 0x20 then 28 else 20
 
--- A frame of so many octets, with Secure Data from a place on, has as many as SL says (9.7): 48 or more before the ICV where SL is 0, else SL; behind the ICV is
+-- A frame of so many octets, with Secure Data from a place on, has as many as SL says (9.7): 48 or more before the ICV where SL is 0, else SL; after the ICV is
 -- nothing, or the padding of a frame to 60 octets.
 abbrev pub HasLength : (octets start short : ℕ) → Type 0
 HasLength octets start short =
@@ -40,7 +40,7 @@ pub record BreaksNoRule (frame : List ℕ) : Type 0 where
   pub number : from_be_bytes w32 (slice_range frame 16 20) ≢ 0
   pub agrees : HasLength (length frame) (behind_tag frame) (slice_index frame 15)
 
--- the SCI that a SecTAG names: the octets behind the PN where SC is set; else, where ES is set, the source address with port 00-01; else none (9.5 and 9.9)
+-- the SCI that a SecTAG names: the octets after the PN where SC is set; else, where ES is set, the source address with port 00-01; else none (9.5 and 9.9)
 abbrev pub sci_in_tag : List ℕ → Option (List ℕ)
 sci_in_tag frame =
     if has_bit (slice_index frame 14) 0x20 then Some (slice_range frame 20 28)

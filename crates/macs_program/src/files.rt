@@ -149,7 +149,7 @@ fn source_over<F: Read + Drop>(alloc: Global, file: F) -> Result<CaptureSource<F
     Ok(ReaderSource::new(reader))
 }
 
-/// A capture that is written to an open file, behind what it holds. It fails as `Memory`.
+/// A capture that is written to an open file, after what it holds. It fails as `Memory`.
 fn sink_over<F: Write + Drop>(alloc: Global, file: F) -> Result<CaptureSink<F>, Failure>
     ensures held { IfOk result (λ sink. IfSome (F.contents file)
         (λ octets. (⟦<WriterSink<WholeWrites<F>> as Sink>⟧.state sink).held ≡ Some octets)) }

@@ -203,7 +203,7 @@ tx-ceiling 0 = 5
 rx-association 12153524c0895e81 0 = 000102030405060708090a0b0c0d0e0f 0
 rx-ceiling 12153524c0895e81 0 = 1
 
-story records that install keys of 256 bits go on behind a snapshot
+story records that install keys of 256 bits go on after a snapshot
 use new
 use whole
 write 528 4d5245431400000102030405060708090a0b0c0d0e0f101112131415161718191a1b1c1d1e1f000000010000; write 529 gate

@@ -36,7 +36,7 @@ const VERSION: usize = 11;
 const SECOND_HEAD: u64 = 514;
 
 /// An opening of the young disk, of any format, begins with a sync, the reads of two head gates and a head body, of 255
-/// gates behind the snapshot, and of the settings, four commands and eight ceilings.
+/// gates after the snapshot, and of the settings, four commands and eight ceilings.
 const FINDS: u64 = 1 + 3 + 255 + 13;
 
 /// Its journal begins anew: the reads of 257 gates, a sync, the body of the head and of six records, a sync, the head
@@ -131,7 +131,7 @@ fn stop_at_each(rt: &impl Abort, alloc: Global, old: Old, calls: [u64; 2], after
     totals
 }
 
-/// So many stops and power losses, and no opening behind them is stopped.
+/// So many stops and power losses, and no opening after them is stopped.
 fn expect(rt: &impl Abort, alloc: Global, old: Old, calls: [u64; 2], losses: u64) {
     let [first, end] = calls;
     assert!(rt; first < end);
@@ -209,7 +209,7 @@ fn further_closed_gates_of_a_migration_are_stopped_at_each_call(rt: HostRuntime)
     expect(&rt, rt.alloc(), Old::Grown, calls, 4 * 100 * 6);
 }
 
-/// The last gates, their sync, and what comes behind it as in any compaction.
+/// The last gates, their sync, and what comes after it as in any compaction.
 #[test]
 fn the_end_of_such_a_migration_is_stopped_at_each_call(rt: HostRuntime) {
     let gates = 4 * 56 * 6 + 2 * 6;

@@ -83,7 +83,7 @@ fn stop_at(rt: &impl Abort, alloc: Global, stop: Stop, behind: Behind, totals: &
     }
 }
 
-/// What is done behind a power loss.
+/// What is done after a power loss.
 #[derive(Clone, Copy)]
 pub(super) enum After {
     /// The disk is opened.
@@ -94,7 +94,7 @@ pub(super) enum After {
     StopsMigrations,
 }
 
-/// The power goes behind a life that was cut short.
+/// The power goes after a life that was cut short.
 fn lose_cut(rt: &impl Abort, alloc: Global, cut: Cut, after: After, totals: &mut Totals) {
     let Cut { disk, known } = cut;
     lose_in_each_way(rt, alloc, disk, &known, after, totals);
