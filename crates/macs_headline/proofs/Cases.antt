@@ -43,8 +43,11 @@ cases-are = record {
   told_submit = λ c fault running. running;
   told_step = told_step;
   told_protect = λ plain out fault running. running;
+  told_long = λ c. tt;
+  told_long_step = λ ticket. tt;
   used = λ logs key pn among. among;
   given = λ logs d among. (d.kind, among);
   one_but_hand = λ a b same hand. (λ i. record (same i) { in_hand = hand i });
   one_but_numbers = λ a b same next numbers logs. (λ i. record (same i) { next = next i; numbers = numbers i; logs = logs i });
+  queued = λ waiting ticket command. refl;
 }

@@ -196,4 +196,6 @@ prints-are = record {
   receive = λ sci key. refl;
   among = λ items item. (among_to items item, among_from items item);
   spent = λ prints print. (among_to prints print, among_from prints print);
+  short_key = λ octets. refl;
+  long_key = λ octets. refl;
 }

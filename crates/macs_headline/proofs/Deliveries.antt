@@ -1,11 +1,11 @@
 -- Frames that are delivered as verified.
-use Rattle.std.proofs.Common.{◌≡◌, ◌≤◌, ◌+◌, ◌++◌, take, inl, inr, ℕ, Bool, true, false, cond, List, ◌∷◌, Ok, Err, refl, sym, ◌∙◌, ap, subst}
+use Rattle.std.proofs.Common.{◌≡◌, ◌≤◌, ◌+◌, inl, inr, ℕ, Bool, true, false, cond, List, ◌∷◌, Ok, Err, refl, sym, ◌∙◌, ap, subst}
 use Rattle.macs_fields.specs.Fields.{octets_of}
 use Rattle.macs_frame.specs.Opening.{Verified}
 use Rattle.macs_frame.proofs.Readings.{verified_once}
 use Rattle.macs_frame.specs.Tag.{changed, control, tag_of}
 use Rattle.macs_frame.specs.declared.tag.TagFault.TheVariants.{Runt as IsRunt, Oversize as IsOversize, NoTag as HasNoTag, BadTag as HasBadTag, ForKay as IsForKay}
-use Rattle.std.specs.Prelude.{◌||◌, ◌-◌, max, nat_lt, slice_range, Option, Some, None}
+use Rattle.std.specs.Prelude.{◌||◌, ◌-◌, max, nat_lt, Option, Some, None}
 use Rattle.std.proofs.lemmas.Bool.{ltb-false, ltb-true}
 use Rattle.macs_rxsc.specs.Receive.{BelowLowest, NoAssociation, NoChannel, NotVerified, Numbers, RxSide, RxStep, Tag, delivery_kind, given_at, is_strict, numbers_after_delivery, seen_after, verdict_at}
 use Rattle.macs_rxsc.specs.declared.verdict.Kind.{Kind}
@@ -16,7 +16,7 @@ use Rattle.macs_rxsc.specs.declared.verdict.Verdict.{Verdict}
 use Rattle.macs_rxsc.specs.declared.verdict.Verdict.TheVariants.{Delivered, Discarded, HeldBack}
 use Rattle.macs_endpoint.specs.State.{Received, Receives, State, rx_side}
 use Rattle.macs_endpoint.specs.Step.{Step}
-use Rattle.macs_headline.specs.Deliveries.{BareFramesAre, DeliveriesAreVerified, IsInTime, IsVerifiedAnswer, IsVerifiedDelivery, IsVerifiedKind, OthersAreBare, greatest_seen, numbers_moved, out_after}
+use Rattle.macs_headline.specs.Deliveries.{DeliveriesAreVerified, IsInTime, IsVerifiedAnswer, IsVerifiedDelivery, IsVerifiedKind, OthersAreBare, greatest_seen, numbers_moved, out_after}
 use Rattle.macs_headline.proofs.Effects.{arrives-in-time}
 use Rattle.macs_headline.proofs.Places.{put_rx-this}
 
@@ -111,7 +111,3 @@ others-are-bare sectors s m frame out (Ok verdict) new other (inr (running, inr 
     absurd (other (subst (λ (v : Verdict). IsVerifiedAnswer (Ok v)) (sym is_verdict) (verified-kind (nat_lt a.pn a.numbers.lowest))))
 others-are-bare sectors s m frame out (Err stopped) new other (inl (is_stopped, empty, same)) = (empty, ap (λ (t : State). t.logs) same)
 others-are-bare sectors s m frame out (Err stopped) new other (inr (running, answer)) = absurd answer
-
-pub bare-frames-are : BareFramesAre
-bare-frames-are frame parts tag =
-    λ i. take 12 frame ++ slice_range frame (sym tag.reading.start i) (sym tag.reading.end i)

@@ -4,8 +4,11 @@ use Rattle.macs_disk.specs.Disk.{Disk, IsDeviceCall, IsHonest, now}
 use Rattle.macs_disk.specs.States.{DiskState, Image, IsImage, IsSector, IsSound}
 use Rattle.macs_disk.specs.declared.disk.DeviceFault.{DeviceFault}
 use Rattle.macs_headline.specs.Deeds.{IsPassedOn}
-use Rattle.macs_headline.specs.Endings.{DroppedPassOn, EndsAreEarlier, KillingsPassOn, PassedOnAgain, PowerLossesPassOn, ReadsPassOn, SyncsPassOn, WritesBackAsSyncs, WrittenBackPassOn, state_written_back}
+use Rattle.macs_headline.specs.Endings.{DroppedPassOn, EndsAreEarlier, KillingsPassOn, PassedOnAgain, PowerLossesPassOn, ReadsPassOn, SyncsPassOn, TheseAreAlike, WritesBackAsSyncs, WrittenBackPassOn, state_written_back}
 use Rattle.macs_headline.proofs.Losses.{settled-passed}
+
+pub these-are-alike : TheseAreAlike
+these-are-alike old new sectors honest = record { sectors = sectors; honest = honest }
 
 pub power-losses-pass-on : PowerLossesPassOn
 power-losses-pass-on old new since lost = settled-passed old new since lost.image lost.left lost.alike.sectors lost.alike.honest lost.settled

@@ -19,11 +19,13 @@ pub mod Commands
 pub mod FoundOnce
 pub mod HandedIn
 pub mod FramesRead
+pub mod ShortLengths
 pub mod Ranges
 pub mod TxFaults
 pub mod Deliveries
 pub mod Received
 pub mod Naming
+pub mod OctetBits
 pub mod Verdicts
 pub mod Moving
 pub mod Steps
@@ -33,8 +35,11 @@ pub mod Reasons
 pub mod AlikeEditions
 pub mod ReadByEditions
 pub mod TakenByEditions
+pub mod OneIdentity
+pub mod EitherFormats
 pub mod ReadOn
 pub mod Begun
+pub mod BegunByCalls
 pub mod CutBeginnings
 pub mod Stopping
 pub mod Faults

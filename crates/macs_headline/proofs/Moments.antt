@@ -21,10 +21,10 @@ use Rattle.macs_endpoint.specs.Calls.{IsCall}
 use Rattle.macs_endpoint.specs.Lives.{Lives, Transition, exchange_of}
 use Rattle.macs_endpoint.specs.Ceilings.{Raise}
 use Rattle.macs_endpoint.specs.Restart.{Fits, opened_state, state_during, state_taking_alone, state_taking_first}
-use Rattle.macs_endpoint.specs.State.{Advances, Call, Commands, Logs, Protects, Protected, Received, Receives, Refills, State, Submits, Use, no_logs, state_with_in_hand}
+use Rattle.macs_endpoint.specs.State.{Advances, Call, Commands, Delivery, Logs, Protects, Protected, Received, Receives, Refills, State, Submits, Use, no_logs, state_with_in_hand}
 use Rattle.macs_endpoint.specs.declared.queue.Waiting.{Waiting}
 use Rattle.macs_endpoint.specs.Value.{EndpointValue, IsSoundEndpoint, disk_in, state_of}
-use Rattle.macs_headline.specs.Binding.{CutFramesAreBelow, FramesAreDeliveredOnce, FramesAreWrittenOnce, EndsAreCuts, HasHistory, IsAtMoment, LivesAreMoments, LivesFit, LivesFitUnbegun, LivesKeepCommands, OpeningsFind}
+use Rattle.macs_headline.specs.Binding.{CutDeliveriesAreBelow, CutFramesAreBelow, FramesAreDeliveredOnce, FramesAreWrittenOnce, EndsAreCuts, HasHistory, IsAtMoment, LivesAreMoments, LivesFit, LivesFitUnbegun, LivesKeepCommands, OpeningsFind}
 use Rattle.macs_headline.specs.Binding.{cut_beginning, state_left}
 use Rattle.macs_endpoint.specs.Step.{Step}
 use Rattle.macs_headline.specs.Answered.{exchanges_of_lives}
@@ -32,7 +32,7 @@ use Rattle.macs_headline.specs.Commands.{FindsPrefix}
 use Rattle.macs_headline.specs.Deliveries.{IsOtherDelivery, IsVerifiedDelivery, IsVerifiedKind, delivering}
 use Rattle.macs_headline.specs.Deeds.{Does, Living, LivesFrom}
 use Rattle.macs_headline.specs.History.{Formatted, Life, logs_of, state_at_end}
-use Rattle.macs_headline.specs.Moments.{Moment, WasUsed}
+use Rattle.macs_headline.specs.Moments.{Moment, WasGiven, WasUsed}
 use Rattle.macs_headline.proofs.Chains.{history-covers}
 use Rattle.macs_headline.proofs.Commands.{commands-kept}
 use Rattle.macs_headline.proofs.Answered.{given-once, never-ok-again, written-once}
@@ -40,7 +40,7 @@ use Rattle.macs_headline.proofs.Deliveries.{delivered}
 use Rattle.macs_headline.proofs.Effects.{core, effect-of}
 use Rattle.macs_headline.proofs.Histories.{fits-restart, sound-moment}
 use Rattle.macs_headline.proofs.Lists.{contains-first}
-use Rattle.macs_headline.proofs.Numbers.{beyond_tx}
+use Rattle.macs_headline.proofs.Numbers.{beyond_rx, beyond_tx}
 use Rattle.macs_headline.proofs.Endings.{ends-are-earlier}
 use Rattle.macs_headline.proofs.Living.{IsAlive, alive, covered-cut, covered-life, covered-unbegun}
 use Rattle.macs_headline.proofs.Losses.{IsCovered}
@@ -385,3 +385,32 @@ module _ {D : Type 0} (disk_of : D → Disk) (sound : (it : D) → IsHonest (dis
       subst (λ (used : List Use). Contains used (record { key = standard.sa.key; pn = pn })) (sym standard.logged)
       (contains-first (record { key = standard.sa.key; pn = pn }) s.logs.used) in
       (at, step.0, standard, beyond_tx found next.logs (sound-restart next (opened_state found next.logs) restart sent) standard.sa.key pn here)
+
+  pub cut-deliveries-are-below : CutDeliveriesAreBelow disk_of
+  cut-deliveries-are-below disk new before first last after turns frame kind out verified h lived call passed later up_to image found left is_found =
+      let sectors = (disk_of disk).sectors in
+      let at = at_moment disk_of sound disk before h first last turns lived in
+      let m = moment disk_of sound disk before h first last turns lived in
+      let living = alive disk_of sound sectors h.past disk first turns last (history-covers (disk_of disk) before h) lived in
+      let s = state_of last at.logs in
+      let step = call.behaves.step at.logs in
+      let next = state_of after step.0 in
+      let d = delivered s frame out kind next verified step.1 in
+      let still : after.store ≡ last.store = call.behaves.still in
+      let clock : (disk_in disk_of after).clock ≡ (disk_in disk_of last).clock = ap (λ (x : StoreValue D). (store.disk_in disk_of x).clock) still in
+      let from = passed.later in
+      let to = passed.within in
+      let at_end : passed.moment ≡ (disk_in disk_of after).clock = omega (arith, clock, from, to) in
+      let may : MayLeave (disk_in disk_of after) image =
+      subst (λ (k : ℕ). IsImage ((disk_in disk_of after).past k) image) at_end (passed.images image left) in
+      let backed = (call.survives (call.device.works.honest ∙ living.honest) living.backed).backed in
+      let fits : Fits this_edition sectors image next =
+      subst (λ (n : ℕ). Fits this_edition n image next) (call.device.works.sectors ∙ living.size) (backed.fits step.0 image may) in
+      let restart = fits-restart later sectors image next found (larger-fits this_edition later up_to sectors image next fits) is_found in
+      let given = sound-effect s.edition (core s) (core next) (effect-of s (Receives frame) (Received (Ok (Delivered kind)) out) next step.1)
+      (sound-moment sectors s m) in
+      let here : WasGiven next.logs d.sci d.sa.key (tag_of frame).pn =
+      (kind, subst (λ (given : List Delivery). Contains given (record { sci = d.sci; key = d.sa.key; pn = (tag_of frame).pn; kind = kind })) (sym d.logged)
+      (contains-first (record { sci = d.sci; key = d.sa.key; pn = (tag_of frame).pn; kind = kind }) s.logs.given)) in
+      (at, step.0, d,
+      beyond_rx found next.logs (sound-restart next (opened_state found next.logs) restart given) d.sci d.sa.key (tag_of frame).pn here)

@@ -115,7 +115,7 @@ beyond_tx found logs is key pn used = record {
       some_and (found.ceilings.tx an) here.0 pn here.1 (here.2 pn used);
 }
 
-beyond_rx : (found : Standing) (logs : Logs) → IsSound (core (opened_state found logs)) → (sci key : List ℕ) (pn : ℕ) → WasGiven logs sci key pn
+pub beyond_rx : (found : Standing) (logs : Logs) → IsSound (core (opened_state found logs)) → (sci key : List ℕ) (pn : ℕ) → WasGiven logs sci key pn
     → IsBeyondRx found sci key pn
 beyond_rx found logs is sci key pn was = record {
   spent = is.rx.logged (sci, key) pn was;

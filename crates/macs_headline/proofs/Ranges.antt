@@ -1,6 +1,6 @@
 -- Next packet numbers stay within 1 and 2^32, and commands in hand and those that wait in their ranges.
 use Rattle.std.proofs.Common.{◌≡◌, ◌<◌, ◌≤◌, ◌+◌, ◌^◌, ◌==◌, inl, inr, ℕ, refl, sym, ◌∙◌, ap, subst, arith, List, [], ◌∷◌, length, Bool, true, false, cond, Result, Ok, Err}
-use Rattle.std.specs.Prelude.{Option, Some, None, IfSome, not, ◌&&◌, is_ok}
+use Rattle.std.specs.Prelude.{Option, Some, None, IfSome, not, ◌&&◌, is_ok, slice_index}
 use Rattle.std.specs.List.{AllByRecursion}
 use Rattle.std.proofs.lemmas.Bool.{cases_eq, eq-eqb, ltb-false, not-false}
 use Rattle.macs_fields.specs.Fields.{octets_of}
@@ -18,7 +18,7 @@ use Rattle.macs_config.specs.declared.command.Command.TheVariants.{SetSciMode, T
 use Rattle.macs_config.specs.declared.command.SciMode.{SciMode}
 use Rattle.macs_config.specs.declared.command.SciMode.TheVariants.{EndStation, Explicit, Implicit}
 use Rattle.macs_disk.specs.States.{Image}
-use Rattle.macs_txsc.specs.Transmit.{is_used_up, name_in, next_outgoing, tx_faults}
+use Rattle.macs_txsc.specs.Transmit.{is_used_up, name_in, next_outgoing, tag_for, tx_faults}
 use Rattle.macs_rxsc.specs.declared.verdict.Verdict.{Verdict}
 use Rattle.macs_store.specs.Found.{StandingIs}
 use Rattle.macs_store.specs.Standing.{Standing}
@@ -51,6 +51,7 @@ use Rattle.macs_headline.proofs.Accepted.{NoTest, accepted, no-test, right-mode,
 use Rattle.macs_headline.proofs.Effects.{outgoing_is}
 use Rattle.macs_headline.proofs.FramesRead.{frame-named, frame-read, own-source}
 use Rattle.macs_headline.proofs.Histories.{fits-restart, found-new}
+use Rattle.macs_headline.proofs.ShortLengths.{short-length}
 
 -- a next packet number
 abbrev IsNext : ℕ → Type 0
@@ -250,6 +251,8 @@ module _ (edition : Edition) where
           least = within.0;
           most = below;
           frame = is_out;
+          short = ap (λ (frame : List ℕ). slice_index frame 15) is_out ∙ short-length o.sa.key old.identity.sci (tag_for (tx_side old) o)
+              (octets_of (offset_of o.sa.protection)) plain long;
           logged = ap (λ (s : State). s.logs.used) is;
           next = ap (λ (s : State). s.next o.an) is ∙ put-this old.next o.an o.an (Some (o.pn + 1)) refl;
           own = own-source old.config.mode old.identity.sci plain tests.1.1.0 ranged.channel.1;

@@ -16,6 +16,7 @@ use Rattle.macs_store.specs.Standing.{Standing, standing_with_rx_ceiling, standi
 use Rattle.macs_store.proofs.Compacting.{meaning-compacted}
 use Rattle.macs_store.proofs.Formats.{meaning-read, read-meaning}
 use Rattle.macs_headline.specs.Editions.{EditionsRead, HasLongKey}
+use Rattle.macs_headline.proofs.EitherFormats.{anew-one, either-format}
 use Rattle.macs_headline.proofs.Ledger.{some_one}
 use Rattle.macs_headline.proofs.LookUps.{then-some}
 use Rattle.macs_headline.proofs.ReadByEditions.{short-kind}
@@ -77,10 +78,12 @@ raised o old ceiling is more = ap (λ (x : Option ℕ). is_raise x ceiling) is �
 pub editions-read : EditionsRead
 editions-read = record {
   stands = λ edition sectors image c s large found means. (large, record { content = c; found = found; stands = means });
+  either_format = either-format;
   new_one = λ edition identity.
       meaning-read edition (record (first_content identity) { head = record (first_head identity) { format = One } }) refl;
   one_more = one_more;
   anew = meaning-compacted;
+  anew_one = anew-one;
   tx_raised = λ s an old ceiling is more.
       ap (λ (b : Bool). cond b (Some (standing_with_tx_ceiling s an ceiling)) None) (raised (s.ceilings.tx an) old ceiling is more);
   rx_raised = λ s sci an old ceiling is more.

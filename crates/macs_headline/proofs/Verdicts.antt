@@ -17,7 +17,8 @@ use Rattle.macs_rxsc.specs.declared.verdict.Verdict.{Verdict}
 use Rattle.macs_rxsc.specs.declared.verdict.Verdict.TheVariants.{Delivered, Discarded}
 use Rattle.macs_endpoint.specs.State.{Received, Receives, State, rx_side}
 use Rattle.macs_endpoint.specs.Step.{Step}
-use Rattle.macs_headline.specs.Verdicts.{BreaksNoRule, IsCauseOf, VerdictsAreNamed, causes_in_order, reason_told}
+use Rattle.macs_headline.specs.Verdicts.{BareFramesAre, BreaksNoRule, IsCauseOf, VerdictsAreNamed, causes_in_order, reason_told}
+use Rattle.macs_headline.proofs.OctetBits.{octet-bits}
 use Rattle.macs_headline.proofs.Ledger.{some_one}
 use Rattle.macs_headline.proofs.LookUps.{no-one, some-and, some-none, then-none, then-some}
 use Rattle.macs_headline.proofs.Naming.{channels-are-named}
@@ -181,4 +182,11 @@ verdicts-are-named = record {
   sci = λ frame. named_in (has_sci (control frame)) (end_station (control frame)) frame;
   an = λ frame. refl;
   pn = λ frame. refl;
+  e_bit = λ frame. refl;
+  c_bit = λ frame. refl;
+  bits = octet-bits;
+  secure_data = λ frame parts tag. (tag.reading.start, tag.reading.end);
 }
+
+pub bare-frames-are : BareFramesAre
+bare-frames-are frame parts tag = refl

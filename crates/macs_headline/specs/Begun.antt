@@ -2,8 +2,8 @@
 use Rattle.std.specs.Prelude.{◌≡◌, ◌⊎◌, ℕ, false, List, [], Option, Some, None}
 use Rattle.macs_config.specs.declared.command.Command.{Command}
 use Rattle.macs_endpoint.specs.Queue.{first_command}
-use Rattle.macs_endpoint.specs.State.{Advances, Call, Commands, State, state_with_in_hand}
-use Rattle.macs_endpoint.specs.Step.{Exchange}
+use Rattle.macs_endpoint.specs.State.{Advances, Call, Commands, Reply, State, state_with_in_hand}
+use Rattle.macs_endpoint.specs.Step.{Exchange, Step}
 use Rattle.macs_endpoint.specs.declared.queue.Waiting.{Waiting}
 use Rattle.macs_headline.specs.Commands.{waiting_at_end}
 use Rattle.macs_headline.specs.History.{state_at_end}
@@ -28,6 +28,12 @@ pub record WasBegun (exchanges : List Exchange) (last : State) (cut : Option Cal
 abbrev pub InHandWasBegun : ℕ → Type 0
 InHandWasBegun sectors = (last : State) (m : Moment sectors last) (cut : Option Call) (command : Command)
     → (state_at_end last cut).in_hand ≡ Some command → WasBegun m.exchanges last cut command
+
+-- A command is in hand after an answered call only where it was before it, or where the call is a step, or `command`, which was given it. In no other call does
+-- work on a command begin.
+abbrev pub OthersBeginNone : Type 0
+OthersBeginNone = (old new : State) (call : Call) (reply : Reply) (command : Command) → Step old call reply new → new.in_hand ≡ Some command
+    → (old.in_hand ≡ Some command) ⊎ ((call ≡ Advances) ⊎ (call ≡ Commands command))
 
 -- whichever call is cut short, or none, the state in which a life ends is that after the last answer, but for what is in hand
 abbrev pub CutsChangeNone : Type 0

@@ -44,7 +44,7 @@ use Rattle.macs_headline.specs.Deeds.{Chain, Deed, Does, Formatting, FormattingC
 use Rattle.macs_headline.specs.Frames.{IsOtherFrame, IsStandardFrame, writing}
 use Rattle.macs_headline.specs.History.{FitsPast, Formats, IsHistory, Life, Past, Refuses, Serves, logs_of, state_at_end}
 use Rattle.macs_headline.specs.Moments.{IsFoundAfter, Moment}
-use Rattle.macs_headline.specs.Numbers.{HasNoneTwice, IsBeyondTx}
+use Rattle.macs_headline.specs.Numbers.{HasNoneTwice, IsBeyondRx, IsBeyondTx}
 use Rattle.macs_headline.specs.Openings.{IsSpentFor}
 use Rattle.macs_headline.specs.Refused.{refusal_at}
 use Rattle.macs_headline.specs.Stopping.{TellsFault}
@@ -299,6 +299,19 @@ FramesAreDeliveredOnce {D} disk_of = (disk : D) (before : List Life) (first last
     → IsCall disk_of last (Receives frame) (Received (Ok (Delivered kind)) out) after
     → IsDeliveredOnce (disk_of disk).sectors before (now (disk_of disk)).seen turns first last after frame kind out
 
+-- A program ends inside a `receive` that would have delivered a frame as Ok or Delayed. The frame verifies. What a program of this edition or a larger one
+-- finds later, in each image that the next disk may leave, is above its packet number: the key is spent for the SCI, and each association of the SCI that has
+-- the key begins above.
+abbrev pub CutDeliveriesAreBelow : {D : Type 0} → (D → Disk) → Type 0
+CutDeliveriesAreBelow {D} disk_of = (disk new : D) (before : List Life) (first last after : EndpointValue D) (turns : List (Transition D))
+    (frame : List ℕ) (kind : Kind) (out : List ℕ) → IsVerifiedKind kind → HasHistory this_edition (disk_of disk) before
+    → LivesFrom disk_of disk first turns last → IsCall disk_of last (Receives frame) (Received (Ok (Delivered kind)) out) after
+    → IsPassedOn (disk_in disk_of after) (disk_in disk_of last).clock (disk_of new) → (later : Edition) → IsUpTo this_edition later
+    → (image : Image) (found : Standing) → MayLeave (disk_of new) image → StandingIs later (disk_of disk).sectors image (Ok found)
+    → (at : IsAtMoment (disk_of disk).sectors before (now (disk_of disk)).seen turns first last) × (logs : Logs)
+    × (delivery : IsVerifiedDelivery (state_of last at.logs) frame kind out (state_of after logs))
+    × IsBeyondRx found delivery.sci delivery.sa.key (tag_of frame).pn
+
 -- ---- steps that find no work
 
 -- a step that is answered Idle: no command waits, no ceiling is needed, no work is in hand, and nothing changes
@@ -396,7 +409,8 @@ pub record OpeningsBeginAnew {D : Type 0} (disk_of : D → Disk) : Type 0 where
 
 -- What a call's contract says makes a deed: a `format` that was answered, and one in which the medium was passed on; an opening that was refused,
 -- and one in which it was passed on; an endpoint that gave its disk back, and one in a call of which it was passed on; and a disk with which
--- nothing was done. A life begins with an opening and goes on with each call; a chain begins with nothing and goes on with each deed.
+-- nothing was done. A life begins with an opening and goes on with each call; a chain begins with nothing and goes on with each deed. The disk after an opening
+-- is that of the endpoint, or the one that a refusal gives back; and what a chain tells of a call is the call and its answer.
 pub record CallsAreDeeds {D : Type 0} (disk_of : D → Disk) : Type 0 where
   pub formatted : (old new : D) (identity : Identity) (result : Result (Unit {0}) JournalFault) → IsFormat disk_of old identity result new
       → Does disk_of old (Formatting identity result) new
@@ -405,6 +419,9 @@ pub record CallsAreDeeds {D : Type 0} (disk_of : D → Disk) : Type 0 where
   pub refused : (old : D) (refused : RecoverRefused D) → IsOpening disk_of old (Err refused) → Does disk_of old (Refusing refused.fault) refused.disk
   pub opening_cut : (old new : D) (result : Result (EndpointValue D) (RecoverRefused D)) → IsOpening disk_of old result
       → IsPassedOn (disk_after_opening disk_of result) (disk_of old).clock (disk_of new) → Does disk_of old OpeningCut new
+  pub after_opened : (first : EndpointValue D) → disk_after_opening disk_of (Ok first) ≡ disk_in disk_of first
+  pub after_refused : (refused : RecoverRefused D) → disk_after_opening disk_of (Err refused) ≡ disk_of refused.disk
+  pub answered : (turn : Transition D) → exchange_of turn ≡ record { call = turn.call; reply = turn.reply }
   pub ended : (old : D) (first last : EndpointValue D) (turns : List (Transition D)) → LivesFrom disk_of old first turns last
       → Does disk_of old (Living first turns last None) (device_in last)
   pub call_cut : (old new : D) (first last after : EndpointValue D) (turns : List (Transition D)) (call : Call) (reply : Reply)

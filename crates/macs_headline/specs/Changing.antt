@@ -3,6 +3,7 @@ use Rattle.std.specs.Prelude.{◌≡◌, ◌↔◌, ◌++◌, true, false, ℕ, 
 use Rattle.sha2.specs.Sha256.{sha256}
 use Rattle.macs_aes.specs.Keys.{octets_of_key}
 use Rattle.macs_aes.specs.declared.keys.Key.{Key}
+use Rattle.macs_aes.specs.declared.keys.Key.TheVariants.{Long, Short}
 use Rattle.macs_fields.specs.Fields.{octets_of}
 use Rattle.macs_config.specs.Apply.{apply}
 use Rattle.macs_config.specs.Association.{is_confidential, offset_of}
@@ -114,9 +115,12 @@ CommandsChange = (edition : Edition) (identity : Identity) (old new : Config) (c
 -- ---- spent keys
 
 -- What is kept of a spent key: on the transmit side the SHA-256 of the key, on the receive side that of the SCI and the key, so that a key may serve another
--- SCI. An SCI or a fingerprint is among others where one of them is the same, octet by octet.
+-- SCI. An SCI or a fingerprint is among others where one of them is the same, octet by octet. The octets of a key are those that it was given as, in
+-- their order.
 pub record PrintsAre : Type 0 where
   pub transmit : (key : List ℕ) → tx_fingerprint key ≡ sha256 key
   pub receive : (sci key : List ℕ) → rx_fingerprint sci key ≡ sha256 (sci ++ key)
   pub among : (items : List (List ℕ)) (item : List ℕ) → (is_among items item ≡ true) ↔ Contains items item
   pub spent : (prints : List (List ℕ)) (print : List ℕ) → (is_spent prints print ≡ true) ↔ Contains prints print
+  pub short_key : (octets : List ℕ) → octets_of_key (Short octets) ≡ octets
+  pub long_key : (octets : List ℕ) → octets_of_key (Long octets) ≡ octets

@@ -1,9 +1,8 @@
 -- The headline on frames that are received.
-use Rattle.std.specs.Prelude.{◌≡◌, ◌≢◌, ◌⊎◌, ◌<◌, ◌≤◌, ◌+◌, ◌-◌, ◌++◌, max, slice_range, take, true, ℕ, List, [], ◌∷◌, Contains, Option, Some, None, Result, Ok}
+use Rattle.std.specs.Prelude.{◌≡◌, ◌≢◌, ◌⊎◌, ◌<◌, ◌≤◌, ◌+◌, ◌-◌, ◌++◌, max, true, ℕ, List, [], ◌∷◌, Contains, Option, Some, None, Result, Ok}
 use Rattle.macs_fields.specs.Fields.{octets_of}
 use Rattle.macs_frame.specs.Opening.{Verified, bare_frame}
-use Rattle.macs_frame.specs.Tag.{Tag, tag_of}
-use Rattle.macs_frame.specs.declared.tag.Parts.{Parts}
+use Rattle.macs_frame.specs.Tag.{tag_of}
 use Rattle.macs_config.specs.declared.association.RxSa.{RxSa}
 use Rattle.macs_rxsc.specs.Receive.{Numbers, channel_of}
 use Rattle.macs_rxsc.specs.declared.verdict.Kind.{Kind}
@@ -86,10 +85,6 @@ out_after frame answer = []
 abbrev pub OthersAreBare : ℕ → Type 0
 OthersAreBare sectors = (s : State) → Moment sectors s → (frame out : List ℕ) (answer : Result Verdict Stopped) (new : State) → ¬ IsVerifiedAnswer answer
     → Step s (Receives frame) (Received answer out) new → (out ≡ out_after frame answer) × (new.logs ≡ s.logs)
-
--- A frame without its SecTAG and ICV has its addresses and its Secure Data, and nothing else (IEEE Std 802.1AE-2018, 9.10 and 9.11).
-abbrev pub BareFramesAre : Type 0
-BareFramesAre = (frame : List ℕ) (parts : Parts) → Tag frame parts → bare_frame frame ≡ take 12 frame ++ slice_range frame parts.start parts.end
 
 -- ---- no number twice
 

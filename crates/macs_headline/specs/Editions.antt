@@ -10,11 +10,13 @@ use Rattle.macs_config.specs.declared.association.TxSa.{TxSa}
 use Rattle.macs_config.specs.declared.command.Command.{Command}
 use Rattle.macs_config.specs.declared.command.Command.TheVariants.{RxAdd, RxInstall, TxInstall}
 use Rattle.macs_config.specs.declared.refusal.Refusal.TheVariants.{ChannelsFull}
-use Rattle.macs_disk.specs.States.{Image}
+use Rattle.macs_disk.specs.States.{Image, put_sector}
+use Rattle.macs_record.specs.Heads.{head_sector_of}
+use Rattle.macs_record.specs.declared.format.Format.{Format}
 use Rattle.macs_record.specs.declared.format.Format.TheVariants.{One, Two}
 use Rattle.macs_record.specs.declared.record.Record.{Record}
 use Rattle.macs_record.specs.declared.record.Record.TheVariants as recorded
-use Rattle.macs_journal.specs.Areas.{least_sectors}
+use Rattle.macs_journal.specs.Areas.{head_body, least_sectors}
 use Rattle.macs_journal.specs.Formatting.{first_content, first_head}
 use Rattle.macs_journal.specs.Found.{Content, HasJournal, content_with_record}
 use Rattle.macs_journal.specs.Renewal.{compacted}
@@ -103,12 +105,19 @@ pub record EditionsTake : Type 0 where
   pub rx_kept : (s after : Standing) (sci : List ℕ) (an : ℕ) (sa : RxSa) (start : ℕ) → accept s (rx_install sci an sa start) ≡ Ok after
       → standing_after_record s (recorded.RxInstall sci an sa start) ≡ Some after
 
--- How an edition reads a disk, whatever is installed. A journal that is found stands for what its content means. A new one of format one means a new endpoint.
--- With one record more, which its format has, a content means what the record makes of what it meant; and a journal that begins anew, with records that stand
--- for what it meant, means that. A record that raises the ceiling of an association does so.
+-- the same content, in an area of this format
+abbrev pub content_in : Format → Content → Content
+content_in format c = record c { head = record c.head { format = format } }
+
+-- How an edition reads a disk, whatever is installed. A journal that is found stands for what its content means; and with the head of either format in its
+-- place, the same content is found in that format. A new one of format one means a new endpoint. With one record more, which its format has, a content means
+-- what the record makes of what it meant; and a journal that begins anew, with records that stand for what it meant, means that: in format two, where the
+-- edition reads it, and in format one, where no record has a long key. A record that raises the ceiling of an association does so.
 pub record EditionsRead : Type 0 where
   pub stands : (edition : Edition) (sectors : ℕ) (image : Image) (c : Content) (s : Standing) → least_sectors ≤ sectors → HasJournal image c
       → meaning_of edition c ≡ Some s → StandingIs edition sectors image (Ok s)
+  pub either_format : (image : Image) (c : Content) (format : Format) → HasJournal image c
+      → HasJournal (put_sector image (head_body c.area) (head_sector_of (content_in format c).head)) (content_in format c)
   pub new_one : (edition : Edition) (identity : Identity)
       → meaning_of edition (record (first_content identity) { head = record (first_head identity) { format = One } }) ≡ Some (new_standing edition identity)
   pub one_more : (edition : Edition) (c : Content) (r : Record) (s after : Standing) → c.head.count ≤ length c.records
@@ -116,6 +125,8 @@ pub record EditionsRead : Type 0 where
       → meaning_of edition (content_with_record c r) ≡ Some after
   pub anew : (edition : Edition) (c : Content) (s : Standing) (records : List Record) → edition.format_two ≡ true → meaning_of edition c ≡ Some s
       → snapshot_of edition s.identity records ≡ Some s → meaning_of edition (compacted c records) ≡ Some s
+  pub anew_one : (edition : Edition) (c : Content) (s : Standing) (records : List Record) → ((r : Record) → Contains records r → ¬ HasLongKey r)
+      → meaning_of edition c ≡ Some s → snapshot_of edition s.identity records ≡ Some s → meaning_of edition (content_in One (compacted c records)) ≡ Some s
   pub tx_raised : (s : Standing) (an old ceiling : ℕ) → s.ceilings.tx an ≡ Some old → old < ceiling
       → standing_after_record s (recorded.TxCeiling an ceiling) ≡ Some (standing_with_tx_ceiling s an ceiling)
   pub rx_raised : (s : Standing) (sci : List ℕ) (an old ceiling : ℕ) → s.ceilings.rx sci an ≡ Some old → old < ceiling

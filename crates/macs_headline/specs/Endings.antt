@@ -10,6 +10,10 @@ pub record IsAlike (old new : Disk) : Type 0 where
   pub sectors : new.sectors ≡ old.sectors
   pub honest : new.honest ≡ old.honest
 
+-- so is each disk of the same size and honesty, whatever is pending on it
+abbrev pub TheseAreAlike : Type 0
+TheseAreAlike = (old new : Disk) → new.sectors ≡ old.sectors → new.honest ≡ old.honest → IsAlike old new
+
 -- The power goes at some moment of calls that began at `since` and would have led to `ran`: the disk holds one of the images of that moment,
 -- and nothing is pending.
 pub record LosesPower (ran : Disk) (since : ℕ) (new : Disk) : Type 0 where

@@ -1,5 +1,5 @@
 -- The headline on frames.
-use Rattle.std.specs.Prelude.{◌≡◌, ◌≢◌, ◌<◌, ◌≤◌, ◌+◌, ◌^◌, ◌++◌, ℕ, List, [], ◌∷◌, slice_range, Contains, Some, Ok}
+use Rattle.std.specs.Prelude.{◌≡◌, ◌≢◌, ◌<◌, ◌≤◌, ◌+◌, ◌-◌, ◌^◌, ◌++◌, if◌then◌else◌, ℕ, List, [], ◌∷◌, length, nat_lt, slice_index, slice_range, Contains, Some, Ok}
 use Rattle.macs_fields.specs.Fields.{octets_of}
 use Rattle.macs_frame.specs.Opening.{Verified}
 use Rattle.macs_frame.specs.Protection.{protected_frame}
@@ -26,10 +26,11 @@ IsNamedIn Explicit sci name = name ≡ NamesSci sci
 IsNamedIn EndStation sci name = name ≡ NamesStation
 IsNamedIn Implicit sci name = name ≡ NamesNone
 
--- A frame is the standard's (IEEE Std 802.1AE-2018, clauses 9 and 10): the protected frame of the plain one under the encoding association
--- of that moment, with its mode and its next packet number, 1 to 2^32 - 1; the number joins those that were used, and the next one is one more.
--- Where ES is set, the SCI is the source address with port 00-01 (9.5). Where the identity is in its ranges, the tag is read as the mode says, and the
--- frame verifies as the plain one under the key, the SCI and the offset of the association.
+-- A frame is the standard's (IEEE Std 802.1AE-2018, clauses 9 and 10): the protected frame of the plain one under the encoding association of that moment,
+-- with its mode and its next packet number, 1 to 2^32 - 1; the number joins those that were used, and the next one is one more. SL, octet 15, is the number of
+-- octets of Secure Data where they are fewer than 48, so that the plain frame has fewer than 60, else 0 (9.7). Where ES is set, the SCI is the source address
+-- with port 00-01 (9.5). Where the identity is in its ranges, the tag is read as the mode says, and the frame verifies as the plain one under the key, the SCI
+-- and the offset of the association.
 pub record IsStandardFrame (s : State) (plain : List ℕ) (pn : ℕ) (out : List ℕ) (new : State) : Type 0 where
   pub an : ℕ
   pub sa : TxSa
@@ -47,6 +48,7 @@ pub record IsStandardFrame (s : State) (plain : List ℕ) (pn : ℕ) (out : List
         changed = is_confidential sa.protection;
       })
       (octets_of (offset_of sa.protection)) plain
+  pub short : slice_index out 15 ≡ (if nat_lt (length plain) 60 then length plain - 12 else 0)
   pub logged : new.logs.used ≡ record { key = sa.key; pn = pn } ∷ s.logs.used
   pub next : new.next an ≡ Some (pn + 1)
   pub own : s.config.mode ≡ EndStation → s.identity.sci ≡ slice_range plain 6 12 ++ 0 ∷ 1 ∷ []

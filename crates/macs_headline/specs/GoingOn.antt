@@ -19,10 +19,10 @@ use Rattle.macs_headline.specs.Answered.{exchanges_of_lives, lives_at}
 use Rattle.macs_headline.specs.History.{Blank, FitsPast, Formats, Formatted, IsHistory, Life, Past, Refuses, Serves, formatted_state, logs_of, state_at_end}
 use Rattle.macs_headline.specs.Moments.{IsFoundAfter, Moment}
 
--- A life begins with what an opening finds; it goes on with each step, whose answer is one of the history; and it may end at each moment, in a call or between
--- two. An opening is refused for a device call that failed, or for what is there. So it may be where no head gate is open, as long as the disk is not formatted for
--- sure, and where an edition that reads areas of format two comes upon a journal of format one in generation 2^64 - 1. A `format` answers Ok where the disk is
--- not formatted for sure, and it may fail on each disk.
+-- A life begins with what an opening finds; it goes on with each step, whose answer is one of the history, as is each answer of a life of any edition, however
+-- it ended; and it may end at each moment, in a call or between two. An opening is refused for a device call that failed, or for what is there. So it may be
+-- where no head gate is open, as long as the disk is not formatted for sure, and where an edition that reads areas of format two comes upon a journal of
+-- format one in generation 2^64 - 1. A `format` answers Ok where the disk is not formatted for sure, and it may fail on each disk.
 pub record LivesGoOn (sectors : ℕ) : Type 0 where
   pub none : IsHistory sectors [] (Blank [])
   pub begun : (past : Past) (found : Standing) (f : IsFoundAfter sectors past found) → (m : Moment sectors (opened_state found (logs_of past)))
@@ -30,6 +30,8 @@ pub record LivesGoOn (sectors : ℕ) : Type 0 where
   pub called : (s new : State) (m : Moment sectors s) (call : Call) (reply : Reply) → IsInRange call → Step s call reply new → (n : Moment sectors new)
       × (n.lives ≡ m.lives) × (n.edition ≡ m.edition) × (n.image ≡ m.image) × (n.exchanges ≡ m.exchanges ++ record { call = call; reply = reply } ∷ [])
   pub answered : (s : State) (m : Moment sectors s) (e : Exchange) → Contains m.exchanges e → Contains (exchanges_of_lives (lives_at m)) e
+  pub among : (lives : List Life) (edition : Edition) (image : Image) (exchanges : List Exchange) (cut : Option Call) (e : Exchange)
+      → Contains lives (Serves edition image exchanges cut) → Contains exchanges e → Contains (exchanges_of_lives lives) e
   pub ended : (s : State) (m : Moment sectors s) (cut : Option Call) → IfSome cut (λ call. IsInRange call)
       → IsHistory sectors (m.lives ++ Serves m.edition m.image m.exchanges cut ∷ []) (Formatted (state_at_end s cut))
   pub refused : (lives : List Life) (past : Past) (edition : Edition) (image : Image) (fault : JournalFault) → IsHistory sectors lives past

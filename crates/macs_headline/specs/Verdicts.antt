@@ -1,10 +1,11 @@
 -- The headline on the verdict on a received frame: what holds of a frame for each of them, and which comes first.
-use Rattle.std.specs.Prelude.{◌≡◌, ◌≢◌, ◌<◌, ◌≤◌, ◌⊎◌, ◌+◌, ◌%◌, ◌++◌, ℕ, true, false, List, [], ◌∷◌, length, slice_index, slice_range, if◌then◌else◌, Option, Some, None, Ok}
+use Rattle.std.specs.Prelude.{◌≡◌, ◌≢◌, ◌<◌, ◌≤◌, ◌⊎◌, ◌==◌, ◌+◌, ◌-◌, ◌/◌, ◌%◌, ◌^◌, ◌++◌, ℕ, true, false, List, [], ◌∷◌, length, take, slice_index, slice_range, if◌then◌else◌, Option, Some, None, Ok}
 use Rattle.std.specs.Int.{w32, from_be_bytes}
 use Rattle.macs_fields.specs.Fields.{octets_of}
 use Rattle.macs_fields.specs.First.{IsFirst, NoneHolds}
-use Rattle.macs_frame.specs.Opening.{Verified, named_sci}
-use Rattle.macs_frame.specs.Tag.{has_bit, name_of, tag_of}
+use Rattle.macs_frame.specs.Opening.{Verified, bare_frame, named_sci}
+use Rattle.macs_frame.specs.Tag.{Tag, changed, control, has_bit, name_of, tag_of}
+use Rattle.macs_frame.specs.declared.tag.Parts.{Parts}
 use Rattle.macs_config.specs.declared.association.RxSa.{RxSa}
 use Rattle.macs_rxsc.specs.Receive.{Numbers}
 use Rattle.macs_rxsc.specs.declared.verdict.Kind.TheVariants.{Invalid, UnknownSci, Untagged, UnusedSa}
@@ -21,6 +22,10 @@ use Rattle.macs_headline.specs.Received.{IsOfChannel}
 -- the place of the first octet after the SecTAG, which has 16 octets where SC is set, else 8 (IEEE Std 802.1AE-2018, 9.3)
 abbrev pub behind_tag : List ℕ → ℕ
 behind_tag frame = if has_bit (slice_index frame 14) 0x20 then 28 else 20
+
+-- the place of the first octet behind Secure Data: SL octets behind their first one, or 16 before the end of the frame where SL is 0 (9.7 and 9.11)
+abbrev pub behind_data : List ℕ → ℕ
+behind_data frame = if slice_index frame 15 == 0 then length frame - 16 else behind_tag frame + slice_index frame 15
 
 -- A frame of so many octets, with Secure Data from a place on, has as many as SL says (9.7): 48 or more before the ICV where SL is 0, else SL; after the ICV is
 -- nothing, or the padding of a frame to 60 octets.
@@ -78,8 +83,10 @@ reason_told (Delivered UnusedSa) = Some NotUsingSa
 reason_told (Delivered Invalid) = Some NotValid
 reason_told verdict = None
 
--- A frame has the reason that its verdict tells, and none that comes before it; one that is delivered as verified, or held back, has none. A SecTAG names the SCI
--- that it spells out, or that of its source address; its AN are the lowest two bits of octet 14, and its PN is in octets 16 to 19 (9.6 and 9.8).
+-- A frame has the reason that its verdict tells, and none that comes before it; one that is delivered as verified, or held back, has none. A SecTAG names the
+-- SCI that it spells out, or that of its source address; its AN are the lowest two bits of octet 14, and its PN is in octets 16 to 19 (9.6 and 9.8). E and C
+-- are the bits of octet 14 with the values 8 and 4 (9.5), and an octet has the bit of value 2^k where k halvings of it leave an odd number. What verifies, or
+-- is given bare, are the octets from the first one after the SecTAG to the last one before the ICV (9.10 and 9.11).
 pub record VerdictsAreNamed : Type 0 where
   pub first : (s new : State) (frame out : List ℕ) (verdict : Verdict) (reason : Reason) → Step s (Receives frame) (Received (Ok verdict) out) new
       → reason_told verdict ≡ Some reason → IsFirst (IsCauseOf s frame) causes_in_order reason
@@ -88,3 +95,12 @@ pub record VerdictsAreNamed : Type 0 where
   pub sci : (frame : List ℕ) → named_sci frame (name_of frame) ≡ sci_in_tag frame
   pub an : (frame : List ℕ) → (tag_of frame).an ≡ slice_index frame 14 % 4
   pub pn : (frame : List ℕ) → (tag_of frame).pn ≡ from_be_bytes w32 (slice_range frame 16 20)
+  pub e_bit : (frame : List ℕ) → (tag_of frame).encrypted ≡ has_bit (slice_index frame 14) 0x08
+  pub c_bit : (frame : List ℕ) → changed (control frame) ≡ has_bit (slice_index frame 14) 0x04
+  pub bits : (octet k : ℕ) → has_bit octet (2 ^ k) ≡ ((octet / 2 ^ k) % 2 == 1)
+  pub secure_data : (frame : List ℕ) (parts : Parts) → Tag frame parts → (parts.start ≡ behind_tag frame) × (parts.end ≡ behind_data frame)
+
+-- A frame without its SecTAG and ICV has its addresses and its Secure Data, and nothing else (9.10 and 9.11).
+abbrev pub BareFramesAre : Type 0
+BareFramesAre = (frame : List ℕ) (parts : Parts) → Tag frame parts
+    → bare_frame frame ≡ take 12 frame ++ slice_range frame (behind_tag frame) (behind_data frame)

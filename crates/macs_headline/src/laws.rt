@@ -1,6 +1,6 @@
 //! The laws, and that what a program does is what they speak of.
 
-ghost use Rattle.std.specs.Prelude.{◌≡◌, ◌≤◌, ℕ, true};
+ghost use Rattle.std.specs.Prelude.{◌≡◌, ◌≤◌, ℕ, Bool, true, List, ◌∷◌, IsTrue};
 ghost use Rattle.macs_disk.specs.Disk.{Disk, IsHonest, LeftSince, MayLeave, disk_after_loss};
 ghost use Rattle.macs_disk.specs.FileDisks.{IsBlank, IsFoundAgain, IsFoundAs, IsLeftAsShown, IsOpened, disk_in_file};
 ghost use Rattle.macs_disk.specs.FileDisks.{file_left, layout_of, state_in_file};
@@ -12,8 +12,9 @@ ghost use Rattle.macs_disk.specs.declared.file.FileDisk.{FileDisk};
 ghost use Rattle.macs_disk.specs.declared.layout.Layout.{Layout};
 ghost use Rattle.macs_disk.specs.declared.layout.Layout.TheVariants.{Packed, Spaced};
 ghost use Rattle.macs_journal.specs.Areas.{least_sectors};
+ghost use Rattle.macs_fields.specs.First.{IsFirst};
 ghost use Rattle.macs_headline.specs.Answered.{AnswersAreHeld, MomentsAreHistories};
-ghost use Rattle.macs_headline.specs.Binding.{CallsAreDeeds, ChainsAnswer, ChainsKeepSizes, ChainsTell, CutFramesAreBelow};
+ghost use Rattle.macs_headline.specs.Binding.{CallsAreDeeds, ChainsAnswer, ChainsKeepSizes, ChainsTell, CutDeliveriesAreBelow, CutFramesAreBelow};
 ghost use Rattle.macs_headline.specs.Binding.{DeedsAreHistories, EndsAreCuts};
 ghost use Rattle.macs_headline.specs.Binding.{FaultsAreFailures, FramesAreDeliveredOnce, FramesAreWrittenOnce};
 ghost use Rattle.macs_headline.specs.Binding.{FusesChangeNone, IdleFindsNoWork, IsNewDisk, LargerFind, LargerGoOn};
@@ -21,15 +22,15 @@ ghost use Rattle.macs_headline.specs.Binding.{LivesAreMoments, LivesFit, LivesFi
 ghost use Rattle.macs_headline.specs.Binding.{LivesAreDeeds, LivesEndExactly, LivesKeepTickets, TheseAreNew};
 ghost use Rattle.macs_headline.specs.Binding.{NewDeedsAreHistories, OpeningsBeginAnew};
 ghost use Rattle.macs_headline.specs.Binding.{NewDisksHaveHistories, OpeningsFind, PassedOnHaveHistories, RefusalsAreFailures, SettledHaveHistories, SpentAreSpent};
-ghost use Rattle.macs_headline.specs.Begun.{CutsBegin, CutsChangeNone, InHandWasBegun};
+ghost use Rattle.macs_headline.specs.Begun.{CutsBegin, CutsChangeNone, InHandWasBegun, OthersBeginNone};
 ghost use Rattle.macs_headline.specs.Cases.{CasesAre};
 ghost use Rattle.macs_headline.specs.Changing.{CommandsChange, IsFirstConfiguration, PrintsAre};
 ghost use Rattle.macs_headline.specs.Commands.{CommandsKept, FindsOne, InHandWasGiven};
 ghost use Rattle.macs_headline.specs.Configurations.{ConfigurationIs};
-ghost use Rattle.macs_headline.specs.Deliveries.{BareFramesAre, DeliveredBelow, DeliveriesAreVerified, GivenOnce, NeverOkAgain, OthersAreBare};
+ghost use Rattle.macs_headline.specs.Deliveries.{DeliveredBelow, DeliveriesAreVerified, GivenOnce, NeverOkAgain, OthersAreBare};
 ghost use Rattle.macs_headline.specs.Editions.{EditionsAlike, EditionsRead, EditionsTake, TheseAreLarger};
 ghost use Rattle.macs_headline.specs.Endings.{DroppedPassOn, EndsAreEarlier, KillingsPassOn, LosesPower, PassedOnAgain, PowerLossesPassOn};
-ghost use Rattle.macs_headline.specs.Endings.{ReadsPassOn, SyncsPassOn, WritesBackAsSyncs, WrittenBackPassOn};
+ghost use Rattle.macs_headline.specs.Endings.{ReadsPassOn, SyncsPassOn, TheseAreAlike, WritesBackAsSyncs, WrittenBackPassOn};
 ghost use Rattle.macs_headline.specs.ExampleLives.{IsWorkedHistory};
 ghost use Rattle.macs_headline.specs.ExampleMigration.{IsWorkedMigration};
 ghost use Rattle.macs_headline.specs.Fitting.{RestartsFit};
@@ -48,7 +49,7 @@ ghost use Rattle.macs_headline.specs.Refused.{FaultsAreNamed, LimitsAre, Refusal
 ghost use Rattle.macs_headline.specs.Steps.{RepliesAreOfCalls, StepsAreOne, StepsAreTaken};
 ghost use Rattle.macs_headline.specs.Stopping.{StoppedStays};
 ghost use Rattle.macs_headline.specs.Tickets.{TicketsKept};
-ghost use Rattle.macs_headline.specs.Verdicts.{VerdictsAreNamed};
+ghost use Rattle.macs_headline.specs.Verdicts.{BareFramesAre, VerdictsAreNamed};
 ghost use Rattle.macs_headline.specs.Windows.{WindowsAreKept};
 ghost use Rattle.macs_headline.specs.Openings.{IdentityWasGiven, NothingChanges, RefusedForDiskOrBlank, RefusedForDiskOrSpent, SpentAreLast};
 
@@ -113,8 +114,10 @@ pub fn headline()
     ensures finds_one { FindsOne }
     // What is in hand where a life ends was given to a call of that life.
     ensures in_hand_was_given { (sectors : ℕ) → InHandWasGiven sectors }
-    // It is accepted, and work on it began in a step or in `command`, and in no other call.
+    // It is accepted, and where it was not in hand before the call that was cut short, that is a step or `command`.
     ensures in_hand_was_begun { (sectors : ℕ) → InHandWasBegun sectors }
+    // And work on a command begins in a step or in `command`, and in no other call that is answered.
+    ensures others_begin_none { OthersBeginNone }
     // Whichever call is cut short, nothing else changes.
     ensures cuts_change_none { CutsChangeNone }
     // Where a call is cut short that may begin a command, that one is in hand, whatever it installs.
@@ -200,6 +203,17 @@ pub fn headline()
     ensures cases { CasesAre }
 {}
 
+/// What comes first in an order, of faults, reasons or steps: the first one, where it holds; else
+/// what comes first of those behind it.
+pub fn first_in_order<R>()
+    // The first one, where it holds.
+    ensures front { (holds : R → Bool) (first : R) (rest : List R) → IsTrue (holds first)
+        → IsFirst (λ r. IsTrue (holds r)) (first ∷ rest) first }
+    // Else what comes first of the others.
+    ensures behind { (holds : R → Bool) (first found : R) (rest : List R) → ¬ IsTrue (holds first)
+        → IsFirst (λ r. IsTrue (holds r)) rest found → IsFirst (λ r. IsTrue (holds r)) (first ∷ rest) found }
+{}
+
 /// Where a history begins, and which disks have it.
 pub fn beginnings()
     ensures new { NewDisksHaveHistories }
@@ -221,6 +235,8 @@ pub fn beginnings()
 
 /// Each way in which a program may end passes the medium of its disk on, in a call or between two.
 pub fn endings<D: SectorDisk>()
+    // Alike are a disk and each other one of its size and honesty, whatever is pending.
+    ensures as_alike { TheseAreAlike }
     // Power is lost.
     ensures power_lost { PowerLossesPassOn }
     // The program is killed, and no power is lost.
@@ -292,6 +308,9 @@ pub fn histories<D: SectorDisk>()
     ensures cut_frames { CutFramesAreBelow D.disk }
     // A frame that it delivers as verified verifies, and with window zero its number was so delivered in no life.
     ensures deliveries { FramesAreDeliveredOnce D.disk }
+    // A frame that a `receive` would have so delivered, in which the program ends, verifies too; what
+    // is found later is above its number.
+    ensures cut_deliveries { CutDeliveriesAreBelow D.disk }
 {}
 
 /// There are histories, over real images and frames: with power losses in `format`, between two steps of a

@@ -1,5 +1,8 @@
-use Rattle.macs_headline.proofs.Endings.{dropped-pass-on, ends-are-earlier, killings-pass-on, passed-on-again, power-losses-pass-on, reads-pass-on, syncs-pass-on, writes-back-as-syncs, written-back-pass-on}
+use Rattle.macs_headline.proofs.Endings.{dropped-pass-on, ends-are-earlier, killings-pass-on, passed-on-again, power-losses-pass-on, reads-pass-on, syncs-pass-on, these-are-alike, writes-back-as-syncs, written-back-pass-on}
 use Rattle.macs_headline.proofs.laws.endings.Goals as goal
+
+pub returns-clause-as_alike : goal.returns-clause-as_alike
+returns-clause-as_alike g c = these-are-alike
 
 pub returns-clause-power_lost : goal.returns-clause-power_lost
 returns-clause-power_lost g c = power-losses-pass-on

@@ -1,12 +1,13 @@
 use Rattle.macs_headline.proofs.AlikeEditions.{editions-alike}
 use Rattle.macs_headline.proofs.Answered.{answers-are-held, delivered-below, given-once, moments-are-histories, never-ok-again, written-below, written-once}
 use Rattle.macs_headline.proofs.Begun.{cuts-change-none, in-hand-was-begun}
+use Rattle.macs_headline.proofs.BegunByCalls.{others-begin-none}
 use Rattle.macs_headline.proofs.Cases.{cases-are}
 use Rattle.macs_headline.proofs.Changing.{commands-change, is-first-configuration, prints-are}
 use Rattle.macs_headline.proofs.Commands.{commands-kept}
 use Rattle.macs_headline.proofs.Configurations.{configuration-is}
 use Rattle.macs_headline.proofs.CutBeginnings.{cuts-begin}
-use Rattle.macs_headline.proofs.Deliveries.{bare-frames-are, deliveries-are-verified, others-are-bare}
+use Rattle.macs_headline.proofs.Deliveries.{deliveries-are-verified, others-are-bare}
 use Rattle.macs_headline.proofs.Fitting.{restarts-fit}
 use Rattle.macs_headline.proofs.FormatsOnce.{formats-once, refused-by-history}
 use Rattle.macs_headline.proofs.FoundOnce.{finds-one}
@@ -31,7 +32,7 @@ use Rattle.macs_headline.proofs.Stopping.{stopped-stays}
 use Rattle.macs_headline.proofs.Tickets.{tickets-kept}
 use Rattle.macs_headline.proofs.TakenByEditions.{editions-take}
 use Rattle.macs_headline.proofs.TxFaults.{faults-are-named}
-use Rattle.macs_headline.proofs.Verdicts.{verdicts-are-named}
+use Rattle.macs_headline.proofs.Verdicts.{bare-frames-are, verdicts-are-named}
 use Rattle.macs_headline.proofs.laws.headline.Goals as goal
 
 pub returns-clause-nothing_forgotten : goal.returns-clause-nothing_forgotten
@@ -123,6 +124,9 @@ returns-clause-in_hand_was_given c = in-hand-was-given
 
 pub returns-clause-in_hand_was_begun : goal.returns-clause-in_hand_was_begun
 returns-clause-in_hand_was_begun c = in-hand-was-begun
+
+pub returns-clause-others_begin_none : goal.returns-clause-others_begin_none
+returns-clause-others_begin_none c = others-begin-none
 
 pub returns-clause-cuts_change_none : goal.returns-clause-cuts_change_none
 returns-clause-cuts_change_none c = cuts-change-none

@@ -3,7 +3,7 @@ use Rattle.macs_headline.proofs.Chains.{calls-are-deeds, chains-answer, chains-k
 use Rattle.macs_headline.proofs.ExactEnds.{lives-end-exactly}
 use Rattle.macs_headline.proofs.Faults.{faults-are-failures}
 use Rattle.macs_headline.proofs.Idling.{idle-finds-no-work}
-use Rattle.macs_headline.proofs.Moments.{cut-frames-are-below, ends-are-cuts, frames-are-delivered-once, frames-are-written-once, lives-are-moments, lives-fit, lives-fit-unbegun, lives-keep-commands, openings-find}
+use Rattle.macs_headline.proofs.Moments.{cut-deliveries-are-below, cut-frames-are-below, ends-are-cuts, frames-are-delivered-once, frames-are-written-once, lives-are-moments, lives-fit, lives-fit-unbegun, lives-keep-commands, openings-find}
 use Rattle.macs_headline.proofs.Refusals.{refusals-are-failures}
 use Rattle.macs_headline.proofs.Spending.{spent-are-spent}
 use Rattle.macs_headline.proofs.Tickets.{lives-keep-tickets}
@@ -50,6 +50,9 @@ returns-clause-cut_frames g c = cut-frames-are-below g.D.SectorDisk.disk g.met.D
 
 pub returns-clause-deliveries : goal.returns-clause-deliveries
 returns-clause-deliveries g c = frames-are-delivered-once g.D.SectorDisk.disk g.met.D.SectorDisk.sound
+
+pub returns-clause-cut_deliveries : goal.returns-clause-cut_deliveries
+returns-clause-cut_deliveries g c = cut-deliveries-are-below g.D.SectorDisk.disk g.met.D.SectorDisk.sound
 
 pub returns-clause-refusals : goal.returns-clause-refusals
 returns-clause-refusals g c = refusals-are-failures g.D.SectorDisk.disk g.met.D.SectorDisk.sound
