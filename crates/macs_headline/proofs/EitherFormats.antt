@@ -6,11 +6,11 @@ use Rattle.std.proofs.lemmas.List.{drop_all, take_all}
 use Rattle.macs_config.specs.Config.{Edition}
 use Rattle.macs_disk.specs.States.{Image, put_sector}
 use Rattle.macs_disk.proofs.Images.{put-other, put-same}
-use Rattle.macs_record.specs.Heads.{Head, IsHead, IsHeadOf, head_sector_of}
+use Rattle.macs_record.specs.Heads.{Head, IsHead, head_sector_of}
 use Rattle.macs_record.specs.declared.format.Format.{Format}
 use Rattle.macs_record.specs.declared.format.Format.TheVariants.{One}
 use Rattle.macs_record.specs.declared.record.Record.{Record}
-use Rattle.macs_journal.specs.Areas.{IsArea, gate, head_body, other_area, slot_body}
+use Rattle.macs_journal.specs.Areas.{gate, head_body, other_area, slot_body}
 use Rattle.macs_journal.specs.Found.{Content, HasEarlier, HasJournal, IsPast}
 use Rattle.macs_journal.specs.Renewal.{compacted}
 use Rattle.macs_journal.proofs.Appends.{body-but, gate-but, gate-but-back, other-but}
