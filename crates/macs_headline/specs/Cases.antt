@@ -1,4 +1,5 @@
--- The headline on the words of its own clauses that are lists of cases: none is left out of those that a clause asks for, and none is among those it leaves open.
+-- The headline on the words of its own clauses that are lists of cases: none is left out of those that a clause asks for, and none is among those it leaves
+-- open.
 use Rattle.std.specs.Prelude.{◌≡◌, ◌≢◌, ◌⊎◌, ℕ, List, Contains, Result, Ok, Err}
 use Rattle.macs_config.specs.declared.command.Command.{Command}
 use Rattle.macs_config.specs.declared.refusal.Refusal.TheVariants.{ChannelsFull}
@@ -27,9 +28,9 @@ IsOfSmaller reply = (reply ≡ Ran (Err (ran.Refused ChannelsFull))) ⊎ ((reply
     ⊎ ((ticket : ℕ) × ((reply ≡ Advanced (Ok (Done ticket (Err (ran.Refused ChannelsFull))))) ⊎ (reply ≡ AdvancedLong ticket))))
 
 -- A plain frame and a received one are handed in by frame calls. Only `Worked` and `Disk` of a step leave open what is in hand; a larger edition may answer
--- otherwise only where ChannelsFull or LongKey was; and GenerationsSpent is told of a command, a refill, a step, and a command that waited. What `IsExact` says of
--- each answer is all of it, but of Ok, of `Stopped`, and of received frames. Each entry of the two lists was used, or given. Two states that are one but for what
--- is in hand, or but for numbers and logs, differ in nothing else.
+-- otherwise only where ChannelsFull or LongKey was; and GenerationsSpent is told of a command, a refill, a step, and a command that waited. What `IsExact` says
+-- of each answer is all of it, but of Ok, of `Stopped`, and of received frames. Each entry of the two lists was used, or given. Two states that are one but for
+-- what is in hand, or but for numbers and logs, differ in nothing else.
 pub record CasesAre : Type 0 where
   pub sent : (plain : List ℕ) → IsFrameCall (Protects plain)
   pub received : (frame : List ℕ) → IsFrameCall (Receives frame)

@@ -20,9 +20,9 @@ use Rattle.macs_headline.specs.History.{Blank, FitsPast, Formats, Formatted, IsH
 use Rattle.macs_headline.specs.Moments.{IsFoundAfter, Moment}
 
 -- A life begins with what an opening finds; it goes on with each step, whose answer is one of the history; and it may end at each moment, in a call or between
--- two. An opening is refused for a device call that failed, or for what is there. So it may be where no head gate is open, as long as the disk is not formatted for
--- sure, and where an edition that reads areas of format two comes upon a journal of format one in generation 2^64 - 1. A `format` answers Ok where the disk is
--- not formatted for sure, and it may fail on each disk.
+-- two. An opening is refused for a device call that failed, or for what is there. So it may be where no head gate is open, as long as the disk is not formatted
+-- for sure, and where an edition that reads areas of format two comes upon a journal of format one in generation 2^64 - 1. A `format` answers Ok where the disk
+-- is not formatted for sure, and it may fail on each disk.
 pub record LivesGoOn (sectors : ℕ) : Type 0 where
   pub none : IsHistory sectors [] (Blank [])
   pub begun : (past : Past) (found : Standing) (f : IsFoundAfter sectors past found) → (m : Moment sectors (opened_state found (logs_of past)))

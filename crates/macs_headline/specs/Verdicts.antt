@@ -22,15 +22,15 @@ use Rattle.macs_headline.specs.Received.{IsOfChannel}
 abbrev pub behind_tag : List ℕ → ℕ
 behind_tag frame = if has_bit (slice_index frame 14) 0x20 then 28 else 20
 
--- A frame of so many octets, with Secure Data from a place on, has as many as SL says (9.7): 48 or more before the ICV where SL is 0, else SL; after the ICV is
--- nothing, or the padding of a frame to 60 octets.
+-- A frame of so many octets, with Secure Data from a place on, has as many as SL says (9.7): 48 or more before the ICV where SL is 0, else SL; after the ICV
+-- is nothing, or the padding of a frame to 60 octets.
 abbrev pub HasLength : (octets start short : ℕ) → Type 0
 HasLength octets start short =
     ((short ≡ 0) × (start + 48 + 16 ≤ octets))
     ⊎ ((short ≢ 0) × ((octets ≡ start + short + 16) ⊎ ((octets ≡ 60) × (start + short + 16 < 60))))
 
--- The SecTAG breaks no rule of PDU validation (9.12): it is whole; V and SCB are clear, and SC and ES are not both set; SL is below 64; the PN is not 0; and the
--- frame is as long as SL says.
+-- The SecTAG breaks no rule of PDU validation (9.12): it is whole; V and SCB are clear, and SC and ES are not both set; SL is below 64; the PN is not 0; and
+-- the frame is as long as SL says.
 pub record BreaksNoRule (frame : List ℕ) : Type 0 where
   pub whole : behind_tag frame ≤ length frame
   pub version : has_bit (slice_index frame 14) 0x80 ≡ false
@@ -50,8 +50,8 @@ sci_in_tag frame =
 -- ---- each reason
 
 -- What holds of a frame that is discarded for a reason, or is delivered though it has it. It has fewer than 14 octets; more than 9,216; another EtherType than
--- 88-E5; a SecTAG that breaks a rule; E without C, so that it is for the key agreement entity alone (9.5); no receive channel that it names; no association there
--- at its AN; a packet number below the lowest acceptable one there, under replay protection; or it does not verify as any plain frame (10.6).
+-- 88-E5; a SecTAG that breaks a rule; E without C, so that it is for the key agreement entity alone (9.5); no receive channel that it names; no association
+-- there at its AN; a packet number below the lowest acceptable one there, under replay protection; or it does not verify as any plain frame (10.6).
 abbrev pub IsCauseOf : State → List ℕ → Reason → Type 0
 IsCauseOf s frame Runt = length frame < 14
 IsCauseOf s frame Oversize = 9216 < length frame
@@ -78,8 +78,8 @@ reason_told (Delivered UnusedSa) = Some NotUsingSa
 reason_told (Delivered Invalid) = Some NotValid
 reason_told verdict = None
 
--- A frame has the reason that its verdict tells, and none that comes before it; one that is delivered as verified, or held back, has none. A SecTAG names the SCI
--- that it spells out, or that of its source address; its AN are the lowest two bits of octet 14, and its PN is in octets 16 to 19 (9.6 and 9.8).
+-- A frame has the reason that its verdict tells, and none that comes before it; one that is delivered as verified, or held back, has none. A SecTAG names the
+-- SCI that it spells out, or that of its source address; its AN are the lowest two bits of octet 14, and its PN is in octets 16 to 19 (9.6 and 9.8).
 pub record VerdictsAreNamed : Type 0 where
   pub first : (s new : State) (frame out : List ℕ) (verdict : Verdict) (reason : Reason) → Step s (Receives frame) (Received (Ok verdict) out) new
       → reason_told verdict ≡ Some reason → IsFirst (IsCauseOf s frame) causes_in_order reason
