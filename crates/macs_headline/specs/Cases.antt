@@ -1,4 +1,5 @@
--- The headline on the words of its own clauses that are lists of cases: none is left out of those that a clause asks for, and none is among those it leaves open.
+-- The headline on the words of its own clauses that are lists of cases: none is left out of those that a clause asks for, and none is among those it leaves
+-- open.
 use Rattle.std.specs.Prelude.{◌≡◌, ◌≢◌, ◌⊎◌, ◌++◌, ℕ, List, [], ◌∷◌, Contains, Result, Ok, Err}
 use Rattle.macs_config.specs.declared.command.Command.{Command}
 use Rattle.macs_config.specs.declared.refusal.Refusal.TheVariants.{ChannelsFull}

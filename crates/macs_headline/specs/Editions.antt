@@ -73,11 +73,11 @@ HasLongKey (recorded.TxInstall an sa start) = length sa.key ≢ 16
 HasLongKey (recorded.RxInstall sci an sa start) = length sa.key ≢ 16
 HasLongKey r = ⊥
 
--- What an edition takes. ChannelsFull is answered to a command that adds a channel alone, and only where as many exist as the edition takes. LongKey is answered
--- to no command in range where it takes long keys, and else a command that installs is accepted with a key of 16 octets alone; it is answered to none with a key
--- of 16 octets. Areas of format two are read by their records alone, where the edition reads them, so as those of format one where no record is of a long key,
--- and else not; an area of format one with a record of a long key stands for nothing. A record of a command that it accepts stands for what the command makes,
--- whatever is installed; so does one of an association that a command asks for.
+-- What an edition takes. ChannelsFull is answered to a command that adds a channel alone, and only where as many exist as the edition takes. LongKey is
+-- answered to no command in range where it takes long keys, and else a command that installs is accepted with a key of 16 octets alone; it is answered to none
+-- with a key of 16 octets. Areas of format two are read by their records alone, where the edition reads them, so as those of format one where no record is of a
+-- long key, and else not; an area of format one with a record of a long key stands for nothing. A record of a command that it accepts stands for what the
+-- command makes, whatever is installed; so does one of an association that a command asks for.
 pub record EditionsTake : Type 0 where
   pub channels : (edition : Edition) (identity : Identity) (c : Config) (sci : List ℕ) → length c.channels < edition.channels
       → ¬ (refusal_of edition identity c (RxAdd sci) ≡ Some (Named ChannelsFull))

@@ -91,8 +91,9 @@ SkipsFew sectors = (s : State) (edition : Edition) (image : Image) (found : Stan
     → s.config.tx an ≡ Some before → found.config.tx an ≡ Some after → s.next an ≡ Some next
     → IsSomeAnd ((opened_state found s.logs).next an) (λ later. IsSkipped s.identity.tx_block next later)
 
--- How far a restart moves the numbers of a receive association: next and lowest become one number. It is no smaller than next was, and at most that or, where it
--- is greater, a block beyond the greatest number that was seen, as far as 2^32, one more than the last packet number; where none was seen it is what next was.
+-- How far a restart moves the numbers of a receive association: next and lowest become one number. It is no smaller than next was, and at most that or, where
+-- it is greater, a block beyond the greatest number that was seen, as far as 2^32, one more than the last packet number; where none was seen it is what next
+-- was.
 pub record IsMoved (block : ℕ) (old new : Numbers) : Type 0 where
   pub level : new.lowest ≡ new.next
   pub rises : old.next ≤ new.next

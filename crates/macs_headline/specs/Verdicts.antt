@@ -27,15 +27,15 @@ behind_tag frame = if has_bit (slice_index frame 14) 0x20 then 28 else 20
 abbrev pub behind_data : List ℕ → ℕ
 behind_data frame = if slice_index frame 15 == 0 then length frame - 16 else behind_tag frame + slice_index frame 15
 
--- A frame of so many octets, with Secure Data from a place on, has as many as SL says (9.7): 48 or more before the ICV where SL is 0, else SL; after the ICV is
--- nothing, or the padding of a frame to 60 octets.
+-- A frame of so many octets, with Secure Data from a place on, has as many as SL says (9.7): 48 or more before the ICV where SL is 0, else SL; after the ICV
+-- is nothing, or the padding of a frame to 60 octets.
 abbrev pub HasLength : (octets start short : ℕ) → Type 0
 HasLength octets start short =
     ((short ≡ 0) × (start + 48 + 16 ≤ octets))
     ⊎ ((short ≢ 0) × ((octets ≡ start + short + 16) ⊎ ((octets ≡ 60) × (start + short + 16 < 60))))
 
--- The SecTAG breaks no rule of PDU validation (9.12): it is whole; V and SCB are clear, and SC and ES are not both set; SL is below 64; the PN is not 0; and the
--- frame is as long as SL says.
+-- The SecTAG breaks no rule of PDU validation (9.12): it is whole; V and SCB are clear, and SC and ES are not both set; SL is below 64; the PN is not 0; and
+-- the frame is as long as SL says.
 pub record BreaksNoRule (frame : List ℕ) : Type 0 where
   pub whole : behind_tag frame ≤ length frame
   pub version : has_bit (slice_index frame 14) 0x80 ≡ false
@@ -55,8 +55,8 @@ sci_in_tag frame =
 -- ---- each reason
 
 -- What holds of a frame that is discarded for a reason, or is delivered though it has it. It has fewer than 14 octets; more than 9,216; another EtherType than
--- 88-E5; a SecTAG that breaks a rule; E without C, so that it is for the key agreement entity alone (9.5); no receive channel that it names; no association there
--- at its AN; a packet number below the lowest acceptable one there, under replay protection; or it does not verify as any plain frame (10.6).
+-- 88-E5; a SecTAG that breaks a rule; E without C, so that it is for the key agreement entity alone (9.5); no receive channel that it names; no association
+-- there at its AN; a packet number below the lowest acceptable one there, under replay protection; or it does not verify as any plain frame (10.6).
 abbrev pub IsCauseOf : State → List ℕ → Reason → Type 0
 IsCauseOf s frame Runt = length frame < 14
 IsCauseOf s frame Oversize = 9216 < length frame

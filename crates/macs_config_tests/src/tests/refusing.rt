@@ -85,12 +85,16 @@ fn refuses_receive_installs(rt: HostRuntime) {
 #[test]
 fn takes_long_keys(rt: HostRuntime) {
     let mut config = configured(&rt);
-    let transmit = tx_install(&rt, 2, long_key_from(0));
-    take(&rt, &mut config, transmit);
-    refuse(&rt, &mut config, transmit, Refusal::SlotTaken);
-    let receive = rx_install(&rt, peer(9), 3, long_key_from(32));
-    take(&rt, &mut config, receive);
-    refuse(&rt, &mut config, receive, Refusal::SlotTaken);
+    take(&rt, &mut config, tx_install(&rt, 2, long_key_from(0)));
+    let again = tx_install(&rt, 2, long_key_from(0));
+    refuse(&rt, &mut config, again, Refusal::SlotTaken);
+    take(
+        &rt,
+        &mut config,
+        rx_install(&rt, peer(9), 3, long_key_from(32)),
+    );
+    let again = rx_install(&rt, peer(9), 3, long_key_from(32));
+    refuse(&rt, &mut config, again, Refusal::SlotTaken);
     assert!(rt; config.is_spent_tx(&long_key_from(0)));
     assert!(rt; config.is_spent_rx(peer(9), &long_key_from(32)));
 }

@@ -162,7 +162,8 @@ fn a_migration_has_so_many_device_calls(rt: HostRuntime) {
     expect_calls(&rt, rt.alloc(), Old::Grown, GROWN_CALLS);
 }
 
-/// The rest of the script is played on the young disk.
+/// The rest of the script is played on the young disk, with a key of 256 bits, and as many records more as an area has
+/// slots: the journal begins anew over the area that was of format one, whose gates are open.
 #[test]
 fn the_script_goes_on_behind_a_migration(rt: HostRuntime) {
     let Cut { disk, mut known } = older(&rt, rt.alloc(), Old::Young);
@@ -170,6 +171,7 @@ fn the_script_goes_on_behind_a_migration(rt: HostRuntime) {
         Ok(mut endpoint) => {
             known.catch_up(&rt, &endpoint);
             play_parts(&rt, &mut endpoint, &mut known, PARTS, SCRIPT.len());
+            assert!(rt; take(&rt, &mut endpoint, &mut known, Part::Windows(AREA)).is_ok());
             let mut disk = endpoint.into_disk();
             disk.crash();
             judge(&rt, disk, &known);
@@ -219,7 +221,7 @@ fn the_end_of_such_a_migration_is_stopped_at_each_call(rt: HostRuntime) {
     expect(&rt, rt.alloc(), Old::Grown, calls, gates + dead + filled);
 }
 
-/// Behind these calls of the young disk's opening there are so many power losses after which the journal of format one is
+/// After these calls of the young disk's opening there are so many power losses after which the journal of format one is
 /// found, and begins anew again, and so many after which that of format two is. Each call of the openings is stopped.
 fn expect_openings(rt: &impl Abort, alloc: Global, calls: [u64; 2], before: u64, after: u64) {
     assert!(rt; before <= 12);
@@ -253,26 +255,4 @@ fn openings_behind_a_cut_gate_of_a_migration_are_stopped_at_each_call(rt: HostRu
 #[test]
 fn openings_behind_the_last_sync_of_a_migration_are_stopped_at_each_call(rt: HostRuntime) {
     expect_openings(&rt, rt.alloc(), [CALLS - 1, CALLS], 3 + 3, 3 + 3);
-}
-
-/// The rest of the script goes on from it, with a key of 256 bits, and as many records more as an area has slots:
-/// the journal begins anew over the area that was of format one, whose gates are open.
-fn go_on(rt: &impl Abort, alloc: Global) {
-    let Cut { disk, known } = older(rt, alloc);
-    let mut known = known;
-    match Endpoint::open(disk) {
-        Ok(mut endpoint) => {
-            for part in &SCRIPT[PARTS..] {
-                assert!(rt; take(rt, &mut endpoint, &mut known, *part).is_ok());
-            }
-            assert!(rt; take(rt, &mut endpoint, &mut known, Part::Windows(AREA)).is_ok());
-            judge(rt, endpoint.into_disk(), &known);
-        }
-        Err(_) => panic!(rt; "not opened"),
-    }
-}
-
-#[test]
-fn the_script_goes_on_behind_a_migration(rt: HostRuntime) {
-    go_on(&rt, rt.alloc());
 }
