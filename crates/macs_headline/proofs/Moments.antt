@@ -409,8 +409,13 @@ module _ {D : Type 0} (disk_of : D → Disk) (sound : (it : D) → IsHonest (dis
       let restart = fits-restart later sectors image next found (larger-fits this_edition later up_to sectors image next fits) is_found in
       let given = sound-effect s.edition (core s) (core next) (effect-of s (Receives frame) (Received (Ok (Delivered kind)) out) next step.1)
       (sound-moment sectors s m) in
-      let here : WasGiven next.logs d.sci d.sa.key (tag_of frame).pn =
-      (kind, subst (λ (all : List Delivery). Contains all (record { sci = d.sci; key = d.sa.key; pn = (tag_of frame).pn; kind = kind })) (sym d.logged)
-      (contains-first (record { sci = d.sci; key = d.sa.key; pn = (tag_of frame).pn; kind = kind }) s.logs.given)) in
-      (at, step.0, d,
-      beyond_rx found next.logs (sound-restart next (opened_state found next.logs) restart given) d.sci d.sa.key (tag_of frame).pn here)
+      let here : WasGiven next.logs d.sci d.sa.key (tag_of frame).pn = (
+        kind,
+        subst (λ (all : List Delivery). Contains all (record { sci = d.sci; key = d.sa.key; pn = (tag_of frame).pn; kind = kind })) (sym d.logged)
+            (contains-first (record { sci = d.sci; key = d.sa.key; pn = (tag_of frame).pn; kind = kind }) s.logs.given),
+      ) in (
+        at,
+        step.0,
+        d,
+        beyond_rx found next.logs (sound-restart next (opened_state found next.logs) restart given) d.sci d.sa.key (tag_of frame).pn here,
+      )
