@@ -1,13 +1,13 @@
 -- The bits of an octet, by division.
 use Rattle.std.proofs.Common.{◌≡◌, ◌<◌, ◌*◌, ◌/◌, ◌%◌, ◌^◌, ◌==◌, ℕ, zero, suc, false, not, refl, ◌∙◌, ap, arith}
+use Rattle.std.proofs.lemmas.Bool.{ne_eqb}
 use Rattle.std.proofs.lemmas.Nat.{pow_pos}
 use Rattle.std.proofs.lemmas.Nat.Bits.{and_pow, bit_at-lt}
 use Rattle.std.specs.Int.{bit_at}
 use Rattle.macs_frame.specs.Tag.{has_bit}
 
 none_left : (m : ℕ) → 0 < m → (m == 0) ≡ false
-none_left zero some = absurd (omega (arith, some))
-none_left (suc n) some = refl
+none_left m some = ne_eqb m 0 (λ is. omega (arith, some, is))
 
 -- a digit times a number that is not 0
 digit : (d m : ℕ) → d < 2 → 0 < m → not (d * m == 0) ≡ (d == 1)
