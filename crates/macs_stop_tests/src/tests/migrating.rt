@@ -162,8 +162,8 @@ fn a_migration_has_so_many_device_calls(rt: HostRuntime) {
     expect_calls(&rt, rt.alloc(), Old::Grown, GROWN_CALLS);
 }
 
-/// The rest of the script is played on the young disk, with a key of 256 bits, and as many records more as an area has
-/// slots: the journal begins anew over the area that was of format one, whose gates are open.
+/// The rest of the script is played on the young disk, and as many records more as an area has slots: the journal begins
+/// anew over the area that was of format one, whose gates are open.
 #[test]
 fn the_script_goes_on_behind_a_migration(rt: HostRuntime) {
     let Cut { disk, mut known } = older(&rt, rt.alloc(), Old::Young);

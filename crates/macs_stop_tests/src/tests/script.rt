@@ -6,8 +6,8 @@ use macs_config::{Command, Refusal};
 use macs_frame::An;
 use std::process::Abort;
 
-/// The keys of the two transmit associations that the script installs, one of either length.
-pub(super) const KEYS: [Key; 2] = [Key::Short([1; 16]), Key::Long([2; 32])];
+/// The keys of the two transmit associations that the script installs.
+pub(super) const KEYS: [Key; 2] = [Key::Short([1; 16]), Key::Short([2; 16])];
 
 /// The key of the peer's association.
 pub(super) const PEER_KEY: Key = Key::Short([3; 16]);
