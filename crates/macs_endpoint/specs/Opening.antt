@@ -2,6 +2,7 @@
 use Rattle.std.specs.Prelude.{◌≡◌, ◌⊎◌, [], None, Result, Ok, Err}
 use Rattle.std.specs.Option.{option_map}
 use Rattle.macs_config.specs.Config.{this_edition}
+use Rattle.macs_config.specs.Identity.{Identity}
 use Rattle.macs_disk.specs.Disk.{Disk, IsHonest, MayLeave, now}
 use Rattle.macs_disk.specs.States.{Image}
 use Rattle.macs_journal.specs.declared.fault.JournalFault.{JournalFault}
@@ -9,8 +10,9 @@ use Rattle.macs_journal.specs.declared.fault.JournalFault.TheVariants as variant
 use Rattle.macs_journal.specs.declared.recovery.RecoverRefused.{RecoverRefused}
 use Rattle.macs_txsc.specs.Transmit as transmit
 use Rattle.macs_txsc.specs.Value as txsc
+use Rattle.macs_txsc.specs.declared.channel.Tx.{Tx}
 use Rattle.macs_rxsc.specs.Counting as counting
-use Rattle.macs_rxsc.specs.Receive.{first_numbers}
+use Rattle.macs_rxsc.specs.Receive.{first_numbers, new_rx_side}
 use Rattle.macs_rxsc.specs.Value as rxsc
 use Rattle.macs_store.specs.Found.{StandingIs}
 use Rattle.macs_store.specs.Opening.{OpensDisk, RefusesDisk}
@@ -20,6 +22,19 @@ use Rattle.macs_endpoint.specs.Restart.{Fits, opened_state}
 use Rattle.macs_endpoint.specs.State.{Logs, State}
 use Rattle.macs_endpoint.specs.declared.turn.Turn.TheVariants.{Reservation}
 use Rattle.macs_endpoint.specs.Value.{EndpointValue, IsAtRest, IsBacked, IsSoundEndpoint, disk_in, state_of}
+
+-- a transmit channel is new: it has the SCI of this identity and no association, and nothing is counted
+pub record IsNewTx (identity : Identity) (tx : Tx) : Type 0 where
+  pub side : txsc.tx_side_of tx ≡ transmit.new_tx_side identity.sci
+  pub ceilings : txsc.ceilings_of tx ≡ (λ an. None)
+  pub counters : txsc.counters_of tx ≡ transmit.no_counts
+
+-- the receive channels are new: none stands, and nothing is counted
+pub record IsNewRx (rx : rxsc.RxValue) : Type 0 where
+  pub side : rxsc.rx_side_of rx ≡ new_rx_side
+  pub ceilings : rxsc.ceilings_of rx ≡ (λ sci an. None)
+  pub counters : rxsc.counters_of rx ≡ counting.no_counts
+  pub channel_counters : rxsc.channel_counters_of rx ≡ (λ sci. None)
 
 -- A sound endpoint begins with what stands in a store: its packet numbers begin at their ceilings, nothing is in hand or waits, the first
 -- turn is a reservation's, and nothing is counted.

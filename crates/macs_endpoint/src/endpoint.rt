@@ -8,7 +8,7 @@ ghost use Rattle.macs_rxsc.specs.Receive.{Numbers};
 ghost use Rattle.macs_store.specs.Standing.{accept};
 ghost use Rattle.macs_store.specs.Value.{IsIdle, standing_in};
 ghost use Rattle.macs_endpoint.specs.Calls.{IsCall};
-ghost use Rattle.macs_endpoint.specs.Opening.{Begins, BeginsOpened, IsOpening};
+ghost use Rattle.macs_endpoint.specs.Opening.{BeginsOpened, IsOpening};
 ghost use Rattle.macs_endpoint.specs.Keeping.{KeepsCommand};
 ghost use Rattle.macs_endpoint.specs.Parts.{endpoint_of};
 ghost use Rattle.macs_endpoint.specs.Value.{EndpointValue, IsSoundEndpoint, device_in, is_stopped, state_of};
@@ -25,8 +25,9 @@ use macs_config::{Checked, Command, Config, Identity};
 use macs_disk::SectorDisk;
 use macs_fields::laws::octets_in_range;
 use macs_frame::{An, FrameBuf, Pn, Sci};
-use macs_rxsc::{RxNumbers, Verdict};
+use macs_rxsc::{Rx, RxNumbers, Verdict};
 use macs_store::{CommitFault, OpenRefused, Store};
+use macs_txsc::Tx;
 use std::marker::Model;
 
 /// An endpoint of MACsec on a disk of its own. Only packet numbers below ceilings that are durable
@@ -35,12 +36,12 @@ use std::marker::Model;
 #[derive(Drop)]
 pub struct Endpoint<D: SectorDisk> {
     pub(crate) store: Store<D>,
-    pub(crate) channels: Channels,
     /// The command whose call or whose work on the disk began and did not end; after a device fault it stays.
     pub(crate) in_hand: Option<Checked>,
     /// The ceiling that is being raised.
     pub(crate) reserving: Option<Raise>,
     pub(crate) queue: Queue,
+    pub(crate) channels: Channels, // Behind a number: so the compiler moves them by themselves.
     pub(crate) turn: Turn,
 }
 
@@ -66,35 +67,33 @@ impl<D: SectorDisk> Endpoint<D> {
         Endpoint::begun(Store::open(disk))
     }
 
-    /// What comes of an opened store that has nothing in hand, or of a refusal.
+    /// What comes of an opened store that has nothing in hand, or of a refusal: the endpoint that begins with what
+    /// stands in the store. It is put together in one place, where each part is moved to once.
     #[inline(never)] // What it takes of the stack is not there while the disk is read.
     fn begun(opened: Result<Store<D>, OpenRefused<D>>) -> Result<Endpoint<D>, OpenRefused<D>>
         requires { IfOk opened IsIdle }
         ensures { BeginsOpened opened result }
     {
-        match opened {
-            Ok(store) => Ok(Endpoint::over(store)),
-            Err(refused) => Err(refused),
-        }
-    }
-
-    /// The endpoint that begins with what stands in a store that was opened and has nothing in hand.
-    fn over(store: Store<D>) -> Endpoint<D>
-        requires { IsIdle store }
-        ensures { Begins store result }
-    {
-        let channels = Channels::opened(&store);
+        let store = match opened {
+            Ok(store) => store,
+            Err(refused) => return Err(refused),
+        };
+        let mut channels = Channels {
+            tx: Tx::new(store.identity().sci()),
+            rx: Rx::new(),
+        };
+        channels.take_up(&store);
         identity_in_range(&store.identity());
         channels.tx.facts();
         store.config().facts();
-        Endpoint {
+        Ok(Endpoint {
             store,
-            channels,
             in_hand: None,
             reserving: None,
             queue: Queue::new(),
+            channels,
             turn: Turn::Reservation,
-        }
+        })
     }
 
     /// Keeps a command and follows it. A reservation that is in hand is finished first, and no other begins. Refused

@@ -11,6 +11,7 @@ ghost use Rattle.macs_rxsc.specs.Receive.{has_channel, first_numbers};
 ghost use Rattle.macs_rxsc.specs.Value as rxsc;
 ghost use Rattle.macs_store.specs.Value.{standing_in};
 ghost use Rattle.macs_endpoint.specs.Counting.{new_channel_counters};
+ghost use Rattle.macs_endpoint.specs.Opening.{IsNewRx, IsNewTx};
 ghost use Rattle.macs_endpoint.specs.State.{rx_side_with, tx_side_with};
 
 use crate::channels::{Channels, install_rx, install_tx, set_policy};
@@ -24,67 +25,65 @@ use macs_txsc::Tx;
 pub use macs_store::OpenRefused;
 
 impl Channels {
-    /// The channels that a store has. The packet numbers of each association begin at its ceiling.
+    /// Takes up what a store has, where the channels are new. The packet numbers of each association begin at its ceiling.
     #[inline(never)]
-    pub(crate) fn opened<D: SectorDisk>(store: &Store<D>) -> Channels
-        ensures tx { txsc.tx_side_of result.tx
+    pub(crate) fn take_up<D: SectorDisk>(&mut self, store: &Store<D>)
+        requires new_tx { IsNewTx (standing_in store.now).identity self.old.tx }
+        requires new_rx { IsNewRx self.old.rx }
+        ensures tx { txsc.tx_side_of self.new.tx
             ≡ tx_side_with (standing_in store.now).identity (standing_in store.now).config (standing_in store.now).ceilings.tx }
-        ensures rx { rxsc.rx_side_of result.rx ≡ rx_side_with (standing_in store.now).config
+        ensures rx { rxsc.rx_side_of self.new.rx ≡ rx_side_with (standing_in store.now).config
             (λ sci an. option_map first_numbers ((standing_in store.now).ceilings.rx sci an)) }
-        ensures tx_ceilings { txsc.ceilings_of result.tx ≡ (standing_in store.now).ceilings.tx }
-        ensures rx_ceilings { rxsc.ceilings_of result.rx ≡ (standing_in store.now).ceilings.rx }
-        ensures tx_counters { txsc.counters_of result.tx ≡ transmit.no_counts }
-        ensures rx_counters { rxsc.counters_of result.rx ≡ counting.no_counts }
-        ensures channel_counters { rxsc.channel_counters_of result.rx ≡ new_channel_counters (standing_in store.now).config.channels }
+        ensures tx_ceilings { txsc.ceilings_of self.new.tx ≡ (standing_in store.now).ceilings.tx }
+        ensures rx_ceilings { rxsc.ceilings_of self.new.rx ≡ (standing_in store.now).ceilings.rx }
+        ensures tx_counters { txsc.counters_of self.new.tx ≡ transmit.no_counts }
+        ensures rx_counters { rxsc.counters_of self.new.rx ≡ counting.no_counts }
+        ensures channel_counters { rxsc.channel_counters_of self.new.rx ≡ new_channel_counters (standing_in store.now).config.channels }
     {
-        Channels {
-            tx: opened_tx(store),
-            rx: opened_rx(store),
-        }
+        take_up_tx(&mut self.tx, store);
+        take_up_rx(&mut self.rx, store);
     }
 }
 
-/// The transmit channel that a store has.
-fn opened_tx<D: SectorDisk>(store: &Store<D>) -> Tx
-    ensures side { txsc.tx_side_of result
+/// Takes up the transmit channel that a store has, where it is new.
+fn take_up_tx<D: SectorDisk>(tx: &mut Tx, store: &Store<D>)
+    requires { IsNewTx (standing_in store.now).identity tx.old }
+    ensures side { txsc.tx_side_of tx.new
         ≡ tx_side_with (standing_in store.now).identity (standing_in store.now).config (standing_in store.now).ceilings.tx }
-    ensures ceilings { txsc.ceilings_of result ≡ (standing_in store.now).ceilings.tx }
-    ensures counters { txsc.counters_of result ≡ transmit.no_counts }
+    ensures ceilings { txsc.ceilings_of tx.new ≡ (standing_in store.now).ceilings.tx }
+    ensures counters { txsc.counters_of tx.new ≡ transmit.no_counts }
 {
     let config = store.config();
     config.facts();
     store.facts();
-    let mut tx = Tx::new(store.identity().sci());
     tx.set_mode(config.sci_mode());
     for an in An::all() {
         if let Some(ceiling) = store.tx_ceiling(an) {
-            install_tx(&mut tx, store, an, ceiling.get());
+            install_tx(tx, store, an, ceiling.get());
         }
     }
     if let Some(an) = config.encoding() {
         tx.select(an);
     }
-    tx
 }
 
-/// The receive channels that a store has.
-fn opened_rx<D: SectorDisk>(store: &Store<D>) -> Rx
-    ensures side { rxsc.rx_side_of result ≡ rx_side_with (standing_in store.now).config
+/// Takes up the receive channels that a store has, where none stands.
+fn take_up_rx<D: SectorDisk>(rx: &mut Rx, store: &Store<D>)
+    requires { IsNewRx rx.old }
+    ensures side { rxsc.rx_side_of rx.new ≡ rx_side_with (standing_in store.now).config
         (λ sci an. option_map first_numbers ((standing_in store.now).ceilings.rx sci an)) }
-    ensures ceilings { rxsc.ceilings_of result ≡ (standing_in store.now).ceilings.rx }
-    ensures counters { rxsc.counters_of result ≡ counting.no_counts }
-    ensures channel_counters { rxsc.channel_counters_of result ≡ new_channel_counters (standing_in store.now).config.channels }
+    ensures ceilings { rxsc.ceilings_of rx.new ≡ (standing_in store.now).ceilings.rx }
+    ensures counters { rxsc.counters_of rx.new ≡ counting.no_counts }
+    ensures channel_counters { rxsc.channel_counters_of rx.new ≡ new_channel_counters (standing_in store.now).config.channels }
 {
     let config = store.config();
     config.facts();
     store.facts();
-    let mut rx = Rx::new();
-    set_policy(&mut rx, store);
+    set_policy(rx, store);
     for sci in config.channels().iter() {
         rx.add(*sci);
-        install_channel(&mut rx, store, *sci);
+        install_channel(rx, store, *sci);
     }
-    rx
 }
 
 /// Installs the associations that a store has on a channel, which stands without one.

@@ -15,7 +15,7 @@ use Rattle.macs_journal.specs.declared.recovery.RecoverRefused.{RecoverRefused}
 use Rattle.macs_pcap.specs.States.{SinkState, SourceState}
 use Rattle.macs_program.specs.Applying.{AppliesAll, AppliesSome, SaysCommands}
 use Rattle.macs_program.specs.Capturing.{EndsPass, PassesCapture}
-use Rattle.macs_program.specs.Endpoints.{AppliesFile, AppliesIn, BreaksOff, BreaksOffIn, IsDiskIn, IsEndpointIn, OpeningFails, PassEnds, PassEndsIn, PassesBetween, PassesIn}
+use Rattle.macs_program.specs.Endpoints.{AppliesFile, AppliesIn, BreaksOff, BreaksOffIn, IsDiskIn, IsEndpointIn, IsOpeningIn, OpeningFails, PassEnds, PassEndsIn, PassesBetween, PassesIn}
 use Rattle.macs_program.specs.Failing.{failure_of_file, failure_of_journal}
 use Rattle.macs_program.specs.declared.failure.Failure.{Failure}
 use Rattle.macs_program.specs.declared.failure.Failure.TheVariants.{Capture, Commands, Memory}
@@ -23,24 +23,27 @@ use Rattle.macs_program.specs.declared.status.Status.{Status}
 
 -- ---- opening
 
-pub endpoint-in : {F : Type 0} (file : F → FileState) (disk : FileDisk F) (endpoint : EndpointValue (FileDisk F))
-    (opened : Result (EndpointValue (FileDisk F)) (RecoverRefused (FileDisk F))) → opened ≡ Ok endpoint → IsDiskIn file disk
-    → IsOpening (disk_in_file file) disk opened → IsEndpointIn file endpoint
-endpoint-in {F} file disk endpoint opened is there opening = record {
-  disk = disk;
-  is_disk = there;
-  opens = subst (λ (r : Result (EndpointValue (FileDisk F)) (RecoverRefused (FileDisk F))). IsOpening (disk_in_file file) disk r) is opening;
+pub opening-in : {F : Type 0} (file : F → FileState) (disk : FileDisk F) (opened : Result (EndpointValue (FileDisk F)) (RecoverRefused (FileDisk F)))
+    → IsDiskIn file disk → IsOpening (disk_in_file file) disk opened → IsOpeningIn file opened
+opening-in file disk opened there opening = record { disk = disk; is_disk = there; opening = opening }
+
+pub endpoint-in : {F : Type 0} (file : F → FileState) (endpoint : EndpointValue (FileDisk F))
+    (opened : Result (EndpointValue (FileDisk F)) (RecoverRefused (FileDisk F))) → opened ≡ Ok endpoint → IsOpeningIn file opened → IsEndpointIn file endpoint
+endpoint-in {F} file endpoint opened is there = record {
+  disk = there.disk;
+  is_disk = there.is_disk;
+  opens = subst (λ (r : Result (EndpointValue (FileDisk F)) (RecoverRefused (FileDisk F))). IsOpening (disk_in_file file) there.disk r) is there.opening;
 }
 
-pub refused-in : {F : Type 0} (file : F → FileState) (disk : FileDisk F) (refused : RecoverRefused (FileDisk F))
-    (opened : Result (EndpointValue (FileDisk F)) (RecoverRefused (FileDisk F))) (failure : Failure) → opened ≡ Err refused → IsDiskIn file disk
-    → IsOpening (disk_in_file file) disk opened → failure ≡ failure_of_journal refused.fault → OpeningFails file failure
-refused-in {F} file disk refused opened failure is there opening same = inr (record {
-  disk = disk;
+pub refused-in : {F : Type 0} (file : F → FileState) (refused : RecoverRefused (FileDisk F))
+    (opened : Result (EndpointValue (FileDisk F)) (RecoverRefused (FileDisk F))) (failure : Failure) → opened ≡ Err refused → IsOpeningIn file opened
+    → failure ≡ failure_of_journal refused.fault → OpeningFails file failure
+refused-in {F} file refused opened failure is there same = inr (record {
+  disk = there.disk;
   left = refused.disk;
   fault = refused.fault;
-  is_disk = there;
-  refuses = subst (λ (r : Result (EndpointValue (FileDisk F)) (RecoverRefused (FileDisk F))). IsOpening (disk_in_file file) disk r) is opening;
+  is_disk = there.is_disk;
+  refuses = subst (λ (r : Result (EndpointValue (FileDisk F)) (RecoverRefused (FileDisk F))). IsOpening (disk_in_file file) there.disk r) is there.opening;
   is = same;
 })
 

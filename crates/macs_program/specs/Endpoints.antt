@@ -1,5 +1,5 @@
 -- The endpoint that a subcommand opens on a disk in a file, and what it does with it.
-use Rattle.std.specs.Prelude.{◌≡◌, ◌⊎◌, ℕ, List, Option, Ok}
+use Rattle.std.specs.Prelude.{◌≡◌, ◌⊎◌, ℕ, List, Option, Result, Ok}
 use Rattle.std.specs.Io.KnownBytes.{Appends}
 use Rattle.macs_config.specs.declared.command.Command.{Command}
 use Rattle.macs_disk.specs.Disk.{Disk}
@@ -10,10 +10,11 @@ use Rattle.macs_disk.specs.declared.file_fault.FileFault.{FileFault}
 use Rattle.macs_edge.specs.Passing.{run_of}
 use Rattle.macs_edge.specs.declared.passing.Summary.{Summary}
 use Rattle.macs_edge.specs.declared.settling.Side.{Side}
-use Rattle.macs_endpoint.specs.Opening.{Opens, RefusesOpening}
+use Rattle.macs_endpoint.specs.Opening.{IsOpening, Opens, RefusesOpening}
 use Rattle.macs_endpoint.specs.State.{no_logs}
 use Rattle.macs_endpoint.specs.Value.{EndpointValue, state_of}
 use Rattle.macs_journal.specs.declared.fault.JournalFault.{JournalFault}
+use Rattle.macs_journal.specs.declared.recovery.RecoverRefused.{RecoverRefused}
 use Rattle.macs_pcap.specs.States.{SinkState, SourceState}
 use Rattle.macs_program.specs.Applying.{AppliesAll, AppliesSome, SaysCommands}
 use Rattle.macs_program.specs.Capturing.{EndsPass, PassesCapture}
@@ -29,6 +30,12 @@ use Rattle.macs_program.specs.declared.status.Status.{Status}
 pub record IsDiskIn {F : Type 0} (file : F → FileState) (disk : FileDisk F) : Type 0 where
   pub known : Behaves (file (file_given disk)) → IsOpened (file (file_given disk)) 0 (layout_of disk) (disk_in_file file disk)
   pub fresh : IsFresh (disk_in_file file disk)
+
+-- this is what an opening of such a disk answered
+pub record IsOpeningIn {F : Type 0} (file : F → FileState) (opened : Result (EndpointValue (FileDisk F)) (RecoverRefused (FileDisk F))) : Type 0 where
+  pub disk : FileDisk F
+  pub is_disk : IsDiskIn file disk
+  pub opening : IsOpening (disk_in_file file) disk opened
 
 -- an endpoint was opened on such a disk
 pub record IsEndpointIn {F : Type 0} (file : F → FileState) (endpoint : EndpointValue (FileDisk F)) : Type 0 where

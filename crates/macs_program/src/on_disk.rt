@@ -1,8 +1,8 @@
 //! What each subcommand does that has a disk file.
 //!
-//! An endpoint is large. It stays where its opening answers it, and each subcommand has it in a call of its own, so that
-//! the stack holds one at a time. What a subcommand does with it is a function that is not inlined: else the compiler
-//! has a second place for it.
+//! An endpoint is large. Each subcommand opens its disk file and hands the disk on; the next function does no more than to open
+//! the endpoint and hand it on in turn, by value, so that the stack holds it once while the disk is read. None of
+//! the three is inlined: else the compiler has a second place for it there.
 
 ghost use Rattle.std.specs.Prelude.{◌≡◌, ◌≢◌, ◌⊎◌, ◌↔◌, List, Option, [], ◌∷◌, codes, option_map, Err, false, true, IfErr, IfOk, OnErr, OnOk};
 ghost use Rattle.std.specs.Io.KnownBytes.{Appends};
@@ -16,7 +16,7 @@ ghost use Rattle.macs_program.specs.Addresses.{AddressFaultHolds, SpellsBoth, ad
 ghost use Rattle.macs_program.specs.Applying.{outcome_lines};
 ghost use Rattle.macs_program.specs.CaptureFiles.{Asks, Makes, Opens};
 ghost use Rattle.macs_program.specs.Capturing.{side_of};
-ghost use Rattle.macs_program.specs.Endpoints.{AppliesFile, AppliesIn, BreaksOff, BreaksOffIn, OpeningFails};
+ghost use Rattle.macs_program.specs.Endpoints.{AppliesFile, AppliesIn, BreaksOff, BreaksOffIn, IsDiskIn, IsOpeningIn, OpeningFails};
 ghost use Rattle.macs_program.specs.Endpoints.{PassEnds, PassEndsIn, PassesBetween, PassesIn, ShowsIn, shown_text};
 ghost use Rattle.macs_program.specs.Failing.{failure_status};
 ghost use Rattle.macs_program.specs.NewDisks.{FormatFails, Formats};
@@ -41,8 +41,8 @@ use crate::showing::show_lines;
 use crate::status::Status;
 use crate::stream::Stream;
 use crate::values::given_by;
-use macs_disk::{DiskFile, SectorDisk};
-use macs_endpoint::Endpoint;
+use macs_disk::{DiskFile, FileDisk, SectorDisk};
+use macs_endpoint::{Endpoint, OpenRefused};
 use macs_words::WireEnds;
 use std::alloc::Global;
 use std::net::Net;
@@ -130,7 +130,55 @@ where
     ensures broken { IfErr result (λ failure. failure ≡ Failure.Output → W.failed out.new ≡ true) }
 {
     let disk = open_disk(rt, disk)?;
-    match &mut Endpoint::open(disk) {
+    apply_on_disk(rt, alloc, disk, file, out)
+}
+
+/// Applies the commands of a file on a disk.
+#[inline(never)]
+fn apply_on_disk<T: Files, W: Stream>(
+    rt: &T,
+    alloc: Global,
+    disk: FileDisk<T::File>,
+    file: &str,
+    out: &mut W,
+) -> Result<Status, Failure>
+where
+    T::File: DiskFile,
+    requires { IsDiskIn T.File.file disk }
+    ensures printed { IfOk result (λ status.
+        AppliesIn T.File.file (W.contents out.old) (W.contents out.new) status) }
+    ensures ended { IfErr result (λ failure. OpeningFails T.File.file failure
+        ⊎ BreaksOffIn T.File.file (W.contents out.old) (W.contents out.new) failure) }
+    ensures failed { IfErr result (λ failure. failure_status failure ≢ Status.Usage) }
+    ensures lines { IfErr result (λ failure. failure ≢ Failure.Output
+        → (outcomes : List (Option Refusal)) × Appends (W.contents out.old) (W.contents out.new) (outcome_lines 1 outcomes)) }
+    ensures broken { IfErr result (λ failure. failure ≡ Failure.Output → W.failed out.new ≡ true) }
+{
+    apply_opened(rt, alloc, Endpoint::open(disk), file, out)
+}
+
+/// Applies the commands of a file to an endpoint, if it was opened.
+#[inline(never)]
+fn apply_opened<T: Files, W: Stream>(
+    rt: &T,
+    alloc: Global,
+    mut opened: Result<Endpoint<FileDisk<T::File>>, OpenRefused<FileDisk<T::File>>>,
+    file: &str,
+    out: &mut W,
+) -> Result<Status, Failure>
+where
+    T::File: DiskFile,
+    requires { IsOpeningIn T.File.file opened }
+    ensures printed { IfOk result (λ status.
+        AppliesIn T.File.file (W.contents out.old) (W.contents out.new) status) }
+    ensures ended { IfErr result (λ failure. OpeningFails T.File.file failure
+        ⊎ BreaksOffIn T.File.file (W.contents out.old) (W.contents out.new) failure) }
+    ensures failed { IfErr result (λ failure. failure_status failure ≢ Status.Usage) }
+    ensures lines { IfErr result (λ failure. failure ≢ Failure.Output
+        → (outcomes : List (Option Refusal)) × Appends (W.contents out.old) (W.contents out.new) (outcome_lines 1 outcomes)) }
+    ensures broken { IfErr result (λ failure. failure ≡ Failure.Output → W.failed out.new ≡ true) }
+{
+    match &mut opened {
         Ok(endpoint) => apply_file(rt, alloc, endpoint, file, out),
         Err(refused) => Err(Failure::from(refused.fault)), // No command was given.
     }
@@ -174,7 +222,45 @@ where
     ensures broken { IfErr result (λ failure. failure ≡ Failure.Output → W.failed out.new ≡ true) }
 {
     let disk = open_disk(rt, disk)?;
-    match &mut Endpoint::open(disk) {
+    show_on_disk(alloc, disk, out)
+}
+
+/// Prints the configuration and the packet numbers of the endpoint on a disk.
+#[inline(never)]
+fn show_on_disk<F: DiskFile, W: Stream>(
+    alloc: Global,
+    disk: FileDisk<F>,
+    out: &mut W,
+) -> Result<Status, Failure>
+    requires { IsDiskIn F.file disk }
+    ensures printed { IfOk result (λ status.
+        ShowsIn F.file (W.contents out.old) (W.contents out.new) × (status ≡ Status.Done)) }
+    ensures ended { IfErr result (λ failure. OpeningFails F.file failure
+        ⊎ (failure ≡ Failure.Memory) ⊎ (failure ≡ Failure.Output)) }
+    ensures failed { IfErr result (λ failure. failure_status failure ≢ Status.Usage) }
+    ensures silent { IfErr result (λ failure. failure ≢ Failure.Output → out.new ≡ out.old) }
+    ensures broken { IfErr result (λ failure. failure ≡ Failure.Output → W.failed out.new ≡ true) }
+{
+    show_opened(alloc, Endpoint::open(disk), out)
+}
+
+/// Prints the configuration and the packet numbers of an endpoint, if it was opened.
+#[inline(never)]
+fn show_opened<F: DiskFile, W: Stream>(
+    alloc: Global,
+    mut opened: Result<Endpoint<FileDisk<F>>, OpenRefused<FileDisk<F>>>,
+    out: &mut W,
+) -> Result<Status, Failure>
+    requires { IsOpeningIn F.file opened }
+    ensures printed { IfOk result (λ status.
+        ShowsIn F.file (W.contents out.old) (W.contents out.new) × (status ≡ Status.Done)) }
+    ensures ended { IfErr result (λ failure. OpeningFails F.file failure
+        ⊎ (failure ≡ Failure.Memory) ⊎ (failure ≡ Failure.Output)) }
+    ensures failed { IfErr result (λ failure. failure_status failure ≢ Status.Usage) }
+    ensures silent { IfErr result (λ failure. failure ≢ Failure.Output → out.new ≡ out.old) }
+    ensures broken { IfErr result (λ failure. failure ≡ Failure.Output → W.failed out.new ≡ true) }
+{
+    match &mut opened {
         Ok(endpoint) => show_endpoint(alloc, endpoint, out),
         Err(refused) => Err(Failure::from(refused.fault)), // Nothing is shown.
     }
@@ -233,7 +319,59 @@ where
     ensures broken { IfErr result (λ failure. failure ≡ Failure.Output → W.failed out.new ≡ true) }
 {
     let disk = open_disk(rt, disk)?;
-    match &mut Endpoint::open(disk) {
+    pass_on_disk(rt, alloc, direction, disk, from, to, out)
+}
+
+/// Takes a capture through the endpoint on a disk.
+#[inline(never)]
+fn pass_on_disk<T: Files, W: Stream>(
+    rt: &T,
+    alloc: Global,
+    direction: Direction,
+    disk: FileDisk<T::File>,
+    from: &str,
+    to: &str,
+    out: &mut W,
+) -> Result<Status, Failure>
+where
+    T::File: CaptureFile,
+    requires { IsDiskIn T.File.file disk }
+    ensures printed { IfOk result (λ status. (summary : Summary)
+        × PassesIn T.File.file (side_of direction) summary
+        × Appends (W.contents out.old) (W.contents out.new) (summary_line direction summary) × (status ≡ Status.Done)) }
+    ensures ended { IfErr result (λ failure. OpeningFails T.File.file failure
+        ⊎ PassEndsIn T.File.file (side_of direction) failure) }
+    ensures failed { IfErr result (λ failure. failure_status failure ≢ Status.Usage) }
+    ensures silent { IfErr result (λ failure. failure ≢ Failure.Output → out.new ≡ out.old) }
+    ensures broken { IfErr result (λ failure. failure ≡ Failure.Output → W.failed out.new ≡ true) }
+{
+    pass_opened(rt, alloc, direction, Endpoint::open(disk), from, to, out)
+}
+
+/// Takes a capture through an endpoint, if it was opened.
+#[inline(never)]
+fn pass_opened<T: Files, W: Stream>(
+    rt: &T,
+    alloc: Global,
+    direction: Direction,
+    mut opened: Result<Endpoint<FileDisk<T::File>>, OpenRefused<FileDisk<T::File>>>,
+    from: &str,
+    to: &str,
+    out: &mut W,
+) -> Result<Status, Failure>
+where
+    T::File: CaptureFile,
+    requires { IsOpeningIn T.File.file opened }
+    ensures printed { IfOk result (λ status. (summary : Summary)
+        × PassesIn T.File.file (side_of direction) summary
+        × Appends (W.contents out.old) (W.contents out.new) (summary_line direction summary) × (status ≡ Status.Done)) }
+    ensures ended { IfErr result (λ failure. OpeningFails T.File.file failure
+        ⊎ PassEndsIn T.File.file (side_of direction) failure) }
+    ensures failed { IfErr result (λ failure. failure_status failure ≢ Status.Usage) }
+    ensures silent { IfErr result (λ failure. failure ≢ Failure.Output → out.new ≡ out.old) }
+    ensures broken { IfErr result (λ failure. failure ≡ Failure.Output → W.failed out.new ≡ true) }
+{
+    match &mut opened {
         Ok(endpoint) => {
             let mut captures = SystemCaptures { rt, alloc };
             pass_between(&mut captures, alloc, endpoint, direction, from, to, out)
@@ -264,7 +402,7 @@ fn relay_wires<N: Net, D: SectorDisk, W: Stream>(
     relay_frames(endpoint, &mut controlled, &mut common, turns, out)
 }
 
-/// Relays frames through the endpoint on a disk between two wires.
+/// Relays frames through the endpoint on a disk file between two wires.
 #[inline(never)]
 fn relay_over<T: Files + Net, W: Stream>(
     rt: &T,
@@ -284,7 +422,52 @@ where
     ensures broken { IfErr result (λ failure. failure ≡ Failure.Output → W.failed out.new ≡ true) }
 {
     let disk = open_disk(rt, disk)?;
-    let mut opened = Endpoint::open(disk);
+    relay_on_disk(rt, alloc, disk, addresses, turns, out)
+}
+
+/// Relays frames through the endpoint on a disk between two wires.
+#[inline(never)]
+fn relay_on_disk<T: Files + Net, W: Stream>(
+    rt: &T,
+    alloc: Global,
+    disk: FileDisk<T::File>,
+    addresses: Addresses,
+    turns: u64,
+    out: &mut W,
+) -> Result<Status, Failure>
+where
+    T::File: DiskFile,
+    requires { IsDiskIn T.File.file disk }
+    ensures printed { IfOk result (λ status. (summary : RelaySummary) × ComesTo T.File.file turns summary
+        × Appends (W.contents out.old) (W.contents out.new) (relay_line summary) × (status ≡ Status.Done)) }
+    ensures ended { IfErr result (λ failure. OpeningFails T.File.file failure ⊎ RelayEndsIn T.File.file turns failure) }
+    ensures failed { IfErr result IsAfterAddresses }
+    ensures silent { IfErr result (λ failure. failure ≢ Failure.Output → out.new ≡ out.old) }
+    ensures broken { IfErr result (λ failure. failure ≡ Failure.Output → W.failed out.new ≡ true) }
+{
+    relay_opened(rt, alloc, Endpoint::open(disk), addresses, turns, out)
+}
+
+/// Relays frames through an endpoint between two wires, if it was opened.
+#[inline(never)]
+fn relay_opened<T: Files + Net, W: Stream>(
+    rt: &T,
+    alloc: Global,
+    mut opened: Result<Endpoint<FileDisk<T::File>>, OpenRefused<FileDisk<T::File>>>,
+    addresses: Addresses,
+    turns: u64,
+    out: &mut W,
+) -> Result<Status, Failure>
+where
+    T::File: DiskFile,
+    requires { IsOpeningIn T.File.file opened }
+    ensures printed { IfOk result (λ status. (summary : RelaySummary) × ComesTo T.File.file turns summary
+        × Appends (W.contents out.old) (W.contents out.new) (relay_line summary) × (status ≡ Status.Done)) }
+    ensures ended { IfErr result (λ failure. OpeningFails T.File.file failure ⊎ RelayEndsIn T.File.file turns failure) }
+    ensures failed { IfErr result IsAfterAddresses }
+    ensures silent { IfErr result (λ failure. failure ≢ Failure.Output → out.new ≡ out.old) }
+    ensures broken { IfErr result (λ failure. failure ≡ Failure.Output → W.failed out.new ≡ true) }
+{
     let endpoint = match &mut opened {
         Ok(endpoint) => endpoint,
         Err(refused) => return Err(Failure::from(refused.fault)), // No wire is bound.

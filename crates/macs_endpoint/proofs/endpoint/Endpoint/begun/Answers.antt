@@ -1,7 +1,8 @@
-use Rattle.std.proofs.Common.{◌≡◌, ◌≤◌, ℕ, List, length, inl, Option, Some, None, refl, sym, ◌∙◌, ap, subst, arith, rules}
+use Rattle.std.proofs.Common.{◌≡◌, ◌≤◌, ℕ, List, length, inl, Option, Some, None, Result, Ok, IfOk, refl, sym, ◌∙◌, ap, subst, arith, rules}
 use Rattle.std.specs.Option.{option_map}
 use Rattle.macs_config.specs.Config.{Config}
-use Rattle.macs_config.specs.Identity.{IsIdentity}
+use Rattle.macs_config.specs.Identity.{Identity, IsIdentity}
+use Rattle.macs_txsc.specs.Transmit as transmit
 use Rattle.macs_txsc.specs.Transmit.{InOrder}
 use Rattle.macs_txsc.specs.Value as txsc
 use Rattle.macs_txsc.specs.declared.channel.Tx.{Tx}
@@ -9,16 +10,18 @@ use Rattle.macs_rxsc.specs.Receive.{Numbers, first_numbers}
 use Rattle.macs_rxsc.specs.Value.{association_in, channel_at}
 use Rattle.macs_rxsc.specs.Value as rxsc
 use Rattle.macs_rxsc.proofs.Needs.{unnumbered}
-use Rattle.macs_store.specs.Value.{standing_in}
+use Rattle.macs_journal.specs.declared.recovery.RecoverRefused.{RecoverRefused}
+use Rattle.macs_store.specs.Value.{IsIdle, StoreValue, standing_in}
 use Rattle.macs_store.specs.Standing.{Standing}
+use Rattle.macs_endpoint.specs.Opening.{BeginsOpened}
 use Rattle.macs_endpoint.specs.Queue.{last_ticket, queue_length}
 use Rattle.macs_endpoint.specs.Value.{EndpointValue, IsAtRest, IsRxWithin, IsSoundEndpoint, IsTxWithin}
 use Rattle.macs_endpoint.specs.declared.queue.Waiting.{Waiting}
 use Rattle.macs_endpoint.specs.declared.turn.Turn.TheVariants.{Reservation}
 use Rattle.macs_endpoint.specs.State.{rx_side_with, tx_side_with}
-use Rattle.macs_endpoint.proofs.endpoint.Endpoint.over.Given.{Over}
-use Rattle.macs_endpoint.proofs.endpoint.Endpoint.over.Goals.{After-new}
-use Rattle.macs_endpoint.proofs.endpoint.Endpoint.over.Goals as goal
+use Rattle.macs_endpoint.proofs.endpoint.Endpoint.begun.Given.{Over}
+use Rattle.macs_endpoint.proofs.endpoint.Endpoint.begun.Goals.{After-new-3}
+use Rattle.macs_endpoint.proofs.endpoint.Endpoint.begun.Goals as goal
 
 -- ---- numbers begin at their ceilings
 
@@ -36,42 +39,68 @@ rx_begins : (block : ℕ) (numbers : Option Numbers) (ceiling : Option ℕ) → 
 rx_begins block numbers ceiling same =
     subst (λ (n : Option Numbers). IsRxWithin block n ceiling) (sym same) (rx_started block ceiling)
 
-module _ (g : Over) (c : After-new g) where
+-- ---- the channels are new
+
+pub take_up-requires-clause-new_tx : goal.take_up-requires-clause-new_tx
+take_up-requires-clause-new_tx g c = record {
+  side = c.new.ensures.side ∙ ap transmit.new_tx_side (c.sci.ensures ∙ ap (λ (i : Identity). i.sci) c.identity.ensures);
+  ceilings = c.new.ensures.ceilings;
+  counters = c.new.ensures.counters;
+}
+
+pub take_up-requires-clause-new_rx : goal.take_up-requires-clause-new_rx
+take_up-requires-clause-new_rx g c = record {
+  side = c.new-2.ensures.side;
+  ceilings = c.new-2.ensures.ceilings;
+  counters = c.new-2.ensures.counters;
+  channel_counters = c.new-2.ensures.channel_counters;
+}
+
+-- ---- and have taken up what the store has
+
+module _ (g : Over) (c : After-new-3 g) where
+  abbrev store : StoreValue g.row.D.Denot
+  store = c.in-Ok.store
+
   abbrev s : Standing
-  s = standing_in c.args.store
+  s = standing_in store
 
   abbrev tx : Tx
-  tx = c.opened-channels.result.tx
+  tx = c.take_up.new.self.tx
 
   abbrev rx : rxsc.RxValue
-  rx = c.opened-channels.result.rx
+  rx = c.take_up.new.self.rx
 
   next : (txsc.tx_side_of tx).next ≡ s.ceilings.tx
-  next = ap (λ side. side.next) c.opened-channels.ensures.tx
+  next = ap (λ side. side.next) c.take_up.ensures.tx
 
   numbers : (rxsc.rx_side_of rx).numbers ≡ (λ sci an. option_map first_numbers (s.ceilings.rx sci an))
-  numbers = ap (λ side. side.numbers) c.opened-channels.ensures.rx
+  numbers = ap (λ side. side.numbers) c.take_up.ensures.rx
 
   abbrev opened : EndpointValue g.row.D.Denot
   opened = record {
-    store = c.args.store;
+    store = store;
     tx = tx;
     rx = rx;
     in_hand = None;
     reserving = None;
-    waiting = c.new.result.waiting;
-    tickets = c.new.result.given;
+    waiting = c.new-3.result.waiting;
+    tickets = c.new-3.result.given;
     turn = Reservation;
   }
 
   rests : IsAtRest opened
-  rests = record { store = c.requires; reserving = refl; in_hand = λ running. refl }
+  rests = record {
+    store = subst (λ (o : Result (StoreValue g.row.D.Denot) (RecoverRefused g.row.D.Denot)). IfOk o IsIdle) c.in-Ok.is c.requires;
+    reserving = refl;
+    in_hand = λ running. refl;
+  }
 
   kept : IsSoundEndpoint opened
   kept =
-      let made = c.opened-channels.ensures in
+      let made = c.take_up.ensures in
       record {
-        identity = subst IsIdentity c.identity.ensures c.identity_in_range.ensures;
+        identity = subst IsIdentity c.identity-2.ensures c.identity_in_range.ensures;
         channels = record {
           tx_is = made.tx ∙ ap (λ (n : ℕ → Option ℕ). tx_side_with s.identity s.config n) (sym next);
           rx_is = made.rx ∙ ap (λ (n : List ℕ → ℕ → Option Numbers). rx_side_with s.config n) (sym numbers);
@@ -87,26 +116,27 @@ module _ (g : Over) (c : After-new g) where
               ((λ i. (made.rx i).rx sci an)
               ∙ subst (λ (k : Config). k.rx sci an ≡ None) c.config.ensures.config (c.facts-2.ensures.rx_numbers sci an over));
         };
-        few = subst (λ (w : List Waiting). length w ≤ queue_length) (sym c.new.ensures.waiting) (omega arith);
-        tickets = subst (λ (n : ℕ). n ≤ last_ticket) (sym c.new.ensures.given) (omega arith);
+        few = subst (λ (w : List Waiting). length w ≤ queue_length) (sym c.new-3.ensures.waiting) (omega arith);
+        tickets = subst (λ (n : ℕ). n ≤ last_ticket) (sym c.new-3.ensures.given) (omega arith);
         work = inl rests;
       }
 
 pub invariant_of-result : goal.invariant_of-result
-invariant_of-result g c = kept g (goal.at.invariant_of-result g c).After-new
+invariant_of-result g c = kept g (goal.at.invariant_of-result g c).After-new-3
 
 pub returns : goal.returns
 returns g c =
-    let at = (goal.at.returns g c).After-new in
-    record {
+    let at = (goal.at.returns g c).After-new-3 in
+    subst (λ (o : Result (StoreValue g.row.D.Denot) (RecoverRefused g.row.D.Denot)). BeginsOpened o (Ok (opened g at))) (sym c.in-Ok.is)
+    (record {
       from = refl;
       sound = kept g at;
       idle = (rests g at, refl);
-      queue = (c.new.ensures.waiting, c.new.ensures.given);
+      queue = (c.new-3.ensures.waiting, c.new-3.ensures.given);
       turn = refl;
       next = next g at;
       numbers = numbers g at;
       tx_counters = search rules;
       rx_counters = search rules;
       channel_counters = search rules;
-    }
+    })

@@ -1,18 +1,17 @@
-use Rattle.std.proofs.Common.{◌≡◌, ◌∙◌, ◌≤◌, ◌+◌, ℕ, None, ap, subst, sym}
+use Rattle.std.proofs.Common.{◌≡◌, ◌∙◌, ◌≤◌, ◌+◌, ℕ, None, ap, refl, subst, sym}
 use Rattle.macs_config.specs.Config.{Config, IsConfig, this_edition}
-use Rattle.macs_config.specs.Identity.{Identity}
 use Rattle.macs_txsc.specs.declared.channel.Tx.{Tx}
 use Rattle.macs_store.specs.Value.{standing_in}
 use Rattle.macs_endpoint.proofs.Opened.{IsTxFilled, number_is, select-stands, tx-all-ceilings, tx-one-more, tx-next-empty, tx-passed, tx-selected, tx-unfilled, tx-unselected}
-use Rattle.macs_endpoint.proofs.opening.opened_tx.Goals as goal
-use Rattle.macs_endpoint.proofs.opening.opened_tx.Goals.{in-Some, in_default}
+use Rattle.macs_endpoint.proofs.opening.take_up_tx.Goals as goal
+use Rattle.macs_endpoint.proofs.opening.take_up_tx.Goals.{in-Some, in_default}
 
 pub loop-an-init : goal.loop-an-init
 loop-an-init g c =
-    tx-unfilled (standing_in c.args.store.now) c.sci.result c.sci_mode.result c.new-tx.result c.set_mode.new.self
-    (c.sci.ensures ∙ ap (λ (i : Identity). i.sci) c.identity.ensures)
-    (c.sci_mode.ensures ∙ ap (λ (k : Config). k.mode) c.config-config.ensures.config) c.new-tx.ensures.side c.set_mode.ensures.side
-    c.new-tx.ensures.ceilings c.set_mode.ensures.ceilings c.new-tx.ensures.counters c.set_mode.ensures.counters
+    let s = standing_in c.args.store.now in
+    tx-unfilled s s.identity.sci c.sci_mode.result c.args.tx.now c.set_mode.new.self refl
+    (c.sci_mode.ensures ∙ ap (λ (k : Config). k.mode) c.config-config.ensures.config) c.requires.side c.set_mode.ensures.side
+    c.requires.ceilings c.set_mode.ensures.ceilings c.requires.counters c.set_mode.ensures.counters
 
 pub install_tx-requires-clause-empty : goal.install_tx-requires-clause-empty
 install_tx-requires-clause-empty g c =

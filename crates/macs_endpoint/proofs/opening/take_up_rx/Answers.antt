@@ -3,13 +3,13 @@ use Rattle.macs_config.specs.Config.{Config, IsConfig, this_edition}
 use Rattle.macs_config.specs.Value.{config_of}
 use Rattle.macs_store.specs.Value.{standing_in}
 use Rattle.macs_endpoint.proofs.Opened.{add-free, added-empty, added-stands, is-next, nothing-opened, opened-ceilings, opened-more, opened-side}
-use Rattle.macs_endpoint.proofs.opening.opened_rx.Goals as goal
+use Rattle.macs_endpoint.proofs.opening.take_up_rx.Goals as goal
 
 pub loop-sci-init : goal.loop-sci-init
 loop-sci-init g c =
-    nothing-opened (standing_in c.args.store.now) c.new-rx.result c.set_policy.new.rx c.new-rx.ensures.side c.set_policy.ensures.side
-    c.new-rx.ensures.ceilings c.set_policy.ensures.ceilings c.new-rx.ensures.counters c.set_policy.ensures.counters
-    c.new-rx.ensures.channel_counters c.set_policy.ensures.channel_counters
+    nothing-opened (standing_in c.args.store.now) c.args.rx.now c.set_policy.new.rx c.requires.side c.set_policy.ensures.side
+    c.requires.ceilings c.set_policy.ensures.ceilings c.requires.counters c.set_policy.ensures.counters
+    c.requires.channel_counters c.set_policy.ensures.channel_counters
 
 pub add-requires-clause-free : goal.add-requires-clause-free
 add-requires-clause-free g c =
