@@ -6,9 +6,11 @@ use Rattle.std.specs.declared.snapshot.Snapshot.{Snapshot}
 use Rattle.macs_disk.specs.States.{DiskState}
 use Rattle.macs_disk.specs.Disk.{Disk, IsDeviceCall}
 use Rattle.macs_disk.specs.Files.{FileState, WritesAll, file_in_doubt}
-use Rattle.macs_disk.specs.FileDisks.{is_ready, keeps_disk, state_in_file}
+use Rattle.macs_disk.specs.FileDisks.{IsRefused, disk_in_file, is_ready, keeps_disk, state_in_file}
 use Rattle.macs_disk.specs.FileEvidence.{KeepsDisk, keeps}
 use Rattle.macs_disk.specs.Layouts.{place}
+use Rattle.macs_disk.specs.declared.disk.DeviceFault.{DeviceFault}
+use Rattle.macs_disk.specs.declared.file.FileDisk.{FileDisk}
 use Rattle.macs_disk.specs.declared.layout.Layout.{Layout}
 use Rattle.macs_disk.proofs.FileWrites.{get_or-front, get_or-behind}
 use Rattle.macs_disk.proofs.RecordedCalls.{test_full}
@@ -38,6 +40,30 @@ answered-write old new at octets answer result alike writes = record {
   ok = λ sure. on-ok answer result _ alike (writes.ok sure);
   err = λ sure. on-err answer result _ alike (writes.err sure);
   doubt = writes.doubt;
+}
+
+-- a call that a worn disk refuses
+pub worn-call : {T E : Type 0} (disk : Disk) (result : Result T E) → IsErr result → disk.worn ≡ true → IsDeviceCall disk disk result
+worn-call disk (Ok x) is worn = absurd cc
+worn-call disk (Err e) is worn = record {
+  work = record {
+    works = record {
+      later = omega arith;
+      past = λ k le. refl;
+      failures = omega arith;
+      worn = λ was. was;
+      sectors = refl;
+      honest = refl;
+    };
+    ok = tt;
+    err = inr worn;
+  };
+  at_most_one = omega arith;
+  one = λ fresh. absurd (let no : true ≡ false = sym worn ∙ fresh in cc);
+  counted = λ fresh. absurd (let no : true ≡ false = sym worn ∙ fresh in cc);
+  refused = λ _. refl;
+  stands = λ _. refl;
+  alike = λ _. refl;
 }
 
 module _ {F : Type 0} (file : F → FileState) where
@@ -141,6 +167,27 @@ module _ {F : Type 0} (file : F → FileState) where
       → P (state_in_file layout (file (get_or past clock shown).value)) (state_in_file kept_layout (file (get_or more later new).value))
   effect P layout kept_layout past more shown new clock later kept goes_on lay holds =
       rw (lay, now-is layout past shown clock kept, now-is layout more new later goes_on) holds
+
+  -- a call that a worn disk refuses
+  pub refused-worn : (it : FileDisk F) → it.clock ≡ most → IsRefused file it it
+  refused-worn it full =
+      let worn : (it.clock == 2 ^ 64 - 1) ≡ true = rw full refl in
+      record { call = λ answer is. worn-call (disk_in_file file it) answer is worn; still = refl; stopped = inr worn }
+
+  -- a call that is refused since an earlier one failed
+  pub refused-failed : (old new : FileDisk F) → old.clock < most → new.past.items ≡ old.past.items ++ old.shown ∷ [] → new.clock ≡ old.clock + 1 → new.failures ≡ old.failures + 1
+      → new.shown ≡ old.shown → new.layout ≡ old.layout → new.sectors ≡ old.sectors → new.is_failed ≡ true → IsRefused file old new
+  refused-failed old new lt goes_on next one same lay count stopped = record {
+    call = by_answer;
+    still = effect (λ s t. t ≡ s) old.layout new.layout old.past.items new.past.items old.shown new.shown old.clock new.clock old.kept new.kept lay
+        (ap (λ (s : Snapshot F). state_in_file old.layout (file s.value)) same);
+    stopped = inl stopped;
+  } where
+    by_answer : (answer : Result (Unit {0}) DeviceFault) → IsErr answer → IsDeviceCall (disk_in_file file old) (disk_in_file file new) answer
+    by_answer (Ok x) is = absurd cc
+    by_answer (Err e) is =
+        file-call old.layout new.layout old.past.items new.past.items old.shown new.shown old.sectors new.sectors old.clock new.clock old.failures new.failures (Err e)
+        old.kept lay goes_on lt next count tt one (ap (λ (s : Snapshot F). keeps_disk old.layout (file s.value)) same)
 
   -- what was done to the file that went out and came back
   pub through : (P : DiskState → DiskState → Type 0) (layout : Layout) (lent back : F) (shown new : Snapshot F) → lent ≡ shown.value → new.value ≡ back

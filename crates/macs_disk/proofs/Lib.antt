@@ -2,6 +2,7 @@ pub mod Images
 pub mod Moments
 pub mod Calls
 mod BlownWrites
+mod MissedCalls
 mod Kept
 mod RecordedCalls
 mod Blank
@@ -9,6 +10,7 @@ mod Walks
 pub mod FileWrites
 pub mod FileReads
 mod FileCalls
+mod FileSyncs
 pub mod FileSectors
 mod FileOpenings
 pub mod FoundAgain

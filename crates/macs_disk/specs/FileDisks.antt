@@ -1,9 +1,10 @@
 -- What a `FileDisk` is.
-use Rattle.std.specs.Prelude.{◌≡◌, ◌≤◌, ◌<◌, ◌-◌, ◌/◌, ◌%◌, ◌^◌, ◌==◌, ◌&&◌, ◌⊎◌, ℕ, Bool, true, false, max, nat_le, get_or, replicate}
+use Rattle.std.specs.Prelude.{◌≡◌, ◌≤◌, ◌<◌, ◌-◌, ◌/◌, ◌%◌, ◌^◌, ◌==◌, ◌&&◌, ◌⊎◌, ℕ, Bool, true, false, max, nat_le, get_or, replicate, Result, IsErr}
 use Rattle.macs_disk.specs.States.{DiskState, Image, zero_sector}
-use Rattle.macs_disk.specs.Disk.{Disk, IsHonest, now}
+use Rattle.macs_disk.specs.Disk.{Disk, IsDeviceCall, IsHonest, now}
 use Rattle.macs_disk.specs.Files.{Behaves, FileState, IsSure, Settles, file_after_sync, file_after_write, file_in_doubt, values_from}
 use Rattle.macs_disk.specs.Layouts.{layout_in, mark, mark_place, place, sectors_in, suits}
+use Rattle.macs_disk.specs.declared.disk.DeviceFault.{DeviceFault}
 use Rattle.macs_disk.specs.declared.file.FileDisk.{FileDisk}
 use Rattle.macs_disk.specs.declared.settled_file.SettledFile.{SettledFile}
 use Rattle.macs_disk.specs.declared.layout.Layout.{Layout}
@@ -64,6 +65,13 @@ IsLeftAsShown file it = Behaves (file (file_left it))
 -- a call of it failed, so that each later one fails
 abbrev pub is_stopped : {F : Type 0} → FileDisk F → Bool
 is_stopped it = it.is_failed
+
+-- a call was refused before it reached the file, since the disk is worn or an earlier call of it failed. Whatever error it answers, it
+-- is a call of the disk, and the disk's state is as it was.
+pub record IsRefused {F : Type 0} (file : F → FileState) (old new : FileDisk F) : Type 0 where
+  pub call : (answer : Result (Unit {0}) DeviceFault) → IsErr answer → IsDeviceCall (disk_in_file file old) (disk_in_file file new) answer
+  pub still : now (disk_in_file file new) ≡ now (disk_in_file file old)
+  pub stopped : (is_stopped new ≡ true) ⊎ ((disk_in_file file new).worn ≡ true)
 
 -- how its sectors lie in the file
 abbrev pub layout_of : {F : Type 0} → FileDisk F → Layout

@@ -1,6 +1,6 @@
 //! A disk in a file.
 
-ghost use Rattle.std.specs.Prelude.{◌≡◌, ◌<◌, ◌≤◌, ◌+◌, ◌-◌, ◌^◌, ◌↔◌, ◌⊎◌, true, false, [], ◌∷◌, ◌++◌, length, IsErr, OnErr, OnOk};
+ghost use Rattle.std.specs.Prelude.{◌≡◌, ◌<◌, ◌≤◌, ◌+◌, ◌-◌, ◌^◌, ◌↔◌, true, false, [], ◌∷◌, ◌++◌, length, IsErr, OnErr, OnOk};
 ghost use Rattle.macs_disk.specs.Layouts.{place};
 
 use crate::disk::{DeviceFault, SectorDisk};
@@ -48,7 +48,8 @@ pub struct FileDisk<F = File> {
 }
 
 impl<F: DiskFile> FileDisk<F> {
-    ghost use Rattle.macs_disk.specs.FileDisks.{IsFresh, disk_in_file};
+    ghost use Rattle.macs_disk.specs.FileDisks.{IsFresh, IsRefused, disk_in_file};
+    ghost use Rattle.macs_disk.specs.Files.{Behaves, SyncsFile};
 
     // A disk in a file that was settled and has its sectors, and as what it was handed over.
     pub(crate) fn new(file: F, given: Snapshot<F>, layout: Layout, sectors: u64) -> Self
@@ -92,14 +93,7 @@ impl<F: DiskFile> FileDisk<F> {
         ensures room { OnOk result (self.new.failures < self.new.clock) }
         ensures steady { OnOk result (self.new.failures ≡ self.old.failures) }
         ensures past { OnOk result (self.new.past.items ≡ self.old.past.items ++ self.old.shown ∷ []) }
-        ensures worn { OnErr result (self.old.clock ≡ 2 ^ 64 - 1
-            → (self.new.clock ≡ self.old.clock) × (self.new.failures ≡ self.old.failures)
-            × (self.new.past.items ≡ self.old.past.items)) }
-        ensures refused { OnErr result (self.old.clock < 2 ^ 64 - 1
-            → (self.new.clock ≡ self.old.clock + 1) × (self.new.failures ≡ self.old.failures + 1)
-            × (self.new.past.items ≡ self.old.past.items ++ self.old.shown ∷ [])) }
-        ensures fits { OnErr result (self.old.clock < 2 ^ 64) }
-        ensures stopped { OnErr result ((self.old.is_failed ≡ true) ⊎ (self.old.clock ≡ 2 ^ 64 - 1)) }
+        ensures refused { OnErr result (IsRefused F.file self.old self.new) }
         ensures same { self.new.is_failed ≡ self.old.is_failed }
         ensures shown { self.new.shown ≡ self.old.shown }
         ensures file { self.new.file ≡ self.old.file }
@@ -141,6 +135,32 @@ impl<F: DiskFile> FileDisk<F> {
                 Err(DeviceFault)
             }
         }
+    }
+
+    // Syncs the file, and shows it as it is then. An error is a failure and counted, and the last that the
+    // file is asked for.
+    fn sync_file(&mut self) -> Result<(), DeviceFault>
+        requires { self.old.failures < self.old.clock }
+        ensures steady { (F.file self.new.file).behaves ≡ (F.file self.old.file).behaves }
+        ensures effect { Behaves (F.file self.old.file) → SyncsFile (F.file self.old.file) (F.file self.new.file) result }
+        ensures shown { OnOk result (self.new.shown.value ≡ self.new.file) }
+        ensures still { OnErr result (self.new.shown ≡ self.old.shown) }
+        ensures ok { OnOk result (self.new.failures ≡ self.old.failures) }
+        ensures err { OnErr result (self.new.failures ≡ self.old.failures + 1) }
+        ensures stopped { OnErr result (self.new.is_failed ≡ true) }
+        ensures clock { self.new.clock ≡ self.old.clock }
+        ensures sectors { self.new.sectors ≡ self.old.sectors }
+        ensures layout { self.new.layout ≡ self.old.layout }
+        ensures past { self.new.past.items ≡ self.old.past.items }
+    {
+        let Ok(()) = self.file.sync() else {
+            // The disk goes on to show the file as it was: a failed sync changes nothing.
+            self.failures += 1;
+            self.is_failed = true;
+            return Err(DeviceFault);
+        };
+        self.shown = Snapshot::of(&self.file);
+        Ok(())
     }
 }
 
@@ -221,13 +241,6 @@ impl<F: DiskFile> SectorDisk for FileDisk<F> {
         if self.clock == 1 {
             return Ok(());
         }
-        let Ok(()) = self.file.sync() else {
-            // The disk goes on to show the file as it was: a failed sync changes nothing.
-            self.failures += 1;
-            self.is_failed = true;
-            return Err(DeviceFault);
-        };
-        self.shown = Snapshot::of(&self.file);
-        Ok(())
+        self.sync_file()
     }
 }

@@ -1,13 +1,24 @@
-use Rattle.std.proofs.Common.{◌≡◌, ◌&&◌, ap, ◌∙◌, sym, subst, arith, get_or, refl, rules, Ok, List, true, false}
+use Rattle.std.proofs.Common.{◌≡◌, ◌&&◌, ap, ◌∙◌, sym, subst, arith, get_or, refl, Ok, List, true}
 use Rattle.std.specs.declared.snapshot.Snapshot.{Snapshot}
 use Rattle.macs_disk.specs.Disk.{Syncs}
 use Rattle.macs_disk.specs.FileDisks.{is_ready, keeps_disk, state_in_file}
-use Rattle.macs_disk.specs.Files.{Behaves, FileState, IsSure}
 use Rattle.macs_disk.specs.declared.disk.DeviceFault.{DeviceFault}
-use Rattle.macs_disk.proofs.FileSectors.{keeps-after-sync, state-clean, syncs-file}
-use Rattle.macs_disk.proofs.FileCalls.{clean-first, effect, fit-before, through}
-use Rattle.macs_disk.proofs.FoundAgain.{found-doubted, found-next, found-still, found-synced}
+use Rattle.macs_disk.proofs.FileSectors.{state-clean}
+use Rattle.macs_disk.proofs.FileCalls.{clean-first, effect, file-call, fit-before, one-more, same-count}
+use Rattle.macs_disk.proofs.FileSyncs.{again-synced, disk-synced, fit-synced}
+use Rattle.macs_disk.proofs.FoundAgain.{found-next, found-still}
 use Rattle.macs_disk.proofs.file.FileDiskSectorDisk.sync.Goals as goal
+
+-- ---- the first call of a disk
+
+pub returns-then-self-eq1-clause-call : goal.returns-then-self-eq1-clause-call
+returns-then-self-eq1-clause-call g c =
+    let file = g.F.DiskFile.file in
+    let old = c.args.self.now in
+    let new = c.begin.new.self in
+    file-call file old.layout new.layout old.past.items new.past.items old.shown new.shown old.sectors new.sectors old.clock new.clock old.failures new.failures
+    (Ok tt) old.kept c.begin.ensures.layout c.in_ok-begin.ensures.past c.in_ok-begin.ensures.ok.0 c.in_ok-begin.ensures.ok.1
+    c.begin.ensures.sectors c.in_ok-begin.ensures.steady tt (ap (λ (s : Snapshot _). keeps_disk old.layout (file s.value)) c.begin.ensures.shown)
 
 pub returns-then-self-eq1-clause-effect : goal.returns-then-self-eq1-clause-effect
 returns-then-self-eq1-clause-effect g c honest =
@@ -29,21 +40,6 @@ returns-then-self-eq1-clause-effect g c honest =
       err = tt;
     })
 
-pub returns-clause-effect : goal.returns-clause-effect
-returns-clause-effect g c honest =
-    let file = g.F.DiskFile.file in
-    let old = c.args.self.now in
-    let begun = c.begin.new.self in
-    let lent = begun.file in
-    let back = c.sync.new.self in
-    let shown = c.of.result in
-    let went : lent ≡ old.shown.value = c.begin.ensures.file ∙ sym (old.current c.in_ok-begin.ensures.live.0) in
-    let fit = keeps-after-sync old.layout (file lent) (file back) c.in-Ok.ensures.steady _ c.in-Ok.ensures.effect in
-    let before = fit-before file old.layout begun.layout lent back shown _ c.begin.ensures.layout c.of.ensures fit honest in
-    effect file (λ s t. Syncs {E = DeviceFault} s t (Ok tt)) old.layout begun.layout old.past.items begun.past.items old.shown shown old.clock begun.clock old.kept begun.kept c.begin.ensures.layout
-    (through file (λ s t. Syncs {E = DeviceFault} s t (Ok tt)) old.layout lent back old.shown shown went c.of.ensures
-    (syncs-file old.layout (file lent) (file back) tt before.sure (c.in-Ok.ensures.effect before.behaves)))
-
 pub returns-then-self-eq1-clause-again : goal.returns-then-self-eq1-clause-again
 returns-then-self-eq1-clause-again g c found =
     let old = c.args.self.now in
@@ -51,33 +47,49 @@ returns-then-self-eq1-clause-again g c found =
     found-still g.F.DiskFile.file old.layout new.layout old.sectors new.sectors old.file new.file old.is_failed new.is_failed c.begin.ensures.layout c.begin.ensures.sectors
     c.begin.ensures.file (λ goes_on. sym c.begin.ensures.same ∙ goes_on) found
 
+-- ---- a sync of the file
+
+pub returns-clause-call : goal.returns-clause-call
+returns-clause-call g c =
+    let file = g.F.DiskFile.file in
+    let old = c.args.self.now in
+    let begun = c.begin.new.self in
+    let new = c.sync_file.new.self in
+    let result = c.sync_file.result in
+    let does = c.sync_file.ensures in
+    let fit = fit-synced file old.layout begun.file new.file begun.shown new.shown result (sym (begun.current c.in_ok-begin.ensures.live.1)) does.steady does.effect does.shown does.still in
+    file-call file old.layout new.layout old.past.items new.past.items old.shown new.shown old.sectors new.sectors old.clock new.clock old.failures new.failures result
+    old.kept (does.layout ∙ c.begin.ensures.layout) (does.past ∙ c.in_ok-begin.ensures.past) c.in_ok-begin.ensures.ok.0 (does.clock ∙ c.in_ok-begin.ensures.ok.1)
+    (does.sectors ∙ c.begin.ensures.sectors)
+    (same-count result new.failures begun.failures old.failures does.ok c.in_ok-begin.ensures.steady)
+    (one-more result new.failures begun.failures old.failures does.err c.in_ok-begin.ensures.steady)
+    (fit ∙ ap (λ (s : Snapshot _). keeps_disk old.layout (file s.value)) c.begin.ensures.shown)
+
+pub returns-clause-effect : goal.returns-clause-effect
+returns-clause-effect g c honest =
+    let file = g.F.DiskFile.file in
+    let old = c.args.self.now in
+    let begun = c.begin.new.self in
+    let new = c.sync_file.new.self in
+    let result = c.sync_file.result in
+    let does = c.sync_file.ensures in
+    let went = sym (begun.current c.in_ok-begin.ensures.live.1) in
+    let lay = does.layout ∙ c.begin.ensures.layout in
+    let fit = fit-synced file old.layout begun.file new.file begun.shown new.shown result went does.steady does.effect does.shown does.still in
+    let before = fit-before file old.layout new.layout begun.shown.value new.shown.value new.shown _ lay refl fit honest in
+    effect file (λ s t. Syncs s t result) old.layout new.layout old.past.items new.past.items old.shown new.shown old.clock new.clock old.kept new.kept lay
+    (subst (λ (s : Snapshot _). Syncs (state_in_file old.layout (file s.value)) (state_in_file old.layout (file new.shown.value)) result) c.begin.ensures.shown
+    (disk-synced file old.layout begun.file new.file begun.shown new.shown result went before does.effect does.shown does.still))
+
 pub returns-clause-again : goal.returns-clause-again
 returns-clause-again g c found =
     let file = g.F.DiskFile.file in
     let old = c.args.self.now in
     let begun = c.begin.new.self in
-    let lent = begun.file in
-    let back = c.sync.new.self in
-    let synced = λ (behaves : Behaves (file lent)) (sure : IsSure (file lent)). (c.in-Ok.ensures.effect behaves).ok sure in
-    found-next file old.layout begun.layout old.sectors begun.sectors old.file lent back back old.is_failed begun.is_failed c.begin.ensures.layout c.begin.ensures.sectors
-    c.begin.ensures.file refl c.in_ok-begin.ensures.live.0 c.in-Ok.ensures.steady
-    (λ behaves sure is. (
-      found-synced old.layout old.sectors (file lent) (file back) is (synced behaves sure),
-      λ _. ap (λ (f : FileState). f.is_sure) (synced behaves sure) ∙ sure,
-    ))
-    found
-
-pub returns-in_default-clause-again : goal.returns-in_default-clause-again
-returns-in_default-clause-again g c found =
-    let file = g.F.DiskFile.file in
-    let old = c.args.self.now in
-    let begun = c.begin.new.self in
-    let lent = begun.file in
-    let back = c.sync.new.self in
-    found-next file old.layout begun.layout old.sectors begun.sectors old.file lent back back old.is_failed true c.begin.ensures.layout c.begin.ensures.sectors
-    c.begin.ensures.file refl c.in_ok-begin.ensures.live.0 c.in_default.ensures.steady
-    (λ behaves sure is. (
-      found-doubted old.layout old.sectors (file lent) (file back) is (search rules),
-      λ goes_on. absurd (let no : true ≡ false = goes_on in cc),
-    ))
+    let new = c.sync_file.new.self in
+    let result = c.sync_file.result in
+    let does = c.sync_file.ensures in
+    found-next file old.layout new.layout old.sectors new.sectors old.file begun.file new.file new.file old.is_failed new.is_failed (does.layout ∙ c.begin.ensures.layout)
+    (does.sectors ∙ c.begin.ensures.sectors) c.begin.ensures.file refl c.in_ok-begin.ensures.live.0 does.steady
+    (λ behaves sure is. again-synced old.layout old.sectors (file begun.file) (file new.file) result new.is_failed sure is (does.effect behaves) does.stopped)
     found
