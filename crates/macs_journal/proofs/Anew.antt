@@ -1,5 +1,5 @@
 -- One device call of a compaction in hand, and what a journal with one comes to.
-use Rattle.std.proofs.Common.{◌≡◌, ◌≤◌, ◌+◌, ℕ, refl, sym, ◌∙◌, ap, subst, arith, List, length, Option, Some, None}
+use Rattle.std.proofs.Common.{◌≡◌, ◌≤◌, ℕ, refl, sym, ◌∙◌, ap, subst, arith, List, length, Option, Some, None}
 use Rattle.macs_disk.specs.Disk.{Disk, Works}
 use Rattle.macs_disk.specs.Runs.{Leaves}
 use Rattle.macs_disk.proofs.Moments.{Left-earlier}
@@ -9,18 +9,16 @@ use Rattle.macs_journal.specs.Appending.{HasEitherJournal}
 use Rattle.macs_journal.specs.Areas.{other_area, slots}
 use Rattle.macs_journal.specs.Found.{Content}
 use Rattle.macs_journal.specs.Renewal.{compacted, next_head}
-use Rattle.macs_journal.specs.Stages.{AtNextStage, AtStage, IsCompactNext, IsCompactStage, IsUnderWay, compact_left, compact_left_next}
-use Rattle.macs_journal.specs.Stepping.{IsSameTask, place_then}
-use Rattle.macs_journal.specs.Value.{AreLent, HoldsHand, HoldsWith, IsCompacting, IsHolding, IsMadeOf, left_of}
+use Rattle.macs_journal.specs.Stages.{AtNextStage, AtStage, IsCompactNext, IsCompactStage, IsUnderWay}
+use Rattle.macs_journal.specs.Value.{HoldsHand, HoldsWith, IsCompacting, IsHolding, IsMadeOf}
 use Rattle.macs_journal.specs.declared.compact_stage.CompactStage.{CompactStage}
 use Rattle.macs_journal.specs.declared.compact_stage.CompactStage.TheVariants.{ReadGate}
 use Rattle.macs_journal.specs.declared.hand.Compacting.{Compacting}
 use Rattle.macs_journal.specs.declared.hand.Hand.{Hand}
-use Rattle.macs_journal.specs.declared.hand.Hand.TheVariants.{Append, Compact, Empty}
+use Rattle.macs_journal.specs.declared.hand.Hand.TheVariants.{Compact, Empty}
 use Rattle.macs_journal.specs.declared.place.Place.{Place}
 use Rattle.macs_journal.proofs.GateCalls.{none-closed}
 use Rattle.macs_journal.proofs.Holding.{idle-ready}
-use Rattle.macs_journal.proofs.Stages.{some-left}
 use Rattle.macs_journal.proofs.UnderWay.{at-under_way, way-leaves, way-ready}
 
 -- the place where the journal goes on then
@@ -110,44 +108,6 @@ module _ (old : Disk) (place : Place) (hand : Hand) (work : Compacting) (records
         let ready = way-ready begun.began new area work.head records few-records before begun.ready the-area head-next (comes None next_is) in
         subst (λ (c : Content). IsHolding new (new_place area work) Empty c c) (sym becomes)
         (record { at = record { area = the-area; head = head-next; free = ap (λ (h : Head). h.count) head-next }; holds = (ready, refl) })
-
--- fewer calls are left
-pub anew-left : (old new : Hand) (work : Compacting) (later : CompactStage) (count : ℕ) (next : Option CompactStage) → old ≡ Compact work
-    → new ≡ Compact (record work { stage = later }) → count ≡ work.head.count → next ≡ Some later
-    → compact_left_next count next + 1 ≤ compact_left count work.stage → left_of new + 1 ≤ left_of old
-anew-left old new work later count next old_is new_is count_is next_is less =
-    subst (λ (h : Hand). left_of new + 1 ≤ left_of h) (sym old_is)
-    (subst (λ (h : Hand). left_of h + 1 ≤ left_of (Compact work)) (sym new_is)
-    (subst (λ (n : ℕ). compact_left n later + 1 ≤ compact_left n work.stage) count_is
-    (subst (λ (n : Option CompactStage). compact_left_next count n + 1 ≤ compact_left count work.stage) next_is less)))
-
-pub anew-last : (old : Hand) (work : Compacting) → old ≡ Compact work → left_of Empty + 1 ≤ left_of old
-anew-last old work old_is =
-    subst (λ (h : Hand). left_of Empty + 1 ≤ left_of h) (sym old_is) (let some = some-left work.head.count work.stage in omega (arith, some))
-
--- the records are still those that are lent
-pub anew-lent : (old new : Hand) (work : Compacting) (later : CompactStage) → old ≡ Compact work → new ≡ Compact (record work { stage = later })
-    → (snapshot : List Record) → AreLent old snapshot → AreLent new snapshot
-anew-lent old new work later old_is new_is snapshot lent =
-    subst (λ (h : Hand). AreLent h snapshot) (sym new_is) (subst (λ (h : Hand). AreLent h snapshot) old_is lent)
-
-pub anew-made : (old new : Hand) (work : Compacting) (later : CompactStage) → old ≡ Compact work → new ≡ Compact (record work { stage = later })
-    → (snapshot : List Record) (before after : Content) → IsMadeOf old snapshot before after → IsMadeOf new snapshot before after
-anew-made old new work later old_is new_is snapshot before after made =
-    subst (λ (h : Hand). IsMadeOf h snapshot before after) (sym new_is) (subst (λ (h : Hand). IsMadeOf h snapshot before after) old_is made)
-
--- the new head is still the same
-pub anew-task : (old new : Hand) (work : Compacting) (later : CompactStage) → old ≡ Compact work → new ≡ Compact (record work { stage = later }) → IsSameTask old new
-anew-task old new work later old_is new_is =
-    subst (λ (h : Hand). IsSameTask h new) (sym old_is) (subst (λ (h : Hand). IsSameTask (Compact work) h) (sym new_is) refl)
-
--- and the journal goes on under it once it is done
-pub anew-place : (place : Place) (hand : Hand) (work : Compacting) → hand ≡ Compact work → new_place (other_area place.area) work ≡ place_then place hand
-anew-place place hand work hand_is = ap (place_then place) (sym hand_is)
-
--- as many as the head counts
-pub lent-count : (hand : Hand) (work : Compacting) → hand ≡ Compact work → (snapshot : List Record) → AreLent hand snapshot → length snapshot ≡ work.head.count
-lent-count hand work hand_is snapshot lent = subst (λ (h : Hand). AreLent h snapshot) hand_is lent
 
 -- records come into hand
 pub anew-in_hand : (d : Disk) (place : Place) (hand : Hand) (work : Compacting) (c : Content) (records : List Record)

@@ -23,3 +23,5 @@ pub mod UnderWay
 pub mod Anew
 pub mod Tasks
 pub mod Steps
+pub mod Advancing
+pub mod Recovering

@@ -1,21 +1,14 @@
 -- A task in hand: it stays the same while it goes on, and with which records it is in hand.
-use Rattle.std.proofs.Common.{◌≡◌, ◌∙◌, refl, sym, subst, List, length}
+use Rattle.std.proofs.Common.{◌∙◌, refl, sym, List}
 use Rattle.macs_disk.specs.Disk.{Disk}
 use Rattle.macs_record.specs.declared.record.Record.{Record}
 use Rattle.macs_journal.specs.Found.{Content}
 use Rattle.macs_journal.specs.Renewal.{compacted}
 use Rattle.macs_journal.specs.Stepping.{IsAppendHand, IsSameTask, RenewsWith}
 use Rattle.macs_journal.specs.Value.{AreLent, HoldsWith, IsHolding, IsMadeOf}
-use Rattle.macs_journal.specs.declared.appending.AppendStage.{AppendStage}
-use Rattle.macs_journal.specs.declared.hand.Appending.{Appending}
 use Rattle.macs_journal.specs.declared.hand.Hand.{Hand}
 use Rattle.macs_journal.specs.declared.hand.Hand.TheVariants.{Append, Compact, Empty}
 use Rattle.macs_journal.specs.declared.place.Place.{Place}
-
--- the sector is still the same
-pub append-task : (old new : Hand) (work : Appending) (later : AppendStage) → old ≡ Append work → new ≡ Append (record work { stage = later }) → IsSameTask old new
-append-task old new work later old_is new_is =
-    subst (λ (h : Hand). IsSameTask h new) (sym old_is) (subst (λ (h : Hand). IsSameTask (Append work) h) (sym new_is) refl)
 
 -- an append goes on as one
 pub still-appends : (old new : Hand) → IsSameTask old new → IsAppendHand old → IsAppendHand new

@@ -1,17 +1,18 @@
 -- A journal's work, one device call at a time.
-use Rattle.std.specs.Prelude.{◌≡◌, ◌<◌, ◌≤◌, ◌↔◌, ◌⊎◌, ◌+◌, ℕ, true, false, List, length, Result, Ok, IsErrOf, OnOk, OnErr, is_err}
+use Rattle.std.specs.Prelude.{◌≡◌, ◌≢◌, ◌<◌, ◌≤◌, ◌↔◌, ◌⊎◌, ◌+◌, ℕ, true, false, List, length, Result, Ok, IsErrOf, OnOk, OnErr, is_err}
 use Rattle.macs_disk.specs.States.{Image}
-use Rattle.macs_disk.specs.Disk.{IsDeviceCall, IsHonest, MayLeave}
+use Rattle.macs_disk.specs.Disk.{IsDeviceCall, IsHonest, MayLeave, now}
 use Rattle.macs_disk.specs.Disk as disk
 use Rattle.macs_disk.specs.Runs.{Leaves}
 use Rattle.macs_record.specs.Decoding.{IsSectorOf}
+use Rattle.macs_record.specs.Gates.{open_gate}
 use Rattle.macs_record.specs.declared.record.Record.{Record}
 use Rattle.macs_journal.specs.Appending.{HasEitherJournal}
-use Rattle.macs_journal.specs.Areas.{other_area, slots}
+use Rattle.macs_journal.specs.Areas.{gate, other_area, slot_body, slots}
 use Rattle.macs_journal.specs.Found.{Content, HasJournal, content_with_record}
 use Rattle.macs_journal.specs.Renewal.{compacted, last_generation, next_head}
-use Rattle.macs_journal.specs.Value.{AreLent, ComesTo, HoldsContent, HoldsWith, IsHolding, IsIdle, IsMadeOf, IsNoCompact, JournalValue, device_in, disk_in, generation, is_stopped, left_of}
-use Rattle.macs_journal.specs.Work.{IsWorkOf}
+use Rattle.macs_journal.specs.Value.{AreLent, ComesTo, HoldsContent, HoldsWith, IsHolding, IsIdle, IsMadeOf, IsNoCompact, JournalValue, append_left, device_in, disk_in, generation, is_stopped, left_of}
+use Rattle.macs_journal.specs.Work.{IsSpared, IsWorkOf}
 use Rattle.macs_journal.specs.declared.fault.JournalFault.{JournalFault}
 use Rattle.macs_journal.specs.declared.fault.JournalFault.TheVariants.{Disk, GenerationsSpent, Stopped}
 use Rattle.macs_journal.specs.declared.hand.Hand.{Hand}
@@ -111,6 +112,31 @@ abbrev pub step_of : Hand → JournalStep
 step_of hand.Empty = Finished
 step_of (hand.Append work) = Going
 step_of (hand.Compact work) = Going
+
+-- One device call of the append in hand.
+pub record AdvancesAppend {D : Type 0} (disk_of : D → disk.Disk) (old : JournalValue D) (result : Result (Unit {0}) JournalFault) (new : JournalValue D) : Type 0 where
+  pub names : OnErr result (IsErrOf result Disk)
+  pub work : IsWorkOf (disk_in disk_of old) (disk_in disk_of new) result
+  pub no_compact : IsNoCompact new.hand
+  pub after : is_stopped new ≡ is_err result
+  pub device : IsDeviceCall (disk_in disk_of old) (disk_in disk_of new) result
+  pub one : (disk_in disk_of new).clock ≤ (disk_in disk_of old).clock + 1
+  pub call : OnOk result ((disk_in disk_of new).clock ≡ (disk_in disk_of old).clock + 1)
+  pub idle : OnErr result (IsIdle new)
+  pub left : OnOk result (append_left new.hand + 1 ≡ append_left old.hand)
+  pub place : 1 ≤ append_left new.hand → new.place ≡ old.place
+  pub task : (¬ IsIdle new) → IsSameTask old.hand new.hand
+  pub moved : OnOk result (IsIdle new → new.place ≡ record old.place { free = old.place.free + 1 })
+  pub at_fault : OnErr result (new.place ≡ old.place)
+  pub any_moment : IsHonest (disk_in disk_of new) → (before after : Content) → IsHolding (disk_in disk_of old) old.place old.hand before after
+      → Leaves (disk_in disk_of old) (disk_in disk_of new) (HasEitherJournal before after)
+  pub next : OnOk result (IsHonest (disk_in disk_of new) → (before after : Content) → IsHolding (disk_in disk_of old) old.place old.hand before after
+      → ComesTo (disk_in disk_of new) new.place new.hand before after)
+  -- once it is done the gate is as it is written, and all sectors but the body and the gate are left alone
+  pub opened : OnOk result (IsIdle new → IsHonest (disk_in disk_of new) → (before after : Content) → IsHolding (disk_in disk_of old) old.place old.hand before after
+      → (now (disk_in disk_of new)).seen (gate old.place.area (old.place.free + 1)) ≡ open_gate)
+  pub others : IsHonest (disk_in disk_of new) → (i : ℕ) → i ≢ slot_body old.place.area old.place.free → i ≢ gate old.place.area (old.place.free + 1)
+      → IsSpared (disk_in disk_of old) (disk_in disk_of new) i
 
 -- One device call of the work in hand, with the records that are lent to it.
 pub record Advances {D : Type 0} (disk_of : D → disk.Disk) (old : JournalValue D) (snapshot : List Record) (result : Result (Unit {0}) JournalFault) (new : JournalValue D) : Type 0 where

@@ -1,7 +1,7 @@
 //! A journal whose work is cut at the device calls.
 
 ghost use Rattle.std.specs.Prelude.{◌≡◌, ◌≢◌, ◌<◌, ◌≤◌, ◌+◌, ◌↔◌, ◌⊎◌, ℕ, true, false, IsTrue, OnOk, OnErr, IsErrOf, is_err};
-ghost use Rattle.macs_disk.specs.Disk.{IsDeviceCall, IsHonest, MayLeave, now};
+ghost use Rattle.macs_disk.specs.Disk.{IsHonest, MayLeave, now};
 ghost use Rattle.macs_disk.specs.Runs.{Leaves};
 ghost use Rattle.macs_disk.specs.States.{Image};
 ghost use Rattle.macs_record.specs.Gates.{open_gate};
@@ -9,8 +9,8 @@ ghost use Rattle.macs_record.specs.declared.record.Record.{Record};
 ghost use Rattle.macs_journal.specs.Areas.{gate, least_sectors, slot_body, slots};
 ghost use Rattle.macs_journal.specs.Found.{Content, HasJournal, content_with_record};
 ghost use Rattle.macs_journal.specs.Appending.{HasEitherJournal};
-ghost use Rattle.macs_journal.specs.Stepping.{IsSameTask};
-ghost use Rattle.macs_journal.specs.Value.{ComesTo, FitsHand, HoldsContent, IsHolding, IsIdle, IsNoCompact, JournalValue, append_left, device_in, disk_in, is_stopped, used_slots};
+ghost use Rattle.macs_journal.specs.Stepping.{AdvancesAppend};
+ghost use Rattle.macs_journal.specs.Value.{FitsHand, HoldsContent, IsHolding, IsIdle, IsNoCompact, JournalValue, append_left, device_in, disk_in, is_stopped, used_slots};
 ghost use Rattle.macs_journal.specs.Work.{IsSpared, IsWorkOf};
 ghost use Rattle.macs_journal.specs.declared.fault.JournalFault.TheVariants.{Disk, Stopped};
 ghost use Rattle.macs_journal.specs.declared.hand.Hand.TheVariants.{Empty};
@@ -181,31 +181,7 @@ impl<D: SectorDisk> Journal<D> {
     pub(crate) fn step_append(&mut self) -> Result<(), JournalFault>
         requires busy { 1 ≤ append_left self.old.hand }
         requires running { is_stopped self.old ≡ false }
-        ensures names { OnErr result (IsErrOf result Disk) }
-        ensures work { IsWorkOf (disk_in D.disk self.old) (disk_in D.disk self.new) result }
-        ensures no_compact { IsNoCompact self.new.hand }
-        ensures after { is_stopped self.new ≡ is_err result }
-        ensures device { IsDeviceCall (disk_in D.disk self.old) (disk_in D.disk self.new) result }
-        ensures one { (disk_in D.disk self.new).clock ≤ (disk_in D.disk self.old).clock + 1 }
-        ensures call { OnOk result ((disk_in D.disk self.new).clock ≡ (disk_in D.disk self.old).clock + 1) }
-        ensures idle { OnErr result (IsIdle self.new) }
-        ensures any_moment { IsHonest (disk_in D.disk self.new) → (before after : Content)
-            → IsHolding (disk_in D.disk self.old) self.old.place self.old.hand before after
-            → Leaves (disk_in D.disk self.old) (disk_in D.disk self.new) (HasEitherJournal before after) }
-        ensures next { OnOk result (IsHonest (disk_in D.disk self.new) → (before after : Content)
-            → IsHolding (disk_in D.disk self.old) self.old.place self.old.hand before after
-            → ComesTo (disk_in D.disk self.new) self.new.place self.new.hand before after) }
-        ensures gate { OnOk result (IsIdle self.new → IsHonest (disk_in D.disk self.new) → (before after : Content)
-            → IsHolding (disk_in D.disk self.old) self.old.place self.old.hand before after
-            → (now (disk_in D.disk self.new)).seen (gate self.old.place.area (self.old.place.free + 1)) ≡ open_gate) }
-        ensures left { OnOk result (append_left self.new.hand + 1 ≡ append_left self.old.hand) }
-        ensures place { 1 ≤ append_left self.new.hand → self.new.place ≡ self.old.place }
-        ensures moved { OnOk result (IsIdle self.new → self.new.place ≡ record self.old.place { free = self.old.place.free + 1 }) }
-        ensures task { (¬ IsIdle self.new) → IsSameTask self.old.hand self.new.hand }
-        ensures at_fault { OnErr result (self.new.place ≡ self.old.place) }
-        ensures others { IsHonest (disk_in D.disk self.new) → (i : ℕ) → i ≢ slot_body self.old.place.area self.old.place.free
-            → i ≢ gate self.old.place.area (self.old.place.free + 1)
-            → IsSpared (disk_in D.disk self.old) (disk_in D.disk self.new) i }
+        ensures { AdvancesAppend D.disk self.old result self.new }
     {
         let Place { area, free, .. } = self.place;
         let Hand::Append(work) = &self.hand else {

@@ -1,4 +1,6 @@
-use Rattle.std.proofs.Common.{rules}
+use Rattle.std.proofs.Common.{Ok, sym, subst, rules}
+use Rattle.macs_journal.specs.Stepping.{Steps}
+use Rattle.macs_journal.specs.declared.work.JournalStep.{JournalStep}
 use Rattle.macs_journal.proofs.Steps.{steps-done, steps-idle, steps-stopped}
 use Rattle.macs_journal.proofs.journal.Journal.step_from.Goals as goal
 
@@ -9,4 +11,7 @@ pub returns-in-Finished : goal.returns-in-Finished
 returns-in-Finished g c = steps-idle g.D.SectorDisk.disk c.args.self.now (g.R.RecordSource.listed c.args.snapshot.now) (search rules) (search rules)
 
 pub returns : goal.returns
-returns g c = rw c.progress-progress.ensures (steps-done g.D.SectorDisk.disk c.args.self.now c.advance.new.self (g.R.RecordSource.listed c.args.snapshot.now) (search rules) (search rules) c.in_ok-advance.ensures)
+returns g c =
+    let records = g.R.RecordSource.listed c.args.snapshot.now in
+    subst (λ (step : JournalStep). Steps g.D.SectorDisk.disk c.args.self.now records (Ok step) c.advance.new.self) (sym c.progress-progress.ensures)
+    (steps-done g.D.SectorDisk.disk c.args.self.now c.advance.new.self records (search rules) (search rules) c.in_ok-advance.ensures)
