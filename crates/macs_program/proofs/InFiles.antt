@@ -1,6 +1,9 @@
--- What a subcommand does with an endpoint on a disk in a file, from what its parts answer.
-use Rattle.std.proofs.Common.{◌≡◌, ◌⊎◌, ◌∙◌, inl, inr, ℕ, List, Option, Result, Ok, Err, IfErr, IfOk, refl, sym, subst}
+-- What a subcommand does with an endpoint, from what its parts answer, and what comes of it on a disk in a file.
+use Rattle.std.proofs.Common.{◌≡◌, ◌≢◌, ◌⊎◌, ◌∙◌, inl, inr, Bool, true, List, [], ℕ, Option, Result, Ok, Err, IfErr, IfOk, ap, refl, sym, subst}
+use Rattle.std.proofs.KnownBytes.{Appends-nil}
+use Rattle.std.specs.Io.KnownBytes.{Appends}
 use Rattle.macs_config.specs.declared.command.Command.{Command}
+use Rattle.macs_config.specs.declared.refusal.Refusal.{Refusal}
 use Rattle.macs_disk.specs.Disk.{Disk}
 use Rattle.macs_disk.specs.FileDisks.{disk_in_file}
 use Rattle.macs_disk.specs.Files.{FileState}
@@ -8,18 +11,22 @@ use Rattle.macs_disk.specs.declared.file.FileDisk.{FileDisk}
 use Rattle.macs_disk.specs.declared.file_fault.FileFault.{FileFault}
 use Rattle.macs_edge.specs.Passing.{run_of}
 use Rattle.macs_edge.specs.declared.passing.Summary.{Summary}
-use Rattle.macs_edge.specs.declared.settling.Side.{Side}
 use Rattle.macs_endpoint.specs.Opening.{IsOpening}
 use Rattle.macs_endpoint.specs.Value.{EndpointValue}
 use Rattle.macs_journal.specs.declared.recovery.RecoverRefused.{RecoverRefused}
 use Rattle.macs_pcap.specs.States.{SinkState, SourceState}
-use Rattle.macs_program.specs.Applying.{AppliesAll, AppliesSome, SaysCommands}
-use Rattle.macs_program.specs.Capturing.{EndsPass, PassesCapture}
-use Rattle.macs_program.specs.Endpoints.{AppliesFile, AppliesIn, BreaksOff, BreaksOffIn, IsDiskIn, IsEndpointIn, IsOpeningIn, OpeningFails, PassEnds, PassEndsIn, PassesBetween, PassesIn}
-use Rattle.macs_program.specs.Failing.{failure_of_file, failure_of_journal}
+use Rattle.macs_program.proofs.Failures.{MemoryOr, capture-no-output, capture-no-usage, commands-no-output, commands-no-usage, disk-no-output, disk-no-usage, of-opening, output-no-usage}
+use Rattle.macs_program.specs.Applying.{AppliesAll, AppliesSome, EndsRun, SaysCommands, outcome_lines}
+use Rattle.macs_program.specs.Capturing.{EndsPass, PassesCapture, side_of}
+use Rattle.macs_program.specs.Endpoints.{AppliesIn, BreaksOff, BreaksOffIn, IsDiskIn, IsOpeningIn, OpeningFails, PassEndsIn, PassesIn, ShowsIn, shown_text}
+use Rattle.macs_program.specs.Failing.{failure_of_file, failure_of_journal, failure_status}
+use Rattle.macs_program.specs.Summing.{summary_line}
+use Rattle.macs_program.specs.Tasks.{DoesApply, DoesPass, DoesShow, Doing, IsRunIn}
+use Rattle.macs_program.specs.declared.capturing.Direction.{Direction}
 use Rattle.macs_program.specs.declared.failure.Failure.{Failure}
-use Rattle.macs_program.specs.declared.failure.Failure.TheVariants.{Capture, Commands, Memory}
+use Rattle.macs_program.specs.declared.failure.Failure.TheVariants.{Capture, Commands, Memory, Output}
 use Rattle.macs_program.specs.declared.status.Status.{Status}
+use Rattle.macs_program.specs.declared.status.Status.TheVariants as ends
 
 -- ---- opening
 
@@ -27,105 +34,299 @@ pub opening-in : {F : Type 0} (file : F → FileState) (disk : FileDisk F) (open
     → IsDiskIn file disk → IsOpening (disk_in_file file) disk opened → IsOpeningIn file opened
 opening-in file disk opened there opening = record { disk = disk; is_disk = there; opening = opening }
 
-pub endpoint-in : {F : Type 0} (file : F → FileState) (endpoint : EndpointValue (FileDisk F))
-    (opened : Result (EndpointValue (FileDisk F)) (RecoverRefused (FileDisk F))) → opened ≡ Ok endpoint → IsOpeningIn file opened → IsEndpointIn file endpoint
-endpoint-in {F} file endpoint opened is there = record {
-  disk = there.disk;
-  is_disk = there.is_disk;
-  opens = subst (λ (r : Result (EndpointValue (FileDisk F)) (RecoverRefused (FileDisk F))). IsOpening (disk_in_file file) there.disk r) is there.opening;
-}
+module _ {F W : Type 0} (file : F → FileState) (done : Doing (FileDisk F) W) (before : W) where
+  -- there is no disk in the file
+  pub no-disk : (fault failure : Failure) (result : Result Status Failure) → result ≡ Err failure → failure ≡ fault
+      → ((cause : FileFault) × (fault ≡ failure_of_file cause)) → IsRunIn file done before result before
+  no-disk fault failure result is same (cause, given) =
+      inl (record { failure = failure; is = is; fails = inl (cause, same ∙ given); silent = refl })
 
-pub refused-in : {F : Type 0} (file : F → FileState) (refused : RecoverRefused (FileDisk F))
-    (opened : Result (EndpointValue (FileDisk F)) (RecoverRefused (FileDisk F))) (failure : Failure) → opened ≡ Err refused → IsOpeningIn file opened
-    → failure ≡ failure_of_journal refused.fault → OpeningFails file failure
-refused-in {F} file refused opened failure is there same = inr (record {
-  disk = there.disk;
-  left = refused.disk;
-  fault = refused.fault;
-  is_disk = there.is_disk;
-  refuses = subst (λ (r : Result (EndpointValue (FileDisk F)) (RecoverRefused (FileDisk F))). IsOpening (disk_in_file file) there.disk r) is there.opening;
-  is = same;
-})
+  pub refused-in : (refused : RecoverRefused (FileDisk F)) (opened : Result (EndpointValue (FileDisk F)) (RecoverRefused (FileDisk F))) (failure : Failure)
+      → opened ≡ Err refused → IsOpeningIn file opened → failure ≡ failure_of_journal refused.fault → IsRunIn file done before (Err failure) before
+  refused-in refused opened failure is there same = inl (record {
+    failure = failure;
+    is = refl;
+    fails = inr (record {
+      disk = there.disk;
+      left = refused.disk;
+      fault = refused.fault;
+      is_disk = there.is_disk;
+      refuses = subst (λ (r : Result (EndpointValue (FileDisk F)) (RecoverRefused (FileDisk F))). IsOpening (disk_in_file file) there.disk r) is there.opening;
+      is = same;
+    });
+    silent = refl;
+  })
 
--- there is no disk in the file
-pub no-disk : {F : Type 0} (file : F → FileState) (Rest : Failure → Type 0) (fault failure : Failure) (result : Result Status Failure) → result ≡ Err failure
-    → failure ≡ fault → ((cause : FileFault) × (fault ≡ failure_of_file cause)) → IfErr result (λ failure. OpeningFails file failure ⊎ Rest failure)
-no-disk file Rest fault failure result is same (cause, given) =
-    subst (λ (r : Result Status Failure). IfErr r (λ failure. OpeningFails file failure ⊎ Rest failure)) (sym is) (inl (inl (cause, same ∙ given)))
+  pub done-in : (after : W) (old new : EndpointValue (FileDisk F)) (opened : Result (EndpointValue (FileDisk F)) (RecoverRefused (FileDisk F)))
+      (result : Result Status Failure) → opened ≡ Ok old → IsOpeningIn file opened → done old before result new after
+      → IsRunIn file done before result after
+  done-in after old new opened result is there does = inr (record {
+    old = old;
+    new = new;
+    endpoint = record {
+      disk = there.disk;
+      is_disk = there.is_disk;
+      opens = subst (λ (r : Result (EndpointValue (FileDisk F)) (RecoverRefused (FileDisk F))). IsOpening (disk_in_file file) there.disk r) is there.opening;
+    };
+    does = does;
+  })
 
 -- ---- commands
 
-pub file-applied : {D : Type 0} (disk_of : D → Disk) (old new : EndpointValue D) (before after : Option (List ℕ)) (said given : List Command)
-    (result : Result Status Failure) → ((octets : List ℕ) × SaysCommands octets said) → given ≡ said
-    → IfOk result (λ status. AppliesAll disk_of old given before after status new) → IfOk result (λ status. AppliesFile disk_of old before after status new)
-file-applied disk_of old new before after said given (Ok status) (octets, says) same applied = record {
-  octets = octets;
-  commands = given;
-  says = subst (λ (commands : List Command). SaysCommands octets commands) (sym same) says;
-  applies = applied;
-}
-file-applied disk_of old new before after said given (Err failure) says same applied = tt
+module _ {D W : Type 0} (disk_of : D → Disk) (contents : W → Option (List ℕ)) (has_failed : W → Bool) (old : EndpointValue D) (before : W) where
+  -- without a command file nothing is done
+  pub none-applied : (fault failure : Failure) (result : Result Status Failure) → result ≡ Err failure → failure ≡ fault
+      → (fault ≡ Memory) ⊎ (fault ≡ Commands) → DoesApply disk_of contents has_failed old before result old before
+  none-applied fault failure result is same names =
+      let named = subst (λ (f : Failure). MemoryOr Commands f) (sym same) names in
+      subst (λ (r : Result Status Failure). DoesApply disk_of contents has_failed old before r old before) (sym is) (record {
+        printed = tt;
+        ended = inl (named, refl, refl);
+        broken = λ output. absurd (commands-no-output failure named output);
+      })
 
-pub front-applied : {D : Type 0} (disk_of : D → Disk) (old new : EndpointValue D) (before after : Option (List ℕ)) (said given : List Command)
-    (result : Result Status Failure) → ((octets : List ℕ) × SaysCommands octets said) → given ≡ said
-    → IfErr result (λ failure. AppliesSome disk_of old given before after failure new) → IfErr result (λ failure. BreaksOff disk_of old before after failure new)
-front-applied disk_of old new before after said given (Ok status) says same applied = tt
-front-applied disk_of old new before after said given (Err failure) (octets, says) same applied = inr (record {
-  octets = octets;
-  commands = given;
-  says = subst (λ (commands : List Command). SaysCommands octets commands) (sym same) says;
-  applies = applied;
-})
+  pub file-applied : (new : EndpointValue D) (after : W) (said given : List Command) (result : Result Status Failure)
+      → ((octets : List ℕ) × SaysCommands octets said) → given ≡ said
+      → IfOk result (λ status. AppliesAll disk_of old given (contents before) (contents after) status new)
+      → IfErr result (λ failure. AppliesSome disk_of old given (contents before) (contents after) failure new)
+      → IfErr result (λ failure. failure ≡ Output → has_failed after ≡ true)
+      → DoesApply disk_of contents has_failed old before result new after
+  file-applied new after said given (Ok status) (octets, says) same applied ended broken = record {
+    printed = record {
+      octets = octets;
+      commands = given;
+      says = subst (λ (commands : List Command). SaysCommands octets commands) (sym same) says;
+      applies = applied;
+    };
+    ended = tt;
+    broken = tt;
+  }
+  file-applied new after said given (Err failure) (octets, says) same applied ended broken = record {
+    printed = tt;
+    ended = inr (record {
+      octets = octets;
+      commands = given;
+      says = subst (λ (commands : List Command). SaysCommands octets commands) (sym same) says;
+      applies = ended;
+    });
+    broken = broken;
+  }
 
--- without a command file nothing is done
-pub none-applied : {D : Type 0} (disk_of : D → Disk) (old : EndpointValue D) (before : Option (List ℕ)) (fault failure : Failure)
-    (result : Result Status Failure) → result ≡ Err failure → failure ≡ fault → (fault ≡ Memory) ⊎ (fault ≡ Commands)
-    → IfErr result (λ failure. BreaksOff disk_of old before before failure old)
-none-applied disk_of old before fault failure result is same names =
-    subst (λ (r : Result Status Failure). IfErr r (λ failure. BreaksOff disk_of old before before failure old)) (sym is)
-    (inl (subst (λ (f : Failure). (f ≡ Memory) ⊎ (f ≡ Commands)) (sym same) names, refl, refl))
+ends-no-usage : {D : Type 0} (disk_of : D → Disk) (old : EndpointValue D) (command : Command) (failure : Failure) (new : EndpointValue D)
+    → EndsRun disk_of old command failure new → failure_status failure ≢ ends.Usage
+ends-no-usage disk_of old command failure new (inl ended) is = let e = ap failure_status (sym ended.3) ∙ is in cc
+ends-no-usage disk_of old command failure new (inr ended) is = let e = ap failure_status (sym ended.0) ∙ is in cc
 
-pub applied-in : {F : Type 0} (file : F → FileState) (old new : EndpointValue (FileDisk F)) (before after : Option (List ℕ)) (result : Result Status Failure)
-    → IsEndpointIn file old → IfOk result (λ status. AppliesFile (disk_in_file file) old before after status new)
-    → IfOk result (λ status. AppliesIn file before after status)
-applied-in file old new before after (Ok status) endpoint applies = record { old = old; new = new; endpoint = endpoint; applies = applies }
-applied-in file old new before after (Err failure) endpoint applies = tt
+module _ {D : Type 0} (disk_of : D → Disk) (old : EndpointValue D) (known told : Option (List ℕ)) (failure : Failure) (new : EndpointValue D) where
+  broken-off-no-usage : BreaksOff disk_of old known told failure new → failure_status failure ≢ ends.Usage
+  broken-off-no-usage (inl none) is = commands-no-usage failure none.0 is
+  broken-off-no-usage (inr front) is =
+      ends-no-usage disk_of front.applies.between front.applies.next failure new front.applies.ends is
 
-pub broken-off-in : {F : Type 0} (file : F → FileState) (old new : EndpointValue (FileDisk F)) (before after : Option (List ℕ)) (result : Result Status Failure)
-    → IsEndpointIn file old → IfErr result (λ failure. BreaksOff (disk_in_file file) old before after failure new)
-    → IfErr result (λ failure. OpeningFails file failure ⊎ BreaksOffIn file before after failure)
-broken-off-in file old new before after (Ok status) endpoint ends = tt
-broken-off-in file old new before after (Err failure) endpoint ends = inr (record { old = old; new = new; endpoint = endpoint; ends = ends })
+  broken-off-lines : BreaksOff disk_of old known told failure new → failure ≢ Output
+      → (outcomes : List (Option Refusal)) × Appends known told (outcome_lines 1 outcomes)
+  broken-off-lines (inl none) other = ([], subst (λ (k : Option (List ℕ)). Appends known k []) (sym none.2) (Appends-nil known))
+  broken-off-lines (inr front) other = (front.applies.outcomes, front.applies.printed other)
+
+-- what `apply` comes to
+pub record AppliedIn {F W : Type 0} (file : F → FileState) (contents : W → Option (List ℕ)) (has_failed : W → Bool) (before : W)
+    (result : Result Status Failure) (after : W) : Type 0 where
+  pub printed : IfOk result (λ status. AppliesIn file (contents before) (contents after) status)
+  pub ended : IfErr result (λ failure. OpeningFails file failure ⊎ BreaksOffIn file (contents before) (contents after) failure)
+  pub failed : IfErr result (λ failure. failure_status failure ≢ ends.Usage)
+  pub lines : IfErr result (λ failure. failure ≢ Output
+      → (outcomes : List (Option Refusal)) × Appends (contents before) (contents after) (outcome_lines 1 outcomes))
+  pub broken : IfErr result (λ failure. failure ≡ Output → has_failed after ≡ true)
+
+module _ {F W : Type 0} (file : F → FileState) (contents : W → Option (List ℕ)) (has_failed : W → Bool) (before after : W) where
+  none-applied-in : (failure : Failure) → OpeningFails file failure → after ≡ before → AppliedIn file contents has_failed before (Err failure) after
+  none-applied-in failure fails silent = record {
+    printed = tt;
+    ended = inl fails;
+    failed = disk-no-usage failure (of-opening file failure fails);
+    lines = λ other. ([], subst (λ (w : W). Appends (contents before) (contents w) []) (sym silent) (Appends-nil (contents before)));
+    broken = λ output. absurd (disk-no-output failure (of-opening file failure fails) output);
+  }
+
+  pub applied-in : (result : Result Status Failure) → IsRunIn file (DoesApply (disk_in_file file) contents has_failed) before result after
+      → AppliedIn file contents has_failed before result after
+  applied-in result (inl none) =
+      subst (λ (r : Result Status Failure). AppliedIn file contents has_failed before r after) (sym none.is)
+      (none-applied-in none.failure none.fails none.silent)
+  applied-in (Ok status) (inr run) = record {
+    printed = record { old = run.old; new = run.new; endpoint = run.endpoint; applies = run.does.printed };
+    ended = tt;
+    failed = tt;
+    lines = tt;
+    broken = tt;
+  }
+  applied-in (Err failure) (inr run) = record {
+    printed = tt;
+    ended = inr (record { old = run.old; new = run.new; endpoint = run.endpoint; ends = run.does.ended });
+    failed = broken-off-no-usage (disk_in_file file) run.old (contents before) (contents after) failure run.new run.does.ended;
+    lines = broken-off-lines (disk_in_file file) run.old (contents before) (contents after) failure run.new run.does.ended;
+    broken = run.does.broken;
+  }
+
+-- ---- what is shown
+
+module _ {D W : Type 0} (contents : W → Option (List ℕ)) (has_failed : W → Bool) (old : EndpointValue D) (before : W) where
+  pub no-text : (failure : Failure) (result : Result Status Failure) → result ≡ Err failure → failure ≡ Memory
+      → DoesShow contents has_failed old before result old before
+  no-text failure result is memory =
+      subst (λ (r : Result Status Failure). DoesShow contents has_failed old before r old before) (sym is) (record {
+        same = refl;
+        printed = tt;
+        ended = inl memory;
+        silent = λ other. refl;
+        broken = λ output. absurd (let e = sym memory ∙ output in cc);
+      })
+
+  pub not-shown : (after : W) (fault failure : Failure) (result : Result Status Failure) → result ≡ Err failure → failure ≡ fault → fault ≡ Output
+      → has_failed after ≡ true → DoesShow contents has_failed old before result old after
+  not-shown after fault failure result is same output broken =
+      subst (λ (r : Result Status Failure). DoesShow contents has_failed old before r old after) (sym is) (record {
+        same = refl;
+        printed = tt;
+        ended = inr (same ∙ output);
+        silent = λ other. absurd (other (same ∙ output));
+        broken = λ output. broken;
+      })
+
+  pub text-shown : (after : W) (text told : List ℕ) → told ≡ text → text ≡ shown_text old → Appends (contents before) (contents after) told
+      → DoesShow contents has_failed old before (Ok ends.Done) old after
+  text-shown after text told same is printed = record {
+    same = refl;
+    printed = (subst (λ (t : List ℕ). Appends (contents before) (contents after) t) (same ∙ is) printed, refl);
+    ended = tt;
+    silent = tt;
+    broken = tt;
+  }
+
+-- what `show` comes to
+pub record ShownIn {F W : Type 0} (file : F → FileState) (contents : W → Option (List ℕ)) (has_failed : W → Bool) (before : W)
+    (result : Result Status Failure) (after : W) : Type 0 where
+  pub printed : IfOk result (λ status. ShowsIn file (contents before) (contents after) × (status ≡ ends.Done))
+  pub ended : IfErr result (λ failure. OpeningFails file failure ⊎ (failure ≡ Memory) ⊎ (failure ≡ Output))
+  pub failed : IfErr result (λ failure. failure_status failure ≢ ends.Usage)
+  pub silent : IfErr result (λ failure. failure ≢ Output → after ≡ before)
+  pub broken : IfErr result (λ failure. failure ≡ Output → has_failed after ≡ true)
+
+module _ {F W : Type 0} (file : F → FileState) (contents : W → Option (List ℕ)) (has_failed : W → Bool) (before after : W) where
+  none-shown-in : (failure : Failure) → OpeningFails file failure → after ≡ before → ShownIn file contents has_failed before (Err failure) after
+  none-shown-in failure fails silent = record {
+    printed = tt;
+    ended = inl fails;
+    failed = disk-no-usage failure (of-opening file failure fails);
+    silent = λ other. silent;
+    broken = λ output. absurd (disk-no-output failure (of-opening file failure fails) output);
+  }
+
+  pub shown-in : (result : Result Status Failure) → IsRunIn file (DoesShow contents has_failed) before result after
+      → ShownIn file contents has_failed before result after
+  shown-in result (inl none) =
+      subst (λ (r : Result Status Failure). ShownIn file contents has_failed before r after) (sym none.is)
+      (none-shown-in none.failure none.fails none.silent)
+  shown-in (Ok status) (inr run) = record {
+    printed = (record { shown = run.old; endpoint = run.endpoint; printed = run.does.printed.0 }, run.does.printed.1);
+    ended = tt;
+    failed = tt;
+    silent = tt;
+    broken = tt;
+  }
+  shown-in (Err failure) (inr run) = record {
+    printed = tt;
+    ended = inr run.does.ended;
+    failed = output-no-usage failure run.does.ended;
+    silent = run.does.silent;
+    broken = run.does.broken;
+  }
 
 -- ---- captures
 
-pub passes-between : {D : Type 0} (disk_of : D → Disk) (side : Side) (old new : EndpointValue D) (summary : Summary) (source source_left : SourceState)
-    (sink sink_left : SinkState) → PassesCapture disk_of side (run_of old source sink) (Ok summary) (run_of new source_left sink_left)
-    → PassesBetween disk_of side old summary new
-passes-between disk_of side old new summary source source_left sink sink_left passes =
-    record { source = source; source_left = source_left; sink = sink; sink_left = sink_left; passes = passes }
+module _ {D W : Type 0} (disk_of : D → Disk) (contents : W → Option (List ℕ)) (has_failed : W → Bool) (direction : Direction) (old : EndpointValue D)
+    (before : W) where
+  -- without both captures nothing is done
+  pub no-capture : (fault failure : Failure) (result : Result Status Failure) → result ≡ Err failure → failure ≡ fault
+      → (fault ≡ Memory) ⊎ (fault ≡ Capture) → DoesPass disk_of contents has_failed direction old before result old before
+  no-capture fault failure result is same names =
+      let named = subst (λ (f : Failure). MemoryOr Capture f) (sym same) names in
+      subst (λ (r : Result Status Failure). DoesPass disk_of contents has_failed direction old before r old before) (sym is) (record {
+        printed = tt;
+        ended = inl (named, refl);
+        failed = capture-no-usage failure named;
+        silent = λ other. refl;
+        broken = λ output. absurd (capture-no-output failure named output);
+      })
 
-pub passes-in : {F : Type 0} (file : F → FileState) (side : Side) (old new : EndpointValue (FileDisk F)) (summary : Summary) → IsEndpointIn file old
-    → PassesBetween (disk_in_file file) side old summary new → PassesIn file side summary
-passes-in file side old new summary endpoint passes = record { old = old; new = new; endpoint = endpoint; passes = passes }
+  pub frames-passed : (new : EndpointValue D) (after : W) (source source_left : SourceState) (sink sink_left : SinkState) (result : Result Status Failure)
+      → IfOk result (λ status. (summary : Summary)
+      × PassesCapture disk_of (side_of direction) (run_of old source sink) (Ok summary) (run_of new source_left sink_left)
+      × Appends (contents before) (contents after) (summary_line direction summary) × (status ≡ ends.Done))
+      → IfErr result (λ failure. EndsPass disk_of (side_of direction) (run_of old source sink) failure (run_of new source_left sink_left))
+      → IfErr result (λ failure. failure_status failure ≢ ends.Usage)
+      → IfErr result (λ failure. failure ≢ Output → after ≡ before)
+      → IfErr result (λ failure. failure ≡ Output → has_failed after ≡ true)
+      → DoesPass disk_of contents has_failed direction old before result new after
+  frames-passed new after source source_left sink sink_left (Ok status) (summary, passes, printed, is) ended failed silent broken = record {
+    printed = (
+      summary,
+      record { source = source; source_left = source_left; sink = sink; sink_left = sink_left; passes = passes },
+      printed,
+      is,
+    );
+    ended = tt;
+    failed = tt;
+    silent = tt;
+    broken = tt;
+  }
+  frames-passed new after source source_left sink sink_left (Err failure) passed ended failed silent broken = record {
+    printed = tt;
+    ended = inr (record { source = source; source_left = source_left; sink = sink; sink_left = sink_left; ends = ended });
+    failed = failed;
+    silent = silent;
+    broken = broken;
+  }
 
--- without both captures nothing is done
-pub no-capture : {D : Type 0} (disk_of : D → Disk) (side : Side) (old : EndpointValue D) (fault failure : Failure) (result : Result Status Failure)
-    → result ≡ Err failure → failure ≡ fault → (fault ≡ Memory) ⊎ (fault ≡ Capture) → IfErr result (λ failure. PassEnds disk_of side old failure old)
-no-capture disk_of side old fault failure result is same names =
-    subst (λ (r : Result Status Failure). IfErr r (λ failure. PassEnds disk_of side old failure old)) (sym is)
-    (inl (subst (λ (f : Failure). (f ≡ Memory) ⊎ (f ≡ Capture)) (sym same) names, refl))
+-- what `protect` and `validate` come to
+pub record PassedIn {F W : Type 0} (file : F → FileState) (contents : W → Option (List ℕ)) (has_failed : W → Bool) (direction : Direction) (before : W)
+    (result : Result Status Failure) (after : W) : Type 0 where
+  pub printed : IfOk result (λ status. (summary : Summary) × PassesIn file (side_of direction) summary
+      × Appends (contents before) (contents after) (summary_line direction summary) × (status ≡ ends.Done))
+  pub ended : IfErr result (λ failure. OpeningFails file failure ⊎ PassEndsIn file (side_of direction) failure)
+  pub failed : IfErr result (λ failure. failure_status failure ≢ ends.Usage)
+  pub silent : IfErr result (λ failure. failure ≢ Output → after ≡ before)
+  pub broken : IfErr result (λ failure. failure ≡ Output → has_failed after ≡ true)
 
-pub stops-between : {D : Type 0} (disk_of : D → Disk) (side : Side) (old new : EndpointValue D) (source source_left : SourceState)
-    (sink sink_left : SinkState) (result : Result Status Failure)
-    → IfErr result (λ failure. EndsPass disk_of side (run_of old source sink) failure (run_of new source_left sink_left))
-    → IfErr result (λ failure. PassEnds disk_of side old failure new)
-stops-between disk_of side old new source source_left sink sink_left (Ok status) ends = tt
-stops-between disk_of side old new source source_left sink sink_left (Err failure) ends =
-    inr (record { source = source; source_left = source_left; sink = sink; sink_left = sink_left; ends = ends })
+module _ {F W : Type 0} (file : F → FileState) (contents : W → Option (List ℕ)) (has_failed : W → Bool) (direction : Direction) (before after : W) where
+  none-passed-in : (failure : Failure) → OpeningFails file failure → after ≡ before
+      → PassedIn file contents has_failed direction before (Err failure) after
+  none-passed-in failure fails silent = record {
+    printed = tt;
+    ended = inl fails;
+    failed = disk-no-usage failure (of-opening file failure fails);
+    silent = λ other. silent;
+    broken = λ output. absurd (disk-no-output failure (of-opening file failure fails) output);
+  }
 
-pub pass-ends-in : {F : Type 0} (file : F → FileState) (side : Side) (old new : EndpointValue (FileDisk F)) (result : Result Status Failure)
-    → IsEndpointIn file old → IfErr result (λ failure. PassEnds (disk_in_file file) side old failure new)
-    → IfErr result (λ failure. OpeningFails file failure ⊎ PassEndsIn file side failure)
-pass-ends-in file side old new (Ok status) endpoint ends = tt
-pass-ends-in file side old new (Err failure) endpoint ends = inr (record { old = old; new = new; endpoint = endpoint; ends = ends })
+  pub passed-in : (result : Result Status Failure) → IsRunIn file (DoesPass (disk_in_file file) contents has_failed direction) before result after
+      → PassedIn file contents has_failed direction before result after
+  passed-in result (inl none) =
+      subst (λ (r : Result Status Failure). PassedIn file contents has_failed direction before r after) (sym none.is)
+      (none-passed-in none.failure none.fails none.silent)
+  passed-in (Ok status) (inr run) =
+      let (summary, passes, printed, is) = run.does.printed in
+      record {
+        printed = (summary, record { old = run.old; new = run.new; endpoint = run.endpoint; passes = passes }, printed, is);
+        ended = tt;
+        failed = tt;
+        silent = tt;
+        broken = tt;
+      }
+  passed-in (Err failure) (inr run) = record {
+    printed = tt;
+    ended = inr (record { old = run.old; new = run.new; endpoint = run.endpoint; ends = run.does.ended });
+    failed = run.does.failed;
+    silent = run.does.silent;
+    broken = run.does.broken;
+  }

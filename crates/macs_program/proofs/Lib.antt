@@ -1,3 +1,4 @@
+pub mod Acted
 pub mod Applied
 pub mod AskedFor
 pub mod Buffers
@@ -6,6 +7,7 @@ pub mod Codes
 pub mod Commanded
 pub mod Complaining
 pub mod Failed
+pub mod Failures
 pub mod FirstFault
 pub mod HexDigits
 pub mod InFiles
@@ -16,5 +18,6 @@ pub mod Performed
 pub mod Printing
 pub mod Relayed
 pub mod Shown
+pub mod SpelledWires
 pub mod Spelling
 pub mod TextLines

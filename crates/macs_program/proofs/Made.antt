@@ -1,16 +1,26 @@
 -- Why a file is not made the disk of a new endpoint.
-use Rattle.std.proofs.Common.{◌≡◌, ◌↔◌, ◌⊎◌, ◌/◌, inl, inr, ℕ, Bool, List, Some, Result, Ok, Err, IfErr, subst, sym}
+use Rattle.std.proofs.Common.{◌≡◌, ◌≢◌, ◌↔◌, ◌⊎◌, ◌∙◌, ◌/◌, inl, inr, ℕ, Bool, true, List, Option, Some, Result, Ok, Err, IfErr, IfOk, refl, subst, sym}
+use Rattle.std.specs.Io.KnownBytes.{Appends}
+use Rattle.std.specs.Prelude.{codes}
+use Rattle.macs_config.specs.Identity.{Identity}
 use Rattle.macs_disk.specs.Files.{FileState, Settles}
 use Rattle.macs_disk.specs.declared.file_fault.FileFault.{FileFault}
-use Rattle.macs_disk.specs.declared.file_fault.FileFault.TheVariants as file
+use Rattle.macs_disk.specs.declared.file_fault.FileFault.TheVariants as file_faults
+use Rattle.macs_disk.specs.declared.layout.Layout.{Layout}
 use Rattle.macs_fields.specs.First.{IsFirst}
 use Rattle.macs_journal.specs.declared.fault.JournalFault.TheVariants as journal
-use Rattle.macs_program.specs.Failing.{failure_of_file}
-use Rattle.macs_program.specs.NewDisks.{IsAfterValues, IsTaken, Permits}
+use Rattle.macs_program.proofs.FirstFault.{first-holds}
+use Rattle.macs_program.proofs.Failures.{IsOfDisk, disk-no-output}
+use Rattle.macs_program.specs.Failing.{failure_of_file, failure_status}
+use Rattle.macs_program.specs.NewDisks.{FormatFails, Formats, IsAfterValues, IsTaken, MakesDisk, Permits}
+use Rattle.macs_program.specs.Showing.{line}
+use Rattle.macs_program.specs.Values.{value_faults}
 use Rattle.macs_program.specs.declared.failure.DiskFault.{DiskFault}
 use Rattle.macs_program.specs.declared.failure.DiskFault.TheVariants as disk
 use Rattle.macs_program.specs.declared.failure.Failure.{Failure}
 use Rattle.macs_program.specs.declared.failure.Failure.TheVariants as failures
+use Rattle.macs_program.specs.declared.status.Status.{Status}
+use Rattle.macs_program.specs.declared.status.Status.TheVariants as ends
 use Rattle.macs_program.specs.declared.values.ValueFault.{ValueFault}
 
 -- what was settled is what is not written over
@@ -26,17 +36,49 @@ taken is_over before settled sectors fault settles count (inr permits) = inr (re
 -- an error of the system, at a file
 pub of-the-system : (failure : Failure) → (failure ≡ failures.Memory) ⊎ (failure ≡ failures.Disk disk.File)
     → (fault : FileFault) × (failure ≡ failure_of_file fault)
-of-the-system failure (inl memory) = (file.Memory, memory)
-of-the-system failure (inr none) = (file.Open, none)
+of-the-system failure (inl memory) = (file_faults.Memory, memory)
+of-the-system failure (inr none) = (file_faults.Open, none)
 
--- ---- the values come first
+-- ---- the disk of a new endpoint
 
-of-the-disk : (failure : Failure) → (failure ≡ failures.Memory) ⊎ ((fault : DiskFault) × (failure ≡ failures.Disk fault)) → IsAfterValues failure
+of-the-disk : (failure : Failure) → IsOfDisk failure → IsAfterValues failure
 of-the-disk failure (inl memory) = subst IsAfterValues (sym memory) tt
 of-the-disk failure (inr (fault, is)) = subst IsAfterValues (sym is) tt
 
+module _ {F W : Type 0} (file : F → FileState) (contents : W → Option (List ℕ)) (has_failed : W → Bool) (is_over : Bool) (layout : Layout)
+    (identity : Identity) (before : W) where
+  pub not-made : (fault failure : Failure) (result : Result Status Failure) → result ≡ Err failure → failure ≡ fault
+      → FormatFails file is_over identity fault → (fault ≡ failures.Memory) ⊎ ((cause : DiskFault) × (fault ≡ failures.Disk cause))
+      → MakesDisk file contents has_failed is_over layout identity before result before
+  not-made fault failure result is same fails names =
+      subst (λ (r : Result Status Failure). MakesDisk file contents has_failed is_over layout identity before r before) (sym is) (record {
+        printed = tt;
+        ended = inl (subst (λ (f : Failure). FormatFails file is_over identity f) (sym same) fails);
+        failed = subst IsAfterValues (sym same) (of-the-disk fault names);
+        silent = λ other. refl;
+        broken = λ output. absurd (disk-no-output fault names (sym same ∙ output));
+      })
+
+  -- the disk is made, and the line cannot be written
+  pub not-told : (after : W) (fault failure : Failure) (result : Result Status Failure) → result ≡ Err failure → failure ≡ fault
+      → fault ≡ failures.Output → has_failed after ≡ true → MakesDisk file contents has_failed is_over layout identity before result after
+  not-told after fault failure result is same output broken =
+      subst (λ (r : Result Status Failure). MakesDisk file contents has_failed is_over layout identity before r after) (sym is) (record {
+        printed = tt;
+        ended = inr (same ∙ output);
+        failed = subst IsAfterValues (sym (same ∙ output)) tt;
+        silent = λ other. absurd (other (same ∙ output));
+        broken = λ written. broken;
+      })
+
+  pub made-told : (after : W) → Formats file is_over layout identity → Appends (contents before) (contents after) (line (codes "formatted"))
+      → MakesDisk file contents has_failed is_over layout identity before (Ok ends.Done) after
+  made-told after formats printed = record { printed = (formats, printed, refl); ended = tt; failed = tt; silent = tt; broken = tt }
+
+-- ---- the values come first
+
 -- where the values are ones, no fault of a value is answered, and none is there
-pub no-value : {T U : Type 0} (Holds : ValueFault → Type 0) (order : List ValueFault) (before : Result T ValueFault) (value : T)
+no-value : {T U : Type 0} (Holds : ValueFault → Type 0) (order : List ValueFault) (before : Result T ValueFault) (value : T)
     (after : Result U Failure) → before ≡ Ok value → IfErr after IsAfterValues
     → ((fault : ValueFault) → (before ≡ Err fault) ↔ IsFirst Holds order fault)
     → (fault : ValueFault) → (after ≡ Err (failures.Value fault)) ↔ IsFirst Holds order fault
@@ -45,19 +87,8 @@ no-value {T} {U} Holds order before value after was later exactly fault = (
   λ first. let e = (exactly fault).1 first in cc,
 )
 
--- a failure after those of the values is handed on
-pub after-values : {U : Type 0} (after : Result U Failure) (failure fault : Failure) → after ≡ Err failure → failure ≡ fault
-    → (fault ≡ failures.Memory) ⊎ ((cause : DiskFault) × (fault ≡ failures.Disk cause)) → IfErr after IsAfterValues
-after-values {U} after failure fault is same names =
-    subst (λ (r : Result U Failure). IfErr r IsAfterValues) (sym is) (subst IsAfterValues (sym same) (of-the-disk fault names))
-
-pub output-after-values : {U : Type 0} (after : Result U Failure) (failure fault : Failure) → after ≡ Err failure → failure ≡ fault → fault ≡ failures.Output
-    → IfErr after IsAfterValues
-output-after-values {U} after failure fault is same output =
-    subst (λ (r : Result U Failure). IfErr r IsAfterValues) (sym is) (subst IsAfterValues (sym same) (subst IsAfterValues (sym output) tt))
-
 -- the fault of a value that is handed on in a failure
-pub value-handed : {T U : Type 0} (Holds : ValueFault → Type 0) (order : List ValueFault) (before : Result T ValueFault)
+value-handed : {T U : Type 0} (Holds : ValueFault → Type 0) (order : List ValueFault) (before : Result T ValueFault)
     (after : Result U Failure) (error : ValueFault) (failure : Failure) → before ≡ Err error → after ≡ Err failure → failure ≡ failures.Value error
     → ((fault : ValueFault) → (before ≡ Err fault) ↔ IsFirst Holds order fault)
     → (fault : ValueFault) → (after ≡ Err (failures.Value fault)) ↔ IsFirst Holds order fault
@@ -65,3 +96,69 @@ value-handed Holds order before after error failure was is same exactly fault = 
   λ answered. let e : before ≡ Err fault = cc in (exactly fault).0 e,
   λ first. let e = (exactly fault).1 first in cc,
 )
+
+after-no-usage : (failure : Failure) → IsAfterValues failure → failure_status failure ≢ ends.Usage
+after-no-usage (failures.Disk fault) is = λ e. cc
+after-no-usage failures.Memory is = λ e. cc
+after-no-usage failures.Output is = λ e. cc
+after-no-usage failures.Wire is = absurd is
+after-no-usage (failures.Usage cause) is = absurd is
+after-no-usage (failures.Value fault) is = absurd is
+after-no-usage (failures.Address fault) is = absurd is
+after-no-usage failures.Capture is = absurd is
+after-no-usage failures.Commands is = absurd is
+after-no-usage (failures.Input fault) is = absurd is
+
+-- what `format` comes to, by what says of the values that they spell something, and of a fault that it holds
+pub record FormattedBy {F W : Type 0} (file : F → FileState) (contents : W → Option (List ℕ)) (has_failed : W → Bool) (is_over : Bool)
+    (Spells : Identity → Type 0) (Lays : Layout → Type 0) (Holds : ValueFault → Type 0) (before : W) (result : Result Status Failure)
+    (after : W) : Type 0 where
+  pub printed : IfOk result (λ status. (identity : Identity) × Spells identity × (layout : Layout) × Lays layout
+      × Formats file is_over layout identity × Appends (contents before) (contents after) (line (codes "formatted")) × (status ≡ ends.Done))
+  pub usage : IfErr result (λ failure. failure_status failure ≡ ends.Usage → ((fault : ValueFault) × Holds fault) × (after ≡ before))
+  pub value : (fault : ValueFault) → (result ≡ Err (failures.Value fault)) ↔ IsFirst Holds value_faults fault
+  pub ended : IfErr result (λ failure. ((fault : ValueFault) × (failure ≡ failures.Value fault) × IsFirst Holds value_faults fault)
+      ⊎ ((identity : Identity) × Spells identity × FormatFails file is_over identity failure) ⊎ (failure ≡ failures.Output))
+  pub silent : IfErr result (λ failure. failure ≢ failures.Output → after ≡ before)
+  pub broken : IfErr result (λ failure. failure ≡ failures.Output → has_failed after ≡ true)
+
+module _ {F W T : Type 0} (file : F → FileState) (contents : W → Option (List ℕ)) (has_failed : W → Bool) (is_over : Bool)
+    (Spells : Identity → Type 0) (Lays : Layout → Type 0) (Holds : ValueFault → Type 0) (before : W) (given : Result T ValueFault)
+    (exactly : (fault : ValueFault) → (given ≡ Err fault) ↔ IsFirst Holds value_faults fault) where
+  pub value-refused : (fault : ValueFault) (failure : Failure) (result : Result Status Failure) → given ≡ Err fault → result ≡ Err failure
+      → failure ≡ failures.Value fault → FormattedBy file contents has_failed is_over Spells Lays Holds before result before
+  value-refused fault failure result was is same =
+      let first = (exactly fault).0 was in
+      subst (λ (r : Result Status Failure). FormattedBy file contents has_failed is_over Spells Lays Holds before r before) (sym is) (record {
+        printed = tt;
+        usage = λ usage. ((fault, first-holds Holds value_faults fault first), refl);
+        value = value-handed {U = Status} Holds value_faults given (Err failure) fault failure was refl same exactly;
+        ended = inl (fault, same, first);
+        silent = λ other. refl;
+        broken = λ output. absurd (let e = sym same ∙ output in cc);
+      })
+
+  pub formatted-by : (value : T) (identity : Identity) (layout : Layout) (result : Result Status Failure) (after : W) → given ≡ Ok value
+      → Spells identity → Lays layout → MakesDisk file contents has_failed is_over layout identity before result after
+      → FormattedBy file contents has_failed is_over Spells Lays Holds before result after
+  formatted-by value identity layout (Ok status) after was spelled laid made =
+      let (formats, printed, is) = made.printed in
+      record {
+        printed = (identity, spelled, layout, laid, formats, printed, is);
+        usage = tt;
+        value = no-value {U = Status} Holds value_faults given value (Ok status) was tt exactly;
+        ended = tt;
+        silent = tt;
+        broken = tt;
+      }
+  formatted-by value identity layout (Err failure) after was spelled laid made = record {
+    printed = tt;
+    usage = λ usage. absurd (after-no-usage failure made.failed usage);
+    value = no-value {U = Status} Holds value_faults given value (Err failure) was made.failed exactly;
+    ended = elim made.ended [
+      | inl fails ↦ inr (inl (identity, spelled, fails))
+      | inr output ↦ inr (inr output)
+    ];
+    silent = made.silent;
+    broken = made.broken;
+  }

@@ -31,7 +31,8 @@ applied-status outcomes status is = elim (done-or-refused (list_any is_some outc
   | inr refused ↦ inr (is ∙ refused)
 ]
 
-module _ {F W : Type 0} (state_of : F → FileState) (contents : W → Option (List ℕ)) (input : Option (List ℕ)) (old : W) (result : Result Status Failure) (new : W) where
+module _ {F W : Type 0} (state_of : F → FileState) (contents : W → Option (List ℕ)) (failed : W → Bool) (input : Option (List ℕ)) (old : W)
+    (result : Result Status Failure) (new : W) where
   -- it is no wrong usage
   abbrev NoUsage : Type 0
   NoUsage = IfErr result (λ failure. failure_status failure ≢ ends.Usage)
@@ -39,6 +40,10 @@ module _ {F W : Type 0} (state_of : F → FileState) (contents : W → Option (L
   -- nothing is printed by a failure, unless it is one of the output
   abbrev Silent : Type 0
   Silent = IfErr result (λ failure. failure ≢ Output → new ≡ old)
+
+  -- one of the output is that of a print that failed
+  abbrev Broken : Type 0
+  Broken = IfErr result (λ failure. failure ≡ Output → failed new ≡ true)
 
   no-usage : (action : Action) → NoUsage → IfErr result (λ failure. failure_status failure ≡ ends.Usage → WrongValues action × (new ≡ old))
   no-usage action other = IfErr-weaker result _ _ (λ failure never usage. absurd (never usage)) other
@@ -51,90 +56,97 @@ module _ {F W : Type 0} (state_of : F → FileState) (contents : W → Option (L
 
   pub opens : IfOk result (λ status. IfSome input (λ octets. Prints octets (contents old) (contents new) status))
       → IfOk result (λ status. (status ≡ ends.Done) ⊎ (status ≡ ends.Refused)) → IfErr result (λ failure. failure_status failure ≡ ends.Fault) → Silent
-      → IfErr result (FailsAs state_of Open input (contents old) (contents new))
-      → Performs state_of contents Open input old result new
-  opens printed status failed silent fails = record {
+      → IfErr result (FailsAs state_of Open input (contents old) (contents new)) → Broken
+      → Performs state_of contents failed Open input old result new
+  opens printed status is_fault silent fails broken = record {
     does = printed;
     status = status;
-    usage = IfErr-weaker result _ _ (λ failure fault usage. absurd (let e = sym fault ∙ usage in cc)) failed;
-    disk = IfErr-weaker result _ _ (λ failure fault disk. absurd (let e = sym fault ∙ disk in cc)) failed;
+    usage = IfErr-weaker result _ _ (λ failure fault usage. absurd (let e = sym fault ∙ usage in cc)) is_fault;
+    disk = IfErr-weaker result _ _ (λ failure fault disk. absurd (let e = sym fault ∙ disk in cc)) is_fault;
     before = before silent;
     fails = fails;
+    broken = broken;
   }
 
   pub formats : (disk sci : Bor (List ℕ)) (tx_block rx_block : ℕ) (block : Option (Bor (List ℕ))) (is_over : Bool)
       → IfOk result (Does state_of (Format disk sci tx_block rx_block block is_over) input (contents old) (contents new))
       → IfErr result (λ failure. failure_status failure ≡ ends.Usage → WrongValues (Format disk sci tx_block rx_block block is_over) × (new ≡ old)) → Silent
-      → IfErr result (FailsAs state_of (Format disk sci tx_block rx_block block is_over) input (contents old) (contents new))
-      → Performs state_of contents (Format disk sci tx_block rx_block block is_over) input old result new
-  formats disk sci tx_block rx_block block is_over done usage silent fails = record {
+      → IfErr result (FailsAs state_of (Format disk sci tx_block rx_block block is_over) input (contents old) (contents new)) → Broken
+      → Performs state_of contents failed (Format disk sci tx_block rx_block block is_over) input old result new
+  formats disk sci tx_block rx_block block is_over done usage silent fails broken = record {
     does = done;
     status = IfOk-weaker result _ _ (λ status all. let (identity, sci_is, layout, layout_is, formatted, printed, is) = all in inl is) done;
     usage = usage;
     disk = IfErr-weaker result _ _ (λ failure same disk. ((λ is. absurd cc), same disk)) (kept silent);
     before = before silent;
     fails = fails;
+    broken = broken;
   }
 
   pub applies : (disk file : Bor (List ℕ)) → IfOk result (Does state_of (Apply disk file) input (contents old) (contents new)) → NoUsage
       → IfErr result (λ failure. failure ≢ Output → (outcomes : List (Option Refusal)) × Appends (contents old) (contents new) (outcome_lines 1 outcomes))
-      → IfErr result (FailsAs state_of (Apply disk file) input (contents old) (contents new))
-      → Performs state_of contents (Apply disk file) input old result new
-  applies disk file done other lines fails = record {
+      → IfErr result (FailsAs state_of (Apply disk file) input (contents old) (contents new)) → Broken
+      → Performs state_of contents failed (Apply disk file) input old result new
+  applies disk file done other lines fails broken = record {
     does = done;
     status = IfOk-weaker result _ _ (λ status all. applied-status all.applies.applies.outcomes status all.applies.applies.status_is) done;
     usage = no-usage (Apply disk file) other;
     disk = IfErr-weaker result _ _ (λ failure printed disk. ((λ is. absurd cc), printed (of-disk failure disk))) lines;
     before = lines;
     fails = fails;
+    broken = broken;
   }
 
   pub shows : (disk : Bor (List ℕ)) → IfOk result (Does state_of (Show disk) input (contents old) (contents new)) → NoUsage → Silent
-      → IfErr result (FailsAs state_of (Show disk) input (contents old) (contents new))
-      → Performs state_of contents (Show disk) input old result new
-  shows disk done other silent fails = record {
+      → IfErr result (FailsAs state_of (Show disk) input (contents old) (contents new)) → Broken
+      → Performs state_of contents failed (Show disk) input old result new
+  shows disk done other silent fails broken = record {
     does = done;
     status = IfOk-weaker result _ _ (λ status all. inl all.1) done;
     usage = no-usage (Show disk) other;
     disk = IfErr-weaker result _ _ (λ failure same disk. ((λ is. absurd cc), same disk)) (kept silent);
     before = before silent;
     fails = fails;
+    broken = broken;
   }
 
   pub protects : (disk from to : Bor (List ℕ)) → IfOk result (Does state_of (Protect disk from to) input (contents old) (contents new)) → NoUsage → Silent
-      → IfErr result (FailsAs state_of (Protect disk from to) input (contents old) (contents new))
-      → Performs state_of contents (Protect disk from to) input old result new
-  protects disk from to done other silent fails = record {
+      → IfErr result (FailsAs state_of (Protect disk from to) input (contents old) (contents new)) → Broken
+      → Performs state_of contents failed (Protect disk from to) input old result new
+  protects disk from to done other silent fails broken = record {
     does = done;
     status = IfOk-weaker result _ _ (λ status all. let (summary, passes, printed, is) = all in inl is) done;
     usage = no-usage (Protect disk from to) other;
     disk = IfErr-weaker result _ _ (λ failure same disk. ((λ is. absurd cc), same disk)) (kept silent);
     before = before silent;
     fails = fails;
+    broken = broken;
   }
 
   pub validates : (disk from to : Bor (List ℕ)) → IfOk result (Does state_of (Validate disk from to) input (contents old) (contents new)) → NoUsage → Silent
-      → IfErr result (FailsAs state_of (Validate disk from to) input (contents old) (contents new))
-      → Performs state_of contents (Validate disk from to) input old result new
-  validates disk from to done other silent fails = record {
+      → IfErr result (FailsAs state_of (Validate disk from to) input (contents old) (contents new)) → Broken
+      → Performs state_of contents failed (Validate disk from to) input old result new
+  validates disk from to done other silent fails broken = record {
     does = done;
     status = IfOk-weaker result _ _ (λ status all. let (summary, passes, printed, is) = all in inl is) done;
     usage = no-usage (Validate disk from to) other;
     disk = IfErr-weaker result _ _ (λ failure same disk. ((λ is. absurd cc), same disk)) (kept silent);
     before = before silent;
     fails = fails;
+    broken = broken;
   }
 
   pub relays : (disk : Bor (List ℕ)) (controlled common : WireEnds) (turns : ℕ)
       → IfOk result (Does state_of (Relay disk controlled common turns) input (contents old) (contents new))
       → IfErr result (λ failure. failure_status failure ≡ ends.Usage → WrongValues (Relay disk controlled common turns) × (new ≡ old)) → Silent
-      → IfErr result (FailsAs state_of (Relay disk controlled common turns) input (contents old) (contents new))
-      → Performs state_of contents (Relay disk controlled common turns) input old result new
-  relays disk controlled common turns done usage silent fails = record {
+      → IfErr result (FailsAs state_of (Relay disk controlled common turns) input (contents old) (contents new)) → Broken
+      → Performs state_of contents failed (Relay disk controlled common turns) input old result new
+  relays disk controlled common turns done usage silent fails broken = record {
     does = done;
     status = IfOk-weaker result _ _ (λ status all. let (summary, comes, spelled, printed, is) = all in inl is) done;
     usage = usage;
     disk = IfErr-weaker result _ _ (λ failure same disk. ((λ is. absurd cc), same disk)) (kept silent);
     before = before silent;
     fails = fails;
+    broken = broken;
   }

@@ -1,9 +1,9 @@
 -- What a relay comes to, between two wires that are new; and how it is refused for an address.
-use Rattle.std.proofs.Common.{◌≡◌, ◌≢◌, ◌↔◌, ◌⊎◌, ℕ, List, Result, Ok, Err, IfErr, inl, inr, refl, subst, sym}
+use Rattle.std.proofs.Common.{◌≡◌, ◌≢◌, ◌↔◌, ◌⊎◌, ◌∙◌, ℕ, Bool, true, List, Option, Result, Ok, Err, IfErr, IfOk, inl, inr, refl, subst, sym}
+use Rattle.std.specs.Io.KnownBytes.{Appends}
 use Rattle.macs_disk.specs.Disk.{Disk}
 use Rattle.macs_disk.specs.FileDisks.{disk_in_file}
 use Rattle.macs_disk.specs.Files.{FileState}
-use Rattle.macs_disk.specs.declared.file.FileDisk.{FileDisk}
 use Rattle.macs_edge.specs.Relaying.{IsRelayed, Relay, empty_lane, relay_of}
 use Rattle.macs_edge.specs.Wires.{WireState}
 use Rattle.macs_edge.specs.declared.relaying.RelaySummary.{RelaySummary}
@@ -11,17 +11,23 @@ use Rattle.macs_endpoint.specs.Value.{EndpointValue}
 use Rattle.macs_endpoint.specs.declared.fault.RefillFault.{RefillFault}
 use Rattle.macs_endpoint.specs.declared.fault.RefillFault.TheVariants as refill
 use Rattle.macs_fields.specs.First.{IsFirst}
+use Rattle.macs_words.specs.declared.action.WireEnds.{WireEnds}
+use Rattle.macs_program.proofs.FirstFault.{first-holds}
+use Rattle.macs_program.proofs.Failures.{MemoryOr, disk-no-output, of-opening, wire-no-output}
+use Rattle.macs_program.specs.Addresses.{AddressFaultHolds, SpellsBoth, address_faults}
+use Rattle.macs_program.specs.Endpoints.{OpeningFails}
 use Rattle.macs_program.specs.Failing.{failure_of_refill, failure_status}
-use Rattle.macs_program.specs.Endpoints.{IsEndpointIn, OpeningFails}
-use Rattle.macs_program.specs.Relaying.{ComesTo, EndsRelay, IsAfterAddresses, IsOfRelay, RelayEnds, RelayEndsIn, Relays, StopsRelay, new_wire}
-use Rattle.macs_program.specs.declared.status.Status.{Status}
+use Rattle.macs_program.specs.Relaying.{ComesTo, EndsRelay, IsAfterAddresses, IsOfRelay, RelayEndsIn, Relays, StopsRelay, new_wire}
+use Rattle.macs_program.specs.Summing.{relay_line}
+use Rattle.macs_program.specs.Tasks.{DoesRelay, IsRunIn}
 use Rattle.macs_program.specs.declared.addresses.AddressFault.{AddressFault}
 use Rattle.macs_program.specs.declared.failure.Failure.{Failure}
 use Rattle.macs_program.specs.declared.failure.Failure.TheVariants as failures
 use Rattle.macs_program.specs.declared.failure.Failure.TheVariants.{Address}
+use Rattle.macs_program.specs.declared.status.Status.{Status}
 use Rattle.macs_program.specs.declared.status.Status.TheVariants as ends
 
-pub between-new : {D : Type 0} (disk_of : D → Disk) (turns : ℕ) (summary : RelaySummary) (old new : EndpointValue D) (first second controlled common : WireState)
+between-new : {D : Type 0} (disk_of : D → Disk) (turns : ℕ) (summary : RelaySummary) (old new : EndpointValue D) (first second controlled common : WireState)
     → first ≡ new_wire → second ≡ new_wire
     → IsRelayed disk_of turns (relay_of old first second empty_lane empty_lane) (Ok summary) new controlled common
     → Relays disk_of turns old summary new
@@ -31,11 +37,6 @@ between-new disk_of turns summary old new first second controlled common one oth
   relayed = subst (λ (w : WireState). IsRelayed disk_of turns (relay_of old w new_wire empty_lane empty_lane) (Ok summary) new controlled common) one
       (subst (λ (w : WireState). IsRelayed disk_of turns (relay_of old first w empty_lane empty_lane) (Ok summary) new controlled common) other relayed);
 }
-
-pub comes-to : {F : Type 0} (file : F → FileState) (turns : ℕ) (summary : RelaySummary) (old new : EndpointValue (FileDisk F))
-    → IsEndpointIn file old → Relays (disk_in_file file) turns old summary new → ComesTo file turns summary
-comes-to file turns summary old new endpoint relays =
-    record { old = old; new = new; controlled = relays.controlled; common = relays.common; endpoint = endpoint; relayed = relays.relayed }
 
 -- ---- how a relay ends that is not done
 
@@ -49,28 +50,6 @@ ends-new disk_of turns old new first second controlled common failure one other 
       (subst (λ (w : WireState). EndsRelay disk_of turns (relay_of old first w empty_lane empty_lane) failure new controlled common) other ends);
 }
 
-pub relay-ends : {D : Type 0} (disk_of : D → Disk) (turns : ℕ) (old new : EndpointValue D) (first second controlled common : WireState)
-    (result : Result Status Failure) → first ≡ new_wire → second ≡ new_wire
-    → IfErr result (λ failure. EndsRelay disk_of turns (relay_of old first second empty_lane empty_lane) failure new controlled common)
-    → IfErr result (λ failure. RelayEnds disk_of turns old failure new)
-relay-ends disk_of turns old new first second controlled common (Ok status) one other ends = tt
-relay-ends disk_of turns old new first second controlled common (Err failure) one other ends =
-    inr (ends-new disk_of turns old new first second controlled common failure one other ends)
-
--- a wire that is not bound
-pub no-wire : {D : Type 0} (disk_of : D → Disk) (turns : ℕ) (old : EndpointValue D) (fault failure : Failure) (result : Result Status Failure)
-    → result ≡ Err failure → failure ≡ fault → (fault ≡ failures.Memory) ⊎ (fault ≡ failures.Wire)
-    → IfErr result (λ failure. RelayEnds disk_of turns old failure old)
-no-wire disk_of turns old fault failure result is same names =
-    subst (λ (r : Result Status Failure). IfErr r (λ failure. RelayEnds disk_of turns old failure old)) (sym is)
-    (inl (subst (λ (f : Failure). (f ≡ failures.Memory) ⊎ (f ≡ failures.Wire)) (sym same) names, refl))
-
-pub relay-ends-in : {F : Type 0} (file : F → FileState) (turns : ℕ) (old new : EndpointValue (FileDisk F)) (result : Result Status Failure)
-    → IsEndpointIn file old → IfErr result (λ failure. RelayEnds (disk_in_file file) turns old failure new)
-    → IfErr result (λ failure. OpeningFails file failure ⊎ RelayEndsIn file turns failure)
-relay-ends-in file turns old new (Ok status) endpoint ends = tt
-relay-ends-in file turns old new (Err failure) endpoint ends = inr (record { old = old; new = new; endpoint = endpoint; ends = ends })
-
 refill-behind : (fault : RefillFault) → IsAfterAddresses (failure_of_refill fault)
 refill-behind refill.Stopped = tt
 refill-behind refill.Busy = tt
@@ -78,13 +57,13 @@ refill-behind refill.GenerationsSpent = tt
 refill-behind refill.Disk = tt
 
 -- how a relay ends
-pub ends-behind : {D : Type 0} (disk_of : D → Disk) (turns : ℕ) (old : Relay D) (failure : Failure) (endpoint : EndpointValue D)
+ends-behind : {D : Type 0} (disk_of : D → Disk) (turns : ℕ) (old : Relay D) (failure : Failure) (endpoint : EndpointValue D)
     (controlled common : WireState) → EndsRelay disk_of turns old failure endpoint controlled common → IsAfterAddresses failure
 ends-behind disk_of turns old failure endpoint controlled common (inl ends) = subst IsAfterAddresses (sym ends.1) (refill-behind ends.0)
 ends-behind disk_of turns old failure endpoint controlled common (inr ends) = subst IsAfterAddresses (sym ends.0) tt
 
 -- such failures are ones of a relay, and no wrong usage
-pub behind-of-relay : (failure : Failure) → IsAfterAddresses failure → IsOfRelay failure
+behind-of-relay : (failure : Failure) → IsAfterAddresses failure → IsOfRelay failure
 behind-of-relay (failures.Disk fault) is = tt
 behind-of-relay failures.Wire is = tt
 behind-of-relay failures.Memory is = tt
@@ -96,7 +75,7 @@ behind-of-relay failures.Capture is = absurd is
 behind-of-relay failures.Commands is = absurd is
 behind-of-relay (failures.Input fault) is = absurd is
 
-pub behind-no-usage : (failure : Failure) → IsAfterAddresses failure → failure_status failure ≢ ends.Usage
+behind-no-usage : (failure : Failure) → IsAfterAddresses failure → failure_status failure ≢ ends.Usage
 behind-no-usage (failures.Disk fault) is = λ e. cc
 behind-no-usage failures.Wire is = λ e. cc
 behind-no-usage failures.Memory is = λ e. cc
@@ -109,7 +88,7 @@ behind-no-usage failures.Commands is = absurd is
 behind-no-usage (failures.Input fault) is = absurd is
 
 -- where the addresses are ones, and what fails comes behind them, no fault of an address is told, and none is there
-pub no-address : {T U : Type 0} (Holds : AddressFault → Type 0) (order : List AddressFault) (before : Result T AddressFault) (value : T)
+no-address : {T U : Type 0} (Holds : AddressFault → Type 0) (order : List AddressFault) (before : Result T AddressFault) (value : T)
     (after : Result U Failure) → before ≡ Ok value → IfErr after IsAfterAddresses
     → ((fault : AddressFault) → (before ≡ Err fault) ↔ IsFirst Holds order fault)
     → (fault : AddressFault) → (after ≡ Err (Address fault)) ↔ IsFirst Holds order fault
@@ -119,7 +98,7 @@ no-address {T} {U} Holds order before value after was behind exactly fault = (
 )
 
 -- the fault of an address that is handed on in a failure
-pub address-handed : {T U : Type 0} (Holds : AddressFault → Type 0) (order : List AddressFault) (before : Result T AddressFault)
+address-handed : {T U : Type 0} (Holds : AddressFault → Type 0) (order : List AddressFault) (before : Result T AddressFault)
     (after : Result U Failure) (error : AddressFault) (failure : Failure) → before ≡ Err error → after ≡ Err failure → failure ≡ Address error
     → ((fault : AddressFault) → (before ≡ Err fault) ↔ IsFirst Holds order fault)
     → (fault : AddressFault) → (after ≡ Err (Address fault)) ↔ IsFirst Holds order fault
@@ -127,3 +106,142 @@ address-handed Holds order before after error failure was is same exactly fault 
   λ told. let e : before ≡ Err fault = cc in (exactly fault).0 e,
   λ first. let e = (exactly fault).1 first in cc,
 )
+
+-- ---- an endpoint between two wires
+
+-- a wire that is not bound
+wire-behind : (failure : Failure) → MemoryOr failures.Wire failure → IsAfterAddresses failure
+wire-behind failure (inl memory) = subst IsAfterAddresses (sym memory) tt
+wire-behind failure (inr wire) = subst IsAfterAddresses (sym wire) tt
+
+module _ {D W : Type 0} (disk_of : D → Disk) (contents : W → Option (List ℕ)) (has_failed : W → Bool) (turns : ℕ) (old : EndpointValue D) (before : W) where
+  -- without both wires nothing is done
+  pub no-wire : (fault failure : Failure) (result : Result Status Failure) → result ≡ Err failure → failure ≡ fault
+      → (fault ≡ failures.Memory) ⊎ (fault ≡ failures.Wire) → DoesRelay disk_of contents has_failed turns old before result old before
+  no-wire fault failure result is same names =
+      let named = subst (λ (f : Failure). MemoryOr failures.Wire f) (sym same) names in
+      subst (λ (r : Result Status Failure). DoesRelay disk_of contents has_failed turns old before r old before) (sym is) (record {
+        printed = tt;
+        ended = inl (named, refl);
+        failed = wire-behind failure named;
+        silent = λ other. refl;
+        broken = λ output. absurd (wire-no-output failure named output);
+      })
+
+  pub frames-relayed : (new : EndpointValue D) (after : W) (first second controlled common : WireState) (result : Result Status Failure)
+      → first ≡ new_wire → second ≡ new_wire
+      → IfOk result (λ status. (summary : RelaySummary)
+      × IsRelayed disk_of turns (relay_of old first second empty_lane empty_lane) (Ok summary) new controlled common
+      × Appends (contents before) (contents after) (relay_line summary) × (status ≡ ends.Done))
+      → IfErr result (λ failure. EndsRelay disk_of turns (relay_of old first second empty_lane empty_lane) failure new controlled common)
+      → IfErr result (λ failure. failure ≢ failures.Output → after ≡ before)
+      → IfErr result (λ failure. failure ≡ failures.Output → has_failed after ≡ true)
+      → DoesRelay disk_of contents has_failed turns old before result new after
+  frames-relayed new after first second controlled common (Ok status) one other (summary, relayed, printed, is) ended silent broken = record {
+    printed = (summary, between-new disk_of turns summary old new first second controlled common one other relayed, printed, is);
+    ended = tt;
+    failed = tt;
+    silent = tt;
+    broken = tt;
+  }
+  frames-relayed new after first second controlled common (Err failure) one other relayed ended silent broken = record {
+    printed = tt;
+    ended = inr (ends-new disk_of turns old new first second controlled common failure one other ended);
+    failed = ends-behind disk_of turns (relay_of old first second empty_lane empty_lane) failure new controlled common ended;
+    silent = silent;
+    broken = broken;
+  }
+
+-- ---- what `relay` comes to
+
+pub record RelayedIn {F W : Type 0} (file : F → FileState) (contents : W → Option (List ℕ)) (has_failed : W → Bool) (controlled common : WireEnds)
+    (turns : ℕ) (before : W) (result : Result Status Failure) (after : W) : Type 0 where
+  pub printed : IfOk result (λ status. (summary : RelaySummary) × ComesTo file turns summary × SpellsBoth controlled common
+      × Appends (contents before) (contents after) (relay_line summary) × (status ≡ ends.Done))
+  pub address : (fault : AddressFault) → (result ≡ Err (Address fault)) ↔ IsFirst (AddressFaultHolds controlled common) address_faults fault
+  pub usage : IfErr result (λ failure. failure_status failure ≡ ends.Usage
+      → ((fault : AddressFault) × AddressFaultHolds controlled common fault) × (after ≡ before))
+  pub ended : IfErr result (λ failure. ((fault : AddressFault) × (failure ≡ Address fault)
+      × IsFirst (AddressFaultHolds controlled common) address_faults fault) ⊎ OpeningFails file failure ⊎ RelayEndsIn file turns failure)
+  pub names : IfErr result IsOfRelay
+  pub silent : IfErr result (λ failure. failure ≢ failures.Output → after ≡ before)
+  pub broken : IfErr result (λ failure. failure ≡ failures.Output → has_failed after ≡ true)
+
+disk-behind : {F : Type 0} (file : F → FileState) (failure : Failure) → OpeningFails file failure → IsAfterAddresses failure
+disk-behind file failure fails = elim (of-opening file failure fails) [
+  | inl memory ↦ subst IsAfterAddresses (sym memory) tt
+  | inr fault ↦ subst IsAfterAddresses (sym fault.1) tt
+]
+
+module _ {F W T : Type 0} (file : F → FileState) (contents : W → Option (List ℕ)) (has_failed : W → Bool) (controlled common : WireEnds) (turns : ℕ)
+    (before : W) (addresses : Result T AddressFault)
+    (exactly : (fault : AddressFault) → (addresses ≡ Err fault) ↔ IsFirst (AddressFaultHolds controlled common) address_faults fault) where
+  abbrev Comes : Result Status Failure → W → Type 0
+  Comes result after = RelayedIn file contents has_failed controlled common turns before result after
+
+  pub refused-in : (fault : AddressFault) (failure : Failure) (result : Result Status Failure) → addresses ≡ Err fault → result ≡ Err failure
+      → failure ≡ Address fault → RelayedIn file contents has_failed controlled common turns before result before
+  refused-in fault failure result was is same =
+      let first = (exactly fault).0 was in
+      subst (λ (r : Result Status Failure). Comes r before) (sym is) (record {
+        printed = tt;
+        address = address-handed {U = Status} (AddressFaultHolds controlled common) address_faults addresses (Err failure) fault failure was refl same exactly;
+        usage = λ usage. ((fault, first-holds (AddressFaultHolds controlled common) address_faults fault first), refl);
+        ended = inl (fault, same, first);
+        names = subst IsOfRelay (sym same) tt;
+        silent = λ other. refl;
+        broken = λ output. absurd (let e = sym same ∙ output in cc);
+      })
+
+  none-relayed-in : (value : T) (after : W) (failure : Failure) → addresses ≡ Ok value → OpeningFails file failure → after ≡ before
+      → Comes (Err failure) after
+  none-relayed-in value after failure was fails silent =
+      let behind = disk-behind file failure fails in
+      record {
+        printed = tt;
+        address = no-address {U = Status} (AddressFaultHolds controlled common) address_faults addresses value (Err failure) was behind exactly;
+        usage = λ usage. absurd (behind-no-usage failure behind usage);
+        ended = inr (inl fails);
+        names = behind-of-relay failure behind;
+        silent = λ other. silent;
+        broken = λ output. absurd (disk-no-output failure (of-opening file failure fails) output);
+      }
+
+  pub relayed-in : (value : T) (after : W) (result : Result Status Failure) → addresses ≡ Ok value → SpellsBoth controlled common
+      → IsRunIn file (DoesRelay (disk_in_file file) contents has_failed turns) before result after
+      → RelayedIn file contents has_failed controlled common turns before result after
+  relayed-in value after result was spelled (inl none) =
+      subst (λ (r : Result Status Failure). Comes r after) (sym none.is) (none-relayed-in value after none.failure was none.fails none.silent)
+  relayed-in value after (Ok status) was spelled (inr run) =
+      let (summary, relays, printed, is) = run.does.printed in
+      record {
+        printed = (
+          summary,
+          record {
+            old = run.old;
+            new = run.new;
+            controlled = relays.controlled;
+            common = relays.common;
+            endpoint = run.endpoint;
+            relayed = relays.relayed;
+          },
+          spelled,
+          printed,
+          is,
+        );
+        address = no-address {U = Status} (AddressFaultHolds controlled common) address_faults addresses value (Ok status) was tt exactly;
+        usage = tt;
+        ended = tt;
+        names = tt;
+        silent = tt;
+        broken = tt;
+      }
+  relayed-in value after (Err failure) was spelled (inr run) = record {
+    printed = tt;
+    address = no-address {U = Status} (AddressFaultHolds controlled common) address_faults addresses value (Err failure) was run.does.failed exactly;
+    usage = λ usage. absurd (behind-no-usage failure run.does.failed usage);
+    ended = inr (inr (record { old = run.old; new = run.new; endpoint = run.endpoint; ends = run.does.ended }));
+    names = behind-of-relay failure run.does.failed;
+    silent = run.does.silent;
+    broken = run.does.broken;
+  }

@@ -13,4 +13,5 @@ pub mod CaptureFiles
 pub mod Capturing
 pub mod Endpoints
 pub mod Relaying
+pub mod Tasks
 pub mod Run

@@ -1,5 +1,6 @@
 -- Which files become the disk of a new endpoint, by what the device has of them.
-use Rattle.std.specs.Prelude.{◌≡◌, ◌⊎◌, ◌/◌, if◌then◌else◌, ⊤, ℕ, Bool, Option, Some, None, Ok, Err}
+use Rattle.std.specs.Prelude.{◌≡◌, ◌≢◌, ◌⊎◌, ◌/◌, if◌then◌else◌, ⊤, ℕ, Bool, true, List, Option, Some, None, Result, Ok, Err, IfErr, IfOk, codes}
+use Rattle.std.specs.Io.KnownBytes.{Appends}
 use Rattle.macs_config.specs.Identity.{Identity}
 use Rattle.macs_disk.specs.FileDisks.{IsBlank, disk_in_file, file_given, file_left}
 use Rattle.macs_disk.specs.Files.{Behaves, FileState, Settles}
@@ -11,12 +12,15 @@ use Rattle.macs_journal.specs.declared.fault.JournalFault.{JournalFault}
 use Rattle.macs_journal.specs.declared.fault.JournalFault.TheVariants as journal
 use Rattle.macs_program.specs.Contents.{ContentsAre}
 use Rattle.macs_program.specs.Failing.{failure_of_file, failure_of_journal}
+use Rattle.macs_program.specs.Showing.{line}
 use Rattle.macs_program.specs.declared.contents.Contents.{Contents}
 use Rattle.macs_program.specs.declared.contents.Contents.TheVariants as contents
 use Rattle.macs_program.specs.declared.failure.DiskFault.{DiskFault}
 use Rattle.macs_program.specs.declared.failure.DiskFault.TheVariants as disk
 use Rattle.macs_program.specs.declared.failure.Failure.{Failure}
 use Rattle.macs_program.specs.declared.failure.Failure.TheVariants as failures
+use Rattle.macs_program.specs.declared.status.Status.{Status}
+use Rattle.macs_program.specs.declared.status.Status.TheVariants as ends
 
 -- why a file that holds this is not written over, if it is not
 abbrev pub refusal_of : Contents → Bool → Option DiskFault
@@ -71,3 +75,13 @@ IsAfterValues (failures.Disk fault) = ⊤
 IsAfterValues failures.Memory = ⊤
 IsAfterValues failures.Output = ⊤
 IsAfterValues other = ⊥
+
+-- a file becomes the disk of a new endpoint and a line says so; or none does, or the line cannot be written
+pub record MakesDisk {F W : Type 0} (file : F → FileState) (contents : W → Option (List ℕ)) (has_failed : W → Bool) (is_over : Bool) (layout : Layout)
+    (identity : Identity) (before : W) (result : Result Status Failure) (after : W) : Type 0 where
+  pub printed : IfOk result (λ status. Formats file is_over layout identity
+      × Appends (contents before) (contents after) (line (codes "formatted")) × (status ≡ ends.Done))
+  pub ended : IfErr result (λ failure. FormatFails file is_over identity failure ⊎ (failure ≡ failures.Output))
+  pub failed : IfErr result IsAfterValues
+  pub silent : IfErr result (λ failure. failure ≢ failures.Output → after ≡ before)
+  pub broken : IfErr result (λ failure. failure ≡ failures.Output → has_failed after ≡ true)

@@ -1,5 +1,5 @@
 -- How a run of the program ends.
-use Rattle.std.specs.Prelude.{◌≡◌, ◌≢◌, ◌⊎◌, ◌++◌, Bool, true, ℕ, List, take, Option, option_map, IfErr, IfOk, IfSome, Result, codes}
+use Rattle.std.specs.Prelude.{◌≡◌, ◌≢◌, ◌⊎◌, ◌++◌, Bool, true, false, ℕ, List, take, Option, option_map, IfErr, IfOk, IfSome, Result, codes}
 use Rattle.std.specs.Io.KnownBytes.{Appends}
 use Rattle.clap.specs.Words.{Text, subcommand_of, takes}
 use Rattle.macs_config.specs.Identity.{Identity}
@@ -22,7 +22,7 @@ use Rattle.macs_program.specs.Request.{InputFaultHolds, input_faults}
 use Rattle.macs_program.specs.Showing.{line}
 use Rattle.macs_program.specs.Summing.{relay_line, summary_line}
 use Rattle.macs_program.specs.Values.{SpellsIdentity, SpellsLayout, ValueFaultHolds, value_faults}
-use Rattle.macs_words.specs.Words.{AsksFor, Names, macsecd}
+use Rattle.macs_words.specs.Words.{AsksFor, AsksForNothing, Names, macsecd}
 use Rattle.macs_words.specs.declared.action.Action.{Action}
 use Rattle.macs_words.specs.declared.action.Action.TheVariants.{Open, Format, Apply, Show, Protect, Validate, Relay}
 use Rattle.macs_program.specs.declared.addresses.AddressFault.{AddressFault}
@@ -108,16 +108,24 @@ FailsAs state_of (Relay disk controlled common turns) octets before after failur
     ((fault : AddressFault) × (failure ≡ Address fault) × IsFirst (AddressFaultHolds controlled common) address_faults fault)
     ⊎ OpeningFails state_of failure ⊎ RelayEndsIn state_of turns failure
 
+-- it is one that hands frames to an endpoint
+abbrev pub is_on_frames : Action → Bool
+is_on_frames (Protect disk from to) = true
+is_on_frames (Validate disk from to) = true
+is_on_frames (Relay disk controlled common turns) = true
+is_on_frames action = false
+
 -- An action is done, with a status of these two, or fails. A failure that is wrong usage is that of a wrong value, and nothing was
--- printed; one of the disk is that of another action than `open`
-pub record Performs {F W : Type 0} (state_of : F → FileState) (contents : W → Option (List ℕ)) (action : Action) (input : Option (List ℕ)) (old : W)
-    (result : Result Status Failure) (new : W) : Type 0 where
+-- printed; one of the disk is that of another action than `open`; and one of the output is that of a print that failed
+pub record Performs {F W : Type 0} (state_of : F → FileState) (contents : W → Option (List ℕ)) (failed : W → Bool) (action : Action)
+    (input : Option (List ℕ)) (old : W) (result : Result Status Failure) (new : W) : Type 0 where
   pub does : IfOk result (Does state_of action input (contents old) (contents new))
   pub status : IfOk result (λ end. (end ≡ ends.Done) ⊎ (end ≡ ends.Refused))
   pub usage : IfErr result (λ failure. failure_status failure ≡ ends.Usage → WrongValues action × (new ≡ old))
   pub disk : IfErr result (λ failure. failure_status failure ≡ ends.Disk → (action ≢ Open) × HasPrinted action (contents old) (contents new))
   pub before : IfErr result (λ failure. failure ≢ Output → HasPrinted action (contents old) (contents new))
   pub fails : IfErr result (FailsAs state_of action input (contents old) (contents new))
+  pub broken : IfErr result (λ failure. failure ≡ Output → failed new ≡ true)
 
 -- how a run fails: its words are refused, or help cannot be printed, or the words name an action that fails so
 abbrev pub FailsFor : {F : Type 0} → (F → FileState) → List Text → Option (List ℕ) → Option (List ℕ) → Option (List ℕ) → Failure → Type 0
@@ -131,6 +139,27 @@ abbrev pub PrintedBefore : List Text → Option (List ℕ) → Option (List ℕ)
 PrintedBefore words before after =
     (after ≡ before) ⊎ ((action : Action) × Names (subcommand_of macsecd words) action × HasPrinted action before after)
 
+-- the words name an action with such a value
+abbrev pub HasWrongValues : List Text → Type 0
+HasWrongValues words =
+    (action : Action) × Names (subcommand_of macsecd words) action × WrongValues action
+
+-- What a run does but for the line of a failure: it replies, with a status of these two, or fails. A failure that is wrong usage is that of words which
+-- ask for no help, and nothing was printed; one of the disk is that of an action that the words name, other than `open`; and one of the output is that of
+-- a print that failed. The input is left unread by all words but those that name `open`
+pub record Acts {F R W : Type 0} (state_of : F → FileState) (remaining : R → Option (List ℕ)) (contents : W → Option (List ℕ)) (failed : W → Bool)
+    (words : List Text) (input : R) (old : W) (result : Result Status Failure) (left : R) (new : W) : Type 0 where
+  pub replied : IfOk result (Replies state_of words (remaining input) (contents old) (contents new))
+  pub status : IfOk result (λ end. (end ≡ ends.Done) ⊎ (end ≡ ends.Refused))
+  pub usage : IfErr result (λ failure. failure_status failure ≡ ends.Usage → ((takes macsecd words ≢ true) ⊎ HasWrongValues words) × (new ≡ old))
+  pub help : IfErr result (λ failure. failure_status failure ≡ ends.Usage → AsksForNothing words)
+  pub disk : IfErr result (λ failure. failure_status failure ≡ ends.Disk → (takes macsecd words ≡ true)
+      × (action : Action) × Names (subcommand_of macsecd words) action × (action ≢ Open) × HasPrinted action (contents old) (contents new))
+  pub before : IfErr result (λ failure. failure ≢ Output → PrintedBefore words (contents old) (contents new))
+  pub fails : IfErr result (FailsFor state_of words (remaining input) (contents old) (contents new))
+  pub broken : IfErr result (λ failure. failure ≡ Output → failed new ≡ true)
+  pub unread : ((takes macsecd words ≡ true) × Names (subcommand_of macsecd words) Open → ⊥) → left ≡ input
+
 -- the line of a failure on standard error
 abbrev pub complaint : Failure → List ℕ
 complaint failure = line (codes "macsecd: " ++ failure_text failure)
@@ -138,11 +167,6 @@ complaint failure = line (codes "macsecd: " ++ failure_text failure)
 -- a text was printed on a stream, or the stream failed
 abbrev pub PrintsUnlessFailed : Option (List ℕ) → Option (List ℕ) → Bool → List ℕ → Type 0
 PrintsUnlessFailed before after failed text = Appends before after text ⊎ (failed ≡ true)
-
--- the words name an action with such a value
-abbrev pub HasWrongValues : List Text → Type 0
-HasWrongValues words =
-    (action : Action) × Names (subcommand_of macsecd words) action × WrongValues action
 
 -- what the process ends with
 abbrev pub code_of : Status → ℕ

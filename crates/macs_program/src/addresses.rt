@@ -1,7 +1,8 @@
 //! The addresses of the wires that `relay` joins.
 
-ghost use Rattle.std.specs.Prelude.{◌≡◌, ◌↔◌, IfOk, IfSome, Err, None};
+ghost use Rattle.std.specs.Prelude.{◌≡◌, ◌↔◌, ◌⊎◌, IfErr, IfOk, IfSome, Err, None};
 ghost use Rattle.std.specs.Net.Grammar.{IsSocketText};
+ghost use Rattle.std.specs.declared.net.SocketAddr.{SocketAddr};
 ghost use Rattle.macs_fields.specs.First.{IsFirst};
 ghost use Rattle.macs_program.specs.Addresses.{AddressFaultHolds, SpellsEnds, SpellsNone, address_faults};
 
@@ -58,6 +59,26 @@ fn address_of(text: &str) -> Option<SocketAddr>
     text.parse().ok()
 }
 
+/// The addresses that the ends of a wire spell. Refused with the fault that is given for the first text that is no
+/// address and port.
+fn wire_of(
+    ends: WireEnds,
+    own_fault: AddressFault,
+    peer_fault: AddressFault,
+) -> Result<WireAddresses, AddressFault>
+    ensures spelled { IfOk result (SpellsEnds ends.entry) }
+    ensures fault { IfErr result (λ fault. (SpellsNone ends.entry.own.now × (fault ≡ own_fault))
+        ⊎ ((own : SocketAddr) × IsSocketText ends.entry.own.now own × SpellsNone ends.entry.peer.now × (fault ≡ peer_fault))) }
+{
+    let Some(own) = address_of(ends.own) else {
+        return Err(own_fault);
+    };
+    let Some(peer) = address_of(ends.peer) else {
+        return Err(peer_fault);
+    };
+    Ok(WireAddresses { own, peer })
+}
+
 /// The addresses that the words spell. Refused with the first of `Own1`, `Peer1`, `Own2` and `Peer2` whose
 /// text is no address and port.
 pub fn addresses_of(controlled: WireEnds, common: WireEnds) -> Result<Addresses, AddressFault>
@@ -66,26 +87,10 @@ pub fn addresses_of(controlled: WireEnds, common: WireEnds) -> Result<Addresses,
     ensures fault { (fault : AddressFault) → (result ≡ Err fault)
         ↔ IsFirst (AddressFaultHolds controlled.entry common.entry) address_faults fault }
 {
-    let Some(own1) = address_of(controlled.own) else {
-        return Err(AddressFault::Own1);
-    };
-    let Some(peer1) = address_of(controlled.peer) else {
-        return Err(AddressFault::Peer1);
-    };
-    let Some(own2) = address_of(common.own) else {
-        return Err(AddressFault::Own2);
-    };
-    let Some(peer2) = address_of(common.peer) else {
-        return Err(AddressFault::Peer2);
-    };
+    let first = wire_of(controlled, AddressFault::Own1, AddressFault::Peer1)?;
+    let second = wire_of(common, AddressFault::Own2, AddressFault::Peer2)?;
     Ok(Addresses {
-        controlled: WireAddresses {
-            own: own1,
-            peer: peer1,
-        },
-        common: WireAddresses {
-            own: own2,
-            peer: peer2,
-        },
+        controlled: first,
+        common: second,
     })
 }

@@ -1,28 +1,31 @@
 //! What each subcommand does that has a disk file.
 //!
-//! An endpoint is large. Each subcommand opens its disk file and hands the disk on; the next function does no more than to open
-//! the endpoint and hand it on in turn, by value, so that the stack holds it once while the disk is read. None of
-//! the three is inlined: else the compiler has a second place for it there.
+//! An endpoint is large. A subcommand is a `Task` that three functions do one after the other. The first opens the disk file
+//! and hands the disk on; the second does no more than to open the endpoint and hand it on in turn, by value; the third lends
+//! it to the task. So the stack holds it once while the disk is read. None of these is inlined, nor what a task does: else
+//! the compiler has a second place for it there.
 
 ghost use Rattle.std.specs.Prelude.{◌≡◌, ◌≢◌, ◌⊎◌, ◌↔◌, List, Option, [], ◌∷◌, codes, option_map, Err, false, true, IfErr, IfOk, OnErr, OnOk};
 ghost use Rattle.std.specs.Io.KnownBytes.{Appends};
 ghost use Rattle.macs_config.specs.Identity.{Identity};
 ghost use Rattle.macs_disk.specs.declared.layout.Layout.{Layout};
 ghost use Rattle.macs_config.specs.declared.refusal.Refusal.{Refusal};
+ghost use Rattle.macs_edge.specs.UdpWires.{peer_of};
 ghost use Rattle.macs_edge.specs.declared.passing.Summary.{Summary};
 ghost use Rattle.macs_edge.specs.declared.relaying.RelaySummary.{RelaySummary};
 ghost use Rattle.macs_fields.specs.First.{IsFirst};
 ghost use Rattle.macs_program.specs.Addresses.{AddressFaultHolds, SpellsBoth, address_faults};
 ghost use Rattle.macs_program.specs.Applying.{outcome_lines};
-ghost use Rattle.macs_program.specs.CaptureFiles.{Asks, Makes, Opens};
+ghost use Rattle.macs_program.specs.CaptureFiles.{Asks, AsksInOrder, Makes, Opens};
 ghost use Rattle.macs_program.specs.Capturing.{side_of};
-ghost use Rattle.macs_program.specs.Endpoints.{AppliesFile, AppliesIn, BreaksOff, BreaksOffIn, IsDiskIn, IsOpeningIn, OpeningFails};
-ghost use Rattle.macs_program.specs.Endpoints.{PassEnds, PassEndsIn, PassesBetween, PassesIn, ShowsIn, shown_text};
+ghost use Rattle.macs_program.specs.Endpoints.{AppliesIn, BreaksOffIn, IsDiskIn, IsOpeningIn, OpeningFails};
+ghost use Rattle.macs_program.specs.Endpoints.{PassEndsIn, PassesIn, ShowsIn};
 ghost use Rattle.macs_program.specs.Failing.{failure_status};
-ghost use Rattle.macs_program.specs.NewDisks.{FormatFails, Formats};
-ghost use Rattle.macs_program.specs.Relaying.{ComesTo, IsAfterAddresses, IsOfRelay, RelayEnds, RelayEndsIn, Relays};
+ghost use Rattle.macs_program.specs.NewDisks.{FormatFails, Formats, MakesDisk};
+ghost use Rattle.macs_program.specs.Relaying.{ComesTo, IsOfRelay, RelayEndsIn, new_wire};
 ghost use Rattle.macs_program.specs.Showing.{line};
 ghost use Rattle.macs_program.specs.Summing.{relay_line, summary_line};
+ghost use Rattle.macs_program.specs.Tasks.{DoesApply, DoesPass, DoesRelay, DoesShow, Doing, IsRunIn};
 ghost use Rattle.macs_program.specs.Values.{SpellsIdentity, SpellsLayout, ValueFaultHolds, value_faults};
 ghost use Rattle.macs_program.specs.declared.addresses.AddressFault.{AddressFault};
 ghost use Rattle.macs_program.specs.declared.values.ValueFault.{ValueFault};
@@ -40,13 +43,36 @@ use crate::relaying::{bind, relay_frames};
 use crate::showing::show_lines;
 use crate::status::Status;
 use crate::stream::Stream;
-use crate::values::given_by;
+use crate::values::{Given, given_by};
 use macs_disk::{DiskFile, FileDisk, SectorDisk};
+use macs_edge::{UdpWire, Wire};
 use macs_endpoint::{Endpoint, OpenRefused};
 use macs_words::WireEnds;
 use std::alloc::Global;
-use std::net::Net;
+use std::net::{Net, UdpSocket};
 use std::rt::Files;
+
+/// Makes the disk file of an endpoint by what was given, and says so.
+fn format_given<T: Files, W: Stream>(
+    rt: &T,
+    alloc: Global,
+    disk: &str,
+    given: Given,
+    is_over: bool,
+    out: &mut W,
+) -> Result<Status, Failure>
+where
+    T::File: DiskFile,
+    ensures { MakesDisk T.File.file W.contents W.failed is_over given.layout given.identity out.old result out.new }
+{
+    let how = NewFile {
+        layout: given.layout,
+        is_over,
+    };
+    format_disk(rt, alloc, disk, how, &given.identity)?;
+    print(out, "formatted\n")?;
+    Ok(Status::Done)
+}
 
 /// `format`: makes a disk file for an endpoint.
 pub fn format<T: Files, W: Stream>(
@@ -78,44 +104,89 @@ where
     ensures broken { IfErr result (λ failure. failure ≡ Failure.Output → W.failed out.new ≡ true) }
 {
     let given = given_by(sci, tx_block, rx_block, block)?;
-    let how = NewFile {
-        layout: given.layout,
-        is_over,
-    };
-    format_disk(rt, alloc, disk, how, &given.identity)?;
-    print(out, "formatted\n")?;
-    Ok(Status::Done)
+    format_given(rt, alloc, disk, given, is_over, out)
 }
 
-/// Applies the commands of a file to an endpoint.
+/// What a subcommand does with the endpoint on its disk.
+trait Task<D: SectorDisk, W: Stream> {
+    /// What it answers, and what it leaves of the endpoint and of the stream.
+    ghost does: { Self → Doing D W };
+
+    /// Does it.
+    fn run(&self, endpoint: &mut Endpoint<D>, out: &mut W) -> Result<Status, Failure>
+        ensures { does self.now endpoint.old out.old result endpoint.new out.new };
+}
+
+/// Does a task with the endpoint on the disk in a file.
 #[inline(never)]
-fn apply_file<T: Files, D: SectorDisk, W: Stream>(
+fn with_file<T: Files, K: Task<FileDisk<T::File>, W>, W: Stream>(
     rt: &T,
-    alloc: Global,
-    endpoint: &mut Endpoint<D>,
-    file: &str,
+    path: &str,
+    task: &K,
     out: &mut W,
 ) -> Result<Status, Failure>
-    ensures printed { IfOk result (λ status.
-        AppliesFile D.disk endpoint.old (W.contents out.old) (W.contents out.new) status endpoint.new) }
-    ensures ended { IfErr result (λ failure. BreaksOff D.disk endpoint.old
-        (W.contents out.old) (W.contents out.new) failure endpoint.new) }
-    ensures failed { IfErr result (λ failure. failure_status failure ≢ Status.Usage) }
-    ensures lines { IfErr result (λ failure. failure ≢ Failure.Output
-        → (outcomes : List (Option Refusal)) × Appends (W.contents out.old) (W.contents out.new) (outcome_lines 1 outcomes)) }
-    ensures broken { IfErr result (λ failure. failure ≡ Failure.Output → W.failed out.new ≡ true) }
+where
+    T::File: DiskFile,
+    ensures { IsRunIn T.File.file (K.does task.now) out.old result out.new }
 {
-    let commands = commands_of_file(rt, alloc, file)?;
-    apply_commands(endpoint, commands.as_slice(), out)
+    let disk = open_disk(rt, path)?;
+    with_disk(disk, task, out)
+}
+
+/// Does a task with the endpoint on a disk.
+#[inline(never)]
+fn with_disk<F: DiskFile, K: Task<FileDisk<F>, W>, W: Stream>(
+    disk: FileDisk<F>,
+    task: &K,
+    out: &mut W,
+) -> Result<Status, Failure>
+    requires { IsDiskIn F.file disk }
+    ensures { IsRunIn F.file (K.does task.now) out.old result out.new }
+{
+    with_opened(Endpoint::open(disk), task, out)
+}
+
+/// Does a task with an endpoint, if it was opened.
+#[inline(never)]
+fn with_opened<F: DiskFile, K: Task<FileDisk<F>, W>, W: Stream>(
+    mut opened: Result<Endpoint<FileDisk<F>>, OpenRefused<FileDisk<F>>>,
+    task: &K,
+    out: &mut W,
+) -> Result<Status, Failure>
+    requires { IsOpeningIn F.file opened }
+    ensures { IsRunIn F.file (K.does task.now) out.old result out.new }
+{
+    match &mut opened {
+        Ok(endpoint) => task.run(endpoint, out),
+        Err(refused) => Err(Failure::from(refused.fault)), // Nothing is done.
+    }
+}
+
+/// Applies the commands of a file.
+#[derive(Drop)]
+struct ApplyFile<'a, T> {
+    rt: &'a T,
+    alloc: Global,
+    path: &'a str,
+}
+
+impl<T: Files, D: SectorDisk, W: Stream> Task<D, W> for ApplyFile<'_, T> {
+    ghost does = { λ _. DoesApply D.disk W.contents W.failed };
+
+    #[inline(never)]
+    fn run(&self, endpoint: &mut Endpoint<D>, out: &mut W) -> Result<Status, Failure> {
+        let commands = commands_of_file(self.rt, self.alloc, self.path)?;
+        apply_commands(endpoint, commands.as_slice(), out)
+    }
 }
 
 /// `apply`: applies the commands of a file.
 #[inline(never)]
-pub fn apply<T: Files, W: Stream>(
-    rt: &T,
+pub fn apply<'a, T: Files, W: Stream>(
+    rt: &'a T,
     alloc: Global,
     disk: &str,
-    file: &str,
+    file: &'a str,
     out: &mut W,
 ) -> Result<Status, Failure>
 where
@@ -129,78 +200,29 @@ where
         → (outcomes : List (Option Refusal)) × Appends (W.contents out.old) (W.contents out.new) (outcome_lines 1 outcomes)) }
     ensures broken { IfErr result (λ failure. failure ≡ Failure.Output → W.failed out.new ≡ true) }
 {
-    let disk = open_disk(rt, disk)?;
-    apply_on_disk(rt, alloc, disk, file, out)
+    let task = ApplyFile {
+        rt,
+        alloc,
+        path: file,
+    };
+    with_file(rt, disk, &task, out)
 }
 
-/// Applies the commands of a file on a disk.
-#[inline(never)]
-fn apply_on_disk<T: Files, W: Stream>(
-    rt: &T,
+/// Prints the configuration and the packet numbers.
+#[derive(Drop)]
+struct ShowAll {
     alloc: Global,
-    disk: FileDisk<T::File>,
-    file: &str,
-    out: &mut W,
-) -> Result<Status, Failure>
-where
-    T::File: DiskFile,
-    requires { IsDiskIn T.File.file disk }
-    ensures printed { IfOk result (λ status.
-        AppliesIn T.File.file (W.contents out.old) (W.contents out.new) status) }
-    ensures ended { IfErr result (λ failure. OpeningFails T.File.file failure
-        ⊎ BreaksOffIn T.File.file (W.contents out.old) (W.contents out.new) failure) }
-    ensures failed { IfErr result (λ failure. failure_status failure ≢ Status.Usage) }
-    ensures lines { IfErr result (λ failure. failure ≢ Failure.Output
-        → (outcomes : List (Option Refusal)) × Appends (W.contents out.old) (W.contents out.new) (outcome_lines 1 outcomes)) }
-    ensures broken { IfErr result (λ failure. failure ≡ Failure.Output → W.failed out.new ≡ true) }
-{
-    apply_opened(rt, alloc, Endpoint::open(disk), file, out)
 }
 
-/// Applies the commands of a file to an endpoint, if it was opened.
-#[inline(never)]
-fn apply_opened<T: Files, W: Stream>(
-    rt: &T,
-    alloc: Global,
-    mut opened: Result<Endpoint<FileDisk<T::File>>, OpenRefused<FileDisk<T::File>>>,
-    file: &str,
-    out: &mut W,
-) -> Result<Status, Failure>
-where
-    T::File: DiskFile,
-    requires { IsOpeningIn T.File.file opened }
-    ensures printed { IfOk result (λ status.
-        AppliesIn T.File.file (W.contents out.old) (W.contents out.new) status) }
-    ensures ended { IfErr result (λ failure. OpeningFails T.File.file failure
-        ⊎ BreaksOffIn T.File.file (W.contents out.old) (W.contents out.new) failure) }
-    ensures failed { IfErr result (λ failure. failure_status failure ≢ Status.Usage) }
-    ensures lines { IfErr result (λ failure. failure ≢ Failure.Output
-        → (outcomes : List (Option Refusal)) × Appends (W.contents out.old) (W.contents out.new) (outcome_lines 1 outcomes)) }
-    ensures broken { IfErr result (λ failure. failure ≡ Failure.Output → W.failed out.new ≡ true) }
-{
-    match &mut opened {
-        Ok(endpoint) => apply_file(rt, alloc, endpoint, file, out),
-        Err(refused) => Err(Failure::from(refused.fault)), // No command was given.
+impl<D: SectorDisk, W: Stream> Task<D, W> for ShowAll {
+    ghost does = { λ _. DoesShow W.contents W.failed };
+
+    #[inline(never)]
+    fn run(&self, endpoint: &mut Endpoint<D>, out: &mut W) -> Result<Status, Failure> {
+        let text = show_lines(self.alloc, endpoint)?;
+        print(out, text.as_str())?;
+        Ok(Status::Done)
     }
-}
-
-/// Prints the configuration and the packet numbers of an endpoint.
-#[inline(never)]
-fn show_endpoint<D: SectorDisk, W: Stream>(
-    alloc: Global,
-    endpoint: &Endpoint<D>,
-    out: &mut W,
-) -> Result<Status, Failure>
-    ensures printed { IfOk result (λ status. Appends (W.contents out.old) (W.contents out.new)
-        (shown_text endpoint.now) × (status ≡ Status.Done)) }
-    ensures ended { IfErr result (λ failure. (failure ≡ Failure.Memory) ⊎ (failure ≡ Failure.Output)) }
-    ensures failed { IfErr result (λ failure. failure_status failure ≢ Status.Usage) }
-    ensures silent { IfErr result (λ failure. failure ≢ Failure.Output → out.new ≡ out.old) }
-    ensures broken { IfErr result (λ failure. failure ≡ Failure.Output → W.failed out.new ≡ true) }
-{
-    let text = show_lines(alloc, endpoint)?;
-    print(out, text.as_str())?;
-    Ok(Status::Done)
 }
 
 /// `show`: prints the configuration and the packet numbers.
@@ -221,53 +243,28 @@ where
     ensures silent { IfErr result (λ failure. failure ≢ Failure.Output → out.new ≡ out.old) }
     ensures broken { IfErr result (λ failure. failure ≡ Failure.Output → W.failed out.new ≡ true) }
 {
-    let disk = open_disk(rt, disk)?;
-    show_on_disk(alloc, disk, out)
+    let task = ShowAll { alloc };
+    with_file(rt, disk, &task, out)
 }
 
-/// Prints the configuration and the packet numbers of the endpoint on a disk.
-#[inline(never)]
-fn show_on_disk<F: DiskFile, W: Stream>(
-    alloc: Global,
-    disk: FileDisk<F>,
-    out: &mut W,
-) -> Result<Status, Failure>
-    requires { IsDiskIn F.file disk }
-    ensures printed { IfOk result (λ status.
-        ShowsIn F.file (W.contents out.old) (W.contents out.new) × (status ≡ Status.Done)) }
-    ensures ended { IfErr result (λ failure. OpeningFails F.file failure
-        ⊎ (failure ≡ Failure.Memory) ⊎ (failure ≡ Failure.Output)) }
-    ensures failed { IfErr result (λ failure. failure_status failure ≢ Status.Usage) }
-    ensures silent { IfErr result (λ failure. failure ≢ Failure.Output → out.new ≡ out.old) }
-    ensures broken { IfErr result (λ failure. failure ≡ Failure.Output → W.failed out.new ≡ true) }
+/// The captures of a run. INPUT is opened first, and OUTPUT is made only where it is.
+fn open_both<C: Captures>(
+    captures: &mut C,
+    from: &str,
+    to: &str,
+) -> Result<(C::Input, C::Output), Failure>
+    ensures order { OnOk result (Asks (C.asked captures.old) (C.asked captures.new)
+        (Opens from.now true ∷ Makes to.now true ∷ [])) }
+    ensures front { OnErr result (Asks (C.asked captures.old) (C.asked captures.new) (Opens from.now false ∷ [])
+        ⊎ Asks (C.asked captures.old) (C.asked captures.new) (Opens from.now true ∷ Makes to.now false ∷ [])) }
+    ensures failed { IfErr result (λ failure. (failure ≡ Failure.Memory) ⊎ (failure ≡ Failure.Capture)) }
 {
-    show_opened(alloc, Endpoint::open(disk), out)
+    let source = captures.open(from)?;
+    let sink = captures.make(to)?;
+    Ok((source, sink))
 }
 
-/// Prints the configuration and the packet numbers of an endpoint, if it was opened.
-#[inline(never)]
-fn show_opened<F: DiskFile, W: Stream>(
-    alloc: Global,
-    mut opened: Result<Endpoint<FileDisk<F>>, OpenRefused<FileDisk<F>>>,
-    out: &mut W,
-) -> Result<Status, Failure>
-    requires { IsOpeningIn F.file opened }
-    ensures printed { IfOk result (λ status.
-        ShowsIn F.file (W.contents out.old) (W.contents out.new) × (status ≡ Status.Done)) }
-    ensures ended { IfErr result (λ failure. OpeningFails F.file failure
-        ⊎ (failure ≡ Failure.Memory) ⊎ (failure ≡ Failure.Output)) }
-    ensures failed { IfErr result (λ failure. failure_status failure ≢ Status.Usage) }
-    ensures silent { IfErr result (λ failure. failure ≢ Failure.Output → out.new ≡ out.old) }
-    ensures broken { IfErr result (λ failure. failure ≡ Failure.Output → W.failed out.new ≡ true) }
-{
-    match &mut opened {
-        Ok(endpoint) => show_endpoint(alloc, endpoint, out),
-        Err(refused) => Err(Failure::from(refused.fault)), // Nothing is shown.
-    }
-}
-
-/// Takes a capture through an endpoint into another one. INPUT is opened first, and OUTPUT is made only where it is.
-#[inline(never)]
+/// Takes a capture through an endpoint into another one.
 fn pass_between<C: Captures, D: SectorDisk, W: Stream>(
     captures: &mut C,
     alloc: Global,
@@ -277,34 +274,54 @@ fn pass_between<C: Captures, D: SectorDisk, W: Stream>(
     to: &str,
     out: &mut W,
 ) -> Result<Status, Failure>
-    ensures order { OnOk result (Asks (C.asked captures.old) (C.asked captures.new)
-        (Opens from.now true ∷ Makes to.now true ∷ [])) }
-    // What was opened and made, where the run failed: OUTPUT is not made where INPUT is not opened.
-    ensures front { OnErr result (Asks (C.asked captures.old) (C.asked captures.new) (Opens from.now false ∷ [])
-        ⊎ Asks (C.asked captures.old) (C.asked captures.new) (Opens from.now true ∷ Makes to.now false ∷ [])
-        ⊎ Asks (C.asked captures.old) (C.asked captures.new) (Opens from.now true ∷ Makes to.now true ∷ [])) }
-    ensures printed { IfOk result (λ status. (summary : Summary)
-        × PassesBetween D.disk (side_of direction) endpoint.old summary endpoint.new
-        × Appends (W.contents out.old) (W.contents out.new) (summary_line direction summary) × (status ≡ Status.Done)) }
-    ensures ended { IfErr result (λ failure. PassEnds D.disk (side_of direction) endpoint.old failure endpoint.new) }
-    ensures failed { IfErr result (λ failure. failure_status failure ≢ Status.Usage) }
-    ensures silent { IfErr result (λ failure. failure ≢ Failure.Output → out.new ≡ out.old) }
-    ensures broken { IfErr result (λ failure. failure ≡ Failure.Output → W.failed out.new ≡ true) }
+    ensures asks { AsksInOrder from.now to.now (C.asked captures.old) (C.asked captures.new) result }
+    ensures passes { DoesPass D.disk W.contents W.failed direction endpoint.old out.old result endpoint.new out.new }
 {
-    let mut source = captures.open(from)?;
-    let mut sink = captures.make(to)?;
+    let (mut source, mut sink) = open_both(captures, from, to)?;
     pass_frames(alloc, endpoint, direction, &mut source, &mut sink, out)
+}
+
+/// Takes a capture in a file through an endpoint into another file.
+#[derive(Drop)]
+struct PassFile<'a, T> {
+    rt: &'a T,
+    alloc: Global,
+    direction: Direction,
+    from: &'a str,
+    to: &'a str,
+}
+
+impl<T: Files, D: SectorDisk, W: Stream> Task<D, W> for PassFile<'_, T>
+where
+    T::File: CaptureFile,
+{
+    ghost does = { λ task. DoesPass D.disk W.contents W.failed task.direction };
+
+    #[inline(never)]
+    fn run(&self, endpoint: &mut Endpoint<D>, out: &mut W) -> Result<Status, Failure> {
+        let alloc = self.alloc;
+        let mut captures = SystemCaptures { rt: self.rt, alloc };
+        pass_between(
+            &mut captures,
+            alloc,
+            endpoint,
+            self.direction,
+            self.from,
+            self.to,
+            out,
+        )
+    }
 }
 
 /// `protect` and `validate`: takes a capture through an endpoint.
 #[inline(never)]
-pub fn pass<T: Files, W: Stream>(
-    rt: &T,
+pub fn pass<'a, T: Files, W: Stream>(
+    rt: &'a T,
     alloc: Global,
     direction: Direction,
     disk: &str,
-    from: &str,
-    to: &str,
+    from: &'a str,
+    to: &'a str,
     out: &mut W,
 ) -> Result<Status, Failure>
 where
@@ -318,161 +335,59 @@ where
     ensures silent { IfErr result (λ failure. failure ≢ Failure.Output → out.new ≡ out.old) }
     ensures broken { IfErr result (λ failure. failure ≡ Failure.Output → W.failed out.new ≡ true) }
 {
-    let disk = open_disk(rt, disk)?;
-    pass_on_disk(rt, alloc, direction, disk, from, to, out)
-}
-
-/// Takes a capture through the endpoint on a disk.
-#[inline(never)]
-fn pass_on_disk<T: Files, W: Stream>(
-    rt: &T,
-    alloc: Global,
-    direction: Direction,
-    disk: FileDisk<T::File>,
-    from: &str,
-    to: &str,
-    out: &mut W,
-) -> Result<Status, Failure>
-where
-    T::File: CaptureFile,
-    requires { IsDiskIn T.File.file disk }
-    ensures printed { IfOk result (λ status. (summary : Summary)
-        × PassesIn T.File.file (side_of direction) summary
-        × Appends (W.contents out.old) (W.contents out.new) (summary_line direction summary) × (status ≡ Status.Done)) }
-    ensures ended { IfErr result (λ failure. OpeningFails T.File.file failure
-        ⊎ PassEndsIn T.File.file (side_of direction) failure) }
-    ensures failed { IfErr result (λ failure. failure_status failure ≢ Status.Usage) }
-    ensures silent { IfErr result (λ failure. failure ≢ Failure.Output → out.new ≡ out.old) }
-    ensures broken { IfErr result (λ failure. failure ≡ Failure.Output → W.failed out.new ≡ true) }
-{
-    pass_opened(rt, alloc, direction, Endpoint::open(disk), from, to, out)
-}
-
-/// Takes a capture through an endpoint, if it was opened.
-#[inline(never)]
-fn pass_opened<T: Files, W: Stream>(
-    rt: &T,
-    alloc: Global,
-    direction: Direction,
-    mut opened: Result<Endpoint<FileDisk<T::File>>, OpenRefused<FileDisk<T::File>>>,
-    from: &str,
-    to: &str,
-    out: &mut W,
-) -> Result<Status, Failure>
-where
-    T::File: CaptureFile,
-    requires { IsOpeningIn T.File.file opened }
-    ensures printed { IfOk result (λ status. (summary : Summary)
-        × PassesIn T.File.file (side_of direction) summary
-        × Appends (W.contents out.old) (W.contents out.new) (summary_line direction summary) × (status ≡ Status.Done)) }
-    ensures ended { IfErr result (λ failure. OpeningFails T.File.file failure
-        ⊎ PassEndsIn T.File.file (side_of direction) failure) }
-    ensures failed { IfErr result (λ failure. failure_status failure ≢ Status.Usage) }
-    ensures silent { IfErr result (λ failure. failure ≢ Failure.Output → out.new ≡ out.old) }
-    ensures broken { IfErr result (λ failure. failure ≡ Failure.Output → W.failed out.new ≡ true) }
-{
-    match &mut opened {
-        Ok(endpoint) => {
-            let mut captures = SystemCaptures { rt, alloc };
-            pass_between(&mut captures, alloc, endpoint, direction, from, to, out)
-        }
-        Err(refused) => Err(Failure::from(refused.fault)), // No frame was taken.
-    }
-}
-
-/// Relays frames through an endpoint between two wires, which are bound from left to right.
-#[inline(never)]
-fn relay_wires<N: Net, D: SectorDisk, W: Stream>(
-    net: &N,
-    alloc: Global,
-    endpoint: &mut Endpoint<D>,
-    addresses: Addresses,
-    turns: u64,
-    out: &mut W,
-) -> Result<Status, Failure>
-    ensures printed { IfOk result (λ status. (summary : RelaySummary) × Relays D.disk turns endpoint.old summary endpoint.new
-        × Appends (W.contents out.old) (W.contents out.new) (relay_line summary) × (status ≡ Status.Done)) }
-    ensures ended { IfErr result (λ failure. RelayEnds D.disk turns endpoint.old failure endpoint.new) }
-    ensures failed { IfErr result IsAfterAddresses }
-    ensures silent { IfErr result (λ failure. failure ≢ Failure.Output → out.new ≡ out.old) }
-    ensures broken { IfErr result (λ failure. failure ≡ Failure.Output → W.failed out.new ≡ true) }
-{
-    let mut controlled = bind(net, alloc, addresses.controlled)?;
-    let mut common = bind(net, alloc, addresses.common)?;
-    relay_frames(endpoint, &mut controlled, &mut common, turns, out)
-}
-
-/// Relays frames through the endpoint on a disk file between two wires.
-#[inline(never)]
-fn relay_over<T: Files + Net, W: Stream>(
-    rt: &T,
-    alloc: Global,
-    disk: &str,
-    addresses: Addresses,
-    turns: u64,
-    out: &mut W,
-) -> Result<Status, Failure>
-where
-    T::File: DiskFile,
-    ensures printed { IfOk result (λ status. (summary : RelaySummary) × ComesTo T.File.file turns summary
-        × Appends (W.contents out.old) (W.contents out.new) (relay_line summary) × (status ≡ Status.Done)) }
-    ensures ended { IfErr result (λ failure. OpeningFails T.File.file failure ⊎ RelayEndsIn T.File.file turns failure) }
-    ensures failed { IfErr result IsAfterAddresses }
-    ensures silent { IfErr result (λ failure. failure ≢ Failure.Output → out.new ≡ out.old) }
-    ensures broken { IfErr result (λ failure. failure ≡ Failure.Output → W.failed out.new ≡ true) }
-{
-    let disk = open_disk(rt, disk)?;
-    relay_on_disk(rt, alloc, disk, addresses, turns, out)
-}
-
-/// Relays frames through the endpoint on a disk between two wires.
-#[inline(never)]
-fn relay_on_disk<T: Files + Net, W: Stream>(
-    rt: &T,
-    alloc: Global,
-    disk: FileDisk<T::File>,
-    addresses: Addresses,
-    turns: u64,
-    out: &mut W,
-) -> Result<Status, Failure>
-where
-    T::File: DiskFile,
-    requires { IsDiskIn T.File.file disk }
-    ensures printed { IfOk result (λ status. (summary : RelaySummary) × ComesTo T.File.file turns summary
-        × Appends (W.contents out.old) (W.contents out.new) (relay_line summary) × (status ≡ Status.Done)) }
-    ensures ended { IfErr result (λ failure. OpeningFails T.File.file failure ⊎ RelayEndsIn T.File.file turns failure) }
-    ensures failed { IfErr result IsAfterAddresses }
-    ensures silent { IfErr result (λ failure. failure ≢ Failure.Output → out.new ≡ out.old) }
-    ensures broken { IfErr result (λ failure. failure ≡ Failure.Output → W.failed out.new ≡ true) }
-{
-    relay_opened(rt, alloc, Endpoint::open(disk), addresses, turns, out)
-}
-
-/// Relays frames through an endpoint between two wires, if it was opened.
-#[inline(never)]
-fn relay_opened<T: Files + Net, W: Stream>(
-    rt: &T,
-    alloc: Global,
-    mut opened: Result<Endpoint<FileDisk<T::File>>, OpenRefused<FileDisk<T::File>>>,
-    addresses: Addresses,
-    turns: u64,
-    out: &mut W,
-) -> Result<Status, Failure>
-where
-    T::File: DiskFile,
-    requires { IsOpeningIn T.File.file opened }
-    ensures printed { IfOk result (λ status. (summary : RelaySummary) × ComesTo T.File.file turns summary
-        × Appends (W.contents out.old) (W.contents out.new) (relay_line summary) × (status ≡ Status.Done)) }
-    ensures ended { IfErr result (λ failure. OpeningFails T.File.file failure ⊎ RelayEndsIn T.File.file turns failure) }
-    ensures failed { IfErr result IsAfterAddresses }
-    ensures silent { IfErr result (λ failure. failure ≢ Failure.Output → out.new ≡ out.old) }
-    ensures broken { IfErr result (λ failure. failure ≡ Failure.Output → W.failed out.new ≡ true) }
-{
-    let endpoint = match &mut opened {
-        Ok(endpoint) => endpoint,
-        Err(refused) => return Err(Failure::from(refused.fault)), // No wire is bound.
+    let task = PassFile {
+        rt,
+        alloc,
+        direction,
+        from,
+        to,
     };
-    relay_wires(rt, alloc, endpoint, addresses, turns, out)
+    with_file(rt, disk, &task, out)
+}
+
+/// The wires of a relay.
+#[derive(Drop)]
+struct Wires {
+    controlled: UdpWire<Global>,
+    common: UdpWire<Global>,
+}
+
+/// Binds the wires of a relay, from left to right. It fails as `bind` does.
+fn bind_wires<N: Net>(net: &N, alloc: Global, addresses: Addresses) -> Result<Wires, Failure>
+    ensures fresh { IfOk result (λ wires. (⟦<UdpWire<Global, UdpSocket> as Wire>⟧.state wires.controlled ≡ new_wire)
+        × (⟦<UdpWire<Global, UdpSocket> as Wire>⟧.state wires.common ≡ new_wire)) }
+    ensures peers { IfOk result (λ wires. (peer_of wires.controlled ≡ addresses.controlled.peer)
+        × (peer_of wires.common ≡ addresses.common.peer)) }
+    ensures failed { IfErr result (λ failure. (failure ≡ Failure.Memory) ⊎ (failure ≡ Failure.Wire)) }
+{
+    let controlled = bind(net, alloc, addresses.controlled)?;
+    let common = bind(net, alloc, addresses.common)?;
+    Ok(Wires { controlled, common })
+}
+
+/// Relays frames through an endpoint between two wires.
+#[derive(Drop)]
+struct RelayWires<'a, N> {
+    net: &'a N,
+    alloc: Global,
+    addresses: Addresses,
+    turns: u64,
+}
+
+impl<N: Net, D: SectorDisk, W: Stream> Task<D, W> for RelayWires<'_, N> {
+    ghost does = { λ task. DoesRelay D.disk W.contents W.failed task.turns };
+
+    #[inline(never)]
+    fn run(&self, endpoint: &mut Endpoint<D>, out: &mut W) -> Result<Status, Failure> {
+        let mut wires = bind_wires(self.net, self.alloc, self.addresses)?;
+        relay_frames(
+            endpoint,
+            &mut wires.controlled,
+            &mut wires.common,
+            self.turns,
+            out,
+        )
+    }
 }
 
 /// `relay`: relays frames between two wires, the first of which is the controlled side.
@@ -502,5 +417,11 @@ where
     ensures broken { IfErr result (λ failure. failure ≡ Failure.Output → W.failed out.new ≡ true) }
 {
     let addresses = addresses_of(controlled, common)?;
-    relay_over(rt, alloc, disk, addresses, turns, out)
+    let task = RelayWires {
+        net: rt,
+        alloc,
+        addresses,
+        turns,
+    };
+    with_file(rt, disk, &task, out)
 }

@@ -1,12 +1,12 @@
 //! The program over its words, a reader and two streams.
 
-ghost use Rattle.std.specs.Prelude.{◌≡◌, ◌≢◌, ◌⊎◌, ◌++◌, ◌∷◌, ℕ, List, [], true, take, IfErr, IfOk, IfSome, OnErr, OnOk, string_bytes};
+ghost use Rattle.std.specs.Prelude.{◌≡◌, ◌≢◌, ◌⊎◌, ◌++◌, ◌∷◌, ℕ, List, [], Option, true, take, IfErr, IfOk, IfSome, OnErr, OnOk, string_bytes};
 ghost use Rattle.std.specs.Io.KnownBytes.{Appends};
 ghost use Rattle.clap.specs.Words.{subcommand_of, takes};
 ghost use Rattle.macs_program.specs.Answer.{answer_text};
 ghost use Rattle.macs_program.specs.Failing.{failure_status};
-ghost use Rattle.macs_program.specs.Run.{FailsFor, HasPrinted, HasWrongValues, OpenFails, Performs, PrintedBefore, Prints};
-ghost use Rattle.macs_program.specs.Run.{PrintsUnlessFailed, Replies, code_of, complaint};
+ghost use Rattle.macs_program.specs.Run.{Acts, FailsFor, HasPrinted, HasWrongValues, OpenFails, Performs, PrintedBefore, Prints};
+ghost use Rattle.macs_program.specs.Run.{PrintsUnlessFailed, Replies, code_of, complaint, is_on_frames};
 ghost use Rattle.macs_words.specs.Words.{AsksForNothing, Names, macsecd, texts};
 ghost use Rattle.macs_words.specs.declared.action.Action.{Action};
 ghost use Rattle.macs_program.specs.declared.failure.Failure.{Failure};
@@ -86,8 +86,7 @@ fn perform<T: Files + Net, R: Read, W: Stream>(
 ) -> Result<Status, Failure>
 where
     T::File: CaptureFile,
-    ensures performs { Performs T.File.file W.contents action.entry (R.remaining input.old) out.old result out.new }
-    ensures broken { IfErr result (λ failure. failure ≡ Failure.Output → W.failed out.new ≡ true) }
+    ensures performs { Performs T.File.file W.contents W.failed action.entry (R.remaining input.old) out.old result out.new }
     ensures unread { action.entry ≢ Action.Open → input.new ≡ input.old }
 {
     match action {
@@ -104,6 +103,26 @@ where
         ),
         Action::Apply { disk, file } => apply(rt, alloc, disk, file, out),
         Action::Show { disk } => show(rt, alloc, disk, out),
+        Action::Protect { .. } | Action::Validate { .. } | Action::Relay { .. } => {
+            perform_on_frames(rt, alloc, action, out)
+        }
+    }
+}
+
+/// Does what an action asks for that hands frames to an endpoint.
+fn perform_on_frames<T: Files + Net, W: Stream>(
+    rt: &T,
+    alloc: Global,
+    action: Action,
+    out: &mut W,
+) -> Result<Status, Failure>
+where
+    T::File: CaptureFile,
+    requires { is_on_frames action ≡ true }
+    ensures { (input : Option (List ℕ))
+        → Performs T.File.file W.contents W.failed action.entry input out.old result out.new }
+{
+    match action {
         Action::Protect {
             disk,
             input: from,
@@ -120,6 +139,7 @@ where
             common,
             turns,
         } => relay(rt, alloc, disk, controlled, common, turns, out),
+        _ => unreachable!(),
     }
 }
 
@@ -133,24 +153,7 @@ fn act<T: Files + Net, R: Read, W: Stream>(
 ) -> Result<Status, Failure>
 where
     T::File: CaptureFile,
-    ensures replied { IfOk result (Replies T.File.file (texts words.now) (R.remaining input.old)
-        (W.contents out.old) (W.contents out.new)) }
-    ensures status { IfOk result (λ status. (status ≡ Status.Done) ⊎ (status ≡ Status.Refused)) }
-    ensures usage { IfErr result (λ failure. failure_status failure ≡ Status.Usage
-        → ((takes macsecd (texts words.now) ≢ true) ⊎ HasWrongValues (texts words.now)) × (out.new ≡ out.old)) }
-    ensures help { IfErr result (λ failure. failure_status failure ≡ Status.Usage
-        → AsksForNothing (texts words.now)) }
-    ensures disk { IfErr result (λ failure. failure_status failure ≡ Status.Disk
-        → (takes macsecd (texts words.now) ≡ true)
-        × (action : Action) × Names (subcommand_of macsecd (texts words.now)) action × (action ≢ Action.Open)
-        × HasPrinted action (W.contents out.old) (W.contents out.new)) }
-    ensures fails { IfErr result (FailsFor T.File.file (texts words.now) (R.remaining input.old)
-        (W.contents out.old) (W.contents out.new)) }
-    ensures before { IfErr result (λ failure. failure ≢ Failure.Output
-        → PrintedBefore (texts words.now) (W.contents out.old) (W.contents out.new)) }
-    ensures broken { IfErr result (λ failure. failure ≡ Failure.Output → W.failed out.new ≡ true) }
-    ensures unread { ((takes macsecd (texts words.now) ≡ true)
-        × Names (subcommand_of macsecd (texts words.now)) Action.Open → ⊥) → input.new ≡ input.old }
+    ensures { Acts T.File.file R.remaining W.contents W.failed (texts words.now) input.old out.old result input.new out.new }
 {
     if let Some(topic) = topic_of(words) {
         print(out, topic.text())?;

@@ -1,45 +1,22 @@
-use Rattle.std.proofs.Common.{inl, inr}
-use Rattle.std.proofs.lemmas.Result.{IfOk-weaker, err_from_is_err_and}
-use Rattle.macs_program.proofs.AskedFor.{asked-both, on-both, told}
-use Rattle.macs_program.proofs.InFiles.{no-capture, passes-between, stops-between}
+use Rattle.std.proofs.lemmas.Result.{err_from_is_err_and}
+use Rattle.macs_program.proofs.AskedFor.{both, not-both}
+use Rattle.macs_program.proofs.InFiles.{frames-passed, no-capture}
 use Rattle.macs_program.proofs.on_disk.pass_between.Goals as goal
 
-pub returns-clause-printed : goal.returns-clause-printed
-returns-clause-printed g c =
-    IfOk-weaker c.pass_frames.result _ _ (λ status done. let (summary, passes, printed, is) = done in (
-      summary,
-      passes-between _ _ _ _ summary _ _ _ _ passes,
-      printed,
-      is,
-    )) c.pass_frames.ensures.printed
-
-pub returns-in_err-source-clause-ended : goal.returns-in_err-source-clause-ended
-returns-in_err-source-clause-ended g c =
+pub returns-in_err-source-clause-asks : goal.returns-in_err-source-clause-asks
+returns-in_err-source-clause-asks g c =
     let p = err_from_is_err_and c.from_residual.result c.from_residual.ensures.1 in
-    no-capture _ _ _ c.in_err-source.field-0.0 p.0 c.from_residual.result p.1 p.2 c.in_err-source.ensures.failed
+    not-both _ _ _ _ p.0 c.from_residual.result p.1 c.in_err-source.ensures.front
 
-pub returns-in_err-sink-clause-ended : goal.returns-in_err-sink-clause-ended
-returns-in_err-sink-clause-ended g c =
-    let p = err_from_is_err_and c.from_residual-in_err-sink.result c.from_residual-in_err-sink.ensures.1 in
-    no-capture _ _ _ c.in_err-sink.field-0.0 p.0 c.from_residual-in_err-sink.result p.1 p.2 c.in_err-sink.ensures.failed
-
-pub returns-clause-ended : goal.returns-clause-ended
-returns-clause-ended g c = stops-between _ _ _ _ _ _ _ _ c.pass_frames.result c.pass_frames.ensures.ended
-
-pub returns-in_err-source-clause-front : goal.returns-in_err-source-clause-front
-returns-in_err-source-clause-front g c =
+pub returns-in_err-source-clause-passes : goal.returns-in_err-source-clause-passes
+returns-in_err-source-clause-passes g c =
     let p = err_from_is_err_and c.from_residual.result c.from_residual.ensures.1 in
-    rw p.1 (inl c.in_err-source.ensures.refused)
+    no-capture _ _ _ _ _ _ c.in_err-source.field-0.0 p.0 c.from_residual.result p.1 p.2 c.in_err-source.ensures.failed
 
-pub returns-in_err-sink-clause-front : goal.returns-in_err-sink-clause-front
-returns-in_err-sink-clause-front g c =
-    let p = err_from_is_err_and c.from_residual-in_err-sink.result c.from_residual-in_err-sink.ensures.1 in
-    rw p.1 (inr (inl (asked-both _ (g.C.Captures.asked c.open.new.self) _ _ _ c.in_ok-source.ensures.opened c.in_err-sink.ensures.refused)))
+pub returns-clause-asks : goal.returns-clause-asks
+returns-clause-asks g c = both _ _ _ _ c.pass_frames.result c.in_ok-source.ensures.order
 
-pub returns-clause-order : goal.returns-clause-order
-returns-clause-order g c =
-    on-both c.pass_frames.result (asked-both _ (g.C.Captures.asked c.open.new.self) _ _ _ c.in_ok-source.ensures.opened c.in_ok-sink.ensures.made)
-
-pub returns-clause-front : goal.returns-clause-front
-returns-clause-front g c =
-    told c.pass_frames.result (inr (inr (asked-both _ (g.C.Captures.asked c.open.new.self) _ _ _ c.in_ok-source.ensures.opened c.in_ok-sink.ensures.made)))
+pub returns-clause-passes : goal.returns-clause-passes
+returns-clause-passes g c =
+    let said = c.pass_frames.ensures in
+    frames-passed _ _ _ c.args.direction _ _ _ _ _ _ _ _ c.pass_frames.result said.printed said.ended said.failed said.silent said.broken

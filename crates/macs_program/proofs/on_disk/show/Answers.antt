@@ -1,8 +1,7 @@
-use Rattle.std.proofs.lemmas.Result.{err_from_is_err_and}
-use Rattle.macs_program.proofs.InFiles.{no-disk}
+use Rattle.macs_program.proofs.InFiles.{shown-in}
 use Rattle.macs_program.proofs.on_disk.show.Goals as goal
 
-pub returns-in_err-disk-clause-ended : goal.returns-in_err-disk-clause-ended
-returns-in_err-disk-clause-ended g c =
-    let p = err_from_is_err_and c.from_residual.result c.from_residual.ensures.1 in
-    no-disk _ _ c.in_err-disk.field-0.0 p.0 c.from_residual.result p.1 p.2 c.in_err-disk.ensures.file
+pub returns : goal.returns
+returns g c =
+    let all = shown-in _ _ _ _ _ c.with_file.result c.with_file.ensures in
+    record { printed = all.printed; ended = all.ended; failed = all.failed; silent = all.silent; broken = all.broken }

@@ -1,0 +1,82 @@
+-- What a subcommand does with the endpoint that it opens, whole, and what comes of it on a disk in a file.
+use Rattle.std.specs.Prelude.{◌≡◌, ◌≢◌, ◌⊎◌, ℕ, Bool, true, List, Option, Result, Err, IfErr, IfOk}
+use Rattle.std.specs.Io.KnownBytes.{Appends}
+use Rattle.macs_disk.specs.Disk.{Disk}
+use Rattle.macs_disk.specs.Files.{FileState}
+use Rattle.macs_disk.specs.declared.file.FileDisk.{FileDisk}
+use Rattle.macs_edge.specs.declared.passing.Summary.{Summary}
+use Rattle.macs_edge.specs.declared.relaying.RelaySummary.{RelaySummary}
+use Rattle.macs_endpoint.specs.Value.{EndpointValue}
+use Rattle.macs_program.specs.Capturing.{side_of}
+use Rattle.macs_program.specs.Endpoints.{AppliesFile, BreaksOff, IsEndpointIn, OpeningFails, PassEnds, PassesBetween, shown_text}
+use Rattle.macs_program.specs.Failing.{failure_status}
+use Rattle.macs_program.specs.Relaying.{IsAfterAddresses, RelayEnds, Relays}
+use Rattle.macs_program.specs.Summing.{relay_line, summary_line}
+use Rattle.macs_program.specs.declared.capturing.Direction.{Direction}
+use Rattle.macs_program.specs.declared.failure.Failure.{Failure}
+use Rattle.macs_program.specs.declared.failure.Failure.TheVariants.{Memory, Output}
+use Rattle.macs_program.specs.declared.status.Status.{Status}
+use Rattle.macs_program.specs.declared.status.Status.TheVariants as ends
+
+-- what is done with an endpoint and a stream: from both, with this answer, to both
+abbrev pub Doing : Type 0 → Type 0 → Type 1
+Doing D W = EndpointValue D → W → Result Status Failure → EndpointValue D → W → Type 0
+
+-- ---- on a disk in a file
+
+-- no endpoint is opened there, which is the failure, and nothing is printed
+pub record IsNotOpened {F W : Type 0} (file : F → FileState) (before : W) (result : Result Status Failure) (after : W) : Type 0 where
+  pub failure : Failure
+  pub is : result ≡ Err failure
+  pub fails : OpeningFails file failure
+  pub silent : after ≡ before
+
+-- an endpoint is opened there, and this is done with it
+pub record IsDoneWith {F W : Type 0} (file : F → FileState) (done : Doing (FileDisk F) W) (before : W) (result : Result Status Failure)
+    (after : W) : Type 0 where
+  pub old : EndpointValue (FileDisk F)
+  pub new : EndpointValue (FileDisk F)
+  pub endpoint : IsEndpointIn file old
+  pub does : done old before result new after
+
+-- the one or the other
+abbrev pub IsRunIn : {F W : Type 0} → (F → FileState) → Doing (FileDisk F) W → W → Result Status Failure → W → Type 0
+IsRunIn file done before result after = IsNotOpened file before result after ⊎ IsDoneWith file done before result after
+
+-- ---- what each does
+
+-- `apply`: the commands of a file are given to the endpoint, or not all of them
+pub record DoesApply {D W : Type 0} (disk_of : D → Disk) (contents : W → Option (List ℕ)) (has_failed : W → Bool) (old : EndpointValue D) (before : W)
+    (result : Result Status Failure) (new : EndpointValue D) (after : W) : Type 0 where
+  pub printed : IfOk result (λ status. AppliesFile disk_of old (contents before) (contents after) status new)
+  pub ended : IfErr result (λ failure. BreaksOff disk_of old (contents before) (contents after) failure new)
+  pub broken : IfErr result (λ failure. failure ≡ Output → has_failed after ≡ true)
+
+-- `show`: the text of the endpoint is printed, which stays as it is
+pub record DoesShow {D W : Type 0} (contents : W → Option (List ℕ)) (has_failed : W → Bool) (old : EndpointValue D) (before : W)
+    (result : Result Status Failure) (new : EndpointValue D) (after : W) : Type 0 where
+  pub same : new ≡ old
+  pub printed : IfOk result (λ status. Appends (contents before) (contents after) (shown_text old) × (status ≡ ends.Done))
+  pub ended : IfErr result (λ failure. (failure ≡ Memory) ⊎ (failure ≡ Output))
+  pub silent : IfErr result (λ failure. failure ≢ Output → after ≡ before)
+  pub broken : IfErr result (λ failure. failure ≡ Output → has_failed after ≡ true)
+
+-- `protect` and `validate`: a capture is taken through the endpoint into another one, or not whole
+pub record DoesPass {D W : Type 0} (disk_of : D → Disk) (contents : W → Option (List ℕ)) (has_failed : W → Bool) (direction : Direction)
+    (old : EndpointValue D) (before : W) (result : Result Status Failure) (new : EndpointValue D) (after : W) : Type 0 where
+  pub printed : IfOk result (λ status. (summary : Summary) × PassesBetween disk_of (side_of direction) old summary new
+      × Appends (contents before) (contents after) (summary_line direction summary) × (status ≡ ends.Done))
+  pub ended : IfErr result (λ failure. PassEnds disk_of (side_of direction) old failure new)
+  pub failed : IfErr result (λ failure. failure_status failure ≢ ends.Usage)
+  pub silent : IfErr result (λ failure. failure ≢ Output → after ≡ before)
+  pub broken : IfErr result (λ failure. failure ≡ Output → has_failed after ≡ true)
+
+-- `relay`: frames are relayed through the endpoint between two wires in so many turns, or in fewer
+pub record DoesRelay {D W : Type 0} (disk_of : D → Disk) (contents : W → Option (List ℕ)) (has_failed : W → Bool) (turns : ℕ)
+    (old : EndpointValue D) (before : W) (result : Result Status Failure) (new : EndpointValue D) (after : W) : Type 0 where
+  pub printed : IfOk result (λ status. (summary : RelaySummary) × Relays disk_of turns old summary new
+      × Appends (contents before) (contents after) (relay_line summary) × (status ≡ ends.Done))
+  pub ended : IfErr result (λ failure. RelayEnds disk_of turns old failure new)
+  pub failed : IfErr result IsAfterAddresses
+  pub silent : IfErr result (λ failure. failure ≢ Output → after ≡ before)
+  pub broken : IfErr result (λ failure. failure ≡ Output → has_failed after ≡ true)
