@@ -192,6 +192,7 @@ module _ {D : Type 0} (disk_of : D → Disk) (sound : (it : D) → IsHonest (dis
     anew = λ disk first c was opening found one. (
       compacted c (snapshot (standing_in first.store)),
       begun_anew c (standing_in first.store),
+      read_stands disk first was opening,
       left_anew disk first was opening c found one,
     );
     last = λ disk first c was opening found one. never_last disk first was opening c found one;

@@ -262,7 +262,14 @@ module _ {D : Type 0} (disk_of : D → Disk) where
     not_formatted = λ identity fault same.
         let there = one_life old links link among (Formatting identity (Err fault)) same in
         there.1 (Formats this_edition identity false) (contains-first (Formats this_edition identity false) []);
+    format_cut = λ identity same.
+        let there = one_life old links link among (FormattingCut identity) same in
+        there.1 (Formats this_edition identity false) (contains-first (Formats this_edition identity false) []);
     refused = λ fault same.
         let there = one_life old links link among (Refusing fault) same in
         (there.0, there.1 (Refuses this_edition there.0 fault) (contains-first (Refuses this_edition there.0 fault) []));
+    served = λ first last turns cut same.
+        let there = one_life old links link among (Living first turns last cut) same in
+        let life = Serves this_edition there.0 (map exchange_of turns) cut in
+        (there.0, there.1 life (contains-first life []));
   }

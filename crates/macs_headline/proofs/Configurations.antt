@@ -16,6 +16,7 @@ use Rattle.macs_headline.specs.Configurations.{AreKept, ConfigurationIs, LivesMa
 use Rattle.macs_headline.specs.History.{Blank, FitsPast, FormatLeads, Formats, Formatted, IsHistory, IsLifeSoFar, LeadOn, Leads, Life, Past, Refuses, Serves, formatted_state, state_at_end}
 use Rattle.macs_headline.specs.Moments.{Moment}
 use Rattle.macs_headline.proofs.Answered.{history-on}
+use Rattle.macs_headline.proofs.Begun.{in-hand-was-begun}
 use Rattle.macs_headline.proofs.Commands.{commands-kept}
 use Rattle.macs_headline.proofs.HandedIn.{in-hand-was-given}
 use Rattle.macs_headline.proofs.Histories.{fits-restart, found-new}
@@ -102,8 +103,15 @@ module _ (sectors : ℕ) where
       let finds = commands-kept sectors last m cut later at after fits is in
       let before_it : LivesMake sectors found.identity default before found.config =
       found_made before old edition image found made life.fits life.is_found in
-      let kept : AreKept exchanges cut finds.kept = record {
+      let kept : AreKept sectors edition image exchanges cut finds.kept = record {
+        last = last;
+        moment = m;
+        of_edition = refl;
+        opened = refl;
+        answered = refl;
         in_hand = (state_at_end last cut).in_hand;
+        at_end = refl;
+        begun = λ command hand. in-hand-was-begun sectors last m cut command hand;
         handed_in = λ command hand. in-hand-was-given sectors last m cut command hand;
         acknowledged = finds.acknowledged;
         accepted = finds.accepted;

@@ -144,7 +144,7 @@ gate-pending = put-same (λ _. false) (free_gate last_content) (free_gate last_c
 -- ---- writes, one after another
 
 -- a sector that none of them writes is as it was
-writes_apart : (ws : List Write) (s : DiskState) (i : ℕ) → AllByRecursion (λ (w : Write). i ≢ w.at) ws
+pub writes_apart : (ws : List Write) (s : DiskState) (i : ℕ) → AllByRecursion (λ (w : Write). i ≢ w.at) ws
     → ((state_after_writes s ws).seen i ≡ s.seen i) × ((state_after_writes s ws).pending i ≡ s.pending i)
 unfolding state_after_writes
 writes_apart [] s i apart = (refl, refl)
@@ -153,13 +153,13 @@ writes_apart (w ∷ ws) s i apart =
     (rest.0 ∙ put-other s.seen w.at i w.octets apart.0, rest.1 ∙ put-other s.pending w.at i true apart.0)
 
 -- none of them is durable
-writes_durable : (ws : List Write) (s : DiskState) → (state_after_writes s ws).durable ≡ s.durable
+pub writes_durable : (ws : List Write) (s : DiskState) → (state_after_writes s ws).durable ≡ s.durable
 unfolding state_after_writes
 writes_durable [] s = refl
 writes_durable (w ∷ ws) s = writes_durable ws (state_after_write s w.at w.octets)
 
 -- after them reads give the sectors that were written
-bodies_seen : (rs : List Record) (s : DiskState) (area place : ℕ)
+pub bodies_seen : (rs : List Record) (s : DiskState) (area place : ℕ)
     → (state_after_writes s (body_writes area place rs)).seen ≡ image_with_bodies s.seen area place rs
 unfolding state_after_writes body_writes image_with_bodies
 bodies_seen [] s area place = refl
@@ -239,7 +239,7 @@ cleared = record {
 }
 
 -- a sector that is none of the three is none of those that were written until then
-first_apart : (P : Write → Type 0) (n : ℕ) (ws : List Write) → AllByRecursion P ws → AllByRecursion P (take n ws)
+pub first_apart : (P : Write → Type 0) (n : ℕ) (ws : List Write) → AllByRecursion P ws → AllByRecursion P (take n ws)
 first_apart P zero ws all = tt
 first_apart P (suc n) [] all = tt
 first_apart P (suc n) (w ∷ ws) all = (all.0, first_apart P n ws all.1)
@@ -251,7 +251,7 @@ three_apart i apart none =
     (apart, (none 0 (omega arith), (none 1 (omega arith), tt)))
 
 -- how many of the first three writes were made, some calls after the sync
-some_of : (n : ℕ) → n ≤ 3 → (ws : List Write) → take n ws ≡ take n (take 3 ws)
+pub some_of : (n : ℕ) → n ≤ 3 → (ws : List Write) → take n ws ≡ take n (take 3 ws)
 some_of zero le ws = refl
 some_of (suc n) le [] = refl
 some_of (suc zero) le (a ∷ ws) = refl
@@ -277,7 +277,7 @@ first_two zero lt = subst (λ (rs : List Record). slice_get (take 2 rs) 0 ≡ sl
 first_two (suc zero) lt = subst (λ (rs : List Record). slice_get (take 2 rs) 1 ≡ slice_get rs 1) (sym snapshot-is) refl
 first_two (suc (suc n)) lt = absurd (omega (arith, lt))
 
-each_at : (rs : List Record) (j : ℕ) (r : Record) → AllByRecursion IsRecord rs → slice_get rs j ≡ Some r → IsRecord r
+pub each_at : (rs : List Record) (j : ℕ) (r : Record) → AllByRecursion IsRecord rs → slice_get rs j ≡ Some r → IsRecord r
 each_at [] j r are is = absurd (cc)
 each_at (x ∷ rs) zero r are is = let same : x ≡ r = cc in subst IsRecord same are.0
 each_at (x ∷ rs) (suc j) r are is = each_at rs j r are.1 is

@@ -28,6 +28,7 @@ use Rattle.macs_journal.specs.Appending.{free_body, free_gate}
 use Rattle.macs_journal.specs.Areas.{gate, head_body, least_sectors, slot_body, slots}
 use Rattle.macs_journal.specs.Compacting.{compacted, next_head}
 use Rattle.macs_journal.specs.Found.{Content, HasJournal, IsGateOpen, content_with_record}
+use Rattle.macs_journal.specs.Value.{IsHolding}
 use Rattle.macs_journal.proofs.Current.{alone}
 use Rattle.macs_rxsc.specs.Receive.{Numbers, first_numbers, numbers_after_delivery, numbers_after_hold}
 use Rattle.macs_store.specs.Found.{IsToMigrate, StandAlike, StandingIs}
@@ -41,9 +42,9 @@ use Rattle.macs_endpoint.specs.State.{Commands, RefusedLong, State, rx_side, sta
 use Rattle.macs_endpoint.specs.Step.{Exchange, Step, Steps, state_after_command, state_after_delivery, state_after_frame, state_after_hold}
 use Rattle.macs_headline.specs.Binding.{HasHistory}
 use Rattle.macs_headline.specs.Example.{add_peer, example_identity, example_plain, example_sectors, install_own, install_own_again, install_peer, install_peer_again, own_key, own_sa, peer_frame, peer_key, peer_sa, peer_sci, stay_strict, use_own}
-use Rattle.macs_headline.specs.ExampleCuts.{body_writes, state_after_writes}
+use Rattle.macs_headline.specs.ExampleCuts.{body_writes, place_behind, state_after_writes}
 use Rattle.macs_headline.specs.ExampleLives.{obeyed}
-use Rattle.macs_headline.specs.ExampleMigration.{IsOldDisk, IsWorkedMigration, again_content, again_exchanges, again_image, beginning_disk, begun_image, closed_image, filled_content, filled_image, filled_records, filled_snapshot, filled_standing, front_exchanges, install_long, later_lives, long_config, long_content, long_exchanges, long_image, long_records, long_standing, migrated_content, migrated_image, old_content, old_exchanges, old_head, old_image, old_lives, old_records, spent_exchanges, used_config, used_content, used_image, used_records, used_standing}
+use Rattle.macs_headline.specs.ExampleMigration.{IsOldDisk, IsWorkedMigration, again_content, again_exchanges, again_image, beginning_disk, beginning_in_hand, begun_image, closed_image, filled_content, filled_image, filled_records, filled_snapshot, filled_standing, front_exchanges, install_long, later_lives, long_config, long_content, long_exchanges, long_image, long_records, long_standing, migrated_content, migrated_image, old_content, old_exchanges, old_head, old_image, old_lives, old_records, spent_exchanges, used_config, used_content, used_image, used_records, used_standing}
 use Rattle.macs_headline.specs.History.{Blank, Formats, Formatted, IsHistory, IsLifeSoFar, Leads, formatted_state}
 use Rattle.macs_headline.specs.Images.{blank_image, image_with_area, image_with_bodies, image_with_next_body, image_with_record, image_with_records}
 use Rattle.macs_headline.proofs.Built.{area-other, closed-gate, opened-found, opened-other, records-found, records-other}
@@ -73,7 +74,7 @@ old_range = record {
   rx_block = head-range.rx_block;
 }
 
-next_range : IsHead (next_head used_content.head 3)
+pub next_range : IsHead (next_head used_content.head 3)
 next_range = record {
   generation = omega arith;
   generations = omega arith;
@@ -90,7 +91,7 @@ settings_range = ((omega arith, tt), tt)
 old_ranges : AllByRecursion IsRecord old_records
 old_ranges = ((omega arith, inl (key-range 1 (omega arith)), (omega arith, omega arith)), (omega arith, tt))
 
-used_ranges : AllByRecursion IsRecord used_records
+pub used_ranges : AllByRecursion IsRecord used_records
 used_ranges = (
   (omega arith, omega arith),
   (
@@ -123,13 +124,13 @@ old_found =
     opened-found blank_image 0 old_head (default_settings ∷ []) (omega arith) old_range refl (omega arith) settings_range
     (λ j lt. closed-gate blank_image 0 (j + 1) refl) (λ opens. absurd (closed_old 0 opens))
 
-used_found : HasJournal used_image used_content
+pub used_found : HasJournal used_image used_content
 used_found = records-found old_records old_image old_content (omega arith) old_ranges old_found
 
 far_used : (i : ℕ) → 514 ≤ i → used_image i ≡ zero_sector
 far_used i far = records-other old_records old_image old_content i (omega arith) far ∙ far_old i far
 
-closed_used : (k : ℕ) → ¬ IsGateOpen used_image 1 k
+pub closed_used : (k : ℕ) → ¬ IsGateOpen used_image 1 k
 closed_used k = closed-gate used_image 1 k (far_used (gate 1 k) (omega arith))
 
 begun_found : HasJournal begun_image used_content
@@ -748,11 +749,13 @@ module _ (peer : All (λ octet. octet < 2 ^ 8) (peer_frame 5)) where
     ),
   )
 
-  pub is-worked-migration : IsWorkedMigration
-  is-worked-migration = record {
+  pub is-worked-migration : IsHolding beginning_disk (place_behind used_content) beginning_in_hand used_content migrated_content → IsWorkedMigration
+  is-worked-migration beginning = record {
+    as_old = λ disk honest size settled. record { honest = honest; size = size; settled = settled };
     formatted = old_history;
     ours = λ disk is. older first_edition this_edition up_to_this disk old_lives (old_history disk is);
     old = used_is;
+    beginning = beginning;
     left_begun = left_begun;
     begun = begun_found;
     anew = subst (λ (records : List Record). HasJournal migrated_image (compacted used_content records)) (sym snapshot_is) migrated_found;

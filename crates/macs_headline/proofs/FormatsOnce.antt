@@ -8,11 +8,11 @@ use Rattle.macs_headline.proofs.Openings.{refused-for-disk-or-blank, refused-for
 use Rattle.macs_headline.proofs.Refusals.{IsFormatted, formatted-by}
 
 -- a list of lives, in two parts
-lead_front : (sectors : ℕ) (before more : List Life) (old new : Past) → LeadOn sectors old (before ++ more) new
+pub lead-front : (sectors : ℕ) (before more : List Life) (old new : Past) → LeadOn sectors old (before ++ more) new
     → (mid : Past) × LeadOn sectors old before mid × LeadOn sectors mid more new
-lead_front sectors [] more old new leads = (old, refl, leads)
-lead_front sectors (life ∷ before) more old new (next, leads, rest) =
-    let parts = lead_front sectors before more next new rest in
+lead-front sectors [] more old new leads = (old, refl, leads)
+lead-front sectors (life ∷ before) more old new (next, leads, rest) =
+    let parts = lead-front sectors before more next new rest in
     (parts.0, (next, leads, parts.1), parts.2)
 
 -- lives that lead to a disk that is not formatted for sure
@@ -31,7 +31,7 @@ pub formats-once : (sectors : ℕ) → FormatsOnce sectors
 formats-once sectors lives past history before after edition identity there =
     let whole : LeadOn sectors (Blank []) (before ++ Formats edition identity true ∷ after) past =
     subst (λ (lives : List Life). LeadOn sectors (Blank []) lives past) (sym there) history in
-    let parts = lead_front sectors before (Formats edition identity true ∷ after) (Blank []) past whole in
+    let parts = lead-front sectors before (Formats edition identity true ∷ after) (Blank []) past whole in
     let next = parts.2 in
     unformatted sectors before parts.0 parts.1 (not_before parts.0 edition identity next.0 next.1)
 

@@ -56,12 +56,15 @@ pub mod Chains
 pub mod Answered
 pub mod Logged
 pub mod GoingOn
+pub mod Origins
 pub mod Configurations
 pub mod ExactEnds
 pub mod Moments
 pub mod BegunAnew
 pub mod Idling
 pub mod Cases
+pub mod Words
+pub mod Beyond
 pub mod Spending
 pub mod Tickets
 pub mod RefusedDays
@@ -80,4 +83,5 @@ pub mod ExampleStates
 pub mod ExampleFits
 pub mod ExampleHistory
 pub mod ExampleMigration
+pub mod ExampleBeginning
 mod DiskFiles

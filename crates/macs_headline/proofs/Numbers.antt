@@ -78,7 +78,7 @@ level None m is = absurd (cc)
 level (Some c) m is = (m, is, omega arith)
 
 -- no number that was delivered before this life is at or above a lowest number, at its opening
-floor-opening : (found : Standing) (logs : Logs) → IsSoundRx (core (opened_state found logs))
+pub floor-opening : (found : Standing) (logs : Logs) → IsSoundRx (core (opened_state found logs))
     → IsRxLedger (λ n. n.lowest) (IsGiven logs.given) (core (opened_state found logs))
 floor-opening found logs is =
     let numbers = λ (sci : List ℕ) (an : ℕ). option_map first_numbers (found.ceilings.rx sci an) in
@@ -90,7 +90,7 @@ floor-opening found logs is =
     is
 
 -- and later
-floor-steps : (log : List ℕ × List ℕ → ℕ → Type 0) (old : State) (exchanges : List Exchange) (new : State) → Steps old exchanges new
+pub floor-steps : (log : List ℕ × List ℕ → ℕ → Type 0) (old : State) (exchanges : List Exchange) (new : State) → Steps old exchanges new
     → IsRxLedger (λ n. n.lowest) log (core old) → IsRxLedger (λ n. n.lowest) log (core new)
 floor-steps log old [] new steps is = subst (λ (s : State). IsRxLedger (λ n. n.lowest) log (core s)) (sym steps) is
 floor-steps log old (e ∷ es) new steps is =
@@ -103,9 +103,9 @@ floor-steps log old (e ∷ es) new steps is =
 some_and : (o : Option ℕ) (m pn : ℕ) → o ≡ Some m → pn < m → IsSomeAnd o (λ next. pn < next)
 some_and o m pn is below = subst (λ (o : Option ℕ). IsSomeAnd o (λ next. pn < next)) (sym is) below
 
-ceiling_is : (o : Option ℕ) (m : ℕ) → option_map (λ (n : Numbers). n.next) (option_map first_numbers o) ≡ Some m → o ≡ Some m
-ceiling_is None m is = absurd (cc)
-ceiling_is (Some c) m is = is
+pub ceiling-is : (o : Option ℕ) (m : ℕ) → option_map (λ (n : Numbers). n.next) (option_map first_numbers o) ≡ Some m → o ≡ Some m
+ceiling-is None m is = absurd (cc)
+ceiling-is (Some c) m is = is
 
 pub beyond_tx : (found : Standing) (logs : Logs) → IsSound (core (opened_state found logs)) → (key : List ℕ) (pn : ℕ) → WasUsed logs key pn → IsBeyondTx found key pn
 beyond_tx found logs is key pn used = record {
@@ -121,7 +121,7 @@ beyond_rx found logs is sci key pn was = record {
   spent = is.rx.logged (sci, key) pn was;
   below = λ an sa is_sa is_key.
       let here = is.rx.below (sci, an) (sci, key) (ap (pair_of sci) is_sa ∙ ap (λ (k : List ℕ). Some (sci, k)) is_key) in
-      some_and (found.ceilings.rx sci an) here.0 pn (ceiling_is (found.ceilings.rx sci an) here.0 here.1) (here.2 pn was);
+      some_and (found.ceilings.rx sci an) here.0 pn (ceiling-is (found.ceilings.rx sci an) here.0 here.1) (here.2 pn was);
 }
 
 -- ---- what is skipped

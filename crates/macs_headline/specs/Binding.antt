@@ -122,12 +122,16 @@ ChainsAnswer {D} disk_of = (old : D) (links : List (Link D)) (link : Link D) (fi
     (turn : Transition D) → Contains links link → link.deed ≡ Living first turns last cut → Contains turns turn
     → Contains (exchanges_of_lives (lives_of_links disk_of old links)) (exchange_of turn)
 
--- What a chain's lives tell of a deed: a `format` with whether it answered Ok, and an opening that was refused with its fault.
+-- What a chain's lives tell of a deed: a `format` with whether it answered Ok, or one that was cut short; an opening that was refused with its fault; and
+-- what an endpoint did, with its answers and the call that is cut short, also where it answered no call.
 pub record IsTold {D : Type 0} (lives : List Life) (deed : Deed D) : Type 0 where
   pub formatted : (identity : Identity) → deed ≡ Formatting identity (Ok tt) → Contains lives (Formats this_edition identity true)
   pub not_formatted : (identity : Identity) (fault : JournalFault) → deed ≡ Formatting identity (Err fault)
       → Contains lives (Formats this_edition identity false)
+  pub format_cut : (identity : Identity) → deed ≡ FormattingCut identity → Contains lives (Formats this_edition identity false)
   pub refused : (fault : JournalFault) → deed ≡ Refusing fault → (image : Image) × Contains lives (Refuses this_edition image fault)
+  pub served : (first last : EndpointValue D) (turns : List (Transition D)) (cut : Option Call) → deed ≡ Living first turns last cut
+      → (image : Image) × Contains lives (Serves this_edition image (map exchange_of turns) cut)
 
 -- so each deed of a chain is told
 abbrev pub ChainsTell : {D : Type 0} → (D → Disk) → Type 0
@@ -400,7 +404,7 @@ pub record OpeningsBeginAnew {D : Type 0} (disk_of : D → Disk) : Type 0 where
       → (image : Image) → MayLeave (disk_in disk_of first) image → HasFormat image Two
   pub anew : (disk : D) (first : EndpointValue D) (c : Content) → IsHonest (disk_of disk) → IsOpening disk_of disk (Ok first)
       → HasJournal (now (disk_of disk)).seen c → c.head.format ≡ One
-      → (after : Content) × IsBegunAnew c after (standing_in first.store)
+      → (after : Content) × IsBegunAnew c after (standing_in first.store) × StandsFor this_edition (now (disk_of disk)).seen (standing_in first.store)
       × ((image : Image) → MayLeave (disk_in disk_of first) image → HasJournal image after × StandsFor this_edition image (standing_in first.store))
   pub last : (disk : D) (first : EndpointValue D) (c : Content) → IsHonest (disk_of disk) → IsOpening disk_of disk (Ok first)
       → HasJournal (now (disk_of disk)).seen c → c.head.format ≡ One → c.head.generation ≢ 2 ^ 64 - 1

@@ -6,16 +6,25 @@ use Rattle.macs_config.specs.declared.command.Command.{Command}
 use Rattle.macs_disk.specs.States.{Image}
 use Rattle.macs_store.specs.Found.{StandingIs}
 use Rattle.macs_store.specs.Standing.{Standing}
-use Rattle.macs_endpoint.specs.State.{Call}
+use Rattle.macs_endpoint.specs.State.{Call, State}
 use Rattle.macs_endpoint.specs.Step.{Exchange}
+use Rattle.macs_headline.specs.Begun.{WasBegun}
 use Rattle.macs_headline.specs.Commands.{CommandsMake, IsPrefix, WasHandedIn, accepted_commands, acknowledged_commands}
-use Rattle.macs_headline.specs.History.{Formats, Life, Past, Refuses, Serves}
-use Rattle.macs_headline.specs.Moments.{IsFoundAfter}
+use Rattle.macs_headline.specs.History.{Formats, Life, Past, Refuses, Serves, state_at_end}
+use Rattle.macs_headline.specs.Moments.{IsFoundAfter, Moment}
 
--- The commands of a life that are kept: a prefix of those that were accepted that holds every acknowledged one. The one in hand at its end, if one was,
--- was given to a call of this life.
-pub record AreKept (exchanges : List Exchange) (cut : Option Call) (kept : List Command) : Type 0 where
+-- The commands of a life that are kept: a prefix of those that were accepted that holds every acknowledged one. The one in hand is the one at its end, which
+-- comes after a moment of it with these answers; if one was, it was given to a call of this life, and work on it had begun, or may have in the call that was
+-- cut short.
+pub record AreKept (sectors : ℕ) (edition : Edition) (image : Image) (exchanges : List Exchange) (cut : Option Call) (kept : List Command) : Type 0 where
+  pub last : State
+  pub moment : Moment sectors last
+  pub of_edition : moment.edition ≡ edition
+  pub opened : moment.image ≡ image
+  pub answered : moment.exchanges ≡ exchanges
   pub in_hand : Option Command
+  pub at_end : in_hand ≡ (state_at_end last cut).in_hand
+  pub begun : (command : Command) → in_hand ≡ Some command → WasBegun exchanges last cut command
   pub handed_in : (command : Command) → in_hand ≡ Some command → WasHandedIn exchanges cut command
   pub acknowledged : IsPrefix (acknowledged_commands exchanges) kept
   pub accepted : IsPrefix kept (accepted_commands exchanges in_hand)
@@ -24,14 +33,14 @@ pub record AreKept (exchanges : List Exchange) (cut : Option Call) (kept : List 
 abbrev pub StandsFor : ℕ → Edition → Image → Config → Type 0
 StandsFor sectors edition image config = (found : Standing) × StandingIs edition sectors image (Ok found) × (found.config ≡ config)
 
--- These lives make new of a configuration. Each in which an endpoint served opened an image that stands for the configuration so far, and makes of it what the
--- commands make that are kept of this life, which its edition accepts at their turns. A `format` and an opening that is refused make nothing.
+-- These lives make new of a configuration. Each in which an endpoint served opened an image that stands for the configuration so far, and makes of it what
+-- the commands make that are kept of this life, which its edition accepts at their turns. A `format` and an opening that is refused make nothing.
 abbrev pub LivesMake : ℕ → Identity → (old : Config) → List Life → (new : Config) → Type 0
 LivesMake sectors identity old [] new = new ≡ old
 LivesMake sectors identity old (Formats edition given is_ok ∷ lives) new = LivesMake sectors identity old lives new
 LivesMake sectors identity old (Refuses edition image fault ∷ lives) new = LivesMake sectors identity old lives new
 LivesMake sectors identity old (Serves edition image exchanges cut ∷ lives) new =
-    StandsFor sectors edition image old × (kept : List Command) × AreKept exchanges cut kept
+    StandsFor sectors edition image old × (kept : List Command) × AreKept sectors edition image exchanges cut kept
     × (mid : Config) × CommandsMake edition identity old kept mid × LivesMake sectors identity mid lives new
 
 -- What is found after lives has the identity that a `format` was given which answered Ok, where one did; and it is the configuration that the lives make of

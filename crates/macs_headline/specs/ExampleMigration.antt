@@ -17,9 +17,13 @@ use Rattle.macs_record.specs.declared.format.Format.TheVariants.{One, Two}
 use Rattle.macs_record.specs.declared.record.Record.{Record}
 use Rattle.macs_record.specs.declared.record.Record.TheVariants as kept
 use Rattle.macs_journal.specs.Areas.{gate}
-use Rattle.macs_journal.specs.Compacting.{compacted}
+use Rattle.macs_journal.specs.Compacting.{compacted, next_head}
 use Rattle.macs_journal.specs.Formatting.{first_head}
 use Rattle.macs_journal.specs.Found.{Content, HasJournal}
+use Rattle.macs_journal.specs.Value.{IsHolding}
+use Rattle.macs_journal.specs.declared.compact_stage.CompactStage.TheVariants.{Body}
+use Rattle.macs_journal.specs.declared.hand.Hand.{Hand}
+use Rattle.macs_journal.specs.declared.hand.Hand.TheVariants as hand
 use Rattle.macs_rxsc.specs.declared.verdict.Kind.TheVariants.{Ok as AsOk}
 use Rattle.macs_rxsc.specs.declared.verdict.Verdict.TheVariants.{Delivered, HeldBack}
 use Rattle.macs_store.specs.Found.{IsToMigrate, StandAlike}
@@ -29,7 +33,7 @@ use Rattle.macs_endpoint.specs.State.{Commands, RefusedLong, State}
 use Rattle.macs_endpoint.specs.Step.{Exchange}
 use Rattle.macs_headline.specs.Binding.{HasHistory}
 use Rattle.macs_headline.specs.Example.{add_peer, example_identity, example_plain, example_sectors, install_own, install_own_again, install_peer, install_peer_again, own_key, own_sa, peer_sa, peer_sci, stay_strict, use_own}
-use Rattle.macs_headline.specs.ExampleCuts.{compaction_states, disk_through}
+use Rattle.macs_headline.specs.ExampleCuts.{compaction_states, disk_through, place_behind}
 use Rattle.macs_headline.specs.ExampleLives.{answered, obeyed, own_use, peer_delivery, received, refilled, refused, sent}
 use Rattle.macs_headline.specs.History.{Formats, Formatted, IsHistory, Life, Serves}
 use Rattle.macs_headline.specs.Images.{blank_image, compacted_image, content_with_records, image_while_compacted, image_with_area, image_with_open_head, image_with_records}
@@ -102,6 +106,10 @@ begun_image = image_while_compacted used_image used_content 3 (take 2 used_recor
 -- The disk then, from the call on that is next to find it: 257 reads of gates and a sync changed nothing, and three writes followed.
 abbrev pub beginning_disk : Disk
 beginning_disk = disk_through (compaction_states used_image used_content used_records) 261
+
+-- and what is in hand then: the call that is next writes the snapshot's third body
+abbrev pub beginning_in_hand : Hand
+beginning_in_hand = hand.Compact (record { head = next_head used_content.head (length used_records); stage = Body 2 })
 
 -- the next one finishes that: the journal is in the second area, in format two
 abbrev pub migrated_content : Content
@@ -204,14 +212,16 @@ later_lives =
     ∷ Serves this_edition again_image again_exchanges None
     ∷ []
 
--- Such a disk has that history to the edition that formatted it, and so to this one, which names no such refusal. To this one it is to begin anew. While that
--- is done, also where a power loss cuts it, it stands for what it stood for, and so it does once it is done, in the second area and in format two. So lives of
--- this edition go on from it, with keys of both lengths side by side, and the journal begins anew once more, in the first area. Over all of them four frames
--- went out under the short key, and one was delivered under the long one.
+-- Such is each honest disk of that size with that image and nothing pending. It has that history to the edition that formatted it, and so to this one, which
+-- names no such refusal. To this one it is to begin anew. While that is done, also where a power loss cuts it, it stands for what it stood for, and so it does
+-- once it is done, in the second area and in format two. So lives of this edition go on from it, with keys of both lengths side by side, and the journal
+-- begins anew once more, in the first area. Over all of them four frames went out under the short key, and one was delivered under the long one.
 pub record IsWorkedMigration : Type 0 where
+  pub as_old : (disk : Disk) → IsHonest disk → disk.sectors ≡ example_sectors → now disk ≡ settled_state used_image → IsOldDisk disk
   pub formatted : (disk : Disk) → IsOldDisk disk → HasHistory first_edition disk old_lives
   pub ours : (disk : Disk) → IsOldDisk disk → HasHistory this_edition disk old_lives
   pub old : IsToMigrate this_edition used_image used_content (used_standing this_edition)
+  pub beginning : IsHolding beginning_disk (place_behind used_content) beginning_in_hand used_content migrated_content
   pub left_begun : MayLeave beginning_disk begun_image
   pub begun : HasJournal begun_image used_content
   pub anew : HasJournal migrated_image (compacted used_content (snapshot (used_standing this_edition)))

@@ -21,12 +21,15 @@ pub mod Begun
 pub mod Stopping
 pub mod Logged
 pub mod GoingOn
+pub mod Origins
 pub mod Openings
 pub mod Formats
 pub mod Deeds
 pub mod Endings
 pub mod Binding
 pub mod Cases
+pub mod Words
+pub mod Beyond
 pub mod Days
 pub mod Nights
 pub mod Watches

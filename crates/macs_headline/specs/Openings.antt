@@ -17,10 +17,10 @@ use Rattle.macs_headline.specs.Moments.{IsFoundAfter}
 abbrev pub IsSpentFor : Edition → Image → JournalFault → Type 0
 IsSpentFor edition image fault = (fault ≡ GenerationsSpent) × IsAtLast edition image
 
--- That is a journal of format one, in generation 2^64 - 1, and the edition reads areas of format two.
+-- That is told as GenerationsSpent, and is a journal of format one, in generation 2^64 - 1, and the edition reads areas of format two.
 abbrev pub SpentAreLast : Type 0
 SpentAreLast = (edition : Edition) (image : Image) (fault : JournalFault) → IsSpentFor edition image fault
-    → (c : Content) × HasJournal image c × (c.head.format ≡ One) × (edition.format_two ≡ true) × (c.head.generation ≡ 2 ^ 64 - 1)
+    → (fault ≡ GenerationsSpent) × (c : Content) × HasJournal image c × (c.head.format ≡ One) × (edition.format_two ≡ true) × (c.head.generation ≡ 2 ^ 64 - 1)
 
 -- once `format` has answered Ok, only for a device call that failed, or for that
 abbrev pub RefusedForDiskOrSpent : ℕ → Type 0

@@ -22,6 +22,7 @@ ghost use Rattle.macs_headline.specs.Binding.{LivesAreMoments, LivesFit, LivesFi
 ghost use Rattle.macs_headline.specs.Binding.{LivesAreDeeds, LivesEndExactly, LivesKeepTickets, TheseAreNew};
 ghost use Rattle.macs_headline.specs.Binding.{NewDeedsAreHistories, OpeningsBeginAnew};
 ghost use Rattle.macs_headline.specs.Binding.{NewDisksHaveHistories, OpeningsFind, PassedOnHaveHistories, RefusalsAreFailures, SettledHaveHistories, SpentAreSpent};
+ghost use Rattle.macs_headline.specs.Beyond.{DeliveredStaysBeyond, SentStaysBeyond};
 ghost use Rattle.macs_headline.specs.Begun.{CutsBegin, CutsChangeNone, InHandWasBegun, OthersBeginNone};
 ghost use Rattle.macs_headline.specs.Cases.{CasesAre};
 ghost use Rattle.macs_headline.specs.Changing.{CommandsChange, IsFirstConfiguration, PrintsAre};
@@ -42,6 +43,7 @@ ghost use Rattle.macs_headline.specs.Numbers.{BeginAsAsked, GivenApart, GivenBel
 ghost use Rattle.macs_headline.specs.Numbers.{SkipsFewReceived, UsedBelow, UsedOnce, UsedOnceAtEnd};
 ghost use Rattle.macs_headline.specs.Moments.{EditionsRise, OfItsEdition};
 ghost use Rattle.macs_headline.specs.Moving.{FramesChangeFew, NoneAppear, NumbersAreSet, NumbersMove, SidesAreConfigured};
+ghost use Rattle.macs_headline.specs.Origins.{ComeUponAlone, LivesCameSo};
 ghost use Rattle.macs_headline.specs.Reasons.{ReasonsAreNamed};
 ghost use Rattle.macs_headline.specs.Received.{ChannelsAreNamed, HeldAreAhead, LateAreDiscarded, SeenAreVerified, TheseAreTimely};
 ghost use Rattle.macs_headline.specs.Received.{TimelyAreDelivered, UnverifiedAreSettled};
@@ -51,6 +53,7 @@ ghost use Rattle.macs_headline.specs.Stopping.{StoppedStays};
 ghost use Rattle.macs_headline.specs.Tickets.{TicketsKept};
 ghost use Rattle.macs_headline.specs.Verdicts.{BareFramesAre, VerdictsAreNamed};
 ghost use Rattle.macs_headline.specs.Windows.{WindowsAreKept};
+ghost use Rattle.macs_headline.specs.Words.{CallWords, CommandWords, EditionWords, OneComesOfIt, ReplyWords};
 ghost use Rattle.macs_headline.specs.Openings.{IdentityWasGiven, NothingChanges, RefusedForDiskOrBlank, RefusedForDiskOrSpent, SpentAreLast};
 
 use crate::example::peer_frame_in_range;
@@ -187,7 +190,7 @@ pub fn headline()
     ensures stopped_stays { (sectors : ℕ) → StoppedStays sectors }
     // After `format` has answered Ok an opening is refused for the disk alone, or for a last generation in an older format.
     ensures refused_for_disk_or_spent { (sectors : ℕ) → RefusedForDiskOrSpent sectors }
-    // That is generation 2^64 - 1 of a journal of format one.
+    // That is told as GenerationsSpent, and is generation 2^64 - 1 of a journal of format one.
     ensures spent_are_last { SpentAreLast }
     // Before that it may also find no journal.
     ensures refused_for_disk_or_blank { (sectors : ℕ) → RefusedForDiskOrBlank sectors }
@@ -201,6 +204,36 @@ pub fn headline()
     ensures identity_was_given { (sectors : ℕ) → IdentityWasGiven sectors }
     // What these clauses list by cases they list whole.
     ensures cases { CasesAre }
+{}
+
+/// Where histories come from: no program comes upon other images, and no moment and no end of a life comes about otherwise.
+pub fn origins()
+    // An image that a program comes upon fits the state before; or, while the disk is not formatted for sure, it is blank or new.
+    ensures come_upon { (sectors : ℕ) → ComeUponAlone sectors }
+    // A moment comes from an opening, or from the moment before it by a step; and each life led from such a moment to its end.
+    ensures lives { (sectors : ℕ) → LivesCameSo sectors }
+{}
+
+/// What an opening found beyond a packet number stays beyond it, in each frame of that life and in each opening after it.
+pub fn beyond()
+    // Of frames that were written, by their keys.
+    ensures sent { (sectors : ℕ) → SentStaysBeyond sectors }
+    // Of frames that were delivered as verified, by SCI and key.
+    ensures delivered { (sectors : ℕ) → DeliveredStaysBeyond sectors }
+{}
+
+/// The words of these laws that say what may be say this and no more.
+pub fn words()
+    // A state of another edition, a content in another format, and what a replay of the journal accepts.
+    ensures editions { EditionWords }
+    // What each command is on.
+    ensures commands { CommandWords }
+    // Under which association a frame goes out or comes in, which number was seen, and in which call work may begin.
+    ensures calls { CallWords }
+    // Which reply is of which function.
+    ensures replies { ReplyWords }
+    // One verdict, one journal and one failure come of it.
+    ensures one { OneComesOfIt }
 {}
 
 /// What comes first in an order, of faults, reasons or steps: the first one, where it holds; else
@@ -267,7 +300,7 @@ pub fn histories<D: SectorDisk>()
     ensures sizes { ChainsKeepSizes D.disk }
     // What their endpoints answered is among what the lives answered.
     ensures answers { ChainsAnswer D.disk }
-    // And so is what `format` answered, and for what an opening was refused.
+    // And so is what `format` answered, also one that was cut short, for what an opening was refused, and what an endpoint did.
     ensures told { ChainsTell D.disk }
     // And nothing else is told: each of the lives is what one of the deeds is.
     ensures told_alone { LivesAreDeeds D.disk }
