@@ -27,7 +27,7 @@ pub(super) struct Known {
 #[derive(Clone, Copy)]
 pub(super) struct Passed {
     /// The greatest packet number that went out under each of the script's keys, 0 where none did.
-    pub(super) sent: [u32; 2],
+    pub(super) sent: [u32; 3],
     /// The peer's frames from packet number 1 to this one were delivered.
     pub(super) delivered: u32,
 }
@@ -41,7 +41,7 @@ impl Known {
             is_in_hand: false,
             is_formatted: false,
             passed: Passed {
-                sent: [0; 2],
+                sent: [0; 3],
                 delivered: 0,
             },
         }

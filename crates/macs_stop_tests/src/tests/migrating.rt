@@ -6,7 +6,7 @@ use super::disks::{blank, copy, durable};
 use super::judging::{judge, open_fused};
 use super::known::Known;
 use super::life::take;
-use super::script::{Part, SCRIPT};
+use super::script::{Asked, Part, SCRIPT};
 use super::stops::{After, Totals, lose_in_each_way};
 use super::tearing::Pending;
 use macs_disk::{MemDisk, SectorDisk};
@@ -71,16 +71,30 @@ fn make_older(rt: &impl Abort, disk: &mut MemDisk, at: u64) {
     disk.crash();
 }
 
-/// Plays the parts of the script from one to before another.
-fn play_parts<D: SectorDisk>(
+/// A part of the script as an older program takes it, which has no keys of 256 bits.
+fn older_part(part: Part) -> Part {
+    match part {
+        Part::Keeps(Asked::Installs(1, 1)) => Part::Keeps(Asked::Installs(1, 2)),
+        _ => part,
+    }
+}
+
+/// Plays so many parts of the script, from the first on, as an older program takes them.
+fn play_older<D: SectorDisk>(
     rt: &impl Abort,
     endpoint: &mut Endpoint<D>,
     known: &mut Known,
-    first: usize,
     end: usize,
 ) {
-    for place in first..end {
+    for place in 0..end {
         assert!(rt; place < SCRIPT.len());
+        assert!(rt; take(rt, endpoint, known, older_part(SCRIPT[place])).is_ok());
+    }
+}
+
+/// Plays the parts of the script after those of the young disk.
+fn play_rest<D: SectorDisk>(rt: &impl Abort, endpoint: &mut Endpoint<D>, known: &mut Known) {
+    for place in PARTS..SCRIPT.len() {
         assert!(rt; take(rt, endpoint, known, SCRIPT[place]).is_ok());
     }
 }
@@ -98,7 +112,7 @@ fn older(rt: &impl Abort, alloc: Global, old: Old) -> Cut {
                 Old::Young => PARTS,
                 Old::Grown => SCRIPT.len(),
             };
-            play_parts(rt, &mut endpoint, &mut known, 0, end);
+            play_older(rt, &mut endpoint, &mut known, end);
             let mut disk = endpoint.into_disk();
             make_older(rt, &mut disk, 0);
             if let Old::Grown = old {
@@ -162,15 +176,15 @@ fn a_migration_has_so_many_device_calls(rt: HostRuntime) {
     expect_calls(&rt, rt.alloc(), Old::Grown, GROWN_CALLS);
 }
 
-/// The rest of the script is played on the young disk, and as many records more as an area has slots: the journal begins
-/// anew over the area that was of format one, whose gates are open.
+/// The rest of the script is played on the young disk, with a key of 256 bits beside the short one, and as many records more as
+/// an area has slots: the journal begins anew over the area that was of format one, whose gates are open.
 #[test]
 fn the_script_goes_on_behind_a_migration(rt: HostRuntime) {
     let Cut { disk, mut known } = older(&rt, rt.alloc(), Old::Young);
     match Endpoint::open(disk) {
         Ok(mut endpoint) => {
             known.catch_up(&rt, &endpoint);
-            play_parts(&rt, &mut endpoint, &mut known, PARTS, SCRIPT.len());
+            play_rest(&rt, &mut endpoint, &mut known);
             assert!(rt; take(&rt, &mut endpoint, &mut known, Part::Windows(AREA)).is_ok());
             let mut disk = endpoint.into_disk();
             disk.crash();

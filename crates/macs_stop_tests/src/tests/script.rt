@@ -6,8 +6,9 @@ use macs_config::{Command, Refusal};
 use macs_frame::An;
 use std::process::Abort;
 
-/// The keys of the two transmit associations that the script installs.
-pub(super) const KEYS: [Key; 2] = [Key::Short([1; 16]), Key::Short([2; 16])];
+/// The keys of the two transmit associations that the script installs. The second has 256 bits; an older program takes the
+/// third in its place.
+pub(super) const KEYS: [Key; 3] = [Key::Short([1; 16]), Key::Long([2; 32]), Key::Short([2; 16])];
 
 /// The key of the peer's association.
 pub(super) const PEER_KEY: Key = Key::Short([3; 16]);
