@@ -11,7 +11,7 @@ use Rattle.macs_endpoint.specs.State.{Call}
 use Rattle.macs_endpoint.specs.Step.{Exchange}
 use Rattle.macs_endpoint.specs.Value.{EndpointValue, IsSoundEndpoint}
 use Rattle.macs_headline.specs.Answered.{exchanges_in, exchanges_of_lives}
-use Rattle.macs_headline.specs.Binding.{CallsAreDeeds, ChainsAnswer, ChainsKeepSizes, ChainsTell, DeedsAreHistories, FusesChangeNone, HasHistory, IsLifeOf, LivesAreDeeds, NewDeedsAreHistories, NewDisksHaveHistories, PassedOnHaveHistories, SettledHaveHistories, TheseAreNew}
+use Rattle.macs_headline.specs.Binding.{CallsAreDeeds, ChainsAnswer, ChainsKeepSizes, ChainsTell, DeedsAreHistories, FittingHaveHistories, FusesChangeNone, HasHistory, IsLifeOf, LivesAreDeeds, NewDeedsAreHistories, NewDisksHaveHistories, PassedOnHaveHistories, SettledHaveHistories, TheseAreNew}
 use Rattle.macs_headline.specs.Deeds.{Chain, Deed, Does, Formatting, FormattingCut, IsPassedOn, Link, Living, OpeningCut, PassingOn, Refusing, lives_of_deed, lives_of_links}
 use Rattle.macs_headline.specs.History.{Blank, FitsPast, Formats, IsHistory, LeadOn, Life, Past, Refuses, Serves}
 use Rattle.macs_headline.proofs.Formats.{format-answered, format-cut}
@@ -33,6 +33,10 @@ these-are-new disk honest large closed = record { honest = honest; large = large
 -- a disk that is new
 pub new-disks : NewDisksHaveHistories
 new-disks edition disk new = record { honest = new.honest; past = Blank []; history = refl; images = λ image left. inl (new.large, new.closed image left) }
+
+-- a disk of which each image fits
+pub fitting-disks : FittingHaveHistories
+fitting-disks edition disk lives past honest history images = record { honest = honest; past = past; history = history; images = images }
 
 -- a disk on which nothing is pending
 pub settled-disks : SettledHaveHistories

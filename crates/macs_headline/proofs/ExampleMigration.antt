@@ -24,12 +24,13 @@ use Rattle.macs_record.specs.Layout.{IsRecord, sector_of}
 use Rattle.macs_record.specs.Settings.{default_settings}
 use Rattle.macs_record.specs.declared.record.Record.{Record}
 use Rattle.macs_record.specs.declared.record.Record.TheVariants as kept
-use Rattle.macs_journal.specs.Appending.{free_body, free_gate}
+use Rattle.macs_journal.specs.Appending.{HasEitherJournal, free_body, free_gate}
 use Rattle.macs_journal.specs.Areas.{gate, head_body, least_sectors, slot_body, slots}
 use Rattle.macs_journal.specs.Compacting.{compacted, next_head}
 use Rattle.macs_journal.specs.Found.{Content, HasJournal, IsGateOpen, content_with_record}
 use Rattle.macs_journal.specs.Value.{IsHolding}
 use Rattle.macs_journal.proofs.Current.{alone}
+use Rattle.macs_journal.proofs.Holding.{holding-image}
 use Rattle.macs_rxsc.specs.Receive.{Numbers, first_numbers, numbers_after_delivery, numbers_after_hold}
 use Rattle.macs_store.specs.Found.{IsToMigrate, StandAlike, StandingIs}
 use Rattle.macs_store.specs.Replay.{meaning_of, snapshot_of}
@@ -641,6 +642,29 @@ tx_long false = refl
 fits_begun : Fits this_edition example_sectors begun_image old_end
 fits_begun = record { found = used_standing this_edition; is_found = begun_is; restart = inl (old_resumed this_edition up_to_this) }
 
+-- while the journal begins anew a power loss leaves the one or the other
+fits_either : (image : Image) → HasEitherJournal used_content migrated_content image → Fits this_edition example_sectors image old_end
+fits_either image (inl found) = record {
+  found = used_standing this_edition;
+  is_found = (omega arith, record { content = used_content; found = found; stands = used_this });
+  restart = inl (old_resumed this_edition up_to_this);
+}
+fits_either image (inr found) = record {
+  found = used_standing this_edition;
+  is_found = (omega arith, record { content = migrated_content; found = found; stands = migrated_meaning });
+  restart = inl (old_resumed this_edition up_to_this);
+}
+
+beginning_history : IsHolding beginning_disk (place_behind used_content) beginning_in_hand used_content migrated_content
+    → HasHistory this_edition beginning_disk old_lives
+beginning_history beginning = record {
+  honest = refl;
+  past = Formatted old_end;
+  history = (Formatted made, formatted_life, (Formatted old_end, (old_end, old_life example_sectors (omega arith), tt, refl), refl));
+  images = λ image left. fits_either image
+      (holding-image beginning_disk (place_behind used_content) beginning_in_hand used_content migrated_content beginning image left);
+}
+
 fits_long : Fits this_edition example_sectors long_image long_end
 fits_long = record {
   found = long_standing;
@@ -756,9 +780,11 @@ module _ (peer : All (λ octet. octet < 2 ^ 8) (peer_frame 5)) where
     ours = λ disk is. older first_edition this_edition up_to_this disk old_lives (old_history disk is);
     old = used_is;
     beginning = beginning;
+    cut_short = beginning_history beginning;
     left_begun = left_begun;
     begun = begun_found;
     anew = subst (λ (records : List Record). HasJournal migrated_image (compacted used_content records)) (sym snapshot_is) migrated_found;
+    moved = (refl, refl, migrated_found);
     alike = used_alike;
     full = refl;
     again = (refl, refl, refl, again_found);

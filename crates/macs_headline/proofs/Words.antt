@@ -47,6 +47,7 @@ edition-words = record {
   in_format = λ format c. refl;
   and_as_it_was = λ format c. refl;
   accepted = λ s command config is. ap (λ (r : Result Config RefusalReason). standing_or_refusal s command r) is;
+  formatted = λ edition identity. refl;
 }
 
 -- ---- commands

@@ -1,5 +1,5 @@
 -- The headline on the command in hand: where work on it may have begun, and that it is accepted.
-use Rattle.std.specs.Prelude.{◌≡◌, ◌⊎◌, ℕ, false, List, [], Option, Some, None}
+use Rattle.std.specs.Prelude.{◌≡◌, ◌≢◌, ◌⊎◌, ℕ, true, false, List, [], Option, Some, None}
 use Rattle.macs_config.specs.declared.command.Command.{Command}
 use Rattle.macs_endpoint.specs.Queue.{first_command}
 use Rattle.macs_endpoint.specs.State.{Advances, Call, Commands, Reply, State, state_with_in_hand}
@@ -45,3 +45,11 @@ abbrev pub CutsBegin : Type 0
 CutsBegin = (s : State) (command : Command) → s.stopped ≡ false → refusal_at s command ≡ None
     → (s.waiting ≡ [] → state_at_end s (Some (Commands command)) ≡ state_with_in_hand s command)
     × (s.in_hand ≡ None → first_command s.waiting ≡ Some command → state_at_end s (Some Advances) ≡ state_with_in_hand s command)
+
+-- Each other end of a life leaves the state after the last answer as it is, with what was in hand: where the endpoint is stopped; in a step, while a command is
+-- in hand; and where each command is refused that the call may begin, or it may begin none.
+abbrev pub CutsKeep : Type 0
+CutsKeep = (s : State) (cut : Option Call)
+    → (s.stopped ≡ true)
+    ⊎ (((cut ≡ Some Advances) × (s.in_hand ≢ None)) ⊎ ((command : Command) → MayBegin cut s.waiting command → refusal_at s command ≢ None))
+    → state_at_end s cut ≡ s

@@ -74,6 +74,11 @@ TheseAreNew = (disk : Disk) → IsHonest disk → least_sectors ≤ disk.sectors
 abbrev pub NewDisksHaveHistories : Type 0
 NewDisksHaveHistories = (edition : Edition) (disk : Disk) → IsNewDisk disk → HasHistory edition disk []
 
+-- an honest disk has each history after which a program may come upon each image that it may leave, whatever is pending on it
+abbrev pub FittingHaveHistories : Type 0
+FittingHaveHistories = (edition : Edition) (disk : Disk) (lives : List Life) (past : Past) → IsHonest disk → IsHistory disk.sectors lives past
+    → ((image : Image) → MayLeave disk image → FitsPast edition disk.sectors past image) → HasHistory edition disk lives
+
 -- a disk on which nothing is pending has each history after which a program may come upon what is on it
 abbrev pub SettledHaveHistories : Type 0
 SettledHaveHistories = (edition : Edition) (disk : Disk) (lives : List Life) (past : Past) (image : Image) → IsHonest disk → now disk ≡ settled_state image

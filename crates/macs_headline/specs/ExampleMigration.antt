@@ -213,18 +213,21 @@ later_lives =
     ∷ []
 
 -- Such is each honest disk of that size with that image and nothing pending. It has that history to the edition that formatted it, and so to this one, which
--- names no such refusal. To this one it is to begin anew. While that is done, also where a power loss cuts it, it stands for what it stood for, and so it does
--- once it is done, in the second area and in format two. So lives of this edition go on from it, with keys of both lengths side by side, and the journal
--- begins anew once more, in the first area. Over all of them four frames went out under the short key, and one was delivered under the long one.
+-- names no such refusal. To this one it is to begin anew. Three bodies into that it has that history still, whatever a power loss leaves of it; and once it is
+-- done it stands for what it stood for, in the second area and in format two. So lives of this edition go on from it, with keys of both lengths side by side,
+-- and the journal begins anew once more, in the first area. Over all of them four frames went out under the short key, and one was delivered under the long
+-- one.
 pub record IsWorkedMigration : Type 0 where
   pub as_old : (disk : Disk) → IsHonest disk → disk.sectors ≡ example_sectors → now disk ≡ settled_state used_image → IsOldDisk disk
   pub formatted : (disk : Disk) → IsOldDisk disk → HasHistory first_edition disk old_lives
   pub ours : (disk : Disk) → IsOldDisk disk → HasHistory this_edition disk old_lives
   pub old : IsToMigrate this_edition used_image used_content (used_standing this_edition)
   pub beginning : IsHolding beginning_disk (place_behind used_content) beginning_in_hand used_content migrated_content
+  pub cut_short : HasHistory this_edition beginning_disk old_lives
   pub left_begun : MayLeave beginning_disk begun_image
   pub begun : HasJournal begun_image used_content
   pub anew : HasJournal migrated_image (compacted used_content (snapshot (used_standing this_edition)))
+  pub moved : (migrated_content.area ≡ 1) × (migrated_content.head.format ≡ Two) × HasJournal migrated_image migrated_content
   pub alike : StandAlike this_edition used_image migrated_image
   pub full : length filled_content.records ≡ 256
   pub again : (again_content.area ≡ 0) × (again_content.head.generation ≡ 3) × (again_content.head.format ≡ Two) × HasJournal again_image again_content

@@ -4,6 +4,7 @@ use Rattle.macs_aes.specs.declared.keys.Key.{Key}
 use Rattle.macs_frame.specs.Tag.{tag_of}
 use Rattle.macs_config.specs.Apply.{apply}
 use Rattle.macs_config.specs.Config.{Config, Edition}
+use Rattle.macs_config.specs.Identity.{Identity}
 use Rattle.macs_config.specs.declared.command.Command.{Command}
 use Rattle.macs_config.specs.declared.command.Command.TheVariants.{RxAdd, RxDrop, RxInstall, RxRemove, SetReplay, SetSciMode, SetValidate, TxInstall, TxRemove, TxUse}
 use Rattle.macs_config.specs.declared.command.SciMode.{SciMode}
@@ -13,9 +14,10 @@ use Rattle.macs_record.specs.declared.format.Format.{Format}
 use Rattle.macs_journal.specs.Found.{Content}
 use Rattle.macs_rxsc.specs.Receive.{Numbers, RxSide, RxStep, channel_of}
 use Rattle.macs_rxsc.specs.declared.verdict.Verdict.{Verdict}
-use Rattle.macs_store.specs.Standing.{Standing, accept, ceilings_after}
+use Rattle.macs_store.specs.Standing.{Standing, accept, ceilings_after, new_standing}
 use Rattle.macs_endpoint.specs.Queue.{first_command}
-use Rattle.macs_endpoint.specs.State.{Advanced, AdvancedLong, Advances, Call, Commands, Protected, Protects, Ran, Received, Receives, RefusedLong, Refilled, Refills, Reply, State, Submits, Submitted, rx_side}
+use Rattle.macs_endpoint.specs.Restart.{opened_state}
+use Rattle.macs_endpoint.specs.State.{Advanced, AdvancedLong, Advances, Call, Commands, Protected, Protects, Ran, Received, Receives, RefusedLong, Refilled, Refills, Reply, State, Submits, Submitted, no_logs, rx_side}
 use Rattle.macs_endpoint.specs.declared.fault.CommandFault.{CommandFault}
 use Rattle.macs_endpoint.specs.declared.fault.ProtectFault.{ProtectFault}
 use Rattle.macs_endpoint.specs.declared.fault.RefillFault.{RefillFault}
@@ -28,12 +30,14 @@ use Rattle.macs_headline.specs.Begun.{MayBegin}
 use Rattle.macs_headline.specs.Binding.{CountsOneFailure, IsBegunAnew}
 use Rattle.macs_headline.specs.Changing.{IsOnChannel, IsOnEncoding, IsOnMode, IsOnReplay, IsOnRx, IsOnTx, IsOnValidate}
 use Rattle.macs_headline.specs.Editions.{content_in, with_edition}
+use Rattle.macs_headline.specs.History.{formatted_state}
 use Rattle.macs_headline.specs.Moving.{ComesInUnder, GoesOutUnder, SetsNext, SetsNumbers}
 use Rattle.macs_headline.specs.Received.{IsVerdictOf, WasSeen}
 use Rattle.macs_headline.specs.Steps.{IsReplyOf}
 
 -- A state of a program of another edition is of that one, and the same but for it; and a content in another format is in that one, and the same but for it.
--- What a step takes of a command, by the configuration, a replay of the journal takes too: it accepts a command that is not refused, of any edition.
+-- What a step takes of a command, by the configuration, a replay of the journal takes too: it accepts a command that is not refused, of any edition. What a
+-- `format` by any edition leads to is what an opening makes of a new endpoint of that edition and identity, with nothing in the two lists.
 pub record EditionWords : Type 0 where
   pub of_edition : (s : State) (edition : Edition) → (with_edition s edition).edition ≡ edition
   pub and_back : (s : State) (edition : Edition) → with_edition (with_edition s edition) s.edition ≡ s
@@ -41,6 +45,7 @@ pub record EditionWords : Type 0 where
   pub and_as_it_was : (format : Format) (c : Content) → content_in c.head.format (content_in format c) ≡ c
   pub accepted : (s : Standing) (command : Command) (config : Config) → apply s.edition s.identity s.config command ≡ Ok config
       → accept s command ≡ Ok (record s { config = config; ceilings = ceilings_after s.identity command s.ceilings })
+  pub formatted : (edition : Edition) (identity : Identity) → formatted_state edition identity ≡ opened_state (new_standing edition identity) no_logs
 
 -- Which command is on validation, on replay protection, on how SecTAGs name the channel, on which association frames go out under, on a transmit association,
 -- on a receive channel, and on a receive association: it names that, and no other command is. What sets a packet number is on its association, or is a

@@ -1,6 +1,6 @@
 //! The laws, and that what a program does is what they speak of.
 
-ghost use Rattle.std.specs.Prelude.{◌≡◌, ◌≤◌, ℕ, Bool, true, List, ◌∷◌, IsTrue};
+ghost use Rattle.std.specs.Prelude.{◌≡◌, ◌≤◌, ℕ, Bool, true, List, [], ◌∷◌, IsTrue};
 ghost use Rattle.macs_disk.specs.Disk.{Disk, IsHonest, LeftSince, MayLeave, disk_after_loss};
 ghost use Rattle.macs_disk.specs.FileDisks.{IsBlank, IsFoundAgain, IsFoundAs, IsLeftAsShown, IsOpened, disk_in_file};
 ghost use Rattle.macs_disk.specs.FileDisks.{file_left, layout_of, state_in_file};
@@ -15,7 +15,7 @@ ghost use Rattle.macs_journal.specs.Areas.{least_sectors};
 ghost use Rattle.macs_fields.specs.First.{IsFirst};
 ghost use Rattle.macs_headline.specs.Answered.{AnswersAreHeld, MomentsAreHistories};
 ghost use Rattle.macs_headline.specs.Binding.{CallsAreDeeds, ChainsAnswer, ChainsKeepSizes, ChainsTell, CutDeliveriesAreBelow, CutFramesAreBelow};
-ghost use Rattle.macs_headline.specs.Binding.{DeedsAreHistories, EndsAreCuts};
+ghost use Rattle.macs_headline.specs.Binding.{DeedsAreHistories, EndsAreCuts, FittingHaveHistories};
 ghost use Rattle.macs_headline.specs.Binding.{FaultsAreFailures, FramesAreDeliveredOnce, FramesAreWrittenOnce};
 ghost use Rattle.macs_headline.specs.Binding.{FusesChangeNone, IdleFindsNoWork, IsNewDisk, LargerFind, LargerGoOn};
 ghost use Rattle.macs_headline.specs.Binding.{LivesAreMoments, LivesFit, LivesFitUnbegun, LivesKeepCommands};
@@ -23,7 +23,7 @@ ghost use Rattle.macs_headline.specs.Binding.{LivesAreDeeds, LivesEndExactly, Li
 ghost use Rattle.macs_headline.specs.Binding.{NewDeedsAreHistories, OpeningsBeginAnew};
 ghost use Rattle.macs_headline.specs.Binding.{NewDisksHaveHistories, OpeningsFind, PassedOnHaveHistories, RefusalsAreFailures, SettledHaveHistories, SpentAreSpent};
 ghost use Rattle.macs_headline.specs.Beyond.{DeliveredStaysBeyond, SentStaysBeyond};
-ghost use Rattle.macs_headline.specs.Begun.{CutsBegin, CutsChangeNone, InHandWasBegun, OthersBeginNone};
+ghost use Rattle.macs_headline.specs.Begun.{CutsBegin, CutsChangeNone, CutsKeep, InHandWasBegun, OthersBeginNone};
 ghost use Rattle.macs_headline.specs.Cases.{CasesAre};
 ghost use Rattle.macs_headline.specs.Changing.{CommandsChange, IsFirstConfiguration, PrintsAre};
 ghost use Rattle.macs_headline.specs.Commands.{CommandsKept, FindsOne, InHandWasGiven};
@@ -125,6 +125,8 @@ pub fn headline()
     ensures cuts_change_none { CutsChangeNone }
     // Where a call is cut short that may begin a command, that one is in hand, whatever it installs.
     ensures cuts_begin { CutsBegin }
+    // And where a call that is cut begins none, all is as it was, with what was in hand.
+    ensures cuts_keep { CutsKeep }
     // Over all lives: it finds what the kept commands of each make of the first configuration, and the identity of the `format` that answered Ok.
     ensures configuration_is { (sectors : ℕ) → ConfigurationIs sectors }
     // That configuration is strict, with replay protection on and window 0, and has no association.
@@ -224,7 +226,8 @@ pub fn beyond()
 
 /// The words of these laws that say what may be say this and no more.
 pub fn words()
-    // A state of another edition, a content in another format, and what a replay of the journal accepts.
+    // A state of another edition, a content in another format, what a replay of the journal accepts, and what a
+    // `format` leads to.
     ensures editions { EditionWords }
     // What each command is on.
     ensures commands { CommandWords }
@@ -237,7 +240,7 @@ pub fn words()
 {}
 
 /// What comes first in an order, of faults, reasons or steps: the first one, where it holds; else
-/// what comes first of those behind it.
+/// what comes first of those behind it; and nothing else.
 pub fn first_in_order<R>()
     // The first one, where it holds.
     ensures front { (holds : R → Bool) (first : R) (rest : List R) → IsTrue (holds first)
@@ -245,6 +248,16 @@ pub fn first_in_order<R>()
     // Else what comes first of the others.
     ensures behind { (holds : R → Bool) (first found : R) (rest : List R) → ¬ IsTrue (holds first)
         → IsFirst (λ r. IsTrue (holds r)) rest found → IsFirst (λ r. IsTrue (holds r)) (first ∷ rest) found }
+    // And nothing else comes first: where the first one holds, that one alone.
+    ensures front_alone { (holds : R → Bool) (first found : R) (rest : List R) → IsTrue (holds first)
+        → IsFirst (λ r. IsTrue (holds r)) (first ∷ rest) found → found ≡ first }
+    // Else only what comes first of the others, and of none nothing.
+    ensures behind_alone { (holds : R → Bool) (first found : R) (rest : List R) → ¬ IsTrue (holds first)
+        → IsFirst (λ r. IsTrue (holds r)) (first ∷ rest) found → IsFirst (λ r. IsTrue (holds r)) rest found }
+    ensures none { (holds : R → Bool) (found : R) → ¬ IsFirst (λ r. IsTrue (holds r)) [] found }
+    // So what comes first holds.
+    ensures held { (holds : R → Bool) (order : List R) (found : R) → IsFirst (λ r. IsTrue (holds r)) order found
+        → IsTrue (holds found) }
 {}
 
 /// Where a history begins, and which disks have it.
@@ -252,7 +265,9 @@ pub fn beginnings()
     ensures new { NewDisksHaveHistories }
     // New is each honest disk that is large enough and shows no open head gate.
     ensures as_new { TheseAreNew }
-    // One with nothing pending has each history after which a program may come upon what is on it.
+    // An honest disk has each history after which a program may come upon each image that it may leave.
+    ensures fitting { FittingHaveHistories }
+    // One with nothing pending has each after which a program may come upon what is on it.
     ensures settled { SettledHaveHistories }
     // An edition that takes as much as another one, or more, is larger.
     ensures as_larger { TheseAreLarger }

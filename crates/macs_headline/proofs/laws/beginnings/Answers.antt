@@ -1,5 +1,5 @@
 use Rattle.macs_headline.proofs.AlikeEditions.{these-are-larger}
-use Rattle.macs_headline.proofs.Chains.{fuses-change-none, new-disks, passed-on, settled-disks, these-are-new}
+use Rattle.macs_headline.proofs.Chains.{fitting-disks, fuses-change-none, new-disks, passed-on, settled-disks, these-are-new}
 use Rattle.macs_headline.proofs.Older.{larger-find, older}
 use Rattle.macs_headline.proofs.laws.beginnings.Goals as goal
 
@@ -8,6 +8,9 @@ returns-clause-new c = new-disks
 
 pub returns-clause-as_new : goal.returns-clause-as_new
 returns-clause-as_new c = these-are-new
+
+pub returns-clause-fitting : goal.returns-clause-fitting
+returns-clause-fitting c = fitting-disks
 
 pub returns-clause-settled : goal.returns-clause-settled
 returns-clause-settled c = settled-disks

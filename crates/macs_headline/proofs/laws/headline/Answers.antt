@@ -6,7 +6,7 @@ use Rattle.macs_headline.proofs.Cases.{cases-are}
 use Rattle.macs_headline.proofs.Changing.{commands-change, is-first-configuration, prints-are}
 use Rattle.macs_headline.proofs.Commands.{commands-kept}
 use Rattle.macs_headline.proofs.Configurations.{configuration-is}
-use Rattle.macs_headline.proofs.CutBeginnings.{cuts-begin}
+use Rattle.macs_headline.proofs.CutBeginnings.{cuts-begin, cuts-keep}
 use Rattle.macs_headline.proofs.Deliveries.{deliveries-are-verified, others-are-bare}
 use Rattle.macs_headline.proofs.Fitting.{restarts-fit}
 use Rattle.macs_headline.proofs.FormatsOnce.{formats-once, refused-by-history}
@@ -223,6 +223,9 @@ returns-clause-identity_was_given c = identity-was-given
 
 pub returns-clause-cuts_begin : goal.returns-clause-cuts_begin
 returns-clause-cuts_begin c = cuts-begin
+
+pub returns-clause-cuts_keep : goal.returns-clause-cuts_keep
+returns-clause-cuts_keep c = cuts-keep
 
 pub returns-clause-timely_are_delivered : goal.returns-clause-timely_are_delivered
 returns-clause-timely_are_delivered c = timely-are-delivered
