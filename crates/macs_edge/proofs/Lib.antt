@@ -6,8 +6,6 @@ pub mod Behind
 pub mod Once
 pub mod AllRecords
 pub mod Whole
-pub mod Counted
-pub mod Reading
 pub mod Flowing
 pub mod Relayed
 mod ByDatagrams

@@ -10,7 +10,7 @@ use Rattle.macs_config.specs.declared.command.Command.{Command}
 use Rattle.macs_config.specs.declared.refusal.Refusal.{Refusal}
 use Rattle.macs_config.specs.declared.refusal.Refusal.TheVariants as refusal
 use Rattle.macs_disk.specs.Disk.{Disk}
-use Rattle.macs_edge.specs.CommandFiles.{file_commands}
+use Rattle.macs_commands.specs.CommandFiles.{file_commands}
 use Rattle.macs_endpoint.specs.Calls.{IsCall}
 use Rattle.macs_endpoint.specs.State.{Commands, Ran}
 use Rattle.macs_endpoint.specs.Value.{EndpointValue}

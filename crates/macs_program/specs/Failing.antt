@@ -2,8 +2,8 @@
 use Rattle.std.specs.Prelude.{ℕ, List, codes, string_bytes}
 use Rattle.macs_disk.specs.declared.file_fault.FileFault.{FileFault}
 use Rattle.macs_disk.specs.declared.file_fault.FileFault.TheVariants as file
-use Rattle.macs_edge.specs.declared.config_fault.ConfigFault.{ConfigFault}
-use Rattle.macs_edge.specs.declared.config_fault.ConfigFault.TheVariants as config
+use Rattle.macs_commands.specs.declared.config_fault.ConfigFault.{ConfigFault}
+use Rattle.macs_commands.specs.declared.config_fault.ConfigFault.TheVariants as config
 use Rattle.macs_edge.specs.declared.udp_wire.BindFault.{BindFault}
 use Rattle.macs_edge.specs.declared.udp_wire.BindFault.TheVariants as bind
 use Rattle.macs_edge.specs.declared.passing.RunFault.{RunFault}

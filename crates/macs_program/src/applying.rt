@@ -7,7 +7,7 @@ ghost use Rattle.toml.specs.Parse.{parse_document};
 ghost use Rattle.toml.specs.View.{table_view};
 ghost use Rattle.macs_config.specs.declared.command.Command.{Command};
 ghost use Rattle.macs_config.specs.declared.refusal.Refusal.{Refusal};
-ghost use Rattle.macs_edge.specs.CommandFiles.{file_commands};
+ghost use Rattle.macs_commands.specs.CommandFiles.{file_commands};
 ghost use Rattle.macs_endpoint.specs.Calls.{IsCall};
 ghost use Rattle.macs_endpoint.specs.State.{Commands, Ran};
 ghost use Rattle.macs_endpoint.specs.declared.fault.CommandFault.{CommandFault};

@@ -1,7 +1,7 @@
 //! The words of the commands.
 
 ghost use Rattle.std.specs.Prelude.{◌≡◌};
-ghost use Rattle.macs_edge.specs.Lines.{channel_word_of, keys_of, rx_word_of, word_of};
+ghost use Rattle.macs_commands.specs.Lines.{channel_word_of, keys_of, rx_word_of, word_of};
 
 /// What the key `do` of a table says.
 #[derive(Clone, Copy, Debug, PartialEq, Eq)]

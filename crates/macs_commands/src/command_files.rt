@@ -2,8 +2,8 @@
 
 ghost use Rattle.std.specs.Prelude.{◌≡◌, ◌≢◌, ◌<◌, ◌^◌, length, IfOk, IfErr, Ok, Err};
 ghost use Rattle.toml.specs.View.{items_view, table_view};
-ghost use Rattle.macs_edge.specs.CommandFiles.{are_tables, count, file_commands, table_command, table_commands};
-ghost use Rattle.macs_edge.specs.declared.config_fault.ConfigFault.TheVariants.{Memory};
+ghost use Rattle.macs_commands.specs.CommandFiles.{are_tables, count, file_commands, table_command, table_commands};
+ghost use Rattle.macs_commands.specs.declared.config_fault.ConfigFault.TheVariants.{Memory};
 
 use crate::config_fault::ConfigFault;
 use crate::fields::{value, word};

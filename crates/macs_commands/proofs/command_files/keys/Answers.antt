@@ -1,6 +1,6 @@
 use Rattle.std.proofs.Common.{◌∙◌}
-use Rattle.macs_edge.proofs.Counted.{counted}
-use Rattle.macs_edge.proofs.command_files.keys.Goals as goal
+use Rattle.macs_commands.proofs.Counted.{counted}
+use Rattle.macs_commands.proofs.command_files.keys.Goals as goal
 
 pub returns : goal.returns
 returns c = c.len.ensures.len ∙ counted c.args.table.now.entries

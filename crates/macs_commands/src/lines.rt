@@ -2,8 +2,8 @@
 
 ghost use Rattle.std.specs.Prelude.{◌≡◌};
 ghost use Rattle.toml.specs.View.{table_view};
-ghost use Rattle.macs_edge.specs.Lines.{command_of};
-ghost use Rattle.macs_edge.specs.declared.word.Word.TheVariants as word;
+ghost use Rattle.macs_commands.specs.Lines.{command_of};
+ghost use Rattle.macs_commands.specs.declared.word.Word.TheVariants as word;
 
 use crate::config_fault::KeyName;
 use crate::fields::{an, confidential, key, offset, on, sci, sci_mode, start, validate, window};

@@ -4,11 +4,11 @@ use Rattle.std.specs.Str.{bytes_eq}
 use Rattle.toml.specs.Data.{Members}
 use Rattle.macs_config.specs.declared.command.Command.{Command}
 use Rattle.macs_config.specs.declared.command.Command.TheVariants.{SetValidate, SetReplay, SetSciMode, TxInstall, TxUse, TxRemove, RxAdd, RxDrop, RxInstall, RxRemove}
-use Rattle.macs_edge.specs.Fields.{an_in, confidential_in, key_in, offset_in, on_in, sci_in, sci_mode_in, start_in, text_at, validate_in, window_in}
-use Rattle.macs_edge.specs.declared.config_fault.KeyName.{KeyName}
-use Rattle.macs_edge.specs.declared.config_fault.KeyName.TheVariants.{Mode, On, Window, An, Key, Start, Confidential, Offset, Sci}
-use Rattle.macs_edge.specs.declared.word.Word.{Word}
-use Rattle.macs_edge.specs.declared.word.Word.TheVariants as word
+use Rattle.macs_commands.specs.Fields.{an_in, confidential_in, key_in, offset_in, on_in, sci_in, sci_mode_in, start_in, text_at, validate_in, window_in}
+use Rattle.macs_commands.specs.declared.config_fault.KeyName.{KeyName}
+use Rattle.macs_commands.specs.declared.config_fault.KeyName.TheVariants.{Mode, On, Window, An, Key, Start, Confidential, Offset, Sci}
+use Rattle.macs_commands.specs.declared.word.Word.{Word}
+use Rattle.macs_commands.specs.declared.word.Word.TheVariants as word
 
 -- ---- words
 

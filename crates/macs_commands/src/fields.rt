@@ -3,16 +3,16 @@
 ghost use Rattle.std.specs.Prelude.{◌≡◌, ◌<◌, codes, option_map};
 ghost use Rattle.toml.specs.Data.{get_member};
 ghost use Rattle.toml.specs.View.{table_view, view};
-ghost use Rattle.macs_edge.specs.Fields.{an_in, confidential_in, flag_at, key_in, key_of, number_at, number_to, octets_of, offset_in, on_in, sci_in, sci_mode_in, start_in, text_at, validate_in, window_in};
-ghost use Rattle.macs_edge.specs.Lines.{required, word_in};
-ghost use Rattle.macs_edge.specs.declared.config_fault.KeyName.TheVariants as name;
+ghost use Rattle.macs_commands.specs.Fields.{an_in, confidential_in, flag_at, key_in, key_of, number_at, number_to, octets_of, offset_in, on_in, sci_in, sci_mode_in, start_in, text_at, validate_in, window_in};
+ghost use Rattle.macs_commands.specs.Lines.{required, word_in};
+ghost use Rattle.macs_commands.specs.declared.config_fault.KeyName.TheVariants as name;
 
 use crate::config_fault::KeyName;
 use crate::modes::{sci_mode_of, validate_of};
 use crate::word::Word;
 use macs_aes::Key;
 use macs_config::{SciMode, Validate};
-use macs_frame::{An, Sci};
+use macs_fields::{An, Sci};
 use toml::{Table, Value};
 
 /// The value at a key.

@@ -2,10 +2,10 @@
 use Rattle.std.specs.Prelude.{◌+◌, ◌==◌, ℕ, suc, nat_lt, codes, if◌then◌else◌, Bool, true, false, List, [], ◌∷◌, Some, None, Result, Ok, Err}
 use Rattle.toml.specs.Data.{Data, Items, Members, array, get_member, item, member, no_items, no_members, table}
 use Rattle.macs_config.specs.declared.command.Command.{Command}
-use Rattle.macs_edge.specs.Lines.{command_of, keys_of, word_in}
-use Rattle.macs_edge.specs.declared.config_fault.ConfigFault.{ConfigFault}
-use Rattle.macs_edge.specs.declared.config_fault.ConfigFault.TheVariants as fault
-use Rattle.macs_edge.specs.declared.config_fault.KeyName.{KeyName}
+use Rattle.macs_commands.specs.Lines.{command_of, keys_of, word_in}
+use Rattle.macs_commands.specs.declared.config_fault.ConfigFault.{ConfigFault}
+use Rattle.macs_commands.specs.declared.config_fault.ConfigFault.TheVariants as fault
+use Rattle.macs_commands.specs.declared.config_fault.KeyName.{KeyName}
 
 -- how many keys a table has
 abbrev pub count : Members → ℕ

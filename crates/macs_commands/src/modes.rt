@@ -1,7 +1,7 @@
 //! The words of the modes.
 
 ghost use Rattle.std.specs.Prelude.{◌≡◌};
-ghost use Rattle.macs_edge.specs.Fields.{sci_mode_of, validate_of};
+ghost use Rattle.macs_commands.specs.Fields.{sci_mode_of, validate_of};
 
 use macs_config::{SciMode, Validate};
 

@@ -1,13 +1,13 @@
 -- Commands read one by one.
 use Rattle.std.proofs.Common.{◌≡◌, ◌<◌, ◌≤◌, ◌+◌, ℕ, List, [], ◌∷◌, ◌++◌, length, drop, get_or, refl, ap, sym, ◌∙◌, append_assoc, append-nil, subst, IfErr, Result, Ok, Err, Some, None, false, drop_of_length-le}
-use Rattle.macs_edge.specs.declared.config_fault.ConfigFault.TheVariants.{Memory, Shape}
+use Rattle.macs_commands.specs.declared.config_fault.ConfigFault.TheVariants.{Memory, Shape}
 use Rattle.toml.specs.Data.{Data, string, integer, float, boolean, datetime, array, table, Items, no_items, item, Members, as_table}
 use Rattle.toml.specs.declared.value.Value.{Value}
 use Rattle.toml.specs.View.{items_view, view}
 use Rattle.toml.proofs.Views.{items_view-drop}
 use Rattle.macs_config.specs.declared.command.Command.{Command}
-use Rattle.macs_edge.specs.declared.config_fault.ConfigFault.{ConfigFault}
-use Rattle.macs_edge.specs.CommandFiles.{table_command, table_commands, before, are_tables}
+use Rattle.macs_commands.specs.declared.config_fault.ConfigFault.{ConfigFault}
+use Rattle.macs_commands.specs.CommandFiles.{table_command, table_commands, before, are_tables}
 
 abbrev pub joined : List Command → Result (List Command) ConfigFault → Result (List Command) ConfigFault
 joined done (Ok rest) = Ok (done ++ rest)

@@ -1,8 +1,8 @@
 use Rattle.std.proofs.Common.{rules}
 use Rattle.toml.specs.View.{items_view, table_view}
-use Rattle.macs_edge.specs.CommandFiles.{table_commands}
-use Rattle.macs_edge.proofs.Reading.{all-read, answered, no-table, table-fault, table-more}
-use Rattle.macs_edge.proofs.command_files.table_commands.Goals as goal
+use Rattle.macs_commands.specs.CommandFiles.{table_commands}
+use Rattle.macs_commands.proofs.Reading.{all-read, answered, no-table, table-fault, table-more}
+use Rattle.macs_commands.proofs.command_files.table_commands.Goals as goal
 
 pub returns-in_default-clause-fault : goal.returns-in_default-clause-fault
 returns-in_default-clause-fault g c = λ other.
