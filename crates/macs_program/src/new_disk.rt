@@ -1,6 +1,8 @@
 //! How the file of a new endpoint is made.
 
-ghost use Rattle.std.specs.Prelude.{◌≡◌, ◌⊎◌, ◌<◌, ◌*◌, ◌^◌, None, Some, IfErr, IfOk, IsErrOf, OnOk};
+ghost use Rattle.std.specs.IoError.{error_kind};
+ghost use Rattle.std.specs.Prelude.{◌≡◌, ◌≢◌, ◌⊎◌, ◌<◌, ◌*◌, ◌^◌, None, Some, Ok, Err, IfErr, IfOk, IsErrOf, OnOk};
+ghost use Rattle.std.specs.declared.io.ErrorKind.TheVariants.{OutOfMemory};
 ghost use Rattle.macs_disk.specs.FileDisks.{IsBlank, disk_in_file, file_given, file_left};
 ghost use Rattle.macs_disk.specs.Files.{Behaves, IsSure};
 ghost use Rattle.macs_journal.specs.declared.fault.JournalFault.TheVariants as journal;
@@ -100,6 +102,19 @@ fn sync_name<T: Files>(rt: &T, alloc: Global, path: &str) -> io::Result<()> {
     sync_folder(rt, place.as_str())
 }
 
+/// What the system answers of the file, or why that does not serve: `Memory`, or else `File`.
+fn of_file<V>(answer: io::Result<V>) -> Result<V, Failure>
+    ensures value { IfOk result (λ value. answer ≡ Ok value) }
+    ensures memory { IfErr answer (λ error. error_kind error ≡ OutOfMemory → result ≡ Err Failure.Memory) }
+    ensures other { IfErr answer (λ error. error_kind error ≢ OutOfMemory → result ≡ Err (Failure.Disk disk.File)) }
+    ensures refused { IfErr result (λ failure. (failure ≡ Failure.Memory) ⊎ (failure ≡ Failure.Disk disk.File)) }
+{
+    match answer {
+        Ok(value) => Ok(value),
+        Err(error) => Err(failure_of(error, Failure::Disk(DiskFault::File))),
+    }
+}
+
 /// Makes the disk in a file that of a new endpoint. Where there is no file it is made, and a short
 /// one is lengthened; its name is made durable before the journal is written. It fails as `Memory`,
 /// or as `Disk` with the first fault: `File` where there is no regular file, or standard output
@@ -119,14 +134,9 @@ where
     ensures failed { IfErr result (λ failure. (failure ≡ Failure.Memory)
         ⊎ ((fault : DiskFault) × (failure ≡ Failure.Disk fault))) }
 {
-    let file = match open_file(rt, path) {
-        Ok(file) => file,
-        Err(error) => return Err(failure_of(error, Failure::Disk(DiskFault::File))),
-    };
+    let file = of_file(open_file(rt, path))?;
     let mut disk = blank_disk(file, how)?;
-    if let Err(error) = sync_name(rt, alloc, path) {
-        return Err(failure_of(error, Failure::Disk(DiskFault::File)));
-    }
+    of_file(sync_name(rt, alloc, path))?;
     macs_endpoint::format(&mut disk, identity)?;
     Ok(())
 }

@@ -20,16 +20,20 @@ returns-clause-formats g c =
       formats = subst (λ result. IsFormat (disk_in_file file) disk c.args.identity.now result c.format.new.disk) c.in_ok-format.was c.format.ensures;
     }
 
-pub returns-in-Err-clause-refused : goal.returns-in-Err-clause-refused
-returns-in-Err-clause-refused g c = inl (of-the-system c.failure_of.result c.failure_of.ensures.either)
+pub returns-in_err-file-clause-refused : goal.returns-in_err-file-clause-refused
+returns-in_err-file-clause-refused g c =
+    let p = err_from_is_err_and c.from_residual.result c.from_residual.ensures.1 in
+    rw (p.1, p.2) (inl (of-the-system _ c.in_err-file.ensures.refused))
 
 pub returns-in_err-disk-clause-refused : goal.returns-in_err-disk-clause-refused
 returns-in_err-disk-clause-refused g c =
-    let p = err_from_is_err_and c.from_residual.result c.from_residual.ensures.1 in
+    let p = err_from_is_err_and c.from_residual-in_err-disk.result c.from_residual-in_err-disk.ensures.1 in
     rw (p.1, p.2) (inr (inl (_, c.in_err-disk.ensures.refused)))
 
-pub returns-in-Err-sync_name-clause-refused : goal.returns-in-Err-sync_name-clause-refused
-returns-in-Err-sync_name-clause-refused g c = inl (of-the-system c.failure_of-in-Err-sync_name.result c.failure_of-in-Err-sync_name.ensures.either)
+pub returns-in_err-of_file-clause-refused : goal.returns-in_err-of_file-clause-refused
+returns-in_err-of_file-clause-refused g c =
+    let p = err_from_is_err_and c.from_residual-in_err-of_file.result c.from_residual-in_err-of_file.ensures.1 in
+    rw (p.1, p.2) (inl (of-the-system _ c.in_err-of_file.ensures.refused))
 
 pub returns-in_err-format-clause-refused : goal.returns-in_err-format-clause-refused
 returns-in_err-format-clause-refused g c =
