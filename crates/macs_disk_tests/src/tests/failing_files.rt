@@ -2,7 +2,7 @@
 
 use super::Call::Fill;
 use super::{make, seen};
-use macs_disk::{DiskFile, FileDisk, FileFault, SectorDisk};
+use macs_disk::{DiskFile, FileDisk, FileFault, Layout, SectorDisk};
 use std::io;
 use std::io::{Cursor, ErrorKind, Read, Seek, SeekFrom, Write};
 use std::process::Abort;
@@ -166,6 +166,47 @@ fn each_call_that_fails_is_answered(rt: HostRuntime) {
         for (failing, life) in lives.into_iter().enumerate() {
             let file = file(1_024, 2_048, failing as u64, kind);
             assert!(rt; live(&rt, file) == life, "call {failing}");
+        }
+    }
+}
+
+/// What is answered where this call fails of those that make a blank disk: the claim, the size, the sync, the
+/// reading anew, the sync of the layout's mark and the write of zeros. The file has no room for all of these, so
+/// there is no disk where no call fails.
+const NOT_BLANK: [(ErrorKind, [FileFault; 7]); 2] = [
+    (
+        ErrorKind::Other,
+        [
+            FileFault::Open,
+            FileFault::Open,
+            FileFault::Open,
+            FileFault::Device,
+            FileFault::Device,
+            FileFault::Open,
+            FileFault::Open,
+        ],
+    ),
+    (
+        ErrorKind::OutOfMemory,
+        [
+            FileFault::Open,
+            FileFault::Memory,
+            FileFault::Memory,
+            FileFault::Device,
+            FileFault::Device,
+            FileFault::Memory,
+            FileFault::Memory,
+        ],
+    ),
+];
+
+#[test]
+fn each_call_of_a_blank_disk_that_fails_is_answered(rt: HostRuntime) {
+    for (kind, faults) in NOT_BLANK {
+        for (failing, fault) in faults.into_iter().enumerate() {
+            let file = file(1_024, 2_048, failing as u64, kind);
+            let answer = FileDisk::blank(file, Layout::Packed).err();
+            assert!(rt; answer == Some(fault), "call {failing}");
         }
     }
 }
