@@ -28,7 +28,9 @@ use Rattle.macs_endpoint.specs.State.{State, no_logs}
 use Rattle.macs_endpoint.specs.Value.{EndpointValue, device_in, disk_in, is_stopped}
 use Rattle.macs_headline.specs.Binding.{IsBegunAnew, IsUnwritten, OpeningsBeginAnew, StandsAsRead}
 use Rattle.macs_headline.specs.Deeds.{disk_after_opening}
+use Rattle.macs_headline.proofs.Chains.{history-covers}
 use Rattle.macs_headline.proofs.Ledger.{some_one}
+use Rattle.macs_headline.proofs.Living.{alive}
 
 -- ---- nothing is written
 
@@ -196,4 +198,7 @@ module _ {D : Type 0} (disk_of : D → Disk) (sound : (it : D) → IsHonest (dis
       left_anew disk first was opening c found one,
     );
     last = λ disk first c was opening found one. never_last disk first was opening c found one;
+    formatted = λ old new identity honest is image may. (is.kept honest image may).format;
+    stays = λ disk before first last turns history lived.
+        (alive disk_of sound (disk_of disk).sectors history.past disk first turns last (history-covers (disk_of disk) before history) lived).backed.form;
   }

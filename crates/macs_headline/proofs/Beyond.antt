@@ -1,7 +1,15 @@
 -- What is found beyond a number stays beyond it: the lists of a life with that number alone.
-use Rattle.std.proofs.Common.{◌≡◌, ◌⊎◌, ◌<◌, ◌≤◌, inl, inr, ℕ, Ok, true, List, [], ◌∷◌, refl, sym, ◌∙◌, ap, subst, arith}
+use Rattle.std.proofs.Common.{◌≡◌, ◌⊎◌, ◌<◌, ◌≤◌, ◌++◌, inl, inr, ℕ, Ok, Bool, true, false, List, [], ◌∷◌, refl, sym, ◌∙◌, ap, subst, arith}
 use Rattle.std.specs.Prelude.{Contains, Option, Some, None, IsSomeAnd}
+use Rattle.std.specs.List.{list_any}
 use Rattle.std.specs.Option.{option_map}
+use Rattle.std.proofs.lemmas.Bool.{false≢true, or_left, or_right}
+use Rattle.macs_aes.specs.Keys.{octets_of_key}
+use Rattle.macs_fields.specs.First.{IsFirst}
+use Rattle.macs_config.specs.Apply.{LongKey, Named, Reason}
+use Rattle.macs_config.specs.declared.command.Command.{Command}
+use Rattle.macs_config.specs.declared.command.Command.TheVariants.{RxInstall, TxInstall}
+use Rattle.macs_config.specs.declared.refusal.Refusal.TheVariants.{ChannelTaken, ChannelsFull, EndStationSci, InUse, KeySpent, NoChannel, OffsetChoice, OwnSci, SlotEmpty, SlotTaken, SpentFull, StartRange}
 use Rattle.macs_config.specs.Config.{Edition, is_spent, rx_fingerprint, tx_fingerprint}
 use Rattle.macs_config.specs.declared.association.RxSa.{RxSa}
 use Rattle.macs_config.specs.declared.association.TxSa.{TxSa}
@@ -21,12 +29,15 @@ use Rattle.macs_headline.specs.Frames.{IsStandardFrame}
 use Rattle.macs_headline.specs.History.{logs_of, state_at_end}
 use Rattle.macs_headline.specs.Moments.{Moment}
 use Rattle.macs_headline.specs.Numbers.{IsBeyondRx, IsBeyondTx}
+use Rattle.macs_headline.specs.Reasons.{IsReasonOf}
+use Rattle.macs_headline.specs.Refused.{refusal_at}
 use Rattle.macs_headline.proofs.Effects.{Commanded, Core, Effect, Given, Held, NoEffect, Sent, core, effect-of, use_of}
 use Rattle.macs_headline.proofs.Given.{IsGiven, IsRxLedger, pair_of}
 use Rattle.macs_headline.proofs.Histories.{fits-restart, sound-opened}
 use Rattle.macs_headline.proofs.Ledger.{some_one}
 use Rattle.macs_headline.proofs.Lists.{contains-cases, contains-first, contains-later, contains-none, none-twice, pairs-none}
 use Rattle.macs_headline.proofs.Numbers.{beyond_rx, beyond_tx, ceiling-is, floor-opening, floor-steps}
+use Rattle.macs_headline.proofs.Reasons.{reasons-are-named}
 use Rattle.macs_headline.proofs.Sent.{IsUsed, key_of}
 use Rattle.macs_headline.proofs.Sound.{IsSound, end-core, sound-effect, sound-restart}
 
@@ -305,10 +316,52 @@ module _ (sectors : ℕ) (s : State) (m : Moment sectors s) where
         let was = is_given sci key refl refl in
         beyond_rx found logs (restarted logs cut edition image found given_so.sound fits is) sci key pn (was.0, given_so.has_given _ was.1)
 
+-- ---- the key is spent
+
+-- one that holds is passed by nothing
+passed : {R : Type 0} (Holds : R → Type 0) (test : R → Bool) (front : List R) (r f : R) (rest : List R) → IsFirst Holds (front ++ r ∷ rest) f → Holds r
+    → test f ≡ true → list_any test (front ++ r ∷ []) ≡ true
+passed Holds test [] r f rest (inl here) holds is = or_left (test r) false (ap test (sym here.1) ∙ is)
+passed Holds test [] r f rest (inr later) holds is = absurd (later.0 holds)
+passed Holds test (x ∷ front) r f rest (inl here) holds is = or_left (test x) (list_any test (front ++ r ∷ [])) (ap test (sym here.1) ∙ is)
+passed Holds test (x ∷ front) r f rest (inr later) holds is =
+    or_right (test x) (list_any test (front ++ r ∷ [])) (passed Holds test front r f rest later.1 holds is)
+
+abbrev is_full : Reason → Bool
+is_full (Named SpentFull) = true
+is_full reason = false
+
+-- the reasons before that of a spent key
+abbrev reasons_before : List Reason
+reasons_before =
+    Named StartRange ∷ Named OffsetChoice ∷ Named OwnSci ∷ Named EndStationSci ∷ Named NoChannel ∷ Named ChannelTaken ∷ Named ChannelsFull ∷ Named SlotTaken
+    ∷ Named SlotEmpty ∷ Named InUse ∷ []
+
+-- where a key is spent there is room
+never_full : (s : State) (c : Command) → IsReasonOf s.edition s.identity s.config c (Named KeySpent) → ¬ (refusal_at s c ≡ Some (Named SpentFull))
+never_full s c spent is =
+    let found = reasons-are-named.first s.edition s.identity s.config c (Named SpentFull) is in
+    false≢true (passed (IsReasonOf s.edition s.identity s.config c) is_full reasons_before (Named KeySpent) (Named SpentFull)
+    (Named SpentFull ∷ LongKey ∷ []) found spent refl)
+
+spent_tx : (sectors : ℕ) (s : State) (m : Moment sectors s) (key : List ℕ) (pn : ℕ) → IsBeyondTx m.life.found key pn
+    → is_spent s.config.spent_tx (tx_fingerprint key) ≡ true
+spent_tx sectors s m key pn beyond =
+    let so = sent_so sectors s m key pn beyond in
+    so.sound.tx.ledger.logged key pn (so.has_used (use_of key pn) (contains-first (use_of key pn) []))
+
+spent_rx : (sectors : ℕ) (s : State) (m : Moment sectors s) (sci key : List ℕ) (pn : ℕ) → IsBeyondRx m.life.found sci key pn
+    → is_spent s.config.spent_rx (rx_fingerprint sci key) ≡ true
+spent_rx sectors s m sci key pn beyond =
+    let so = given_so sectors s m sci key pn beyond in
+    so.sound.rx.logged (sci, key) pn (AsOk, so.has_given (entry sci key pn) (contains-first (entry sci key pn) []))
+
 pub sent-stays-beyond : (sectors : ℕ) → SentStaysBeyond sectors
 sent-stays-beyond sectors = record {
   written = λ s new m key pn beyond plain out number f same. written_above sectors s m key pn beyond new plain out number f same;
   found_later = λ s m key pn beyond cut edition image found fits is. found_tx sectors s m key pn beyond cut edition image found fits is;
+  spent = λ s m key pn beyond an start offset confidential.
+      never_full s (TxInstall an key start confidential offset) (spent_tx sectors s m (octets_of_key key) pn beyond);
 }
 
 pub delivered-stays-beyond : (sectors : ℕ) → DeliveredStaysBeyond sectors
@@ -316,4 +369,6 @@ delivered-stays-beyond sectors = record {
   delivered = λ s new m sci key pn beyond frame out kind d same_sci same_key why.
       delivered_above sectors s m sci key pn beyond new frame out kind d same_sci same_key why;
   found_later = λ s m sci key pn beyond cut edition image found fits is. found_rx sectors s m sci key pn beyond cut edition image found fits is;
+  spent = λ s m sci key pn beyond an start offset.
+      never_full s (RxInstall sci an key start offset) (spent_rx sectors s m sci (octets_of_key key) pn beyond);
 }

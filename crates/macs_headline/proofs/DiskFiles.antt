@@ -1,10 +1,10 @@
 -- Disks in files, as histories have them.
-use Rattle.std.proofs.Common.{◌≡◌, ◌<◌, ◌-◌, ◌⊎◌, inl, inr, ℕ, true, get_or, replicate, refl, ap, ◌∙◌, arith, le_refl, subst, sym}
+use Rattle.std.proofs.Common.{◌≡◌, ◌<◌, ◌+◌, ◌*◌, ◌-◌, ◌⊎◌, inl, inr, ℕ, true, get_or, replicate, refl, ap, ◌∙◌, arith, le_refl, subst, sym}
 use Rattle.std.proofs.lemmas.Bool.{and_parts}
 use Rattle.macs_disk.specs.Disk.{Disk, IsHonest, MayLeave}
 use Rattle.macs_disk.specs.FileDisks.{IsBlank, IsFoundAs, IsLeftAsShown, IsOpened, disk_in_file, file_lengthened, image_in_file, is_ready, keeps_disk, state_in_file}
 use Rattle.macs_disk.specs.FileEvidence.{keeps}
-use Rattle.macs_disk.specs.Files.{Behaves, FileState, HasNothingNew, file_after_sync, file_after_write, file_claimed, file_in_doubt, file_settled}
+use Rattle.macs_disk.specs.Files.{Behaves, FileState, HasNothingNew, IsFileImage, file_after_sync, file_after_write, file_claimed, file_in_doubt, file_settled}
 use Rattle.macs_disk.specs.Layouts.{place, suits}
 use Rattle.macs_disk.specs.States.{Image, IsImage, settled_state, zero_sector}
 use Rattle.macs_disk.specs.declared.layout.Layout.{Layout}
@@ -74,3 +74,17 @@ pub opened-again : (left file : FileState) (layout again : Layout) (old new : Di
 opened-again left file layout again old new found suited honest may nothing opened =
     let is = found-opened layout again old.sectors left file new found suited nothing opened in
     (is.0, opened-as left file layout old new suited honest may nothing is.1 (subst (λ (l : Layout). IsOpened file 0 l new) is.0 opened))
+
+-- a file that was let go of
+pub let-go : (left file : FileState) → file.block ≡ left.block → file.size ≡ left.size → file.is_size_durable ≡ left.is_size_durable
+    → ((p : ℕ) → file.durable p ≡ left.durable p) → ((n : ℕ) → file.pending n ≡ left.pending n) → HasNothingNew left file
+let-go left file block size durable_size durable pending =
+    record { block = block; size = λ was. (size, durable_size ∙ was); images = each } where
+      each : (octets : ℕ → ℕ) → IsFileImage file octets → IsFileImage left octets
+      each octets is = record {
+        kept = λ n k clean within.
+            subst (λ (b : ℕ). octets (b * n + k) ≡ file.durable (b * n + k)) block
+            (is.kept n k (pending n ∙ clean) (subst (λ (b : ℕ). k < b) (sym block) within))
+            ∙ durable (left.block * n + k);
+        octets = is.octets;
+      }

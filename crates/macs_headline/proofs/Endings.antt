@@ -4,7 +4,7 @@ use Rattle.macs_disk.specs.Disk.{Disk, IsDeviceCall, IsHonest, now}
 use Rattle.macs_disk.specs.States.{DiskState, Image, IsImage, IsSector, IsSound}
 use Rattle.macs_disk.specs.declared.disk.DeviceFault.{DeviceFault}
 use Rattle.macs_headline.specs.Deeds.{IsPassedOn}
-use Rattle.macs_headline.specs.Endings.{DroppedPassOn, EndsAreEarlier, KillingsPassOn, PassedOnAgain, PowerLossesPassOn, ReadsPassOn, SyncsPassOn, TheseAreAlike, WritesBackAsSyncs, WrittenBackPassOn, state_written_back}
+use Rattle.macs_headline.specs.Endings.{DroppedPassOn, EndsAreEarlier, ImagesAreWhole, KillingsPassOn, LossesSettle, PassedOnAgain, PowerLossesPassOn, ReadsPassOn, SyncsPassOn, TheseAreAlike, WritesBackAsSyncs, WrittenBackPassOn, state_written_back}
 use Rattle.macs_headline.proofs.Losses.{settled-passed}
 
 pub these-are-alike : TheseAreAlike
@@ -121,3 +121,12 @@ module _ {D : Type 0} (disk_of : D → Disk) (sound : (it : D) → IsHonest (dis
       settled-passed (disk_of old) (disk_of new) clock (now (disk_of old)).seen (clock, le_refl clock, le_refl clock, (sound old honest).fit)
       call.work.works.sectors call.work.works.honest syncs.ok
   syncs-pass-on old new (Err fault) honest call syncs = same_state old new (Err fault) call syncs.err
+
+pub losses-settle : LossesSettle
+losses-settle ran new since loses i = (
+  ap (λ (s : DiskState). s.pending i) loses.settled,
+  ap (λ (s : DiskState). s.seen i) loses.settled ∙ sym (ap (λ (s : DiskState). s.durable i) loses.settled),
+)
+
+pub images-are-whole : ImagesAreWhole
+images-are-whole state image is i pending = ((is.whole i pending).size, (is.whole i pending).octets)

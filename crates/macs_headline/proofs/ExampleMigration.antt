@@ -786,6 +786,7 @@ module _ (peer : All (λ octet. octet < 2 ^ 8) (peer_frame 5)) where
     anew = subst (λ (records : List Record). HasJournal migrated_image (compacted used_content records)) (sym snapshot_is) migrated_found;
     moved = (refl, refl, migrated_found);
     alike = used_alike;
+    stood = long_is;
     full = refl;
     again = (refl, refl, refl, again_found);
     last = last_end;

@@ -34,6 +34,7 @@ pub mod Refused
 pub mod Reasons
 pub mod AlikeEditions
 pub mod ReadByEditions
+pub mod Restored
 pub mod TakenByEditions
 pub mod OneIdentity
 pub mod EitherFormats
@@ -64,9 +65,13 @@ pub mod BegunAnew
 pub mod Idling
 pub mod Cases
 pub mod Words
+pub mod One
+pub mod Drawn
 pub mod Beyond
 pub mod Spending
+pub mod Reserved
 pub mod Tickets
+pub mod Waits
 pub mod RefusedDays
 pub mod ServedDays
 pub mod Ours
@@ -84,4 +89,6 @@ pub mod ExampleFits
 pub mod ExampleHistory
 pub mod ExampleMigration
 pub mod ExampleBeginning
+mod OpeningWords
+mod DeedLives
 mod DiskFiles

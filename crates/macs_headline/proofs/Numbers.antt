@@ -145,12 +145,13 @@ next_stays edition identity old (TxRemove at) next an before after ok is js = el
 next_stays edition identity old c next an before after ok is js = refl
 
 -- what may be found of an association that has this next number
-skipped : (block next : ℕ) (found : Option ℕ) → TxRises block (Some next) found → IsSomeAnd found (λ later. IsSkipped block next later)
+skipped : (block next : ℕ) (found : Option ℕ) → TxRises block (Some next) found
+    → IsSomeAnd found (λ later. IsSkipped block next later × (later ≤ 2 ^ 32))
 skipped block next found (later, is_later, low, high, most) =
-    subst (λ (o : Option ℕ). IsSomeAnd o (λ later. IsSkipped block next later)) (sym is_later) (low, high)
+    subst (λ (o : Option ℕ). IsSomeAnd o (λ later. IsSkipped block next later × (later ≤ 2 ^ 32))) (sym is_later) ((low, high), most)
 
 skips : (s new : State) (an : ℕ) (before after : TxSa) (next : ℕ) → Restart s new → s.config.tx an ≡ Some before → new.config.tx an ≡ Some after
-    → s.next an ≡ Some next → IsSomeAnd (new.next an) (λ later. IsSkipped s.identity.tx_block next later)
+    → s.next an ≡ Some next → IsSomeAnd (new.next an) (λ later. IsSkipped s.identity.tx_block next later × (later ≤ 2 ^ 32))
 skips s new an before after next (inl up) is js is_next =
     skipped s.identity.tx_block next (new.next an) (subst (λ (o : Option ℕ). TxRises s.identity.tx_block o (new.next an)) is_next (up.next an))
 skips s new an before after next (inr (c, mid, hand, makes, up)) is js is_next =
@@ -203,6 +204,7 @@ moved_to block old later low high = record {
   rises = low;
   unseen = λ none. let most : later ≤ old.next = subst (λ (seen : Option ℕ). later ≤ rx_limit block old.next seen) none high in omega (arith, low, most);
   seen = λ last is_last. subst (λ (seen : Option ℕ). later ≤ rx_limit block old.next seen) is_last high;
+  fresh = refl;
 }
 
 moved : (block : ℕ) (old : Numbers) (found : Option Numbers) → RxRises block (Some old) found → IsSomeAnd found (λ new. IsMoved block old new)
@@ -216,6 +218,7 @@ moved_on block old mid new next seen is = record {
   rises = subst (λ (n : ℕ). n ≤ new.next) next is.rises;
   unseen = λ none. is.unseen (seen ∙ none) ∙ next;
   seen = λ last is_last. subst (λ (n : ℕ). new.next ≤ max n (min (last + block) (2 ^ 32))) next (is.seen last (seen ∙ is_last));
+  fresh = is.fresh;
 }
 
 moved_through : (block : ℕ) (old mid : Numbers) (found : Option Numbers) → mid.next ≡ old.next → mid.seen ≡ old.seen
@@ -247,7 +250,7 @@ none_there {X} o none is = false≢true (sym (ap (λ (x : Option X). is_some x) 
 
 begins_tx : (s new : State) (an : ℕ) (key : Key) (start : ℕ) (confidential : Bool) (offset : ℕ) → Restart s new
     → s.in_hand ≡ Some (TxInstall an key start confidential offset) → s.config.tx an ≡ None → IsSome (new.config.tx an)
-    → IsSomeAnd (new.next an) (λ later. IsSkipped s.identity.tx_block start later)
+    → IsSomeAnd (new.next an) (λ later. IsSkipped s.identity.tx_block start later × (later ≤ 2 ^ 32))
 begins_tx s new an key start confidential offset (inl up) asked free is =
     absurd (none_there (new.config.tx an) (ap (λ (c : Config). c.tx an) up.config ∙ free) is)
 begins_tx s new an key start confidential offset (inr (c, mid, hand, makes, up)) asked free is =

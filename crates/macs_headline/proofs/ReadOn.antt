@@ -20,6 +20,7 @@ use Rattle.macs_headline.proofs.EitherFormats.{anew-one, either-format}
 use Rattle.macs_headline.proofs.Ledger.{some_one}
 use Rattle.macs_headline.proofs.LookUps.{then-some}
 use Rattle.macs_headline.proofs.ReadByEditions.{short-kind}
+use Rattle.macs_headline.proofs.Restored.{rises, snapshot-read}
 
 -- ---- areas that are read
 
@@ -88,4 +89,7 @@ editions-read = record {
       ap (λ (b : Bool). cond b (Some (standing_with_tx_ceiling s an ceiling)) None) (raised (s.ceilings.tx an) old ceiling is more);
   rx_raised = λ s sci an old ceiling is more.
       ap (λ (b : Bool). cond b (Some (standing_with_rx_ceiling s sci an ceiling)) None) (raised (s.ceilings.rx sci an) old ceiling is more);
+  snapshot = snapshot-read;
+  tx_rises = λ s after an ceiling made. rises (s.ceilings.tx an) ceiling (standing_with_tx_ceiling s an ceiling) after made;
+  rx_rises = λ s after sci an ceiling made. rises (s.ceilings.rx sci an) ceiling (standing_with_rx_ceiling s sci an ceiling) after made;
 }

@@ -13,6 +13,7 @@ use Rattle.macs_store.specs.Replay.{accepted_standing, replay_of}
 use Rattle.macs_headline.specs.Editions.{EditionsTake}
 use Rattle.macs_headline.proofs.Ledger.{some_one}
 use Rattle.macs_headline.proofs.ReadByEditions.{all-short, kept-records, one-long, short-keys, short-taken}
+use Rattle.macs_headline.proofs.Restored.{taken}
 
 -- ---- the test of the first reason
 
@@ -83,4 +84,5 @@ editions-take = record {
   kept = kept-records;
   tx_kept = λ s after an sa start made. ap accepted_standing made;
   rx_kept = λ s after sci an sa start made. ap accepted_standing made;
+  replayed = taken;
 }

@@ -34,9 +34,9 @@ use Rattle.macs_headline.proofs.Living.{lives-steps}
 -- ---- one call
 
 -- what a call does to the tickets that are given, and to the commands that wait
-record IsTicketStep (old new : State) (given done : List ℕ) : Type 0 where
-  order : (later : List ℕ) → AreInOrder new.tickets later → AreInOrder old.tickets (given ++ later)
-  kept : tickets_of old.waiting ++ given ≡ done ++ tickets_of new.waiting
+pub record IsTicketStep (old new : State) (given done : List ℕ) : Type 0 where
+  pub order : (later : List ℕ) → AreInOrder new.tickets later → AreInOrder old.tickets (given ++ later)
+  pub kept : tickets_of old.waiting ++ given ≡ done ++ tickets_of new.waiting
 
 -- nothing
 alike : (old new : State) → new.tickets ≡ old.tickets → new.waiting ≡ old.waiting → IsTicketStep old new [] []
@@ -123,7 +123,7 @@ by_receive old frame (Ok verdict) out new (inr (a, there, inl (is_verdict, above
 by_receive old frame (Ok verdict) out new (inr (a, there, inr (is_verdict, is_out, is))) = alike old new (ap (λ (s : State). s.tickets) is) (ap (λ (s : State). s.waiting) is)
 by_receive old frame (Err stopped) out new h = absurd h
 
-abbrev IsStepBy : State → State → Reply → Type 0
+abbrev pub IsStepBy : State → State → Reply → Type 0
 IsStepBy old new reply = IsTicketStep old new (given_by reply) (done_by reply)
 
 by_call : (old : State) (call : Call) (reply : Reply) (new : State) → RunningStep old call reply new → IsStepBy old new reply
@@ -148,7 +148,7 @@ by_stopped old (Protects plain) (Protected result out) new h is = alike old new 
 by_stopped old (Receives frame) (Received result out) new h is = alike old new (ap (λ (s : State). s.tickets) is) (ap (λ (s : State). s.waiting) is)
 by_stopped old call reply new h is = absurd h
 
-by_step : (old : State) (call : Call) (reply : Reply) (new : State) → Step old call reply new → IsStepBy old new reply
+pub by_step : (old : State) (call : Call) (reply : Reply) (new : State) → Step old call reply new → IsStepBy old new reply
 by_step old call reply new (inl (stopped, answer, is)) = by_stopped old call reply new answer is
 by_step old call reply new (inr (running, h)) = by_call old call reply new h
 

@@ -239,6 +239,37 @@ module _ {D : Type 0} (disk_of : D → Disk) (sound : (it : D) → IsHonest (dis
       delivered-frame identity sci an key (disk_of mid).sectors before (now (disk_of mid)).seen refilled start e.four e.last frame v.0 out
       (received_once v.0 v.1 v.2) before_ours refilled_ours evening.received v.2
 
+  -- the calls before it was handed in first
+  abbrev installed : List (Transition D)
+  installed =
+      record { call = Commands (RxAdd sci); reply = Ran evening.added; after = e.one }
+      ∷ record { call = Commands (watch_install sci an key); reply = Ran evening.installed; after = e.two }
+      ∷ []
+
+  lived_early : LivesFrom disk_of mid start installed e.two
+  lived_early =
+      let one = e.lives in
+      let two = one.2 in
+      (opening, (one.0, one.1, (two.0, two.1, refl)))
+
+  tried_once : (kind : Kind) → IsVerifiedKind kind → evening.tried ≡ Ok (Delivered kind)
+      → IsDeliveredOnce (disk_of mid).sectors before (now (disk_of mid)).seen installed start e.two e.three frame kind e.early
+  tried_once kind is_kind is =
+      frames-are-delivered-once disk_of sound mid before start e.two e.three installed frame kind e.early is_kind has_before lived_early
+      (subst (λ (r : Result Verdict Stopped). IsCall disk_of e.two (Receives frame) (Received r e.early) e.three) is e.lives.2.2.1)
+
+  installed_ours : AreOurCalls identity sci an key (map exchange_of installed)
+  installed_ours = (inl refl, (inr refl, tt))
+
+  -- what it gives where it is delivered at once
+  pub early-frame : IsVerifiedAnswer evening.tried → (early : List ℕ) × IsWatchFrame sci an (octets_of_key key) frame evening.tried early
+  early-frame is =
+      let v = verified_as evening.tried is in (
+        e.early,
+        delivered-frame identity sci an key (disk_of mid).sectors before (now (disk_of mid)).seen installed start e.two e.three frame v.0 e.early
+            (tried_once v.0 v.1 v.2) before_ours installed_ours evening.tried v.2,
+      )
+
   -- it is delivered once
   pub evening-once : IsVerifiedAnswer evening.tried → IsVerifiedAnswer evening.received → ⊥
   evening-once tried is =

@@ -108,6 +108,9 @@ command-words = record {
   rx = on_rx;
   sets_next = sets_next;
   sets_numbers = sets_numbers;
+  window = λ on window is. is;
+  tx_start = λ an key start confidential offset is. is.2;
+  rx_start = λ sci an key start offset is. is.3;
 }
 
 -- ---- calls

@@ -391,7 +391,8 @@ StandsAsRead old image = (s : Standing) × StandsFor this_edition (now old).seen
 -- What an opening makes of the journal of an honest disk. Whatever it answers, and wherever it is cut short, what is left could be left before, or stands for
 -- the same; and where a journal of format one was there, and has a next generation, that one is left, or the one that was begun anew. An opening of a journal
 -- of format two writes nothing, nor does one that is refused for what stands on the disk. After Ok nothing is pending, each image is in format two, and a
--- journal of format one was begun anew, which was not in the last generation.
+-- journal of format one was begun anew, which was not in the last generation. Each image is in format two after a `format` that answers Ok, too, and after
+-- each call of an endpoint.
 pub record OpeningsBeginAnew {D : Type 0} (disk_of : D → Disk) : Type 0 where
   pub alike : (disk : D) (result : Result (EndpointValue D) (RecoverRefused D)) → IsHonest (disk_of disk) → IsOpening disk_of disk result
       → (image : Image) → LeftSince (disk_after_opening disk_of result) (disk_of disk).clock image
@@ -413,6 +414,10 @@ pub record OpeningsBeginAnew {D : Type 0} (disk_of : D → Disk) : Type 0 where
       × ((image : Image) → MayLeave (disk_in disk_of first) image → HasJournal image after × StandsFor this_edition image (standing_in first.store))
   pub last : (disk : D) (first : EndpointValue D) (c : Content) → IsHonest (disk_of disk) → IsOpening disk_of disk (Ok first)
       → HasJournal (now (disk_of disk)).seen c → c.head.format ≡ One → c.head.generation ≢ 2 ^ 64 - 1
+  pub formatted : (old new : D) (identity : Identity) → IsHonest (disk_of new) → IsFormat disk_of old identity (Ok tt) new
+      → (image : Image) → MayLeave (disk_of new) image → HasFormat image Two
+  pub stays : (disk : D) (before : List Life) (first last : EndpointValue D) (turns : List (Transition D)) → HasHistory this_edition (disk_of disk) before
+      → LivesFrom disk_of disk first turns last → (image : Image) → MayLeave (disk_in disk_of last) image → HasFormat image Two
 
 -- ---- deeds
 

@@ -96,7 +96,8 @@ IsOnRx (RxInstall at number key start offset) sci an = (at ≡ sci) × (number �
 IsOnRx (RxRemove at number) sci an = (at ≡ sci) × (number ≡ an)
 IsOnRx command sci an = ⊥
 
--- A command does what it says, and leaves all that it does not name as it was. (Spent keys are those of the law `spent_for_good` of `macs_config`.)
+-- A command does what it says, and leaves all that it does not name as it was: of the receive channels, which there are. (Their order is in no clause; spent
+-- keys are those of the law `spent_for_good` of `macs_config`.)
 pub record ChangesAsNamed (old : Config) (command : Command) (new : Config) : Type 0 where
   pub done : IsDone command new
   pub validate : ¬ IsOnValidate command → new.validate ≡ old.validate

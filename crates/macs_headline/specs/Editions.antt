@@ -1,8 +1,8 @@
 -- The headline on editions: what an endpoint of one edition does, one of an edition that takes as much or more does too.
-use Rattle.std.specs.Prelude.{◌≡◌, ◌≢◌, ◌<◌, ◌≤◌, ◌⊎◌, true, false, ℕ, List, Contains, length, Option, Some, None, IfSome, Ok, Err}
+use Rattle.std.specs.Prelude.{◌≡◌, ◌≢◌, ◌<◌, ◌≤◌, ◌⊎◌, true, false, ℕ, List, Contains, length, Option, Some, None, IfSome, IsSomeAnd, Ok, Err}
 use Rattle.macs_aes.specs.Keys.{octets_of_key}
 use Rattle.macs_config.specs.Apply.{IsCommand, LongKey, Named, Reason, apply, refusal_of}
-use Rattle.macs_config.specs.Config.{Config, Edition, IsUpTo}
+use Rattle.macs_config.specs.Config.{Config, Edition, IsUpTo, takes_key}
 use Rattle.macs_config.specs.Identity.{Identity}
 use Rattle.macs_config.specs.Judged.{rx_install, tx_install}
 use Rattle.macs_config.specs.declared.association.RxSa.{RxSa}
@@ -23,6 +23,7 @@ use Rattle.macs_journal.specs.Renewal.{compacted}
 use Rattle.macs_store.specs.Commands.{command_of}
 use Rattle.macs_store.specs.Found.{StandingIs}
 use Rattle.macs_store.specs.Replay.{meaning_of, reading_of, replay_of, snapshot_of, standing_after_record}
+use Rattle.macs_store.specs.Snapshot.{snapshot}
 use Rattle.macs_store.specs.Standing.{Standing, accept, new_standing, standing_with_rx_ceiling, standing_with_tx_ceiling}
 use Rattle.macs_endpoint.specs.Restart.{Restart}
 use Rattle.macs_endpoint.specs.State.{Advanced, AdvancedLong, Call, Ran, RefusedLong, Reply, State}
@@ -77,7 +78,8 @@ HasLongKey r = ⊥
 -- answered to no command in range where it takes long keys, and else a command that installs is accepted with a key of 16 octets alone; it is answered to none
 -- with a key of 16 octets. Areas of format two are read by their records alone, where the edition reads them, so as those of format one where no record is of a
 -- long key, and else not; an area of format one with a record of a long key stands for nothing. A record of a command that it accepts stands for what the
--- command makes, whatever is installed; so does one of an association that a command asks for.
+-- command makes, whatever is installed; so does one of an association that a command asks for. What it reads, in a snapshot or after it, has no more channels
+-- than it takes, and no key that it does not take.
 pub record EditionsTake : Type 0 where
   pub channels : (edition : Edition) (identity : Identity) (c : Config) (sci : List ℕ) → length c.channels < edition.channels
       → ¬ (refusal_of edition identity c (RxAdd sci) ≡ Some (Named ChannelsFull))
@@ -104,6 +106,10 @@ pub record EditionsTake : Type 0 where
       → standing_after_record s (recorded.TxInstall an sa start) ≡ Some after
   pub rx_kept : (s after : Standing) (sci : List ℕ) (an : ℕ) (sa : RxSa) (start : ℕ) → accept s (rx_install sci an sa start) ≡ Ok after
       → standing_after_record s (recorded.RxInstall sci an sa start) ≡ Some after
+  pub replayed : (edition : Edition) (identity : Identity) (count : ℕ) (records : List Record) (s : Standing)
+      → replay_of edition identity count records ≡ Some s → (length s.config.channels ≤ edition.channels)
+      × ((an : ℕ) (sa : TxSa) → s.config.tx an ≡ Some sa → takes_key edition sa.key ≡ true)
+      × ((sci : List ℕ) (an : ℕ) (sa : RxSa) → s.config.rx sci an ≡ Some sa → takes_key edition sa.key ≡ true)
 
 -- the same content, in an area of this format
 abbrev pub content_in : Format → Content → Content
@@ -112,7 +118,8 @@ content_in format c = record c { head = record c.head { format = format } }
 -- How an edition reads a disk, whatever is installed. A journal that is found stands for what its content means; and with the head of either format in its
 -- place, the same content is found in that format. A new one of format one means a new endpoint. With one record more, which its format has, a content means
 -- what the record makes of what it meant; and a journal that begins anew, with records that stand for what it meant, means that: in format two, where the
--- edition reads it, and in format one, where no record has a long key. A record that raises the ceiling of an association does so.
+-- edition reads it, and in format one, where no record has a long key. A snapshot of what a content means, whose associations are at the numbers 0 to 3, is
+-- such records. A record that raises the ceiling of an association does so, and one that does not raise it is refused.
 pub record EditionsRead : Type 0 where
   pub stands : (edition : Edition) (sectors : ℕ) (image : Image) (c : Content) (s : Standing) → least_sectors ≤ sectors → HasJournal image c
       → meaning_of edition c ≡ Some s → StandingIs edition sectors image (Ok s)
@@ -127,10 +134,16 @@ pub record EditionsRead : Type 0 where
       → snapshot_of edition s.identity records ≡ Some s → meaning_of edition (compacted c records) ≡ Some s
   pub anew_one : (edition : Edition) (c : Content) (s : Standing) (records : List Record) → ((r : Record) → Contains records r → ¬ HasLongKey r)
       → meaning_of edition c ≡ Some s → snapshot_of edition s.identity records ≡ Some s → meaning_of edition (content_in One (compacted c records)) ≡ Some s
+  pub snapshot : (edition : Edition) (c : Content) (s : Standing) → meaning_of edition c ≡ Some s → ((an : ℕ) → 4 ≤ an → s.config.tx an ≡ None)
+      → ((sci : List ℕ) (an : ℕ) → 4 ≤ an → s.config.rx sci an ≡ None) → snapshot_of edition s.identity (snapshot s) ≡ Some s
   pub tx_raised : (s : Standing) (an old ceiling : ℕ) → s.ceilings.tx an ≡ Some old → old < ceiling
       → standing_after_record s (recorded.TxCeiling an ceiling) ≡ Some (standing_with_tx_ceiling s an ceiling)
   pub rx_raised : (s : Standing) (sci : List ℕ) (an old ceiling : ℕ) → s.ceilings.rx sci an ≡ Some old → old < ceiling
       → standing_after_record s (recorded.RxCeiling sci an ceiling) ≡ Some (standing_with_rx_ceiling s sci an ceiling)
+  pub tx_rises : (s after : Standing) (an ceiling : ℕ) → standing_after_record s (recorded.TxCeiling an ceiling) ≡ Some after
+      → IsSomeAnd (s.ceilings.tx an) (λ old. old < ceiling)
+  pub rx_rises : (s after : Standing) (sci : List ℕ) (an ceiling : ℕ) → standing_after_record s (recorded.RxCeiling sci an ceiling) ≡ Some after
+      → IsSomeAnd (s.ceilings.rx sci an) (λ old. old < ceiling)
 
 -- an edition is larger than another one that takes no more channels, long keys only where it does, and areas of format two only where it does
 abbrev pub TheseAreLarger : Type 0

@@ -1,7 +1,7 @@
 -- The ways in which a program may end, each of which passes the medium of its disk on.
-use Rattle.std.specs.Prelude.{◌≡◌, ◌≤◌, ◌&&◌, not, if◌then◌else◌, ℕ, Bool, true, false, List, Result}
+use Rattle.std.specs.Prelude.{◌≡◌, ◌≤◌, ◌<◌, ◌^◌, ◌&&◌, not, if◌then◌else◌, ℕ, Bool, true, false, List, length, get_or, Result}
 use Rattle.macs_disk.specs.Disk.{Disk, IsDeviceCall, IsHonest, LeftSince, Reads, Syncs, Works, now}
-use Rattle.macs_disk.specs.States.{DiskState, Image, settled_state}
+use Rattle.macs_disk.specs.States.{DiskState, Image, IsImage, settled_state}
 use Rattle.macs_disk.specs.declared.disk.DeviceFault.{DeviceFault}
 use Rattle.macs_headline.specs.Deeds.{IsPassedOn}
 
@@ -67,6 +67,16 @@ abbrev pub SyncsPassOn : {D : Type 0} → (D → Disk) → Type 0
 SyncsPassOn {D} disk_of = (old new : D) (result : Result (Unit {0}) DeviceFault) → IsHonest (disk_of old)
     → IsDeviceCall (disk_of old) (disk_of new) result → Syncs (now (disk_of old)) (now (disk_of new)) result
     → IsPassedOn (disk_of old) (disk_of old).clock (disk_of new)
+
+-- After a power loss nothing is pending, and reads give what is durable.
+abbrev pub LossesSettle : Type 0
+LossesSettle = (ran new : Disk) (since : ℕ) → LosesPower ran since new
+    → (i : ℕ) → ((now new).pending i ≡ false) × ((now new).seen i ≡ (now new).durable i)
+
+-- A sector that was pending has 512 octets in each image, and each is below 256.
+abbrev pub ImagesAreWhole : Type 0
+ImagesAreWhole = (state : DiskState) (image : Image) → IsImage state image → (i : ℕ) → state.pending i ≡ true
+    → (length (image i) ≡ 512) × ((k : ℕ) → get_or (image i) k 0 < 2 ^ 8)
 
 -- What ended in calls that came before others ended in the earlier ones: each end fits the work of its own moment.
 abbrev pub EndsAreEarlier : Type 0

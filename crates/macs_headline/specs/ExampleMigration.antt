@@ -1,5 +1,5 @@
 -- A disk that the first edition of the program formatted: what it is to this one, whose opening begins its journal anew.
-use Rattle.std.specs.Prelude.{◌≡◌, true, List, [], ◌∷◌, ◌++◌, fold, map, replicate, take, length, None, Some}
+use Rattle.std.specs.Prelude.{◌≡◌, true, List, [], ◌∷◌, ◌++◌, fold, map, replicate, take, length, None, Some, Ok}
 use Rattle.macs_aes.specs.declared.keys.Key.TheVariants.{Long}
 use Rattle.macs_config.specs.Apply.{config_after}
 use Rattle.macs_config.specs.Config.{Config, Edition, default, first_edition, this_edition, tx_fingerprint}
@@ -26,7 +26,7 @@ use Rattle.macs_journal.specs.declared.hand.Hand.{Hand}
 use Rattle.macs_journal.specs.declared.hand.Hand.TheVariants as hand
 use Rattle.macs_rxsc.specs.declared.verdict.Kind.TheVariants.{Ok as AsOk}
 use Rattle.macs_rxsc.specs.declared.verdict.Verdict.TheVariants.{Delivered, HeldBack}
-use Rattle.macs_store.specs.Found.{IsToMigrate, StandAlike}
+use Rattle.macs_store.specs.Found.{StandingIs, IsToMigrate, StandAlike}
 use Rattle.macs_store.specs.Snapshot.{settings_record, snapshot}
 use Rattle.macs_store.specs.Standing.{Standing, ceilings_with_rx, ceilings_with_tx, no_ceilings}
 use Rattle.macs_endpoint.specs.State.{Commands, RefusedLong, State}
@@ -212,11 +212,10 @@ later_lives =
     ∷ Serves this_edition again_image again_exchanges None
     ∷ []
 
--- Such is each honest disk of that size with that image and nothing pending. It has that history to the edition that formatted it, and so to this one, which
--- names no such refusal. To this one it is to begin anew. Three bodies into that it has that history still, whatever a power loss leaves of it; and once it is
--- done it stands for what it stood for, in the second area and in format two. So lives of this edition go on from it, with keys of both lengths side by side,
--- and the journal begins anew once more, in the first area. Over all of them four frames went out under the short key, and one was delivered under the long
--- one.
+-- Such is each honest disk of that size with that image and nothing pending. It has that history to the edition that formatted it, and so to this one. To this
+-- one it is to begin anew. Three bodies into that it has that history still, whatever a power loss leaves of it; and once it is done it stands for what it
+-- stood for, in the second area and in format two. So lives of this edition go on from it: after the first of them keys of both lengths stand side by side, and
+-- the journal begins anew once more, in the first area. Over all of them four frames went out under the short key, and one was delivered under the long one.
 pub record IsWorkedMigration : Type 0 where
   pub as_old : (disk : Disk) → IsHonest disk → disk.sectors ≡ example_sectors → now disk ≡ settled_state used_image → IsOldDisk disk
   pub formatted : (disk : Disk) → IsOldDisk disk → HasHistory first_edition disk old_lives
@@ -229,6 +228,7 @@ pub record IsWorkedMigration : Type 0 where
   pub anew : HasJournal migrated_image (compacted used_content (snapshot (used_standing this_edition)))
   pub moved : (migrated_content.area ≡ 1) × (migrated_content.head.format ≡ Two) × HasJournal migrated_image migrated_content
   pub alike : StandAlike this_edition used_image migrated_image
+  pub stood : StandingIs this_edition example_sectors long_image (Ok long_standing)
   pub full : length filled_content.records ≡ 256
   pub again : (again_content.area ≡ 0) × (again_content.head.generation ≡ 3) × (again_content.head.format ≡ Two) × HasJournal again_image again_content
   pub last : State

@@ -16,6 +16,7 @@ pub mod Steps
 pub mod Editions
 pub mod Changing
 pub mod Refused
+pub mod Waits
 pub mod Reasons
 pub mod Begun
 pub mod Stopping
@@ -27,8 +28,13 @@ pub mod Formats
 pub mod Deeds
 pub mod Endings
 pub mod Binding
+pub mod DeedLives
+pub mod OpeningWords
+pub mod Reserved
+pub mod Drawn
 pub mod Cases
 pub mod Words
+pub mod One
 pub mod Beyond
 pub mod Days
 pub mod Nights

@@ -84,21 +84,23 @@ GivenBelow sectors = (past : Past) (found : Standing) → IsFoundAfter sectors p
 abbrev pub IsSkipped : ℕ → ℕ → ℕ → Type 0
 IsSkipped block next later = (next ≤ later) × (later ≤ next + (block + block / 2))
 
--- So far is that of each transmit association moved that a restart keeps, whatever state it is a restart of: it has a next packet number again.
+-- So far is that of each transmit association moved that a restart keeps, whatever state it is a restart of: it has a next packet number again, which is at
+-- most 2^32, one more than the last packet number.
 abbrev pub SkipsFew : ℕ → Type 0
 SkipsFew sectors = (s : State) (edition : Edition) (image : Image) (found : Standing) → Fits edition sectors image s
     → StandingIs edition sectors image (Ok found) → (an : ℕ) (before after : TxSa) (next : ℕ)
     → s.config.tx an ≡ Some before → found.config.tx an ≡ Some after → s.next an ≡ Some next
-    → IsSomeAnd ((opened_state found s.logs).next an) (λ later. IsSkipped s.identity.tx_block next later)
+    → IsSomeAnd ((opened_state found s.logs).next an) (λ later. IsSkipped s.identity.tx_block next later × (later ≤ 2 ^ 32))
 
 -- How far a restart moves the numbers of a receive association: next and lowest become one number. It is no smaller than next was, and at most that or, where
 -- it is greater, a block beyond the greatest number that was seen, as far as 2^32, one more than the last packet number; where none was seen it is what next
--- was.
+-- was. None is seen yet.
 pub record IsMoved (block : ℕ) (old new : Numbers) : Type 0 where
   pub level : new.lowest ≡ new.next
   pub rises : old.next ≤ new.next
   pub unseen : old.seen ≡ None → new.next ≡ old.next
   pub seen : (last : ℕ) → old.seen ≡ Some last → new.next ≤ max old.next (min (last + block) (2 ^ 32))
+  pub fresh : new.seen ≡ None
 
 -- So are those of each receive association moved that a restart keeps, whatever state it is a restart of: it has numbers again.
 abbrev pub SkipsFewReceived : ℕ → Type 0
@@ -108,13 +110,13 @@ SkipsFewReceived sectors = (s : State) (edition : Edition) (image : Image) (foun
     → IsSomeAnd ((opened_state found s.logs).numbers sci an) (λ new. IsMoved s.identity.rx_block old new)
 
 -- An association that the command in hand installs, and that an opening finds, begins where the command says: a transmit association with that next packet
--- number, or one at most a block and a half above; a receive association with next and lowest there, and nothing seen.
+-- number, or one at most a block and a half above, and at most 2^32; a receive association with next and lowest there, and nothing seen.
 abbrev pub BeginAsAsked : ℕ → Type 0
 BeginAsAsked sectors = (s : State) (edition : Edition) (image : Image) (found : Standing) → Fits edition sectors image s
     → StandingIs edition sectors image (Ok found)
     → ((an : ℕ) (key : Key) (start : ℕ) (confidential : Bool) (offset : ℕ) → s.in_hand ≡ Some (TxInstall an key start confidential offset)
     → s.config.tx an ≡ None → IsSome (found.config.tx an)
-    → IsSomeAnd ((opened_state found s.logs).next an) (λ later. IsSkipped s.identity.tx_block start later))
+    → IsSomeAnd ((opened_state found s.logs).next an) (λ later. IsSkipped s.identity.tx_block start later × (later ≤ 2 ^ 32)))
     × ((sci : List ℕ) (an : ℕ) (key : Key) (start offset : ℕ) → s.in_hand ≡ Some (RxInstall sci an key start offset)
     → s.config.rx sci an ≡ None → IsSome (found.config.rx sci an)
     → (opened_state found s.logs).numbers sci an ≡ Some (record { next = start; lowest = start; seen = None }))

@@ -120,7 +120,8 @@ RefusalsAreExact sectors = (s : State) → Moment sectors s → (call : Call) (r
 
 -- ---- limits
 
--- Sixteen commands may wait; a life has 2^64 - 1 tickets; a side 512 spent keys; a journal begins anew up to generation 2^64 - 1. The first edition takes 8
+-- The numbers by which other clauses say how many commands may wait, how many tickets a life has, how many spent keys a side, and up to which generation a
+-- journal begins anew: 16, 2^64 - 1, 512 and 2^64 - 1 (`CommandsWait`, `IsReasonOf`, `IsAtLast`). The first edition takes 8
 -- receive channels, no long keys and no areas of format two; this one takes 32, and both.
 pub record LimitsAre : Type 0 where
   pub first_one : (first_edition.channels ≡ 8) × (first_edition.long_keys ≡ false) × (first_edition.format_two ≡ false)

@@ -40,10 +40,11 @@ pub record IsWatchFrame (sci : List ℕ) (an : ℕ) (key frame : List ℕ) (answ
   pub verified : Verified frame key sci (octets_of Zero) out
   pub only : (other : List ℕ) → Verified frame key sci (octets_of Zero) other → other ≡ out
 
--- What is delivered as verified is so delivered. The frame of the evening is so at most once, though it is handed in twice; and where it was, the frame of the
--- morning, after the power loss, is so only with another packet number: the same frame is not.
+-- What is delivered as verified is so delivered, in the evening at each of the two times. The frame of the evening is so at most once, though it is handed in
+-- twice; and where it was, the frame of the morning, after the power loss, is so only with another packet number: the same frame is not.
 pub record IsWatch {D : Type 0} (sci : List ℕ) (an : ℕ) (key evening first morning second : List ℕ) (watch : Watch D) : Type 0 where
   pub before : IsVerifiedAnswer watch.evening.received → IsWatchFrame sci an key evening watch.evening.received first
+  pub tried : IsVerifiedAnswer watch.evening.tried → (early : List ℕ) × IsWatchFrame sci an key evening watch.evening.tried early
   pub behind : IsVerifiedAnswer watch.morning.received → IsWatchFrame sci an key morning watch.morning.received second
   pub once : IsVerifiedAnswer watch.evening.tried → ¬ IsVerifiedAnswer watch.evening.received
   pub apart : IsVerifiedAnswer watch.evening.tried ⊎ IsVerifiedAnswer watch.evening.received → IsVerifiedAnswer watch.morning.received

@@ -1,5 +1,5 @@
 -- The headline on words of its own clauses that say what may be, what a clause leaves open, or one side of an 'or': they say this and no more.
-use Rattle.std.specs.Prelude.{◌≡◌, ◌⊎◌, ◌+◌, false, ℕ, Bool, List, [], Option, Some, Result, Ok}
+use Rattle.std.specs.Prelude.{◌≡◌, ◌⊎◌, ◌<◌, ◌+◌, ◌^◌, false, ℕ, Bool, List, [], Option, Some, Result, Ok}
 use Rattle.macs_aes.specs.declared.keys.Key.{Key}
 use Rattle.macs_frame.specs.Tag.{tag_of}
 use Rattle.macs_config.specs.Apply.{apply}
@@ -15,6 +15,7 @@ use Rattle.macs_journal.specs.Found.{Content}
 use Rattle.macs_rxsc.specs.Receive.{Numbers, RxSide, RxStep, channel_of}
 use Rattle.macs_rxsc.specs.declared.verdict.Verdict.{Verdict}
 use Rattle.macs_store.specs.Standing.{Standing, accept, ceilings_after, new_standing}
+use Rattle.macs_endpoint.specs.Calls.{IsInRange}
 use Rattle.macs_endpoint.specs.Queue.{first_command}
 use Rattle.macs_endpoint.specs.Restart.{opened_state}
 use Rattle.macs_endpoint.specs.State.{Advanced, AdvancedLong, Advances, Call, Commands, Protected, Protects, Ran, Received, Receives, RefusedLong, Refilled, Refills, Reply, State, Submits, Submitted, no_logs, rx_side}
@@ -49,7 +50,7 @@ pub record EditionWords : Type 0 where
 
 -- Which command is on validation, on replay protection, on how SecTAGs name the channel, on which association frames go out under, on a transmit association,
 -- on a receive channel, and on a receive association: it names that, and no other command is. What sets a packet number is on its association, or is a
--- window.
+-- window. A window and the number that an association begins with, of a command that is given, are below 2^32.
 pub record CommandWords : Type 0 where
   pub validate : (c : Command) → IsOnValidate c → (to : Validate) × (c ≡ SetValidate to)
   pub replay : (c : Command) → IsOnReplay c → (on : Bool) × (window : ℕ) × (c ≡ SetReplay on window)
@@ -63,6 +64,10 @@ pub record CommandWords : Type 0 where
   pub sets_next : (c : Command) (an : ℕ) (later : Option ℕ) → SetsNext c an later → IsOnTx c an
   pub sets_numbers : (c : Command) (sci : List ℕ) (an : ℕ) (old later : Option Numbers) → SetsNumbers c sci an old later
       → IsOnRx c sci an ⊎ IsOnReplay c
+  pub window : (on : Bool) (window : ℕ) → IsInRange (Commands (SetReplay on window)) → window < 2 ^ 32
+  pub tx_start : (an : ℕ) (key : Key) (start : ℕ) (confidential : Bool) (offset : ℕ) → IsInRange (Commands (TxInstall an key start confidential offset))
+      → start < 2 ^ 32
+  pub rx_start : (sci : List ℕ) (an : ℕ) (key : Key) (start offset : ℕ) → IsInRange (Commands (RxInstall sci an key start offset)) → start < 2 ^ 32
 
 -- A frame goes out under an association where `protect` answered its number, and it is the one in use; one comes in under an association where `receive` was
 -- given a frame that names it, by channel and AN, of an endpoint that runs. A number was seen where it stands as the greatest that was. Work on a command may

@@ -12,7 +12,7 @@ ghost use Rattle.macs_disk.specs.declared.file.FileDisk.{FileDisk};
 ghost use Rattle.macs_disk.specs.declared.layout.Layout.{Layout};
 ghost use Rattle.macs_disk.specs.declared.layout.Layout.TheVariants.{Packed, Spaced};
 ghost use Rattle.macs_journal.specs.Areas.{least_sectors};
-ghost use Rattle.macs_fields.specs.First.{IsFirst};
+ghost use Rattle.macs_fields.specs.First.{IsFirst, NoneHolds};
 ghost use Rattle.macs_headline.specs.Answered.{AnswersAreHeld, MomentsAreHistories};
 ghost use Rattle.macs_headline.specs.Binding.{CallsAreDeeds, ChainsAnswer, ChainsKeepSizes, ChainsTell, CutDeliveriesAreBelow, CutFramesAreBelow};
 ghost use Rattle.macs_headline.specs.Binding.{DeedsAreHistories, EndsAreCuts, FittingHaveHistories};
@@ -28,9 +28,12 @@ ghost use Rattle.macs_headline.specs.Cases.{CasesAre};
 ghost use Rattle.macs_headline.specs.Changing.{CommandsChange, IsFirstConfiguration, PrintsAre};
 ghost use Rattle.macs_headline.specs.Commands.{CommandsKept, FindsOne, InHandWasGiven};
 ghost use Rattle.macs_headline.specs.Configurations.{ConfigurationIs};
+ghost use Rattle.macs_headline.specs.DeedLives.{DeedsMakeLives};
 ghost use Rattle.macs_headline.specs.Deliveries.{DeliveredBelow, DeliveriesAreVerified, GivenOnce, NeverOkAgain, OthersAreBare};
 ghost use Rattle.macs_headline.specs.Editions.{EditionsAlike, EditionsRead, EditionsTake, TheseAreLarger};
-ghost use Rattle.macs_headline.specs.Endings.{DroppedPassOn, EndsAreEarlier, KillingsPassOn, LosesPower, PassedOnAgain, PowerLossesPassOn};
+ghost use Rattle.macs_headline.specs.Drawn.{LifeWords, LogWords, MomentsAreExact, NumberWords};
+ghost use Rattle.macs_headline.specs.Endings.{DroppedPassOn, EndsAreEarlier, ImagesAreWhole, KillingsPassOn, LosesPower, LossesSettle};
+ghost use Rattle.macs_headline.specs.Endings.{PassedOnAgain, PowerLossesPassOn};
 ghost use Rattle.macs_headline.specs.Endings.{ReadsPassOn, SyncsPassOn, TheseAreAlike, WritesBackAsSyncs, WrittenBackPassOn};
 ghost use Rattle.macs_headline.specs.ExampleLives.{IsWorkedHistory};
 ghost use Rattle.macs_headline.specs.ExampleMigration.{IsWorkedMigration};
@@ -48,12 +51,16 @@ ghost use Rattle.macs_headline.specs.Reasons.{ReasonsAreNamed};
 ghost use Rattle.macs_headline.specs.Received.{ChannelsAreNamed, HeldAreAhead, LateAreDiscarded, SeenAreVerified, TheseAreTimely};
 ghost use Rattle.macs_headline.specs.Received.{TimelyAreDelivered, UnverifiedAreSettled};
 ghost use Rattle.macs_headline.specs.Refused.{FaultsAreNamed, LimitsAre, RefusalsAreExact};
+ghost use Rattle.macs_headline.specs.Reserved.{ReservationsAreWanted};
 ghost use Rattle.macs_headline.specs.Steps.{RepliesAreOfCalls, StepsAreOne, StepsAreTaken};
 ghost use Rattle.macs_headline.specs.Stopping.{StoppedStays};
 ghost use Rattle.macs_headline.specs.Tickets.{TicketsKept};
 ghost use Rattle.macs_headline.specs.Verdicts.{BareFramesAre, VerdictsAreNamed};
+ghost use Rattle.macs_headline.specs.One.{OneChangeComes, OneFrameComes, OneStateComes};
+ghost use Rattle.macs_headline.specs.Waits.{CommandsWait};
 ghost use Rattle.macs_headline.specs.Windows.{WindowsAreKept};
 ghost use Rattle.macs_headline.specs.Words.{CallWords, CommandWords, EditionWords, OneComesOfIt, ReplyWords};
+ghost use Rattle.macs_headline.specs.OpeningWords.{OpeningWords};
 ghost use Rattle.macs_headline.specs.Openings.{IdentityWasGiven, NothingChanges, RefusedForDiskOrBlank, RefusedForDiskOrSpent, SpentAreLast};
 
 use crate::example::peer_frame_in_range;
@@ -94,7 +101,7 @@ pub fn headline()
     // With replay protection on and window 0 no packet number is delivered twice as verified on one association.
     ensures given_once { (sectors : ℕ) → GivenOnce sectors }
     ensures given_apart { (sectors : ℕ) → GivenApart sectors }
-    // A packet number that was delivered before a restart is never delivered as Ok after it.
+    // A packet number that was delivered before a restart is never delivered as Ok after it, on an association of the same SCI and key.
     ensures never_ok_again { (sectors : ℕ) → NeverOkAgain sectors }
     ensures ok_apart { (sectors : ℕ) → OkApart sectors }
     // In every image each number that was used is below the next one found for its key, which is spent.
@@ -181,6 +188,8 @@ pub fn headline()
     ensures replies { RepliesAreOfCalls }
     // A call is refused for the first reason that holds, and changes nothing then, but that a submitted command leaves the queue.
     ensures refusals_are_exact { (sectors : ℕ) → RefusalsAreExact sectors }
+    // While a command waits `command` is answered Busy; sixteen wait at most, under tickets one by one.
+    ensures waiting { (sectors : ℕ) → CommandsWait sectors }
     // A command that is refused for a reason has it, and none before it; and one that has any is refused.
     ensures reasons_are_named { ReasonsAreNamed }
     // A plain frame that is refused for a fault has it, and none before it; and one that goes out has none of the first five.
@@ -235,8 +244,19 @@ pub fn words()
     ensures calls { CallWords }
     // Which reply is of which function.
     ensures replies { ReplyWords }
+    // What an opening leaves.
+    ensures openings { OpeningWords }
     // One verdict, one journal and one failure come of it.
     ensures one { OneComesOfIt }
+    // One frame that goes out, or is delivered or held back, with its number; one configuration, with the numbers that are
+    // set; and one state.
+    ensures one_frame { OneFrameComes }
+    ensures one_change { OneChangeComes }
+    ensures one_state { OneStateComes }
+    // What is drawn from logs, from numbers and tickets, and from lives and what they make.
+    ensures logs { (sectors : ℕ) → LogWords sectors }
+    ensures numbers { NumberWords }
+    ensures lives { (sectors : ℕ) → LifeWords sectors }
 {}
 
 /// What comes first in an order, of faults, reasons or steps: the first one, where it holds; else
@@ -255,6 +275,9 @@ pub fn first_in_order<R>()
     ensures behind_alone { (holds : R → Bool) (first found : R) (rest : List R) → ¬ IsTrue (holds first)
         → IsFirst (λ r. IsTrue (holds r)) (first ∷ rest) found → IsFirst (λ r. IsTrue (holds r)) rest found }
     ensures none { (holds : R → Bool) (found : R) → ¬ IsFirst (λ r. IsTrue (holds r)) [] found }
+    // Of a list of which none holds, the first one does not, and none of the others.
+    ensures none_of { (holds : R → Bool) (first : R) (rest : List R) → NoneHolds (λ r. IsTrue (holds r)) (first ∷ rest)
+        → (¬ IsTrue (holds first)) × NoneHolds (λ r. IsTrue (holds r)) rest }
     // So what comes first holds.
     ensures held { (holds : R → Bool) (order : List R) (found : R) → IsFirst (λ r. IsTrue (holds r)) order found
         → IsTrue (holds found) }
@@ -302,6 +325,9 @@ pub fn endings<D: SectorDisk>()
     ensures earlier { EndsAreEarlier }
     // One of these comes after another.
     ensures again { PassedOnAgain }
+    // After a power loss nothing is pending; a sector that was has 512 octets, whichever.
+    ensures settled { LossesSettle }
+    ensures whole { ImagesAreWhole }
 {}
 
 /// What is done with a disk that has a history, by the contracts of `format`, of `Endpoint::open` and of an
@@ -319,12 +345,16 @@ pub fn histories<D: SectorDisk>()
     ensures told { ChainsTell D.disk }
     // And nothing else is told: each of the lives is what one of the deeds is.
     ensures told_alone { LivesAreDeeds D.disk }
+    // Each deed makes the life that is told of it, over the image that reads gave, or none.
+    ensures made { DeedsMakeLives D.disk }
     // From a disk that is new they are one.
     ensures from_new { NewDeedsAreHistories D.disk }
     // An opening finds what may be found after the history.
     ensures found { OpeningsFind D.disk }
     // An endpoint that lives is at a moment of it.
     ensures under_way { LivesAreMoments D.disk }
+    // The lives up to that moment are those before it, and its own, so far.
+    ensures exactly { MomentsAreExact D.disk }
     // Where the medium is passed on while it lives, that is in its opening, or inside one of its calls.
     ensures cut { EndsAreCuts D.disk }
     // An opening is refused only where a device call failed, where the disk was not formatted for sure, or for a
@@ -337,6 +367,8 @@ pub fn histories<D: SectorDisk>()
     ensures idle { IdleFindsNoWork D.disk }
     // A call is answered GenerationsSpent only where the journal is at its end.
     ensures spent { SpentAreSpent D.disk }
+    // A frame is held back, or has no number, only where a ceiling is reached; and after a refill none is needed.
+    ensures wanted { ReservationsAreWanted D.disk }
     // A call is answered Disk only where a device call failed, or the disk is worn.
     ensures faults { FaultsAreFailures D.disk }
     // What is left after it is opened as a restart of the state in which it ended, with the command that the
@@ -361,8 +393,8 @@ pub fn histories<D: SectorDisk>()
     ensures cut_deliveries { CutDeliveriesAreBelow D.disk }
 {}
 
-/// There are histories, over real images and frames: with power losses in `format`, between two steps of a
-/// command and in a compaction, a program that is killed, a device's fault, refused openings and commands,
+/// There are histories, over real images and frames: with a `format` that did not answer Ok, power losses between two
+/// steps of a command and in a compaction, a program that is killed, a device's fault, refused openings and commands,
 /// and frames of both sides, also within a replay window and without replay protection.
 pub fn worked_history()
     ensures { IsWorkedHistory }
@@ -407,6 +439,11 @@ pub fn files<F: DiskFile>()
         → IsLeftAsShown F.file it → IsFoundAgain F.file it → Behaves (F.file (file_left it))
         → IsHonest (disk_in_file F.file it) → HasNothingNew (F.file (file_left it)) file → IsOpened file 0 again new
         → (again ≡ layout_of it) × LosesPower (disk_in_file F.file it) (disk_in_file F.file it).clock new }
+    // A power loss leaves nothing new of a file that was let go of, whatever it shows then and whoever claims it; of one
+    // after a power loss, and of one after the other, `nothing_new_of_a_file` of `macs_disk` says so.
+    ensures let_go { (left file : FileState) → file.block ≡ left.block → file.size ≡ left.size
+        → file.is_size_durable ≡ left.is_size_durable → ((p : ℕ) → file.durable p ≡ left.durable p)
+        → ((n : ℕ) → file.pending n ≡ left.pending n) → HasNothingNew left file }
     // Blocks of 512 octets suit both layouts, and those of 4,096 the one in which sectors lie apart.
     ensures blocks { (suits Packed 512 ≡ true) × (suits Spaced 512 ≡ true) × (suits Spaced 4096 ≡ true) }
 {

@@ -42,7 +42,7 @@ pub struct Watch<D: SectorDisk> {
 }
 
 /// Formats a new disk, opens it, adds a receive channel and installs an association with this key, and hands
-/// in the frame of the evening: it is held back, as no number is reserved yet. Refills, and hands it in again.
+/// in the frame of the evening, which may be held back, as no number is reserved yet. Refills, and hands it in again.
 /// Then the power is lost. Opens the disk again, refills, and hands in the frame of the morning, which may be
 /// the same one. Replay protection is on with window 0. What is delivered as verified is so under that key, as
 /// Ok, with its plain frame; and no two frames are with one packet number. A disk of which an opening is refused

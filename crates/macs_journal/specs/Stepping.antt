@@ -132,7 +132,7 @@ pub record AdvancesAppend {D : Type 0} (disk_of : D → disk.Disk) (old : Journa
       → Leaves (disk_in disk_of old) (disk_in disk_of new) (HasEitherJournal before after)
   pub next : OnOk result (IsHonest (disk_in disk_of new) → (before after : Content) → IsHolding (disk_in disk_of old) old.place old.hand before after
       → ComesTo (disk_in disk_of new) new.place new.hand before after)
-  -- once it is done the gate is as it is written, and all sectors but the body and the gate are left alone
+  -- once it is done the gate is as it is written; whatever the call answered, all sectors but the body and the gate are left alone
   pub opened : OnOk result (IsIdle new → IsHonest (disk_in disk_of new) → (before after : Content) → IsHolding (disk_in disk_of old) old.place old.hand before after
       → (now (disk_in disk_of new)).seen (gate old.place.area (old.place.free + 1)) ≡ open_gate)
   pub others : IsHonest (disk_in disk_of new) → (i : ℕ) → i ≢ slot_body old.place.area old.place.free → i ≢ gate old.place.area (old.place.free + 1)

@@ -1,4 +1,4 @@
-use Rattle.macs_headline.proofs.Endings.{dropped-pass-on, ends-are-earlier, killings-pass-on, passed-on-again, power-losses-pass-on, reads-pass-on, syncs-pass-on, these-are-alike, writes-back-as-syncs, written-back-pass-on}
+use Rattle.macs_headline.proofs.Endings.{dropped-pass-on, ends-are-earlier, images-are-whole, killings-pass-on, losses-settle, passed-on-again, power-losses-pass-on, reads-pass-on, syncs-pass-on, these-are-alike, writes-back-as-syncs, written-back-pass-on}
 use Rattle.macs_headline.proofs.laws.endings.Goals as goal
 
 pub returns-clause-as_alike : goal.returns-clause-as_alike
@@ -30,3 +30,9 @@ returns-clause-earlier g c = ends-are-earlier
 
 pub returns-clause-again : goal.returns-clause-again
 returns-clause-again g c = passed-on-again
+
+pub returns-clause-settled : goal.returns-clause-settled
+returns-clause-settled g c = losses-settle
+
+pub returns-clause-whole : goal.returns-clause-whole
+returns-clause-whole g c = images-are-whole

@@ -1,4 +1,4 @@
-use Rattle.macs_headline.proofs.DiskFiles.{blank-file-is-new, left-suited, opened-again}
+use Rattle.macs_headline.proofs.DiskFiles.{blank-file-is-new, left-suited, let-go, opened-again}
 use Rattle.macs_headline.proofs.laws.files.Goals as goal
 
 pub returns-clause-new : goal.returns-clause-new
@@ -11,3 +11,6 @@ pub returns-clause-reopened : goal.returns-clause-reopened
 returns-clause-reopened g c it file again new left found behaves honest nothing opened =
     opened-again (g.F.DiskFile.file it.file) file it.layout again _ new (found behaves).0 (left-suited g.F.DiskFile.file it left behaves honest) honest
     (λ image is. c.a_file_is_left_as_its_disk.ensures it image left behaves is) nothing opened
+
+pub returns-clause-let_go : goal.returns-clause-let_go
+returns-clause-let_go g c = let-go

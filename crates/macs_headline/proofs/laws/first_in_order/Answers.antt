@@ -31,3 +31,6 @@ returns-clause-none g c = λ holds found is. is
 
 pub returns-clause-held : goal.returns-clause-held
 returns-clause-held g c = λ holds order found is. first_holds (λ r. IsTrue (holds r)) order found is
+
+pub returns-clause-none_of : goal.returns-clause-none_of
+returns-clause-none_of g c = λ holds first rest none. none

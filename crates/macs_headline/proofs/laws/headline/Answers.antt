@@ -33,6 +33,7 @@ use Rattle.macs_headline.proofs.Tickets.{tickets-kept}
 use Rattle.macs_headline.proofs.TakenByEditions.{editions-take}
 use Rattle.macs_headline.proofs.TxFaults.{faults-are-named}
 use Rattle.macs_headline.proofs.Verdicts.{bare-frames-are, verdicts-are-named}
+use Rattle.macs_headline.proofs.Waits.{commands-wait}
 use Rattle.macs_headline.proofs.laws.headline.Goals as goal
 
 pub returns-clause-nothing_forgotten : goal.returns-clause-nothing_forgotten
@@ -250,3 +251,6 @@ returns-clause-editions_read c = editions-read
 
 pub returns-clause-cases : goal.returns-clause-cases
 returns-clause-cases c = cases-are
+
+pub returns-clause-waiting : goal.returns-clause-waiting
+returns-clause-waiting c = commands-wait

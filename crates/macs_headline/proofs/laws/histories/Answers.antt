@@ -1,10 +1,13 @@
 use Rattle.macs_headline.proofs.BegunAnew.{openings-begin-anew}
 use Rattle.macs_headline.proofs.Chains.{calls-are-deeds, chains-answer, chains-keep-sizes, chains-tell, deeds-are-histories, lives-are-deeds, new-deeds-are-histories}
+use Rattle.macs_headline.proofs.DeedLives.{deeds-make-lives}
+use Rattle.macs_headline.proofs.Drawn.{moments-are-exact}
 use Rattle.macs_headline.proofs.ExactEnds.{lives-end-exactly}
 use Rattle.macs_headline.proofs.Faults.{faults-are-failures}
 use Rattle.macs_headline.proofs.Idling.{idle-finds-no-work}
 use Rattle.macs_headline.proofs.Moments.{cut-deliveries-are-below, cut-frames-are-below, ends-are-cuts, frames-are-delivered-once, frames-are-written-once, lives-are-moments, lives-fit, lives-fit-unbegun, lives-keep-commands, openings-find}
 use Rattle.macs_headline.proofs.Refusals.{refusals-are-failures}
+use Rattle.macs_headline.proofs.Reserved.{reservations-are-wanted}
 use Rattle.macs_headline.proofs.Spending.{spent-are-spent}
 use Rattle.macs_headline.proofs.Tickets.{lives-keep-tickets}
 use Rattle.macs_headline.proofs.laws.histories.Goals as goal
@@ -80,3 +83,12 @@ returns-clause-answers g c = chains-answer g.D.SectorDisk.disk
 
 pub returns-clause-spent : goal.returns-clause-spent
 returns-clause-spent g c = spent-are-spent g.D.SectorDisk.disk
+
+pub returns-clause-made : goal.returns-clause-made
+returns-clause-made g c = deeds-make-lives g.D.SectorDisk.disk
+
+pub returns-clause-wanted : goal.returns-clause-wanted
+returns-clause-wanted g c = reservations-are-wanted g.D.SectorDisk.disk
+
+pub returns-clause-exactly : goal.returns-clause-exactly
+returns-clause-exactly g c = moments-are-exact g.D.SectorDisk.disk

@@ -1,3 +1,6 @@
+use Rattle.macs_headline.proofs.OpeningWords.{opening-words}
+use Rattle.macs_headline.proofs.Drawn.{life-words, log-words, number-words}
+use Rattle.macs_headline.proofs.One.{one-change-comes, one-frame-comes, one-state-comes}
 use Rattle.macs_headline.proofs.Words.{call-words, command-words, edition-words, one-comes-of-it, reply-words}
 use Rattle.macs_headline.proofs.laws.words.Goals as goal
 
@@ -15,3 +18,24 @@ returns-clause-replies c = reply-words
 
 pub returns-clause-one : goal.returns-clause-one
 returns-clause-one c = one-comes-of-it
+
+pub returns-clause-openings : goal.returns-clause-openings
+returns-clause-openings c = opening-words
+
+pub returns-clause-one_frame : goal.returns-clause-one_frame
+returns-clause-one_frame c = one-frame-comes
+
+pub returns-clause-one_change : goal.returns-clause-one_change
+returns-clause-one_change c = one-change-comes
+
+pub returns-clause-one_state : goal.returns-clause-one_state
+returns-clause-one_state c = one-state-comes
+
+pub returns-clause-logs : goal.returns-clause-logs
+returns-clause-logs c = log-words
+
+pub returns-clause-numbers : goal.returns-clause-numbers
+returns-clause-numbers c = number-words
+
+pub returns-clause-lives : goal.returns-clause-lives
+returns-clause-lives c = life-words

@@ -1,12 +1,16 @@
 use Rattle.std.proofs.Common.{inl, inr}
 use Rattle.std.proofs.lemmas.Result.{err_from_is_err_and}
 use Rattle.macs_headline.proofs.Nights.{refused-first}
-use Rattle.macs_headline.proofs.Watches.{evening-frame, evening-once, morning-frame, refused-morning, watch-apart}
+use Rattle.macs_headline.proofs.Watches.{early-frame, evening-frame, evening-once, morning-frame, refused-morning, watch-apart}
 use Rattle.macs_headline.proofs.watch.a_watch.Goals as goal
 
 pub returns-clause-opened : goal.returns-clause-opened
 returns-clause-opened g c =
     let first = evening-frame g.D.SectorDisk.disk g.met.D.SectorDisk.sound c.args.identity.now c.args.sci c.args.an c.args.key
+    c.args.disk c.format-formatted.new.disk c.requires.new c.format-formatted.result c.format-formatted.ensures
+    c.in_ok-endpoint.endpoint c.in_ok-endpoint.ensures c.args.evening.now c.serve_evening-left.new.out.items
+    c.serve_evening-left.result.0 c.serve_evening-left.result.1 c.serve_evening-left.ensures in
+    let early = early-frame g.D.SectorDisk.disk g.met.D.SectorDisk.sound c.args.identity.now c.args.sci c.args.an c.args.key
     c.args.disk c.format-formatted.new.disk c.requires.new c.format-formatted.result c.format-formatted.ensures
     c.in_ok-endpoint.endpoint c.in_ok-endpoint.ensures c.args.evening.now c.serve_evening-left.new.out.items
     c.serve_evening-left.result.0 c.serve_evening-left.result.1 c.serve_evening-left.ensures in
@@ -28,7 +32,7 @@ returns-clause-opened g c =
     c.lose_power-lost.result c.lose_power-lost.ensures
     c.in_ok-again.again c.in_ok-again.ensures c.args.morning.now c.serve_morning-disk.new.out.items
     c.serve_morning-disk.result.0 c.serve_morning-disk.result.1 c.serve_morning-disk.ensures in
-    record { before = first; behind = second; once = once; apart = apart }
+    record { before = first; tried = early; behind = second; once = once; apart = apart }
 
 pub returns-in_err-endpoint-clause-refused : goal.returns-in_err-endpoint-clause-refused
 returns-in_err-endpoint-clause-refused g c =

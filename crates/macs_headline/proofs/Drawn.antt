@@ -1,0 +1,260 @@
+-- What is to be drawn from words that stand in conclusions.
+use Rattle.std.proofs.Common.{◌≡◌, ◌≢◌, ◌⊎◌, ◌+◌, ◌++◌, inl, inr, ℕ, suc, ◌==◌, Bool, true, false, cond, List, [], ◌∷◌, length, Ok, refl, sym, ◌∙◌, ap, subst, arith}
+use Rattle.std.specs.Prelude.{AllPairs, Contains, Option, Some, None}
+use Rattle.std.specs.List.{range_with_len}
+use Rattle.std.specs.Option.{option_and_then}
+use Rattle.macs_config.specs.Config.{Config, Edition}
+use Rattle.macs_config.specs.Identity.{Identity}
+use Rattle.macs_config.specs.declared.command.Command.{Command}
+use Rattle.macs_disk.specs.Disk.{Disk}
+use Rattle.macs_disk.specs.States.{Image}
+use Rattle.macs_frame.specs.Tag.{tag_of}
+use Rattle.macs_journal.specs.declared.fault.JournalFault.{JournalFault}
+use Rattle.macs_rxsc.specs.Receive.{NotVerified, Numbers, RxStepHolds, channel_of}
+use Rattle.macs_rxsc.specs.declared.verdict.Kind.{Kind}
+use Rattle.macs_endpoint.specs.Queue.{first_command}
+use Rattle.macs_endpoint.specs.Restart.{Restart, Resumes}
+use Rattle.macs_endpoint.specs.State.{Advanced, AdvancedLong, Advances, Call, Commands, Delivery, Logs, Receives, Reply, State, Submits, Submitted, Use, rx_side}
+use Rattle.macs_endpoint.specs.Step.{Exchange}
+use Rattle.macs_endpoint.specs.declared.progress.Step.TheVariants.{Done}
+use Rattle.macs_endpoint.specs.declared.queue.Waiting.{Waiting}
+use Rattle.macs_headline.specs.Begun.{MayBegin, WasBegun}
+use Rattle.macs_headline.specs.Commands.{CommandsMake, IsPrefix, WasHandedIn, accepted_commands, acknowledged_commands, failing, waiting_after, waiting_at_end, waiting_from, without_first}
+use Rattle.macs_headline.specs.Configurations.{LivesMake, StandsFor}
+use Rattle.macs_headline.specs.Deliveries.{IsOtherDelivery}
+use Rattle.macs_headline.specs.Drawn.{LifeWords, LogWords, MomentsAreExact, NumberWords}
+use Rattle.macs_headline.specs.Formats.{AreUnformatted}
+use Rattle.macs_headline.specs.Frames.{IsOtherFrame}
+use Rattle.macs_headline.specs.History.{Formats, Life, Refuses, Serves}
+use Rattle.macs_headline.specs.Logged.{WasDelivered, WasWritten}
+use Rattle.macs_headline.specs.Numbers.{AreHeldIn, HasNoneTwice, IsMoved}
+use Rattle.macs_headline.specs.Received.{IsSeenBy}
+use Rattle.macs_headline.specs.Refused.{refusal_at}
+use Rattle.macs_headline.specs.Tickets.{AreInOrder}
+use Rattle.macs_headline.proofs.Ledger.{some_one}
+use Rattle.macs_headline.proofs.Lists.{contains-cases, contains-either, contains-first, contains-later, contains-none, contains-rear, not-twice}
+use Rattle.macs_headline.proofs.LookUps.{none-some}
+
+-- ---- logs
+
+used_in : (old new : Logs) → AreHeldIn old new → (u : Use) → Contains old.used u → Contains new.used u
+used_in old new is u has = subst (λ (l : List Use). Contains l u) is.used (contains-rear is.used_since old.used u has)
+
+given_in : (old new : Logs) → AreHeldIn old new → (d : Delivery) → Contains old.given d → Contains new.given d
+given_in old new is d has = subst (λ (l : List Delivery). Contains l d) is.given (contains-rear is.given_since old.given d has)
+
+-- those without the first
+pairs_later : (u : Use) (us : List Use) → AllPairs {X = Use} (λ a b. a ≢ b) (u ∷ us) → AllPairs {X = Use} (λ a b. a ≢ b) us
+pairs_later u us pairs i j d before within = pairs (suc i) (suc j) d (omega (arith, before)) (omega (arith, within))
+
+twice : (front between behind : List Use) (u : Use) → ¬ HasNoneTwice (front ++ u ∷ (between ++ u ∷ behind))
+twice [] between behind u pairs =
+    not-twice u (between ++ u ∷ behind) pairs (contains-rear between (u ∷ behind) u (contains-first u behind))
+twice (first ∷ front) between behind u pairs = twice front between behind u (pairs_later first (front ++ u ∷ (between ++ u ∷ behind)) pairs)
+
+module _ (sectors : ℕ) where
+  frame_logged : (lives : List Life) (logs : Logs) (plain out key : List ℕ) (pn number : ℕ) (o : IsOtherFrame sectors lives logs plain pn out key number)
+      → Contains logs.used (record { key = o.frame.sa.key; pn = pn })
+  frame_logged lives logs plain out key pn number o =
+      let u : Use = record { key = o.frame.sa.key; pn = pn } in
+      used_in o.answered.after.logs logs o.answered.held u
+      (subst (λ (l : List Use). Contains l u) (sym o.frame.logged) (contains-first u o.answered.at.logs.used))
+
+  delivery_logged : (lives : List Life) (logs : Logs) (frame out sci key : List ℕ) (kind : Kind) (pn : ℕ)
+      (o : IsOtherDelivery sectors lives logs frame kind out sci key pn)
+      → Contains logs.given (record { sci = o.delivery.sci; key = o.delivery.sa.key; pn = (tag_of frame).pn; kind = kind })
+  delivery_logged lives logs frame out sci key kind pn o =
+      let d : Delivery = record { sci = o.delivery.sci; key = o.delivery.sa.key; pn = (tag_of frame).pn; kind = kind } in
+      given_in o.answered.after.logs logs o.answered.held d
+      (subst (λ (l : List Delivery). Contains l d) (sym o.delivery.logged) (contains-first d o.answered.at.logs.given))
+
+  written_logged : (lives : List Life) (logs : Logs) (u : Use) → WasWritten sectors lives logs u → Contains logs.used u
+  written_logged lives logs u w =
+      let v : Use = record { key = w.frame.sa.key; pn = u.pn } in
+      let same : v ≡ u = (λ i. record { key = w.key i; pn = u.pn }) in
+      used_in w.answered.after.logs logs w.answered.held u
+      (subst (Contains w.answered.after.logs.used) same
+      (subst (λ (l : List Use). Contains l v) (sym w.frame.logged) (contains-first v w.answered.at.logs.used)))
+
+  delivered_logged : (lives : List Life) (logs : Logs) (d : Delivery) → WasDelivered sectors lives logs d → Contains logs.given d
+  delivered_logged lives logs d w =
+      let e : Delivery = record { sci = w.delivery.sci; key = w.delivery.sa.key; pn = (tag_of w.frame).pn; kind = d.kind } in
+      let same : e ≡ d = (λ i. record { sci = w.sci i; key = w.key i; pn = w.number i; kind = d.kind }) in
+      given_in w.answered.after.logs logs w.answered.held d
+      (subst (Contains w.answered.after.logs.given) same
+      (subst (λ (l : List Delivery). Contains l e) (sym w.delivery.logged) (contains-first e w.answered.at.logs.given)))
+
+  pub log-words : LogWords sectors
+  log-words = record {
+    held = λ old new is. (used_in old new is, given_in old new is);
+    twice = twice;
+    frame = frame_logged;
+    delivery = delivery_logged;
+    written = written_logged;
+    delivered = delivered_logged;
+    answered = λ lives e logs was.
+        let life : Life = Serves was.moment.edition was.moment.image (was.moment.exchanges ++ e ∷ was.rest) was.cut in (
+          subst (λ (all : List Life). Contains all life) was.there
+              (contains-rear was.moment.lives (life ∷ was.later) life (contains-first life was.later)),
+          was.step,
+        );
+  }
+
+-- ---- numbers
+
+in_order : (last : ℕ) (tickets : List ℕ) → AreInOrder last tickets → tickets ≡ range_with_len (last + 1) (length tickets)
+in_order last [] is = refl
+in_order last (ticket ∷ tickets) (is, later) =
+    (λ i. is i ∷ in_order ticket tickets later i) ∙ ap (λ (n : ℕ). (last + 1) ∷ range_with_len (n + 1) (length tickets)) is
+
+moved_to : (block : ℕ) (old new : Numbers) → IsMoved block old new → new ≡ record { next = new.next; lowest = new.next; seen = None }
+moved_to block old new is = λ i. record { next = new.next; lowest = is.level i; seen = is.fresh i }
+
+seen_by : (s : State) (call : Call) (sci : List ℕ) (an pn : ℕ) → IsSeenBy s call sci an pn
+    → (frame : List ℕ) × (call ≡ Receives frame) × (channel_of (rx_side s) frame ≡ Some sci) × ((tag_of frame).an ≡ an) × ((tag_of frame).pn ≡ pn)
+    × (¬ RxStepHolds (rx_side s) frame NotVerified)
+seen_by s call sci an pn is = (
+  is.frame,
+  is.received,
+  is.named,
+  is.is_an,
+  is.is_pn,
+  λ never. never is.plain (record {
+    sci = sci;
+    sa = is.sa;
+    is_channel = is.named;
+    is_association = ap (option_and_then (λ (at : List ℕ). s.config.rx at (tag_of is.frame).an)) is.named
+        ∙ ap (s.config.rx sci) is.is_an ∙ is.association;
+    verified = is.verified;
+  }),
+)
+
+pub number-words : NumberWords
+number-words = record {
+  tickets = λ tickets is. in_order 0 tickets is;
+  moved = moved_to;
+  window = λ n is. let low = is.0 in let high = is.1 in omega (arith, low, high);
+  seen = seen_by;
+}
+
+-- ---- lives
+
+resumed : (old new : State) → Resumes old new → (new.logs ≡ old.logs) × (new.stopped ≡ false) × (new.in_hand ≡ None) × (new.waiting ≡ [])
+    × (new.tickets ≡ 0)
+resumed old new is = (is.logs, is.running, is.idle, is.waiting, is.tickets)
+
+restarted : (old new : State) → Restart old new → (new.logs ≡ old.logs) × (new.stopped ≡ false) × (new.in_hand ≡ None) × (new.waiting ≡ [])
+    × (new.tickets ≡ 0)
+restarted old new (inl up) = resumed old new up
+restarted old new (inr (c, mid, hand, makes, up)) =
+    let is = resumed mid new up in (is.0 ∙ ap (λ (s : State). s.logs) makes.2, is.1, is.2, is.3, is.4)
+
+-- a call gave this command a ticket, or it waited already
+abbrev submitting : Command → ℕ → Exchange
+submitting c ticket = record { call = Submits c; reply = Submitted (Ok ticket) }
+
+left_by : (b : Bool) (first : Waiting) (rest : List Waiting) (w : Waiting) → Contains (cond b rest (first ∷ rest)) w → Contains (first ∷ rest) w
+left_by true first rest w has = contains-later first rest w has
+left_by false first rest w has = has
+
+left_waits : (ticket : ℕ) (waiting : List Waiting) (w : Waiting) → Contains (without_first ticket waiting) w → Contains waiting w
+left_waits ticket [] w has = has
+left_waits ticket (first ∷ rest) w has = left_by (first.ticket == ticket) first rest w has
+
+waits_by : (waiting : List Waiting) (call : Call) (reply : Reply) (w : Waiting) → Contains (waiting_after waiting call reply) w
+    → Contains waiting w ⊎ ((ticket : ℕ) × (call ≡ Submits w.command) × (reply ≡ Submitted (Ok ticket)))
+waits_by waiting (Submits c) (Submitted (Ok ticket)) w has =
+    let last : Waiting = record { ticket = ticket; command = c } in
+    elim (contains-either waiting (last ∷ []) w has) [
+      | inl before ↦ inl before
+      | inr one ↦ elim (contains-cases last [] w one) [
+        | inl same ↦ inr (ticket, ap (λ (x : Waiting). Submits x.command) (sym same), refl)
+        | inr none ↦ absurd (contains-none w none)
+      ]
+    ]
+waits_by waiting Advances (Advanced (Ok (Done ticket result))) w has = inl (left_waits ticket waiting w has)
+waits_by waiting Advances (AdvancedLong ticket) w has = inl (left_waits ticket waiting w has)
+waits_by waiting call reply w has = inl has
+
+-- each that waits after these calls waited at first, or was given its ticket by one of them
+waits_from : (waiting : List Waiting) (exchanges : List Exchange) (w : Waiting) → Contains (waiting_from waiting exchanges) w
+    → Contains waiting w ⊎ ((ticket : ℕ) × Contains exchanges (submitting w.command ticket))
+waits_from waiting [] w has = inl has
+waits_from waiting (e ∷ exchanges) w has = elim (waits_from (waiting_after waiting e.call e.reply) exchanges w has) [
+  | inl there ↦ elim (waits_by waiting e.call e.reply w there) [
+    | inl before ↦ inl before
+    | inr given ↦
+        let same : e ≡ submitting w.command given.0 = (λ i. record { call = given.1 i; reply = given.2 i }) in
+        inr (given.0, subst (Contains (e ∷ exchanges)) same (contains-first e exchanges))
+  ]
+  | inr later ↦ inr (later.0, contains-later e exchanges (submitting w.command later.0) later.1)
+]
+
+first_waits : (waiting : List Waiting) (c : Command) → first_command waiting ≡ Some c → (w : Waiting) × Contains waiting w × (w.command ≡ c)
+first_waits [] c is = absurd (none-some c is)
+first_waits (w ∷ waiting) c is = (w, contains-first w waiting, some_one (Some w.command) w.command c refl is)
+
+handed_in : (exchanges : List Exchange) (cut : Option Call) (command : Command) → WasHandedIn exchanges cut command
+    → ((ticket : ℕ) × Contains exchanges (submitting command ticket)) ⊎ (Contains exchanges (failing command) ⊎ (cut ≡ Some (Commands command)))
+handed_in exchanges cut command (inl first) =
+    let w = first_waits (waiting_at_end exchanges) command first in
+    elim (waits_from [] exchanges w.0 w.1) [
+      | inl none ↦ absurd (contains-none w.0 none)
+      | inr given ↦ inl (given.0, subst (λ (c : Command). Contains exchanges (submitting c given.0)) w.2 given.1)
+    ]
+handed_in exchanges cut command (inr (none, why)) = inr why
+
+begun : (exchanges : List Exchange) (last : State) (cut : Option Call) (command : Command) → WasBegun exchanges last cut command
+    → (refusal_at last command ≡ None) × (last.in_hand ≢ Some command → (last.stopped ≡ false) × MayBegin cut (waiting_at_end exchanges) command)
+begun exchanges last cut command is = (
+  is.accepted,
+  λ other. elim is.begun [
+    | inl hand ↦ absurd (other hand)
+    | inr may ↦ may
+  ],
+)
+
+made : (sectors : ℕ) (identity : Identity) (old new : Config) (edition : Edition) (image : Image) (exchanges : List Exchange) (cut : Option Call)
+    → LivesMake sectors identity old (Serves edition image exchanges cut ∷ []) new
+    → StandsFor sectors edition image old
+    × (in_hand : Option Command) × (kept : List Command) × IsPrefix (acknowledged_commands exchanges) kept
+    × IsPrefix kept (accepted_commands exchanges in_hand) × CommandsMake edition identity old kept new
+made sectors identity old new edition image exchanges cut (stands, kept, are, mid, makes, same) = (
+  stands,
+  are.in_hand,
+  kept,
+  are.acknowledged,
+  are.accepted,
+  subst (λ (c : Config). CommandsMake edition identity old kept c) (sym same) makes,
+)
+
+unformatted : (lives : List Life) → AreUnformatted lives → (life : Life) → Contains lives life
+    → ((edition : Edition) × (identity : Identity) × (life ≡ Formats edition identity false))
+    ⊎ ((edition : Edition) × (image : Image) × (fault : JournalFault) × (life ≡ Refuses edition image fault))
+unformatted lives are (Formats edition identity true) among = absurd (are.no_format edition identity among)
+unformatted lives are (Formats edition identity false) among = inl (edition, identity, refl)
+unformatted lives are (Refuses edition image fault) among = inr (edition, image, fault, refl)
+unformatted lives are (Serves edition image exchanges cut) among = absurd (are.no_opening edition image exchanges cut among)
+
+pub life-words : (sectors : ℕ) → LifeWords sectors
+life-words sectors = record {
+  restarted = restarted;
+  handed_in = handed_in;
+  begun = begun;
+  made = made sectors;
+  kept = λ edition image exchanges cut kept are. (
+    (are.moment, are.of_edition, are.opened, are.answered),
+    λ command is. (sym are.at_end ∙ is, are.begun command is, are.handed_in command is),
+  );
+  identity = λ lives found is edition given among. is.identity edition given among;
+  unformatted = unformatted;
+  as_before = λ old new is. (λ later image. let each = is.images later image in (each.1, each.0), is.logs);
+  to_migrate = λ image c s is. is.next;
+  sides = λ s. (refl, refl);
+}
+
+-- ---- moments
+
+pub moments-are-exact : {D : Type 0} (disk_of : D → Disk) → MomentsAreExact disk_of
+moments-are-exact {D} disk_of sectors lives image turns first last at =
+    (λ i. at.after_lives i ++ Serves (at.of_edition i) (at.opened i) (at.calls i) None ∷ [], at.found)
