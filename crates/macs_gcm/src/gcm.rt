@@ -3,11 +3,13 @@
 ghost use Rattle.std.specs.Prelude.{◌≡◌, ◌^◌, ◌<◌, ◌↔◌, ℕ, List, length, IsTrue};
 ghost use Rattle.std.specs.Bool.{OnFalse, OnTrue};
 ghost use Rattle.macs_aes.specs.Keys.{octets_of_key};
-ghost use Rattle.macs_gcm.specs.Gcm.{Opens, ciphertext_of, hash_subkey, pre_counter_block, seal, authentication_tag};
+ghost use Rattle.macs_aes.specs.Cipher.{encrypt};
+ghost use Rattle.macs_gcm.specs.Gcm.{Opens, hash_subkey, pre_counter_block, seal, authentication_tag};
 
-use crate::counter::{gctr, inc32};
+use crate::counter::{GROUPED, gctr_next_by_blocks, gctr_next_by_groups, masks_from, xor_whole};
 use macs_aes::{Block, Key, Schedule, encrypt_block};
 use macs_ghash::{Powers, ghash};
+use macs_planes::{GroupKeys, key_room};
 use std::marker::Model;
 
 /// A key of AES, prepared for GCM: its round keys and the powers of its hash subkey. In clauses it
@@ -52,22 +54,15 @@ fn pre_counter_block(iv: &[u8; 12]) -> Block
     block
 }
 
-/// GCTR from the block after J0 on: encrypts a plaintext in place, and decrypts a ciphertext (7.1,
-/// step 3, and 7.2, step 4).
-fn apply_key_stream(key: &GcmKey, iv: &[u8; 12], text: &mut [u8])
-    ensures { text.new ≡ ciphertext_of key.now iv.now text.old }
-{
-    gctr(&key.schedule, &inc32(pre_counter_block(iv)), text);
-}
-
-/// The tag of additional data and a ciphertext (7.1, steps 4 to 6).
-fn tag_of(key: &GcmKey, iv: &[u8; 12], aad: &[u8], ciphertext: &[u8]) -> [u8; 16]
+/// The tag of additional data and a ciphertext, where J0 is given encrypted (7.1, steps 4 to 6).
+fn tag_of(key: &GcmKey, mask: &Block, aad: &[u8], ciphertext: &[u8]) -> [u8; 16]
     requires aad { length aad.now < 2 ^ 32 }
     requires text { length ciphertext.now < 2 ^ 32 }
-    ensures { result ≡ authentication_tag key.now iv.now aad.now ciphertext.now }
+    ensures { (iv : List ℕ) → mask.now ≡ encrypt key.now (pre_counter_block iv)
+        → result ≡ authentication_tag key.now iv aad.now ciphertext.now }
 {
     let mut tag = ghash(&key.powers, aad, ciphertext);
-    gctr(&key.schedule, &pre_counter_block(iv), &mut tag);
+    xor_whole(&mut tag, 0, mask);
     tag
 }
 
@@ -82,6 +77,67 @@ fn is_equal(one: &[u8; 16], other: &[u8; 16]) -> bool
     difference == 0
 }
 
+/// Sealing block by block.
+fn seal_by_blocks(key: &GcmKey, iv: &[u8; 12], aad: &[u8], text: &mut [u8]) -> [u8; 16]
+    requires aad { length aad.now < 2 ^ 32 }
+    requires text { length text.old < 2 ^ 32 }
+    ensures { (text.new, result) ≡ seal key.now iv.now aad.now text.old }
+{
+    let start = pre_counter_block(iv);
+    gctr_next_by_blocks(&key.schedule, &start, text);
+    tag_of(key, &encrypt_block(&key.schedule, &start), aad, text)
+}
+
+/// Sealing by groups of blocks, of which the first begins with J0.
+fn seal_by_groups(key: &GcmKey, iv: &[u8; 12], aad: &[u8], text: &mut [u8]) -> [u8; 16]
+    requires aad { length aad.now < 2 ^ 32 }
+    requires text { length text.old < 2 ^ 32 }
+    ensures { (text.new, result) ≡ seal key.now iv.now aad.now text.old }
+{
+    let start = pre_counter_block(iv);
+    let mut room = key_room();
+    let keys = GroupKeys::new(&key.schedule, &mut room);
+    let masks = masks_from(&keys, &start);
+    gctr_next_by_groups(&key.schedule, &keys, &start, &masks, text);
+    tag_of(key, &masks[0], aad, text)
+}
+
+/// Opening block by block.
+fn open_by_blocks(key: &GcmKey, iv: &[u8; 12], aad: &[u8], text: &mut [u8], tag: &[u8; 16]) -> bool
+    requires aad { length aad.now < 2 ^ 32 }
+    requires text { length text.old < 2 ^ 32 }
+    ensures exactly { IsTrue result ↔ Opens key.now iv.now aad.now text.old tag.now }
+    ensures opened { OnTrue result (seal key.now iv.now aad.now text.new ≡ (text.old, tag.now)) }
+    ensures same { OnFalse result (text.new ≡ text.old) }
+{
+    let start = pre_counter_block(iv);
+    let mask = encrypt_block(&key.schedule, &start);
+    if !is_equal(&tag_of(key, &mask, aad, text), tag) {
+        return false;
+    }
+    gctr_next_by_blocks(&key.schedule, &start, text);
+    true
+}
+
+/// Opening by groups of blocks, of which the first begins with J0.
+fn open_by_groups(key: &GcmKey, iv: &[u8; 12], aad: &[u8], text: &mut [u8], tag: &[u8; 16]) -> bool
+    requires aad { length aad.now < 2 ^ 32 }
+    requires text { length text.old < 2 ^ 32 }
+    ensures exactly { IsTrue result ↔ Opens key.now iv.now aad.now text.old tag.now }
+    ensures opened { OnTrue result (seal key.now iv.now aad.now text.new ≡ (text.old, tag.now)) }
+    ensures same { OnFalse result (text.new ≡ text.old) }
+{
+    let start = pre_counter_block(iv);
+    let mut room = key_room();
+    let keys = GroupKeys::new(&key.schedule, &mut room);
+    let masks = masks_from(&keys, &start);
+    if !is_equal(&tag_of(key, &masks[0], aad, text), tag) {
+        return false;
+    }
+    gctr_next_by_groups(&key.schedule, &keys, &start, &masks, text);
+    true
+}
+
 /// Encrypts the text in place, and answers the tag of 128 bits that authenticates it and the
 /// additional data (7.1).
 ///
@@ -92,8 +148,11 @@ pub fn seal(key: &GcmKey, iv: &[u8; 12], aad: &[u8], text: &mut [u8]) -> [u8; 16
     requires text { length text.old < 2 ^ 32 }
     ensures { (text.new, result) ≡ seal key.now iv.now aad.now text.old }
 {
-    apply_key_stream(key, iv, text);
-    tag_of(key, iv, aad, text)
+    if text.len() < GROUPED {
+        seal_by_blocks(key, iv, aad, text)
+    } else {
+        seal_by_groups(key, iv, aad, text)
+    }
 }
 
 /// Decrypts the text in place and answers true where the tag of 128 bits authenticates the text and
@@ -108,9 +167,9 @@ pub fn open(key: &GcmKey, iv: &[u8; 12], aad: &[u8], text: &mut [u8], tag: &[u8;
     ensures opened { OnTrue result (seal key.now iv.now aad.now text.new ≡ (text.old, tag.now)) }
     ensures same { OnFalse result (text.new ≡ text.old) }
 {
-    if !is_equal(&tag_of(key, iv, aad, text), tag) {
-        return false;
+    if text.len() < GROUPED {
+        open_by_blocks(key, iv, aad, text, tag)
+    } else {
+        open_by_groups(key, iv, aad, text, tag)
     }
-    apply_key_stream(key, iv, text);
-    true
 }

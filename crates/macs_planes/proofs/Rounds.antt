@@ -1,36 +1,8 @@
 -- The rounds on several blocks: the first AddRoundKey, one more round, the last.
-use Rattle.std.proofs.Common.{◌≡◌, ℕ, suc, ◌+◌, ◌-◌, ◌%◌, ◌≤◌, ◌∙◌, ◌⊎◌, List, [], ◌∷◌, map, ap, sym, refl, arith, inl, inr}
+use Rattle.std.proofs.Common.{◌≡◌, ℕ, suc, ◌+◌, ◌-◌, ◌≤◌, ◌∙◌, List, [], ◌∷◌, map, ap, sym, refl, arith}
 use Rattle.macs_aes.specs.Cipher.{state_after_rounds, cipher, encrypt, mix_columns, round_key, shift_rows, sub_bytes, xor_tables}
 use Rattle.macs_aes.specs.KeyExpansion.{key_words, rounds_of}
 use Rattle.macs_planes.specs.RoundKeys.{keyed}
-
--- ---- rows that are still to be turned
-
-pub shifted_keyed : (k : List ℕ) (blocks : List (List ℕ)) → map shift_rows (keyed k blocks) ≡ keyed (shift_rows k) (map shift_rows blocks)
-shifted_keyed k [] = refl
-shifted_keyed k (b ∷ blocks) = ap (λ t. xor_tables (shift_rows b) (shift_rows k) ∷ t) (shifted_keyed k blocks)
-
-shifted_bytes : (blocks : List (List ℕ)) → map shift_rows (map sub_bytes blocks) ≡ map sub_bytes (map shift_rows blocks)
-shifted_bytes [] = refl
-shifted_bytes (b ∷ blocks) = ap (λ t. sub_bytes (shift_rows b) ∷ t) (shifted_bytes blocks)
-
--- a round that leaves the rows
-pub round_left : (k : List ℕ) (p q r s : List (List ℕ)) → q ≡ map sub_bytes p → map shift_rows r ≡ map mix_columns (map shift_rows q) → s ≡ keyed k r
-    → map shift_rows s ≡ keyed (shift_rows k) (map mix_columns (map shift_rows (map sub_bytes p)))
-round_left k p q r s eq er es =
-    ap (map shift_rows) es ∙ shifted_keyed k r ∙ ap (keyed (shift_rows k)) er ∙ ap (λ v. keyed (shift_rows k) (map mix_columns (map shift_rows v))) eq
-
--- rows that are turned twice
-pub turned_twice : (p q r : List (List ℕ)) → q ≡ map sub_bytes p → r ≡ map shift_rows (map shift_rows q)
-    → r ≡ map shift_rows (map sub_bytes (map shift_rows p))
-turned_twice p q r eq er = er ∙ ap (λ v. map shift_rows (map shift_rows v)) eq ∙ ap (map shift_rows) (shifted_bytes p)
-
--- ---- the rounds
-
--- there is an even number of rounds, two at least
-pub even_rounds : (n : ℕ) → (n ≡ 10) ⊎ (n ≡ 14) → (n % 2 ≡ 0) × (2 ≤ n)
-even_rounds n (inl ten) = (omega (arith, ten), omega (arith, ten))
-even_rounds n (inr fourteen) = (omega (arith, fourteen), omega (arith, fourteen))
 
 first_round : (w : List ℕ) (blocks : List (List ℕ)) → map (λ s. xor_tables s (round_key w 0)) blocks ≡ map (λ b. state_after_rounds w b 0) blocks
 unfolding state_after_rounds

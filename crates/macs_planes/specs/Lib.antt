@@ -5,3 +5,4 @@ pub mod BlockSteps
 pub mod Bits
 pub mod Columns
 pub mod RoundKeys
+pub mod Across

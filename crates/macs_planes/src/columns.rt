@@ -1,11 +1,10 @@
 //! From planes to octets: the bits of an octet, which are one in each plane, are put side by side.
 #![tactic(auto, using(std::proofs::lemmas::Simd::shifts_fit_splat))]
 
-ghost use Rattle.std.specs.Prelude.{◌≡◌, ◌<◌, ◌*◌, ◌/◌, ◌%◌, ◌^◌, ℕ, [], ◌∷◌, get_or, length, slice_index};
-ghost use Rattle.macs_planes.specs.Blocks.{ArePlanes, zeros};
-ghost use Rattle.macs_planes.specs.Columns.{IsCrossed};
+ghost use Rattle.std.specs.Prelude.{[], ◌∷◌};
+ghost use Rattle.macs_planes.specs.Blocks.{ArePlanes};
+ghost use Rattle.macs_planes.specs.Columns.{IsCrossed, IsExchanged};
 
-use macs_aes::Block;
 use std::simd::prelude::*;
 
 /// Eight vectors. Crossed, octets m and m + 8 of block i are the lower and the upper half of lane i of
@@ -22,20 +21,20 @@ pub(crate) struct Columns<const N: usize> {
     pub(crate) q7: [u16; N],
 }
 
-/// Bit k of a half of a lane of vector m, and bit m of the same half and lane of vector k, change places:
-/// first in pairs of vectors, then in fours, then in all eight.
+/// Vectors that are next to each other exchange half of their bits: the number of a vector and the place of
+/// a bit within a half exchange their bits of weight 1.
 #[inline(always)]
-pub(crate) fn cross<const N: usize>(x: &Columns<N>) -> Columns<N>
+fn exchange_ones<const N: usize>(x: &Columns<N>) -> Columns<N>
     requires { ArePlanes N (x.now.q0 ∷ x.now.q1 ∷ x.now.q2 ∷ x.now.q3 ∷ x.now.q4 ∷ x.now.q5 ∷ x.now.q6 ∷ x.now.q7 ∷ []) }
     ensures lanes { ArePlanes N (result.q0 ∷ result.q1 ∷ result.q2 ∷ result.q3 ∷ result.q4 ∷ result.q5 ∷ result.q6 ∷ result.q7 ∷ []) }
-    ensures q0 { IsCrossed N 0 (x.now.q0 ∷ x.now.q1 ∷ x.now.q2 ∷ x.now.q3 ∷ x.now.q4 ∷ x.now.q5 ∷ x.now.q6 ∷ x.now.q7 ∷ []) result.q0 }
-    ensures q1 { IsCrossed N 1 (x.now.q0 ∷ x.now.q1 ∷ x.now.q2 ∷ x.now.q3 ∷ x.now.q4 ∷ x.now.q5 ∷ x.now.q6 ∷ x.now.q7 ∷ []) result.q1 }
-    ensures q2 { IsCrossed N 2 (x.now.q0 ∷ x.now.q1 ∷ x.now.q2 ∷ x.now.q3 ∷ x.now.q4 ∷ x.now.q5 ∷ x.now.q6 ∷ x.now.q7 ∷ []) result.q2 }
-    ensures q3 { IsCrossed N 3 (x.now.q0 ∷ x.now.q1 ∷ x.now.q2 ∷ x.now.q3 ∷ x.now.q4 ∷ x.now.q5 ∷ x.now.q6 ∷ x.now.q7 ∷ []) result.q3 }
-    ensures q4 { IsCrossed N 4 (x.now.q0 ∷ x.now.q1 ∷ x.now.q2 ∷ x.now.q3 ∷ x.now.q4 ∷ x.now.q5 ∷ x.now.q6 ∷ x.now.q7 ∷ []) result.q4 }
-    ensures q5 { IsCrossed N 5 (x.now.q0 ∷ x.now.q1 ∷ x.now.q2 ∷ x.now.q3 ∷ x.now.q4 ∷ x.now.q5 ∷ x.now.q6 ∷ x.now.q7 ∷ []) result.q5 }
-    ensures q6 { IsCrossed N 6 (x.now.q0 ∷ x.now.q1 ∷ x.now.q2 ∷ x.now.q3 ∷ x.now.q4 ∷ x.now.q5 ∷ x.now.q6 ∷ x.now.q7 ∷ []) result.q6 }
-    ensures q7 { IsCrossed N 7 (x.now.q0 ∷ x.now.q1 ∷ x.now.q2 ∷ x.now.q3 ∷ x.now.q4 ∷ x.now.q5 ∷ x.now.q6 ∷ x.now.q7 ∷ []) result.q7 }
+    ensures q0 { IsExchanged N 1 0 (x.now.q0 ∷ x.now.q1 ∷ x.now.q2 ∷ x.now.q3 ∷ x.now.q4 ∷ x.now.q5 ∷ x.now.q6 ∷ x.now.q7 ∷ []) result.q0 }
+    ensures q1 { IsExchanged N 1 1 (x.now.q0 ∷ x.now.q1 ∷ x.now.q2 ∷ x.now.q3 ∷ x.now.q4 ∷ x.now.q5 ∷ x.now.q6 ∷ x.now.q7 ∷ []) result.q1 }
+    ensures q2 { IsExchanged N 1 2 (x.now.q0 ∷ x.now.q1 ∷ x.now.q2 ∷ x.now.q3 ∷ x.now.q4 ∷ x.now.q5 ∷ x.now.q6 ∷ x.now.q7 ∷ []) result.q2 }
+    ensures q3 { IsExchanged N 1 3 (x.now.q0 ∷ x.now.q1 ∷ x.now.q2 ∷ x.now.q3 ∷ x.now.q4 ∷ x.now.q5 ∷ x.now.q6 ∷ x.now.q7 ∷ []) result.q3 }
+    ensures q4 { IsExchanged N 1 4 (x.now.q0 ∷ x.now.q1 ∷ x.now.q2 ∷ x.now.q3 ∷ x.now.q4 ∷ x.now.q5 ∷ x.now.q6 ∷ x.now.q7 ∷ []) result.q4 }
+    ensures q5 { IsExchanged N 1 5 (x.now.q0 ∷ x.now.q1 ∷ x.now.q2 ∷ x.now.q3 ∷ x.now.q4 ∷ x.now.q5 ∷ x.now.q6 ∷ x.now.q7 ∷ []) result.q5 }
+    ensures q6 { IsExchanged N 1 6 (x.now.q0 ∷ x.now.q1 ∷ x.now.q2 ∷ x.now.q3 ∷ x.now.q4 ∷ x.now.q5 ∷ x.now.q6 ∷ x.now.q7 ∷ []) result.q6 }
+    ensures q7 { IsExchanged N 1 7 (x.now.q0 ∷ x.now.q1 ∷ x.now.q2 ∷ x.now.q3 ∷ x.now.q4 ∷ x.now.q5 ∷ x.now.q6 ∷ x.now.q7 ∷ []) result.q7 }
 {
     let q0 = Simd::from_array(x.q0);
     let q1 = Simd::from_array(x.q1);
@@ -53,51 +52,120 @@ pub(crate) fn cross<const N: usize>(x: &Columns<N>) -> Columns<N>
     let a5 = ((q4 >> 1) & Simd::splat(0x5555)) ^ (q5 & Simd::splat(0xaaaa));
     let a6 = (q6 & Simd::splat(0x5555)) ^ ((q7 << 1) & Simd::splat(0xaaaa));
     let a7 = ((q6 >> 1) & Simd::splat(0x5555)) ^ (q7 & Simd::splat(0xaaaa));
-    let b0 = (a0 & Simd::splat(0x3333)) ^ ((a2 << 2) & Simd::splat(0xcccc));
-    let b2 = ((a0 >> 2) & Simd::splat(0x3333)) ^ (a2 & Simd::splat(0xcccc));
-    let b1 = (a1 & Simd::splat(0x3333)) ^ ((a3 << 2) & Simd::splat(0xcccc));
-    let b3 = ((a1 >> 2) & Simd::splat(0x3333)) ^ (a3 & Simd::splat(0xcccc));
-    let b4 = (a4 & Simd::splat(0x3333)) ^ ((a6 << 2) & Simd::splat(0xcccc));
-    let b6 = ((a4 >> 2) & Simd::splat(0x3333)) ^ (a6 & Simd::splat(0xcccc));
-    let b5 = (a5 & Simd::splat(0x3333)) ^ ((a7 << 2) & Simd::splat(0xcccc));
-    let b7 = ((a5 >> 2) & Simd::splat(0x3333)) ^ (a7 & Simd::splat(0xcccc));
-    let c0 = (b0 & Simd::splat(0x0f0f)) ^ ((b4 << 4) & Simd::splat(0xf0f0));
-    let c4 = ((b0 >> 4) & Simd::splat(0x0f0f)) ^ (b4 & Simd::splat(0xf0f0));
-    let c1 = (b1 & Simd::splat(0x0f0f)) ^ ((b5 << 4) & Simd::splat(0xf0f0));
-    let c5 = ((b1 >> 4) & Simd::splat(0x0f0f)) ^ (b5 & Simd::splat(0xf0f0));
-    let c2 = (b2 & Simd::splat(0x0f0f)) ^ ((b6 << 4) & Simd::splat(0xf0f0));
-    let c6 = ((b2 >> 4) & Simd::splat(0x0f0f)) ^ (b6 & Simd::splat(0xf0f0));
-    let c3 = (b3 & Simd::splat(0x0f0f)) ^ ((b7 << 4) & Simd::splat(0xf0f0));
-    let c7 = ((b3 >> 4) & Simd::splat(0x0f0f)) ^ (b7 & Simd::splat(0xf0f0));
     Columns {
-        q0: c0.to_array(),
-        q1: c1.to_array(),
-        q2: c2.to_array(),
-        q3: c3.to_array(),
-        q4: c4.to_array(),
-        q5: c5.to_array(),
-        q6: c6.to_array(),
-        q7: c7.to_array(),
+        q0: a0.to_array(),
+        q1: a1.to_array(),
+        q2: a2.to_array(),
+        q3: a3.to_array(),
+        q4: a4.to_array(),
+        q5: a5.to_array(),
+        q6: a6.to_array(),
+        q7: a7.to_array(),
     }
 }
 
-/// Block i of crossed vectors.
+/// Vectors that are two apart exchange half of their bits: the number of a vector and the place of
+/// a bit within a half exchange their bits of weight 2.
 #[inline(always)]
-pub(crate) fn row<const N: usize>(x: &Columns<N>, i: usize) -> Block
-    requires lanes { ArePlanes N (x.now.q0 ∷ x.now.q1 ∷ x.now.q2 ∷ x.now.q3 ∷ x.now.q4 ∷ x.now.q5 ∷ x.now.q6 ∷ x.now.q7 ∷ []) }
-    requires within { i < N }
-    ensures size { length result ≡ 16 }
-    ensures octets { (j : ℕ) → j < 16 → slice_index result j ≡ get_or (get_or (x.now.q0 ∷ x.now.q1 ∷ x.now.q2 ∷ x.now.q3 ∷ x.now.q4 ∷ x.now.q5 ∷ x.now.q6 ∷ x.now.q7 ∷ []) (j % 8) (zeros N)) i 0 / 2 ^ (8 * (j / 8)) % 256 }
+fn exchange_twos<const N: usize>(x: &Columns<N>) -> Columns<N>
+    requires { ArePlanes N (x.now.q0 ∷ x.now.q1 ∷ x.now.q2 ∷ x.now.q3 ∷ x.now.q4 ∷ x.now.q5 ∷ x.now.q6 ∷ x.now.q7 ∷ []) }
+    ensures lanes { ArePlanes N (result.q0 ∷ result.q1 ∷ result.q2 ∷ result.q3 ∷ result.q4 ∷ result.q5 ∷ result.q6 ∷ result.q7 ∷ []) }
+    ensures q0 { IsExchanged N 2 0 (x.now.q0 ∷ x.now.q1 ∷ x.now.q2 ∷ x.now.q3 ∷ x.now.q4 ∷ x.now.q5 ∷ x.now.q6 ∷ x.now.q7 ∷ []) result.q0 }
+    ensures q1 { IsExchanged N 2 1 (x.now.q0 ∷ x.now.q1 ∷ x.now.q2 ∷ x.now.q3 ∷ x.now.q4 ∷ x.now.q5 ∷ x.now.q6 ∷ x.now.q7 ∷ []) result.q1 }
+    ensures q2 { IsExchanged N 2 2 (x.now.q0 ∷ x.now.q1 ∷ x.now.q2 ∷ x.now.q3 ∷ x.now.q4 ∷ x.now.q5 ∷ x.now.q6 ∷ x.now.q7 ∷ []) result.q2 }
+    ensures q3 { IsExchanged N 2 3 (x.now.q0 ∷ x.now.q1 ∷ x.now.q2 ∷ x.now.q3 ∷ x.now.q4 ∷ x.now.q5 ∷ x.now.q6 ∷ x.now.q7 ∷ []) result.q3 }
+    ensures q4 { IsExchanged N 2 4 (x.now.q0 ∷ x.now.q1 ∷ x.now.q2 ∷ x.now.q3 ∷ x.now.q4 ∷ x.now.q5 ∷ x.now.q6 ∷ x.now.q7 ∷ []) result.q4 }
+    ensures q5 { IsExchanged N 2 5 (x.now.q0 ∷ x.now.q1 ∷ x.now.q2 ∷ x.now.q3 ∷ x.now.q4 ∷ x.now.q5 ∷ x.now.q6 ∷ x.now.q7 ∷ []) result.q5 }
+    ensures q6 { IsExchanged N 2 6 (x.now.q0 ∷ x.now.q1 ∷ x.now.q2 ∷ x.now.q3 ∷ x.now.q4 ∷ x.now.q5 ∷ x.now.q6 ∷ x.now.q7 ∷ []) result.q6 }
+    ensures q7 { IsExchanged N 2 7 (x.now.q0 ∷ x.now.q1 ∷ x.now.q2 ∷ x.now.q3 ∷ x.now.q4 ∷ x.now.q5 ∷ x.now.q6 ∷ x.now.q7 ∷ []) result.q7 }
 {
-    let [a0, b0] = x.q0[i].to_le_bytes();
-    let [a1, b1] = x.q1[i].to_le_bytes();
-    let [a2, b2] = x.q2[i].to_le_bytes();
-    let [a3, b3] = x.q3[i].to_le_bytes();
-    let [a4, b4] = x.q4[i].to_le_bytes();
-    let [a5, b5] = x.q5[i].to_le_bytes();
-    let [a6, b6] = x.q6[i].to_le_bytes();
-    let [a7, b7] = x.q7[i].to_le_bytes();
-    [
-        a0, a1, a2, a3, a4, a5, a6, a7, b0, b1, b2, b3, b4, b5, b6, b7,
-    ]
+    let q0 = Simd::from_array(x.q0);
+    let q1 = Simd::from_array(x.q1);
+    let q2 = Simd::from_array(x.q2);
+    let q3 = Simd::from_array(x.q3);
+    let q4 = Simd::from_array(x.q4);
+    let q5 = Simd::from_array(x.q5);
+    let q6 = Simd::from_array(x.q6);
+    let q7 = Simd::from_array(x.q7);
+    let a0 = (q0 & Simd::splat(0x3333)) ^ ((q2 << 2) & Simd::splat(0xcccc));
+    let a1 = (q1 & Simd::splat(0x3333)) ^ ((q3 << 2) & Simd::splat(0xcccc));
+    let a2 = ((q0 >> 2) & Simd::splat(0x3333)) ^ (q2 & Simd::splat(0xcccc));
+    let a3 = ((q1 >> 2) & Simd::splat(0x3333)) ^ (q3 & Simd::splat(0xcccc));
+    let a4 = (q4 & Simd::splat(0x3333)) ^ ((q6 << 2) & Simd::splat(0xcccc));
+    let a5 = (q5 & Simd::splat(0x3333)) ^ ((q7 << 2) & Simd::splat(0xcccc));
+    let a6 = ((q4 >> 2) & Simd::splat(0x3333)) ^ (q6 & Simd::splat(0xcccc));
+    let a7 = ((q5 >> 2) & Simd::splat(0x3333)) ^ (q7 & Simd::splat(0xcccc));
+    Columns {
+        q0: a0.to_array(),
+        q1: a1.to_array(),
+        q2: a2.to_array(),
+        q3: a3.to_array(),
+        q4: a4.to_array(),
+        q5: a5.to_array(),
+        q6: a6.to_array(),
+        q7: a7.to_array(),
+    }
+}
+
+/// Vectors that are four apart exchange half of their bits: the number of a vector and the place of
+/// a bit within a half exchange their bits of weight 4.
+#[inline(always)]
+fn exchange_fours<const N: usize>(x: &Columns<N>) -> Columns<N>
+    requires { ArePlanes N (x.now.q0 ∷ x.now.q1 ∷ x.now.q2 ∷ x.now.q3 ∷ x.now.q4 ∷ x.now.q5 ∷ x.now.q6 ∷ x.now.q7 ∷ []) }
+    ensures lanes { ArePlanes N (result.q0 ∷ result.q1 ∷ result.q2 ∷ result.q3 ∷ result.q4 ∷ result.q5 ∷ result.q6 ∷ result.q7 ∷ []) }
+    ensures q0 { IsExchanged N 4 0 (x.now.q0 ∷ x.now.q1 ∷ x.now.q2 ∷ x.now.q3 ∷ x.now.q4 ∷ x.now.q5 ∷ x.now.q6 ∷ x.now.q7 ∷ []) result.q0 }
+    ensures q1 { IsExchanged N 4 1 (x.now.q0 ∷ x.now.q1 ∷ x.now.q2 ∷ x.now.q3 ∷ x.now.q4 ∷ x.now.q5 ∷ x.now.q6 ∷ x.now.q7 ∷ []) result.q1 }
+    ensures q2 { IsExchanged N 4 2 (x.now.q0 ∷ x.now.q1 ∷ x.now.q2 ∷ x.now.q3 ∷ x.now.q4 ∷ x.now.q5 ∷ x.now.q6 ∷ x.now.q7 ∷ []) result.q2 }
+    ensures q3 { IsExchanged N 4 3 (x.now.q0 ∷ x.now.q1 ∷ x.now.q2 ∷ x.now.q3 ∷ x.now.q4 ∷ x.now.q5 ∷ x.now.q6 ∷ x.now.q7 ∷ []) result.q3 }
+    ensures q4 { IsExchanged N 4 4 (x.now.q0 ∷ x.now.q1 ∷ x.now.q2 ∷ x.now.q3 ∷ x.now.q4 ∷ x.now.q5 ∷ x.now.q6 ∷ x.now.q7 ∷ []) result.q4 }
+    ensures q5 { IsExchanged N 4 5 (x.now.q0 ∷ x.now.q1 ∷ x.now.q2 ∷ x.now.q3 ∷ x.now.q4 ∷ x.now.q5 ∷ x.now.q6 ∷ x.now.q7 ∷ []) result.q5 }
+    ensures q6 { IsExchanged N 4 6 (x.now.q0 ∷ x.now.q1 ∷ x.now.q2 ∷ x.now.q3 ∷ x.now.q4 ∷ x.now.q5 ∷ x.now.q6 ∷ x.now.q7 ∷ []) result.q6 }
+    ensures q7 { IsExchanged N 4 7 (x.now.q0 ∷ x.now.q1 ∷ x.now.q2 ∷ x.now.q3 ∷ x.now.q4 ∷ x.now.q5 ∷ x.now.q6 ∷ x.now.q7 ∷ []) result.q7 }
+{
+    let q0 = Simd::from_array(x.q0);
+    let q1 = Simd::from_array(x.q1);
+    let q2 = Simd::from_array(x.q2);
+    let q3 = Simd::from_array(x.q3);
+    let q4 = Simd::from_array(x.q4);
+    let q5 = Simd::from_array(x.q5);
+    let q6 = Simd::from_array(x.q6);
+    let q7 = Simd::from_array(x.q7);
+    let a0 = (q0 & Simd::splat(0x0f0f)) ^ ((q4 << 4) & Simd::splat(0xf0f0));
+    let a1 = (q1 & Simd::splat(0x0f0f)) ^ ((q5 << 4) & Simd::splat(0xf0f0));
+    let a2 = (q2 & Simd::splat(0x0f0f)) ^ ((q6 << 4) & Simd::splat(0xf0f0));
+    let a3 = (q3 & Simd::splat(0x0f0f)) ^ ((q7 << 4) & Simd::splat(0xf0f0));
+    let a4 = ((q0 >> 4) & Simd::splat(0x0f0f)) ^ (q4 & Simd::splat(0xf0f0));
+    let a5 = ((q1 >> 4) & Simd::splat(0x0f0f)) ^ (q5 & Simd::splat(0xf0f0));
+    let a6 = ((q2 >> 4) & Simd::splat(0x0f0f)) ^ (q6 & Simd::splat(0xf0f0));
+    let a7 = ((q3 >> 4) & Simd::splat(0x0f0f)) ^ (q7 & Simd::splat(0xf0f0));
+    Columns {
+        q0: a0.to_array(),
+        q1: a1.to_array(),
+        q2: a2.to_array(),
+        q3: a3.to_array(),
+        q4: a4.to_array(),
+        q5: a5.to_array(),
+        q6: a6.to_array(),
+        q7: a7.to_array(),
+    }
+}
+
+/// Bit k of a half of a lane of vector m, and bit m of the same half and lane of vector k, change
+/// places.
+#[inline(always)]
+pub(crate) fn cross<const N: usize>(x: &Columns<N>) -> Columns<N>
+    requires { ArePlanes N (x.now.q0 ∷ x.now.q1 ∷ x.now.q2 ∷ x.now.q3 ∷ x.now.q4 ∷ x.now.q5 ∷ x.now.q6 ∷ x.now.q7 ∷ []) }
+    ensures lanes { ArePlanes N (result.q0 ∷ result.q1 ∷ result.q2 ∷ result.q3 ∷ result.q4 ∷ result.q5 ∷ result.q6 ∷ result.q7 ∷ []) }
+    ensures q0 { IsCrossed N 0 (x.now.q0 ∷ x.now.q1 ∷ x.now.q2 ∷ x.now.q3 ∷ x.now.q4 ∷ x.now.q5 ∷ x.now.q6 ∷ x.now.q7 ∷ []) result.q0 }
+    ensures q1 { IsCrossed N 1 (x.now.q0 ∷ x.now.q1 ∷ x.now.q2 ∷ x.now.q3 ∷ x.now.q4 ∷ x.now.q5 ∷ x.now.q6 ∷ x.now.q7 ∷ []) result.q1 }
+    ensures q2 { IsCrossed N 2 (x.now.q0 ∷ x.now.q1 ∷ x.now.q2 ∷ x.now.q3 ∷ x.now.q4 ∷ x.now.q5 ∷ x.now.q6 ∷ x.now.q7 ∷ []) result.q2 }
+    ensures q3 { IsCrossed N 3 (x.now.q0 ∷ x.now.q1 ∷ x.now.q2 ∷ x.now.q3 ∷ x.now.q4 ∷ x.now.q5 ∷ x.now.q6 ∷ x.now.q7 ∷ []) result.q3 }
+    ensures q4 { IsCrossed N 4 (x.now.q0 ∷ x.now.q1 ∷ x.now.q2 ∷ x.now.q3 ∷ x.now.q4 ∷ x.now.q5 ∷ x.now.q6 ∷ x.now.q7 ∷ []) result.q4 }
+    ensures q5 { IsCrossed N 5 (x.now.q0 ∷ x.now.q1 ∷ x.now.q2 ∷ x.now.q3 ∷ x.now.q4 ∷ x.now.q5 ∷ x.now.q6 ∷ x.now.q7 ∷ []) result.q5 }
+    ensures q6 { IsCrossed N 6 (x.now.q0 ∷ x.now.q1 ∷ x.now.q2 ∷ x.now.q3 ∷ x.now.q4 ∷ x.now.q5 ∷ x.now.q6 ∷ x.now.q7 ∷ []) result.q6 }
+    ensures q7 { IsCrossed N 7 (x.now.q0 ∷ x.now.q1 ∷ x.now.q2 ∷ x.now.q3 ∷ x.now.q4 ∷ x.now.q5 ∷ x.now.q6 ∷ x.now.q7 ∷ []) result.q7 }
+{
+    let ones = exchange_ones(x);
+    let twos = exchange_twos(&ones);
+    exchange_fours(&twos)
 }

@@ -1,64 +1,55 @@
 //! The cipher (FIPS 197, 5.1) on groups of blocks.
 
 ghost use Rattle.std.specs.Prelude.{◌≡◌, ◌<◌, ◌≤◌, ◌%◌, ℕ, List, length, map};
-ghost use Rattle.macs_aes.specs.Cipher.{encrypt, mix_columns, shift_rows, sub_bytes};
-ghost use Rattle.macs_planes.specs.RoundKeys.{AreRoundKeys, keyed, octets_in_words};
+ghost use Rattle.macs_aes.specs.Cipher.{encrypt, mix_columns, sub_bytes};
+ghost use Rattle.macs_planes.specs.Across.{AreKeyPlanes, IsKeyPlanes, turned};
+ghost use Rattle.macs_planes.specs.Blocks.{ArePlanes};
+ghost use Rattle.macs_planes.specs.RoundKeys.{keyed};
 
-use crate::planes::Planes;
-use crate::round_keys::{KeyBits, ROUND_KEYS, round_keys};
+use crate::across::Across;
+use crate::key_planes::{KeyPlanes, ROUND_KEYS, fill, key_room};
+use crate::places::LANES;
 use macs_aes::{Block, Schedule};
-use macs_lanes::REGISTER_BITS;
 use std::marker::Model;
 
-/// How many blocks go side by side: as many lanes of 16 bits as a vector register has.
-const LANES: usize = REGISTER_BITS / 16;
-
-/// So many blocks cost about as much, encrypted one by one, as sixteen together.
-pub const BLOCKS_OF_A_GROUP: usize = 2048 / REGISTER_BITS;
-
-/// A round of so many (FIPS 197, 5.1) on each block, with its key: the last goes without MixColumns. An odd
-/// round leaves the rows for the next to turn, which turns them twice: so rows are moved by fewer steps. The
-/// last round is an even one, since a key has 10 rounds or 14. It is one function for all kinds of round, so
-/// that SubBytes is in the code once and the compiler keeps the planes in registers.
+/// A round of so many (FIPS 197, 5.1) on each block, with its key: the last goes without
+/// MixColumns. The rows are turned after the last round alone, so that ShiftRows moves nothing: the
+/// places of MixColumns and of the round key follow the rows. It is one function for all kinds of
+/// round, so that SubBytes is in the code once and the compiler keeps the planes in registers.
 #[inline(always)]
-fn take_round<const N: usize>(planes: &mut Planes<N>, key: &KeyBits, round: usize, rounds: usize)
-    ensures odd { round % 2 ≡ 1 → map shift_rows planes.new ≡ keyed (shift_rows (octets_in_words key.now)) (map mix_columns (map shift_rows (map sub_bytes planes.old))) }
-    ensures even { round % 2 ≡ 0 → round < rounds → planes.new ≡ keyed (octets_in_words key.now) (map mix_columns (map shift_rows (map sub_bytes (map shift_rows planes.old)))) }
-    ensures last { round % 2 ≡ 0 → rounds ≤ round → planes.new ≡ keyed (octets_in_words key.now) (map shift_rows (map sub_bytes (map shift_rows planes.old))) }
+fn take_round(blocks: &mut Across, key: &KeyPlanes, round: usize, rounds: usize)
+    requires { ArePlanes LANES key.now }
+    ensures inner { (k : List ℕ) → IsKeyPlanes LANES k key.now → round < rounds
+        → map (turned (round % 4)) blocks.new
+        ≡ keyed (turned (round % 4) k) (map mix_columns (map (turned (round % 4)) (map sub_bytes blocks.old))) }
+    ensures last { (k : List ℕ) → IsKeyPlanes LANES k key.now → rounds ≤ round
+        → blocks.new ≡ keyed k (map sub_bytes blocks.old) }
 {
-    planes.sub_bytes();
-    if round % 2 == 1 {
-        planes.mix_columns_turned();
-    } else {
-        planes.shift_rows_twice();
-        if round < rounds {
-            planes.mix_columns();
-        }
+    blocks.sub_bytes();
+    if round < rounds {
+        blocks.mix_columns(round % 4);
     }
-    planes.add_bits(key);
+    blocks.add_round_key(key);
 }
 
 /// Each block of a group encrypted under the schedule's key, whose round keys are given.
-fn encrypt_group<const N: usize>(
-    schedule: &Schedule,
-    keys: &[KeyBits; ROUND_KEYS],
-    blocks: &mut [Block; N],
-)
-    requires { AreRoundKeys schedule.now keys.now }
+fn encrypt_group(schedule: &Schedule, keys: &[KeyPlanes; ROUND_KEYS], blocks: &mut [Block; LANES])
+    requires { AreKeyPlanes LANES schedule.now keys.now }
     ensures { blocks.new ≡ map (encrypt schedule.now) blocks.old }
 {
     let rounds = schedule.rounds();
-    let mut planes = Planes::load(blocks);
-    planes.add_bits(&keys[0]);
+    let mut planes = Across::load(blocks);
+    planes.add_round_key(&keys[0]);
     for round in 1..rounds + 1 {
         take_round(&mut planes, &keys[round], round, rounds);
     }
+    planes.shift_rows_twice();
     *blocks = planes.store();
 }
 
 /// Each block of whole groups encrypted under the schedule's key, whose round keys are given.
-fn encrypt_groups(schedule: &Schedule, keys: &[KeyBits; ROUND_KEYS], blocks: &mut [Block])
-    requires keys { AreRoundKeys schedule.now keys.now }
+fn encrypt_groups(schedule: &Schedule, keys: &[KeyPlanes; ROUND_KEYS], blocks: &mut [Block])
+    requires keys { AreKeyPlanes LANES schedule.now keys.now }
     requires whole { length blocks.old % LANES ≡ 0 }
     ensures { blocks.new ≡ map (encrypt schedule.now) blocks.old }
 {
@@ -68,37 +59,52 @@ fn encrypt_groups(schedule: &Schedule, keys: &[KeyBits; ROUND_KEYS], blocks: &mu
     }
 }
 
-/// The round keys of a schedule as planes take them, for several groups of blocks. In clauses they are its key.
+/// The round keys of a schedule as planes take them, for several groups of blocks. In clauses they
+/// are its key.
 #[derive(Drop)]
 pub struct GroupKeys<'a> {
     schedule: &'a Schedule,
-    keys: [KeyBits; ROUND_KEYS],
+    keys: &'a [KeyPlanes; ROUND_KEYS],
 }
 
 impl<'a> Model for GroupKeys<'a> {
+    ghost use Rattle.std.specs.Prelude.{List, ℕ};
+    ghost use Rattle.macs_planes.specs.Across.{AreKeyPlanes};
+    ghost use Rattle.macs_planes.specs.declared.places.TheConstants.{LANES};
+
     ghost Value = { List ℕ };
 
     ghost view = { λ k. k.schedule.now };
 
-    ghost invariant = { λ k. AreRoundKeys k.schedule.now k.keys };
+    ghost invariant = { λ k. AreKeyPlanes LANES k.schedule.now k.keys.now };
 }
 
 impl<'a> GroupKeys<'a> {
-    /// The round keys of a schedule.
-    pub fn new(schedule: &'a Schedule) -> Self
+    /// The round keys of a schedule, made in the room that is lent.
+    #[inline(always)]
+    pub fn new(schedule: &'a Schedule, room: &'a mut [KeyPlanes; ROUND_KEYS]) -> Self
         ensures { result ≡ schedule.now }
     {
+        fill(room, schedule);
         GroupKeys {
             schedule,
-            keys: round_keys(schedule),
+            keys: room,
         }
+    }
+
+    /// A group of blocks, each encrypted by AES under the key (FIPS 197, 5.1).
+    #[inline(always)]
+    pub fn encrypt_group(&self, blocks: &mut [Block; LANES])
+        ensures { blocks.new ≡ map (encrypt self.now) blocks.old }
+    {
+        encrypt_group(self.schedule, self.keys, blocks);
     }
 
     /// Sixteen blocks, each encrypted by AES under the key (FIPS 197, 5.1).
     pub fn encrypt16(&self, blocks: &mut [Block; 16])
         ensures { blocks.new ≡ map (encrypt self.now) blocks.old }
     {
-        encrypt_groups(self.schedule, &self.keys, blocks);
+        encrypt_groups(self.schedule, self.keys, blocks);
     }
 }
 
@@ -106,6 +112,6 @@ impl<'a> GroupKeys<'a> {
 pub fn encrypt16(schedule: &Schedule, blocks: &mut [Block; 16])
     ensures { blocks.new ≡ map (encrypt schedule.now) blocks.old }
 {
-    let keys = round_keys(schedule);
-    encrypt_groups(schedule, &keys, blocks);
+    let mut room = key_room();
+    GroupKeys::new(schedule, &mut room).encrypt16(blocks);
 }

@@ -1,29 +1,29 @@
-use Rattle.std.proofs.Common.{◌*◌, ◌∙◌, ap, arith, inl, inr, map, refl}
+use Rattle.std.proofs.Common.{◌+◌, ◌*◌, ◌∙◌, ℕ, arith, inl, inr, refl}
 use Rattle.std.proofs.lemmas.Bool.{cases_lt}
-use Rattle.macs_aes.specs.Cipher.{encrypt}
-use Rattle.macs_gcm.proofs.CounterMode.{counter_block_first, counters_after, octet_in_group}
+use Rattle.macs_gcm.proofs.CounterMode.{masks_of_group, octet_in_group}
+use Rattle.macs_gcm.specs.declared.counter.TheConstants.{GROUP}
 use Rattle.macs_gcm.proofs.counter.gctr_groups.Goals as goal
 
 pub groups-init : goal.groups-init
 groups-init c = record {
-  here = counter_block_first c.args.first.now;
-  done = λ k none within. absurd (omega arith);
-  left = λ k low. refl;
+  before = λ k low. refl;
+  masked = λ k low high within. absurd (omega arith);
+  after = λ k low. refl;
 }
 
 pub groups-preserved : goal.groups-preserved
 groups-preserved c =
-    let g = c.groups.g in
+    let block : ℕ = c.args.done + GROUP * c.groups.g in
     let held = c.groups.invariant in
-    let counters = c.sixteen_counters-masks in
+    let xor = c.xor_group.ensures in
+    let is = masks_of_group c.args.keys.now c.args.first.now c.counter_block.result c.masks_from-masks.result GROUP block c.counter_block.ensures c.masks_from-masks.ensures.masks in
     record {
-      here = c.inc32-counter.ensures ∙ counters_after c.args.first.now c.groups.counter counters.result g held.here counters.ensures.blocks;
-      done = λ k below within. elim (cases_lt k (256 * g)) [
-        | inl earlier ↦ c.xor_group.ensures.before k earlier ∙ held.done k earlier (omega (arith, within))
+      before = λ k low. xor.before k (omega arith) ∙ held.before k low;
+      masked = λ k low below within. elim (cases_lt k (16 * block)) [
+        | inl earlier ↦ xor.before k earlier ∙ held.masked k low earlier (omega (arith, within))
         | inr here ↦
-            octet_in_group c.args.schedule.now c.args.first.now c.groups.counter c.args.text.now c.groups.text counters.result c.encrypt16.new.blocks g k _
-            here (omega arith) held.here counters.ensures.size counters.ensures.blocks (c.encrypt16.ensures ∙ ap (λ k. map (encrypt k) counters.result) c.new-keys.ensures) (held.left k here)
-            (c.xor_group.ensures.within k here (omega arith) (omega arith))
+            octet_in_group c.args.keys.now c.args.first.now c.args.text.now c.groups.text c.masks_from-masks.result GROUP block 0 k _
+            here (omega arith) is (held.after k here) (xor.within k here (omega arith) (omega arith))
       ];
-      left = λ k above. c.xor_group.ensures.after k (omega arith) ∙ held.left k (omega arith);
+      after = λ k above. xor.after k (omega arith) ∙ held.after k (omega arith);
     }

@@ -1,59 +1,126 @@
-use Rattle.std.proofs.Common.{◌+◌, ◌*◌, ◌/◌, ◌%◌, [], ◌∷◌}
-use Rattle.macs_planes.proofs.Moves.{moved, moved_from, moved_lanes}
-use Rattle.macs_planes.proofs.CrossMoves.{a0_move, a1_move, a2_move, a3_move, a4_move, a5_move, a6_move, a7_move, b0_move, b2_move, b1_move, b3_move, b4_move, b6_move, b5_move, b7_move, c0_move, c4_move, c1_move, c5_move, c2_move, c6_move, c3_move, c7_move, c0_from, c1_from, c2_from, c3_from, c4_from, c5_from, c6_from, c7_from}
+use Rattle.std.proofs.Common.{ℕ, List, [], ◌∷◌, arith, get_or}
+use Rattle.macs_planes.specs.Blocks.{zeros}
+use Rattle.macs_planes.specs.Columns.{IsExchanged}
+use Rattle.macs_planes.proofs.CrossMoves.{crossed}
+use Rattle.macs_planes.proofs.Sixteen.{below_eight}
 use Rattle.macs_planes.proofs.columns.cross.Goals as goal
 
-pub returns-clause-lanes : goal.returns-clause-lanes
-unfolding moved a0_move a1_move a2_move a3_move a4_move a5_move a6_move a7_move b0_move b2_move b1_move b3_move b4_move b6_move b5_move b7_move c0_move c4_move c1_move c5_move c2_move c6_move c3_move c7_move
-returns-clause-lanes g c =
-    let x = c.args.x.now in
-    let xs = x.q0 ∷ x.q1 ∷ x.q2 ∷ x.q3 ∷ x.q4 ∷ x.q5 ∷ x.q6 ∷ x.q7 ∷ [] in
-    (moved_lanes g.row.N c0_move xs c.requires, (moved_lanes g.row.N c1_move xs c.requires, (moved_lanes g.row.N c2_move xs c.requires, (moved_lanes g.row.N c3_move xs c.requires, (moved_lanes g.row.N c4_move xs c.requires, (moved_lanes g.row.N c5_move xs c.requires, (moved_lanes g.row.N c6_move xs c.requires, (moved_lanes g.row.N c7_move xs c.requires, tt))))))))
-
 pub returns-clause-q0 : goal.returns-clause-q0
-unfolding moved a0_move a1_move a2_move a3_move a4_move a5_move a6_move a7_move b0_move b2_move b1_move b3_move b4_move b6_move b5_move b7_move c0_move c4_move c1_move c5_move c2_move c6_move c3_move c7_move
-returns-clause-q0 g c = λ i j h k.
+returns-clause-q0 g c =
+    let n : ℕ = g.row.N in
     let x = c.args.x.now in
-    moved_from g.row.N c0_move (λ m. m % 8) (λ m. 8 * (m / 8) + 0) (x.q0 ∷ x.q1 ∷ x.q2 ∷ x.q3 ∷ x.q4 ∷ x.q5 ∷ x.q6 ∷ x.q7 ∷ []) i j c0_from c.requires h k
+    let y = c.exchange_ones-ones.result in
+    let z = c.exchange_twos-twos.result in
+    let xs : List (List ℕ) = x.q0 ∷ x.q1 ∷ x.q2 ∷ x.q3 ∷ x.q4 ∷ x.q5 ∷ x.q6 ∷ x.q7 ∷ [] in
+    let ys : List (List ℕ) = y.q0 ∷ y.q1 ∷ y.q2 ∷ y.q3 ∷ y.q4 ∷ y.q5 ∷ y.q6 ∷ y.q7 ∷ [] in
+    let zs : List (List ℕ) = z.q0 ∷ z.q1 ∷ z.q2 ∷ z.q3 ∷ z.q4 ∷ z.q5 ∷ z.q6 ∷ z.q7 ∷ [] in
+    let e = c.exchange_ones-ones.ensures in
+    let f = c.exchange_twos-twos.ensures in
+    crossed n xs ys zs c.exchange_fours.result.q0 0 (omega arith)
+    (below_eight (λ m. IsExchanged n 1 m xs (get_or ys m (zeros n))) e.q0 e.q1 e.q2 e.q3 e.q4 e.q5 e.q6 e.q7)
+    (below_eight (λ m. IsExchanged n 2 m ys (get_or zs m (zeros n))) f.q0 f.q1 f.q2 f.q3 f.q4 f.q5 f.q6 f.q7) c.exchange_fours.ensures.q0
 
 pub returns-clause-q1 : goal.returns-clause-q1
-unfolding moved a0_move a1_move a2_move a3_move a4_move a5_move a6_move a7_move b0_move b2_move b1_move b3_move b4_move b6_move b5_move b7_move c0_move c4_move c1_move c5_move c2_move c6_move c3_move c7_move
-returns-clause-q1 g c = λ i j h k.
+returns-clause-q1 g c =
+    let n : ℕ = g.row.N in
     let x = c.args.x.now in
-    moved_from g.row.N c1_move (λ m. m % 8) (λ m. 8 * (m / 8) + 1) (x.q0 ∷ x.q1 ∷ x.q2 ∷ x.q3 ∷ x.q4 ∷ x.q5 ∷ x.q6 ∷ x.q7 ∷ []) i j c1_from c.requires h k
+    let y = c.exchange_ones-ones.result in
+    let z = c.exchange_twos-twos.result in
+    let xs : List (List ℕ) = x.q0 ∷ x.q1 ∷ x.q2 ∷ x.q3 ∷ x.q4 ∷ x.q5 ∷ x.q6 ∷ x.q7 ∷ [] in
+    let ys : List (List ℕ) = y.q0 ∷ y.q1 ∷ y.q2 ∷ y.q3 ∷ y.q4 ∷ y.q5 ∷ y.q6 ∷ y.q7 ∷ [] in
+    let zs : List (List ℕ) = z.q0 ∷ z.q1 ∷ z.q2 ∷ z.q3 ∷ z.q4 ∷ z.q5 ∷ z.q6 ∷ z.q7 ∷ [] in
+    let e = c.exchange_ones-ones.ensures in
+    let f = c.exchange_twos-twos.ensures in
+    crossed n xs ys zs c.exchange_fours.result.q1 1 (omega arith)
+    (below_eight (λ m. IsExchanged n 1 m xs (get_or ys m (zeros n))) e.q0 e.q1 e.q2 e.q3 e.q4 e.q5 e.q6 e.q7)
+    (below_eight (λ m. IsExchanged n 2 m ys (get_or zs m (zeros n))) f.q0 f.q1 f.q2 f.q3 f.q4 f.q5 f.q6 f.q7) c.exchange_fours.ensures.q1
 
 pub returns-clause-q2 : goal.returns-clause-q2
-unfolding moved a0_move a1_move a2_move a3_move a4_move a5_move a6_move a7_move b0_move b2_move b1_move b3_move b4_move b6_move b5_move b7_move c0_move c4_move c1_move c5_move c2_move c6_move c3_move c7_move
-returns-clause-q2 g c = λ i j h k.
+returns-clause-q2 g c =
+    let n : ℕ = g.row.N in
     let x = c.args.x.now in
-    moved_from g.row.N c2_move (λ m. m % 8) (λ m. 8 * (m / 8) + 2) (x.q0 ∷ x.q1 ∷ x.q2 ∷ x.q3 ∷ x.q4 ∷ x.q5 ∷ x.q6 ∷ x.q7 ∷ []) i j c2_from c.requires h k
+    let y = c.exchange_ones-ones.result in
+    let z = c.exchange_twos-twos.result in
+    let xs : List (List ℕ) = x.q0 ∷ x.q1 ∷ x.q2 ∷ x.q3 ∷ x.q4 ∷ x.q5 ∷ x.q6 ∷ x.q7 ∷ [] in
+    let ys : List (List ℕ) = y.q0 ∷ y.q1 ∷ y.q2 ∷ y.q3 ∷ y.q4 ∷ y.q5 ∷ y.q6 ∷ y.q7 ∷ [] in
+    let zs : List (List ℕ) = z.q0 ∷ z.q1 ∷ z.q2 ∷ z.q3 ∷ z.q4 ∷ z.q5 ∷ z.q6 ∷ z.q7 ∷ [] in
+    let e = c.exchange_ones-ones.ensures in
+    let f = c.exchange_twos-twos.ensures in
+    crossed n xs ys zs c.exchange_fours.result.q2 2 (omega arith)
+    (below_eight (λ m. IsExchanged n 1 m xs (get_or ys m (zeros n))) e.q0 e.q1 e.q2 e.q3 e.q4 e.q5 e.q6 e.q7)
+    (below_eight (λ m. IsExchanged n 2 m ys (get_or zs m (zeros n))) f.q0 f.q1 f.q2 f.q3 f.q4 f.q5 f.q6 f.q7) c.exchange_fours.ensures.q2
 
 pub returns-clause-q3 : goal.returns-clause-q3
-unfolding moved a0_move a1_move a2_move a3_move a4_move a5_move a6_move a7_move b0_move b2_move b1_move b3_move b4_move b6_move b5_move b7_move c0_move c4_move c1_move c5_move c2_move c6_move c3_move c7_move
-returns-clause-q3 g c = λ i j h k.
+returns-clause-q3 g c =
+    let n : ℕ = g.row.N in
     let x = c.args.x.now in
-    moved_from g.row.N c3_move (λ m. m % 8) (λ m. 8 * (m / 8) + 3) (x.q0 ∷ x.q1 ∷ x.q2 ∷ x.q3 ∷ x.q4 ∷ x.q5 ∷ x.q6 ∷ x.q7 ∷ []) i j c3_from c.requires h k
+    let y = c.exchange_ones-ones.result in
+    let z = c.exchange_twos-twos.result in
+    let xs : List (List ℕ) = x.q0 ∷ x.q1 ∷ x.q2 ∷ x.q3 ∷ x.q4 ∷ x.q5 ∷ x.q6 ∷ x.q7 ∷ [] in
+    let ys : List (List ℕ) = y.q0 ∷ y.q1 ∷ y.q2 ∷ y.q3 ∷ y.q4 ∷ y.q5 ∷ y.q6 ∷ y.q7 ∷ [] in
+    let zs : List (List ℕ) = z.q0 ∷ z.q1 ∷ z.q2 ∷ z.q3 ∷ z.q4 ∷ z.q5 ∷ z.q6 ∷ z.q7 ∷ [] in
+    let e = c.exchange_ones-ones.ensures in
+    let f = c.exchange_twos-twos.ensures in
+    crossed n xs ys zs c.exchange_fours.result.q3 3 (omega arith)
+    (below_eight (λ m. IsExchanged n 1 m xs (get_or ys m (zeros n))) e.q0 e.q1 e.q2 e.q3 e.q4 e.q5 e.q6 e.q7)
+    (below_eight (λ m. IsExchanged n 2 m ys (get_or zs m (zeros n))) f.q0 f.q1 f.q2 f.q3 f.q4 f.q5 f.q6 f.q7) c.exchange_fours.ensures.q3
 
 pub returns-clause-q4 : goal.returns-clause-q4
-unfolding moved a0_move a1_move a2_move a3_move a4_move a5_move a6_move a7_move b0_move b2_move b1_move b3_move b4_move b6_move b5_move b7_move c0_move c4_move c1_move c5_move c2_move c6_move c3_move c7_move
-returns-clause-q4 g c = λ i j h k.
+returns-clause-q4 g c =
+    let n : ℕ = g.row.N in
     let x = c.args.x.now in
-    moved_from g.row.N c4_move (λ m. m % 8) (λ m. 8 * (m / 8) + 4) (x.q0 ∷ x.q1 ∷ x.q2 ∷ x.q3 ∷ x.q4 ∷ x.q5 ∷ x.q6 ∷ x.q7 ∷ []) i j c4_from c.requires h k
+    let y = c.exchange_ones-ones.result in
+    let z = c.exchange_twos-twos.result in
+    let xs : List (List ℕ) = x.q0 ∷ x.q1 ∷ x.q2 ∷ x.q3 ∷ x.q4 ∷ x.q5 ∷ x.q6 ∷ x.q7 ∷ [] in
+    let ys : List (List ℕ) = y.q0 ∷ y.q1 ∷ y.q2 ∷ y.q3 ∷ y.q4 ∷ y.q5 ∷ y.q6 ∷ y.q7 ∷ [] in
+    let zs : List (List ℕ) = z.q0 ∷ z.q1 ∷ z.q2 ∷ z.q3 ∷ z.q4 ∷ z.q5 ∷ z.q6 ∷ z.q7 ∷ [] in
+    let e = c.exchange_ones-ones.ensures in
+    let f = c.exchange_twos-twos.ensures in
+    crossed n xs ys zs c.exchange_fours.result.q4 4 (omega arith)
+    (below_eight (λ m. IsExchanged n 1 m xs (get_or ys m (zeros n))) e.q0 e.q1 e.q2 e.q3 e.q4 e.q5 e.q6 e.q7)
+    (below_eight (λ m. IsExchanged n 2 m ys (get_or zs m (zeros n))) f.q0 f.q1 f.q2 f.q3 f.q4 f.q5 f.q6 f.q7) c.exchange_fours.ensures.q4
 
 pub returns-clause-q5 : goal.returns-clause-q5
-unfolding moved a0_move a1_move a2_move a3_move a4_move a5_move a6_move a7_move b0_move b2_move b1_move b3_move b4_move b6_move b5_move b7_move c0_move c4_move c1_move c5_move c2_move c6_move c3_move c7_move
-returns-clause-q5 g c = λ i j h k.
+returns-clause-q5 g c =
+    let n : ℕ = g.row.N in
     let x = c.args.x.now in
-    moved_from g.row.N c5_move (λ m. m % 8) (λ m. 8 * (m / 8) + 5) (x.q0 ∷ x.q1 ∷ x.q2 ∷ x.q3 ∷ x.q4 ∷ x.q5 ∷ x.q6 ∷ x.q7 ∷ []) i j c5_from c.requires h k
+    let y = c.exchange_ones-ones.result in
+    let z = c.exchange_twos-twos.result in
+    let xs : List (List ℕ) = x.q0 ∷ x.q1 ∷ x.q2 ∷ x.q3 ∷ x.q4 ∷ x.q5 ∷ x.q6 ∷ x.q7 ∷ [] in
+    let ys : List (List ℕ) = y.q0 ∷ y.q1 ∷ y.q2 ∷ y.q3 ∷ y.q4 ∷ y.q5 ∷ y.q6 ∷ y.q7 ∷ [] in
+    let zs : List (List ℕ) = z.q0 ∷ z.q1 ∷ z.q2 ∷ z.q3 ∷ z.q4 ∷ z.q5 ∷ z.q6 ∷ z.q7 ∷ [] in
+    let e = c.exchange_ones-ones.ensures in
+    let f = c.exchange_twos-twos.ensures in
+    crossed n xs ys zs c.exchange_fours.result.q5 5 (omega arith)
+    (below_eight (λ m. IsExchanged n 1 m xs (get_or ys m (zeros n))) e.q0 e.q1 e.q2 e.q3 e.q4 e.q5 e.q6 e.q7)
+    (below_eight (λ m. IsExchanged n 2 m ys (get_or zs m (zeros n))) f.q0 f.q1 f.q2 f.q3 f.q4 f.q5 f.q6 f.q7) c.exchange_fours.ensures.q5
 
 pub returns-clause-q6 : goal.returns-clause-q6
-unfolding moved a0_move a1_move a2_move a3_move a4_move a5_move a6_move a7_move b0_move b2_move b1_move b3_move b4_move b6_move b5_move b7_move c0_move c4_move c1_move c5_move c2_move c6_move c3_move c7_move
-returns-clause-q6 g c = λ i j h k.
+returns-clause-q6 g c =
+    let n : ℕ = g.row.N in
     let x = c.args.x.now in
-    moved_from g.row.N c6_move (λ m. m % 8) (λ m. 8 * (m / 8) + 6) (x.q0 ∷ x.q1 ∷ x.q2 ∷ x.q3 ∷ x.q4 ∷ x.q5 ∷ x.q6 ∷ x.q7 ∷ []) i j c6_from c.requires h k
+    let y = c.exchange_ones-ones.result in
+    let z = c.exchange_twos-twos.result in
+    let xs : List (List ℕ) = x.q0 ∷ x.q1 ∷ x.q2 ∷ x.q3 ∷ x.q4 ∷ x.q5 ∷ x.q6 ∷ x.q7 ∷ [] in
+    let ys : List (List ℕ) = y.q0 ∷ y.q1 ∷ y.q2 ∷ y.q3 ∷ y.q4 ∷ y.q5 ∷ y.q6 ∷ y.q7 ∷ [] in
+    let zs : List (List ℕ) = z.q0 ∷ z.q1 ∷ z.q2 ∷ z.q3 ∷ z.q4 ∷ z.q5 ∷ z.q6 ∷ z.q7 ∷ [] in
+    let e = c.exchange_ones-ones.ensures in
+    let f = c.exchange_twos-twos.ensures in
+    crossed n xs ys zs c.exchange_fours.result.q6 6 (omega arith)
+    (below_eight (λ m. IsExchanged n 1 m xs (get_or ys m (zeros n))) e.q0 e.q1 e.q2 e.q3 e.q4 e.q5 e.q6 e.q7)
+    (below_eight (λ m. IsExchanged n 2 m ys (get_or zs m (zeros n))) f.q0 f.q1 f.q2 f.q3 f.q4 f.q5 f.q6 f.q7) c.exchange_fours.ensures.q6
 
 pub returns-clause-q7 : goal.returns-clause-q7
-unfolding moved a0_move a1_move a2_move a3_move a4_move a5_move a6_move a7_move b0_move b2_move b1_move b3_move b4_move b6_move b5_move b7_move c0_move c4_move c1_move c5_move c2_move c6_move c3_move c7_move
-returns-clause-q7 g c = λ i j h k.
+returns-clause-q7 g c =
+    let n : ℕ = g.row.N in
     let x = c.args.x.now in
-    moved_from g.row.N c7_move (λ m. m % 8) (λ m. 8 * (m / 8) + 7) (x.q0 ∷ x.q1 ∷ x.q2 ∷ x.q3 ∷ x.q4 ∷ x.q5 ∷ x.q6 ∷ x.q7 ∷ []) i j c7_from c.requires h k
+    let y = c.exchange_ones-ones.result in
+    let z = c.exchange_twos-twos.result in
+    let xs : List (List ℕ) = x.q0 ∷ x.q1 ∷ x.q2 ∷ x.q3 ∷ x.q4 ∷ x.q5 ∷ x.q6 ∷ x.q7 ∷ [] in
+    let ys : List (List ℕ) = y.q0 ∷ y.q1 ∷ y.q2 ∷ y.q3 ∷ y.q4 ∷ y.q5 ∷ y.q6 ∷ y.q7 ∷ [] in
+    let zs : List (List ℕ) = z.q0 ∷ z.q1 ∷ z.q2 ∷ z.q3 ∷ z.q4 ∷ z.q5 ∷ z.q6 ∷ z.q7 ∷ [] in
+    let e = c.exchange_ones-ones.ensures in
+    let f = c.exchange_twos-twos.ensures in
+    crossed n xs ys zs c.exchange_fours.result.q7 7 (omega arith)
+    (below_eight (λ m. IsExchanged n 1 m xs (get_or ys m (zeros n))) e.q0 e.q1 e.q2 e.q3 e.q4 e.q5 e.q6 e.q7)
+    (below_eight (λ m. IsExchanged n 2 m ys (get_or zs m (zeros n))) f.q0 f.q1 f.q2 f.q3 f.q4 f.q5 f.q6 f.q7) c.exchange_fours.ensures.q7

@@ -1,38 +1,64 @@
-use Rattle.std.proofs.Common.{◌∙◌, arith, map}
-use Rattle.macs_planes.proofs.Rounds.{even_rounds, rounds_first, rounds_last, rounds_next}
-use Rattle.macs_aes.specs.Cipher.{shift_rows}
+use Rattle.std.proofs.Common.{◌≡◌, ◌+◌, ◌-◌, ◌%◌, ◌≤◌, ◌∙◌, ℕ, List, ap, arith, map, subst, []}
+use Rattle.macs_aes.specs.Cipher.{mix_columns, round_key, sub_bytes}
 use Rattle.macs_aes.specs.KeyExpansion.{key_words}
+use Rattle.macs_planes.specs.Across.{IsKeyPlanes, turned, turned_back}
+use Rattle.macs_planes.specs.Blocks.{ArePlanes}
+use Rattle.macs_planes.specs.RoundKeys.{keyed}
+use Rattle.macs_planes.proofs.Octets.{any_default}
+use Rattle.macs_planes.proofs.Rounds.{rounds_first, rounds_last, rounds_next}
+use Rattle.macs_planes.proofs.Turned.{all_keyed, back_first, back_turned, next_turns, none_turned, two_left}
+use Rattle.macs_planes.specs.declared.places.TheConstants.{LANES}
 use Rattle.macs_planes.proofs.group.encrypt_group.Goals as goal
 
+pub add_round_key-requires : goal.add_round_key-requires
+add_round_key-requires c = subst (ArePlanes LANES) (any_default c.args.keys.now 0 [] c.index-keys-0.result (omega arith)) (c.requires.each 0 (omega arith)).are
+
+pub take_round-requires : goal.take_round-requires
+take_round-requires c =
+    let r : ℕ = c.loop-round.round in
+    let few = c.rounds-rounds.ensures.ten_or_fourteen in
+    subst (ArePlanes LANES) (any_default c.args.keys.now r [] c.index-keys-round.result (omega (arith, few))) (c.requires.each r (omega (arith, c.rounds-rounds.ensures.rounds))).are
+
 pub loop-round-init : goal.loop-round-init
-loop-round-init g c =
-    let even = even_rounds c.rounds-rounds.result c.rounds-rounds.ensures.ten_or_fourteen in
+loop-round-init c =
+    let w = key_words c.args.schedule.now in
+    let left = two_left c.rounds-rounds.result c.rounds-rounds.ensures.ten_or_fourteen in
     record {
-      before_odd = λ _ _. rounds_first (key_words c.args.schedule.now) _ c.args.blocks.now c.load-planes.result c.add_bits.new.self
-          c.load-planes.ensures (c.requires.even 0 (omega arith) (omega arith)) c.add_bits.ensures;
-      before_even = λ _ e. absurd (omega (arith, e));
-      done = λ e. absurd (omega (arith, e, even.1));
+      before = λ _. none_turned c.add_round_key.new.self
+          ∙ rounds_first w (turned_back 0 (round_key w 0)) c.args.blocks.now c.load-planes.result c.add_round_key.new.self
+          c.load-planes.ensures (back_first w 0) (c.add_round_key.ensures (turned_back 0 (round_key w 0))
+          (subst (IsKeyPlanes LANES (turned_back 0 (round_key w 0))) (any_default c.args.keys.now 0 [] c.index-keys-0.result (omega arith)) (c.requires.each 0 (omega arith))));
+      done = λ e. absurd (omega (arith, e, left.1));
     }
 
 pub loop-round-preserved : goal.loop-round-preserved
-loop-round-preserved g c =
-    let round = c.loop-round.round in
+loop-round-preserved c =
+    let r : ℕ = c.loop-round.round in
     let rounds = c.rounds-rounds.ensures.rounds in
-    let even = (even_rounds c.rounds-rounds.result c.rounds-rounds.ensures.ten_or_fourteen).0 in
-    let w = key_words c.args.schedule.now in
+    let left = (two_left c.rounds-rounds.result c.rounds-rounds.ensures.ten_or_fourteen).0 in
+    let w : List ℕ = key_words c.args.schedule.now in
+    let k : List ℕ = turned_back (r % 4) (round_key w r) in
+    let old = c.loop-round.planes in
+    let new = c.take_round.new.blocks in
+    let low : 1 ≤ r = omega arith in
+    let few = c.rounds-rounds.ensures.ten_or_fourteen in
+    let is = subst (IsKeyPlanes LANES k) (any_default c.args.keys.now r [] c.index-keys-round.result (omega (arith, few))) (c.requires.each r (omega (arith, rounds))) in
+    let before = c.loop-round.invariant.before (omega arith) in
+    let here : r + 1 - 1 ≡ r = omega arith in
     record {
-      before_odd = λ more odd. rounds_next w _ c.args.blocks.now (map shift_rows c.loop-round.planes) c.take_round.new.planes round
-          (omega arith) (c.loop-round.invariant.before_even (omega arith) (omega (arith, odd))) (c.requires.even round (omega (arith, rounds)) (omega (arith, odd)))
-          (c.take_round.ensures.even (omega (arith, odd)) (omega (arith, more)));
-      before_even = λ more even. rounds_next w _ c.args.blocks.now c.loop-round.planes (map shift_rows c.take_round.new.planes) round
-          (omega arith) (c.loop-round.invariant.before_odd (omega arith) (omega (arith, even))) (c.requires.odd round (omega (arith, rounds)) (omega (arith, even)))
-          (c.take_round.ensures.odd (omega (arith, even)));
-      done = λ last. rounds_last c.args.schedule.now _ c.args.blocks.now (map shift_rows c.loop-round.planes) c.take_round.new.planes round c.rounds-rounds.result
-          (omega (arith, last)) rounds (c.loop-round.invariant.before_even (omega arith) (omega (arith, last, even)))
-          (c.requires.even round (omega (arith, rounds)) (omega (arith, last, even))) (c.take_round.ensures.last (omega (arith, last, even)) (omega (arith, last)));
+      before = λ more. ap (λ (n : ℕ). map (turned (n % 4)) new) here
+          ∙ rounds_next w (turned (r % 4) k) c.args.blocks.now (map (turned ((r - 1) % 4)) old) (map (turned (r % 4)) new) r low before
+          (back_turned (r % 4) w r (omega arith))
+          (c.take_round.ensures.inner k is (omega (arith, more)) ∙ ap (λ b. keyed (turned (r % 4) k) (map mix_columns b)) (next_turns r old low));
+      done = λ last.
+          let two : 2 ≡ r % 4 = omega (arith, last, left) in
+          rounds_last c.args.schedule.now (turned 2 k) c.args.blocks.now (map (turned ((r - 1) % 4)) old) (map (turned 2) new) r c.rounds-rounds.result
+          (omega (arith, last)) rounds before (ap (λ (t : ℕ). turned t k) two ∙ back_turned (r % 4) w r (omega arith))
+          (ap (map (turned 2)) (c.take_round.ensures.last k is (omega (arith, last))) ∙ all_keyed 2 k (map sub_bytes old)
+          ∙ ap (keyed (turned 2 k)) (ap (λ (t : ℕ). map (turned t) (map sub_bytes old)) two ∙ next_turns r old low));
     }
 
 pub returns : goal.returns
-returns g c =
-    let even = even_rounds c.rounds-rounds.result c.rounds-rounds.ensures.ten_or_fourteen in
-    c.store.ensures ∙ c.loop-round.invariant.done (omega (arith, even.1))
+returns c =
+    let left = two_left c.rounds-rounds.result c.rounds-rounds.ensures.ten_or_fourteen in
+    c.store.ensures ∙ c.shift_rows_twice.ensures ∙ c.loop-round.invariant.done (omega (arith, left.1))
