@@ -1,8 +1,9 @@
-pub mod Totals
-pub mod LaneMasks
 pub mod Overflow
-pub mod Shifted
-pub mod HalvesOfSums
-pub mod Sixteens
-pub mod EightBlocks
 pub mod HashInput
+pub mod OctetSums
+pub mod OctetSteps
+pub mod OctetLanes
+pub mod TableProducts
+pub mod StringBlocks
+pub mod Filled
+pub mod TurnSums

@@ -186,13 +186,3 @@ lost-shifts v =
 pub overflow-shifts : (v : ℕ) → v < 2 ^ 128
     → spread (bit_xor (bit_xor (bit_xor v (v * 2 ^ 127 % 2 ^ 128)) (v * 2 ^ 126 % 2 ^ 128)) (v * 2 ^ 121 % 2 ^ 128)) ≡ times_power 128 v
 overflow-shifts v h = ap spread (lost-shifts v) ∙ sym (overflow-spread v h)
-
--- x^16 times a block
-pub sixteen-further : (v over : ℕ) → over ≡ times_power 128 (v * 2 ^ 112 % 2 ^ 128) → bit_xor (v / 2 ^ 16) over ≡ times_power 16 v
-sixteen-further v over e =
-    let out : v * 2 ^ 112 % 2 ^ 128 ≡ v % 2 ^ 16 * 2 ^ 112 = omega arith in
-    ap (bit_xor (v / 2 ^ 16)) (e ∙ ap (times_power 128) out) ∙ sym (power-split 16 112 v refl)
-
--- sixteen powers of x more
-pub next-part : (n h part next : ℕ) → part ≡ times_power n h → next ≡ times_power 16 part → next ≡ times_power (16 + n) h
-next-part n h part next is e = e ∙ ap (times_power 16) is ∙ sym (power-add 16 n h)

@@ -1,17 +1,19 @@
-//! GHASH (NIST SP 800-38D, 6.4) of the string that GCM hashes (7.1, step 5), eight blocks a turn
-//! where there are eight, and one by one where fewer are left.
+//! GHASH (NIST SP 800-38D, 6.4) of the string that GCM hashes (7.1, step 5), by tables of four
+//! bits: a text of few blocks by tables of two powers of the hash subkey, which are kept with it,
+//! another by tables of eight, which are made for it.
 //!
 //! Blocks are numbers as in `macs_gf`. No branch and no index of the code depends on a subkey or on
 //! what is hashed, only on lengths.
 #![tactic(auto)]
 
-mod halves;
+mod filling;
 mod hash;
-mod lanes;
-mod masks;
-mod pieces;
+mod octets;
 mod powers;
 mod reduction;
+mod strings;
+mod tables;
+mod turns;
 
 pub use hash::ghash;
 pub use powers::Powers;

@@ -1,25 +1,26 @@
-//! The powers of the hash subkey.
+//! A hash subkey with its powers.
 
-ghost use Rattle.std.specs.Prelude.{◌≡◌, ◌<◌, ◌^◌, ℕ, bit_xor};
+ghost use Rattle.std.specs.Prelude.{◌≡◌, ◌<◌, ◌+◌, ◌-◌, ◌*◌, ◌/◌, ◌^◌, ℕ, length};
 ghost use Rattle.macs_gf.specs.Gf128.{block_product};
-ghost use Rattle.macs_gf.specs.Ghash.{ghash};
-ghost use Rattle.macs_ghash.specs.Lanes.{ArePowers, AreParts};
+ghost use Rattle.macs_gf.specs.Ghash.{blocks_of, ghash, hash_input, subkey_power};
+ghost use Rattle.macs_ghash.specs.Tables.{AreEightPowers, AreTables};
+ghost use Rattle.macs_ghash.specs.declared.octets.TheConstants.{SIXTEENS};
+ghost use Rattle.macs_ghash.specs.declared.tables.TheConstants.{TWO};
 
-use crate::halves::{HalfProducts, joined, products_once};
-use crate::lanes::{Blocks, side_by_side};
-use crate::masks::{Mask, PowerMasks};
-use crate::pieces::product_by;
-use crate::reduction::sixteen_further;
+use crate::filling::{fill, room};
+use crate::octets::SIXTEENS;
+use crate::tables::{EIGHT, Part, TWO, products};
+use crate::turns::{add_state, hashed};
 use std::marker::Model;
 use std::simd::prelude::*;
 
-/// A hash subkey (NIST SP 800-38D, 7.1, step 1) prepared for `ghash`: its powers from the eighth down
-/// to the first, and its multiples by x^0, x^16 to x^112. In clauses it is the subkey.
+/// A hash subkey (NIST SP 800-38D, 7.1, step 1) prepared for `ghash`: its powers from the eighth
+/// down to the first, and the tables of its square and of itself. In clauses it is the subkey.
 #[derive(Drop)]
 pub struct Powers {
     key: u128,
-    powers: Blocks,
-    parts: Blocks,
+    powers: [u128; 8],
+    pair: [[Part; TWO]; 16],
 }
 
 impl Model for Powers {
@@ -27,36 +28,45 @@ impl Model for Powers {
 
     ghost view = { λ s. s.key };
 
-    ghost invariant = { λ s. ArePowers s.key s.powers.high s.powers.low × AreParts s.key s.parts.high s.parts.low };
+    ghost invariant = { λ s. AreEightPowers s.key s.powers
+        × AreTables SIXTEENS TWO (λ l. subkey_power s.key (2 - l)) s.pair };
 }
 
-/// The multiples of the key by x^(16 i), i from 0 to 7.
-fn parts_of(key: u128) -> Blocks
-    ensures { AreParts key result.high result.low }
+/// The product of a block and the first of two powers.
+fn product_by_first(tables: &[[Part; TWO]; 16], block: u128) -> u128
+    ensures { (powers : ℕ → ℕ) → AreTables SIXTEENS TWO powers tables.now
+        → result ≡ block_product block (powers 0) }
 {
-    let second = sixteen_further(key);
-    let third = sixteen_further(second);
-    let fourth = sixteen_further(third);
-    let fifth = sixteen_further(fourth);
-    let sixth = sixteen_further(fifth);
-    let seventh = sixteen_further(sixth);
-    let eighth = sixteen_further(seventh);
-    side_by_side([key, second, third, fourth, fifth, sixth, seventh, eighth])
+    let mut octets = [0u8; 32];
+    add_state(&mut octets, block);
+    products(tables, &octets)
 }
 
-/// The powers of the key, from the eighth down to the first.
-fn powers_of(key: u128, parts: &Blocks) -> Blocks
-    requires { AreParts key parts.now.high parts.now.low }
-    ensures { ArePowers key result.high result.low }
+/// The tables of the square of a key and of the key, made in the room that is lent. It returns the
+/// square.
+fn fill_pair(pair: &mut [[Part; TWO]; 16], key: u128) -> u128
+    ensures square { result ≡ subkey_power key 2 }
+    ensures tables { AreTables SIXTEENS TWO (λ l. subkey_power key (2 - l)) pair.new }
 {
-    let second = product_by(key, parts);
-    let third = product_by(second, parts);
-    let fourth = product_by(third, parts);
-    let fifth = product_by(fourth, parts);
-    let sixth = product_by(fifth, parts);
-    let seventh = product_by(sixth, parts);
-    let eighth = product_by(seventh, parts);
-    side_by_side([eighth, seventh, sixth, fifth, fourth, third, second, key])
+    fill(pair, &[key, key]);
+    let square = product_by_first(pair, key);
+    fill(pair, &[square, key]);
+    square
+}
+
+/// The powers of a key, from the eighth down to the first.
+fn powers_of(key: u128, square: u128, pair: &[[Part; TWO]; 16]) -> [u128; 8]
+    requires square { square ≡ subkey_power key 2 }
+    requires tables { AreTables SIXTEENS TWO (λ l. subkey_power key (2 - l)) pair.now }
+    ensures { AreEightPowers key result }
+{
+    let third = product_by_first(pair, key);
+    let fourth = product_by_first(pair, square);
+    let fifth = product_by_first(pair, third);
+    let sixth = product_by_first(pair, fourth);
+    let seventh = product_by_first(pair, fifth);
+    let eighth = product_by_first(pair, sixth);
+    [eighth, seventh, sixth, fifth, fourth, third, square, key]
 }
 
 impl Powers {
@@ -64,43 +74,34 @@ impl Powers {
     pub fn new(h: u128) -> Self
         ensures { result ≡ h }
     {
-        let parts = parts_of(h);
+        let mut pair = room();
+        let square = fill_pair(&mut pair, h);
         Powers {
             key: h,
-            powers: powers_of(h, &parts),
-            parts,
+            powers: powers_of(h, square, &pair),
+            pair,
         }
     }
 
-    /// One more block taken in from the state `before` (NIST SP 800-38D, 6.4, step 3).
-    #[inline(always)]
-    pub(crate) fn one(&self, before: u128, block: u128) -> u128
-        ensures { result ≡ block_product (bit_xor before block) self.now }
+    /// The hash of few blocks, two a turn.
+    pub(crate) fn by_twos(&self, aad: &[u8], text: &[u8], count: usize) -> u128
+        requires aad { length aad.now < 2 ^ 32 }
+        requires text { length text.now < 2 ^ 32 }
+        requires all { count ≡ (length aad.now + 15) / 16 + (length text.now + 15) / 16 + 1 }
+        ensures { result ≡ ghash self.now (blocks_of (hash_input aad.now text.now)) }
     {
-        product_by(before ^ block, &self.parts)
+        hashed::<TWO, 32>(&self.pair, aad, text, count)
     }
 
-    /// Eight blocks taken in from the zero block (NIST SP 800-38D, 6.4, steps 2 and 3), under masks that are not
-    /// kept.
-    #[inline(always)]
-    pub(crate) fn eight(&self, blocks: &[u128; 8]) -> u128
-        ensures { result ≡ ghash self.now blocks.now }
+    /// The hash of many blocks, eight a turn, under tables of 2 KB that are made for it.
+    pub(crate) fn by_eights(&self, aad: &[u8], text: &[u8], count: usize) -> u128
+        requires aad { length aad.now < 2 ^ 32 }
+        requires text { length text.now < 2 ^ 32 }
+        requires all { count ≡ (length aad.now + 15) / 16 + (length text.now + 15) / 16 + 1 }
+        ensures { result ≡ ghash self.now (blocks_of (hash_input aad.now text.now)) }
     {
-        let numbers = side_by_side(*blocks);
-        let HalfProducts { high, low, both } = products_once(&numbers, &self.powers);
-        joined(high, both, low)
-    }
-
-    /// The masks for turns of eight blocks, made in the room that is lent.
-    #[inline(always)]
-    pub(crate) fn masks<'a>(
-        &self,
-        high: &'a mut [Mask; 64],
-        low: &'a mut [Mask; 64],
-        both: &'a mut [Mask; 64],
-    ) -> PowerMasks<'a>
-        ensures { result ≡ self.now }
-    {
-        PowerMasks::of_powers(self.key, &self.powers, high, low, both)
+        let mut tables = room();
+        fill(&mut tables, &self.powers);
+        hashed::<EIGHT, 128>(&tables, aad, text, count)
     }
 }

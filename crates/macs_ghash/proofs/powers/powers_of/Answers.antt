@@ -1,26 +1,26 @@
-use Rattle.std.proofs.Common.{◌≡◌, ◌∙◌, ◌-◌, ℕ, ◌<◌, ◌^◌, [], ◌∷◌, List, get_or}
+use Rattle.std.proofs.Common.{◌≡◌, ◌∙◌, ◌-◌, ◌^◌, ◌<◌, ℕ, List, [], ◌∷◌, arith, get_or, refl}
 use Rattle.macs_gf.specs.Ghash.{subkey_power}
-use Rattle.macs_ghash.proofs.EightBlocks.{below_eight, first_power, next_power}
+use Rattle.macs_ghash.proofs.TurnSums.{below_eight, first_power, power_after}
 use Rattle.macs_ghash.proofs.powers.powers_of.Goals as goal
 
 pub returns : goal.returns
 returns c =
-    let h = c.args.key in
-    let are = c.requires in
-    let small : h < 2 ^ 128 = are.small in
-    let p1 : h ≡ subkey_power h 1 = first_power h small in
-    let p2 : c.product_by-second.result ≡ subkey_power h 2 = next_power h h _ 1 small p1 (c.product_by-second.ensures h are) in
-    let p3 : c.product_by-third.result ≡ subkey_power h 3 = next_power h c.product_by-second.result _ 2 small p2 (c.product_by-third.ensures h are) in
-    let p4 : c.product_by-fourth.result ≡ subkey_power h 4 = next_power h c.product_by-third.result _ 3 small p3 (c.product_by-fourth.ensures h are) in
-    let p5 : c.product_by-fifth.result ≡ subkey_power h 5 = next_power h c.product_by-fourth.result _ 4 small p4 (c.product_by-fifth.ensures h are) in
-    let p6 : c.product_by-sixth.result ≡ subkey_power h 6 = next_power h c.product_by-fifth.result _ 5 small p5 (c.product_by-sixth.ensures h are) in
-    let p7 : c.product_by-seventh.result ≡ subkey_power h 7 = next_power h c.product_by-sixth.result _ 6 small p6 (c.product_by-seventh.ensures h are) in
-    let p8 : c.product_by-eighth.result ≡ subkey_power h 8 = next_power h c.product_by-seventh.result _ 7 small p7 (c.product_by-eighth.ensures h are) in
-    let all : List ℕ = c.product_by-eighth.result ∷ c.product_by-seventh.result ∷ c.product_by-sixth.result ∷ c.product_by-fifth.result ∷ c.product_by-fourth.result ∷ c.product_by-third.result ∷ c.product_by-second.result ∷ h ∷ [] in
-    let powers : (l : ℕ) → l < 8 → get_or all l 0 ≡ subkey_power h (8 - l) = below_eight (λ l. get_or all l 0 ≡ subkey_power h (8 - l)) p8 p7 p6 p5 p4 p3 p2 p1 in
+    let h : ℕ = c.args.key in
+    let k : h < 2 ^ 128 = omega arith in
+    let are = c.requires.tables in
+    let by : ℕ → ℕ = λ l. subkey_power h (2 - l) in
+    let p1 : h ≡ subkey_power h 1 = first_power h k in
+    let p2 : c.args.square ≡ subkey_power h 2 = c.requires.square in
+    let p3 : c.product_by_first-third.result ≡ subkey_power h 3 = c.product_by_first-third.ensures by are ∙ power_after h h 1 k p1 in
+    let p4 : c.product_by_first-fourth.result ≡ subkey_power h 4 = c.product_by_first-fourth.ensures by are ∙ power_after h c.args.square 2 k p2 in
+    let p5 : c.product_by_first-fifth.result ≡ subkey_power h 5 = c.product_by_first-fifth.ensures by are ∙ power_after h c.product_by_first-third.result 3 k p3 in
+    let p6 : c.product_by_first-sixth.result ≡ subkey_power h 6 = c.product_by_first-sixth.ensures by are ∙ power_after h c.product_by_first-fourth.result 4 k p4 in
+    let p7 : c.product_by_first-seventh.result ≡ subkey_power h 7 = c.product_by_first-seventh.ensures by are ∙ power_after h c.product_by_first-fifth.result 5 k p5 in
+    let p8 : c.product_by_first-eighth.result ≡ subkey_power h 8 = c.product_by_first-eighth.ensures by are ∙ power_after h c.product_by_first-sixth.result 6 k p6 in
+    let all : List ℕ = c.product_by_first-eighth.result ∷ c.product_by_first-seventh.result ∷ c.product_by_first-sixth.result ∷ c.product_by_first-fifth.result ∷ c.product_by_first-fourth.result
+    ∷ c.product_by_first-third.result ∷ c.args.square ∷ h ∷ [] in
     record {
-      high_lanes = c.side_by_side.ensures.high;
-      low_lanes = c.side_by_side.ensures.low;
-      powers = λ l k. c.side_by_side.ensures.value l k ∙ powers l k;
-      small = small;
+      size = refl;
+      each = below_eight (λ l. get_or all l 0 ≡ subkey_power h (8 - l)) p8 p7 p6 p5 p4 p3 p2 p1;
+      small = k;
     }

@@ -1,0 +1,187 @@
+-- Tables of four bits, from the octets of multiples by powers of x.
+use Rattle.std.proofs.Common.{◌≡◌, ℕ, zero, suc, ◌+◌, ◌-◌, ◌*◌, ◌/◌, ◌%◌, ◌^◌, ◌<◌, ◌≤◌, ◌∙◌, List, [], map, get_or, get_or-take, length, length-take-le, take, replicate, set, inl, inr, bit_and, bit_xor, ap, ap₂, sym, refl, arith, w8}
+use Rattle.std.specs.Int.{bit_at}
+use Rattle.std.specs.List.{range_with_len}
+use Rattle.std.specs.Simd.Lanes.{Each1, digits_l, number_l, zip2}
+use Rattle.std.proofs.lemmas.Bool.{cases_lt}
+use Rattle.std.proofs.lemmas.List.{get_or-set_other, get_or-set_same, length-set}
+use Rattle.std.proofs.lemmas.List.FromFn.{get_or-map-range_with_len}
+use Rattle.std.proofs.lemmas.Nat.{and_mask, pow_pos, xor_mod, xor_shr}
+use Rattle.std.proofs.lemmas.Nat.Bits.{bit_at-lt}
+use Rattle.std.proofs.lemmas.Simd.{Each1-replicate, SwzOk, SwzOk-from_below, get_or-replicate, get_or-swz_l_below, get_or-zip2, get_or_narrower, length-replicate, length-swz_l, swz_l}
+use native.Mathlib.Nat.{div-eq_of_lt, one-mul, zero-mul}
+use lib.Bits.{and_zero_r, xor_zero_l}
+use Rattle.macs_gf.specs.Gf128.{times_power, times_x}
+use Rattle.macs_gf.proofs.Xor.{digit_scaled}
+use Rattle.macs_ghash.specs.Tables.{nibble_product, octet_from_left, octets_in, sum_of}
+use Rattle.macs_ghash.proofs.OctetLanes.{below_sixteen}
+use Rattle.macs_ghash.specs.declared.filling.TheConstants.{MASKS}
+
+-- ---- an octet of sums
+
+octet-xor : (u v b : ℕ) → octet_from_left (bit_xor u v) b ≡ bit_xor (octet_from_left u b) (octet_from_left v b)
+octet-xor u v b = ap (λ (n : ℕ). n % 256) (xor_shr u v (120 - 8 * b)) ∙ xor_mod (u / 2 ^ (120 - 8 * b)) (v / 2 ^ (120 - 8 * b)) 8
+
+zero_shifted : (k : ℕ) → 0 / 2 ^ k ≡ 0
+zero_shifted k = div-eq_of_lt (pow_pos k)
+
+octet_none : (b : ℕ) → octet_from_left 0 b ≡ 0
+octet_none b = ap (λ (n : ℕ). n % 256) (zero_shifted (120 - 8 * b))
+
+octet_digit : (d v b : ℕ) → d < 2 → octet_from_left (d * v) b ≡ d * octet_from_left v b
+octet_digit d v b h = digit_scaled (λ v. octet_from_left v b) (octet_none b) d v h
+
+-- octet b of a nibble's product from those of the multiples
+pub nibble_octet : (n p b : ℕ)
+    → bit_xor (bit_xor (bit_xor (bit_at n 3 * octet_from_left (times_power 0 p) b) (bit_at n 2 * octet_from_left (times_power 1 p) b)) (bit_at n 1 * octet_from_left (times_power 2 p) b)) (bit_at n 0 * octet_from_left (times_power 3 p) b)
+    ≡ octet_from_left (nibble_product n p) b
+unfolding nibble_product sum_of
+nibble_octet n p b =
+    let t : ℕ → ℕ = λ k. bit_at n (3 - k) * times_power k p in
+    let o : (k : ℕ) → octet_from_left (t k) b ≡ bit_at n (3 - k) * octet_from_left (times_power k p) b =
+    λ k. octet_digit (bit_at n (3 - k)) (times_power k p) b (bit_at-lt n (3 - k)) in
+    sym (octet-xor (bit_xor (bit_xor (bit_xor 0 (t 0)) (t 1)) (t 2)) (t 3) b
+    ∙ ap₂ bit_xor (octet-xor (bit_xor (bit_xor 0 (t 0)) (t 1)) (t 2) b
+    ∙ ap₂ bit_xor (octet-xor (bit_xor 0 (t 0)) (t 1) b ∙ ap₂ bit_xor (ap (λ (v : ℕ). octet_from_left v b) (xor_zero_l (t 0)) ∙ o 0) (o 1)) (o 2)) (o 3))
+
+-- ---- octets of words
+
+seven_are : map (λ b. bit_xor b 7) (range_with_len 0 16) ≡ map (λ b. 8 * (b / 8) + (7 - b % 8)) (range_with_len 0 16)
+seven_are = refl
+
+pub seven_at : (b : ℕ) → b < 16 → bit_xor b 7 ≡ 8 * (b / 8) + (7 - b % 8)
+seven_at b h =
+    sym (get_or-map-range_with_len (λ b. bit_xor b 7) 0 16 b b 0 h (omega arith)) ∙ ap (λ xs. get_or xs b 0) seven_are
+    ∙ get_or-map-range_with_len (λ b. 8 * (b / 8) + (7 - b % 8)) 0 16 b b 0 h (omega arith)
+
+half_octet : (v first second b : ℕ) → first ≡ v / 2 ^ 64 → second ≡ v % 2 ^ 64 → b < 16 → (w : ℕ) → (b / 8 ≡ 0 → w ≡ first) → (b / 8 ≡ 1 → w ≡ second)
+    → w / 256 ^ (7 - b % 8) % 256 ≡ octet_from_left v b
+half_octet v first second b ef es h w a z =
+    below_sixteen (λ b. (b / 8 ≡ 0 → w ≡ first) → (b / 8 ≡ 1 → w ≡ second) → w / 256 ^ (7 - b % 8) % 256 ≡ octet_from_left v b)
+    (λ a z. omega (arith, ef, es, a refl))
+    (λ a z. omega (arith, ef, es, a refl))
+    (λ a z. omega (arith, ef, es, a refl))
+    (λ a z. omega (arith, ef, es, a refl))
+    (λ a z. omega (arith, ef, es, a refl))
+    (λ a z. omega (arith, ef, es, a refl))
+    (λ a z. omega (arith, ef, es, a refl))
+    (λ a z. omega (arith, ef, es, a refl))
+    (λ a z. omega (arith, ef, es, z refl))
+    (λ a z. omega (arith, ef, es, z refl))
+    (λ a z. omega (arith, ef, es, z refl))
+    (λ a z. omega (arith, ef, es, z refl))
+    (λ a z. omega (arith, ef, es, z refl))
+    (λ a z. omega (arith, ef, es, z refl))
+    (λ a z. omega (arith, ef, es, z refl))
+    (λ a z. omega (arith, ef, es, z refl))
+    b h a z
+
+pub octet_of_halves : (sixteens : ℕ) (words : List ℕ) (g b v : ℕ) → length words ≡ 2 * sixteens → Each1 (λ x. x < 18446744073709551616) words → g < sixteens → b < 16
+    → get_or words (2 * g) 0 ≡ v / 2 ^ 64 → get_or words (2 * g + 1) 0 ≡ v % 2 ^ 64
+    → octets_in (digits_l 256 (16 * sixteens) (number_l 18446744073709551616 words)) g (bit_xor b 7) ≡ octet_from_left v b
+octet_of_halves sixteens words g b v len fit h k ef es =
+    let i : ℕ = 2 * g + b / 8 in
+    let place : 16 * g + bit_xor b 7 ≡ 8 * i + (7 - b % 8) = omega (arith, seven_at b k) in
+    ap (λ (m : ℕ). get_or (digits_l 256 (16 * sixteens) (number_l 18446744073709551616 words)) m 0) place
+    ∙ get_or_narrower 18446744073709551616 8 256 (16 * sixteens) words i (7 - b % 8) refl fit (omega arith) (omega arith)
+    ∙ half_octet v (get_or words (2 * g) 0) (get_or words (2 * g + 1) 0) b ef es k (get_or words i 0)
+    (λ e. ap (λ (m : ℕ). get_or words m 0) (omega (arith, e))) (λ e. ap (λ (m : ℕ). get_or words m 0) (omega (arith, e)))
+
+-- ---- octets that are chosen
+
+masks_are : map (λ m. get_or (get_or MASKS (m / 32) []) (m % 32) 0) (range_with_len 0 128) ≡ map (λ m. bit_at (m % 32 % 16) (3 - m / 32) * 255) (range_with_len 0 128)
+masks_are = refl
+
+mask_at : (k g n : ℕ) → k < 4 → g < 2 → n < 16 → get_or (get_or MASKS k []) (16 * g + n) 0 ≡ bit_at n (3 - k) * 255
+mask_at k g n h l m =
+    let i : ℕ = 32 * k + (16 * g + n) in
+    let q : i / 32 ≡ k = omega arith in
+    let r : i % 32 ≡ 16 * g + n = omega arith in
+    let s : i % 32 % 16 ≡ n = omega arith in
+    sym (ap₂ (λ (a b : ℕ). get_or (get_or MASKS a []) b 0) q r)
+    ∙ sym (get_or-map-range_with_len (λ m. get_or (get_or MASKS (m / 32) []) (m % 32) 0) 0 128 i i 0 (omega arith) (omega arith)) ∙ ap (λ xs. get_or xs i 0) masks_are
+    ∙ get_or-map-range_with_len (λ m. bit_at (m % 32 % 16) (3 - m / 32) * 255) 0 128 i i 0 (omega arith) (omega arith)
+    ∙ ap₂ (λ (a b : ℕ). bit_at a (3 - b) * 255) s q
+
+masks_long : (k : ℕ) → k < 4 → length (get_or MASKS k []) ≡ 32
+masks_long zero h = refl
+masks_long (suc zero) h = refl
+masks_long (suc (suc zero)) h = refl
+masks_long (suc (suc (suc zero))) h = refl
+masks_long (suc (suc (suc (suc k)))) h = absurd (omega arith)
+
+masked : (d o : ℕ) → d < 2 → o < 256 → bit_and o (d * 255) ≡ d * o
+masked zero o h k = ap (bit_and o) (zero-mul 255) ∙ and_zero_r o ∙ sym (zero-mul o)
+masked (suc zero) o h k =
+    let whole : o % 2 ^ 8 ≡ o = omega arith in
+    ap (bit_and o) (one-mul 255) ∙ and_mask o 8 ∙ whole ∙ sym (one-mul o)
+masked (suc (suc d)) o h k = absurd (omega arith)
+
+pub place_fits : (sixteens octets place : ℕ) → octets ≡ sixteens * 16 → place < 16 → SwzOk w8 16 octets 0 (replicate octets place)
+place_fits sixteens octets place e h =
+    SwzOk-from_below w8 16 sixteens octets 0 (replicate octets place) e (omega (arith, length-replicate {A = ℕ} octets place)) (Each1-replicate (λ j. j < 16) octets place h)
+
+pub chosen_at : (n : ℕ) (x : List ℕ) (place k g i : ℕ) → n ≤ 2 → place < 16 → k < 4 → g < n → i < 16 → octets_in x g place < 256
+    → octets_in (zip2 bit_and (swz_l w8 16 x 0 (replicate (16 * n) place)) (take (16 * n) (get_or MASKS k []))) g i ≡ bit_at i (3 - k) * octets_in x g place
+chosen_at n x place k g i le h l m o small =
+    let at : ℕ = 16 * g + i in
+    let js : List ℕ = replicate (16 * n) place in
+    let ys : List ℕ = swz_l w8 16 x 0 js in
+    let mask : List ℕ = take (16 * n) (get_or MASKS k []) in
+    let long : length js ≡ 16 * n = length-replicate (16 * n) place in
+    let size : length ys ≡ 16 * n = length-swz_l w8 16 x 0 js ∙ long in
+    let rows : length (get_or MASKS k []) ≡ 32 = masks_long k l in
+    let width : length mask ≡ 16 * n = length-take-le (16 * n) (get_or MASKS k []) (omega arith) in
+    let here : (0 + at) / 16 ≡ g = omega arith in
+    let there : get_or js at 0 ≡ place = get_or-replicate (16 * n) at place 0 (omega arith) in
+    let octet : get_or ys at 0 ≡ octets_in x g place =
+    get_or-swz_l_below w8 16 x 0 js at (omega arith) (omega arith) ∙ ap₂ (λ (q p : ℕ). get_or x (16 * q + p) 0) here there in
+    get_or-zip2 bit_and ys mask at 0 0 0 (omega arith) (omega arith)
+    ∙ ap₂ bit_and octet (get_or-take (16 * n) (get_or MASKS k []) at 0 (omega arith) ∙ mask_at k g i l (omega arith) o)
+    ∙ masked (bit_at i (3 - k)) (octets_in x g place) (bit_at-lt i (3 - k)) small
+
+-- the powers of x of a block, one after another
+pub powers_on : (xs second third fourth : List ℕ) (l : ℕ) → get_or second l 0 ≡ times_x (get_or xs l 0) → get_or third l 0 ≡ times_x (get_or second l 0)
+    → get_or fourth l 0 ≡ times_x (get_or third l 0)
+    → (get_or xs l 0 ≡ times_power 0 (get_or xs l 0)) × ((get_or second l 0 ≡ times_power 1 (get_or xs l 0)) × ((get_or third l 0 ≡ times_power 2 (get_or xs l 0)) × (get_or fourth l 0 ≡ times_power 3 (get_or xs l 0))))
+unfolding times_power
+powers_on xs second third fourth l e f g = (refl, (e, (f ∙ ap times_x e, g ∙ ap times_x (f ∙ ap times_x e))))
+
+-- two words more
+pub two_words : (words : List ℕ) (n g a b : ℕ) → length words ≡ 2 * n → g < n → (P : ℕ → ℕ → Type 0) (Q : ℕ → ℕ → Type 0)
+    → ((k : ℕ) → k < g → P k (get_or words (2 * k) 0)) → ((k : ℕ) → k < g → Q k (get_or words (2 * k + 1) 0)) → P g a → Q g b
+    → ((k : ℕ) → k < g + 1 → P k (get_or (set (set words (2 * g) a) (2 * g + 1) b) (2 * k) 0))
+    × ((k : ℕ) → k < g + 1 → Q k (get_or (set (set words (2 * g) a) (2 * g + 1) b) (2 * k + 1) 0))
+two_words words n g a b len h P Q ps qs p q =
+    let once : List ℕ = set words (2 * g) a in
+    let size : length once ≡ 2 * n = length-set words (2 * g) a ∙ len in (
+      λ k l. elim (cases_lt k g) [
+        | inl lt ↦ rw (get_or-set_other once (2 * g + 1) (2 * k) b 0 (omega arith), get_or-set_other words (2 * g) (2 * k) a 0 (omega arith)) (ps k lt)
+        | inr ge ↦
+            let same : k ≡ g = omega arith in
+            rw same (rw (get_or-set_other once (2 * g + 1) (2 * g) b 0 (omega arith), get_or-set_same words (2 * g) a 0 (omega arith)) p)
+      ],
+      λ k l. elim (cases_lt k g) [
+        | inl lt ↦ rw (get_or-set_other once (2 * g + 1) (2 * k + 1) b 0 (omega arith), get_or-set_other words (2 * g) (2 * k + 1) a 0 (omega arith)) (qs k lt)
+        | inr ge ↦
+            let same : k ≡ g = omega arith in
+            rw same (rw (get_or-set_same once (2 * g + 1) b 0 (omega arith)) q)
+      ],
+    )
+
+-- each word is below a bound
+pub set_below : (words : List ℕ) (i v bound : ℕ) → i < length words → v < bound → ((m : ℕ) → get_or words m 0 < bound) → (m : ℕ) → get_or (set words i v) m 0 < bound
+set_below words i v bound within small held m = elim (cases_lt m i) [
+  | inl lt ↦ rw (get_or-set_other words i m v 0 (omega arith)) (held m)
+  | inr ge ↦ elim (cases_lt i m) [
+    | inl gt ↦ rw (get_or-set_other words i m v 0 (omega arith)) (held m)
+    | inr le ↦
+        let same : m ≡ i = omega arith in
+        rw same (rw (get_or-set_same words i v 0 within) small)
+  ]
+]
+
+pub zeros_at : (n m : ℕ) → get_or {A = ℕ} (replicate n 0) m 0 ≡ 0
+zeros_at zero m = refl
+zeros_at (suc n) zero = refl
+zeros_at (suc n) (suc m) = zeros_at n m

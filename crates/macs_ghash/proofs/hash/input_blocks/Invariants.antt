@@ -1,9 +1,0 @@
-use Rattle.std.proofs.Common.{◌≡◌, ◌<◌, ◌+◌, ℕ, length, slice_index}
-use Rattle.macs_gf.specs.Ghash.{block_at, hash_input}
-use Rattle.macs_ghash.proofs.hash.input_blocks.Given as goal
-
-abbrev pub invariant-loop-k : goal.invariant-loop-k
-invariant-loop-k l = record {
-  size : length l.blocks ≡ 8;
-  done : (j : ℕ) → j < l.k → slice_index l.blocks j ≡ block_at (hash_input l.aad l.text) (l.i + j);
-}

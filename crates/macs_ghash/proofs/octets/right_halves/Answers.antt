@@ -1,0 +1,7 @@
+use Rattle.std.proofs.Common.{◌+◌, ◌*◌, arith}
+use Rattle.macs_ghash.proofs.OctetLanes.{right_half}
+use Rattle.macs_ghash.specs.declared.octets.TheConstants.{OCTETS}
+use Rattle.macs_ghash.proofs.octets.right_halves.Goals as goal
+
+pub returns : goal.returns
+returns c = λ g j h k. right_half OCTETS c.args.x (16 * g + j) c.fits-x.0 (omega arith)
