@@ -1,11 +1,14 @@
 -- What a wire makes of the datagrams of a socket.
-use Rattle.std.proofs.Common.{◌≡◌, ◌≢◌, ◌≤◌, ◌<◌, ◌∙◌, inl, inr, ◌==◌, ℕ, true, false, List, length, take, length-take, take_all, Option, Some, None, Ok, Err, arith, refl, subst}
+use Rattle.std.proofs.Common.{◌≡◌, ◌≢◌, ◌≤◌, ◌<◌, ◌+◌, ◌∙◌, inl, inr, ◌==◌, ℕ, true, false, List, length, take}
+use Rattle.std.proofs.Common.{length-take, take_all, Option, Some, None, Ok, Err, arith, refl, sym, subst}
 use Rattle.std.proofs.lemmas.Bool.Decides.{nat_tests}
 use Rattle.std.specs.declared.io.ErrorKind.{ErrorKind}
 use Rattle.std.specs.declared.io.ErrorKind.TheVariants.{WouldBlock}
 use Rattle.std.specs.declared.net.SocketAddr.{SocketAddr}
-use Rattle.macs_edge.specs.Datagrams.{GivesDatagram, SocketState, TakesDatagram}
+use Rattle.macs_edge.specs.Counts.{CountsStrangers, CountsWaiting}
+use Rattle.macs_edge.specs.Datagrams.{Datagram, GivesDatagram, SocketState, TakesDatagram}
 use Rattle.macs_edge.specs.WireDatagrams.{IsGiven, ReceivesDatagram, SendsDatagram}
+use Rattle.macs_edge.specs.Wires.{saturated}
 use Rattle.macs_edge.specs.declared.datagrams.Arrived.{Arrived}
 use Rattle.macs_edge.specs.declared.wire.Got.{Got}
 use Rattle.macs_edge.specs.declared.wire.Got.TheVariants.{Nothing}
@@ -74,3 +77,34 @@ pub send-failed : {E : Type 0} (peer : SocketAddr) (old new : Option SocketState
     → SendsDatagram peer old new frame false
 send-failed peer None new frame error gives = tt
 send-failed peer (Some old) new frame error fails = fails
+
+-- ---- strangers
+
+-- a datagram is taken: it is a stranger's, and nothing is answered, or the peer's
+pub stranger-arrived : {E : Type 0} (peer : SocketAddr) (old new : Option SocketState) (kind : E → ErrorKind)
+    (room octets : List ℕ)
+    (arrived : Arrived) (got : Got) (frame : List ℕ) (n m : ℕ) → TakesDatagram {E = E} old new kind room (Ok arrived)
+    → IsGiven peer arrived.from octets got frame → (arrived.from ≢ peer → m ≡ saturated (n + 1))
+    → (arrived.from ≡ peer → m ≡ n)
+    → CountsStrangers (Ok got) old n m
+stranger-arrived peer None new kind room octets arrived got frame n m takes (inl (other, what, none)) strange own =
+    subst (λ (g : Got). CountsStrangers (Ok g) None n m) (sym what) (inr (strange other))
+stranger-arrived peer (Some old) new kind room octets arrived got frame n m takes (inl (other, what, none))
+    strange own =
+    subst (λ (g : Got). CountsStrangers (Ok g) (Some old) n m) (sym what)
+    (subst (λ (w : List Datagram). CountsWaiting w n m) (sym takes.waiting) (strange other))
+stranger-arrived peer old new kind room octets arrived got frame n m takes (inr (inl (is, short, what, all)))
+    strange own =
+    subst (λ (g : Got). CountsStrangers (Ok g) old n m) (sym what) (own is)
+stranger-arrived peer old new kind room octets arrived got frame n m takes (inr (inr (is, long, what, none)))
+    strange own =
+    subst (λ (g : Got). CountsStrangers (Ok g) old n m) (sym what) (own is)
+
+-- none waits
+pub no-stranger : {E : Type 0} (old new : Option SocketState) (kind : E → ErrorKind) (room : List ℕ) (error : E) (n : ℕ)
+    → TakesDatagram {E = E} old new kind room (Err error) → kind error ≡ WouldBlock
+    → CountsStrangers (Ok Nothing) old n n
+no-stranger None new kind room error n takes is = inl refl
+no-stranger (Some old) new kind room error n (inl (same, none, left)) is =
+    subst (λ (w : List Datagram). CountsWaiting w n n) (sym none) refl
+no-stranger (Some old) new kind room error n (inr (other, fails)) is = absurd (other is)

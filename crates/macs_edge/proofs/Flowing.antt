@@ -5,8 +5,10 @@ use Rattle.macs_disk.specs.Disk.{Disk}
 use Rattle.macs_txsc.specs.declared.fault.TxFault.TheVariants.{Runt, ForeignSource, NoEncodingSa, Exhausted, NoNumber}
 use Rattle.macs_txsc.specs.declared.fault.TxFault.TheVariants as tx
 use Rattle.macs_rxsc.specs.declared.verdict.Verdict.TheVariants.{Delivered, Discarded, HeldBack}
+use Rattle.macs_endpoint.specs.Calls.{IsCall}
 use Rattle.macs_endpoint.specs.Lives.{Lives, Transition}
-use Rattle.macs_endpoint.specs.State.{Advanced, AdvancedLong, Advances, Protected, Ran, Received, Refilled, RefusedLong, Reply, Submitted}
+use Rattle.macs_endpoint.specs.State.{Advanced, AdvancedLong, Advances, Call, Protected, Protects, Ran, Received}
+use Rattle.macs_endpoint.specs.State.{Receives, Refilled, RefusedLong, Reply, Submitted}
 use Rattle.macs_endpoint.specs.Step.{IsStopped}
 use Rattle.macs_endpoint.specs.Value.{EndpointValue}
 use Rattle.macs_endpoint.specs.declared.fault.ProtectFault.TheVariants as protect
@@ -81,11 +83,12 @@ taken-none (Some before) None left x taken off gives = absurd off
 taken-none None (Some xs) left x taken off gives = absurd off
 taken-none None None (Some ys) x taken off gives = absurd gives
 
-gained-none : (old : Option (List (List ℕ))) → old ≡ option_map (λ before. before ++ []) old
+pub gained-none : {X : Type 0} (old : Option (List X)) → old ≡ option_map (λ before. before ++ []) old
 gained-none None = refl
 gained-none (Some xs) = ap Some (sym (append-nil xs))
 
-gained-more : (a b c : Option (List (List ℕ))) (xs ys : List (List ℕ)) → b ≡ option_map (λ before. before ++ xs) a → c ≡ option_map (λ before. before ++ ys) b
+pub gained-more : {X : Type 0} (a b c : Option (List X)) (xs ys : List X) → b ≡ option_map (λ before. before ++ xs) a
+    → c ≡ option_map (λ before. before ++ ys) b
     → c ≡ option_map (λ before. before ++ (xs ++ ys)) a
 gained-more None b c xs ys one two = two ∙ ap (option_map (λ before. before ++ ys)) one
 gained-more (Some zs) b c xs ys one two = two ∙ ap (option_map (λ before. before ++ ys)) one ∙ ap Some (append_assoc zs xs ys)
@@ -165,7 +168,8 @@ other Controlled = Common
 other Common = Controlled
 
 module _ {D : Type 0} where
-  given-append : (side : Side) (turns more : List (Transition D)) → given side (turns ++ more) ≡ given side turns ++ given side more
+  pub given-append : (side : Side) (turns more : List (Transition D))
+      → given side (turns ++ more) ≡ given side turns ++ given side more
   given-append side [] more = refl
   given-append side (turn ∷ turns) more =
       ap (λ (l : List (List ℕ)). given_at side turn ++ l) (given-append side turns more)
@@ -378,9 +382,30 @@ flow-drops from from1 to to1 to2 all lane lane2 frame is flow none same same_to 
 
 -- ---- one way in one turn
 
+-- a call hands a frame in
+abbrev pub IsFrame : Call → Type 0
+IsFrame (Protects frame) = Unit {0}
+IsFrame (Receives frame) = Unit {0}
+IsFrame call = ⊥
+
+-- all of these calls do
+abbrev pub AreFrames : {D : Type 0} → List (Transition D) → Type 0
+AreFrames [] = Unit {0}
+AreFrames (turn ∷ turns) = IsFrame turn.call × AreFrames turns
+
+frames-append : {D : Type 0} (turns more : List (Transition D)) → AreFrames turns → AreFrames more
+    → AreFrames (turns ++ more)
+frames-append [] more first second = second
+frames-append (turn ∷ turns) more first second = (first.0, frames-append turns more first.1 second)
+
+is-frame : (side : Side) (frame : List ℕ) → IsFrame (call_on side frame)
+is-frame Controlled frame = tt
+is-frame Common frame = tt
+
 -- the calls that are made, what goes this way, and that nothing changes the other way
 record Moves {D : Type 0} (disk_of : D → Disk) (side : Side) (old new : Way D) : Type 0 where
   calls : List (Transition D)
+  frames : AreFrames calls
   lives : Lives disk_of old.endpoint calls new.endpoint
   here : (from to : WireState) (all : List (List ℕ)) → Flow from old.from to old.to all old.lane → Flow from new.from to new.to (all ++ given side calls) new.lane
   there : given (other side) calls ≡ []
@@ -426,6 +451,7 @@ module _ {D : Type 0} (disk_of : D → Disk) (side : Side) where
   hands-moves : (slot : Option (List ℕ)) (old new : Way D) → old.lane.slot ≡ slot → HandsSlot disk_of side slot old new → Moves disk_of side old new
   hands-moves None old new is same = record {
     calls = [];
+    frames = tt;
     lives = ap (λ (w : Way D). w.endpoint) same;
     here = λ from to all flow. subst (λ (w : Way D). Flow from w.from to w.to (all ++ []) w.lane) (sym same)
         (subst (λ (l : List (List ℕ)). Flow from old.from to old.to l old.lane) (sym (append-nil all)) flow);
@@ -437,6 +463,7 @@ module _ {D : Type 0} (disk_of : D → Disk) (side : Side) where
   }
   hands-moves (Some frame) old new is (reply, sound, call, same_from, becomes) = record {
     calls = record { call = call_on side frame; reply = reply; after = new.endpoint } ∷ [];
+    frames = (is-frame side frame, tt);
     lives = (sound, call, refl);
     here = λ from to all flow. flow-becomes side frame reply old new is becomes same_from from to all _ (given-here side frame reply new.endpoint (given_by reply) refl) flow;
     there = given-there side frame reply new.endpoint;
@@ -452,6 +479,7 @@ module _ {D : Type 0} (disk_of : D → Disk) (side : Side) where
       let sent = fills-sent old.lane.slot old.from old.lane from lane fills in
       record {
         calls = moves.calls;
+        frames = moves.frames;
         lives = moves.lives;
         here = λ from0 to0 all flow. moves.here from0 to0 all (flow-fills from0 old.from from to0 old.to all old.lane lane old.lane.slot refl flow fills);
         there = moves.there;
@@ -464,13 +492,26 @@ module _ {D : Type 0} (disk_of : D → Disk) (side : Side) where
 -- ---- both ways
 
 -- the calls of a relay so far, and what went each way
-record Goes {D : Type 0} (disk_of : D → Disk) (old new : Relay D) : Type 0 where
-  calls : List (Transition D)
-  lives : Lives disk_of old.endpoint calls new.endpoint
-  out : Flow old.controlled new.controlled old.common new.common (given Controlled calls) new.to_common
-  back : Flow old.common new.common old.controlled new.controlled (given Common calls) new.to_controlled
+pub record Goes {D : Type 0} (disk_of : D → Disk) (old new : Relay D) : Type 0 where
+  pub calls : List (Transition D)
+  pub lives : Lives disk_of old.endpoint calls new.endpoint
+  pub out : Flow old.controlled new.controlled old.common new.common (given Controlled calls) new.to_common
+  pub back : Flow old.common new.common old.controlled new.controlled (given Common calls) new.to_controlled
 
-flow-begins : (from to : WireState) (lane : LaneValue) → lane ≡ empty_lane → Flow from from to to [] lane
+-- the same after one turn more: these calls hand frames in, and a step follows them
+pub record GoesOn {D : Type 0} (disk_of : D → Disk) (old between : Relay D) (before : List (Transition D))
+    (answer : Result Progress StepFault)
+    (new : Relay D) : Type 0 where
+  pub goes : Goes disk_of old new
+  pub frames : List (Transition D)
+  pub late : EndpointValue D
+  pub lives : Lives disk_of between.endpoint frames late
+  pub are_frames : AreFrames frames
+  pub step : IsCall disk_of late Advances (Advanced answer) new.endpoint
+  pub calls : goes.calls ≡ (before ++ frames) ++
+      record { call = Advances; reply = Advanced answer; after = new.endpoint } ∷ []
+
+pub flow-begins : (from to : WireState) (lane : LaneValue) → lane ≡ empty_lane → Flow from from to to [] lane
 flow-begins from to lane is = subst (λ (l : LaneValue). Flow from from to to [] l) (sym is) (record {
   taken = 0;
   missed = 0;
@@ -494,7 +535,9 @@ module _ {D : Type 0} (disk_of : D → Disk) where
   none-behind : (side : Side) (all : List (List ℕ)) (calls : List (Transition D)) → given side calls ≡ [] → all ++ given side calls ≡ all
   none-behind side all calls none = ap (λ (l : List (List ℕ)). all ++ l) none ∙ append-nil all
 
-  turn-goes : (answer : Result Progress StepFault) (old between new : Relay D) → Goes disk_of old between → TakesTurn disk_of answer between new → Goes disk_of old new
+  pub turn-goes : (answer : Result Progress StepFault) (old between new : Relay D) (goes : Goes disk_of old between)
+      → TakesTurn disk_of answer between new
+      → GoesOn disk_of old between goes.calls answer new
   turn-goes answer old between new goes (late, (endpoint, controlled, common, carries_out, carries_back), sound, call) =
       let one = carries-moves disk_of Controlled (way_of between.endpoint between.controlled between.common between.to_common)
       (way_of endpoint controlled common new.to_common) carries_out in
@@ -520,12 +563,22 @@ module _ {D : Type 0} (disk_of : D → Disk) where
       new.to_controlled new.to_controlled back_two refl refl refl refl
       (none-behind Common ((given Common goes.calls ++ given Common one.calls) ++ given Common two.calls) (three ∷ []) refl) refl in
       record {
-        calls = ((goes.calls ++ one.calls) ++ two.calls) ++ three ∷ [];
-        lives = lives-append disk_of old.endpoint late new.endpoint ((goes.calls ++ one.calls) ++ two.calls) (three ∷ []) lives_two (sound, call, refl);
-        out = subst (λ (l : List (List ℕ)). Flow old.controlled new.controlled old.common new.common l new.to_common)
-            (given-behind Controlled goes.calls one.calls two.calls (three ∷ [])) out_all;
-        back = subst (λ (l : List (List ℕ)). Flow old.common new.common old.controlled new.controlled l new.to_controlled)
-            (given-behind Common goes.calls one.calls two.calls (three ∷ [])) back_all;
+        goes = record {
+          calls = ((goes.calls ++ one.calls) ++ two.calls) ++ three ∷ [];
+          lives = lives-append disk_of old.endpoint late new.endpoint ((goes.calls ++ one.calls) ++ two.calls)
+              (three ∷ []) lives_two (sound, call, refl);
+          out = subst (λ (l : List (List ℕ)). Flow old.controlled new.controlled old.common new.common l new.to_common)
+              (given-behind Controlled goes.calls one.calls two.calls (three ∷ [])) out_all;
+          back = subst
+              (λ (l : List (List ℕ)). Flow old.common new.common old.controlled new.controlled l new.to_controlled)
+              (given-behind Common goes.calls one.calls two.calls (three ∷ [])) back_all;
+        };
+        frames = one.calls ++ two.calls;
+        late = late;
+        lives = lives-append disk_of between.endpoint endpoint late one.calls two.calls one.lives two.lives;
+        are_frames = frames-append one.calls two.calls one.frames two.frames;
+        step = call;
+        calls = ap (λ (l : List (Transition D)). l ++ three ∷ []) (append_assoc goes.calls one.calls two.calls);
       }
 
   turns-go : (turns : ℕ) (old new : Relay D) → old.to_common ≡ empty_lane → old.to_controlled ≡ empty_lane → TakesTurns disk_of turns old new → Goes disk_of old new
@@ -536,19 +589,18 @@ module _ {D : Type 0} (disk_of : D → Disk) where
     back = flow-begins old.common old.controlled old.to_controlled back;
   })
   turns-go (suc turns) old new out back (between, progress, before, last) =
-      turn-goes (Ok progress) old between new (turns-go turns old between out back before) last
+      (turn-goes (Ok progress) old between new (turns-go turns old between out back before) last).goes
 
   relay-goes : {T : Type 0} (turns : ℕ) (old new : Relay D) (result : Result T RefillFault) → old.to_common ≡ empty_lane → old.to_controlled ≡ empty_lane
       → Relays disk_of turns old result new → Goes disk_of old new
   relay-goes turns old new (Ok summary) out back took = turns-go turns old new out back took
   relay-goes turns old new (Err fault) out back (done, between, at, named, few, before, last) =
-      turn-goes (Err at) old between new (turns-go done old between out back before) last
+      (turn-goes (Err at) old between new (turns-go done old between out back before) last).goes
 
-  -- what is counted is what went
-  pub relay-flows : {T : Type 0} (turns : ℕ) (old new : Relay D) (result : Result T RefillFault) → old.to_common ≡ empty_lane → old.to_controlled ≡ empty_lane
-      → Relays disk_of turns old result new → IsFlow disk_of old new (summary_of new.to_common new.to_controlled)
-  relay-flows turns old new result out back took =
-      let goes = relay-goes turns old new result out back took in
+  -- what is counted is what went, with the same calls
+  pub goes-flows : (old new : Relay D) (goes : Goes disk_of old new)
+      → (flow : IsFlow disk_of old new (summary_of new.to_common new.to_controlled)) × (flow.calls ≡ goes.calls)
+  goes-flows old new goes =
       let one = goes.out in
       let two = goes.back in
       let all_one : one.taken ≡ length one.frames + one.lost + one.left_out + one_left new.to_common.slot = one.became.all in
@@ -556,16 +608,24 @@ module _ {D : Type 0} (disk_of : D → Disk) where
       let faults_one : new.to_common.tally.faults ≡ saturated (one.missed + one.lost) = one.became.faults in
       let faults_two : new.to_controlled.tally.faults ≡ saturated (two.missed + two.lost) = two.became.faults in
       let dropped_one : new.to_common.tally.dropped ≡ saturated one.left_out = one.became.dropped in
-      let dropped_two : new.to_controlled.tally.dropped ≡ saturated two.left_out = two.became.dropped in
-      record {
-        calls = goes.calls;
-        lives = goes.lives;
-        out = one;
-        back = two;
-        sent = one.became.passed;
-        delivered = two.became.passed;
-        faults = omega (arith, faults_one, faults_two);
-        others = one.left_out + two.left_out + one_left new.to_common.slot + one_left new.to_controlled.slot;
-        dropped = omega (arith, dropped_one, dropped_two);
-        all = omega (arith, all_one, all_two);
-      }
+      let dropped_two : new.to_controlled.tally.dropped ≡ saturated two.left_out = two.became.dropped in (
+        record {
+          calls = goes.calls;
+          lives = goes.lives;
+          out = one;
+          back = two;
+          sent = one.became.passed;
+          delivered = two.became.passed;
+          faults = omega (arith, faults_one, faults_two);
+          others = one.left_out + two.left_out + one_left new.to_common.slot + one_left new.to_controlled.slot;
+          dropped = omega (arith, dropped_one, dropped_two);
+          all = omega (arith, all_one, all_two);
+        },
+        refl,
+      )
+
+  pub relay-flows : {T : Type 0} (turns : ℕ) (old new : Relay D) (result : Result T RefillFault)
+      → old.to_common ≡ empty_lane → old.to_controlled ≡ empty_lane
+      → Relays disk_of turns old result new → IsFlow disk_of old new (summary_of new.to_common new.to_controlled)
+  relay-flows turns old new result out back took =
+      (goes-flows old new (relay-goes turns old new result out back took)).0

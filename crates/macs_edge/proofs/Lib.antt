@@ -9,3 +9,9 @@ pub mod Whole
 pub mod Flowing
 pub mod Relayed
 mod ByDatagrams
+mod Queueing
+mod Matching
+mod Attended
+mod Rested
+mod AttendedFlows
+mod Words

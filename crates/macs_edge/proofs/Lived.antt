@@ -1,12 +1,15 @@
 -- A run leads from its endpoint to the one after it by calls, however it ends.
-use Rattle.std.proofs.Common.{ℕ, zero, suc, Bool, List, [], ◌∷◌, ◌++◌, Option, Some, None, Result, Ok, Err, inl, inr, refl, ap, subst}
+use Rattle.std.proofs.Common.{ℕ, zero, suc, Bool, true, List, [], ◌∷◌, ◌++◌, Option, Some, None, Result, Ok, Err, inl}
+use Rattle.std.proofs.Common.{inr, refl, ap, subst}
 use Rattle.macs_disk.specs.Disk.{Disk}
 use Rattle.macs_endpoint.specs.Lives.{LivesOn}
-use Rattle.macs_endpoint.specs.State.{Advanced, Advances}
+use Rattle.macs_endpoint.specs.State.{Advanced, Advances, Submits, Submitted}
 use Rattle.macs_endpoint.specs.Value.{EndpointValue}
 use Rattle.macs_endpoint.specs.declared.fault.RefillFault.{RefillFault}
 use Rattle.macs_endpoint.specs.declared.fault.StepFault.{StepFault}
 use Rattle.macs_endpoint.specs.declared.progress.Step.{Step as Progress}
+use Rattle.macs_edge.specs.Attending.{Attends, AttendsTurns, Does, IsAttended, Obeys, TakesAllAttended}
+use Rattle.macs_edge.specs.declared.attending.DeskEvent.{DeskEvent}
 use Rattle.macs_edge.specs.Settling.{call_on}
 use Rattle.macs_edge.specs.Passing.{Run, RunsOver, RunsRecords, Stops}
 use Rattle.macs_edge.specs.Relaying.{Carries, HandsSlot, IsRelayed, Relay, Relays, TakesTurn, TakesTurns, Way, way_of}
@@ -15,6 +18,8 @@ use Rattle.macs_edge.specs.declared.passing.RunFault.{RunFault}
 use Rattle.macs_edge.specs.declared.passing.RunFault.TheVariants.{Device, Pcap}
 use Rattle.macs_edge.specs.declared.passing.Summary.{Summary}
 use Rattle.macs_edge.specs.declared.relaying.RelaySummary.{RelaySummary}
+use Rattle.macs_edge.specs.declared.attending.Order.{Order}
+use Rattle.macs_edge.specs.declared.attending.Order.TheVariants.{Go, Submit, End}
 use Rattle.macs_edge.specs.declared.settling.Side.{Side}
 use Rattle.macs_edge.specs.declared.settling.Side.TheVariants.{Controlled, Common}
 use Rattle.macs_edge.proofs.Living.{lives-append}
@@ -84,3 +89,63 @@ module _ {D : Type 0} (disk_of : D → Disk) where
         to_common = to_common;
         to_controlled = to_controlled;
       }) result relays
+
+  -- ---- relays that are attended
+
+  lives-does : (order : Order) (old new : EndpointValue D) (told : List DeskEvent) → Does disk_of order old told new
+      → LivesOn disk_of old new
+  lives-does Go old new told (none, same) = ([], same)
+  lives-does End old new told (none, same) = ([], same)
+  lives-does (Submit command) old new told (answer, took, sound, call) =
+      (record { call = Submits command; reply = Submitted answer; after = new } ∷ [], (sound, call, refl))
+
+  lives-obeys : (quiet follows : Bool) (old new : EndpointValue D) (events : List DeskEvent)
+      → Obeys disk_of quiet old events follows new → LivesOn disk_of old new
+  lives-obeys quiet follows old new events (order, told, which, does, is) = lives-does order old new told does
+
+  lives-attended-turn : (quiet : Bool) (answer : Result Progress StepFault) (old new : Relay D)
+      (endpoint : EndpointValue D) (events : List DeskEvent)
+      → Obeys disk_of quiet old.endpoint events true endpoint
+      → TakesTurn disk_of answer (record old { endpoint = endpoint }) new
+      → LivesOn disk_of old.endpoint new.endpoint
+  lives-attended-turn quiet answer old new endpoint events obeyed turn =
+      behind old.endpoint endpoint new.endpoint (lives-obeys quiet true old.endpoint endpoint events obeyed)
+      (lives-turn answer (record old { endpoint = endpoint }) new turn)
+
+  lives-all-attended : (turns : ℕ) (old new : Relay D) (events : List DeskEvent) (quiet : Bool)
+      → TakesAllAttended disk_of turns old events quiet new
+      → LivesOn disk_of old.endpoint new.endpoint
+  lives-all-attended zero old new events quiet (none, is_quiet, same) = ([], ap (λ (r : Relay D). r.endpoint) same)
+  lives-all-attended (suc turns) old new events quiet
+      (between, earlier, was_quiet, last, progress, before, (wanted, endpoint, obeyed, turn, is_last), which, is) =
+      behind old.endpoint between.endpoint new.endpoint (lives-all-attended turns old between earlier was_quiet before)
+      (lives-attended-turn was_quiet (Ok progress) between new endpoint wanted obeyed turn)
+
+  lives-attends-turns : (turns : ℕ) (old new : Relay D) (events : List DeskEvent) (answer : Result (Unit {0}) StepFault)
+      → AttendsTurns disk_of turns old events answer new → LivesOn disk_of old.endpoint new.endpoint
+  lives-attends-turns turns old new events (Ok done) (taken, earlier, quiet, all, end) =
+      lives-all-attended taken old new earlier quiet all
+  lives-attends-turns turns old new events (Err at)
+      (taken, between, earlier, quiet, last, endpoint, fewer, all, obeyed, turn, is) =
+      behind old.endpoint between.endpoint new.endpoint (lives-all-attended taken old between earlier quiet all)
+      (lives-attended-turn quiet (Err at) between new endpoint last obeyed turn)
+
+  lives-attends : {T : Type 0} (turns : ℕ) (old new : Relay D) (events : List DeskEvent) (result : Result T RefillFault)
+      → Attends disk_of turns old events result new → LivesOn disk_of old.endpoint new.endpoint
+  lives-attends turns old new events (Ok summary) (during, took, is) =
+      lives-attends-turns turns old new during (Ok tt) took
+  lives-attends turns old new events (Err fault) (during, at, named, took, is) =
+      lives-attends-turns turns old new during (Err at) took
+
+  pub lives-attended : (turns : ℕ) (old : Relay D) (events : List DeskEvent)
+      (result : Result RelaySummary RefillFault) (endpoint : EndpointValue D)
+      (controlled common : WireState) → IsAttended disk_of turns old events result endpoint controlled common
+      → LivesOn disk_of old.endpoint endpoint
+  lives-attended turns old events result endpoint controlled common (to_common, to_controlled, attends, told) =
+      lives-attends turns old (record {
+        endpoint = endpoint;
+        controlled = controlled;
+        common = common;
+        to_common = to_common;
+        to_controlled = to_controlled;
+      }) events result attends

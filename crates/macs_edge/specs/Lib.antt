@@ -8,3 +8,8 @@ pub mod UdpWires
 pub mod FaultWires
 pub mod Relaying
 pub mod Flows
+pub mod Resting
+pub mod Attending
+pub mod Commanding
+pub mod Counts
+pub mod Words

@@ -2,6 +2,7 @@
 use Rattle.std.specs.Prelude.{None}
 use Rattle.std.specs.declared.net.SocketAddr.{SocketAddr}
 use Rattle.macs_edge.specs.Wires.{WireState}
+use Rattle.macs_edge.specs.declared.counts.WireCounts.{WireCounts}
 use Rattle.macs_edge.specs.declared.udp_wire.UdpWire.{UdpWire}
 
 -- its peer: where its datagrams go to, and where those come from that it takes
@@ -15,3 +16,13 @@ socket_of wire = wire.socket
 -- what is known of it as a wire: its failed calls, and no frames
 abbrev pub udp_wire_state : {A S : Type 0} → UdpWire A S → WireState
 udp_wire_state wire = record { waiting = None; sent = None; failed_receives = wire.failed_receives; failed_sends = wire.failed_sends }
+
+-- what a wire counted
+abbrev pub counts_of : {A S : Type 0} → UdpWire A S → WireCounts
+counts_of wire = record {
+  strangers = wire.strangers;
+  taken = wire.frames_taken;
+  sent = wire.frames_sent;
+  failed_receives = wire.failed_receives;
+  failed_sends = wire.failed_sends;
+}

@@ -4,9 +4,13 @@ ghost use Rattle.std.specs.Prelude.{◌≡◌, ℕ, List, Result};
 ghost use Rattle.macs_pcap.specs.Records.{CaptureRecord};
 ghost use Rattle.macs_endpoint.specs.State.{State};
 ghost use Rattle.macs_endpoint.specs.declared.fault.RefillFault.{RefillFault};
+ghost use Rattle.macs_edge.specs.Attending.{Attends};
+ghost use Rattle.macs_edge.specs.Commanding.{IsAttendedFlow};
 ghost use Rattle.macs_edge.specs.Flows.{IsFlow};
 ghost use Rattle.macs_edge.specs.Passing.{BecomesCapture, Passes};
 ghost use Rattle.macs_edge.specs.Relaying.{Relay, Relays, empty_lane, summary_of};
+ghost use Rattle.macs_edge.specs.declared.attending.DeskEvent.{DeskEvent};
+ghost use Rattle.macs_edge.specs.Words.{FlowWords, SettlingWords, TheseBecomeCaptures, WireWords};
 ghost use Rattle.macs_edge.specs.declared.relaying.RelaySummary.{RelaySummary};
 ghost use Rattle.macs_edge.specs.declared.settling.Side.{Side};
 
@@ -32,4 +36,31 @@ pub fn relayed<D: SectorDisk>()
     ensures { (turns : ℕ) (old new : Relay D) (result : Result RelaySummary RefillFault)
         → old.to_common ≡ empty_lane → old.to_controlled ≡ empty_lane → Relays D.disk turns old result new
         → IsFlow D.disk old new (summary_of new.to_common new.to_controlled) }
+{}
+
+/// Frames go through a relay that is attended as through one that is not. What its desk hands in is
+/// submitted, call by call, and the desk is given what was answered. What it is given of its
+/// commands later is what the steps were done with; after that those that still wait have failed.
+/// So a command is answered as kept only where a step answered that it is. Each command that was
+/// taken is answered once, in the order of tickets.
+pub fn attended<D: SectorDisk>()
+    ensures { (turns : ℕ) (old new : Relay D) (events : List DeskEvent)
+        (result : Result RelaySummary RefillFault)
+        → old.to_common ≡ empty_lane → old.to_controlled ≡ empty_lane
+        → Attends D.disk turns old events result new
+        → IsAttendedFlow D.disk old events new (summary_of new.to_common new.to_controlled) }
+{}
+
+/// The words of what runs and relays promise say this: what is all but so many, what was taken, sent
+/// and counted, what a wire gives, and how a frame is settled. And an input becomes a capture where
+/// its records pass.
+pub fn words<D: SectorDisk>()
+    // What is lost, taken, sent and counted.
+    ensures flows { FlowWords D.disk }
+    // What a wire gives, and how it fails.
+    ensures wires { WireWords }
+    // Which answers settle a frame, and by which calls it is handed in.
+    ensures settling { SettlingWords D.disk }
+    // What becomes a capture.
+    ensures captures { TheseBecomeCaptures }
 {}

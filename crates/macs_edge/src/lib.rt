@@ -1,6 +1,8 @@
 //! The edge of a MACsec endpoint: captures through an endpoint, wires and a relay. Command files are read by `macs_commands`.
 #![tactic(auto)]
 
+mod attending;
+mod counts;
 mod datagrams;
 mod fault_wire;
 pub mod laws;
@@ -11,12 +13,14 @@ mod settling;
 mod udp_wire;
 mod wire;
 
+pub use attending::{CommandEnd, Desk, DeskEvent, Order, attend};
+pub use counts::WireCounts;
 pub use datagrams::{Arrived, Datagrams};
 pub use fault_wire::FaultWire;
 pub use macs_commands::{ConfigFault, KeyName, commands_of};
 pub use mem_wire::MemWire;
 pub use passing::{RunFault, Summary, run_protect, run_validate};
-pub use relaying::{RelaySummary, relay};
+pub use relaying::{Idle, RelaySummary, relay, relay_resting};
 pub use settling::Side;
 pub use udp_wire::{BindFault, UdpWire};
 pub use wire::{Got, Wire, WireFault};

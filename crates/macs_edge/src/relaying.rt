@@ -1,13 +1,16 @@
 //! Frames between two wires through an endpoint, both ways.
 
-ghost use Rattle.std.specs.Prelude.{◌≡◌, Some, None};
+ghost use Rattle.std.specs.Prelude.{◌≡◌, ◌↔◌, ℕ, IsTrue, Some, None};
 ghost use Rattle.macs_endpoint.specs.Lives.{LivesOn};
-ghost use Rattle.macs_edge.specs.Relaying.{Carries, Fills, Forwards, HandsOver, IsRelayed, empty_lane, lane_value, one_left, relay_of, summary_of, way_of};
+ghost use Rattle.macs_edge.specs.Relaying.{Carries, Fills, Forwards, HandsOver, IsRelayed};
+ghost use Rattle.macs_edge.specs.Relaying.{TakesTurn, empty_lane, lane_value, one_left, relay_of};
+ghost use Rattle.macs_edge.specs.Relaying.{summary_of, way_of};
+ghost use Rattle.macs_edge.specs.Resting.{AllRest, IsRelayedResting, one_if, with_sleeps};
 
 use crate::settling::{Outcome, Side, hand_in};
 use crate::wire::{Got, Wire};
 use macs_disk::SectorDisk;
-use macs_endpoint::{Endpoint, RefillFault};
+use macs_endpoint::{Endpoint, RefillFault, Step, StepFault};
 use macs_frame::FrameBuf;
 
 /// What became of the frames that a relay took. Each number is at most 2^64 - 1.
@@ -25,7 +28,7 @@ pub struct RelaySummary {
 }
 
 /// What became of the frames of one way.
-#[derive(Clone, Copy)]
+#[derive(Clone, Copy, PartialEq, Eq)]
 pub(crate) struct Tally {
     pub passed: u64,
     pub dropped: u64,
@@ -43,11 +46,12 @@ pub(crate) struct Lane {
 }
 
 impl Lane {
-    ghost use Rattle.std.specs.Prelude.{◌≡◌};
+    ghost use Rattle.std.specs.Prelude.{◌≡◌, ◌↔◌, IsTrue};
     ghost use Rattle.macs_edge.specs.Relaying.{empty_lane, lane_value};
+    ghost use Rattle.macs_edge.specs.Resting.{WayRests};
 
     /// A way on which no frame was taken.
-    fn new() -> Lane
+    pub(crate) fn new() -> Lane
         ensures { lane_value result ≡ empty_lane }
     {
         Lane {
@@ -60,6 +64,34 @@ impl Lane {
             },
         }
     }
+
+    /// Whether the slot is empty, and nothing was counted since.
+    fn rests(&self, before: Tally) -> bool
+        ensures { IsTrue result ↔ WayRests before (lane_value self.now) }
+    {
+        !self.is_full && self.tally == before
+    }
+}
+
+/// What a relay does after a turn in which it had nothing to do.
+pub trait Idle {
+    ghost use Rattle.std.specs.Prelude.{◌≡◌, ℕ, Option, None};
+    ghost use Rattle.macs_edge.specs.Resting.{with_sleeps};
+
+    /// How often it slept, where that is known.
+    ghost sleeps: { Self → Option ℕ } = { λ _. None };
+
+    /// Sleeps until there may be something to do, and for a bounded time.
+    fn idle(&mut self)
+        ensures { sleeps self.new ≡ with_sleeps (sleeps self.old) 1 };
+}
+
+/// What never sleeps.
+#[derive(Drop)]
+struct Awake;
+
+impl Idle for Awake {
+    fn idle(&mut self) {}
 }
 
 /// Takes a frame from a wire into an empty slot.
@@ -143,7 +175,7 @@ fn left(lane: &Lane) -> u64
 }
 
 /// What became of the frames of both ways. A frame that is left in a slot is dropped.
-fn summed(to_common: &Lane, to_controlled: &Lane) -> RelaySummary
+pub(crate) fn summed(to_common: &Lane, to_controlled: &Lane) -> RelaySummary
     ensures { result ≡ summary_of (lane_value to_common.now) (lane_value to_controlled.now) }
 {
     RelaySummary {
@@ -159,6 +191,68 @@ fn summed(to_common: &Lane, to_controlled: &Lane) -> RelaySummary
             .tally
             .faults
             .saturating_add(to_controlled.tally.faults),
+    }
+}
+
+/// One turn: a frame each way, and one step of the work on the disk.
+pub(crate) fn turn<D: SectorDisk, P: Wire, C: Wire>(
+    endpoint: &mut Endpoint<D>,
+    controlled: &mut P,
+    common: &mut C,
+    to_common: &mut Lane,
+    to_controlled: &mut Lane,
+    out: &mut FrameBuf,
+) -> Result<Step, StepFault>
+    ensures { TakesTurn D.disk result
+        (relay_of endpoint.old (P.state controlled.old) (C.state common.old)
+        (lane_value to_common.old) (lane_value to_controlled.old))
+        (relay_of endpoint.new (P.state controlled.new) (C.state common.new)
+        (lane_value to_common.new) (lane_value to_controlled.new)) }
+{
+    carry(
+        endpoint,
+        Side::Controlled,
+        controlled,
+        common,
+        to_common,
+        out,
+    );
+    carry(
+        endpoint,
+        Side::Common,
+        common,
+        controlled,
+        to_controlled,
+        out,
+    );
+    endpoint.facts();
+    endpoint.step()
+}
+
+/// Whether a turn was quiet: its step found no work, both slots are empty after it, and neither a
+/// frame nor a failed call of a wire was counted in it.
+pub(crate) fn was_quiet(
+    step: &Step,
+    out_before: Tally,
+    back_before: Tally,
+    to_common: &Lane,
+    to_controlled: &Lane,
+) -> bool
+    ensures { IsTrue result ↔ AllRest step.now out_before back_before
+        (lane_value to_common.now) (lane_value to_controlled.now) }
+{
+    match step {
+        Step::Idle => to_common.rests(out_before) && to_controlled.rests(back_before),
+        Step::Worked | Step::Reserved | Step::Done(_, _) => false,
+    }
+}
+
+/// Sleeps where a turn was quiet.
+fn rest<I: Idle>(idle: &mut I, is_quiet: bool)
+    ensures { I.sleeps idle.new ≡ with_sleeps (I.sleeps idle.old) (one_if is_quiet) }
+{
+    if is_quiet {
+        idle.idle();
     }
 }
 
@@ -184,28 +278,45 @@ pub fn relay<D: SectorDisk, P: Wire, C: Wire>(
         endpoint.new (P.state controlled.new) (C.state common.new) }
     ensures lives { LivesOn D.disk endpoint.old endpoint.new }
 {
+    relay_resting(endpoint, controlled, common, &mut Awake, turns)
+}
+
+/// Relays frames as `relay` does. It sleeps once after each quiet turn, and after no other: one
+/// whose step found no work, which leaves both slots empty, and in which neither a frame nor a
+/// failed call of a wire was counted. A sleep touches neither the endpoint nor the wires. There is
+/// none after a turn whose step is refused.
+pub fn relay_resting<D: SectorDisk, P: Wire, C: Wire, I: Idle>(
+    endpoint: &mut Endpoint<D>,
+    controlled: &mut P,
+    common: &mut C,
+    idle: &mut I,
+    turns: u64,
+) -> Result<RelaySummary, RefillFault>
+    ensures relayed { IsRelayed D.disk turns
+        (relay_of endpoint.old (P.state controlled.old) (C.state common.old) empty_lane empty_lane)
+        result endpoint.new (P.state controlled.new) (C.state common.new) }
+    ensures rested { (slept : ℕ) × IsRelayedResting D.disk turns
+        (relay_of endpoint.old (P.state controlled.old) (C.state common.old) empty_lane empty_lane)
+        slept result endpoint.new (P.state controlled.new) (C.state common.new)
+        × (I.sleeps idle.new ≡ with_sleeps (I.sleeps idle.old) slept) }
+    ensures lives { LivesOn D.disk endpoint.old endpoint.new }
+{
     let mut to_common = Lane::new();
     let mut to_controlled = Lane::new();
     let mut out = FrameBuf::new();
     for _ in 0..turns {
-        carry(
+        let out_before = to_common.tally;
+        let back_before = to_controlled.tally;
+        let step = turn(
             endpoint,
-            Side::Controlled,
             controlled,
             common,
             &mut to_common,
-            &mut out,
-        );
-        carry(
-            endpoint,
-            Side::Common,
-            common,
-            controlled,
             &mut to_controlled,
             &mut out,
-        );
-        endpoint.facts();
-        endpoint.step()?;
+        )?;
+        let is_quiet = was_quiet(&step, out_before, back_before, &to_common, &to_controlled);
+        rest(idle, is_quiet);
     }
     Ok(summed(&to_common, &to_controlled))
 }

@@ -1,15 +1,18 @@
 //! A wire over datagrams of UDP.
 
-ghost use Rattle.std.specs.Prelude.{◌≡◌, length, Ok, IfErr, IfOk};
+ghost use Rattle.std.specs.Prelude.{◌≡◌, ◌≢◌, ◌+◌, length, Ok, IfErr, IfOk};
+ghost use Rattle.macs_edge.specs.Counts.{CountsStrangers};
 ghost use Rattle.macs_edge.specs.WireDatagrams.{IsGiven, ReceivesDatagram, SendsDatagram};
-ghost use Rattle.macs_edge.specs.Wires.{FillsBuffer};
+ghost use Rattle.macs_edge.specs.Wires.{FillsBuffer, saturated};
 
+use crate::counts::{WireCounts, takes_one};
 use crate::datagrams::Datagrams;
 use crate::wire::{Got, Wire, WireFault};
 use macs_frame::{FrameBuf, MAX_FRAME};
 use std::alloc::{AllocError, Allocator};
 use std::io::ErrorKind;
 use std::net::{Net, SocketAddr, UdpSocket};
+use std::os::fd::{AsRawFd, RawFd};
 
 /// The longest frame, in octets, and one more: so a longer datagram is seen, however long it is.
 const ROOM: usize = MAX_FRAME + 1;
@@ -23,15 +26,19 @@ pub enum BindFault {
     Bind,
 }
 
-/// A wire over UDP (RFC 768), on IPv4 or IPv6: one datagram is one Ethernet frame without FCS. The socket
-/// does not wait and is bound to the own address alone: a datagram from another address than the peer's
-/// is dropped and answered as `Nothing`. A receive or a send that is interrupted has failed, and is not made
-/// again. What a network delivers, and when, is not known: the wire counts its failures, and its frames are unknown.
+/// A wire over UDP (RFC 768), on IPv4 or IPv6: one datagram is one Ethernet frame without FCS. The
+/// socket does not wait and is bound to the own address alone: a datagram from another address than
+/// the peer's is dropped and answered as `Nothing`. A receive or a send that is interrupted has
+/// failed, and is not made again. What a network delivers, and when, is not known: the wire counts
+/// what it did, and its frames are unknown.
 #[derive(Drop)]
 pub struct UdpWire<A: Allocator, S = UdpSocket> {
     socket: S,
     peer: SocketAddr,
     room: Vec<u8, A>,
+    strangers: u64,
+    frames_taken: u64,
+    frames_sent: u64,
     failed_receives: u64,
     failed_sends: u64,
     ghost sized: { length room.items ≡ 9217 },
@@ -44,13 +51,22 @@ fn room<A: Allocator>(alloc: A, octets: usize) -> Result<Vec<u8, A>, AllocError>
     vec![in alloc; 0; octets]
 }
 
-/// What a datagram from an address is to a wire of this peer: a stranger's is nothing.
-fn given(datagram: &[u8], from: SocketAddr, peer: SocketAddr, into: &mut FrameBuf) -> Got
+/// What a datagram from an address is to a wire of this peer: a stranger's is nothing, and counted.
+fn given(
+    datagram: &[u8],
+    from: SocketAddr,
+    peer: SocketAddr,
+    into: &mut FrameBuf,
+    strangers: &mut u64,
+) -> Got
     ensures given { IsGiven peer from datagram.now result into.new.items }
     ensures fills { FillsBuffer (Ok result) into.new.items }
+    ensures stranger { from ≢ peer → strangers.new ≡ saturated (strangers.old + 1) }
+    ensures peers { from ≡ peer → strangers.new ≡ strangers.old }
 {
     into.clear();
     if from != peer {
+        *strangers = strangers.saturating_add(1);
         return Got::Nothing;
     }
     match into.try_extend_from_slice(datagram) {
@@ -65,15 +81,17 @@ fn taken<S: Datagrams>(
     peer: SocketAddr,
     room: &mut [u8],
     into: &mut FrameBuf,
+    strangers: &mut u64,
 ) -> Result<Got, WireFault>
     requires { length room.old ≡ 9217 }
     ensures datagram { ReceivesDatagram peer (S.socket socket.old) (S.socket socket.new) result into.new.items }
     ensures fills { FillsBuffer result into.new.items }
     ensures fault { IfErr result (λ fault. fault ≡ WireFault.Receive) }
+    ensures strangers { CountsStrangers result (S.socket socket.old) strangers.old strangers.new }
 {
     into.clear();
     match socket.take_from(room) {
-        Ok(arrived) => Ok(given(&room[..arrived.count], arrived.from, peer, into)),
+        Ok(arrived) => Ok(given(&room[..arrived.count], arrived.from, peer, into, strangers)),
         Err(error) => {
             if error.kind() == ErrorKind::WouldBlock {
                 return Ok(Got::Nothing);
@@ -95,7 +113,8 @@ fn gave<S: Datagrams>(socket: &mut S, peer: SocketAddr, frame: &[u8]) -> bool
 
 impl<A: Allocator> UdpWire<A, UdpSocket> {
     ghost use Rattle.std.specs.Prelude.{◌≡◌, None, IfOk};
-    ghost use Rattle.macs_edge.specs.UdpWires.{peer_of};
+    ghost use Rattle.macs_edge.specs.Counts.{no_counts};
+    ghost use Rattle.macs_edge.specs.UdpWires.{counts_of, peer_of};
 
     /// A wire from the own address to the peer's. Refused first as `Memory`, where 9,217 octets are; then as
     /// `Bind`. Memory is taken here and at no other call.
@@ -108,6 +127,7 @@ impl<A: Allocator> UdpWire<A, UdpSocket> {
         ensures state { IfOk result (λ wire. ⟦<UdpWire<A, UdpSocket> as Wire>⟧.state wire
             ≡ record { waiting = None; sent = None; failed_receives = 0; failed_sends = 0 }) }
         ensures peer { IfOk result (λ wire. peer_of wire ≡ peer) }
+        ensures counts { IfOk result (λ wire. counts_of wire ≡ no_counts) }
     {
         let Ok(room) = room(alloc, ROOM) else {
             return Err(BindFault::Memory);
@@ -124,7 +144,8 @@ impl<A: Allocator> UdpWire<A, UdpSocket> {
 
 impl<A: Allocator, S: Datagrams> UdpWire<A, S> {
     ghost use Rattle.std.specs.Prelude.{◌≡◌, length, None, IfErr, IfOk};
-    ghost use Rattle.macs_edge.specs.UdpWires.{peer_of, socket_of};
+    ghost use Rattle.macs_edge.specs.Counts.{no_counts};
+    ghost use Rattle.macs_edge.specs.UdpWires.{counts_of, peer_of, socket_of};
     ghost use Rattle.macs_edge.specs.declared.udp_wire.BindFault.TheVariants.{Memory};
 
     /// A wire to the peer over a socket that is bound and does not wait. Refused as `Memory` alone, where there
@@ -135,6 +156,7 @@ impl<A: Allocator, S: Datagrams> UdpWire<A, S> {
         ensures peer { IfOk result (λ wire. peer_of wire ≡ peer) }
         ensures socket { IfOk result (λ wire. socket_of wire ≡ socket) }
         ensures memory { IfErr result (λ fault. fault ≡ Memory) }
+        ensures counts { IfOk result (λ wire. counts_of wire ≡ no_counts) }
     {
         let Ok(room) = room(alloc, ROOM) else {
             return Err(BindFault::Memory);
@@ -149,20 +171,49 @@ impl<A: Allocator, S: Datagrams> UdpWire<A, S> {
             ≡ record { waiting = None; sent = None; failed_receives = 0; failed_sends = 0 } }
         ensures peer { peer_of result ≡ peer }
         ensures socket { socket_of result ≡ socket }
+        ensures counts { counts_of result ≡ no_counts }
     {
         UdpWire {
             socket,
             peer,
             room,
+            strangers: 0,
+            frames_taken: 0,
+            frames_sent: 0,
             failed_receives: 0,
             failed_sends: 0,
         }
+    }
+
+    /// What it counted.
+    pub fn counts(&self) -> WireCounts
+        ensures { result ≡ counts_of self.now }
+    {
+        WireCounts {
+            strangers: self.strangers,
+            taken: self.frames_taken,
+            sent: self.frames_sent,
+            failed_receives: self.failed_receives,
+            failed_sends: self.failed_sends,
+        }
+    }
+}
+
+impl<A: Allocator, S: AsRawFd> AsRawFd for UdpWire<A, S> {
+    ghost use Rattle.macs_edge.specs.UdpWires.{socket_of};
+
+    ghost raw_fd = { λ wire. S.raw_fd (socket_of wire) };
+
+    /// The descriptor of its socket, which stays its own: to wait for datagrams.
+    fn as_raw_fd(&self) -> RawFd {
+        self.socket.as_raw_fd()
     }
 }
 
 impl<A: Allocator, S: Datagrams> Wire for UdpWire<A, S> {
     ghost use Rattle.std.specs.Prelude.{◌≡◌, is_ok, IfErr};
-    ghost use Rattle.macs_edge.specs.UdpWires.{peer_of, socket_of, udp_wire_state};
+    ghost use Rattle.macs_edge.specs.Counts.{CountsReceive, counts_after_send};
+    ghost use Rattle.macs_edge.specs.UdpWires.{counts_of, peer_of, socket_of, udp_wire_state};
     ghost use Rattle.macs_edge.specs.WireDatagrams.{ReceivesDatagram, SendsDatagram};
     ghost use Rattle.macs_edge.specs.Wires.{Receives, Sends};
 
@@ -173,10 +224,21 @@ impl<A: Allocator, S: Datagrams> Wire for UdpWire<A, S> {
         ensures datagram { ReceivesDatagram (peer_of self.old) (S.socket (socket_of self.old))
             (S.socket (socket_of self.new)) result into.new.items }
         ensures peer { peer_of self.new ≡ peer_of self.old }
+        ensures counts { CountsReceive (S.socket (socket_of self.old)) result
+            (counts_of self.old) (counts_of self.new) }
     {
-        let answer = taken(&mut self.socket, self.peer, self.room.as_mut_slice(), into);
+        let answer = taken(
+            &mut self.socket,
+            self.peer,
+            self.room.as_mut_slice(),
+            into,
+            &mut self.strangers,
+        );
         if answer.is_err() {
             self.failed_receives = self.failed_receives.saturating_add(1);
+        }
+        if takes_one(&answer) {
+            self.frames_taken = self.frames_taken.saturating_add(1);
         }
         answer
     }
@@ -187,8 +249,10 @@ impl<A: Allocator, S: Datagrams> Wire for UdpWire<A, S> {
             (S.socket (socket_of self.new)) frame.now (is_ok result) }
         ensures fault { IfErr result (λ fault. fault ≡ WireFault.Send) }
         ensures peer { peer_of self.new ≡ peer_of self.old }
+        ensures counts { counts_of self.new ≡ counts_after_send result (counts_of self.old) }
     {
         if gave(&mut self.socket, self.peer, frame) {
+            self.frames_sent = self.frames_sent.saturating_add(1);
             return Ok(());
         }
         self.failed_sends = self.failed_sends.saturating_add(1);

@@ -7,6 +7,7 @@ mod hostile_files;
 mod hostile_texts;
 mod memory;
 mod relaying;
+mod resting;
 mod sockets;
 mod wires;
 

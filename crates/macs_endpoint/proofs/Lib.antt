@@ -27,7 +27,7 @@ pub mod Work
 pub mod Changes
 mod Idled
 pub mod Still
-mod Alike
+pub mod Alike
 mod Lasting
 mod Between
 mod AsBegun

@@ -17,7 +17,7 @@ ghost use Rattle.macs_endpoint.specs.State.{Protects, Protected, Received, Recei
 use crate::channels::Channels;
 use crate::counters::Counters;
 use crate::fault::{CommandFault, ProtectFault, Stopped};
-use crate::queue::Queue;
+use crate::queue::{Queue, Waiting};
 use crate::refilling::Raise;
 use crate::turn::Turn;
 use macs_config::laws::{command_in_range, identity_in_range};
@@ -215,6 +215,14 @@ impl<D: SectorDisk> Endpoint<D> {
     {
         let checked = self.in_hand?;
         Some(checked.command())
+    }
+
+    /// The submitted commands that wait, the first in front, each with its ticket. Where work on
+    /// the disk for a command is under way, that is the first.
+    pub fn waiting(&self) -> &[Waiting]
+        ensures { result.now ≡ (state_of self.now no_logs).waiting }
+    {
+        self.queue.as_slice()
     }
 
     /// The configuration.

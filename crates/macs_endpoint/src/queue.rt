@@ -96,6 +96,13 @@ impl Queue {
         self.waiting.is_empty()
     }
 
+    /// The commands that wait, the first in front.
+    pub(crate) fn as_slice(&self) -> &[Waiting]
+        ensures { result.now ≡ self.now.waiting }
+    {
+        self.waiting.as_slice()
+    }
+
     /// The command that is the first to wait, `None` where none waits.
     pub(crate) fn first(&self) -> Option<Waiting>
         ensures { result ≡ first_waiting self.now.waiting }

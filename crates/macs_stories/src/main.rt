@@ -8,6 +8,7 @@
 #![tactic(auto)]
 
 mod counting;
+mod desks;
 mod endpoint;
 mod files;
 mod frames;

@@ -1,5 +1,6 @@
 //! What an act has at hand beside the disk, or beside what has the disk.
 
+use crate::desks::{self, Orders};
 use crate::endpoint::{Played, act_with_endpoint};
 use crate::serving::{self, Service};
 use crate::wires::{self, Wires};
@@ -17,10 +18,11 @@ pub struct Tools {
     commands: Vec<Command>,
     captures: Captures,
     service: Service,
+    orders: Orders,
 }
 
 impl Tools {
-    /// Empty wires, no command file, no capture and no events.
+    /// Empty wires, no command file, no capture, no events, and a desk without orders.
     pub fn new(alloc: Global) -> Tools {
         Tools {
             alloc,
@@ -28,11 +30,12 @@ impl Tools {
             commands: Vec::new(alloc),
             captures: Captures::new(alloc),
             service: Service::new(alloc),
+            orders: Orders::new(alloc),
         }
     }
 
-    /// Does what is said to a wire, of a command file, of a capture or of events; `None` where the act
-    /// is of none of them.
+    /// Does what is said to a wire, of a command file, of a capture, of events or of a desk; `None`
+    /// where the act is of none of them.
     pub fn act(&mut self, line: Line<'_>, answer: &mut Answer) -> Option<()> {
         let alloc = self.alloc;
         let told = wires::act(&mut self.wires, line.words(), alloc, answer);
@@ -44,6 +47,10 @@ impl Tools {
             return told;
         }
         let told = serving::act(line, &mut self.service, alloc, answer);
+        if told.is_some() {
+            return told;
+        }
+        let told = desks::act(line, &mut self.orders, alloc, answer);
         if told.is_some() {
             return told;
         }
@@ -59,7 +66,13 @@ pub fn act(
     answer: &mut Answer,
 ) -> bool {
     act_with_endpoint(endpoint, words, tools.alloc, answer)
-        || wires::pass_frames(endpoint, words, &mut tools.wires, answer).is_some()
+        || wires::pass_frames(
+            endpoint,
+            words,
+            &mut tools.wires,
+            &mut tools.orders,
+            answer,
+        ).is_some()
         || files::apply(endpoint, words, tools.commands.as_slice(), answer).is_some()
         || serving::serve(endpoint, words, &mut tools.service, answer).is_some()
         || running::run(endpoint, words, &mut tools.captures, tools.alloc, answer).is_some()

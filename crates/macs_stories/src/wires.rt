@@ -1,8 +1,11 @@
 //! The two wires of a story, in memory: what waits on them and what they sent, and relays between
 //! them.
 
+use crate::desks::Orders;
 use crate::endpoint::Played;
-use macs_edge::{FaultWire, Got, MemWire, RelaySummary, Wire, WireFault, relay};
+use macs_edge::{
+    FaultWire, Got, Idle, MemWire, RelaySummary, Wire, WireFault, attend, relay, relay_resting,
+};
 use macs_endpoint::RefillFault;
 use macs_frame::FrameBuf;
 use macs_story_text::{Answer, Words, filled, frame_at, octets_of, tell_frame, tell_sent, whole};
@@ -317,19 +320,73 @@ fn tell_relayed(told: Result<RelaySummary, RefillFault>, answer: &mut Answer) {
     answer.number(summary.faults);
 }
 
-/// `relay TURNS`: frames pass between the wires through an endpoint; `None` where the words say no
-/// such act.
+/// What counts its sleeps.
+#[derive(Drop)]
+struct Sleeper {
+    slept: u64,
+}
+
+impl Idle for Sleeper {
+    fn idle(&mut self) {
+        self.slept = self.slept.saturating_add(1);
+    }
+}
+
+fn rested(
+    endpoint: &mut Played,
+    wires: &mut Wires,
+    turns: u64,
+    idle: &mut Sleeper,
+) -> Result<RelaySummary, RefillFault> {
+    relay_resting(
+        endpoint,
+        &mut wires.controlled.front,
+        &mut wires.common.front,
+        idle,
+        turns,
+    )
+}
+
+fn attended(
+    endpoint: &mut Played,
+    wires: &mut Wires,
+    turns: u64,
+    orders: &mut Orders,
+) -> Result<RelaySummary, RefillFault> {
+    attend(
+        endpoint,
+        &mut wires.controlled.front,
+        &mut wires.common.front,
+        orders,
+        turns,
+    )
+}
+
+/// Frames pass between the wires through an endpoint, and the sleeps between are told.
+fn rest_and_tell(endpoint: &mut Played, wires: &mut Wires, turns: u64, answer: &mut Answer) {
+    let mut idle = Sleeper { slept: 0 };
+    tell_relayed(rested(endpoint, wires, turns, &mut idle), answer);
+    answer.word("slept");
+    answer.number(idle.slept);
+}
+
+/// `relay TURNS`, `relay-resting TURNS`, `attend TURNS`: frames pass between the wires through an
+/// endpoint; `None` where the words say no such act.
 pub fn pass_frames(
     endpoint: &mut Played,
     words: Words<'_>,
     wires: &mut Wires,
+    orders: &mut Orders,
     answer: &mut Answer,
 ) -> Option<()> {
     let mut words = words;
-    if words.take() != "relay" {
-        return None;
-    }
+    let act = words.take();
     let turns = whole(words.number(), &words)?;
-    tell_relayed(relayed(endpoint, wires, turns), answer);
+    match act {
+        "relay" => tell_relayed(relayed(endpoint, wires, turns), answer),
+        "relay-resting" => rest_and_tell(endpoint, wires, turns, answer),
+        "attend" => tell_relayed(attended(endpoint, wires, turns, orders), answer),
+        _ => return None,
+    }
     Some(())
 }

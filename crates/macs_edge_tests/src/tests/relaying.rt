@@ -37,7 +37,7 @@ fn counted(
 }
 
 /// So many plain frames of 60 octets wait, each of which has its place in every octet.
-fn push_plain<A: Allocator + Copy>(
+pub(super) fn push_plain<A: Allocator + Copy>(
     rt: &impl Abort,
     alloc: Global,
     wire: &mut MemWire<A>,

@@ -1,0 +1,47 @@
+-- What a wire over UDP counts.
+use Rattle.std.specs.Prelude.{◌≡◌, ◌⊎◌, ◌+◌, ℕ, Bool, true, false, if◌then◌else◌, List, [], ◌∷◌, Option, Some, None}
+use Rattle.std.specs.Prelude.{Result, Ok, Err}
+use Rattle.macs_edge.specs.Datagrams.{Datagram, SocketState}
+use Rattle.macs_edge.specs.Wires.{saturated}
+use Rattle.macs_edge.specs.declared.counts.WireCounts.{WireCounts}
+use Rattle.macs_edge.specs.declared.wire.Got.{Got}
+use Rattle.macs_edge.specs.declared.wire.Got.TheVariants.{Nothing, Frame, TooLong}
+use Rattle.macs_edge.specs.declared.wire.WireFault.{WireFault}
+
+-- before its first call
+abbrev pub no_counts : WireCounts
+no_counts = record { strangers = 0; taken = 0; sent = 0; failed_receives = 0; failed_sends = 0 }
+
+-- a frame is taken off a wire by this answer, also where it is too long
+abbrev pub takes_one : Result Got WireFault → Bool
+takes_one (Ok Frame) = true
+takes_one (Ok TooLong) = true
+takes_one answer = false
+
+-- one more where this is so
+abbrev pub counted_if : Bool → ℕ → ℕ
+counted_if is_so n = if is_so then saturated (n + 1) else n
+
+-- strangers are counted where nothing is answered: one more where a datagram waited, and none where none did
+abbrev pub CountsWaiting : List Datagram → ℕ → ℕ → Type 0
+CountsWaiting [] old new = new ≡ old
+CountsWaiting (first ∷ rest) old new = new ≡ saturated (old + 1)
+
+-- And of a receive with any answer. Where it is not known what waits there may have been a stranger's datagram,
+-- wherever nothing is answered
+abbrev pub CountsStrangers : Result Got WireFault → Option SocketState → ℕ → ℕ → Type 0
+CountsStrangers (Ok Nothing) None old new = (new ≡ old) ⊎ (new ≡ saturated (old + 1))
+CountsStrangers (Ok Nothing) (Some socket) old new = CountsWaiting socket.waiting old new
+CountsStrangers answer socket old new = new ≡ old
+
+-- what a receive counts, beside its failure: a frame that is taken, or a stranger's datagram
+pub record CountsReceive (socket : Option SocketState) (answer : Result Got WireFault) (old new : WireCounts) : Type 0
+  where
+    pub strangers : CountsStrangers answer socket old.strangers new.strangers
+    pub taken : new.taken ≡ counted_if (takes_one answer) old.taken
+    pub sent : new.sent ≡ old.sent
+
+-- what a send counts: a frame that is sent, or a failure
+abbrev pub counts_after_send : Result (Unit {0}) WireFault → WireCounts → WireCounts
+counts_after_send (Ok done) c = record c { sent = saturated (c.sent + 1) }
+counts_after_send (Err fault) c = record c { failed_sends = saturated (c.failed_sends + 1) }

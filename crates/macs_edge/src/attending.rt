@@ -1,0 +1,190 @@
+//! A relay that is attended: commands between its turns, and an end where it is wanted.
+
+ghost use Rattle.std.specs.Prelude.{◌≡◌, List};
+ghost use Rattle.macs_endpoint.specs.Lives.{LivesOn};
+ghost use Rattle.macs_edge.specs.Attending.{AttendsTurns, IsAttended, Obeys};
+ghost use Rattle.macs_edge.specs.Attending.{answers_of, failed_of, with_events};
+ghost use Rattle.macs_edge.specs.Relaying.{empty_lane, lane_value, relay_of};
+ghost use Rattle.macs_edge.specs.declared.attending.DeskEvent.{DeskEvent};
+
+use crate::relaying::{Lane, RelaySummary, summed, turn, was_quiet};
+use crate::wire::Wire;
+use macs_config::Command;
+use macs_disk::SectorDisk;
+use macs_endpoint::{CommandFault, Endpoint, RefillFault, Step, StepFault, SubmitFault, Ticket};
+use macs_frame::FrameBuf;
+
+/// What a desk wants before a turn.
+#[derive(Clone, Copy)]
+pub enum Order {
+    /// That the relay goes on.
+    Go,
+    /// That a command is submitted.
+    Submit(Command),
+    /// That the relay ends.
+    End,
+}
+
+/// What became of a command that was taken.
+#[derive(Clone, Copy, Debug, PartialEq, Eq)]
+pub enum CommandEnd {
+    /// It is kept on the disk, or why it is not.
+    Done(Result<(), CommandFault>),
+    /// The relay ended first: the command still waits in the endpoint. Where that is let go, the
+    /// next opening may find the first such command, and finds none of the others.
+    Failed,
+}
+
+/// What passes between a relay and its desk.
+#[derive(Clone, Copy)]
+pub enum DeskEvent {
+    /// Whether the turn before was quiet, and what the desk wanted then. Before the first turn
+    /// this is `false`.
+    Wanted(bool, Order),
+    /// The ticket of the command that was handed in, or why it was not taken.
+    Took(Result<Ticket, SubmitFault>),
+    /// What became of the command with this ticket.
+    Answered(Ticket, CommandEnd),
+}
+
+/// Who attends a relay: it hands in commands between turns, and is given the answer to each.
+pub trait Desk<D: SectorDisk, P: Wire, C: Wire> {
+    ghost use Rattle.std.specs.Prelude.{◌≡◌, [], ◌∷◌, List, Option, None};
+    ghost use Rattle.macs_edge.specs.Attending.{with_events};
+    ghost use Rattle.macs_edge.specs.declared.attending.DeskEvent.{DeskEvent};
+    ghost use Rattle.macs_edge.specs.declared.attending.DeskEvent.TheVariants.{Answered, Took};
+    ghost use Rattle.macs_edge.specs.declared.attending.DeskEvent.TheVariants.{Wanted};
+
+    /// What passed between it and relays, the earliest first, where that is known.
+    ghost events: { Self → Option (List DeskEvent) } = { λ _. None };
+
+    /// What it wants before a turn. It may read the endpoint and the wires. After a quiet turn it
+    /// may sleep for a bounded time; otherwise it does not wait.
+    fn next(&mut self, endpoint: &Endpoint<D>, controlled: &P, common: &C, was_quiet: bool) -> Order
+        ensures { events self.new ≡ with_events (events self.old) (Wanted was_quiet result ∷ []) };
+
+    /// Is given the ticket of the command that it handed in, or why that was not taken.
+    fn took(&mut self, answer: Result<Ticket, SubmitFault>)
+        ensures { events self.new ≡ with_events (events self.old) (Took answer ∷ []) };
+
+    /// Is given what became of a command that was taken.
+    fn answered(&mut self, ticket: Ticket, end: CommandEnd)
+        ensures { events self.new ≡ with_events (events self.old) (Answered ticket end ∷ []) };
+}
+
+/// Does what a desk wants before a turn, and answers it. Whether a turn follows.
+fn obey<D: SectorDisk, P: Wire, C: Wire, K: Desk<D, P, C>>(
+    endpoint: &mut Endpoint<D>,
+    controlled: &P,
+    common: &C,
+    desk: &mut K,
+    was_quiet: bool,
+) -> bool
+    ensures { (events : List DeskEvent)
+        × Obeys D.disk was_quiet endpoint.old events result endpoint.new
+        × (K.events desk.new ≡ with_events (K.events desk.old) events) }
+{
+    match desk.next(endpoint, controlled, common, was_quiet) {
+        Order::Go => true,
+        Order::Submit(command) => {
+            endpoint.facts();
+            desk.took(endpoint.submit(command));
+            true
+        }
+        Order::End => false,
+    }
+}
+
+/// Answers the command that a step is done with.
+fn tell<D: SectorDisk, P: Wire, C: Wire, K: Desk<D, P, C>>(desk: &mut K, step: Step)
+    ensures { K.events desk.new ≡ with_events (K.events desk.old) (answers_of step) }
+{
+    match step {
+        Step::Done(ticket, result) => desk.answered(ticket, CommandEnd::Done(result)),
+        Step::Idle | Step::Worked | Step::Reserved => {}
+    }
+}
+
+/// Answers the commands that wait as failed, in their order.
+fn close<D: SectorDisk, P: Wire, C: Wire, K: Desk<D, P, C>>(endpoint: &Endpoint<D>, desk: &mut K)
+    ensures { K.events desk.new ≡ with_events (K.events desk.old) (failed_of endpoint.now.waiting) }
+{
+    for waiting in endpoint.waiting() {
+        desk.answered(waiting.ticket, CommandEnd::Failed);
+    }
+}
+
+/// Takes turns up to the end, or to the first one whose step is refused.
+fn attend_turns<D: SectorDisk, P: Wire, C: Wire, K: Desk<D, P, C>>(
+    endpoint: &mut Endpoint<D>,
+    controlled: &mut P,
+    common: &mut C,
+    to_common: &mut Lane,
+    to_controlled: &mut Lane,
+    desk: &mut K,
+    turns: u64,
+) -> Result<(), StepFault>
+    ensures { (events : List DeskEvent) × AttendsTurns D.disk turns
+        (relay_of endpoint.old (P.state controlled.old) (C.state common.old)
+        (lane_value to_common.old) (lane_value to_controlled.old)) events result
+        (relay_of endpoint.new (P.state controlled.new) (C.state common.new)
+        (lane_value to_common.new) (lane_value to_controlled.new))
+        × (K.events desk.new ≡ with_events (K.events desk.old) events) }
+{
+    let mut out = FrameBuf::new();
+    let mut is_quiet = false;
+    for _ in 0..turns {
+        if !obey(endpoint, controlled, common, desk, is_quiet) {
+            return Ok(());
+        }
+        let out_before = to_common.tally;
+        let back_before = to_controlled.tally;
+        let step = turn(
+            endpoint,
+            controlled,
+            common,
+            to_common,
+            to_controlled,
+            &mut out,
+        )?;
+        is_quiet = was_quiet(&step, out_before, back_before, to_common, to_controlled);
+        tell::<D, P, C, K>(desk, step);
+    }
+    Ok(())
+}
+
+/// Relays frames between two wires as `relay` does, in so many turns at most. Before each turn the
+/// desk is asked what it wants: that the relay goes on, that a command is submitted, or that the
+/// relay ends. An end that is wanted comes at once, with no further turn. After a turn whose step
+/// is done with a command the desk is given the answer to that.
+///
+/// At the end, also after a refused step, each command that still waits is answered as failed. So
+/// each command that was taken is answered once, in the order of tickets.
+pub fn attend<D: SectorDisk, P: Wire, C: Wire, K: Desk<D, P, C>>(
+    endpoint: &mut Endpoint<D>,
+    controlled: &mut P,
+    common: &mut C,
+    desk: &mut K,
+    turns: u64,
+) -> Result<RelaySummary, RefillFault>
+    ensures attended { (events : List DeskEvent) × IsAttended D.disk turns
+        (relay_of endpoint.old (P.state controlled.old) (C.state common.old) empty_lane empty_lane)
+        events result endpoint.new (P.state controlled.new) (C.state common.new)
+        × (K.events desk.new ≡ with_events (K.events desk.old) events) }
+    ensures lives { LivesOn D.disk endpoint.old endpoint.new }
+{
+    let mut to_common = Lane::new();
+    let mut to_controlled = Lane::new();
+    let ended = attend_turns(
+        endpoint,
+        controlled,
+        common,
+        &mut to_common,
+        &mut to_controlled,
+        desk,
+        turns,
+    );
+    close::<D, P, C, K>(endpoint, desk);
+    ended?;
+    Ok(summed(&to_common, &to_controlled))
+}

@@ -1,0 +1,29 @@
+//! What a wire counts.
+
+ghost use Rattle.std.specs.Prelude.{◌≡◌};
+ghost use Rattle.macs_edge.specs.Counts.{takes_one};
+
+use crate::wire::{Got, WireFault};
+
+/// What a wire over UDP counted, each number up to 2^64 - 1.
+#[derive(Clone, Copy, Debug, PartialEq, Eq)]
+pub struct WireCounts {
+    /// Datagrams from another address than the peer's. They are dropped.
+    pub strangers: u64,
+    /// Frames that were taken, with those of more than 9,216 octets.
+    pub taken: u64,
+    /// Frames that were sent.
+    pub sent: u64,
+    pub failed_receives: u64,
+    pub failed_sends: u64,
+}
+
+/// Whether a frame is taken off a wire by this answer.
+pub(crate) fn takes_one(answer: &Result<Got, WireFault>) -> bool
+    ensures { result ≡ takes_one answer.now }
+{
+    match answer {
+        Ok(Got::Frame | Got::TooLong) => true,
+        Ok(Got::Nothing) | Err(_) => false,
+    }
+}

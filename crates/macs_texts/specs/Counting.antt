@@ -1,0 +1,135 @@
+-- The counters of an endpoint and of its wires, as text.
+use Rattle.std.specs.Prelude.{ℕ, ◌-◌, ◌^◌, List, [], ◌∷◌, ◌++◌, length, map, codes, Option}
+use Rattle.std.specs.Fmt.{decimal}
+use Rattle.std.specs.List.{concat}
+use Rattle.std.specs.Option.{option_map}
+use Rattle.hex.specs.Hex.{encode_lower}
+use Rattle.macs_config.specs.Config.{Config, max_spent}
+use Rattle.macs_txsc.specs.Transmit.{fault_count}
+use Rattle.macs_txsc.specs.declared.counters.TxCounters.{TxCounters}
+use Rattle.macs_txsc.specs.declared.fault.TxFault.{TxFault}
+use Rattle.macs_txsc.specs.declared.fault.TxFault.TheVariants as tx
+use Rattle.macs_rxsc.specs.Counting.{channel_count_of, count_of}
+use Rattle.macs_rxsc.specs.declared.counters.ChannelCounters.{ChannelCounters}
+use Rattle.macs_rxsc.specs.declared.counters.RxCounters.{RxCounters}
+use Rattle.macs_rxsc.specs.declared.verdict.Kind.TheVariants as kind
+use Rattle.macs_rxsc.specs.declared.verdict.Reason.TheVariants as reason
+use Rattle.macs_rxsc.specs.declared.verdict.Verdict.{Verdict}
+use Rattle.macs_rxsc.specs.declared.verdict.Verdict.TheVariants.{Delivered, Discarded, HeldBack}
+use Rattle.macs_endpoint.specs.State.{State}
+use Rattle.macs_edge.specs.declared.counts.WireCounts.{WireCounts}
+use Rattle.macs_texts.specs.Lines.{count_line, count_line_of}
+
+-- ---- words
+
+-- why a plain frame did not go out
+abbrev pub fault_words : TxFault → List ℕ
+fault_words tx.Runt = codes "runt"
+fault_words tx.TooLong = codes "too-long"
+fault_words tx.ForeignSource = codes "foreign-source"
+fault_words tx.NoEncodingSa = codes "no-encoding"
+fault_words tx.Exhausted = codes "exhausted"
+fault_words tx.NoNumber = codes "no-number"
+
+-- what became of a received frame
+abbrev pub verdict_words : Verdict → List ℕ
+verdict_words (Delivered kind.Ok) = codes "ok"
+verdict_words (Delivered kind.Delayed) = codes "delayed"
+verdict_words (Delivered kind.Invalid) = codes "invalid"
+verdict_words (Delivered kind.Untagged) = codes "untagged"
+verdict_words (Delivered kind.UnknownSci) = codes "unknown-sci"
+verdict_words (Delivered kind.UnusedSa) = codes "unused-sa"
+verdict_words (Discarded reason.Runt) = codes "runt"
+verdict_words (Discarded reason.Oversize) = codes "oversize"
+verdict_words (Discarded reason.NoTag) = codes "no-tag"
+verdict_words (Discarded reason.BadTag) = codes "bad-tag"
+verdict_words (Discarded reason.ForKay) = codes "for-kay"
+verdict_words (Discarded reason.NoSci) = codes "no-sci"
+verdict_words (Discarded reason.NotUsingSa) = codes "not-using-sa"
+verdict_words (Discarded reason.Late) = codes "late"
+verdict_words (Discarded reason.NotValid) = codes "not-valid"
+verdict_words HeldBack = codes "held-back"
+
+-- ---- frames
+
+-- the faults that are counted, in the order in which they are looked for
+abbrev pub tx_faults : List TxFault
+tx_faults = tx.Runt ∷ tx.TooLong ∷ tx.ForeignSource ∷ tx.NoEncodingSa ∷ tx.Exhausted ∷ tx.NoNumber ∷ []
+
+-- how many plain frames met a fault
+abbrev pub tx_line : TxCounters → TxFault → List ℕ
+tx_line c fault = count_line (codes "tx") (fault_words fault) (fault_count fault c)
+
+-- how many went out, and how many met each fault
+abbrev pub tx_text : TxCounters → List ℕ
+tx_text c = count_line (codes "tx") (codes "protected") c.protected ++ concat (map (tx_line c) tx_faults)
+
+-- the verdicts that are counted
+abbrev pub rx_verdicts : List Verdict
+rx_verdicts =
+    Delivered kind.Ok ∷ Delivered kind.Delayed ∷ Delivered kind.Invalid ∷ Delivered kind.Untagged
+    ∷ Delivered kind.UnknownSci ∷ Delivered kind.UnusedSa
+    ∷ Discarded reason.Runt ∷ Discarded reason.Oversize ∷ Discarded reason.NoTag ∷ Discarded reason.BadTag
+    ∷ Discarded reason.ForKay ∷ Discarded reason.NoSci ∷ Discarded reason.NotUsingSa ∷ Discarded reason.Late ∷ Discarded reason.NotValid ∷ []
+
+-- how often a verdict was given
+abbrev pub rx_line : RxCounters → Verdict → List ℕ
+rx_line c verdict = count_line (codes "rx") (verdict_words verdict) (count_of verdict c)
+
+-- and each of them
+abbrev pub rx_text : RxCounters → List ℕ
+rx_text c = concat (map (rx_line c) rx_verdicts)
+
+-- the verdicts that are counted for a channel
+abbrev pub channel_verdicts : List Verdict
+channel_verdicts =
+    Delivered kind.Ok ∷ Delivered kind.Delayed ∷ Delivered kind.Invalid ∷ Delivered kind.UnusedSa
+    ∷ Discarded reason.NotUsingSa ∷ Discarded reason.Late ∷ Discarded reason.NotValid ∷ []
+
+-- how often a verdict was given on frames of a channel, where there is such a channel
+abbrev pub channel_line : (List ℕ → Option ChannelCounters) → List ℕ → Verdict → List ℕ
+channel_line table sci verdict =
+    count_line_of (codes "channel " ++ encode_lower sci) (verdict_words verdict) (option_map (channel_count_of verdict) (table sci))
+
+-- and each of them
+abbrev pub channel_text : (List ℕ → Option ChannelCounters) → List ℕ → List ℕ
+channel_text table sci = concat (map (channel_line table sci) channel_verdicts)
+
+-- ---- wires
+
+-- what a wire counted, by its number
+abbrev pub wire_text : List ℕ → WireCounts → List ℕ
+wire_text side c =
+    count_line side (codes "taken") c.taken
+    ++ (count_line side (codes "sent") c.sent
+    ++ (count_line side (codes "strangers") c.strangers
+    ++ (count_line side (codes "failed-receives") c.failed_receives
+    ++ count_line side (codes "failed-sends") c.failed_sends)))
+
+-- ---- what is left
+
+-- the association numbers, ascending
+abbrev pub association_numbers : List ℕ
+association_numbers = 0 ∷ 1 ∷ 2 ∷ 3 ∷ []
+
+-- how many packet numbers are left under a transmit association, where there is one
+abbrev pub left_line : State → ℕ → List ℕ
+left_line s an = count_line_of (codes "left tx") (decimal an) (option_map (λ next. 2 ^ 32 - next) (s.next an))
+
+-- and under each
+abbrev pub left_text : State → List ℕ
+left_text s = concat (map (left_line s) association_numbers)
+
+-- how many keys may still be installed on either side
+abbrev pub keys_text : Config → List ℕ
+keys_text config = count_line (codes "left keys") (codes "tx") (max_spent - length config.spent_tx)
+    ++ count_line (codes "left keys") (codes "rx") (max_spent - length config.spent_rx)
+
+-- ---- the whole
+
+-- the counters of an endpoint in this state and of its wires, a line for each
+abbrev pub counters_text : State → TxCounters → RxCounters → (List ℕ → Option ChannelCounters) → WireCounts
+    → WireCounts → List ℕ
+counters_text s sent received table controlled common =
+    tx_text sent ++ (rx_text received ++ (concat (map (channel_text table) s.config.channels)
+    ++ (wire_text (codes "wire 1") controlled ++ (wire_text (codes "wire 2") common ++ (left_text s ++ keys_text s.config)))))
