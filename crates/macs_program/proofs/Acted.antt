@@ -11,7 +11,7 @@ use Rattle.macs_program.specs.declared.failure.Failure.TheVariants.{Output}
 use Rattle.macs_program.specs.declared.status.Status.{Status}
 use Rattle.macs_program.specs.declared.status.Status.TheVariants as ends
 use Rattle.macs_words.specs.Help.{topic_text}
-use Rattle.macs_words.specs.Words.{AsksFor, AsksForNothing, Names, macsecd}
+use Rattle.macs_words.specs.Words.{AreRefused, AsksFor, AsksForNothing, Names, macsecd}
 use Rattle.macs_words.specs.declared.action.Action.{Action}
 use Rattle.macs_words.specs.declared.action.Action.TheVariants.{Open}
 use Rattle.macs_words.specs.declared.action.UsageFault.{UsageFault}
@@ -70,7 +70,7 @@ module _ {F R W : Type 0} (state_of : F → FileState) (remaining : R → Option
       subst (λ (r : Result Status Failure). Acts state_of remaining contents failed told input old r input new)
       (sym (subst (λ (f : Failure). result ≡ Err f) same is)) (unhelped topic new asked broken)
 
-  refused : (fault : UsageFault) → (failure_status (failure_of_words fault) ≡ ends.Usage → takes macsecd told ≢ true) → AsksForNothing told
+  refused : (fault : UsageFault) → (failure_status (failure_of_words fault) ≡ ends.Usage → AreRefused told) → AsksForNothing told
       → Acts state_of remaining contents failed told input old (Err (failure_of_words fault)) input old
   refused fault wrong nothing = record {
     replied = tt;
@@ -86,7 +86,7 @@ module _ {F R W : Type 0} (state_of : F → FileState) (remaining : R → Option
 
   -- the words are refused
   pub refuses : (fault : UsageFault) (failure : Failure) (result : Result Status Failure) → result ≡ Err failure → failure ≡ failure_of_words fault
-      → (failure_status (failure_of_words fault) ≡ ends.Usage → takes macsecd told ≢ true) → AsksForNothing told
+      → (failure_status (failure_of_words fault) ≡ ends.Usage → AreRefused told) → AsksForNothing told
       → Acts state_of remaining contents failed told input old result input old
   refuses fault failure result is same wrong nothing =
       subst (λ (r : Result Status Failure). Acts state_of remaining contents failed told input old r input old)

@@ -1,5 +1,5 @@
 -- The status of a run that failed, and what it tells of the words.
-use Rattle.std.proofs.Common.{◌≡◌, ◌≢◌, ◌⊎◌, inl, inr, ap, sym, ◌∙◌, Result, Err, IfErr, subst}
+use Rattle.std.proofs.Common.{◌≡◌, ◌≢◌, ◌⊎◌, inl, inr, ap, sym, ◌∙◌, Bool, true, false, Result, Err, IfErr, refl, subst}
 use Rattle.macs_edge.specs.declared.passing.RunFault.{RunFault}
 use Rattle.macs_edge.specs.declared.passing.RunFault.TheVariants.{Device, Pcap}
 use Rattle.macs_endpoint.specs.declared.fault.RefillFault.TheVariants as refill
@@ -53,10 +53,13 @@ pub run-no-output : (failure : Failure) → ((fault : RunFault) × (failure ≡ 
 run-no-output failure (inl (fault, same)) is = fault-no-output fault (sym same ∙ is)
 run-no-output failure (inr same) is = let e = sym same ∙ is in cc
 
--- words that are taken are no wrong usage, where they are refused for memory alone
-pub not-taken : {A : Type 0} (result : Result A UsageFault) (fault : UsageFault) (taken : Type 0) → result ≡ Err fault
-    → (taken → IfErr result (λ f. f ≡ words.Memory)) → failure_status (failure_of_words fault) ≡ Usage → ¬ taken
-not-taken {A} result (words.Usage cause) taken is only usage = λ known.
-    let memory = subst (λ (r : Result A UsageFault). IfErr r (λ f. f ≡ words.Memory)) is (only known) in
-    cc
-not-taken result words.Memory taken is only usage = absurd cc
+-- words that are wrong usage are not taken, or lack something, where those that are taken are refused for memory or for that alone
+pub not-taken : {A : Type 0} (result : Result A UsageFault) (fault : UsageFault) (taken : Bool) (Lacks : Type 0) → result ≡ Err fault
+    → (taken ≡ true → IfErr result (λ f. (f ≡ words.Memory) ⊎ Lacks)) → failure_status (failure_of_words fault) ≡ Usage → (taken ≢ true) ⊎ Lacks
+not-taken result (words.Usage cause) false Lacks is only usage = inl (λ known. cc)
+not-taken {A} result (words.Usage cause) true Lacks is only usage =
+    elim (subst (λ (r : Result A UsageFault). IfErr r (λ f. (f ≡ words.Memory) ⊎ Lacks)) is (only refl)) [
+      | inl memory ↦ absurd cc
+      | inr lacks ↦ inr lacks
+    ]
+not-taken result words.Memory taken Lacks is only usage = absurd cc

@@ -21,3 +21,4 @@ pub mod Shown
 pub mod SpelledWires
 pub mod Spelling
 pub mod TextLines
+mod WrittenOver

@@ -16,6 +16,7 @@ use Rattle.macs_program.specs.declared.status.Status.TheVariants as ends
 use Rattle.macs_words.specs.declared.action.Action.{Action}
 use Rattle.macs_words.specs.declared.action.Action.TheVariants.{Open, Format, Apply, Show, Protect, Validate, Relay}
 use Rattle.macs_words.specs.declared.action.WireEnds.{WireEnds}
+use Rattle.macs_words.specs.declared.pace.Pace.{Pace}
 
 -- a failure of the disk is none of the output
 of-disk : (failure : Failure) → failure_status failure ≡ ends.Disk → failure ≢ Output
@@ -136,12 +137,12 @@ module _ {F W : Type 0} (state_of : F → FileState) (contents : W → Option (L
     broken = broken;
   }
 
-  pub relays : (disk : Bor (List ℕ)) (controlled common : WireEnds) (turns : ℕ)
-      → IfOk result (Does state_of (Relay disk controlled common turns) input (contents old) (contents new))
-      → IfErr result (λ failure. failure_status failure ≡ ends.Usage → WrongValues (Relay disk controlled common turns) × (new ≡ old)) → Silent
-      → IfErr result (FailsAs state_of (Relay disk controlled common turns) input (contents old) (contents new)) → Broken
-      → Performs state_of contents failed (Relay disk controlled common turns) input old result new
-  relays disk controlled common turns done usage silent fails broken = record {
+  pub relays : (disk : Bor (List ℕ)) (controlled common : WireEnds) (pace : Pace)
+      → IfOk result (Does state_of (Relay disk controlled common pace) input (contents old) (contents new))
+      → IfErr result (λ failure. failure_status failure ≡ ends.Usage → WrongValues (Relay disk controlled common pace) × (new ≡ old)) → Silent
+      → IfErr result (FailsAs state_of (Relay disk controlled common pace) input (contents old) (contents new)) → Broken
+      → Performs state_of contents failed (Relay disk controlled common pace) input old result new
+  relays disk controlled common pace done usage silent fails broken = record {
     does = done;
     status = IfOk-weaker result _ _ (λ status all. let (summary, comes, spelled, printed, is) = all in inl is) done;
     usage = usage;

@@ -13,5 +13,6 @@ pub mod CaptureFiles
 pub mod Capturing
 pub mod Endpoints
 pub mod Relaying
+pub mod Watching
 pub mod Tasks
 pub mod Run

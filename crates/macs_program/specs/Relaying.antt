@@ -1,5 +1,5 @@
 -- What a relay of the program comes to, and how it ends.
-use Rattle.std.specs.Prelude.{◌≡◌, ◌⊎◌, ⊤, ℕ, None, Ok, Err}
+use Rattle.std.specs.Prelude.{◌≡◌, ◌⊎◌, ◌-◌, ◌^◌, ⊤, ℕ, None, Some, Ok, Err}
 use Rattle.macs_disk.specs.Disk.{Disk}
 use Rattle.macs_disk.specs.FileDisks.{disk_in_file}
 use Rattle.macs_disk.specs.Files.{FileState}
@@ -9,6 +9,8 @@ use Rattle.macs_edge.specs.Wires.{WireState}
 use Rattle.macs_edge.specs.declared.relaying.RelaySummary.{RelaySummary}
 use Rattle.macs_endpoint.specs.Value.{EndpointValue}
 use Rattle.macs_endpoint.specs.declared.fault.RefillFault.{RefillFault}
+use Rattle.macs_words.specs.declared.pace.Pace.{Pace}
+use Rattle.macs_words.specs.declared.pace.Pace.TheVariants.{Busy, Waiting}
 use Rattle.macs_program.specs.Endpoints.{IsEndpointIn}
 use Rattle.macs_program.specs.Failing.{failure_of_refill}
 use Rattle.macs_program.specs.declared.failure.Failure.{Failure}
@@ -17,6 +19,12 @@ use Rattle.macs_program.specs.declared.failure.Failure.TheVariants as failures
 -- what a wire over UDP tells at first: no call of it failed, and its frames are not known
 abbrev pub new_wire : WireState
 new_wire = record { waiting = None; sent = None; failed_receives = 0; failed_sends = 0 }
+
+-- how many turns a relay takes: as many as 64 bits count where it waits and none are given
+abbrev pub turns_of : Pace → ℕ
+turns_of (Busy turns) = turns
+turns_of (Waiting limit None) = 2 ^ 64 - 1
+turns_of (Waiting limit (Some turns)) = turns
 
 -- a relay in so many turns comes to this summary: of an endpoint that was opened on a disk in a file, where this is what a file is,
 -- between two new wires

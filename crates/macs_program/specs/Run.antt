@@ -17,12 +17,12 @@ use Rattle.macs_program.specs.Endpoints.{AppliesIn, BreaksOffIn, OpeningFails, P
 use Rattle.macs_program.specs.Failing.{failure_of_words, failure_status, failure_text}
 use Rattle.macs_words.specs.Help.{topic_text}
 use Rattle.macs_program.specs.NewDisks.{FormatFails, Formats}
-use Rattle.macs_program.specs.Relaying.{ComesTo, RelayEndsIn}
+use Rattle.macs_program.specs.Relaying.{ComesTo, RelayEndsIn, turns_of}
 use Rattle.macs_program.specs.Request.{InputFaultHolds, input_faults}
 use Rattle.macs_program.specs.Showing.{line}
 use Rattle.macs_program.specs.Summing.{relay_line, summary_line}
 use Rattle.macs_program.specs.Values.{SpellsIdentity, SpellsLayout, ValueFaultHolds, value_faults}
-use Rattle.macs_words.specs.Words.{AsksFor, AsksForNothing, Names, macsecd}
+use Rattle.macs_words.specs.Words.{AreRefused, AsksFor, AsksForNothing, Names, macsecd}
 use Rattle.macs_words.specs.declared.action.Action.{Action}
 use Rattle.macs_words.specs.declared.action.Action.TheVariants.{Open, Format, Apply, Show, Protect, Validate, Relay}
 use Rattle.macs_program.specs.declared.addresses.AddressFault.{AddressFault}
@@ -60,8 +60,8 @@ Does state_of (Protect disk from to) input before after status =
 Does state_of (Validate disk from to) input before after status =
     (summary : Summary) × PassesIn state_of Common summary
     × Appends before after (summary_line direction.Validate summary) × (status ≡ ends.Done)
-Does state_of (Relay disk controlled common turns) input before after status =
-    (summary : RelaySummary) × ComesTo state_of turns summary × SpellsBoth controlled common
+Does state_of (Relay disk controlled common pace) input before after status =
+    (summary : RelaySummary) × ComesTo state_of (turns_of pace) summary × SpellsBoth controlled common
     × Appends before after (relay_line summary) × (status ≡ ends.Done)
 
 -- a run that does not fail is asked for help and prints it, or its words are taken and name an action, and it does that
@@ -80,7 +80,7 @@ HasPrinted action before after = after ≡ before
 abbrev pub WrongValues : Action → Type 0
 WrongValues (Format disk sci tx_block rx_block block is_over) =
     (fault : ValueFault) × ValueFaultHolds sci.now tx_block rx_block (option_map (λ text. text.now) block) fault
-WrongValues (Relay disk controlled common turns) = (fault : AddressFault) × AddressFaultHolds controlled common fault
+WrongValues (Relay disk controlled common pace) = (fault : AddressFault) × AddressFaultHolds controlled common fault
 WrongValues action = ⊥
 
 -- How `open` fails: a read failed, or the input, of which 20,001 octets at most are read, has this first fault; or there is no memory; or a print
@@ -104,15 +104,15 @@ FailsAs state_of (Apply disk file) octets before after failure = OpeningFails st
 FailsAs state_of (Show disk) octets before after failure = OpeningFails state_of failure ⊎ (failure ≡ Memory) ⊎ (failure ≡ Output)
 FailsAs state_of (Protect disk from to) octets before after failure = OpeningFails state_of failure ⊎ PassEndsIn state_of Controlled failure
 FailsAs state_of (Validate disk from to) octets before after failure = OpeningFails state_of failure ⊎ PassEndsIn state_of Common failure
-FailsAs state_of (Relay disk controlled common turns) octets before after failure =
+FailsAs state_of (Relay disk controlled common pace) octets before after failure =
     ((fault : AddressFault) × (failure ≡ Address fault) × IsFirst (AddressFaultHolds controlled common) address_faults fault)
-    ⊎ OpeningFails state_of failure ⊎ RelayEndsIn state_of turns failure
+    ⊎ OpeningFails state_of failure ⊎ RelayEndsIn state_of (turns_of pace) failure
 
 -- it is one that hands frames to an endpoint
 abbrev pub is_on_frames : Action → Bool
 is_on_frames (Protect disk from to) = true
 is_on_frames (Validate disk from to) = true
-is_on_frames (Relay disk controlled common turns) = true
+is_on_frames (Relay disk controlled common pace) = true
 is_on_frames action = false
 
 -- An action is done, with a status of these two, or fails. A failure that is wrong usage is that of a wrong value, and nothing was
@@ -151,7 +151,7 @@ pub record Acts {F R W : Type 0} (state_of : F → FileState) (remaining : R →
     (words : List Text) (input : R) (old : W) (result : Result Status Failure) (left : R) (new : W) : Type 0 where
   pub replied : IfOk result (Replies state_of words (remaining input) (contents old) (contents new))
   pub status : IfOk result (λ end. (end ≡ ends.Done) ⊎ (end ≡ ends.Refused))
-  pub usage : IfErr result (λ failure. failure_status failure ≡ ends.Usage → ((takes macsecd words ≢ true) ⊎ HasWrongValues words) × (new ≡ old))
+  pub usage : IfErr result (λ failure. failure_status failure ≡ ends.Usage → (AreRefused words ⊎ HasWrongValues words) × (new ≡ old))
   pub help : IfErr result (λ failure. failure_status failure ≡ ends.Usage → AsksForNothing words)
   pub disk : IfErr result (λ failure. failure_status failure ≡ ends.Disk → (takes macsecd words ≡ true)
       × (action : Action) × Names (subcommand_of macsecd words) action × (action ≢ Open) × HasPrinted action (contents old) (contents new))

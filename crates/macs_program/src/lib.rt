@@ -11,6 +11,7 @@ mod contents;
 mod failure;
 mod files;
 mod hex_text;
+pub mod laws;
 mod lines;
 mod new_disk;
 mod on_disk;
@@ -22,6 +23,7 @@ mod showing;
 mod status;
 mod stream;
 mod values;
+mod watch;
 mod whole_writes;
 
 pub use addresses::{AddressFault, Addresses, WireAddresses};

@@ -22,7 +22,7 @@ ghost use Rattle.macs_program.specs.Endpoints.{AppliesIn, BreaksOffIn, IsDiskIn,
 ghost use Rattle.macs_program.specs.Endpoints.{PassEndsIn, PassesIn, ShowsIn};
 ghost use Rattle.macs_program.specs.Failing.{failure_status};
 ghost use Rattle.macs_program.specs.NewDisks.{FormatFails, Formats, MakesDisk};
-ghost use Rattle.macs_program.specs.Relaying.{ComesTo, IsOfRelay, RelayEndsIn, new_wire};
+ghost use Rattle.macs_program.specs.Relaying.{ComesTo, IsOfRelay, RelayEndsIn, new_wire, turns_of};
 ghost use Rattle.macs_program.specs.Showing.{line};
 ghost use Rattle.macs_program.specs.Summing.{relay_line, summary_line};
 ghost use Rattle.macs_program.specs.Tasks.{DoesApply, DoesPass, DoesRelay, DoesShow, Doing, IsRunIn};
@@ -39,17 +39,19 @@ use crate::failure::Failure;
 use crate::files::{commands_of_file, open_disk};
 use crate::new_disk::{NewFile, format_disk};
 use crate::output::print;
-use crate::relaying::{bind, relay_frames};
+use crate::relaying::{bind, relay_frames, relay_frames_resting};
 use crate::showing::show_lines;
 use crate::status::Status;
 use crate::stream::Stream;
 use crate::values::{Given, given_by};
+use crate::watch::Watch;
 use macs_disk::{DiskFile, FileDisk, SectorDisk};
 use macs_edge::{UdpWire, Wire};
 use macs_endpoint::{Endpoint, OpenRefused};
-use macs_words::WireEnds;
+use macs_words::{Milliseconds, Pace, WireEnds};
 use std::alloc::Global;
 use std::net::{Net, UdpSocket};
+use std::os::fd::AsRawFd;
 use std::rt::Files;
 
 /// Makes the disk file of an endpoint by what was given, and says so.
@@ -365,28 +367,92 @@ fn bind_wires<N: Net>(net: &N, alloc: Global, addresses: Addresses) -> Result<Wi
     Ok(Wires { controlled, common })
 }
 
+impl Wires {
+    ghost use Rattle.std.specs.Prelude.{◌≡◌, IfSome};
+    ghost use Rattle.macs_program.specs.Relaying.{new_wire};
+    ghost use Rattle.macs_program.specs.Tasks.{DoesRelay};
+
+    /// What is watched of them, where a sleep is so long at most.
+    fn watch(&self, limit: Milliseconds) -> Watch
+        ensures controlled { IfSome (⟦<UdpWire<Global, UdpSocket> as AsRawFd>⟧.raw_fd self.now.controlled)
+            (λ socket. result.controlled ≡ socket) }
+        ensures common { IfSome (⟦<UdpWire<Global, UdpSocket> as AsRawFd>⟧.raw_fd self.now.common)
+            (λ socket. result.common ≡ socket) }
+        ensures limit { result.limit ≡ limit }
+    {
+        Watch {
+            controlled: self.controlled.as_raw_fd(),
+            common: self.common.as_raw_fd(),
+            limit,
+        }
+    }
+
+    /// Relays frames between them in turns of which none waits.
+    fn relay<D: SectorDisk, W: Stream>(
+        &mut self,
+        endpoint: &mut Endpoint<D>,
+        turns: u64,
+        out: &mut W,
+    ) -> Result<Status, Failure>
+        requires controlled { ⟦<UdpWire<Global, UdpSocket> as Wire>⟧.state self.old.controlled ≡ new_wire }
+        requires common { ⟦<UdpWire<Global, UdpSocket> as Wire>⟧.state self.old.common ≡ new_wire }
+        ensures { DoesRelay D.disk W.contents W.failed turns endpoint.old out.old result endpoint.new out.new }
+    {
+        relay_frames(endpoint, &mut self.controlled, &mut self.common, turns, out)
+    }
+
+    /// Relays frames between them in turns of which each that brought nothing is followed by a sleep.
+    fn relay_resting<D: SectorDisk, W: Stream>(
+        &mut self,
+        endpoint: &mut Endpoint<D>,
+        limit: Milliseconds,
+        turns: u64,
+        out: &mut W,
+    ) -> Result<Status, Failure>
+        requires controlled { ⟦<UdpWire<Global, UdpSocket> as Wire>⟧.state self.old.controlled ≡ new_wire }
+        requires common { ⟦<UdpWire<Global, UdpSocket> as Wire>⟧.state self.old.common ≡ new_wire }
+        ensures { DoesRelay D.disk W.contents W.failed turns endpoint.old out.old result endpoint.new out.new }
+    {
+        let mut watch = self.watch(limit);
+        let Wires { controlled, common } = self;
+        relay_frames_resting(endpoint, controlled, common, &mut watch, turns, out)
+    }
+}
+
+/// How many turns a relay takes: where it waits and none are given, more than a lifetime has.
+fn turns_of(pace: Pace) -> u64
+    ensures { result ≡ turns_of pace }
+{
+    match pace {
+        Pace::Busy { turns } => turns,
+        Pace::Waiting {
+            turns: Some(turns),
+            ..
+        } => turns,
+        Pace::Waiting { turns: None, .. } => u64::MAX,
+    }
+}
+
 /// Relays frames through an endpoint between two wires.
 #[derive(Drop)]
 struct RelayWires<'a, N> {
     net: &'a N,
     alloc: Global,
     addresses: Addresses,
-    turns: u64,
+    pace: Pace,
 }
 
 impl<N: Net, D: SectorDisk, W: Stream> Task<D, W> for RelayWires<'_, N> {
-    ghost does = { λ task. DoesRelay D.disk W.contents W.failed task.turns };
+    ghost does = { λ task. DoesRelay D.disk W.contents W.failed (turns_of task.pace) };
 
     #[inline(never)]
     fn run(&self, endpoint: &mut Endpoint<D>, out: &mut W) -> Result<Status, Failure> {
         let mut wires = bind_wires(self.net, self.alloc, self.addresses)?;
-        relay_frames(
-            endpoint,
-            &mut wires.controlled,
-            &mut wires.common,
-            self.turns,
-            out,
-        )
+        let turns = turns_of(self.pace);
+        match self.pace {
+            Pace::Busy { .. } => wires.relay(endpoint, turns, out),
+            Pace::Waiting { limit, .. } => wires.relay_resting(endpoint, limit, turns, out),
+        }
     }
 }
 
@@ -397,12 +463,12 @@ pub fn relay<T: Files + Net, W: Stream>(
     disk: &str,
     controlled: WireEnds,
     common: WireEnds,
-    turns: u64,
+    pace: Pace,
     out: &mut W,
 ) -> Result<Status, Failure>
 where
     T::File: DiskFile,
-    ensures printed { IfOk result (λ status. (summary : RelaySummary) × ComesTo T.File.file turns summary
+    ensures printed { IfOk result (λ status. (summary : RelaySummary) × ComesTo T.File.file (turns_of pace) summary
         × SpellsBoth controlled.entry common.entry
         × Appends (W.contents out.old) (W.contents out.new) (relay_line summary) × (status ≡ Status.Done)) }
     ensures address { (fault : AddressFault) → (result ≡ Err (Failure.Address fault))
@@ -411,7 +477,7 @@ where
         → ((fault : AddressFault) × AddressFaultHolds controlled.entry common.entry fault) × (out.new ≡ out.old)) }
     ensures ended { IfErr result (λ failure. ((fault : AddressFault) × (failure ≡ Failure.Address fault)
         × IsFirst (AddressFaultHolds controlled.entry common.entry) address_faults fault)
-        ⊎ OpeningFails T.File.file failure ⊎ RelayEndsIn T.File.file turns failure) }
+        ⊎ OpeningFails T.File.file failure ⊎ RelayEndsIn T.File.file (turns_of pace) failure) }
     ensures names { IfErr result IsOfRelay }
     ensures silent { IfErr result (λ failure. failure ≢ Failure.Output → out.new ≡ out.old) }
     ensures broken { IfErr result (λ failure. failure ≡ Failure.Output → W.failed out.new ≡ true) }
@@ -421,7 +487,7 @@ where
         net: rt,
         alloc,
         addresses,
-        turns,
+        pace,
     };
     with_file(rt, disk, &task, out)
 }

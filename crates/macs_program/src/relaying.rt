@@ -1,10 +1,12 @@
 //! `relay`: frames between two wires through an endpoint.
 
-ghost use Rattle.std.specs.Prelude.{◌≡◌, ◌≢◌, ◌⊎◌, true, IfErr, IfOk, Ok};
+ghost use Rattle.std.specs.Prelude.{◌≡◌, ◌≢◌, ◌⊎◌, ℕ, Result, true, IfErr, IfOk, Ok};
 ghost use Rattle.std.specs.Io.KnownBytes.{Appends};
 ghost use Rattle.macs_edge.specs.Relaying.{IsRelayed, empty_lane, relay_of};
+ghost use Rattle.macs_edge.specs.Resting.{IsRelayedResting, with_sleeps};
 ghost use Rattle.macs_edge.specs.UdpWires.{peer_of};
 ghost use Rattle.macs_edge.specs.declared.relaying.RelaySummary.{RelaySummary};
+ghost use Rattle.macs_endpoint.specs.declared.fault.RefillFault.{RefillFault};
 ghost use Rattle.macs_program.specs.Failing.{failure_status};
 ghost use Rattle.macs_program.specs.Relaying.{EndsRelay, new_wire};
 ghost use Rattle.macs_program.specs.Summing.{relay_line};
@@ -15,7 +17,7 @@ use crate::output::{Line, append_count, print_octets};
 use crate::status::Status;
 use crate::stream::Stream;
 use macs_disk::SectorDisk;
-use macs_edge::{RelaySummary, UdpWire, Wire, relay};
+use macs_edge::{Idle, RelaySummary, UdpWire, Wire, relay, relay_resting};
 use macs_endpoint::Endpoint;
 use std::alloc::Global;
 use std::net::{Net, UdpSocket};
@@ -44,6 +46,17 @@ pub fn bind<N: Net>(net: &N, alloc: Global, wire: WireAddresses) -> Result<UdpWi
     Ok(bound)
 }
 
+/// Prints what became of the frames of a relay that took all its turns. It fails as `Output` alone.
+fn print_summary<W: Stream>(summary: RelaySummary, out: &mut W) -> Result<Status, Failure>
+    ensures printed { IfOk result (λ status.
+        Appends (W.contents out.old) (W.contents out.new) (relay_line summary) × (status ≡ Status.Done)) }
+    ensures failed { IfErr result (λ failure. failure ≡ Failure.Output) }
+    ensures broken { IfErr result (λ failure. W.failed out.new ≡ true) }
+{
+    print_octets(out, relay_line(summary).as_slice())?;
+    Ok(Status::Done)
+}
+
 /// Relays frames between two wires, and prints what became of them. It fails as `Disk` at the first
 /// reservation of packet numbers that cannot be made, with nothing printed; and as `Output` behind the last
 /// turn, where the line cannot be written.
@@ -66,6 +79,32 @@ pub fn relay_frames<D: SectorDisk, P: Wire, C: Wire, W: Stream>(
     ensures broken { IfErr result (λ failure. failure ≡ Failure.Output → W.failed out.new ≡ true) }
 {
     let summary = relay(endpoint, controlled, common, turns)?;
-    print_octets(out, relay_line(summary).as_slice())?;
-    Ok(Status::Done)
+    print_summary(summary, out)
+}
+
+/// Relays frames as `relay_frames` does, and sleeps after each turn in which there was nothing to do.
+pub fn relay_frames_resting<D: SectorDisk, P: Wire, C: Wire, I: Idle, W: Stream>(
+    endpoint: &mut Endpoint<D>,
+    controlled: &mut P,
+    common: &mut C,
+    idle: &mut I,
+    turns: u64,
+    out: &mut W,
+) -> Result<Status, Failure>
+    ensures printed { IfOk result (λ status. (summary : RelaySummary) × IsRelayed D.disk turns
+        (relay_of endpoint.old (P.state controlled.old) (C.state common.old) empty_lane empty_lane) (Ok summary)
+        endpoint.new (P.state controlled.new) (C.state common.new)
+        × Appends (W.contents out.old) (W.contents out.new) (relay_line summary) × (status ≡ Status.Done)) }
+    ensures rested { (slept : ℕ) × (answer : Result RelaySummary RefillFault) × IsRelayedResting D.disk turns
+        (relay_of endpoint.old (P.state controlled.old) (C.state common.old) empty_lane empty_lane) slept answer
+        endpoint.new (P.state controlled.new) (C.state common.new)
+        × (I.sleeps idle.new ≡ with_sleeps (I.sleeps idle.old) slept) }
+    ensures ended { IfErr result (λ failure. EndsRelay D.disk turns
+        (relay_of endpoint.old (P.state controlled.old) (C.state common.old) empty_lane empty_lane) failure
+        endpoint.new (P.state controlled.new) (C.state common.new)) }
+    ensures silent { IfErr result (λ failure. failure ≢ Failure.Output → out.new ≡ out.old) }
+    ensures broken { IfErr result (λ failure. failure ≡ Failure.Output → W.failed out.new ≡ true) }
+{
+    let summary = relay_resting(endpoint, controlled, common, idle, turns)?;
+    print_summary(summary, out)
 }

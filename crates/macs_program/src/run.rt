@@ -7,7 +7,7 @@ ghost use Rattle.macs_program.specs.Answer.{answer_text};
 ghost use Rattle.macs_program.specs.Failing.{failure_status};
 ghost use Rattle.macs_program.specs.Run.{Acts, FailsFor, HasPrinted, HasWrongValues, OpenFails, Performs, PrintedBefore, Prints};
 ghost use Rattle.macs_program.specs.Run.{PrintsUnlessFailed, Replies, code_of, complaint, is_on_frames};
-ghost use Rattle.macs_words.specs.Words.{AsksForNothing, Names, macsecd, texts};
+ghost use Rattle.macs_words.specs.Words.{AreRefused, AsksForNothing, Names, macsecd, texts};
 ghost use Rattle.macs_words.specs.declared.action.Action.{Action};
 ghost use Rattle.macs_program.specs.declared.failure.Failure.{Failure};
 ghost use Rattle.macs_program.specs.declared.status.Status.{Status};
@@ -137,8 +137,8 @@ where
             disk,
             controlled,
             common,
-            turns,
-        } => relay(rt, alloc, disk, controlled, common, turns, out),
+            pace,
+        } => relay(rt, alloc, disk, controlled, common, pace, out),
         _ => unreachable!(),
     }
 }
@@ -210,7 +210,7 @@ where
     // At 2 the words ask for no help.
     ensures help { result ≡ 2 → AsksForNothing (texts words.now) }
     // And they are none that are taken, or a value among them is none, and nothing is printed.
-    ensures usage { result ≡ 2 → ((takes macsecd (texts words.now) ≢ true) ⊎ HasWrongValues (texts words.now))
+    ensures usage { result ≡ 2 → (AreRefused (texts words.now) ⊎ HasWrongValues (texts words.now))
         × (out.new ≡ out.old) }
     // At 4 the words are taken and name another action than `open`, and nothing was printed but, of `apply`,
     // the lines of the commands before the fault.

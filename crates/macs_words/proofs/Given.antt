@@ -1,6 +1,6 @@
 -- Where clap takes words for values that have to be given, each of them is there and passes its parser.
 use Rattle.std.proofs.Common.{◌≡◌, ◌∙◌, ◌++◌, ◌⊎◌, inl, inr, ℕ, zero, suc, Bool, true, false, not, ◌&&◌, ◌||◌, List, [], ◌∷◌, length, Option, Some, None, is_some, if◌then◌else◌, refl, ap, sym, subst}
-use Rattle.std.specs.Prelude.{find, fold, nat_le, slice_get, unwrap_or}
+use Rattle.std.specs.Prelude.{find, fold, nat_le, option_and_then, slice_get, unwrap_or}
 use Rattle.std.specs.List.{AllByRecursion, list_all, list_any}
 use Rattle.std.specs.Option.{option_map_or}
 use Rattle.std.specs.Str.{bytes_eq, chars}
@@ -8,7 +8,7 @@ use Rattle.std.proofs.lemmas.List.Folds.{list_all-append}
 use Rattle.std.proofs.lemmas.Slice.Eq.{bytes_eq-Decides}
 use Rattle.clap.specs.Facts.{explicit_source, unwrap_or_range}
 use Rattle.clap.specs.Lexer.{long_of, short_of}
-use Rattle.clap.specs.Takes.{action_passes, flag_word_passes, is_given, is_valid, level_passes, long_passes, option_passes, other_passes, positional_passes, react_passes, settle_passes, step_passes, turn_passes, use_passes, value_passes, values_pass, walk_passes, word_passes}
+use Rattle.clap.specs.Takes.{action_passes, default_passes, flag_word_passes, is_given, is_valid, level_passes, long_passes, option_passes, other_passes, positional_passes, react_passes, settle_passes, step_passes, turn_passes, use_passes, value_passes, values_pass, walk_passes, word_passes}
 use Rattle.clap.specs.Simple.{Shape}
 use Rattle.clap.specs.Walk.{Held, Names, Outcome, Row, Rule, Step, Text, Waiting, Walk, action_of, after_flag, after_step, arg_by_id, arg_by_index, arg_by_long, arg_by_short, at_row, bundle, bundle_met, bundle_step, default_rows, done, finished, first_of, flag_met, has_long, has_row, has_short, idle, is_pending, long_met, long_or_other, more_values, next, nothing_held, option, option_met, option_word, plain, plain_word, positional, reacted, reading_by, refused, rows_after, settled, settled_rows, short_or_plain, subcommand, subcommand_met, subcommand_or_other, takes_several, takes_values, to_positional, trailing, used, used_as, used_by_id, value, waits, walk, walk_from, walked, with_default, with_values, without, word_met}
 use Rattle.clap.specs.declared.builder.action.ArgAction.{ArgAction}
@@ -361,6 +361,24 @@ last-of-four true true false negates all is valid = cc
 last-of-four true false d negates all is valid = cc
 last-of-four false b d negates all is valid = cc
 
+-- a value that is there passes
+value-passes : (c : List Rule) (a : Rule) (rows : List Row) (text : Text) → arg_by_id c a.id ≡ Some a → are_good c rows ≡ true
+    → first_of a.id rows ≡ Some text → value_passes a text ≡ true
+value-passes c a rows text own good there = go (find (λ r. bytes_eq r.id a.id) rows) refl there
+  where
+    first : (values : List Text) → slice_get values 0 ≡ Some text → first_passes a values ≡ true → value_passes a text ≡ true
+    first [] is passes = cc
+    first (v ∷ vs) is passes = rw (← first-of v text is) passes
+
+    go : (found : Option Row) → find (λ r. bytes_eq r.id a.id) rows ≡ found → option_and_then (λ r. slice_get r.values 0) found ≡ Some text
+        → value_passes a text ≡ true
+    go None is there = cc
+    go (Some row) is there =
+        let same : row.id ≡ a.id = (bytes_eq-Decides row.id a.id).0 (found-is (λ r. bytes_eq r.id a.id) rows row is) in
+        let good_row : is_good c row ≡ true = found-passes (λ r. bytes_eq r.id a.id) (is_good c) rows row good is in
+        let passes : first_passes a row.values ≡ true = rw (same, own) at good_row in
+        first row.values there passes
+
 -- what is required is given
 all-given : (s : Shape) (rows : List Row) → s.subcommand_negates_reqs ≡ false → is_valid s rows false ≡ true
     → list_all (λ b. not b.required || is_given b.id rows) s.rules ≡ true
@@ -368,18 +386,33 @@ all-given s rows negates valid =
     last-of-four (not s.arg_required_else_help || (false || list_any (λ r. explicit_source r.source) rows)) (not s.subcommand_required || false)
     (list_all (λ a. a.is_free) s.rules) s.subcommand_negates_reqs (list_all (λ b. not b.required || is_given b.id rows) s.rules) negates valid
 
+-- all rows of a level of a parse are good
+good-level : (s : Shape) (words : List Text) → AreValueRules s.rules → level_passes s [] nothing_held words false ≡ true
+    → are_good s.rules (rows_after s.rules [] words) ≡ true
+good-level s words rules passes =
+    let end = (walk s.rules [] nothing_held words).held in
+    let parts = both _ _ passes in
+    let ending = both _ _ parts.1 in
+    good-defaults s.rules s.rules (settled s.rules end).rows rules.each rules.own
+    (good-settled s.rules s.args_override_self end rules ending.0 (good-walk s [] (walk_from nothing_held) words rules parts.0 refl))
+
+-- a value that an argument has in a level of a parse passes
+pub passes_where_given : (s : Shape) (words : List Text) (a : Rule) (text : Text) → AreValueRules s.rules
+    → level_passes s [] nothing_held words false ≡ true → arg_by_id s.rules a.id ≡ Some a
+    → first_of a.id (rows_after s.rules [] words) ≡ Some text → value_passes a text ≡ true
+passes_where_given s words a text rules passes own there =
+    value-passes s.rules a (rows_after s.rules [] words) text own (good-level s words rules passes) there
+
 -- an argument that a level of a parse requires has a value, which passes
 pub given : (s : Shape) (words : List Text) (a : Rule) → AreValueRules s.rules → s.subcommand_negates_reqs ≡ false
     → level_passes s [] nothing_held words false ≡ true → arg_by_id s.rules a.id ≡ Some a → a.required ≡ true
     → (text : Text) × (first_of a.id (rows_after s.rules [] words) ≡ Some text) × (value_passes a text ≡ true)
 given s words a rules negates passes own required =
     let end = (walk s.rules [] nothing_held words).held in
-    let parts = both _ _ passes in
-    let ending = both _ _ parts.1 in
-    let good : are_good s.rules (finished s.rules end) ≡ true =
-    good-defaults s.rules s.rules (settled s.rules end).rows rules.each rules.own
-    (good-settled s.rules s.args_override_self end rules ending.0 (good-walk s [] (walk_from nothing_held) words rules parts.0 refl)) in
-    let valid : is_valid s (finished s.rules end) false ≡ true = (both _ _ ending.1).1 in
+    let parts = both (walk_passes s [] (walk_from nothing_held) words) _ passes in
+    let ending = both (settle_passes s.rules s.args_override_self end) _ parts.1 in
+    let good : are_good s.rules (finished s.rules end) ≡ true = good-level s words rules passes in
+    let valid : is_valid s (finished s.rules end) false ≡ true = (both (list_all default_passes s.rules) _ ending.1).1 in
     let all = all-given s (finished s.rules end) negates valid in
     let one : (not a.required || is_given a.id (finished s.rules end)) ≡ true =
     found-passes (λ b. bytes_eq b.id a.id) (λ b. not b.required || is_given b.id (finished s.rules end)) s.rules a all own in

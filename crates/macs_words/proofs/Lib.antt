@@ -1,4 +1,5 @@
 pub mod Controls
 pub mod Given
+pub mod Paces
 pub mod Subcommands
 pub mod Taken

@@ -1,5 +1,5 @@
 -- The subcommands of the program: how their words are built, and what each of them is given.
-use Rattle.std.proofs.Common.{◌≡◌, ◌∙◌, ◌↔◌, ◌<◌, ◌^◌, ◌-◌, inl, inr, ℕ, Bool, true, false, ◌&&◌, ◌||◌, List, [], ◌∷◌, Option, Some, None, codes, refl, ap, ap₂, arith, option_map, if◌then◌else◌}
+use Rattle.std.proofs.Common.{◌≡◌, ◌∙◌, ◌↔◌, ◌⊎◌, ◌<◌, ◌^◌, ◌-◌, inl, inr, ℕ, Bool, true, false, ◌&&◌, ◌||◌, List, [], ◌∷◌, Option, Some, None, codes, refl, ap, ap₂, arith, option_map, if◌then◌else◌}
 use Rattle.std.specs.Prelude.{find, slice_index, unwrap_or}
 use Rattle.std.specs.List.{AllByRecursion, slice_index_or}
 use Rattle.std.specs.Option.{option_map_or}
@@ -24,10 +24,13 @@ use Rattle.clap.proofs.OnLiterals.{clap_on_literals}
 use Rattle.clap.proofs.ValueTestLemmas.{accepts-Accepts}
 use Rattle.macs_words.specs.declared.action.Action.{Action}
 use Rattle.macs_words.specs.declared.action.Action.TheVariants.{Open, Format, Apply, Show, Protect, Validate, Relay}
+use Rattle.macs_words.specs.declared.pace.Pace.{Pace}
+use Rattle.macs_words.specs.declared.pace.Pace.TheVariants.{Busy, Waiting}
 use Rattle.macs_words.specs.declared.action.UsageFault.{UsageFault}
 use Rattle.macs_words.specs.declared.action.UsageFault.TheVariants.{Usage, Memory}
-use Rattle.macs_words.specs.Words.{FitsNumbers, HasNumber, IsClapCommand, IsFaultOf, Names, IsFlagged, bare_app, count_rule, flag_rule, macsecd, number_rule, option_rule, value_rule}
-use Rattle.macs_words.proofs.Given.{AreValueRules, IsValueRule, given}
+use Rattle.macs_words.specs.Words.{FitsNumbers, FitsPace, HasNumber, HasPace, IsClapCommand, IsFaultOf, IsFlagged, LacksPace, Names}
+use Rattle.macs_words.specs.Words.{bare_app, count_rule, flag_rule, macsecd, number_rule, option_rule, value_rule, wait_rule}
+use Rattle.macs_words.proofs.Given.{AreValueRules, IsValueRule, given, passes_where_given}
 use Rattle.macs_words.proofs.Taken.{is_bare_app, taken}
 
 -- ---- the words as they are built
@@ -76,20 +79,20 @@ blocks rows (Apply disk file) named fits = absurd (omega (arith, ap (λ (t : Tex
 blocks rows (Show disk) named fits = absurd (omega (arith, ap (λ (t : Text). slice_index t 0) named.0))
 blocks rows (Protect disk input output) named fits = absurd (omega (arith, ap (λ (t : Text). slice_index t 0) named.0))
 blocks rows (Validate disk input output) named fits = absurd (omega (arith, ap (λ (t : Text). slice_index t 0) named.0))
-blocks rows (Relay disk controlled common turns) named fits = absurd (omega (arith, ap (λ (t : Text). slice_index t 0) named.0))
+blocks rows (Relay disk controlled common pace) named fits = absurd (omega (arith, ap (λ (t : Text). slice_index t 0) named.0))
 
 -- ---- what `relay` is given
 
--- its turns are there
-pub turns_of : (rows : List Row) (action : Action) → Names (Some (codes "relay", rows)) action → FitsNumbers action
-    → (turns : ℕ) × HasNumber rows (codes "turns") turns × (turns < 2 ^ 64)
-turns_of rows Open named fits = cc
-turns_of rows (Format disk sci tx_block rx_block block is_over) named fits = absurd (omega (arith, ap (λ (t : Text). slice_index t 0) named.0))
-turns_of rows (Apply disk file) named fits = absurd (omega (arith, ap (λ (t : Text). slice_index t 0) named.0))
-turns_of rows (Show disk) named fits = absurd (omega (arith, ap (λ (t : Text). slice_index t 0) named.0))
-turns_of rows (Protect disk input output) named fits = absurd (omega (arith, ap (λ (t : Text). slice_index t 0) named.0))
-turns_of rows (Validate disk input output) named fits = absurd (omega (arith, ap (λ (t : Text). slice_index t 0) named.0))
-turns_of rows (Relay disk controlled common turns) named fits = (turns, named.6, fits)
+-- how it takes its turns is there
+pub pace_of : (rows : List Row) (action : Action) → Names (Some (codes "relay", rows)) action → FitsNumbers action
+    → (pace : Pace) × HasPace rows pace × FitsPace pace
+pace_of rows Open named fits = cc
+pace_of rows (Format disk sci tx_block rx_block block is_over) named fits = absurd (omega (arith, ap (λ (t : Text). slice_index t 0) named.0))
+pace_of rows (Apply disk file) named fits = absurd (omega (arith, ap (λ (t : Text). slice_index t 0) named.0))
+pace_of rows (Show disk) named fits = absurd (omega (arith, ap (λ (t : Text). slice_index t 0) named.0))
+pace_of rows (Protect disk input output) named fits = absurd (omega (arith, ap (λ (t : Text). slice_index t 0) named.0))
+pace_of rows (Validate disk input output) named fits = absurd (omega (arith, ap (λ (t : Text). slice_index t 0) named.0))
+pace_of rows (Relay disk controlled common pace) named fits = (pace, named.6, fits)
 
 -- ---- what each subcommand is given
 
@@ -105,10 +108,13 @@ texts-back (Some text) = refl
 abbrev shape_at : ℕ → Shape
 shape_at i = slice_index_or (built macsecd).subs i (built macsecd).top
 
--- where the subcommand takes the words, they name an action
+-- the subcommand with its values names an action, or it is a relay of which neither the turns nor a wait is given
+abbrev pub IsRead : Option (Text × List Row) → Type 0
+IsRead found = LacksPace found ⊎ ((action : Action) × Names found action × FitsNumbers action)
+
+-- where the subcommand takes the words, it is read
 abbrev IsNamed : Shape → Type 0
-IsNamed s = (words : List Text) → level_passes s [] nothing_held words false ≡ true
-    → (action : Action) × Names (Some (rows_at s words)) action × FitsNumbers action
+IsNamed s = (words : List Text) → level_passes s [] nothing_held words false ≡ true → IsRead (Some (rows_at s words))
 
 value-is : (place : ℕ) (name : Text) → IsValueRule (with_index place (filled (value_rule name)))
 value-is place name = record { action = inl refl; missing = inl refl; defaults = inl refl; no_short = λ x. refl }
@@ -118,6 +124,9 @@ number-is place name = record { action = inl refl; missing = inl refl; defaults 
 
 count-is : (name : Text) → IsValueRule (filled (count_rule name))
 count-is name = record { action = inl refl; missing = inl refl; defaults = inl refl; no_short = λ x. refl }
+
+wait-is : (name : Text) → IsValueRule (filled (wait_rule name))
+wait-is name = record { action = inl refl; missing = inl refl; defaults = inl refl; no_short = λ x. refl }
 
 option-is : (name : Text) → IsValueRule (filled (option_rule name))
 option-is name = record { action = inl refl; missing = inl refl; defaults = inl refl; no_short = λ x. refl }
@@ -148,8 +157,11 @@ number-read place name text passes = accepts-Accepts false (vp.Unsigned 0 (2 ^ 3
 count-read : (name : Text) (text : Text) → value_passes (filled (count_rule name)) text ≡ true → IsUnsignedIn 0 (2 ^ 64 - 1) text
 count-read name text passes = accepts-Accepts false (vp.Unsigned 0 (2 ^ 64 - 1)) text passes
 
+wait-read : (name : Text) (text : Text) → value_passes (filled (wait_rule name)) text ≡ true → IsUnsignedIn 1 60000 text
+wait-read name text passes = accepts-Accepts false (vp.Unsigned 1 60000) text passes
+
 open-named : IsNamed (shape_at 0)
-open-named words passes = (Open, refl, tt)
+open-named words passes = inr (Open, refl, tt)
 
 format-named : IsNamed (shape_at 1)
 unfolding clap_on_literals
@@ -177,7 +189,7 @@ format-named words passes =
     let rx_block = digits_value 10 (without_leading_plus rx.0) in
     let tx_fits : tx_block < 2 ^ 32 = omega (arith, tx_in.3) in
     let rx_fits : rx_block < 2 ^ 32 = omega (arith, rx_in.3) in
-    let rows = rows_after (shape_at 1).rules [] words in (
+    let rows = rows_after (shape_at 1).rules [] words in inr (
       Format (text_of disk.0) (text_of sci.0) tx_block rx_block (option_map text_of (first_of (codes "block") rows)) (is_flagged rows (codes "over")),
       (
         refl,
@@ -200,7 +212,7 @@ apply-named words passes =
     } in
     let disk = given (shape_at 2) words (with_index 1 (filled (value_rule (codes "DISK")))) rules refl passes refl refl in
     let file = given (shape_at 2) words (with_index 2 (filled (value_rule (codes "FILE")))) rules refl passes refl refl in
-    (Apply (text_of disk.0) (text_of file.0), (refl, disk.1, file.1), tt)
+    inr (Apply (text_of disk.0) (text_of file.0), (refl, disk.1, file.1), tt)
 
 show-named : IsNamed (shape_at 3)
 unfolding clap_on_literals
@@ -210,7 +222,7 @@ show-named words passes =
       own = (refl, tt);
     } in
     let disk = given (shape_at 3) words (with_index 1 (filled (value_rule (codes "DISK")))) rules refl passes refl refl in
-    (Show (text_of disk.0), (refl, disk.1), tt)
+    inr (Show (text_of disk.0), (refl, disk.1), tt)
 
 protect-named : IsNamed (shape_at 4)
 unfolding clap_on_literals
@@ -222,7 +234,7 @@ protect-named words passes =
     let disk = given (shape_at 4) words (with_index 1 (filled (value_rule (codes "DISK")))) rules refl passes refl refl in
     let input = given (shape_at 4) words (with_index 2 (filled (value_rule (codes "INPUT")))) rules refl passes refl refl in
     let output = given (shape_at 4) words (with_index 3 (filled (value_rule (codes "OUTPUT")))) rules refl passes refl refl in
-    (Protect (text_of disk.0) (text_of input.0) (text_of output.0), (refl, disk.1, input.1, output.1), tt)
+    inr (Protect (text_of disk.0) (text_of input.0) (text_of output.0), (refl, disk.1, input.1, output.1), tt)
 
 validate-named : IsNamed (shape_at 5)
 unfolding clap_on_literals
@@ -234,7 +246,38 @@ validate-named words passes =
     let disk = given (shape_at 5) words (with_index 1 (filled (value_rule (codes "DISK")))) rules refl passes refl refl in
     let input = given (shape_at 5) words (with_index 2 (filled (value_rule (codes "INPUT")))) rules refl passes refl refl in
     let output = given (shape_at 5) words (with_index 3 (filled (value_rule (codes "OUTPUT")))) rules refl passes refl refl in
-    (Validate (text_of disk.0) (text_of input.0) (text_of output.0), (refl, disk.1, input.1, output.1), tt)
+    inr (Validate (text_of disk.0) (text_of input.0) (text_of output.0), (refl, disk.1, input.1, output.1), tt)
+
+-- where they are given, turns and a wait are numbers: so they are a pace, or neither is given
+paced : (rows : List Row) → ((text : Text) → first_of (codes "turns") rows ≡ Some text → IsUnsignedIn 0 (2 ^ 64 - 1) text)
+    → ((text : Text) → first_of (codes "wait") rows ≡ Some text → IsUnsignedIn 1 60000 text)
+    → ((first_of (codes "turns") rows ≡ None) × (first_of (codes "wait") rows ≡ None))
+    ⊎ ((pace : Pace) × HasPace rows pace × FitsPace pace)
+paced rows count limit = go (first_of (codes "turns") rows) (first_of (codes "wait") rows) refl refl
+  where
+    go : (turns wait : Option Text) → first_of (codes "turns") rows ≡ turns → first_of (codes "wait") rows ≡ wait
+        → ((first_of (codes "turns") rows ≡ None) × (first_of (codes "wait") rows ≡ None))
+        ⊎ ((pace : Pace) × HasPace rows pace × FitsPace pace)
+    go None None no_turns no_wait = inl (no_turns, no_wait)
+    go (Some text) None there no_wait =
+        let in_range = count text there in
+        let number = digits_value 10 (without_leading_plus text) in
+        let fits : number < 2 ^ 64 = in_range.1 in
+        inr (Busy number, ((text, there, in_range.0, refl), no_wait), fits)
+    go None (Some word) no_turns there =
+        let in_range = limit word there in
+        let number = digits_value 10 (without_leading_plus word) in
+        let above : 0 < number = omega (arith, in_range.2) in
+        inr (Waiting (record { 0 = number }) None, ((word, there, in_range.0, refl), (above, in_range.3), no_turns), tt)
+    go (Some text) (Some word) one other =
+        let in_count = count text one in
+        let in_range = limit word other in
+        let number = digits_value 10 (without_leading_plus word) in
+        let above : 0 < number = omega (arith, in_range.2) in inr (
+          Waiting (record { 0 = number }) (Some (digits_value 10 (without_leading_plus text))),
+          ((word, other, in_range.0, refl), (above, in_range.3), (text, one, in_count.0, refl)),
+          in_count.1,
+        )
 
 relay-named : IsNamed (shape_at 6)
 unfolding clap_on_literals
@@ -246,47 +289,52 @@ relay-named words passes =
           value-is 2 (codes "OWN1"),
           (
             value-is 3 (codes "PEER1"),
-            (value-is 4 (codes "OWN2"), (value-is 5 (codes "PEER2"), (count-is (codes "turns"), tt))),
+            (value-is 4 (codes "OWN2"), (value-is 5 (codes "PEER2"), (count-is (codes "turns"), (wait-is (codes "wait"), tt)))),
           ),
         ),
       );
-      own = (refl, (refl, (refl, (refl, (refl, (refl, tt))))));
+      own = (refl, (refl, (refl, (refl, (refl, (refl, (refl, tt)))))));
     } in
     let disk = given (shape_at 6) words (with_index 1 (filled (value_rule (codes "DISK")))) rules refl passes refl refl in
     let own_1 = given (shape_at 6) words (with_index 2 (filled (value_rule (codes "OWN1")))) rules refl passes refl refl in
     let peer_1 = given (shape_at 6) words (with_index 3 (filled (value_rule (codes "PEER1")))) rules refl passes refl refl in
     let own_2 = given (shape_at 6) words (with_index 4 (filled (value_rule (codes "OWN2")))) rules refl passes refl refl in
     let peer_2 = given (shape_at 6) words (with_index 5 (filled (value_rule (codes "PEER2")))) rules refl passes refl refl in
-    let turns = given (shape_at 6) words (filled (count_rule (codes "turns"))) rules refl passes refl refl in
-    let turns_in = count-read (codes "turns") turns.0 turns.2 in
-    let count = digits_value 10 (without_leading_plus turns.0) in
-    let fits : count < 2 ^ 64 = omega (arith, turns_in.3) in (
-      Relay (text_of disk.0) (record { own = text_of own_1.0; peer = text_of peer_1.0 })
-          (record { own = text_of own_2.0; peer = text_of peer_2.0 }) count,
-      (refl, disk.1, own_1.1, peer_1.1, own_2.1, peer_2.1, (turns.0, turns.1, turns_in.0, refl)),
-      fits,
-    )
+    let rows = rows_after (shape_at 6).rules [] words in
+    let count : (text : Text) → first_of (codes "turns") rows ≡ Some text → IsUnsignedIn 0 (2 ^ 64 - 1) text =
+    λ text there. count-read (codes "turns") text (passes_where_given (shape_at 6) words (filled (count_rule (codes "turns"))) text rules passes refl there) in
+    let limit : (text : Text) → first_of (codes "wait") rows ≡ Some text → IsUnsignedIn 1 60000 text =
+    λ text there. wait-read (codes "wait") text (passes_where_given (shape_at 6) words (filled (wait_rule (codes "wait"))) text rules passes refl there) in
+    elim (paced rows count limit) [
+      | inl none ↦ inl (refl, none.0, none.1)
+      | inr (pace, has, fits) ↦ inr (
+        Relay (text_of disk.0) (record { own = text_of own_1.0; peer = text_of peer_1.0 })
+            (record { own = text_of own_2.0; peer = text_of peer_2.0 }) pace,
+        (refl, disk.1, own_1.1, peer_1.1, own_2.1, peer_2.1, has),
+        fits,
+      )
+    ]
 
 -- ---- the words of a whole command line
 
 -- the first of the subcommands that answers to a name
 named-first : (shapes : List Shape) (answers : Shape → Bool) (words : List Text) → AllByRecursion IsNamed shapes
     → option_map_or (λ s. level_passes s [] nothing_held words false) (find answers shapes) true ≡ true
-    → (action : Action) × Names (option_map (λ s. rows_at s words) (find answers shapes)) action × FitsNumbers action
-named-first [] answers words all passes = (Open, refl, tt)
+    → IsRead (option_map (λ s. rows_at s words) (find answers shapes))
+named-first [] answers words all passes = inr (Open, refl, tt)
 named-first (s ∷ rest) answers words all passes = go (answers s) passes (λ later. named-first rest answers words all.1 later)
   where
     go : (is : Bool)
         → option_map_or (λ s. level_passes s [] nothing_held words false) (if is then Some s else find answers rest) true ≡ true
         → (option_map_or (λ s. level_passes s [] nothing_held words false) (find answers rest) true ≡ true
-        → (action : Action) × Names (option_map (λ s. rows_at s words) (find answers rest)) action × FitsNumbers action)
-        → (action : Action) × Names (option_map (λ s. rows_at s words) (if is then Some s else find answers rest)) action × FitsNumbers action
+        → IsRead (option_map (λ s. rows_at s words) (find answers rest)))
+        → IsRead (option_map (λ s. rows_at s words) (if is then Some s else find answers rest))
     go true passes below = all.0 words passes
     go false passes below = below passes
 
 named-entered : (a : App) (stop : Option (Text × List Text)) → AllByRecursion IsNamed a.subs → entered_passes a stop ≡ true
-    → (action : Action) × Names (entered a stop) action × FitsNumbers action
-named-entered a None all passes = (Open, refl, tt)
+    → IsRead (entered a stop)
+named-entered a None all passes = inr (Open, refl, tt)
 named-entered a (Some p) all passes = named-first a.subs (λ s. answers_to p.0 (label_of s)) p.1 all passes
 
 first-of-three : (a b d : Bool) → (a && (b && d)) ≡ true → b ≡ true
@@ -297,8 +345,8 @@ first-of-three false b d is = cc
 all-named : AllByRecursion IsNamed (built macsecd).subs
 all-named = (open-named, (format-named, (apply-named, (show-named, (protect-named, (validate-named, (relay-named, tt)))))))
 
--- each command line that the program takes names an action
-pub named : (words : List Text) → takes macsecd words ≡ true → (action : Action) × Names (subcommand_of macsecd words) action × FitsNumbers action
+-- each command line that clap takes is read
+pub named : (words : List Text) → takes macsecd words ≡ true → IsRead (subcommand_of macsecd words)
 named words taken =
     named-entered (built macsecd) (stop_after (built macsecd).top.rules (names_of (built macsecd)) (argument_words macsecd words)) all-named
     (first-of-three (is_simple macsecd) _ _ taken)

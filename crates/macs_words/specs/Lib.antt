@@ -1,3 +1,4 @@
 pub mod Controls
+pub mod Waits
 pub mod Words
 pub mod Help

@@ -1,9 +1,9 @@
 -- The words that the program knows, the action that they name, and those that ask for help.
-use Rattle.std.specs.Prelude.{◌≡◌, ◌≢◌, ◌↔◌, ◌⊎◌, ◌<◌, ◌-◌, ◌^◌, ℕ, ⊤, map, Bool, true, false, List, [], ◌∷◌, ◌++◌, Option, Some, None, codes, option_map, string_bytes}
+use Rattle.std.specs.Prelude.{◌≡◌, ◌≢◌, ◌↔◌, ◌⊎◌, ◌<◌, ◌-◌, ◌^◌, ℕ, ⊤, map, Bool, true, false, List, [], ◌∷◌, ◌++◌, Option, Some, None, codes, IfSome, option_map, string_bytes}
 use Rattle.std.specs.Str.Parse.{IsNumeral, digits_value, without_leading_plus}
 use Rattle.std.specs.Borrow.{Bor}
 use Rattle.clap.specs.Simple.{new_shape, on_top}
-use Rattle.clap.specs.Words.{App, Row, Rule, Shape, Text, app_of, first_of, kind_of, new_app, new_rule, with_subcommand}
+use Rattle.clap.specs.Words.{App, Row, Rule, Shape, Text, app_of, first_of, kind_of, new_app, new_rule, subcommand_of, takes, with_subcommand}
 use Rattle.clap.specs.declared.builder.action.ArgAction.TheVariants.{Set, SetTrue}
 use Rattle.clap.specs.declared.builder.value_parser.ValueParser.TheVariants as vp
 use Rattle.clap.specs.declared.builder.command.Command.{Command}
@@ -11,10 +11,13 @@ use Rattle.clap.specs.declared.builder.command.Command.TheViews.{out-Command as 
 use Rattle.clap.specs.declared.error.Error.{Error}
 use Rattle.clap.specs.declared.error.kind.ErrorKind.TheVariants.{OutOfMemory}
 use Rattle.macs_words.specs.Controls.{IsPrintable}
+use Rattle.macs_words.specs.Waits.{IsWaitLimit}
 use Rattle.macs_words.specs.declared.action.UsageFault.{UsageFault}
 use Rattle.macs_words.specs.declared.action.UsageFault.TheVariants.{Usage, Memory}
 use Rattle.macs_words.specs.declared.action.Action.{Action}
 use Rattle.macs_words.specs.declared.action.Action.TheVariants.{Open, Format, Apply, Show, Protect, Validate, Relay}
+use Rattle.macs_words.specs.declared.pace.Pace.{Pace}
+use Rattle.macs_words.specs.declared.pace.Pace.TheVariants.{Busy, Waiting}
 use Rattle.macs_words.specs.declared.help.Topic.{Topic}
 use Rattle.macs_words.specs.declared.help.Topic.TheVariants.{Help, HelpOn, Version}
 use Rattle.macs_words.specs.declared.help.Subcommand.{Subcommand}
@@ -34,13 +37,17 @@ value_rule name = record (new_rule name) { action = Some Set; required = true }
 abbrev pub number_rule : Text → Rule
 number_rule name = record (value_rule name) { parser = Some (vp.Unsigned 0 (2 ^ 32 - 1)) }
 
--- an option of this name that has to be given: a number of 0 to 2^64 - 1, in decimal digits
-abbrev pub count_rule : Text → Rule
-count_rule name = record (value_rule name) { long = Some name; parser = Some (vp.Unsigned 0 (2 ^ 64 - 1)) }
-
 -- an option of this name that need not be given: a text
 abbrev pub option_rule : Text → Rule
 option_rule name = record (new_rule name) { long = Some name; action = Some Set }
+
+-- an option of this name that need not be given: a number of 0 to 2^64 - 1, in decimal digits
+abbrev pub count_rule : Text → Rule
+count_rule name = record (option_rule name) { parser = Some (vp.Unsigned 0 (2 ^ 64 - 1)) }
+
+-- an option of this name that need not be given: milliseconds, 1 to 60,000, in decimal digits
+abbrev pub wait_rule : Text → Rule
+wait_rule name = record (option_rule name) { parser = Some (vp.Unsigned 1 60000) }
 
 -- an option of this name without a value
 abbrev pub flag_rule : Text → Rule
@@ -66,7 +73,7 @@ frame_subcommands =
     subcommand_with (codes "protect") (value_rule (codes "DISK") ∷ value_rule (codes "INPUT") ∷ value_rule (codes "OUTPUT") ∷ [])
     ∷ subcommand_with (codes "validate") (value_rule (codes "DISK") ∷ value_rule (codes "INPUT") ∷ value_rule (codes "OUTPUT") ∷ [])
     ∷ subcommand_with (codes "relay") (value_rule (codes "DISK") ∷ value_rule (codes "OWN1") ∷ value_rule (codes "PEER1")
-    ∷ value_rule (codes "OWN2") ∷ value_rule (codes "PEER2") ∷ count_rule (codes "turns") ∷ [])
+    ∷ value_rule (codes "OWN2") ∷ value_rule (codes "PEER2") ∷ count_rule (codes "turns") ∷ wait_rule (codes "wait") ∷ [])
     ∷ []
 
 -- the words begin after the program's name, and no flag and no subcommand of the library's asks for help or the version
@@ -101,6 +108,18 @@ HasNumber values name number =
 abbrev pub MayHaveText : List Row → Text → Option (Bor Text) → Type 0
 MayHaveText values name text = option_map (λ t. t.now) text ≡ first_of name values
 
+-- the value of this name is this number in decimal digits, where it is given
+abbrev pub MayHaveNumber : List Row → Text → Option ℕ → Type 0
+MayHaveNumber values name None = first_of name values ≡ None
+MayHaveNumber values name (Some number) = HasNumber values name number
+
+-- How a relay takes its turns: so many, and no wait is given; or it waits so long at most, 1 to 60,000 ms, and takes so many where they
+-- are given
+abbrev pub HasPace : List Row → Pace → Type 0
+HasPace values (Busy turns) = HasNumber values (codes "turns") turns × (first_of (codes "wait") values ≡ None)
+HasPace values (Waiting limit turns) =
+    HasNumber values (codes "wait") limit.0 × IsWaitLimit limit.0 × MayHaveNumber values (codes "turns") turns
+
 -- the option without a value is used
 abbrev pub IsFlagged : List Row → Text → Bool → Type 0
 IsFlagged values name is = (is ≡ true) ↔ HasText values name (codes "true")
@@ -122,16 +141,31 @@ Names (Some found) (Protect disk input output) =
 Names (Some found) (Validate disk input output) =
     (found.0 ≡ codes "validate") × HasText found.1 (codes "DISK") disk.now
     × HasText found.1 (codes "INPUT") input.now × HasText found.1 (codes "OUTPUT") output.now
-Names (Some found) (Relay disk controlled common turns) =
+Names (Some found) (Relay disk controlled common pace) =
     (found.0 ≡ codes "relay") × HasText found.1 (codes "DISK") disk.now
     × HasText found.1 (codes "OWN1") controlled.own.now × HasText found.1 (codes "PEER1") controlled.peer.now
     × HasText found.1 (codes "OWN2") common.own.now × HasText found.1 (codes "PEER2") common.peer.now
-    × HasNumber found.1 (codes "turns") turns
+    × HasPace found.1 pace
+
+-- a relay of which neither the turns nor a wait is given: it names no action
+abbrev pub LacksPace : Option (Text × List Row) → Type 0
+LacksPace None = ⊥
+LacksPace (Some found) =
+    (found.0 ≡ codes "relay") × (first_of (codes "turns") found.1 ≡ None) × (first_of (codes "wait") found.1 ≡ None)
+
+-- the words are none that are taken: clap refuses them, or they name a relay of which neither the turns nor a wait is given
+abbrev pub AreRefused : List Text → Type 0
+AreRefused words = (takes macsecd words ≢ true) ⊎ LacksPace (subcommand_of macsecd words)
+
+-- the turns have 64 bits
+abbrev pub FitsPace : Pace → Type 0
+FitsPace (Busy turns) = turns < 2 ^ 64
+FitsPace (Waiting limit turns) = IfSome turns (λ count. count < 2 ^ 64)
 
 -- the numbers of the action, if it has any, have so many bits
 abbrev pub FitsNumbers : Action → Type 0
 FitsNumbers (Format disk sci tx_block rx_block block is_over) = (tx_block < 2 ^ 32) × (rx_block < 2 ^ 32)
-FitsNumbers (Relay disk controlled common turns) = turns < 2 ^ 64
+FitsNumbers (Relay disk controlled common pace) = FitsPace pace
 FitsNumbers action = ⊤
 
 -- the command is this one, and has no global argument

@@ -1,11 +1,15 @@
 //! What the program's words ask for.
 
-ghost use Rattle.std.specs.Prelude.{◌≡◌, ◌↔◌, ◌<◌, ◌^◌, ℕ, IfOk, IfErr, IfSome, IsSome, IsTrue, OnOk, Some, true, false, [], codes, option_map, string_bytes};
+ghost use Rattle.std.specs.Prelude.{◌≡◌, ◌⊎◌, ◌↔◌, ◌<◌, ◌^◌, ℕ, Option, IfOk, IfErr, IfSome, IsSome, IsTrue, OnOk, Some, true, false, [], codes, option_map, string_bytes};
 ghost use Rattle.clap.specs.Words.{App, Rule, Text, app_of, fault_of, first_of, found_of, new_app, rows_of, rule_of, subcommand_of, subcommand_rows_of, takes, with_rule, with_subcommand};
 ghost use Rattle.macs_words.specs.Controls.{IsPrintable};
-ghost use Rattle.macs_words.specs.Words.{FitsNumbers, HasNumber, HasPrintableCause, HasText, IsClapCommand, IsFaultOf, Names, bare_app, count_rule, macsecd, number_rule, texts, value_rule};
-ghost use Rattle.macs_words.specs.Words.{flag_rule, option_rule};
+ghost use Rattle.macs_words.specs.Waits.{IsWaitLimit};
+ghost use Rattle.macs_words.specs.Words.{FitsNumbers, FitsPace, HasNumber, HasPace, HasPrintableCause, HasText, IsClapCommand, IsFaultOf};
+ghost use Rattle.macs_words.specs.Words.{LacksPace, MayHaveNumber, Names, bare_app, count_rule, macsecd, number_rule, texts, value_rule};
+ghost use Rattle.macs_words.specs.Words.{flag_rule, option_rule, wait_rule};
+ghost use Rattle.macs_words.specs.declared.pace.Pace.{Pace};
 
+use crate::pace::{Milliseconds, Pace};
 use crate::plain_text::printable;
 use clap::builder::ValueParser;
 use clap::error::ErrorKind;
@@ -50,12 +54,13 @@ pub enum Action<'a> {
         input: &'a str,
         output: &'a str,
     },
-    /// Relays frames between two wires: `relay DISK OWN1 PEER1 OWN2 PEER2 --turns n`.
+    /// Relays frames between two wires: `relay DISK OWN1 PEER1 OWN2 PEER2` with `--turns n`, `--wait MS` or
+    /// both.
     Relay {
         disk: &'a str,
         controlled: WireEnds<'a>,
         common: WireEnds<'a>,
-        turns: u64,
+        pace: Pace,
     },
 }
 
@@ -181,29 +186,36 @@ fn capture_words<'a>(alloc: Global, name: &'a str) -> Result<Command<'a>, AllocE
     with_value(words, value(alloc, "OUTPUT"))
 }
 
-/// A number of 64 bits that has to be given behind its name.
+/// A number of 64 bits that may be given behind its name.
 fn count<'a>(alloc: Global, name: &'a str) -> Arg<'a>
     ensures rule { rule_of result ≡ count_rule name.entry.now }
     ensures local { result.global ≡ false }
 {
-    value(alloc, name)
-        .long(name)
-        .value_parser(ValueParser::unsigned(0, u64::MAX))
+    option(alloc, name).value_parser(ValueParser::unsigned(0, u64::MAX))
+}
+
+/// Milliseconds, 1 to 60,000, that may be given behind their name.
+fn wait<'a>(alloc: Global, name: &'a str) -> Arg<'a>
+    ensures rule { rule_of result ≡ wait_rule name.entry.now }
+    ensures local { result.global ≡ false }
+{
+    option(alloc, name).value_parser(ValueParser::unsigned(1, 60_000))
 }
 
 /// The words of `relay`.
 fn relay_words<'a>(alloc: Global) -> Result<Command<'a>, AllocError>
     ensures { IfOk result (λ command. IsClapCommand command (with_rule (with_rule (with_rule (with_rule (with_rule
-        (with_rule (new_app (codes "relay")) (value_rule (codes "DISK"))) (value_rule (codes "OWN1")))
+        (with_rule (with_rule (new_app (codes "relay")) (value_rule (codes "DISK"))) (value_rule (codes "OWN1")))
         (value_rule (codes "PEER1"))) (value_rule (codes "OWN2"))) (value_rule (codes "PEER2")))
-        (count_rule (codes "turns")))) }
+        (count_rule (codes "turns"))) (wait_rule (codes "wait")))) }
 {
     let words = with_value(Ok(Command::new(alloc, "relay")), value(alloc, "DISK"));
     let words = with_value(words, value(alloc, "OWN1"));
     let words = with_value(words, value(alloc, "PEER1"));
     let words = with_value(words, value(alloc, "OWN2"));
     let words = with_value(words, value(alloc, "PEER2"));
-    with_value(words, count(alloc, "turns"))
+    let words = with_value(words, count(alloc, "turns"));
+    with_value(words, wait(alloc, "wait"))
 }
 
 /// The words before any subcommand: they begin after the program's name, and nothing of the library's own asks for
@@ -287,6 +299,34 @@ fn count_in(values: &ArgMatches, name: &str) -> Option<u64>
         → number < 2 ^ 64 → IsSome result }
 {
     text_in(values, name)?.parse().ok()
+}
+
+/// The number of 64 bits that a value is in decimal digits, where it is given.
+fn optional_count_in(values: &ArgMatches, name: &str) -> Option<Option<u64>>
+    ensures read { IfSome result (MayHaveNumber (rows_of (found_of values.now)) name.now) }
+    ensures found { (number : Option ℕ) → MayHaveNumber (rows_of (found_of values.now)) name.now number
+        → IfSome number (λ n. n < 2 ^ 64) → IsSome result }
+{
+    match text_in(values, name) {
+        None => Some(None),
+        Some(_) => {
+            let number = count_in(values, name)?;
+            Some(Some(number))
+        }
+    }
+}
+
+/// The milliseconds, 1 to 60,000, that a value is in decimal digits.
+fn wait_in(values: &ArgMatches, name: &str) -> Option<Milliseconds>
+    ensures read { IfSome result (λ limit. HasNumber (rows_of (found_of values.now)) name.now limit.0 × IsWaitLimit limit.0) }
+    ensures found { (number : ℕ) → HasNumber (rows_of (found_of values.now)) name.now number
+        → IsWaitLimit number → IsSome result }
+{
+    let milliseconds = text_in(values, name)?.parse().ok()?;
+    if milliseconds == 0 || milliseconds > 60_000 {
+        return None;
+    }
+    Some(Milliseconds(milliseconds))
 }
 
 /// Whether an option without a value is among the words.
@@ -381,6 +421,24 @@ fn ends_in<'a>(values: &ArgMatches<'a>, own: &str, peer: &str) -> Option<WireEnd
     Some(WireEnds { own, peer })
 }
 
+/// How `relay` takes its turns: `None` where neither `turns` nor `wait` is given.
+fn pace_in(values: &ArgMatches) -> Option<Pace>
+    ensures read { IfSome result (HasPace (rows_of (found_of values.now))) }
+    ensures found { (pace : Pace) → HasPace (rows_of (found_of values.now)) pace → FitsPace pace → IsSome result }
+{
+    match text_in(values, "wait") {
+        None => {
+            let turns = count_in(values, "turns")?;
+            Some(Pace::Busy { turns })
+        }
+        Some(_) => {
+            let limit = wait_in(values, "wait")?;
+            let turns = optional_count_in(values, "turns")?;
+            Some(Pace::Waiting { limit, turns })
+        }
+    }
+}
+
 /// `relay` with its values.
 fn relay_in<'a>(values: &ArgMatches<'a>) -> Option<Action<'a>>
     ensures read { IfSome result (λ action. Names (Some (codes "relay", rows_of (found_of values.now))) action) }
@@ -390,12 +448,12 @@ fn relay_in<'a>(values: &ArgMatches<'a>) -> Option<Action<'a>>
     let disk = text_in(values, "DISK")?;
     let controlled = ends_in(values, "OWN1", "PEER1")?;
     let common = ends_in(values, "OWN2", "PEER2")?;
-    let turns = count_in(values, "turns")?;
+    let pace = pace_in(values)?;
     Some(Action::Relay {
         disk,
         controlled,
         common,
-        turns,
+        pace,
     })
 }
 
@@ -420,21 +478,32 @@ fn action_in<'a>(matches: &ArgMatches<'a>) -> Option<Action<'a>>
     }
 }
 
+/// What is said of a relay that has neither `--turns` nor `--wait`: what clap says where a value is missing.
+fn missing_cause(alloc: Global) -> Result<String, AllocError>
+    ensures { IfOk result (λ cause. IsPrintable (string_bytes cause)) }
+{
+    printable(alloc, "the following required arguments were not provided:")
+}
+
 /// The action that the words name, without the program's own name among them. Refused as `Usage` where clap
-/// refuses the words, else as `Memory` where memory is wanting.
+/// refuses the words, or where they name a relay with neither `--turns` nor `--wait`; else as `Memory` where
+/// memory is wanting.
 pub fn action_of<'a>(alloc: Global, words: &'a [&'a str]) -> Result<Action<'a>, UsageFault>
     // What is answered is what clap reads.
     ensures read { IfOk result (Names (subcommand_of macsecd (texts words.now))) }
-    // What clap takes is refused for memory alone.
-    ensures taken { takes macsecd (texts words.now) ≡ true
-        → IfErr result (λ fault. fault ≡ UsageFault.Memory) }
+    // What clap takes is refused for memory alone, but for a relay with neither turns nor a wait.
+    ensures taken { takes macsecd (texts words.now) ≡ true → IfErr result (λ fault.
+        (fault ≡ UsageFault.Memory) ⊎ LacksPace (subcommand_of macsecd (texts words.now))) }
     // What is answered is nothing that clap refuses.
     ensures refused { OnOk result (fault_of macsecd (texts words.now) ≡ []) }
     // The cause of a refusal has no control character.
     ensures printable { IfErr result HasPrintableCause }
 {
     match known_words(alloc)?.try_get_matches_from(words) {
-        Ok(matches) => Ok(action_in(&matches).unwrap()),
+        Ok(matches) => match action_in(&matches) {
+            Some(action) => Ok(action),
+            None => Err(UsageFault::Usage(missing_cause(alloc)?)),
+        },
         Err(error) => Err(usage_fault_of(alloc, &error)?),
     }
 }

@@ -111,6 +111,7 @@ status: 0 done, 2 usage, 4 disk, 5 capture, output or memory
 ";
 
 pub const RELAY: &str = "usage: macsecd relay DISK OWN1 PEER1 OWN2 PEER2 --turns n
+       macsecd relay DISK OWN1 PEER1 OWN2 PEER2 --wait MS [--turns n]
 
 Relays frames between two wires of UDP: a datagram is one Ethernet frame without
 FCS. Frames of the first wire, the controlled side, are protected and go to the
@@ -122,7 +123,10 @@ it prints 'sent 6 delivered 0 dropped 0 faults 0'.
   PEER1, PEER2   where its datagrams go to; those from elsewhere are dropped
   --turns n      how often each wire is asked for a frame, at most:
                  0 to 18446744073709551615
-No turn waits for a frame, so one processor is busy until the last.
+  --wait MS      after a turn that brought nothing it sleeps until a datagram is
+                 there on either wire, at most so many milliseconds: 1 to 60000.
+                 Without --turns it goes on until a signal ends it
+Without --wait no turn waits for a frame: one processor is busy until the last.
 
 example: macsecd relay left.disk 127.0.0.1:4001 127.0.0.1:4000 \\
            127.0.0.1:5001 127.0.0.1:5002 --turns 10000000

@@ -4,7 +4,9 @@
 mod action;
 mod help;
 mod help_texts;
+mod pace;
 mod plain_text;
 
 pub use action::{Action, UsageFault, WireEnds, action_of};
 pub use help::{Subcommand, Topic, topic_of};
+pub use pace::{Milliseconds, Pace};

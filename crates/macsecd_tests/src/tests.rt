@@ -23,6 +23,7 @@ mod spaced_files;
 mod stand_in;
 mod stories;
 mod streams;
+mod waiting;
 mod wires;
 mod words;
 

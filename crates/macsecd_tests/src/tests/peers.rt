@@ -1,4 +1,4 @@
-//! The peers of two wires: a frame of theirs waits at each wire as soon as it is bound.
+//! The peers of two wires: a frame of theirs waits at each wire as soon as it is bound, behind what strangers sent or not.
 
 use std::alloc::Global;
 use std::cell::Cell;
@@ -17,7 +17,10 @@ fn at(octet: u8) -> SocketAddr {
     SocketAddr::from(([127, 0, 0, octet], 0))
 }
 
-/// The peer of a wire, and the frame that it sends.
+/// How many datagrams of a stranger there are in front of a frame.
+const STRANGERS: u32 = 40;
+
+/// The peer of a wire, and the frame that it sends; it sends none where that has no octets.
 #[derive(Drop)]
 struct Peer {
     socket: UdpSocket,
@@ -32,8 +35,11 @@ impl Peer {
         Ok(Peer { socket, frame })
     }
 
-    /// Whether this frame comes, where the peer is asked at most 1,000 times.
+    /// Whether this frame comes, where the peer is asked at most 1,000 times. A frame of no octets is none.
     fn has(&self, frame: &[u8]) -> bool {
+        if frame.is_empty() {
+            return true;
+        }
         let mut room = [0; 2_048];
         for _ in 0..1_000_u32 {
             if let Ok((count, _)) = self.socket.recv_from(&mut room) {
@@ -51,6 +57,8 @@ pub struct Peers {
     second: Peer,
     /// Whether the first wire is bound.
     is_begun: Cell<bool>,
+    /// What sends datagrams in front of each frame, where there is one.
+    stranger: Option<UdpSocket>,
 }
 
 impl Peers {
@@ -59,7 +67,33 @@ impl Peers {
             first: Peer::new(net, first)?,
             second: Peer::new(net, second)?,
             is_begun: Cell::new(false),
+            stranger: None,
         })
+    }
+
+    /// The same behind a stranger.
+    pub fn behind_a_stranger(
+        net: &impl Net,
+        first: Vec<u8>,
+        second: Vec<u8>,
+    ) -> Result<Peers, Fail> {
+        let mut peers = Peers::new(net, first, second)?;
+        peers.stranger = Some(UdpSocket::bind(net, at(1))?);
+        Ok(peers)
+    }
+
+    /// Sends what is to wait at the wire of a peer: the frame, behind what a stranger sends.
+    fn send(&self, peer: &Peer, wire: SocketAddr) -> io::Result<()> {
+        if peer.frame.is_empty() {
+            return Ok(());
+        }
+        if let Some(stranger) = &self.stranger {
+            for _ in 0..STRANGERS {
+                stranger.send_to(b"stranger", wire)?;
+            }
+        }
+        peer.socket.send_to(&peer.frame, wire)?;
+        Ok(())
     }
 
     /// Binds a wire, and has its peer's frame wait there. A wire that is bound out of its turn is refused.
@@ -71,7 +105,7 @@ impl Peers {
         self.is_begun.set(true);
         let wire = net.bind_udp(own)?;
         let peer = if is_first { &self.first } else { &self.second };
-        peer.socket.send_to(&peer.frame, wire.local_addr()?)?;
+        self.send(peer, wire.local_addr()?)?;
         Ok(wire)
     }
 

@@ -43,6 +43,16 @@ const RELAYS: &[Step] = &[
         Done(NOTHING),
     ),
     Run(
+        &[
+            "relay", DISK, ANY, NOBODY, ANY, NOBODY, "--wait", "1", "--turns", "5",
+        ],
+        Done(NOTHING),
+    ),
+    Run(
+        &["relay", DISK, ONE, NOBODY, ONE, NOBODY, "--wait", "5"],
+        Fault("macsecd: wire\n"),
+    ),
+    Run(
         &["relay", "--turns", "1", DISK, ANY, NOBODY, ANY, NOBODY],
         Done(NOTHING),
     ),
@@ -141,6 +151,40 @@ const WORDS: &[Step] = &[
     Run(
         &["relay", NO, ANY, ANY, ANY, ANY, "--turn", "1"],
         Usage("macsecd: unexpected argument '--turn' found\n"),
+    ),
+    Run(
+        &["relay", NO, ANY, ANY, ANY, "--wait", "5"],
+        Usage("macsecd: the following required arguments were not provided:\n"),
+    ),
+    Run(
+        &["relay", "--", NO, ANY, ANY, ANY, "--wait"],
+        Usage("macsecd: the following required arguments were not provided:\n"),
+    ),
+    Run(
+        &["relay", NO, ANY, ANY, ANY, ANY, "--wait", "0"],
+        Usage("macsecd: invalid value '0' for '--wait <wait>': 0 is not in 1..=60000\n"),
+    ),
+    Run(
+        &["relay", NO, ANY, ANY, ANY, ANY, "--wait=60001"],
+        Usage("macsecd: invalid value '60001' for '--wait <wait>': 60001 is not in 1..=60000\n"),
+    ),
+    Run(
+        &["relay", NO, ANY, ANY, ANY, ANY, "--wait", "1s"],
+        Usage("macsecd: invalid value '1s' for '--wait <wait>': invalid digit found in string\n"),
+    ),
+    Run(
+        &["relay", NO, ANY, ANY, ANY, ANY, "--turns", "5", "--wait"],
+        Usage("macsecd: a value is required for '--wait <wait>' but none was supplied\n"),
+    ),
+    Run(
+        &[
+            "relay", NO, ANY, ANY, ANY, ANY, "--wait", "1", "--wait", "1",
+        ],
+        Usage("macsecd: the argument '--wait <wait>' cannot be used multiple times\n"),
+    ),
+    Run(
+        &["relay", NO, BAD, BAD, BAD, BAD, "--wait", "5"],
+        Usage(OWN1),
     ),
     IsMissing(NO),
 ];

@@ -15,7 +15,8 @@ use std::{fs, io};
 /// The frames of a relay, spelled in hex.
 #[derive(Clone, Copy)]
 pub struct Frames {
-    /// What the peer of the first wire sends, and what comes to that of the second for it.
+    /// What the peer of the first wire sends, and what comes to that of the second for it: nothing where they have
+    /// no digits.
     pub plain: &'static str,
     pub protected: &'static str,
     /// What the peer of the second wire sends, and what comes to that of the first for it.
@@ -33,8 +34,11 @@ pub enum Step {
     /// Runs these words over a standard output that takes so many writes and so many flushes, and then
     /// fails: that is `output`.
     Closing(u32, u32, &'static [&'static str]),
-    /// Relays these frames on this disk.
+    /// Relays these frames on this disk, by a relay that never waits.
     Relay(&'static str, Frames, Outcome),
+    /// Relays these frames on this disk, each behind a stranger's datagrams, by a relay that waits a second at a time,
+    /// in so many turns.
+    RelayWaiting(&'static str, Frames, &'static str, Outcome),
     /// Makes a file of this text.
     Text(&'static str, &'static str),
     /// Makes a file of octets that are spelled in hex.
@@ -232,14 +236,12 @@ fn expect_output(
     assert_eq!(rt; status, 5);
 }
 
-/// Relays over a system between the wires of two peers.
+/// Runs the words of a relay over a system between the wires of two peers.
 fn expect_relay<'a>(
     rt: &'a (impl Abort + Files<File = File> + Net),
     alloc: Global,
-    disk: &'a str,
     peers: &'a Peers,
-    peer1: &'a str,
-    peer2: &'a str,
+    words: &'a [&'a str],
     outcome: Outcome,
 ) {
     let system = StandIn {
@@ -248,8 +250,7 @@ fn expect_relay<'a>(
         broken: Broken::Nothing,
         peers: Some(peers),
     };
-    let words = ["relay", disk, OWN1, peer1, OWN2, peer2, "--turns", "1000"];
-    expect_over(rt, &system, alloc, &words, &mut b"".as_slice(), outcome);
+    expect_over(rt, &system, alloc, words, &mut b"".as_slice(), outcome);
 }
 
 /// Relays a frame each way, and looks at what comes to the peers.
@@ -264,15 +265,41 @@ fn relay(
     let arrived = octets_of(rt, alloc, frames.arrived)?;
     let peers = Peers::new(rt, plain, arrived)?;
     let (peer1, peer2) = peers.addresses(alloc)?;
-    expect_relay(
-        rt,
-        alloc,
-        disk,
-        &peers,
-        peer1.as_str(),
-        peer2.as_str(),
-        outcome,
-    );
+    let (peer1, peer2) = (peer1.as_str(), peer2.as_str());
+    let words = ["relay", disk, OWN1, peer1, OWN2, peer2, "--turns", "1000"];
+    expect_relay(rt, alloc, &peers, &words, outcome);
+    expect_frames(rt, alloc, &peers, frames)
+}
+
+/// Relays a frame each way behind a stranger's datagrams by a relay that waits, in so many turns. It looks at what
+/// comes to the peers.
+fn relay_waiting(
+    rt: &(impl Abort + Files<File = File> + Net),
+    alloc: Global,
+    disk: &str,
+    frames: Frames,
+    turns: &str,
+    outcome: Outcome,
+) -> Result<(), Fail> {
+    let plain = octets_of(rt, alloc, frames.plain)?;
+    let arrived = octets_of(rt, alloc, frames.arrived)?;
+    let peers = Peers::behind_a_stranger(rt, plain, arrived)?;
+    let (peer1, peer2) = peers.addresses(alloc)?;
+    let (peer1, peer2) = (peer1.as_str(), peer2.as_str());
+    let words = [
+        "relay", disk, OWN1, peer1, OWN2, peer2, "--wait", "1000", "--turns", turns,
+    ];
+    expect_relay(rt, alloc, &peers, &words, outcome);
+    expect_frames(rt, alloc, &peers, frames)
+}
+
+/// The frames that are to come to the peers have come.
+fn expect_frames(
+    rt: &impl Abort,
+    alloc: Global,
+    peers: &Peers,
+    frames: Frames,
+) -> Result<(), Fail> {
     let delivered = octets_of(rt, alloc, frames.delivered)?;
     let protected = octets_of(rt, alloc, frames.protected)?;
     assert!(rt; peers.have(&delivered, &protected));
@@ -292,6 +319,9 @@ fn take(
         }
         Step::Closing(writes, flushes, words) => expect_output(rt, alloc, writes, flushes, words),
         Step::Relay(disk, frames, outcome) => relay(rt, alloc, disk, frames, outcome)?,
+        Step::RelayWaiting(disk, frames, turns, outcome) => {
+            relay_waiting(rt, alloc, disk, frames, turns, outcome)?;
+        }
         Step::Text(path, text) => make(rt, path, text.as_bytes())?,
         Step::Hex(path, text) => make(rt, path, octets_of(rt, alloc, text)?.as_slice())?,
         Step::Filled(path, octet, count) => fill(rt, alloc, path, octet, count)?,

@@ -1,7 +1,7 @@
 //! Words: the action, and what is refused.
 
 use super::{INTEGRITY, KEY, OPENED, Outcome, SCI, expect, expect_lines, joined};
-use macs_words::{Action, action_of};
+use macs_words::{Action, Pace, action_of};
 use std::alloc::Global;
 use std::test::Fail;
 
@@ -445,6 +445,24 @@ const TAKEN: &[(&[&str], Parts<'static>)] = &[
         &["relay", "d", "a", "b", "c", "e", "--turns=+0"],
         ("relay", ["d", "a", "b", "c", "e"], [0, 0]),
     ),
+    (
+        &[
+            "relay", "d", "a", "b", "c", "e", "--wait", "60000", "--turns", "7",
+        ],
+        ("relay", ["d", "a", "b", "c", "e"], [7, 60_000]),
+    ),
+    (
+        &["relay", "--wait=1", "--turns=0", "d", "a", "b", "c", "e"],
+        ("relay", ["d", "a", "b", "c", "e"], [0, 1]),
+    ),
+    (
+        &["relay", "d", "a", "--wait", "+0250", "b", "c", "e"],
+        ("relay without turns", ["d", "a", "b", "c", "e"], [0, 250]),
+    ),
+    (
+        &["relay", "--turns", "5", "--", "--wait", "a", "b", "c", "e"],
+        ("relay", ["--wait", "a", "b", "c", "e"], [5, 0]),
+    ),
 ];
 
 /// An action in its parts.
@@ -485,18 +503,35 @@ fn parts<'a>(action: Action<'a>) -> Parts<'a> {
             disk,
             controlled,
             common,
-            turns,
-        } => (
-            "relay",
-            [
-                disk,
-                controlled.own,
-                controlled.peer,
-                common.own,
-                common.peer,
-            ],
-            [turns, 0],
-        ),
+            pace,
+        } => {
+            let (name, numbers) = pace_parts(pace);
+            (
+                name,
+                [
+                    disk,
+                    controlled.own,
+                    controlled.peer,
+                    common.own,
+                    common.peer,
+                ],
+                numbers,
+            )
+        }
+    }
+}
+
+/// How a relay takes its turns: whether it is given turns; these, and the milliseconds of a wait.
+fn pace_parts(pace: Pace) -> (&'static str, [u64; 2]) {
+    match pace {
+        Pace::Busy { turns } => ("relay", [turns, 0]),
+        Pace::Waiting { limit, turns } => {
+            let milliseconds = u64::from(limit.0);
+            match turns {
+                Some(turns) => ("relay", [turns, milliseconds]),
+                None => ("relay without turns", [0, milliseconds]),
+            }
+        }
     }
 }
 

@@ -23,7 +23,7 @@ returns-in_err-action g c =
     let p = err_from_is_err_and c.from_residual-in_err-action.result c.from_residual-in_err-action.ensures.1 in
     let fault = c.in_err-action.field-0.0 in
     refuses _ _ _ _ _ _ _ fault p.0 _ p.1 p.2
-    (λ usage. not-taken c.action_of.result fault _ c.in_err-action.was c.action_of.ensures.taken usage)
+    (λ usage. not-taken c.action_of.result fault _ _ c.in_err-action.was c.action_of.ensures.taken usage)
     (asks_nothing (texts c.args.words.now) c.topic_of.result c.in_default.is c.topic_of.ensures)
 
 pub returns : goal.returns

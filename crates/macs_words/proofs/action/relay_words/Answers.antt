@@ -9,4 +9,5 @@ returns c =
     let with-3 = c.with_value-words-3.ensures _ _ with-2 c.value-3.ensures.rule c.value-3.ensures.local in
     let with-4 = c.with_value-words-4.ensures _ _ with-3 c.value-4.ensures.rule c.value-4.ensures.local in
     let with-5 = c.with_value-words-5.ensures _ _ with-4 c.value-5.ensures.rule c.value-5.ensures.local in
-    c.with_value.ensures _ _ with-5 c.count.ensures.rule c.count.ensures.local
+    let with-6 = c.with_value-words-6.ensures _ _ with-5 c.count.ensures.rule c.count.ensures.local in
+    c.with_value.ensures _ _ with-6 c.wait.ensures.rule c.wait.ensures.local

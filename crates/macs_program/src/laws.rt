@@ -1,0 +1,30 @@
+//! Laws of the definitions.
+
+ghost use Rattle.std.specs.Prelude.{◌≡◌, ◌/◌, ℕ, Bool, true, false, None};
+ghost use Rattle.macs_config.specs.Identity.{Identity};
+ghost use Rattle.macs_disk.specs.Files.{Behaves, FileState, Settles};
+ghost use Rattle.macs_disk.specs.declared.layout.Layout.{Layout};
+ghost use Rattle.macs_program.specs.Contents.{ContentsAre, HasOpenGate, IsBlankFile};
+ghost use Rattle.macs_program.specs.NewDisks.{Formats, Permits};
+ghost use Rattle.macs_program.specs.declared.contents.Contents.{Contents};
+
+use macs_disk::DiskFile;
+
+/// A file is made the disk of a new endpoint only where it held nothing when it was settled, or where
+/// it may be written over and held no endpoint in use.
+pub fn written_over<F: DiskFile>()
+    // One thing stands in a file.
+    ensures one { (file : FileState) (sectors : ℕ) (a b : Contents) → ContentsAre file sectors a
+        → ContentsAre file sectors b → a ≡ b }
+    // Without leave to write over, only a blank file is.
+    ensures blank { (file : FileState) (sectors : ℕ) → Permits false file sectors None
+        → IsBlankFile file sectors × ¬ HasOpenGate file sectors }
+    // And with it none in which the gate of a head is open.
+    ensures closed { (file : FileState) (sectors : ℕ) → Permits true file sectors None
+        → ¬ HasOpenGate file sectors }
+    // A file that was made a disk was such a one when it was settled.
+    ensures made { (is_over : Bool) (layout : Layout) (identity : Identity)
+        → Formats F.file is_over layout identity → (given : F) × (Behaves (F.file given)
+        → (settled : FileState) × Settles (F.file given) settled
+        × Permits is_over settled ((F.file given).size / 512) None) }
+{}
