@@ -128,7 +128,7 @@ module _ {D : Type 0} (disk_of : D → Disk) (sound : (it : D) → IsHonest (dis
       is_old = old_journal (now old).seen c standing found read_stands one
 
       -- where nothing is written the format stays, and it is the second
-      never_last : c.head.generation ≢ last_generation
+      pub never_last : c.head.generation ≢ last_generation
       never_last last =
           let quiet = opening.device.unwritten honest (none_at_last old c found last) in
           let same : (now new).seen ≡ (now old).seen = ap (λ (s : DiskState). s.seen) quiet.1 in

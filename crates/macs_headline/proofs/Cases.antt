@@ -7,7 +7,7 @@ use Rattle.macs_endpoint.specs.declared.fault.StepFault.{StepFault}
 use Rattle.macs_endpoint.specs.declared.fault.StepFault.TheVariants as step
 use Rattle.macs_endpoint.specs.declared.progress.Step.{Step as Progress}
 use Rattle.macs_endpoint.specs.declared.progress.Step.TheVariants.{Done, Worked}
-use Rattle.macs_headline.specs.Cases.{CasesAre, IsOfSmaller}
+use Rattle.macs_headline.specs.Cases.{CasesAre}
 use Rattle.macs_headline.specs.Editions.{TellsEdition}
 use Rattle.macs_headline.specs.Steps.{IsToldWhole, LeavesOpen}
 
@@ -16,7 +16,8 @@ open_ones (Advanced (Ok Worked)) leaves = inl refl
 open_ones (Advanced (Err step.Disk)) leaves = inr refl
 open_ones reply leaves = absurd leaves
 
-smaller : (reply : Reply) → TellsEdition reply → IsOfSmaller reply
+smaller : (reply : Reply) → TellsEdition reply → (reply ≡ Ran (Err (ran.Refused ChannelsFull))) ⊎ ((reply ≡ RefusedLong)
+    ⊎ ((ticket : ℕ) × ((reply ≡ Advanced (Ok (Done ticket (Err (ran.Refused ChannelsFull))))) ⊎ (reply ≡ AdvancedLong ticket))))
 smaller (Ran (Err (ran.Refused ChannelsFull))) tells = inl refl
 smaller RefusedLong tells = inr (inl refl)
 smaller (Advanced (Ok (Done ticket (Err (ran.Refused ChannelsFull))))) tells = inr (inr (ticket, inl refl))

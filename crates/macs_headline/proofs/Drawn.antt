@@ -19,8 +19,8 @@ use Rattle.macs_endpoint.specs.Step.{Exchange}
 use Rattle.macs_endpoint.specs.declared.progress.Step.TheVariants.{Done}
 use Rattle.macs_endpoint.specs.declared.queue.Waiting.{Waiting}
 use Rattle.macs_headline.specs.Begun.{MayBegin, WasBegun}
-use Rattle.macs_headline.specs.Commands.{CommandsMake, IsPrefix, WasHandedIn, accepted_commands, acknowledged_commands, failing, waiting_after, waiting_at_end, waiting_from, without_first}
-use Rattle.macs_headline.specs.Configurations.{LivesMake, StandsFor}
+use Rattle.macs_headline.specs.Commands.{IsPrefix, WasHandedIn, accepted_commands, failing, waiting_after, waiting_at_end, waiting_from, without_first}
+use Rattle.macs_headline.specs.Configurations.{LivesMake}
 use Rattle.macs_headline.specs.Deliveries.{IsOtherDelivery}
 use Rattle.macs_headline.specs.Drawn.{LifeWords, LogWords, MomentsAreExact, NumberWords}
 use Rattle.macs_headline.specs.Formats.{AreUnformatted}
@@ -86,18 +86,14 @@ module _ (sectors : ℕ) where
 
   pub log-words : LogWords sectors
   log-words = record {
-    held = λ old new is. (used_in old new is, given_in old new is);
+    held = λ old new is. (used_in old new is, given_in old new is, (is.used_since, is.used), (is.given_since, is.given));
     twice = twice;
     frame = frame_logged;
     delivery = delivery_logged;
-    written = written_logged;
-    delivered = delivered_logged;
-    answered = λ lives e logs was.
-        let life : Life = Serves was.moment.edition was.moment.image (was.moment.exchanges ++ e ∷ was.rest) was.cut in (
-          subst (λ (all : List Life). Contains all life) was.there
-              (contains-rear was.moment.lives (life ∷ was.later) life (contains-first life was.later)),
-          was.step,
-        );
+    written = λ lives logs u w. (written_logged lives logs u w, w.plain, w.out, w.answered, w.frame, w.key);
+    delivered = λ lives logs d w.
+        (delivered_logged lives logs d w, w.is_verified, w.frame, w.out, w.answered, w.delivery, w.sci, w.key, w.number);
+    answered = λ lives e logs was. (was.there, was.step, was.held, was.among);
   }
 
 -- ---- numbers
@@ -134,6 +130,7 @@ number-words = record {
   tickets = λ tickets is. in_order 0 tickets is;
   moved = moved_to;
   window = λ n is. let low = is.0 in let high = is.1 in omega (arith, low, high);
+  windows = λ window n is. is;
   seen = seen_by;
 }
 
@@ -214,19 +211,12 @@ begun exchanges last cut command is = (
   ],
 )
 
-made : (sectors : ℕ) (identity : Identity) (old new : Config) (edition : Edition) (image : Image) (exchanges : List Exchange) (cut : Option Call)
-    → LivesMake sectors identity old (Serves edition image exchanges cut ∷ []) new
-    → StandsFor sectors edition image old
-    × (in_hand : Option Command) × (kept : List Command) × IsPrefix (acknowledged_commands exchanges) kept
-    × IsPrefix kept (accepted_commands exchanges in_hand) × CommandsMake edition identity old kept new
-made sectors identity old new edition image exchanges cut (stands, kept, are, mid, makes, same) = (
-  stands,
-  are.in_hand,
-  kept,
-  are.acknowledged,
-  are.accepted,
-  subst (λ (c : Config). CommandsMake edition identity old kept c) (sym same) makes,
-)
+others : (sectors : ℕ) (identity : Identity) (old new : Config) (life : Life) (rest : List Life)
+    → ((edition : Edition) (image : Image) (exchanges : List Exchange) (cut : Option Call) → life ≢ Serves edition image exchanges cut)
+    → LivesMake sectors identity old (life ∷ rest) new → LivesMake sectors identity old rest new
+others sectors identity old new (Formats edition given is_ok) rest none makes = makes
+others sectors identity old new (Refuses edition image fault) rest none makes = makes
+others sectors identity old new (Serves edition image exchanges cut) rest none makes = absurd (none edition image exchanges cut refl)
 
 unformatted : (lives : List Life) → AreUnformatted lives → (life : Life) → Contains lives life
     → ((edition : Edition) × (identity : Identity) × (life ≡ Formats edition identity false))
@@ -241,9 +231,13 @@ life-words sectors = record {
   restarted = restarted;
   handed_in = handed_in;
   begun = begun;
-  made = made sectors;
+  made = λ identity old new edition image exchanges cut rest makes. makes;
+  made_by_none = λ identity old new makes. makes;
+  made_by_others = others sectors;
   kept = λ edition image exchanges cut kept are. (
     (are.moment, are.of_edition, are.opened, are.answered),
+    are.acknowledged,
+    subst (λ (in_hand : Option Command). IsPrefix kept (accepted_commands exchanges in_hand)) are.at_end are.accepted,
     λ command is. (sym are.at_end ∙ is, are.begun command is, are.handed_in command is),
   );
   identity = λ lives found is edition given among. is.identity edition given among;
@@ -257,4 +251,4 @@ life-words sectors = record {
 
 pub moments-are-exact : {D : Type 0} (disk_of : D → Disk) → MomentsAreExact disk_of
 moments-are-exact {D} disk_of sectors lives image turns first last at =
-    (λ i. at.after_lives i ++ Serves (at.of_edition i) (at.opened i) (at.calls i) None ∷ [], at.found)
+    (at.moment, refl, λ i. at.after_lives i ++ Serves (at.of_edition i) (at.opened i) (at.calls i) None ∷ [], at.found)

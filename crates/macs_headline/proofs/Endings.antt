@@ -4,11 +4,21 @@ use Rattle.macs_disk.specs.Disk.{Disk, IsDeviceCall, IsHonest, now}
 use Rattle.macs_disk.specs.States.{DiskState, Image, IsImage, IsSector, IsSound}
 use Rattle.macs_disk.specs.declared.disk.DeviceFault.{DeviceFault}
 use Rattle.macs_headline.specs.Deeds.{IsPassedOn}
-use Rattle.macs_headline.specs.Endings.{DroppedPassOn, EndsAreEarlier, ImagesAreWhole, KillingsPassOn, LossesSettle, PassedOnAgain, PowerLossesPassOn, ReadsPassOn, SyncsPassOn, TheseAreAlike, WritesBackAsSyncs, WrittenBackPassOn, state_written_back}
+use Rattle.macs_headline.specs.Endings.{DroppedPassOn, EndsAreEarlier, ImagesAreWhole, KillingsPassOn, LossesSettle, PassedOnAgain, PowerLossesPassOn, ReadsPassOn, SyncsPassOn, TheseAreAlike, TheseArePassedOn, WritesBackAsSyncs, WrittenBackPassOn, state_written_back}
 use Rattle.macs_headline.proofs.Losses.{settled-passed}
 
 pub these-are-alike : TheseAreAlike
 these-are-alike old new sectors honest = record { sectors = sectors; honest = honest }
+
+pub these-are-passed-on : TheseArePassedOn
+these-are-passed-on ran new since moment from to alike images = record {
+  moment = moment;
+  later = from;
+  within = to;
+  sectors = alike.sectors;
+  honest = alike.honest;
+  images = images;
+}
 
 pub power-losses-pass-on : PowerLossesPassOn
 power-losses-pass-on old new since lost = settled-passed old new since lost.image lost.left lost.alike.sectors lost.alike.honest lost.settled

@@ -23,7 +23,7 @@ use Rattle.macs_headline.proofs.Chains.{exchanges-on}
 use Rattle.macs_headline.proofs.Lists.{contains-cases, contains-front, contains-none, contains-rear}
 
 -- a journal that an edition cannot begin anew
-at_last : (edition : Edition) (image : Image) (c : Content) (s : Standing) → HasJournal image c → meaning_of edition c ≡ Some s → c.head.format ≡ One
+pub at_last : (edition : Edition) (image : Image) (c : Content) (s : Standing) → HasJournal image c → meaning_of edition c ≡ Some s → c.head.format ≡ One
     → edition.format_two ≡ true → c.head.generation ≡ last_generation → IsAtLast edition image
 at_last edition image c s found stands one two last = record {
   content = c;

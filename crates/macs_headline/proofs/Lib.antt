@@ -70,8 +70,13 @@ pub mod Drawn
 pub mod Beyond
 pub mod Spending
 pub mod Reserved
+pub mod Working
 pub mod Tickets
 pub mod Waits
+mod Turns
+mod EndpointWords
+mod FrameWords
+mod QueueWords
 pub mod RefusedDays
 pub mod ServedDays
 pub mod Ours

@@ -18,20 +18,20 @@ use Rattle.macs_headline.specs.History.{Blank, FitsPast, Formats, Formatted, Lea
 use Rattle.macs_headline.specs.Openings.{AreAsBefore, IsSpentFor, NothingChanges, RefusedForDiskOrBlank, RefusedForDiskOrSpent, SpentAreLast}
 use Rattle.macs_headline.proofs.Histories.{found-or-refused}
 
-same_fault : (a b : JournalFault) → ◌≡◌ {A = Result Standing JournalFault} (Err a) (Err b) → a ≡ b
-same_fault a b is = cc
+pub same-fault : (a b : JournalFault) → ◌≡◌ {A = Result Standing JournalFault} (Err a) (Err b) → a ≡ b
+same-fault a b is = cc
 
 -- ---- a last generation
 
 -- the formats that an edition does not keep
-old_format : (edition : Edition) (format : Format) → migrates edition format ≡ true → (format ≡ One) × (edition.format_two ≡ true)
-old_format edition One is = (refl, is)
-old_format edition Two is = absurd (false≢true is)
+pub old-format : (edition : Edition) (format : Format) → migrates edition format ≡ true → (format ≡ One) × (edition.format_two ≡ true)
+old-format edition One is = (refl, is)
+old-format edition Two is = absurd (false≢true is)
 
 pub spent-are-last : SpentAreLast
 spent-are-last edition image fault spent =
     let at = spent.1 in
-    let old = old_format edition at.content.head.format at.is.old in
+    let old = old-format edition at.content.head.format at.is.old in
     (spent.0, at.content, at.is.found, old.0, old.1, at.last)
 
 -- ---- refused openings
@@ -48,7 +48,7 @@ module _ (sectors : ℕ) where
       → StandingIs edition sectors image (Err NotFormatted) → (fault ≡ NotFormatted) ⊎ IsSpentFor edition image fault
   where_blank edition image GenerationsSpent is there = inr (refl, is.1)
   where_blank edition image fault is there =
-      inl (same_fault fault NotFormatted (one_standing edition sectors image (Err fault) (Err NotFormatted) is there))
+      inl (same-fault fault NotFormatted (one_standing edition sectors image (Err fault) (Err NotFormatted) is there))
 
   for_disk : (edition : Edition) (image : Image) (s : State) (fault : JournalFault) → Fits edition sectors image s
       → (fault ≡ Disk) ⊎ IsUnfitTo edition sectors image fault → (fault ≡ Disk) ⊎ IsSpentFor edition image fault

@@ -124,4 +124,12 @@ refusals-are-exact sectors s m call reply new step = by_step s call reply new st
 -- ---- limits
 
 pub limits-are : LimitsAre
-limits-are = record { first_one = (refl, refl, refl); this_one = (refl, refl, refl); queue = refl; tickets = refl; spent = refl; generations = refl }
+limits-are = record {
+  first_one = (refl, refl, refl);
+  this_one = (refl, refl, refl);
+  queue = refl;
+  tickets = refl;
+  spent = refl;
+  generations = refl;
+  blocks = λ n. (λ is. is, λ is. is);
+}

@@ -138,6 +138,8 @@ call-words = record {
   comes_in = comes_in;
   seen = λ numbers sci an pn n there is. (n, there, is);
   may_begin = may_begin;
+  faultless = λ s new plain out pn is. is;
+  no_number = λ s plain is. is;
 }
 
 -- ---- replies

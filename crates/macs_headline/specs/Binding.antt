@@ -13,7 +13,7 @@ use Rattle.macs_journal.specs.Rewriting.{IsSettled}
 use Rattle.macs_journal.specs.declared.fault.JournalFault.{JournalFault}
 use Rattle.macs_journal.specs.declared.fault.JournalFault.TheVariants.{Disk as DiskFault, NotFormatted}
 use Rattle.macs_journal.specs.declared.recovery.RecoverRefused.{RecoverRefused}
-use Rattle.macs_store.specs.Found.{StandingIs, StandsFor}
+use Rattle.macs_store.specs.Found.{IsUnfitTo, StandingIs, StandsFor}
 use Rattle.macs_store.specs.Snapshot.{snapshot}
 use Rattle.macs_store.specs.Standing.{Standing}
 use Rattle.macs_store.specs.Value.{IsIdle, generation, standing_in, used_slots}
@@ -367,6 +367,15 @@ RefusalsAreFailures {D} disk_of = (disk : D) (before : List Life) (refused : Rec
     ⊎ (((refused.fault ≡ NotFormatted) × ((edition : Edition) (identity : Identity) → ¬ Contains before (Formats edition identity true))
     × ((edition : Edition) (image : Image) (exchanges : List Exchange) (cut : Option Call) → ¬ Contains before (Serves edition image exchanges cut)))
     ⊎ IsSpentFor this_edition (now (disk_of disk)).seen refused.fault)
+
+-- What an honest disk is refused for is the one reason that holds of what reads give there, but for a device call that failed; and one that is opened has none.
+pub record RefusalsAreOne {D : Type 0} (disk_of : D → Disk) : Type 0 where
+  pub refused : (disk : D) (refused : RecoverRefused D) → IsHonest (disk_of disk) → IsOpening disk_of disk (Err refused) → refused.fault ≢ DiskFault
+      → IsUnfitTo this_edition (disk_of disk).sectors (now (disk_of disk)).seen refused.fault
+  pub one : (disk : D) (refused : RecoverRefused D) (fault : JournalFault) → IsHonest (disk_of disk) → IsOpening disk_of disk (Err refused)
+      → refused.fault ≢ DiskFault → IsUnfitTo this_edition (disk_of disk).sectors (now (disk_of disk)).seen fault → refused.fault ≡ fault
+  pub opened : (disk : D) (first : EndpointValue D) (fault : JournalFault) → IsHonest (disk_of disk) → IsOpening disk_of disk (Ok first)
+      → ¬ IsUnfitTo this_edition (disk_of disk).sectors (now (disk_of disk)).seen fault
 
 -- ---- what an opening makes of a journal
 

@@ -24,11 +24,6 @@ use Rattle.macs_headline.specs.Moments.{WasGiven, WasUsed}
 use Rattle.macs_headline.specs.Moving.{IsFrameCall, state_but_numbers}
 use Rattle.macs_headline.specs.Steps.{IsToldWhole, LeavesOpen, state_but_hand}
 
--- an answer that only an edition gives which takes less: of a command, or of one that waited
-abbrev pub IsOfSmaller : Reply → Type 0
-IsOfSmaller reply = (reply ≡ Ran (Err (ran.Refused ChannelsFull))) ⊎ ((reply ≡ RefusedLong)
-    ⊎ ((ticket : ℕ) × ((reply ≡ Advanced (Ok (Done ticket (Err (ran.Refused ChannelsFull))))) ⊎ (reply ≡ AdvancedLong ticket))))
-
 -- A plain frame and a received one are handed in by frame calls. Only `Worked` and `Disk` of a step leave open what is in hand; a larger edition may answer
 -- otherwise only where ChannelsFull or LongKey was; and GenerationsSpent is told of a command, a refill, a step, and a command that waited. What `IsExact`
 -- says of each answer is all of it, but of Ok, of `Stopped`, and of received frames; so of a refusal as LongKey. Each entry of the two lists was used, or
@@ -38,7 +33,8 @@ pub record CasesAre : Type 0 where
   pub sent : (plain : List ℕ) → IsFrameCall (Protects plain)
   pub received : (frame : List ℕ) → IsFrameCall (Receives frame)
   pub open_ones : (reply : Reply) → LeavesOpen reply → (reply ≡ Advanced (Ok Worked)) ⊎ (reply ≡ Advanced (Err step.Disk))
-  pub smaller : (reply : Reply) → TellsEdition reply → IsOfSmaller reply
+  pub smaller : (reply : Reply) → TellsEdition reply → (reply ≡ Ran (Err (ran.Refused ChannelsFull))) ⊎ ((reply ≡ RefusedLong)
+      ⊎ ((ticket : ℕ) × ((reply ≡ Advanced (Ok (Done ticket (Err (ran.Refused ChannelsFull))))) ⊎ (reply ≡ AdvancedLong ticket))))
   pub spent_command : TellsSpent (Ran (Err ran.GenerationsSpent))
   pub spent_refill : TellsSpent (Refilled (Err refill.GenerationsSpent))
   pub spent_step : TellsSpent (Advanced (Err step.GenerationsSpent))

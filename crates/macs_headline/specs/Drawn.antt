@@ -1,5 +1,5 @@
 -- The headline on words that stand in what its clauses conclude: what is to be drawn from each of them.
-use Rattle.std.specs.Prelude.{◌≡◌, ◌≢◌, ◌⊎◌, ◌↔◌, ◌++◌, ◌-◌, ◌^◌, ℕ, true, false, List, [], ◌∷◌, length, map, Contains, Option, Some, None, Ok}
+use Rattle.std.specs.Prelude.{◌≡◌, ◌≢◌, ◌⊎◌, ◌↔◌, ◌≤◌, ◌+◌, ◌++◌, ◌-◌, ◌^◌, ℕ, true, false, List, [], ◌∷◌, length, map, Contains, Option, Some, None, Ok}
 use Rattle.std.specs.List.{range_with_len}
 use Rattle.macs_config.specs.Config.{Config, Edition, this_edition}
 use Rattle.macs_config.specs.Identity.{Identity}
@@ -18,15 +18,15 @@ use Rattle.macs_endpoint.specs.Lives.{Transition, exchange_of}
 use Rattle.macs_endpoint.specs.Restart.{Restart}
 use Rattle.macs_endpoint.specs.State.{Call, Commands, Delivery, Logs, Receives, State, Submits, Submitted, Use, rx_side, tx_side}
 use Rattle.macs_endpoint.specs.Step.{Exchange, Step}
-use Rattle.macs_endpoint.specs.Value.{EndpointValue}
-use Rattle.macs_headline.specs.Answered.{WasAnswered, lives_at}
+use Rattle.macs_endpoint.specs.Value.{EndpointValue, state_of}
+use Rattle.macs_headline.specs.Answered.{WasAnswered, exchanges_of_lives, lives_at}
 use Rattle.macs_headline.specs.Begun.{MayBegin, WasBegun}
 use Rattle.macs_headline.specs.Binding.{IsAtMoment}
 use Rattle.macs_headline.specs.Commands.{CommandsMake, IsPrefix, WasHandedIn, accepted_commands, acknowledged_commands, failing, waiting_at_end}
 use Rattle.macs_headline.specs.Configurations.{AreKept, IsMadeByLives, LivesMake}
-use Rattle.macs_headline.specs.Deliveries.{IsOtherDelivery}
+use Rattle.macs_headline.specs.Deliveries.{IsOtherDelivery, IsVerifiedDelivery, IsVerifiedKind, delivering}
 use Rattle.macs_headline.specs.Formats.{AreUnformatted}
-use Rattle.macs_headline.specs.Frames.{IsOtherFrame}
+use Rattle.macs_headline.specs.Frames.{IsOtherFrame, IsStandardFrame, writing}
 use Rattle.macs_headline.specs.History.{FitsPast, Formats, Life, Past, Refuses, Serves, logs_of, state_at_end}
 use Rattle.macs_headline.specs.Logged.{WasDelivered, WasWritten}
 use Rattle.macs_headline.specs.Moments.{Moment}
@@ -37,12 +37,15 @@ use Rattle.macs_headline.specs.Refused.{refusal_at}
 use Rattle.macs_headline.specs.Tickets.{AreInOrder}
 use Rattle.macs_headline.specs.Windows.{IsWithinWindow}
 
--- Logs that are held in later ones: each entry is there. Where none comes twice, no place of a list has what another one has. A frame that was written, and one
--- that was delivered as verified, whatever is said of its key and number beside that, is in the logs, with its key and its number, and its kind; and so is one
--- that an entry of the logs stands for. An answer is one of a life of these, after the answers before it, and was a step of the endpoint then.
+-- Logs that are held in later ones: these are what came since, and then they, in their order, so that each entry is there. Where none comes twice, no place of
+-- a list has what another one has. A frame that was written, and one that was delivered as verified, whatever is said of its key and number beside that, is in
+-- the logs, with its key and its number, and its kind; and so is one that an entry of the logs stands for, which is an answer of these lives: the standard's
+-- frame at that moment, or one that verified then, under that key and SCI and with that number. An answer is one of a life of these, after the lives and the
+-- answers before it, and was a step of the endpoint then; what was used and delivered by then is held.
 pub record LogWords (sectors : ℕ) : Type 0 where
   pub held : (old new : Logs) → AreHeldIn old new → ((u : Use) → Contains old.used u → Contains new.used u)
       × ((d : Delivery) → Contains old.given d → Contains new.given d)
+      × ((since : List Use) × (since ++ old.used ≡ new.used)) × ((since : List Delivery) × (since ++ old.given ≡ new.given))
   pub twice : (front between behind : List Use) (u : Use) → ¬ HasNoneTwice (front ++ u ∷ (between ++ u ∷ behind))
   pub frame : (lives : List Life) (logs : Logs) (plain out key : List ℕ) (pn number : ℕ) (o : IsOtherFrame sectors lives logs plain pn out key number)
       → Contains logs.used (record { key = o.frame.sa.key; pn = pn })
@@ -50,24 +53,31 @@ pub record LogWords (sectors : ℕ) : Type 0 where
       (o : IsOtherDelivery sectors lives logs frame kind out sci key pn)
       → Contains logs.given (record { sci = o.delivery.sci; key = o.delivery.sa.key; pn = (tag_of frame).pn; kind = kind })
   pub written : (lives : List Life) (logs : Logs) (u : Use) → WasWritten sectors lives logs u → Contains logs.used u
+      × (plain : List ℕ) × (out : List ℕ) × (was : WasAnswered sectors lives (writing plain u.pn out) logs)
+      × (f : IsStandardFrame was.at plain u.pn out was.after) × (f.sa.key ≡ u.key)
   pub delivered : (lives : List Life) (logs : Logs) (d : Delivery) → WasDelivered sectors lives logs d → Contains logs.given d
+      × IsVerifiedKind d.kind × (frame : List ℕ) × (out : List ℕ) × (was : WasAnswered sectors lives (delivering frame d.kind out) logs)
+      × (v : IsVerifiedDelivery was.at frame d.kind out was.after) × (v.sci ≡ d.sci) × (v.sa.key ≡ d.key) × ((tag_of frame).pn ≡ d.pn)
   pub answered : (lives : List Life) (e : Exchange) (logs : Logs) (was : WasAnswered sectors lives e logs)
-      → Contains lives (Serves was.moment.edition was.moment.image (was.moment.exchanges ++ e ∷ was.rest) was.cut) × Step was.at e.call e.reply was.after
+      → (was.moment.lives ++ Serves was.moment.edition was.moment.image (was.moment.exchanges ++ e ∷ was.rest) was.cut ∷ was.later ≡ lives)
+      × Step was.at e.call e.reply was.after × AreHeldIn was.after.logs logs × Contains (exchanges_of_lives lives) e
 
--- Tickets in order are 1, 2, and so on. A restart makes one number of next and lowest. Within a window of 0 the lowest acceptable number is the next one. A
--- number that was seen is that of a frame which the call was given, and which is not one that does not verify.
+-- Tickets in order are 1, 2, and so on. A restart makes one number of next and lowest. Within a window the lowest acceptable number is not above the next one,
+-- and no further below it than the window is wide; within one of 0 it is the next one. A number that was seen is that of a frame which the call was given, and
+-- which is not one that does not verify.
 pub record NumberWords : Type 0 where
   pub tickets : (tickets : List ℕ) → AreInOrder 0 tickets → tickets ≡ range_with_len 1 (length tickets)
   pub moved : (block : ℕ) (old new : Numbers) → IsMoved block old new → new ≡ record { next = new.next; lowest = new.next; seen = None }
   pub window : (n : Numbers) → IsWithinWindow 0 n → n.lowest ≡ n.next
+  pub windows : (window : ℕ) (n : Numbers) → IsWithinWindow window n → (n.lowest ≤ n.next) × (n.next ≤ n.lowest + window)
   pub seen : (s : State) (call : Call) (sci : List ℕ) (an pn : ℕ) → IsSeenBy s call sci an pn
       → (frame : List ℕ) × (call ≡ Receives frame) × (channel_of (rx_side s) frame ≡ Some sci) × ((tag_of frame).an ≡ an) × ((tag_of frame).pn ≡ pn)
       × (¬ RxStepHolds (rx_side s) frame NotVerified)
 
 -- A restart begins with the logs as they were, runs, and has nothing in hand, no command that waits and no ticket given. What is in hand was given to a call of
--- its life, and is accepted. Of each life in which an endpoint served, the commands that make the next configuration are a prefix of those that were accepted
--- which holds every acknowledged one, and it opened what stands for the one before; the one in hand is that at the end of such a life, with these answers, was
--- begun and was given to a call of it. Lives that left a disk unformatted are formats that did not answer Ok, and openings that were refused. A past that is as
+-- its life, and is accepted. Of each life in which an endpoint served, first or later, the commands that are kept make the next configuration, from which the
+-- other lives go on, and it opened what stands for the one before; no other life makes anything. Those commands are a prefix of those that were accepted which
+-- holds every acknowledged one; the one in hand is that at the end of such a life, with these answers, was begun and was given to a call of it. Lives that left a disk unformatted are formats that did not answer Ok, and openings that were refused. A past that is as
 -- before admits the same images, either way, and has the same logs. A journal that is to begin anew is not in generation 2^64 - 1. What the two sides of an
 -- endpoint have is its configuration, with its numbers.
 pub record LifeWords (sectors : ℕ) : Type 0 where
@@ -78,14 +88,19 @@ pub record LifeWords (sectors : ℕ) : Type 0 where
       ⊎ (Contains exchanges (failing command) ⊎ (cut ≡ Some (Commands command)))
   pub begun : (exchanges : List Exchange) (last : State) (cut : Option Call) (command : Command) → WasBegun exchanges last cut command
       → (refusal_at last command ≡ None) × (last.in_hand ≢ Some command → (last.stopped ≡ false) × MayBegin cut (waiting_at_end exchanges) command)
-  pub made : (identity : Identity) (old new : Config) (edition : Edition) (image : Image) (exchanges : List Exchange) (cut : Option Call)
-      → LivesMake sectors identity old (Serves edition image exchanges cut ∷ []) new
+  pub made : (identity : Identity) (old new : Config) (edition : Edition) (image : Image) (exchanges : List Exchange) (cut : Option Call) (rest : List Life)
+      → LivesMake sectors identity old (Serves edition image exchanges cut ∷ rest) new
       → ((found : Standing) × StandingIs edition sectors image (Ok found) × (found.config ≡ old))
-      × (in_hand : Option Command) × (kept : List Command) × IsPrefix (acknowledged_commands exchanges) kept
-      × IsPrefix kept (accepted_commands exchanges in_hand) × CommandsMake edition identity old kept new
+      × (kept : List Command) × AreKept sectors edition image exchanges cut kept
+      × (mid : Config) × CommandsMake edition identity old kept mid × LivesMake sectors identity mid rest new
+  pub made_by_none : (identity : Identity) (old new : Config) → LivesMake sectors identity old [] new → new ≡ old
+  pub made_by_others : (identity : Identity) (old new : Config) (life : Life) (rest : List Life)
+      → ((edition : Edition) (image : Image) (exchanges : List Exchange) (cut : Option Call) → life ≢ Serves edition image exchanges cut)
+      → LivesMake sectors identity old (life ∷ rest) new → LivesMake sectors identity old rest new
   pub kept : (edition : Edition) (image : Image) (exchanges : List Exchange) (cut : Option Call) (kept : List Command)
       (are : AreKept sectors edition image exchanges cut kept)
       → ((m : Moment sectors are.last) × (m.edition ≡ edition) × (m.image ≡ image) × (m.exchanges ≡ exchanges))
+      × IsPrefix (acknowledged_commands exchanges) kept × IsPrefix kept (accepted_commands exchanges (state_at_end are.last cut).in_hand)
       × ((command : Command) → are.in_hand ≡ Some command
       → ((state_at_end are.last cut).in_hand ≡ Some command) × WasBegun exchanges are.last cut command × WasHandedIn exchanges cut command)
   pub identity : (lives : List Life) (found : Standing) → IsMadeByLives sectors lives found → (edition : Edition) (given : Identity)
@@ -100,9 +115,10 @@ pub record LifeWords (sectors : ℕ) : Type 0 where
       → (tx_side s ≡ record { sci = s.identity.sci; mode = s.config.mode; encoding = s.config.encoding; tx = s.config.tx; next = s.next })
       × (rx_side s ≡ record { validate = s.config.validate; replay = s.config.replay; channels = s.config.channels; rx = s.config.rx; numbers = s.numbers })
 
--- An endpoint that is at a moment of a history, after these lives and these calls of its own: the lives up to that moment are those, and then its own with
--- those calls, and it found what it opened.
+-- An endpoint that is at a moment of a history, after these lives and these calls of its own: the moment is one of its state, the lives up to it are those, and
+-- then its own with those calls, and it found what it opened.
 abbrev pub MomentsAreExact : {D : Type 0} → (D → Disk) → Type 0
 MomentsAreExact {D} disk_of = (sectors : ℕ) (lives : List Life) (image : Image) (turns : List (Transition D)) (first last : EndpointValue D)
     (at : IsAtMoment sectors lives image turns first last)
-    → (lives_at at.moment ≡ lives ++ Serves this_edition image (map exchange_of turns) None ∷ []) × (at.moment.life.found ≡ standing_in first.store)
+    → (m : Moment sectors (state_of last at.logs)) × (lives_at m ≡ lives_at at.moment)
+    × (lives_at m ≡ lives ++ Serves this_edition image (map exchange_of turns) None ∷ []) × (m.life.found ≡ standing_in first.store)

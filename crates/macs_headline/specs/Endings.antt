@@ -1,6 +1,6 @@
 -- The ways in which a program may end, each of which passes the medium of its disk on.
 use Rattle.std.specs.Prelude.{◌≡◌, ◌≤◌, ◌<◌, ◌^◌, ◌&&◌, not, if◌then◌else◌, ℕ, Bool, true, false, List, length, get_or, Result}
-use Rattle.macs_disk.specs.Disk.{Disk, IsDeviceCall, IsHonest, LeftSince, Reads, Syncs, Works, now}
+use Rattle.macs_disk.specs.Disk.{Disk, IsDeviceCall, IsHonest, LeftSince, MayLeave, Reads, Syncs, Works, now}
 use Rattle.macs_disk.specs.States.{DiskState, Image, IsImage, settled_state}
 use Rattle.macs_disk.specs.declared.disk.DeviceFault.{DeviceFault}
 use Rattle.macs_headline.specs.Deeds.{IsPassedOn}
@@ -13,6 +13,11 @@ pub record IsAlike (old new : Disk) : Type 0 where
 -- so is each disk of the same size and honesty, whatever is pending on it
 abbrev pub TheseAreAlike : Type 0
 TheseAreAlike = (old new : Disk) → new.sectors ≡ old.sectors → new.honest ≡ old.honest → IsAlike old new
+
+-- A medium is passed on to each such disk of which each image that it may leave is one of a moment since.
+abbrev pub TheseArePassedOn : Type 0
+TheseArePassedOn = (ran new : Disk) (since moment : ℕ) → since ≤ moment → moment ≤ ran.clock → IsAlike ran new
+    → ((image : Image) → MayLeave new image → IsImage (ran.past moment) image) → IsPassedOn ran since new
 
 -- The power goes at some moment of calls that began at `since` and would have led to `ran`: the disk holds one of the images of that moment,
 -- and nothing is pending.

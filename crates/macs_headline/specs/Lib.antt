@@ -17,6 +17,8 @@ pub mod Editions
 pub mod Changing
 pub mod Refused
 pub mod Waits
+pub mod Turns
+pub mod EndpointWords
 pub mod Reasons
 pub mod Begun
 pub mod Stopping
@@ -31,10 +33,13 @@ pub mod Binding
 pub mod DeedLives
 pub mod OpeningWords
 pub mod Reserved
+pub mod Working
 pub mod Drawn
 pub mod Cases
 pub mod Words
 pub mod One
+pub mod FrameWords
+pub mod QueueWords
 pub mod Beyond
 pub mod Days
 pub mod Nights

@@ -1,8 +1,9 @@
 -- The headline on calls that are refused: for the first reason that holds, and for none that does not.
-use Rattle.std.specs.Prelude.{◌≡◌, ◌≢◌, ◌⊎◌, ◌<◌, ◌≤◌, ◌+◌, ◌-◌, ◌^◌, ℕ, true, false, List, [], ◌∷◌, length, slice_range, take, Option, Some, None, Ok, Err}
+use Rattle.std.specs.Prelude.{◌≡◌, ◌≢◌, ◌⊎◌, ◌↔◌, ◌<◌, ◌≤◌, ◌+◌, ◌-◌, ◌^◌, ℕ, true, false, List, [], ◌∷◌, length, slice_range, take, Option, Some, None, Ok, Err}
 use Rattle.macs_fields.specs.First.{IsFirst, first}
 use Rattle.macs_config.specs.Apply.{LongKey, Named, Reason, refusal_of}
 use Rattle.macs_config.specs.Config.{first_edition, max_spent, this_edition}
+use Rattle.macs_config.specs.Identity.{IsBlock}
 use Rattle.macs_config.specs.declared.command.Command.{Command}
 use Rattle.macs_config.specs.declared.command.SciMode.{SciMode}
 use Rattle.macs_config.specs.declared.command.SciMode.TheVariants.{EndStation, Explicit, Implicit}
@@ -122,7 +123,7 @@ RefusalsAreExact sectors = (s : State) → Moment sectors s → (call : Call) (r
 
 -- The numbers by which other clauses say how many commands may wait, how many tickets a life has, how many spent keys a side, and up to which generation a
 -- journal begins anew: 16, 2^64 - 1, 512 and 2^64 - 1 (`CommandsWait`, `IsReasonOf`, `IsAtLast`). The first edition takes 8
--- receive channels, no long keys and no areas of format two; this one takes 32, and both.
+-- receive channels, no long keys and no areas of format two; this one takes 32, and both. A block, of which a ceiling is ahead, has 1 to 65,536 packet numbers.
 pub record LimitsAre : Type 0 where
   pub first_one : (first_edition.channels ≡ 8) × (first_edition.long_keys ≡ false) × (first_edition.format_two ≡ false)
   pub this_one : (this_edition.channels ≡ 32) × (this_edition.long_keys ≡ true) × (this_edition.format_two ≡ true)
@@ -130,3 +131,4 @@ pub record LimitsAre : Type 0 where
   pub tickets : last_ticket ≡ 2 ^ 64 - 1
   pub spent : max_spent ≡ 512
   pub generations : last_generation ≡ 2 ^ 64 - 1
+  pub blocks : (n : ℕ) → IsBlock n ↔ ((1 ≤ n) × (n ≤ 65536))

@@ -1,5 +1,5 @@
 -- The headline on words of its own clauses that say what may be, what a clause leaves open, or one side of an 'or': they say this and no more.
-use Rattle.std.specs.Prelude.{◌≡◌, ◌⊎◌, ◌<◌, ◌+◌, ◌^◌, false, ℕ, Bool, List, [], Option, Some, Result, Ok}
+use Rattle.std.specs.Prelude.{◌≡◌, ◌⊎◌, ◌<◌, ◌+◌, ◌^◌, false, ℕ, Bool, List, [], Option, Some, None, Result, Ok}
 use Rattle.macs_aes.specs.declared.keys.Key.{Key}
 use Rattle.macs_frame.specs.Tag.{tag_of}
 use Rattle.macs_config.specs.Apply.{apply}
@@ -15,6 +15,7 @@ use Rattle.macs_journal.specs.Found.{Content}
 use Rattle.macs_rxsc.specs.Receive.{Numbers, RxSide, RxStep, channel_of}
 use Rattle.macs_rxsc.specs.declared.verdict.Verdict.{Verdict}
 use Rattle.macs_store.specs.Standing.{Standing, accept, ceilings_after, new_standing}
+use Rattle.macs_txsc.specs.declared.fault.TxFault.TheVariants.{NoNumber}
 use Rattle.macs_endpoint.specs.Calls.{IsInRange}
 use Rattle.macs_endpoint.specs.Queue.{first_command}
 use Rattle.macs_endpoint.specs.Restart.{opened_state}
@@ -34,6 +35,7 @@ use Rattle.macs_headline.specs.Editions.{content_in, with_edition}
 use Rattle.macs_headline.specs.History.{formatted_state}
 use Rattle.macs_headline.specs.Moving.{ComesInUnder, GoesOutUnder, SetsNext, SetsNumbers}
 use Rattle.macs_headline.specs.Received.{IsVerdictOf, WasSeen}
+use Rattle.macs_headline.specs.Refused.{IsExact, IsFaultOf, fault_at}
 use Rattle.macs_headline.specs.Steps.{IsReplyOf}
 
 -- A state of a program of another edition is of that one, and the same but for it; and a content in another format is in that one, and the same but for it.
@@ -71,7 +73,8 @@ pub record CommandWords : Type 0 where
 
 -- A frame goes out under an association where `protect` answered its number, and it is the one in use; one comes in under an association where `receive` was
 -- given a frame that names it, by channel and AN, of an endpoint that runs. A number was seen where it stands as the greatest that was. Work on a command may
--- begin in a step, on the first that waits, and in `command`, on its own, where none waits.
+-- begin in a step, on the first that waits, and in `command`, on its own, where none waits. A plain frame that goes out has no fault; and one that has none but
+-- that there is no number, is under an association in use with a next number.
 pub record CallWords : Type 0 where
   pub goes_out : (s : State) (call : Call) (reply : Reply) (an : ℕ) → GoesOutUnder s call reply an
       → (plain : List ℕ) × (out : List ℕ) × (pn : ℕ) × (call ≡ Protects plain) × (reply ≡ Protected (Ok pn) out) × (s.config.encoding ≡ Some an)
@@ -82,6 +85,9 @@ pub record CallWords : Type 0 where
       → WasSeen numbers sci an pn
   pub may_begin : (cut : Option Call) (waiting : List Waiting) (command : Command) → MayBegin cut waiting command
       → ((cut ≡ Some Advances) × (first_command waiting ≡ Some command)) ⊎ ((cut ≡ Some (Commands command)) × (waiting ≡ []))
+  pub faultless : (s new : State) (plain out : List ℕ) (pn : ℕ) → IsExact s (Protects plain) (Protected (Ok pn) out) new → fault_at s plain ≡ None
+  pub no_number : (s : State) (plain : List ℕ) → IsFaultOf s plain NoNumber
+      → (an : ℕ) × (pn : ℕ) × (s.config.encoding ≡ Some an) × (s.next an ≡ Some pn) × (pn < 2 ^ 32)
 
 -- A reply is of one function: of `command`, of `refill`, of `submit`, of `step`, of `protect` or of `receive`.
 pub record ReplyWords : Type 0 where

@@ -17,7 +17,7 @@ ghost use Rattle.macs_headline.specs.Answered.{AnswersAreHeld, MomentsAreHistori
 ghost use Rattle.macs_headline.specs.Binding.{CallsAreDeeds, ChainsAnswer, ChainsKeepSizes, ChainsTell, CutDeliveriesAreBelow, CutFramesAreBelow};
 ghost use Rattle.macs_headline.specs.Binding.{DeedsAreHistories, EndsAreCuts, FittingHaveHistories};
 ghost use Rattle.macs_headline.specs.Binding.{FaultsAreFailures, FramesAreDeliveredOnce, FramesAreWrittenOnce};
-ghost use Rattle.macs_headline.specs.Binding.{FusesChangeNone, IdleFindsNoWork, IsNewDisk, LargerFind, LargerGoOn};
+ghost use Rattle.macs_headline.specs.Binding.{FusesChangeNone, IdleFindsNoWork, IsNewDisk, LargerFind, LargerGoOn, RefusalsAreOne};
 ghost use Rattle.macs_headline.specs.Binding.{LivesAreMoments, LivesFit, LivesFitUnbegun, LivesKeepCommands};
 ghost use Rattle.macs_headline.specs.Binding.{LivesAreDeeds, LivesEndExactly, LivesKeepTickets, TheseAreNew};
 ghost use Rattle.macs_headline.specs.Binding.{NewDeedsAreHistories, OpeningsBeginAnew};
@@ -32,12 +32,17 @@ ghost use Rattle.macs_headline.specs.DeedLives.{DeedsMakeLives};
 ghost use Rattle.macs_headline.specs.Deliveries.{DeliveredBelow, DeliveriesAreVerified, GivenOnce, NeverOkAgain, OthersAreBare};
 ghost use Rattle.macs_headline.specs.Editions.{EditionsAlike, EditionsRead, EditionsTake, TheseAreLarger};
 ghost use Rattle.macs_headline.specs.Drawn.{LifeWords, LogWords, MomentsAreExact, NumberWords};
+ghost use Rattle.macs_headline.specs.EndpointWords.{CallsAreCounted, CeilingsAreRaised};
+ghost use Rattle.macs_headline.specs.EndpointWords.{OpeningsCount, ServedWords};
 ghost use Rattle.macs_headline.specs.Endings.{DroppedPassOn, EndsAreEarlier, ImagesAreWhole, KillingsPassOn, LosesPower, LossesSettle};
 ghost use Rattle.macs_headline.specs.Endings.{PassedOnAgain, PowerLossesPassOn};
-ghost use Rattle.macs_headline.specs.Endings.{ReadsPassOn, SyncsPassOn, TheseAreAlike, WritesBackAsSyncs, WrittenBackPassOn};
+ghost use Rattle.macs_headline.specs.Endings.{ReadsPassOn, SyncsPassOn, TheseAreAlike, TheseArePassedOn};
+ghost use Rattle.macs_headline.specs.Endings.{WritesBackAsSyncs, WrittenBackPassOn};
 ghost use Rattle.macs_headline.specs.ExampleLives.{IsWorkedHistory};
 ghost use Rattle.macs_headline.specs.ExampleMigration.{IsWorkedMigration};
 ghost use Rattle.macs_headline.specs.Fitting.{RestartsFit};
+ghost use Rattle.macs_headline.specs.FrameWords.{FrameWords};
+ghost use Rattle.macs_headline.specs.QueueWords.{QueueWords};
 ghost use Rattle.macs_headline.specs.Formats.{FormatsOnce, RefusedByHistory};
 ghost use Rattle.macs_headline.specs.Frames.{FramesAreStandard, WrittenBelow, WrittenOnce};
 ghost use Rattle.macs_headline.specs.GoingOn.{LivesGoOn};
@@ -55,12 +60,14 @@ ghost use Rattle.macs_headline.specs.Reserved.{ReservationsAreWanted};
 ghost use Rattle.macs_headline.specs.Steps.{RepliesAreOfCalls, StepsAreOne, StepsAreTaken};
 ghost use Rattle.macs_headline.specs.Stopping.{StoppedStays};
 ghost use Rattle.macs_headline.specs.Tickets.{TicketsKept};
+ghost use Rattle.macs_headline.specs.Turns.{TurnsAreBuilt, TurnsAreCounted};
 ghost use Rattle.macs_headline.specs.Verdicts.{BareFramesAre, VerdictsAreNamed};
 ghost use Rattle.macs_headline.specs.One.{OneChangeComes, OneFrameComes, OneStateComes};
 ghost use Rattle.macs_headline.specs.Waits.{CommandsWait};
 ghost use Rattle.macs_headline.specs.Windows.{WindowsAreKept};
 ghost use Rattle.macs_headline.specs.Words.{CallWords, CommandWords, EditionWords, OneComesOfIt, ReplyWords};
-ghost use Rattle.macs_headline.specs.OpeningWords.{OpeningWords};
+ghost use Rattle.macs_headline.specs.Working.{CallsAreStill, StepsWork};
+ghost use Rattle.macs_headline.specs.OpeningWords.{JournalWords, OpeningWords, RefusalWords};
 ghost use Rattle.macs_headline.specs.Openings.{IdentityWasGiven, NothingChanges, RefusedForDiskOrBlank, RefusedForDiskOrSpent, SpentAreLast};
 
 use crate::example::peer_frame_in_range;
@@ -244,8 +251,10 @@ pub fn words()
     ensures calls { CallWords }
     // Which reply is of which function.
     ensures replies { ReplyWords }
-    // What an opening leaves.
+    // What an opening leaves, why one is refused, and which sectors are written.
     ensures openings { OpeningWords }
+    ensures refusals { RefusalWords }
+    ensures journals { JournalWords }
     // One verdict, one journal and one failure come of it.
     ensures one { OneComesOfIt }
     // One frame that goes out, or is delivered or held back, with its number; one configuration, with the numbers that are
@@ -253,10 +262,32 @@ pub fn words()
     ensures one_frame { OneFrameComes }
     ensures one_change { OneChangeComes }
     ensures one_state { OneStateComes }
+    // What a frame is that is standard, delivered or held back, and what of it is sealed.
+    ensures frames { (sectors : ℕ) → FrameWords sectors }
+    // Which commands wait, under which tickets.
+    ensures queue { QueueWords }
     // What is drawn from logs, from numbers and tickets, and from lives and what they make.
     ensures logs { (sectors : ℕ) → LogWords sectors }
     ensures numbers { NumberWords }
     ensures lives { (sectors : ℕ) → LifeWords sectors }
+{}
+
+/// What the endpoint's contracts promise of openings, ceilings and counters, and what its own laws on
+/// turns, on work that lasts and on numbers that are left count and ask for, call by call.
+pub fn endpoint_words<D: SectorDisk>()
+    // What an opening counts and begins with, and which disks are too small.
+    ensures openings { OpeningsCount D.disk }
+    // Which ceilings are raised, and how many device calls a refill and a command make.
+    ensures raised { CeilingsAreRaised D.disk }
+    // What a call counts.
+    ensures counters { CallsAreCounted D.disk }
+    // What a loss of power leaves of events that are served, and when that halts.
+    ensures served { ServedWords D.disk }
+    // One more step, reservation, command or frame is counted where a call or its answer says
+    // so, and else none.
+    ensures counted { TurnsAreCounted D }
+    // What they ask for of calls holds of none, and of one more that is as it says.
+    ensures built { TurnsAreBuilt D }
 {}
 
 /// What comes first in an order, of faults, reasons or steps: the first one, where it holds; else
@@ -308,6 +339,8 @@ pub fn beginnings()
 pub fn endings<D: SectorDisk>()
     // Alike are a disk and each other one of its size and honesty, whatever is pending.
     ensures as_alike { TheseAreAlike }
+    // The medium is passed on to each of those that may leave nothing but images of a moment since.
+    ensures as_passed_on { TheseArePassedOn }
     // Power is lost.
     ensures power_lost { PowerLossesPassOn }
     // The program is killed, and no power is lost.
@@ -360,11 +393,17 @@ pub fn histories<D: SectorDisk>()
     // An opening is refused only where a device call failed, where the disk was not formatted for sure, or for a
     // last generation in an older format.
     ensures refusals { RefusalsAreFailures D.disk }
+    // Which of these it is, is settled by what is on the disk.
+    ensures refused_as { RefusalsAreOne D.disk }
     // An opening of a journal of format two writes nothing, nor does one that is refused for what stands on the disk.
     // One of format one is begun anew, once, and what it stands for stays, wherever that is cut short.
     ensures begun_anew { OpeningsBeginAnew D.disk }
     // A step is answered Idle only where there is no work.
     ensures idle { IdleFindsNoWork D.disk }
+    // And there it is; else it does a piece of the work, one device call at a time, until none is left.
+    ensures steps { StepsWork D.disk }
+    // Other calls leave that work, and the disk, as they were.
+    ensures still { CallsAreStill D.disk }
     // A call is answered GenerationsSpent only where the journal is at its end.
     ensures spent { SpentAreSpent D.disk }
     // A frame is held back, or has no number, only where a ceiling is reached; and after a refill none is needed.

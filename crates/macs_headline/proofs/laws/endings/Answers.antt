@@ -1,8 +1,11 @@
-use Rattle.macs_headline.proofs.Endings.{dropped-pass-on, ends-are-earlier, images-are-whole, killings-pass-on, losses-settle, passed-on-again, power-losses-pass-on, reads-pass-on, syncs-pass-on, these-are-alike, writes-back-as-syncs, written-back-pass-on}
+use Rattle.macs_headline.proofs.Endings.{dropped-pass-on, ends-are-earlier, images-are-whole, killings-pass-on, losses-settle, passed-on-again, power-losses-pass-on, reads-pass-on, syncs-pass-on, these-are-alike, these-are-passed-on, writes-back-as-syncs, written-back-pass-on}
 use Rattle.macs_headline.proofs.laws.endings.Goals as goal
 
 pub returns-clause-as_alike : goal.returns-clause-as_alike
 returns-clause-as_alike g c = these-are-alike
+
+pub returns-clause-as_passed_on : goal.returns-clause-as_passed_on
+returns-clause-as_passed_on g c = these-are-passed-on
 
 pub returns-clause-power_lost : goal.returns-clause-power_lost
 returns-clause-power_lost g c = power-losses-pass-on

@@ -6,10 +6,12 @@ use Rattle.macs_headline.proofs.ExactEnds.{lives-end-exactly}
 use Rattle.macs_headline.proofs.Faults.{faults-are-failures}
 use Rattle.macs_headline.proofs.Idling.{idle-finds-no-work}
 use Rattle.macs_headline.proofs.Moments.{cut-deliveries-are-below, cut-frames-are-below, ends-are-cuts, frames-are-delivered-once, frames-are-written-once, lives-are-moments, lives-fit, lives-fit-unbegun, lives-keep-commands, openings-find}
+use Rattle.macs_headline.proofs.OpeningWords.{refusals-are-one}
 use Rattle.macs_headline.proofs.Refusals.{refusals-are-failures}
 use Rattle.macs_headline.proofs.Reserved.{reservations-are-wanted}
 use Rattle.macs_headline.proofs.Spending.{spent-are-spent}
 use Rattle.macs_headline.proofs.Tickets.{lives-keep-tickets}
+use Rattle.macs_headline.proofs.Working.{calls-are-still, steps-work}
 use Rattle.macs_headline.proofs.laws.histories.Goals as goal
 
 pub returns-clause-sizes : goal.returns-clause-sizes
@@ -59,6 +61,15 @@ returns-clause-cut_deliveries g c = cut-deliveries-are-below g.D.SectorDisk.disk
 
 pub returns-clause-refusals : goal.returns-clause-refusals
 returns-clause-refusals g c = refusals-are-failures g.D.SectorDisk.disk g.met.D.SectorDisk.sound
+
+pub returns-clause-refused_as : goal.returns-clause-refused_as
+returns-clause-refused_as g c = refusals-are-one g.D.SectorDisk.disk g.met.D.SectorDisk.sound
+
+pub returns-clause-steps : goal.returns-clause-steps
+returns-clause-steps g c = steps-work g.D.SectorDisk.disk
+
+pub returns-clause-still : goal.returns-clause-still
+returns-clause-still g c = calls-are-still g.D.SectorDisk.disk
 
 pub returns-clause-begun_anew : goal.returns-clause-begun_anew
 returns-clause-begun_anew g c = openings-begin-anew g.D.SectorDisk.disk g.met.D.SectorDisk.sound

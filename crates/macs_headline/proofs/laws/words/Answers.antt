@@ -1,7 +1,9 @@
-use Rattle.macs_headline.proofs.OpeningWords.{opening-words}
+use Rattle.macs_headline.proofs.OpeningWords.{journal-words, opening-words, refusal-words}
 use Rattle.macs_headline.proofs.Drawn.{life-words, log-words, number-words}
 use Rattle.macs_headline.proofs.One.{one-change-comes, one-frame-comes, one-state-comes}
 use Rattle.macs_headline.proofs.Words.{call-words, command-words, edition-words, one-comes-of-it, reply-words}
+use Rattle.macs_headline.proofs.FrameWords.{frame-words}
+use Rattle.macs_headline.proofs.QueueWords.{queue-words}
 use Rattle.macs_headline.proofs.laws.words.Goals as goal
 
 pub returns-clause-editions : goal.returns-clause-editions
@@ -22,6 +24,12 @@ returns-clause-one c = one-comes-of-it
 pub returns-clause-openings : goal.returns-clause-openings
 returns-clause-openings c = opening-words
 
+pub returns-clause-refusals : goal.returns-clause-refusals
+returns-clause-refusals c = refusal-words
+
+pub returns-clause-journals : goal.returns-clause-journals
+returns-clause-journals c = journal-words
+
 pub returns-clause-one_frame : goal.returns-clause-one_frame
 returns-clause-one_frame c = one-frame-comes
 
@@ -30,6 +38,12 @@ returns-clause-one_change c = one-change-comes
 
 pub returns-clause-one_state : goal.returns-clause-one_state
 returns-clause-one_state c = one-state-comes
+
+pub returns-clause-frames : goal.returns-clause-frames
+returns-clause-frames c = frame-words
+
+pub returns-clause-queue : goal.returns-clause-queue
+returns-clause-queue c = queue-words
 
 pub returns-clause-logs : goal.returns-clause-logs
 returns-clause-logs c = log-words

@@ -1,0 +1,65 @@
+-- All that is to be drawn from words that say what a frame is.
+use Rattle.std.proofs.Common.{◌≡◌, ◌≢◌, ◌+◌, ◌++◌, ℕ, Bool, true, false, List, [], ◌∷◌, sym, ◌∙◌, ap, subst}
+use Rattle.std.specs.Prelude.{slice_index, slice_range, take}
+use Rattle.macs_gcm.specs.Gcm.{seal}
+use Rattle.macs_frame.specs.Opening.{Verified, clear_of, hidden_of, iv_of}
+use Rattle.macs_frame.specs.Tag.{has_bit, name_of, pn_of}
+use Rattle.macs_frame.specs.declared.tag.SecTag.{SecTag}
+use Rattle.macs_config.specs.Identity.{IsIdentity}
+use Rattle.macs_config.specs.declared.command.SciMode.{SciMode}
+use Rattle.macs_endpoint.specs.State.{State}
+use Rattle.macs_headline.specs.FrameWords.{FrameWords}
+use Rattle.macs_headline.specs.Frames.{IsNamedIn, IsStandardFrame}
+use Rattle.macs_headline.specs.Verdicts.{behind_data, behind_tag}
+
+-- ---- what is sealed
+
+module _ (frame key sci plain : List ℕ) (offset : ℕ) where
+  -- with the Secure Data between these places, this PN, and E
+  abbrev IsSealed : (start end number : ℕ) → Bool → Type 0
+  IsSealed start end number e = (text : List ℕ) × (plain ≡ take 12 frame ++ clear_of e offset (slice_range frame start end) ++ text)
+      × (seal key (iv_of sci number) (take start frame ++ clear_of e offset (slice_range frame start end)) text
+      ≡ (hidden_of e offset (slice_range frame start end), slice_range frame end (end + 16)))
+
+  -- by the frame's octets
+  sealed : (e : Bool) → Verified frame key sci offset plain → has_bit (slice_index frame 14) 0x08 ≡ e
+      → IsSealed (behind_tag frame) (behind_data frame) (pn_of frame) e
+  sealed e v is =
+      let read = v.tag.reading in
+      let tag = v.parts.tag in
+      let by_parts : IsSealed v.parts.start v.parts.end tag.pn tag.encrypted = (v.opens.plaintext, v.opens.plain_is, v.opens.sealed) in
+      let from : IsSealed (behind_tag frame) v.parts.end tag.pn tag.encrypted =
+      subst (λ (n : ℕ). IsSealed n v.parts.end tag.pn tag.encrypted) read.start by_parts in
+      let to : IsSealed (behind_tag frame) (behind_data frame) tag.pn tag.encrypted =
+      subst (λ (n : ℕ). IsSealed (behind_tag frame) n tag.pn tag.encrypted) read.end from in
+      let numbered : IsSealed (behind_tag frame) (behind_data frame) (pn_of frame) tag.encrypted =
+      subst (λ (n : ℕ). IsSealed (behind_tag frame) (behind_data frame) n tag.encrypted) (ap (λ (t : SecTag). t.pn) read.tag) to in
+      subst (λ (b : Bool). IsSealed (behind_tag frame) (behind_data frame) (pn_of frame) b) (ap (λ (t : SecTag). t.encrypted) read.tag ∙ is) numbered
+
+-- ---- names
+
+named_as : (s new : State) (plain out : List ℕ) (pn : ℕ) → IsStandardFrame s plain pn out new → IsIdentity s.identity → (mode : SciMode) → s.config.mode ≡ mode
+    → IsNamedIn mode s.identity.sci (name_of out)
+named_as s new plain out pn f identity mode is = subst (λ (m : SciMode). IsNamedIn m s.identity.sci (name_of out)) is (f.named identity)
+
+pub frame-words : (sectors : ℕ) → FrameWords sectors
+frame-words sectors = record {
+  standard = λ s new plain out pn f. (f.encoding, f.association, f.number, f.least, f.most, f.next, f.logged);
+  short = λ s new plain out pn f. f.short;
+  own = λ s new plain out pn f is. f.own is;
+  named = λ s new plain out pn f identity. (
+    λ is. named_as s new plain out pn f identity _ is,
+    λ is. named_as s new plain out pn f identity _ is,
+    λ is. named_as s new plain out pn f identity _ is,
+  );
+  read = λ s new plain out pn f identity. f.read identity;
+  delivered = λ s new frame out kind d. (d.named, d.association, d.are_numbers, d.guarded, d.verified, d.only, d.logged);
+  other_frame = λ lives logs plain out key pn number o. o.other;
+  other_delivery = λ lives logs frame out sci key kind pn o. o.other;
+  beyond_frame = λ lives logs plain out pn found b. b.beyond;
+  beyond_delivery = λ lives logs frame out kind found b. b.beyond;
+  sent_octets = λ plain is. is;
+  received_octets = λ frame is. is;
+  encrypted = λ frame key sci plain offset v is. sealed frame key sci plain offset true v is;
+  clear = λ frame key sci plain offset v is. sealed frame key sci plain offset false v is;
+}

@@ -1,0 +1,31 @@
+-- What is to be drawn from words on commands that wait, and on their tickets.
+use Rattle.std.proofs.Common.{◌≡◌, ◌⊎◌, inl, inr, List, [], ◌∷◌, refl, ◌∙◌}
+use Rattle.std.specs.Prelude.{Contains, Option, Some}
+use Rattle.macs_config.specs.declared.command.Command.{Command}
+use Rattle.macs_endpoint.specs.Queue.{first_command}
+use Rattle.macs_endpoint.specs.State.{Call, Commands}
+use Rattle.macs_endpoint.specs.Step.{Exchange}
+use Rattle.macs_endpoint.specs.declared.queue.Waiting.{Waiting}
+use Rattle.macs_headline.specs.Commands.{WasHandedIn, failing, waiting_at_end}
+use Rattle.macs_headline.specs.QueueWords.{QueueWords}
+use Rattle.macs_headline.specs.Tickets.{tickets_given}
+use Rattle.macs_headline.proofs.Drawn.{number-words}
+use Rattle.macs_headline.proofs.Ledger.{some_one}
+use Rattle.macs_headline.proofs.LookUps.{none-some}
+
+first_waits : (waiting : List Waiting) (c : Command) → first_command waiting ≡ Some c
+    → (w : Waiting) × (rest : List Waiting) × (waiting ≡ w ∷ rest) × (w.command ≡ c)
+first_waits [] c is = absurd (none-some c is)
+first_waits (w ∷ rest) c is = (w, rest, refl, some_one (Some w.command) w.command c refl is)
+
+handed_in : (exchanges : List Exchange) (cut : Option Call) (command : Command) → WasHandedIn exchanges cut command
+    → ((w : Waiting) × (rest : List Waiting) × (waiting_at_end exchanges ≡ w ∷ rest) × (w.command ≡ command))
+    ⊎ ((waiting_at_end exchanges ≡ []) × (Contains exchanges (failing command) ⊎ (cut ≡ Some (Commands command))))
+handed_in exchanges cut command (inl first) = inl (first_waits (waiting_at_end exchanges) command first)
+handed_in exchanges cut command (inr behind) = inr behind
+
+pub queue-words : QueueWords
+queue-words = record {
+  kept = λ exchanges waiting is. is.kept ∙ number-words.tickets (tickets_given exchanges) is.in_order;
+  handed_in = handed_in;
+}

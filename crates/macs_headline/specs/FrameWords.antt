@@ -1,0 +1,78 @@
+-- The headline on words that say what a frame is: all that is to be drawn from each, by the frame's octets and the state's fields.
+use Rattle.std.specs.Prelude.{◌≡◌, ◌≢◌, ◌<◌, ◌≤◌, ◌+◌, ◌-◌, ◌^◌, ◌++◌, true, false, if◌then◌else◌, ℕ, List, [], ◌∷◌, length, nat_lt, slice_index, slice_range, take, drop, All, Some}
+use Rattle.std.specs.Int.{w32, from_be_bytes, to_be_bytes}
+use Rattle.macs_fields.specs.Fields.{octets_of}
+use Rattle.macs_gcm.specs.Gcm.{seal}
+use Rattle.macs_frame.specs.Opening.{Verified}
+use Rattle.macs_frame.specs.Tag.{has_bit, name_of, tag_of}
+use Rattle.macs_frame.specs.declared.tag.ScName.TheVariants.{EndStation as NamesStation, Explicit as NamesSci, Implicit as NamesNone}
+use Rattle.macs_config.specs.Association.{offset_of}
+use Rattle.macs_config.specs.Identity.{IsIdentity}
+use Rattle.macs_config.specs.declared.command.SciMode.TheVariants.{EndStation, Explicit, Implicit}
+use Rattle.macs_rxsc.specs.Receive.{Numbers, channel_of}
+use Rattle.macs_rxsc.specs.declared.verdict.Kind.{Kind}
+use Rattle.macs_store.specs.Standing.{Standing}
+use Rattle.macs_endpoint.specs.Calls.{IsInRange}
+use Rattle.macs_endpoint.specs.State.{Logs, Protects, Receives, State, rx_side}
+use Rattle.macs_headline.specs.Deliveries.{IsFoundBeyondDelivery, IsOtherDelivery, IsVerifiedDelivery}
+use Rattle.macs_headline.specs.Frames.{IsFoundBeyondFrame, IsOtherFrame, IsStandardFrame}
+use Rattle.macs_headline.specs.History.{Life}
+use Rattle.macs_headline.specs.Numbers.{IsBeyondRx, IsBeyondTx}
+use Rattle.macs_headline.specs.Verdicts.{behind_data, behind_tag}
+
+-- the Secure Data of a frame, by its octets (IEEE Std 802.1AE-2018, 9.10)
+abbrev pub data_in : List ℕ → List ℕ
+data_in frame = slice_range frame (behind_tag frame) (behind_data frame)
+
+-- the ICV: the 16 octets after them (9.11)
+abbrev pub icv_in : List ℕ → List ℕ
+icv_in frame = slice_range frame (behind_data frame) (behind_data frame + 16)
+
+-- the initialisation vector: the SCI and the PN, which is in octets 16 to 19 (14.5 and 14.6)
+abbrev pub iv_in : List ℕ → List ℕ → List ℕ
+iv_in sci frame = sci ++ to_be_bytes w32 (from_be_bytes w32 (slice_range frame 16 20))
+
+-- A standard frame is under the association that frames go out under, with its next number, 1 to 2^32 - 1, which joins those that were used, and the next one is
+-- one more. SL is the number of octets of Secure Data where they are fewer than 48, else 0; in end station mode the SCI is the source address with port 00-01.
+-- Where the identity is in its ranges, the tag names the channel as the mode says, and the frame verifies as the plain one. A frame that is delivered as verified
+-- verifies under the association that its tag names, gives its plain frame and no other, and where replay protection is on is not below the lowest acceptable
+-- number there. What is another frame, or another delivery, than one of a
+-- key has another number under that key, and SCI; and what is found after one is beyond its number. A frame that is given has octets below 256.
+--
+-- What verifies is sealed (IEEE Std 802.1AE-2018, clause 14): under the SCI and the PN, with all octets up to the end of the SecTAG, and those of Secure Data that
+-- are in the clear, as what is authenticated alone. Where E is set those are as many as the offset says, and the others are the ciphertext; else all of them.
+pub record FrameWords (sectors : ℕ) : Type 0 where
+  pub standard : (s new : State) (plain out : List ℕ) (pn : ℕ) (f : IsStandardFrame s plain pn out new)
+      → (s.config.encoding ≡ Some f.an) × (s.config.tx f.an ≡ Some f.sa) × (s.next f.an ≡ Some pn) × (1 ≤ pn) × (pn < 2 ^ 32)
+      × (new.next f.an ≡ Some (pn + 1)) × (new.logs.used ≡ record { key = f.sa.key; pn = pn } ∷ s.logs.used)
+  pub short : (s new : State) (plain out : List ℕ) (pn : ℕ) → IsStandardFrame s plain pn out new
+      → slice_index out 15 ≡ (if nat_lt (length plain) 60 then length plain - 12 else 0)
+  pub own : (s new : State) (plain out : List ℕ) (pn : ℕ) → IsStandardFrame s plain pn out new → s.config.mode ≡ EndStation
+      → s.identity.sci ≡ slice_range plain 6 12 ++ 0 ∷ 1 ∷ []
+  pub named : (s new : State) (plain out : List ℕ) (pn : ℕ) → IsStandardFrame s plain pn out new → IsIdentity s.identity
+      → (s.config.mode ≡ Explicit → name_of out ≡ NamesSci s.identity.sci) × (s.config.mode ≡ EndStation → name_of out ≡ NamesStation)
+      × (s.config.mode ≡ Implicit → name_of out ≡ NamesNone)
+  pub read : (s new : State) (plain out : List ℕ) (pn : ℕ) (f : IsStandardFrame s plain pn out new) → IsIdentity s.identity
+      → Verified out f.sa.key s.identity.sci (octets_of (offset_of f.sa.protection)) plain
+  pub delivered : (s new : State) (frame out : List ℕ) (kind : Kind) (d : IsVerifiedDelivery s frame kind out new)
+      → (channel_of (rx_side s) frame ≡ Some d.sci) × (s.config.rx d.sci (tag_of frame).an ≡ Some d.sa)
+      × (s.numbers d.sci (tag_of frame).an ≡ Some d.numbers) × (s.config.replay.on ≡ true → d.numbers.lowest ≤ (tag_of frame).pn)
+      × Verified frame d.sa.key d.sci (octets_of d.sa.offset) out
+      × ((other : List ℕ) → Verified frame d.sa.key d.sci (octets_of d.sa.offset) other → other ≡ out)
+      × (new.logs.given ≡ record { sci = d.sci; key = d.sa.key; pn = (tag_of frame).pn; kind = kind } ∷ s.logs.given)
+  pub other_frame : (lives : List Life) (logs : Logs) (plain out key : List ℕ) (pn number : ℕ) (o : IsOtherFrame sectors lives logs plain pn out key number)
+      → o.frame.sa.key ≡ key → pn ≢ number
+  pub other_delivery : (lives : List Life) (logs : Logs) (frame out sci key : List ℕ) (kind : Kind) (pn : ℕ)
+      (o : IsOtherDelivery sectors lives logs frame kind out sci key pn) → o.delivery.sci ≡ sci → o.delivery.sa.key ≡ key → (tag_of frame).pn ≢ pn
+  pub beyond_frame : (lives : List Life) (logs : Logs) (plain out : List ℕ) (pn : ℕ) (found : Standing)
+      (b : IsFoundBeyondFrame sectors lives logs plain pn out found) → IsBeyondTx found b.frame.sa.key pn
+  pub beyond_delivery : (lives : List Life) (logs : Logs) (frame out : List ℕ) (kind : Kind) (found : Standing)
+      (b : IsFoundBeyondDelivery sectors lives logs frame kind out found) → IsBeyondRx found b.delivery.sci b.delivery.sa.key (tag_of frame).pn
+  pub sent_octets : (plain : List ℕ) → IsInRange (Protects plain) → All (λ octet. octet < 2 ^ 8) plain
+  pub received_octets : (frame : List ℕ) → IsInRange (Receives frame) → All (λ octet. octet < 2 ^ 8) frame
+  pub encrypted : (frame key sci plain : List ℕ) (offset : ℕ) → Verified frame key sci offset plain → has_bit (slice_index frame 14) 0x08 ≡ true
+      → (text : List ℕ) × (plain ≡ take 12 frame ++ take offset (data_in frame) ++ text)
+      × (seal key (iv_in sci frame) (take (behind_tag frame) frame ++ take offset (data_in frame)) text ≡ (drop offset (data_in frame), icv_in frame))
+  pub clear : (frame key sci plain : List ℕ) (offset : ℕ) → Verified frame key sci offset plain → has_bit (slice_index frame 14) 0x08 ≡ false
+      → (text : List ℕ) × (plain ≡ take 12 frame ++ data_in frame ++ text)
+      × (seal key (iv_in sci frame) (take (behind_tag frame) frame ++ data_in frame) text ≡ ([], icv_in frame))
