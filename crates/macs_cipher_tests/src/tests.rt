@@ -1,3 +1,4 @@
+mod across;
 mod aes;
 mod fields;
 mod gcm;

@@ -1,12 +1,20 @@
 -- Octets in the halves of a lane.
-use Rattle.std.proofs.Common.{◌≡◌, ℕ, ◌+◌, ◌*◌, ◌/◌, ◌%◌, ◌^◌, ◌<◌, ◌∙◌, List, [], ◌∷◌, map, get_or, ap, sym, refl, arith}
+use Rattle.std.proofs.Common.{◌≡◌, ℕ, ◌+◌, ◌*◌, ◌/◌, ◌%◌, ◌^◌, ◌<◌, ◌∙◌, List, [], ◌∷◌, map, get_or, length, set, slice_index, ap, sym, refl, arith, inl, inr}
 use Rattle.std.specs.Int.{bit_at}
 use Rattle.std.specs.List.{range_with_len}
-use Rattle.std.proofs.lemmas.List.FromFn.{get_or-map-range_with_len, get_or-range_with_len}
+use Rattle.std.proofs.lemmas.Bool.{cases_lt}
+use Rattle.std.proofs.lemmas.List.{get_or-set_same, get_or-set_other}
+use Rattle.std.proofs.lemmas.List.FromFn.{get_or-map-range_with_len, get_or-range_with_len, fill_by_all}
 use native.Mathlib.Nat.{add_comm}
-use Rattle.macs_planes.specs.Blocks.{bit_in, combined, octet_basis, octet_in, zeros}
+use Rattle.macs_planes.specs.Blocks.{bit_in, block_in, blocks_in, combined, octet_basis, octet_in, zeros}
 use Rattle.macs_planes.specs.Columns.{IsCrossed}
 use Rattle.macs_planes.proofs.Moves.{shr_bit}
+
+pub low_byte : (bytes : List ℕ) (x : ℕ) → bytes ≡ x % 256 ∷ x / 256 % 256 ∷ [] → get_or bytes 0 0 ≡ x / 2 ^ (8 * 0) % 256
+low_byte bytes x e = ap (λ b. get_or b 0 0) e ∙ omega arith
+
+pub high_byte : (bytes : List ℕ) (x : ℕ) → bytes ≡ x % 256 ∷ x / 256 % 256 ∷ [] → get_or bytes 1 0 ≡ x / 2 ^ (8 * 1) % 256
+high_byte bytes x e = ap (λ b. get_or b 1 0) e
 
 -- an octet from eight bits of a number
 unfoldable pub eight_bits : ℕ → List ℕ
@@ -68,4 +76,38 @@ stored_octet lanes p0 p1 p2 p3 p4 p5 p6 p7 x m h i hm hh hi c =
     let e = half_is (get_or x i 0) h in
     cc
 
+pub stored_row : (lanes : ℕ) (p0 p1 p2 p3 p4 p5 p6 p7 : List ℕ) (xs : List (List ℕ)) (r : List ℕ) (i : ℕ) → i < lanes
+    → ((m : ℕ) → m < 8 → IsCrossed lanes m (p0 ∷ p1 ∷ p2 ∷ p3 ∷ p4 ∷ p5 ∷ p6 ∷ p7 ∷ []) (get_or xs m (zeros lanes)))
+    → length r ≡ 16 → ((j : ℕ) → j < 16 → slice_index r j ≡ get_or (get_or xs (j % 8) (zeros lanes)) i 0 / 2 ^ (8 * (j / 8)) % 256)
+    → r ≡ block_in octet_basis (p0 ∷ p1 ∷ p2 ∷ p3 ∷ p4 ∷ p5 ∷ p6 ∷ p7 ∷ []) i
+unfolding block_in
+stored_row lanes p0 p1 p2 p3 p4 p5 p6 p7 xs r i hi cs len is =
+    let planes : List (List ℕ) = p0 ∷ p1 ∷ p2 ∷ p3 ∷ p4 ∷ p5 ∷ p6 ∷ p7 ∷ [] in
+    fill_by_all (octet_in octet_basis planes i) r 16 0 len
+    (λ j k.
+    let low : j % 8 < 8 = omega arith in
+    let half : j / 8 < 2 = omega arith in
+    let whole : 8 * (j / 8) + j % 8 ≡ j = omega arith in
+    is j k ∙ stored_octet lanes p0 p1 p2 p3 p4 p5 p6 p7 (get_or xs (j % 8) (zeros lanes)) (j % 8) (j / 8) i low half hi (cs (j % 8) low)
+    ∙ ap (octet_in octet_basis planes i) whole)
+
 -- ---- blocks one by one
+
+pub block_was : (lanes : ℕ) (basis : List ℕ) (planes blocks : List (List ℕ)) (i : ℕ) → blocks_in lanes basis planes ≡ blocks → i < lanes → get_or blocks i [] ≡ block_in basis planes i
+unfolding blocks_in
+block_was lanes basis planes blocks i e h = ap (λ b. get_or b i []) (sym e) ∙ get_or-map-range_with_len (block_in basis planes) 0 lanes i i [] h (omega arith)
+
+pub rows_more : (xs blocks : List (List ℕ)) (i : ℕ) (r : List ℕ) → i < length xs → ((k : ℕ) → k < i → get_or xs k [] ≡ get_or blocks k [])
+    → r ≡ get_or blocks i [] → (k : ℕ) → k < i + 1 → get_or (set xs i r) k [] ≡ get_or blocks k []
+rows_more xs blocks i r within held is k h = elim (cases_lt k i) [
+  | inl lt ↦ get_or-set_other xs i k r [] (omega arith) ∙ held k lt
+  | inr ge ↦
+      let same : k ≡ i = omega arith in
+      rw same (get_or-set_same xs i r [] within ∙ is)
+]
+
+pub rows_all : (lanes : ℕ) (basis : List ℕ) (planes blocks xs : List (List ℕ)) → blocks_in lanes basis planes ≡ blocks → length xs ≡ lanes
+    → ((k : ℕ) → k < lanes → get_or xs k [] ≡ get_or blocks k []) → xs ≡ blocks
+unfolding blocks_in
+rows_all lanes basis planes blocks xs e len held =
+    fill_by_all (block_in basis planes) xs lanes [] len (λ k h. held k h ∙ block_was lanes basis planes blocks k e h) ∙ e

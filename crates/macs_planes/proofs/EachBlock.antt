@@ -1,5 +1,5 @@
 -- From each octet to each block.
-use Rattle.std.proofs.Common.{◌≡◌, ℕ, zero, suc, ◌+◌, ◌*◌, ◌<◌, ◌≤◌, List, ◌∷◌, map, get_or, length, bit_xor, refl, ap, ap₂, sym, ◌∙◌, arith, ◌^◌}
+use Rattle.std.proofs.Common.{◌≡◌, ℕ, zero, suc, ◌+◌, ◌*◌, ◌<◌, ◌≤◌, List, [], ◌∷◌, map, get_or, length, slice_index, bit_xor, refl, ap, ap₂, sym, ◌∙◌, arith, ◌^◌}
 use lib.Bits.{xor_assoc}
 use Rattle.std.specs.List.{range_with_len}
 use Rattle.std.specs.Int.{bit_at}
@@ -8,10 +8,11 @@ use Rattle.macs_gf.specs.Gf256.{octet_product, aes_modulus}
 use Rattle.macs_gf.specs.Polynomial.{product_below, remainder}
 use Rattle.macs_gf.proofs.Division.{remainder-xor}
 use Rattle.macs_gf.proofs.Xor.{bit_at_xor_product, xor_middle}
-use Rattle.macs_aes.specs.Cipher.{mixed_octet, sub_bytes}
+use Rattle.macs_aes.specs.Cipher.{mix_columns, mixed_octet, shift_rows, sub_bytes}
 use Rattle.macs_aes.specs.SBox.{s_box}
-use Rattle.macs_planes.specs.Blocks.{block_in, blocks_in, octet, octet_basis, octet_in}
+use Rattle.macs_planes.specs.Blocks.{bit_in, block_in, blocks_in, octet, octet_basis, octet_in}
 use Rattle.macs_planes.specs.BlockSteps.{AreBlocks}
+use Rattle.macs_planes.specs.Rows.{below, shifted}
 use Rattle.macs_planes.proofs.Circuit.{octet_of}
 use Rattle.macs_planes.proofs.Inverse.{octet_small}
 
@@ -37,8 +38,38 @@ planes_blocks lanes planes blocks len e = record {
       omega arith;
 }
 
+-- a step that makes each octet from those of its block
+pub each_block : (lanes : ℕ) (step : List ℕ → List ℕ) (f : (ℕ → ℕ) → ℕ → ℕ) (new old : List (List ℕ)) → AreBlocks lanes new → AreBlocks lanes old
+    → ((g : ℕ → ℕ) → map (f g) (range_with_len 0 16) ≡ step (map g (range_with_len 0 16)))
+    → ((i j : ℕ) → i < lanes → j < 16 → octet new i j ≡ f (octet old i) j) → new ≡ map step old
+each_block lanes step f new old n o is each =
+    n.whole
+    ∙ map_same (λ i. map (octet new i) (range_with_len 0 16)) (λ i. step (map (octet old i) (range_with_len 0 16))) 0 lanes
+    (λ i l u. map_same (octet new i) (f (octet old i)) 0 16 (λ j l2 u2. each i j (omega arith) (omega arith)) ∙ is (octet old i))
+    ∙ sym (map_map step (λ i. map (octet old i) (range_with_len 0 16)) 0 lanes) ∙ ap (map step) (sym o.whole)
+
 pub sub_bytes_is : (g : ℕ → ℕ) → map (λ j. s_box (g j)) (range_with_len 0 16) ≡ sub_bytes (map g (range_with_len 0 16))
 sub_bytes_is g = refl
+
+pub shift_rows_is : (g : ℕ → ℕ) → map (λ j. g (shifted j)) (range_with_len 0 16) ≡ shift_rows (map g (range_with_len 0 16))
+unfolding shifted
+shift_rows_is g = refl
+
+pub mix_columns_is : (g : ℕ → ℕ) → map (λ j. mixed_octet (g j) (g (below 1 j)) (g (below 2 j)) (g (below 3 j))) (range_with_len 0 16) ≡ mix_columns (map g (range_with_len 0 16))
+unfolding below
+mix_columns_is g = refl
+
+pub shifted-lt : (j : ℕ) → j < 16 → shifted j < 16
+unfolding shifted
+shifted-lt j h = omega arith
+
+pub below-lt : (n j : ℕ) → j < 16 → below n j < 16
+unfolding below
+below-lt n j h = omega arith
+
+pub below_next : (j : ℕ) → j < 16 → below 1 (below 2 j) ≡ below 3 j
+unfolding below
+below_next j h = omega arith
 
 -- ---- a column mixed_octet
 
@@ -67,3 +98,10 @@ mixed_is a b c d h =
     ap (λ (t : ℕ). bit_xor (bit_xor t b) (bit_xor c d)) (product-xor 2 a b)
     ∙ ap (λ (t : ℕ). bit_xor t (bit_xor c d)) (xor_assoc (octet_product 2 a) (octet_product 2 b) b ∙ ap (bit_xor (octet_product 2 a)) (sym (thrice b h)))
     ∙ sym (xor_assoc (bit_xor (octet_product 2 a) (octet_product 3 b)) c d)
+
+-- ---- eight planes with the same bits elsewhere
+pub same_eight : (a0 a1 a2 a3 a4 a5 a6 a7 b0 b1 b2 b3 b4 b5 b6 b7 : List ℕ) (i j k : ℕ)
+    → bit_in a0 i j ≡ bit_in b0 i k → bit_in a1 i j ≡ bit_in b1 i k → bit_in a2 i j ≡ bit_in b2 i k → bit_in a3 i j ≡ bit_in b3 i k
+    → bit_in a4 i j ≡ bit_in b4 i k → bit_in a5 i j ≡ bit_in b5 i k → bit_in a6 i j ≡ bit_in b6 i k → bit_in a7 i j ≡ bit_in b7 i k
+    → octet_in octet_basis (a0 ∷ a1 ∷ a2 ∷ a3 ∷ a4 ∷ a5 ∷ a6 ∷ a7 ∷ []) i j ≡ octet_in octet_basis (b0 ∷ b1 ∷ b2 ∷ b3 ∷ b4 ∷ b5 ∷ b6 ∷ b7 ∷ []) i k
+same_eight a0 a1 a2 a3 a4 a5 a6 a7 b0 b1 b2 b3 b4 b5 b6 b7 i j k e0 e1 e2 e3 e4 e5 e6 e7 = cc

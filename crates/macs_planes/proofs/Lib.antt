@@ -3,11 +3,13 @@ pub mod Gates
 pub mod Tables
 pub mod Inverse
 pub mod Moves
+pub mod RowMoves
 pub mod EachBlock
 pub mod CrossMoves
 pub mod Sixteen
 pub mod Bytes
 pub mod BitTests
+pub mod Loaded
 pub mod Rounds
 pub mod Octets
 pub mod Shuffles

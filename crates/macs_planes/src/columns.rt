@@ -1,10 +1,11 @@
 //! From planes to octets: the bits of an octet, which are one in each plane, are put side by side.
 #![tactic(auto, using(std::proofs::lemmas::Simd::shifts_fit_splat))]
 
-ghost use Rattle.std.specs.Prelude.{[], ◌∷◌};
-ghost use Rattle.macs_planes.specs.Blocks.{ArePlanes};
+ghost use Rattle.std.specs.Prelude.{◌≡◌, ◌<◌, ◌*◌, ◌/◌, ◌%◌, ◌^◌, ℕ, [], ◌∷◌, get_or, length, slice_index};
+ghost use Rattle.macs_planes.specs.Blocks.{ArePlanes, zeros};
 ghost use Rattle.macs_planes.specs.Columns.{IsCrossed, IsExchanged};
 
+use macs_aes::Block;
 use std::simd::prelude::*;
 
 /// Eight vectors. Crossed, octets m and m + 8 of block i are the lower and the upper half of lane i of
@@ -168,4 +169,25 @@ pub(crate) fn cross<const N: usize>(x: &Columns<N>) -> Columns<N>
     let ones = exchange_ones(x);
     let twos = exchange_twos(&ones);
     exchange_fours(&twos)
+}
+
+/// Block i of crossed vectors.
+#[inline(always)]
+pub(crate) fn row<const N: usize>(x: &Columns<N>, i: usize) -> Block
+    requires lanes { ArePlanes N (x.now.q0 ∷ x.now.q1 ∷ x.now.q2 ∷ x.now.q3 ∷ x.now.q4 ∷ x.now.q5 ∷ x.now.q6 ∷ x.now.q7 ∷ []) }
+    requires within { i < N }
+    ensures size { length result ≡ 16 }
+    ensures octets { (j : ℕ) → j < 16 → slice_index result j ≡ get_or (get_or (x.now.q0 ∷ x.now.q1 ∷ x.now.q2 ∷ x.now.q3 ∷ x.now.q4 ∷ x.now.q5 ∷ x.now.q6 ∷ x.now.q7 ∷ []) (j % 8) (zeros N)) i 0 / 2 ^ (8 * (j / 8)) % 256 }
+{
+    let [a0, b0] = x.q0[i].to_le_bytes();
+    let [a1, b1] = x.q1[i].to_le_bytes();
+    let [a2, b2] = x.q2[i].to_le_bytes();
+    let [a3, b3] = x.q3[i].to_le_bytes();
+    let [a4, b4] = x.q4[i].to_le_bytes();
+    let [a5, b5] = x.q5[i].to_le_bytes();
+    let [a6, b6] = x.q6[i].to_le_bytes();
+    let [a7, b7] = x.q7[i].to_le_bytes();
+    [
+        a0, a1, a2, a3, a4, a5, a6, a7, b0, b1, b2, b3, b4, b5, b6, b7,
+    ]
 }

@@ -8,12 +8,15 @@
 #![tactic(auto)]
 
 mod across;
+mod bits;
 mod columns;
 mod group;
 mod key_planes;
 mod mixing;
 mod places;
 mod planes;
+mod round_keys;
+mod rows;
 mod sbox;
 mod subfield;
 
@@ -21,3 +24,4 @@ pub use across::Across;
 pub use group::{GroupKeys, encrypt16};
 pub use key_planes::{KeyPlanes, ROUND_KEYS, key_room};
 pub use places::LANES;
+pub use planes::Planes;

@@ -1,17 +1,19 @@
-//! Sums and doubles of octets in planes.
+//! MixColumns (FIPS 197, 5.1.3) on planes.
 
 ghost use Rattle.std.specs.Prelude.{◌≡◌, ◌<◌, ℕ, bit_xor};
 ghost use Rattle.macs_gf.specs.Gf256.{octet_product};
+ghost use Rattle.macs_aes.specs.Cipher.{mixed_octet};
 ghost use Rattle.macs_planes.specs.Blocks.{octet};
+ghost use Rattle.macs_planes.specs.Rows.{below};
 
-use crate::planes::Planes;
+use crate::planes::{Planes, are_blocks};
+use crate::rows::{lift, lift_twice};
 use std::simd::prelude::*;
 
 /// The xor of each two octets.
 #[inline(always)]
 pub(crate) fn xor<const N: usize>(x: &Planes<N>, y: &Planes<N>) -> Planes<N>
-    ensures { (i j : ℕ) → i < N → j < 16
-        → octet result i j ≡ bit_xor (octet x.now i j) (octet y.now i j) }
+    ensures { (i j : ℕ) → i < N → j < 16 → octet result i j ≡ bit_xor (octet x.now i j) (octet y.now i j) }
 {
     Planes {
         p0: (Simd::from_array(x.p0) ^ Simd::from_array(y.p0)).to_array(),
@@ -44,4 +46,15 @@ pub(crate) fn twice<const N: usize>(x: &Planes<N>) -> Planes<N>
         p6: x.p5,
         p7: x.p6,
     }
+}
+
+/// Each octet mixed with the three below it in its column: 2 (a + b) + b + (c + d).
+#[inline(always)]
+pub(crate) fn mix<const N: usize>(x: &Planes<N>) -> Planes<N>
+    ensures { (i j : ℕ) → i < N → j < 16 → octet result i j ≡ mixed_octet (octet x.now i j) (octet x.now i (below 1 j)) (octet x.now i (below 2 j)) (octet x.now i (below 3 j)) }
+{
+    are_blocks(x);
+    let next = lift(x);
+    let pair = xor(x, &next);
+    xor(&xor(&twice(&pair), &next), &lift_twice(&pair))
 }
