@@ -4,3 +4,4 @@ pub mod Lines
 pub mod Kinds
 pub mod Requests
 pub mod Inboxes
+pub mod Talks
