@@ -1,9 +1,5 @@
 -- Addresses of local sockets, unix(7).
-use Rattle.std.specs.Prelude.{◌≡◌, ◌<◌, ◌≤◌, ◌+◌, ◌==◌, if◌then◌else◌, ℕ, List, [], ◌∷◌, ◌++◌, length, take}
-
--- a name of an octet and more, and room for it
-abbrev pub HasLength : List ℕ → List ℕ → Type 0
-HasLength octets name = (length octets ≡ 128) × (0 < length name) × (length name ≤ 107)
+use Rattle.std.specs.Prelude.{◌≡◌, ◌+◌, ◌==◌, if◌then◌else◌, ℕ, List, [], ◌∷◌, ◌++◌, length, take}
 
 -- the name as it is in the address: of an abstract one, which begins with `@` (64), the first octet is 0
 abbrev pub name_octets : List ℕ → List ℕ

@@ -1,7 +1,7 @@
 -- Seconds that end.
 use Rattle.std.specs.Prelude.{ℕ, ◌+◌, Bool, true, Option, Some, None, nat_le}
-use Rattle.core.specs.Duration.{as_nanos}
-use Rattle.core.specs.declared.time.Duration.{Duration}
+use Rattle.std.specs.Duration.{as_nanos}
+use Rattle.std.specs.declared.time.Duration.{Duration}
 
 -- a second or more, 10^9 ns, is between two times, or there was none before
 abbrev pub is_over : Option Duration → Duration → Bool

@@ -1,7 +1,7 @@
 //! The side that asks: a line is sent, and the lines of the answer are read up to its end.
 
-ghost use Rattle.std.specs.Prelude.{◌≡◌, ◌⊎◌, ◌∷◌, ◌++◌, [], IfErr, IfOk, IfSome, OnOk, string_bytes};
-ghost use Rattle.macs_control.specs.Asking.{HasAnswer, HasLine, IsSent};
+ghost use Rattle.std.specs.Prelude.{◌≡◌, ◌∷◌, ◌++◌, [], IfOk, IfSome, OnOk};
+ghost use Rattle.macs_requests.specs.Requests.{end_line};
 
 use crate::connection::Connection;
 use crate::seat::{Hearing, Seat};
@@ -22,6 +22,7 @@ pub enum AskFault {
 }
 
 impl From<AllocError> for AskFault {
+    ghost use Rattle.std.specs.Prelude.{◌≡◌};
     ghost use Rattle.macs_control.specs.declared.asking.AskFault.TheVariants.{Memory};
 
     ghost from_gives = { λ _ fault. fault ≡ Memory };
@@ -40,7 +41,7 @@ pub struct Answer {
 
 /// Who asks a relay.
 #[derive(Drop)]
-pub struct Asker<S: Connection> {
+pub struct Asker<S> {
     relay: Seat<S>,
 }
 
@@ -65,18 +66,27 @@ fn put_line(text: &mut Vec<u8>, line: &Line) -> Result<(), AllocError>
 }
 
 impl<S: Connection> Asker<S> {
-    ghost use Rattle.std.specs.Prelude.{◌≡◌, IfOk, IfSome, OnOk};
-    ghost use Rattle.macs_control.specs.Asking.{HasAnswer, HasLine, IsSent, coming_to, link_of};
+    ghost use Rattle.std.specs.Prelude.{◌≡◌, ◌++◌, ◌∷◌, [], IfOk, IfSome, true};
+    ghost use Rattle.macs_control.specs.Asking.{BeginsWithAnswer, BeginsWithLine, relay_of, unread};
+    ghost use Rattle.macs_control.specs.Links.{GivesOctets};
+    ghost use Rattle.macs_control.specs.Seats.{connection_of, held_by};
 
     /// Over a connection of which nothing was heard yet.
-    pub fn over(connection: S) -> Asker<S> {
+    pub fn over(connection: S) -> Asker<S>
+        ensures connection { connection_of (relay_of result) ≡ connection }
+        ensures held { held_by (relay_of result) ≡ [] }
+    {
         Asker {
             relay: Seat::new(Client(1), connection),
         }
     }
 
     /// Sends a line, to which its end is added.
-    pub fn send(&mut self, alloc: Global, line: &str) -> Result<(), AskFault> {
+    pub fn send(&mut self, alloc: Global, line: &str) -> Result<(), AskFault>
+        ensures sent { IfOk result (λ done. GivesOctets (S.link (connection_of (relay_of self.old)))
+            (S.link (connection_of (relay_of self.new))) (line.now ++ 10 ∷ []) true) }
+        ensures held { held_by (relay_of self.new) ≡ held_by (relay_of self.old) }
+    {
         let text = format!(in alloc; "{line}\n")?;
         if self.relay.give(text.as_str().as_bytes()) {
             return Ok(());
@@ -86,7 +96,11 @@ impl<S: Connection> Asker<S> {
 
     /// The next line. A look at the connection that brings no whole line brings an octet of it at least, or was
     /// interrupted.
-    fn next_line(&mut self) -> Option<Line> {
+    fn next_line(&mut self) -> Option<Line>
+        ensures { IfSome result (λ line. BeginsWithLine
+            (unread (held_by (relay_of self.old)) (S.link (connection_of (relay_of self.old)))) line.items
+            (unread (held_by (relay_of self.new)) (S.link (connection_of (relay_of self.new))))) }
+    {
         for _look in 0..=MAX_LINE {
             match self.relay.hear() {
                 Hearing::Line(line) => return Some(line),
@@ -98,7 +112,11 @@ impl<S: Connection> Asker<S> {
     }
 
     /// The next line, which has to come.
-    fn line(&mut self) -> Result<Line, AskFault> {
+    fn line(&mut self) -> Result<Line, AskFault>
+        ensures { IfOk result (λ line. BeginsWithLine
+            (unread (held_by (relay_of self.old)) (S.link (connection_of (relay_of self.old)))) line.items
+            (unread (held_by (relay_of self.new)) (S.link (connection_of (relay_of self.new))))) }
+    {
         match self.next_line() {
             Some(line) => Ok(line),
             None => Err(AskFault::Gone),
@@ -106,7 +124,11 @@ impl<S: Connection> Asker<S> {
     }
 
     /// Reads an answer up to its end.
-    pub fn answer(&mut self, alloc: Global) -> Result<Answer, AskFault> {
+    pub fn answer(&mut self, alloc: Global) -> Result<Answer, AskFault>
+        ensures { IfOk result (λ answer. BeginsWithAnswer
+            (unread (held_by (relay_of self.old)) (S.link (connection_of (relay_of self.old)))) answer.text.items answer.status
+            (unread (held_by (relay_of self.new)) (S.link (connection_of (relay_of self.new))))) }
+    {
         let mut text = Vec::new(alloc);
         for _line in 0..MAX_LINES {
             let line = self.line()?;

@@ -1,7 +1,7 @@
 //! How a control socket gets its name: one that was left behind is removed, and nobody but the owner
 //! of the program reaches the new one, from its first moment on.
 
-ghost use Rattle.std.specs.Prelude.{◌≡◌, [], ◌∷◌, List, Option, None, OnNone, OnSome, is_some, true};
+ghost use Rattle.std.specs.Prelude.{◌≡◌, IfNone, OnSome};
 ghost use Rattle.macs_control.specs.Binding.{Clears, IsBound, IsNotBound, IsNotNamed, named_calls, with_calls};
 
 use std::io::ErrorKind;
@@ -137,7 +137,7 @@ fn clear<L: LocalSockets>(sockets: &mut L, path: &str) -> bool
 /// A socket with a name that was free. Its mode is set before it has the name.
 fn named<L: LocalSockets>(sockets: &mut L, path: &str) -> Option<OwnedFd>
     ensures named { OnSome result (L.asked sockets.new ≡ with_calls (L.asked sockets.old) (named_calls path.now)) }
-    ensures failed { OnNone result (IsNotNamed path.now (L.asked sockets.old) (L.asked sockets.new)) }
+    ensures failed { IfNone result (IsNotNamed path.now (L.asked sockets.old) (L.asked sockets.new)) }
 {
     let socket = sockets.make()?;
     if !sockets.set_mode(&socket, OWNER_ALONE) {
@@ -153,7 +153,7 @@ fn named<L: LocalSockets>(sockets: &mut L, path: &str) -> Option<OwnedFd>
 /// name belongs to something else, or where a call of the system fails.
 pub fn bind<L: LocalSockets>(sockets: &mut L, path: &str) -> Option<UnixListener>
     ensures bound { OnSome result (IsBound path.now (L.asked sockets.old) (L.asked sockets.new)) }
-    ensures failed { OnNone result (IsNotBound path.now (L.asked sockets.old) (L.asked sockets.new)) }
+    ensures failed { IfNone result (IsNotBound path.now (L.asked sockets.old) (L.asked sockets.new)) }
 {
     if !clear(sockets, path) {
         return None;

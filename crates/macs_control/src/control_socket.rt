@@ -1,7 +1,5 @@
 //! The control socket of a relay, and all that a relay that is attended sleeps on.
 
-ghost use Rattle.std.specs.Prelude.{◌≤◌};
-
 use crate::binding::{SystemSockets, bind};
 use crate::seats::{MAX_CLIENTS, Seats};
 use crate::second::EachSecond;
@@ -27,6 +25,7 @@ pub enum ControlFault {
 }
 
 impl From<AllocError> for ControlFault {
+    ghost use Rattle.std.specs.Prelude.{◌≡◌};
     ghost use Rattle.macs_control.specs.declared.control_socket.ControlFault.TheVariants.{Memory};
 
     ghost from_gives = { λ _ fault. fault ≡ Memory };
@@ -118,12 +117,10 @@ impl<'a, T: Files + Clock> ControlSocket<'a, T> {
         Watch {
             wires: self.wires,
             listener,
-            clients: [
-                socket_at(seats, 0),
-                socket_at(seats, 1),
-                socket_at(seats, 2),
-                socket_at(seats, 3),
-            ],
+            first: socket_at(seats, 0),
+            second: socket_at(seats, 1),
+            third: socket_at(seats, 2),
+            fourth: socket_at(seats, 3),
         }
     }
 }

@@ -15,12 +15,12 @@ mod second;
 mod signals;
 mod watch;
 
-pub use asking::{Answer, Asker};
-pub use binding::{Bound, LocalSockets, Reach, SystemSockets, bind};
+pub use asking::{Answer, AskFault, Asker};
+pub use binding::{LocalSockets, Reach, SystemSockets, bind};
 pub use buffers::ask_for_buffer;
 pub use connection::{Connection, Taken};
-pub use control_socket::{ControlSocket, OwnFile};
-pub use metrics_file::{FileCalls, MetricsFile, SystemFiles};
+pub use control_socket::{ControlFault, ControlSocket, remove_name};
+pub use metrics_file::{FileCalls, MetricsFile, SystemFiles, replace};
 pub use notifier::Notifier;
 pub use patient::PatientStream;
 pub use seat::{Hearing, Seat};

@@ -1,8 +1,9 @@
 //! Whoever started the program is told how far it is (sd_notify(3)).
 
-ghost use Rattle.std.specs.Prelude.{◌≡◌, ◌≤◌, IfSome};
-ghost use Rattle.macs_control.specs.Notices.{HasAddress, HasLength};
+ghost use Rattle.std.specs.Prelude.{◌≡◌, ◌≤◌, ◌+◌, ◌∷◌, length, take, IfSome};
+ghost use Rattle.macs_control.specs.Notices.{HasAddress, name_octets};
 
+use arrayvec::ArrayVec;
 use libc::net as c;
 use std::alloc::Global;
 use std::env;
@@ -12,40 +13,52 @@ use std::rt::Env;
 /// The longest name of a local socket, in octets (unix(7)).
 const MAX_NAME: usize = 107;
 
+/// A name as it is in an address.
+type Name = ArrayVec<u8, MAX_NAME>;
+
 /// The address of a local socket, as the system takes it: so many of these octets count.
 #[derive(Clone, Copy)]
 pub(crate) struct LocalAddress {
     octets: [u8; 128],
-    length: u32,
+    count: u32,
+    ghost short: { count ≤ 109 },
 }
 
-/// The name behind the family of addresses. Of an abstract name, which begins with `@`, the first octet is 0.
-fn put_name(octets: &mut [u8], name: &[u8])
-    requires { HasLength octets.old name.now }
-    ensures { HasAddress name.now octets.new }
+/// A name as it is in an address: of an abstract one, which begins with `@`, the first octet is 0.
+fn name_octets(name: &[u8]) -> Name
+    requires { length name.now ≤ 107 }
+    ensures { result.items ≡ name_octets name.now }
 {
-    octets[0] = 1; // The family of local sockets (AF_UNIX), a number of 16 bits of which the low octet is first.
-    octets[1] = 0;
-    octets[2..2 + name.len()].copy_from_slice(name);
-    if name[0] == b'@' {
-        octets[2] = 0;
+    let mut octets = Name::new();
+    if let Some((first, rest)) = name.split_first() {
+        octets.push(if *first == b'@' { 0 } else { *first });
+        octets.try_extend_from_slice(rest).unwrap();
     }
+    octets
+}
+
+/// Puts the family of local sockets (`AF_UNIX`, a number of 16 bits, the low octet first) and a name at the front.
+fn put_name(octets: &mut [u8], name: &[u8])
+    requires { 2 + length name.now ≤ length octets.old }
+    ensures { take (2 + length name.now) octets.new ≡ 1 ∷ 0 ∷ name.now }
+{
+    octets[..2].copy_from_slice(&[1, 0]);
+    octets[2..2 + name.len()].copy_from_slice(name);
 }
 
 /// The address of a name, where it is one: 1 to 107 octets, a path or an abstract name.
 pub(crate) fn address_of(name: &[u8]) -> Option<LocalAddress>
-    ensures length { IfSome result (λ address. address.length ≡ 2 + length name.now) }
-    ensures short { IfSome result (λ address. address.length ≤ 109) }
+    ensures count { IfSome result (λ address. address.count ≡ 2 + length name.now) }
     ensures address { IfSome result (λ address. HasAddress name.now address.octets) }
 {
     if name.is_empty() || name.len() > MAX_NAME {
         return None;
     }
     let mut octets = [0u8; 128];
-    put_name(&mut octets, name);
+    put_name(&mut octets, name_octets(name).as_slice());
     Some(LocalAddress {
         octets,
-        length: (2 + name.len()) as u32,
+        count: (2 + name.len()) as u32,
     })
 }
 
@@ -57,7 +70,6 @@ pub struct Notifier {
 
 /// Sends a text to an address, as one datagram. Nobody hears of a failure: the program goes on.
 fn send_to(address: &LocalAddress, text: &[u8])
-    requires { address.now.length ≤ 109 }
 {
     let fd = unsafe { c::socket(c::AF_UNIX, c::SOCK_DGRAM | c::SOCK_CLOEXEC, 0) };
     if fd < 0 {
@@ -69,7 +81,7 @@ fn send_to(address: &LocalAddress, text: &[u8])
             text,
             c::MSG_NOSIGNAL | c::MSG_DONTWAIT,
             &address.octets,
-            address.length,
+            address.count,
         )
     };
     libc::close(fd);

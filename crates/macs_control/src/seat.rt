@@ -18,7 +18,7 @@ pub enum Hearing {
 
 /// A client with a connection, and the octets of it of which no line was heard yet.
 #[derive(Drop)]
-pub struct Seat<S: Connection> {
+pub struct Seat<S> {
     client: Client,
     connection: S,
     inbox: Inbox,

@@ -13,7 +13,7 @@ pub const MAX_CLIENTS: usize = 4;
 /// The clients of a control socket, four at most, that which was silent longest first. A further
 /// one takes the place of the first.
 #[derive(Drop)]
-pub struct Seats<S: Connection> {
+pub struct Seats<S> {
     seats: Vec<Seat<S>>,
     last: u64,
     ghost few: { length seats.items ≤ 4 },

@@ -23,7 +23,10 @@ pub struct Wires {
 pub struct Watch {
     pub wires: Wires,
     pub listener: RawFd,
-    pub clients: [RawFd; 4],
+    pub first: RawFd,
+    pub second: RawFd,
+    pub third: RawFd,
+    pub fourth: RawFd,
 }
 
 /// Asks whether a socket can be read.
@@ -45,15 +48,14 @@ impl Watch {
     pub fn asked(&self) -> [pollfd; 7]
         ensures { result ≡ map asks (watched self.now) }
     {
-        let [first, second, third, fourth] = &self.clients;
         [
             readable(self.wires.controlled),
             readable(self.wires.common),
             readable(self.listener),
-            readable(*first),
-            readable(*second),
-            readable(*third),
-            readable(*fourth),
+            readable(self.first),
+            readable(self.second),
+            readable(self.third),
+            readable(self.fourth),
         ]
     }
 

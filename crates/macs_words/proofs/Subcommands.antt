@@ -400,15 +400,24 @@ asks rows word there = go (first_of (codes "FILE") rows) refl
     differs : (text : Text) → bytes_eq word text ≡ false → first_of (codes "WORD") rows ≡ Some text → ⊥
     differs text other has = let e = (bytes_eq-Decides word text).1 (same text has) in cc
 
+    none-with : (file : Text) → first_of (codes "FILE") rows ≡ Some file → bytes_eq word (codes "apply") ≡ false
+        → (asked : Question) → HasQuestion rows asked → ⊥
+    none-with file given other question.Show has = let e = sym given ∙ has.1 in cc
+    none-with file given other question.Counters has = let e = sym given ∙ has.1 in cc
+    none-with file given other question.Stop has = let e = sym given ∙ has.1 in cc
+    none-with file given other (question.Apply name) has = differs (codes "apply") other has.0
+
+    none-alone : first_of (codes "FILE") rows ≡ None → bytes_eq word (codes "show") ≡ false → bytes_eq word (codes "counters") ≡ false
+        → bytes_eq word (codes "stop") ≡ false → (asked : Question) → HasQuestion rows asked → ⊥
+    none-alone none first second third question.Show has = differs (codes "show") first has.0
+    none-alone none first second third question.Counters has = differs (codes "counters") second has.0
+    none-alone none first second third question.Stop has = differs (codes "stop") third has.0
+    none-alone none first second third (question.Apply name) has = let e = sym none ∙ has.1 in cc
+
     with-file : (file : Text) → first_of (codes "FILE") rows ≡ Some file → (applies : Bool) → bytes_eq word (codes "apply") ≡ applies
         → ((asked : Question) × HasQuestion rows asked) ⊎ ((asked : Question) → ¬ HasQuestion rows asked)
     with-file file given true equal = inl (question.Apply (text_of file), (is (codes "apply") equal, given))
-    with-file file given false other = inr (λ asked. elim asked [
-      | question.Show ↦ λ has. let e = sym given ∙ has.1 in cc
-      | question.Counters ↦ λ has. let e = sym given ∙ has.1 in cc
-      | question.Stop ↦ λ has. let e = sym given ∙ has.1 in cc
-      | question.Apply name ↦ λ has. differs (codes "apply") other has.0
-    ])
+    with-file file given false other = inr (none-with file given other)
 
     alone : first_of (codes "FILE") rows ≡ None → (shows counts stops : Bool) → bytes_eq word (codes "show") ≡ shows
         → bytes_eq word (codes "counters") ≡ counts → bytes_eq word (codes "stop") ≡ stops
@@ -416,12 +425,7 @@ asks rows word there = go (first_of (codes "FILE") rows) refl
     alone none true counts stops equal second third = inl (question.Show, (is (codes "show") equal, none))
     alone none false true stops first equal third = inl (question.Counters, (is (codes "counters") equal, none))
     alone none false false true first second equal = inl (question.Stop, (is (codes "stop") equal, none))
-    alone none false false false first second third = inr (λ asked. elim asked [
-      | question.Show ↦ λ has. differs (codes "show") first has.0
-      | question.Counters ↦ λ has. differs (codes "counters") second has.0
-      | question.Stop ↦ λ has. differs (codes "stop") third has.0
-      | question.Apply name ↦ λ has. let e = sym none ∙ has.1 in cc
-    ])
+    alone none false false false first second third = inr (none-alone none first second third)
 
     go : (found : Option Text) → first_of (codes "FILE") rows ≡ found
         → ((asked : Question) × HasQuestion rows asked) ⊎ ((asked : Question) → ¬ HasQuestion rows asked)
