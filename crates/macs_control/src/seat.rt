@@ -26,7 +26,7 @@ pub struct Seat<S> {
 
 impl<S: Connection> Seat<S> {
     ghost use Rattle.std.specs.Prelude.{◌≡◌, [], true, false};
-    ghost use Rattle.macs_control.specs.Links.{GivesOctets, Hears};
+    ghost use Rattle.macs_control.specs.Links.{Fills, GivesOctets, Hears};
     ghost use Rattle.macs_control.specs.Seats.{client_of, connection_of, held_by};
 
     /// A client of which nothing was heard yet.
@@ -57,15 +57,20 @@ impl<S: Connection> Seat<S> {
     }
 
     /// Takes what came, as far as there is room for it.
-    fn fill(&mut self) -> Taken {
+    fn fill(&mut self) -> Taken
+        ensures client { client_of self.new ≡ client_of self.old }
+        ensures fills { Fills (held_by self.old) (S.link (connection_of self.old)) result
+            (held_by self.new) (S.link (connection_of self.new)) }
+    {
         let room = self.inbox.room();
         if room == 0 {
             return Taken::Gone;
         }
         let mut octets = [0; MAX_LINE];
-        let taken = self.connection.take_into(&mut octets[..room]);
+        let part = &mut octets[..room];
+        let taken = self.connection.take_into(part);
         if let Taken::Octets(count) = taken {
-            self.inbox.push(&octets[..count]);
+            self.inbox.push(&part[..count]);
         }
         taken
     }

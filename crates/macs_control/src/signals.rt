@@ -16,14 +16,17 @@ const MARK: &str = "ShdPnd:\t";
 /// The weight of SIGTERM (15) among them.
 const TERM: u64 = 16_384;
 
-/// The digits behind the mark.
+/// The digits behind the mark, up to the end of the line.
 fn digits_in(status: &str) -> Option<&str>
     ensures { IfSome result (λ digits. HasDigits status.now digits.now) }
 {
-    let Some((_, rest)) = status.split_once(MARK) else {
+    let Some((_, behind)) = status.split_once(MARK) else {
         return None;
     };
-    rest.get(..16)
+    let Some((digits, _)) = behind.split_once('\n') else {
+        return None;
+    };
+    Some(digits)
 }
 
 /// Whether SIGTERM is among the signals that hex digits say.

@@ -1,0 +1,3 @@
+pub mod Marks
+pub mod Heard
+pub mod Called
