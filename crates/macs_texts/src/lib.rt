@@ -3,6 +3,8 @@
 
 mod counting;
 mod lines;
+mod showing;
 mod words;
 
 pub use counting::counter_lines;
+pub use showing::show_lines;

@@ -17,10 +17,7 @@ use Rattle.macs_config.specs.declared.command.Validate.TheVariants as validate
 use Rattle.macs_fields.specs.Fields.{octets_of}
 use Rattle.macs_rxsc.specs.Receive.{Numbers}
 use Rattle.macs_endpoint.specs.State.{State}
-
--- a line with its end
-abbrev pub line : List ℕ → List ℕ
-line text = text ++ 10 ∷ []
+use Rattle.macs_texts.specs.Lines.{line}
 
 -- ---- single lines
 

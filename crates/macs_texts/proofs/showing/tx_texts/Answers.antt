@@ -1,9 +1,9 @@
 use Rattle.std.proofs.Common.{ℕ, List, [], length, string_bytes, ap, refl}
 use Rattle.macs_endpoint.specs.State.{State, no_logs}
 use Rattle.macs_endpoint.specs.Value.{state_of}
-use Rattle.macs_program.specs.Showing.{tx_text}
-use Rattle.macs_program.proofs.Shown.{shown-more}
-use Rattle.macs_program.proofs.showing.tx_texts.Goals as goal
+use Rattle.macs_texts.specs.Showing.{tx_text}
+use Rattle.macs_texts.proofs.Shown.{shown-more}
+use Rattle.macs_texts.proofs.showing.tx_texts.Goals as goal
 
 pub loop-an-preserved : goal.loop-an-preserved
 loop-an-preserved g c =

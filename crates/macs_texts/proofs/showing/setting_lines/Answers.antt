@@ -1,8 +1,8 @@
 use Rattle.std.proofs.Common.{string_bytes}
 use Rattle.std.proofs.lemmas.Result.{IfOk-weaker}
 use Rattle.macs_config.specs.Value.{config_of}
-use Rattle.macs_program.proofs.Shown.{setting-parts}
-use Rattle.macs_program.proofs.showing.setting_lines.Goals as goal
+use Rattle.macs_texts.proofs.Shown.{setting-parts}
+use Rattle.macs_texts.proofs.showing.setting_lines.Goals as goal
 
 pub returns : goal.returns
 returns c =

@@ -3,8 +3,8 @@ use Rattle.std.proofs.lemmas.Result.{IfOk-weaker}
 use Rattle.macs_config.specs.Value.{config_of}
 use Rattle.macs_endpoint.specs.State.{State, no_logs}
 use Rattle.macs_endpoint.specs.Value.{state_of}
-use Rattle.macs_program.proofs.Shown.{shown-parts}
-use Rattle.macs_program.proofs.showing.show_lines.Goals as goal
+use Rattle.macs_texts.proofs.Shown.{shown-parts}
+use Rattle.macs_texts.proofs.showing.show_lines.Goals as goal
 
 pub returns : goal.returns
 returns g c =

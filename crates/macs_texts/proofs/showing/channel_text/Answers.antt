@@ -1,9 +1,9 @@
 use Rattle.std.proofs.Common.{ℕ, List, length, string_bytes, ap, refl}
 use Rattle.macs_endpoint.specs.State.{State, no_logs}
 use Rattle.macs_endpoint.specs.Value.{state_of}
-use Rattle.macs_program.specs.Showing.{channel_line, rx_text}
-use Rattle.macs_program.proofs.Shown.{shown-more}
-use Rattle.macs_program.proofs.showing.channel_text.Goals as goal
+use Rattle.macs_texts.specs.Showing.{channel_line, rx_text}
+use Rattle.macs_texts.proofs.Shown.{shown-more}
+use Rattle.macs_texts.proofs.showing.channel_text.Goals as goal
 
 pub loop-an-preserved : goal.loop-an-preserved
 loop-an-preserved g c =

@@ -3,8 +3,8 @@ use Rattle.std.proofs.lemmas.Result.{IfOk-weaker}
 use Rattle.macs_config.specs.Value.{config_of}
 use Rattle.macs_endpoint.specs.State.{State, no_logs}
 use Rattle.macs_endpoint.specs.Value.{state_of}
-use Rattle.macs_program.proofs.Shown.{rx-none, rx-some}
-use Rattle.macs_program.proofs.showing.rx_text.Goals as goal
+use Rattle.macs_texts.proofs.Shown.{rx-none, rx-some}
+use Rattle.macs_texts.proofs.showing.rx_text.Goals as goal
 
 pub returns-in_default : goal.returns-in_default
 returns-in_default g c =

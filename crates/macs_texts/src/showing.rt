@@ -1,17 +1,18 @@
 //! `show`: the configuration of an endpoint and its packet numbers, as text.
 
-ghost use Rattle.std.specs.Prelude.{◌≡◌, ℕ, List, ◌++◌, if◌then◌else◌, map, codes, IfOk, string_bytes};
+ghost use Rattle.std.specs.Prelude.{◌≡◌, ◌++◌, if◌then◌else◌, map, codes, IfOk, string_bytes};
 ghost use Rattle.std.specs.List.{concat};
 ghost use Rattle.macs_config.specs.Value.{config_of};
 ghost use Rattle.macs_rxsc.specs.Receive.{Numbers};
 ghost use Rattle.macs_endpoint.specs.State.{no_logs};
 ghost use Rattle.macs_endpoint.specs.Value.{state_of};
-ghost use Rattle.macs_program.specs.Showing.{association_numbers, blocks_line, channel_line, channel_text, encoding_line};
-ghost use Rattle.macs_program.specs.Showing.{mode_line, mode_word, replay_line, rx_line, rx_text, sci_line, show_text};
-ghost use Rattle.macs_program.specs.Showing.{spent_line, tx_line, tx_text, validate_line, validate_word};
+ghost use Rattle.macs_texts.specs.Showing.{association_numbers, blocks_line, channel_line};
+ghost use Rattle.macs_texts.specs.Showing.{channel_text, encoding_line, mode_line, mode_word};
+ghost use Rattle.macs_texts.specs.Showing.{replay_line, rx_line, rx_text, sci_line, show_text};
+ghost use Rattle.macs_texts.specs.Showing.{spent_line, tx_line, tx_text, validate_line};
+ghost use Rattle.macs_texts.specs.Showing.{validate_word};
 
-use crate::hex_text::HexText;
-use crate::output::ended;
+use crate::lines::{ended, joined};
 use macs_config::{Config, Identity, Protection, Replay, RxSa, SciMode, TxSa, Validate};
 use macs_disk::SectorDisk;
 use macs_endpoint::Endpoint;
@@ -23,8 +24,7 @@ use std::fmt;
 fn sci_line(alloc: Global, identity: &Identity) -> Result<String, AllocError>
     ensures { IfOk result (λ text. string_bytes text ≡ sci_line identity.now) }
 {
-    let octets = identity.sci().get();
-    let sci = HexText(&octets);
+    let sci = hex::encode(alloc, identity.sci().get())?;
     ended(format!(in alloc; "sci {sci}")?)
 }
 
@@ -102,7 +102,7 @@ struct ProtectionText(Protection);
 
 impl fmt::Display for ProtectionText {
     ghost use Rattle.std.specs.Prelude.{Some};
-    ghost use Rattle.macs_program.specs.Showing.{protection_words};
+    ghost use Rattle.macs_texts.specs.Showing.{protection_words};
 
     ghost output = { λ text. Some (protection_words text.0) };
 
@@ -128,8 +128,7 @@ fn tx_line(alloc: Global, an: An, sa: &TxSa, next: u64) -> Result<String, AllocE
 fn channel_line(alloc: Global, sci: Sci) -> Result<String, AllocError>
     ensures { IfOk result (λ text. string_bytes text ≡ channel_line sci) }
 {
-    let octets = sci.get();
-    let sci = HexText(&octets);
+    let sci = hex::encode(alloc, sci.get())?;
     ended(format!(in alloc; "channel {sci}")?)
 }
 
@@ -143,8 +142,7 @@ fn rx_line(
     ensures { IfOk result (λ text. (n : Numbers) → n.next ≡ numbers.next → n.lowest ≡ numbers.lowest
         → string_bytes text ≡ rx_line sci an sa.now n) }
 {
-    let octets = sci.get();
-    let sci = HexText(&octets);
+    let sci = hex::encode(alloc, sci.get())?;
     let an = an.get();
     let offset = sa.offset.get();
     let RxNumbers { next, lowest } = numbers;
@@ -159,7 +157,7 @@ fn spent_line(alloc: Global, config: &Config) -> Result<String, AllocError>
     ended(format!(in alloc; "spent tx {tx} rx {rx}")?)
 }
 
-/// The line of a transmit association, where it stands.
+/// The line of a transmit association, where there is one.
 fn tx_text<D: SectorDisk>(
     alloc: Global,
     endpoint: &Endpoint<D>,
@@ -176,7 +174,7 @@ fn tx_text<D: SectorDisk>(
     tx_line(alloc, an, &sa, next)
 }
 
-/// The line of a receive association, where it stands.
+/// The line of a receive association, where there is one.
 fn rx_text<D: SectorDisk>(
     alloc: Global,
     endpoint: &Endpoint<D>,
@@ -234,19 +232,6 @@ fn channel_texts<D: SectorDisk>(alloc: Global, endpoint: &Endpoint<D>) -> Result
     Ok(text)
 }
 
-/// One text behind another, where there are both.
-fn joined(
-    text: Result<String, AllocError>,
-    more: Result<String, AllocError>,
-) -> Result<String, AllocError>
-    ensures { (front back : List ℕ) → IfOk text (λ first. string_bytes first ≡ front)
-        → IfOk more (λ second. string_bytes second ≡ back) → IfOk result (λ whole. string_bytes whole ≡ front ++ back) }
-{
-    let mut text = text?;
-    text.push_str(more?.as_str())?;
-    Ok(text)
-}
-
 /// What was formatted: the SCI and the blocks.
 fn identity_lines(alloc: Global, identity: &Identity) -> Result<String, AllocError>
     ensures { IfOk result (λ text. string_bytes text ≡ sci_line identity.now ++ blocks_line identity.now) }
@@ -266,7 +251,8 @@ fn setting_lines(alloc: Global, config: &Config) -> Result<String, AllocError>
     joined(validate_line(alloc, config.validate()), text)
 }
 
-/// The lines that `show` prints of an endpoint. It fails for want of memory alone.
+/// The lines that `show` prints of an endpoint. It fails only where memory is
+/// refused.
 pub fn show_lines<D: SectorDisk>(
     alloc: Global,
     endpoint: &Endpoint<D>,

@@ -1,9 +1,9 @@
 use Rattle.std.proofs.Common.{[], string_bytes, refl}
 use Rattle.macs_endpoint.specs.State.{State, no_logs}
 use Rattle.macs_endpoint.specs.Value.{state_of}
-use Rattle.macs_program.specs.Showing.{channel_text}
-use Rattle.macs_program.proofs.Shown.{shown-more}
-use Rattle.macs_program.proofs.showing.channel_texts.Goals as goal
+use Rattle.macs_texts.specs.Showing.{channel_text}
+use Rattle.macs_texts.proofs.Shown.{shown-more}
+use Rattle.macs_texts.proofs.showing.channel_texts.Goals as goal
 
 pub loop-sci-preserved : goal.loop-sci-preserved
 loop-sci-preserved g c =
