@@ -3,8 +3,10 @@
 
 mod counting;
 mod lines;
+mod refusals;
 mod showing;
 mod words;
 
 pub use counting::counter_lines;
+pub use refusals::refusal_name;
 pub use showing::show_lines;
