@@ -1,0 +1,83 @@
+//! When a desk listens to its clients.
+
+ghost use Rattle.std.specs.Prelude.{◌≡◌, List};
+ghost use Rattle.macs_requests.specs.Talks.{Talk, with_talk};
+ghost use Rattle.macs_desk.specs.Listening.{Listens, Looks, is_time, reports_of, sleep_after};
+ghost use Rattle.macs_desk.specs.Listening.{turns_after};
+
+use crate::answering::read;
+use macs_disk::SectorDisk;
+use macs_edge::{Order, WireCounts};
+use macs_endpoint::Endpoint;
+use macs_requests::{Client, Clients};
+use std::alloc::Global;
+
+/// After how many turns without it a desk looks after its clients.
+const TURNS_BETWEEN: u8 = 63;
+
+/// Whether it is time to look after clients: after a quiet turn, and else at each 64th turn.
+pub fn is_time(turns: &mut u8, was_quiet: bool) -> bool
+    ensures time { result ≡ is_time was_quiet turns.old }
+    ensures turns { turns.new ≡ turns_after was_quiet turns.old }
+{
+    if was_quiet || *turns == TURNS_BETWEEN {
+        *turns = 0;
+        return true;
+    }
+    *turns = turns.saturating_add(1);
+    false
+}
+
+/// Sleeps after a quiet turn.
+pub fn rest<C: Clients>(was_quiet: bool, clients: &mut C)
+    ensures { C.talk clients.new ≡ with_talk (C.talk clients.old) (sleep_after was_quiet) }
+{
+    if was_quiet {
+        clients.sleep();
+    }
+}
+
+/// Takes the next line of a client, where there is one, and reads it. Who asks is its client then.
+fn listen<D: SectorDisk, C: Clients>(
+    alloc: Global,
+    endpoint: &Endpoint<D>,
+    controlled: &WireCounts,
+    common: &WireCounts,
+    clients: &mut C,
+    asking: &mut Client,
+) -> Order
+    ensures { (talk : List Talk)
+        × Listens (reports_of endpoint.now controlled.now common.now) asking.old talk result asking.new
+        × (C.talk clients.new ≡ with_talk (C.talk clients.old) talk) }
+{
+    match clients.hear() {
+        Some(heard) => {
+            *asking = heard.client;
+            read(alloc, endpoint, controlled, common, &heard, clients)
+        }
+        None => Order::Go,
+    }
+}
+
+/// Looks whether the process was asked to end, and listens, unless 16 commands are under way.
+pub fn look<D: SectorDisk, C: Clients>(
+    alloc: Global,
+    endpoint: &Endpoint<D>,
+    controlled: &WireCounts,
+    common: &WireCounts,
+    is_full: bool,
+    clients: &mut C,
+    asking: &mut Client,
+) -> Order
+    ensures { (talk : List Talk)
+        × Looks is_full (reports_of endpoint.now controlled.now common.now) asking.old talk result asking.new
+        × (C.talk clients.new ≡ with_talk (C.talk clients.old) talk) }
+{
+    if clients.is_ended() {
+        return Order::End;
+    }
+    if is_full {
+        return Order::Go;
+    }
+    listen(alloc, endpoint, controlled, common, clients, asking)
+}
