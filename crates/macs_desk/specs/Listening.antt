@@ -1,5 +1,5 @@
 -- When a desk listens to its clients, and what it says to them.
-use Rattle.std.specs.Prelude.{◌≡◌, ◌≢◌, ◌⊎◌, ◌==◌, ◌+◌, ◌++◌, ◌||◌, ℕ, if◌then◌else◌, Bool, true, false, List, [], ◌∷◌}
+use Rattle.std.specs.Prelude.{◌≡◌, ◌≢◌, ◌⊎◌, ◌==◌, ◌-◌, ◌++◌, ◌||◌, ℕ, Bool, true, false, List, [], ◌∷◌}
 use Rattle.std.specs.Prelude.{Option, Some, None, Result, Ok, Err}
 use Rattle.std.specs.Str.{IsUtf8}
 use Rattle.macs_edge.specs.declared.attending.CommandEnd.{CommandEnd}
@@ -97,13 +97,19 @@ abbrev pub sleep_after : Bool → List Talk
 sleep_after true = Slept ∷ []
 sleep_after false = []
 
--- it is time to look after a quiet turn, and else once 63 turns have passed since
+-- it is time to look after a quiet turn, and once as many turns have passed as may pass without it
 abbrev pub is_time : Bool → ℕ → Bool
-is_time was_quiet turns = was_quiet || turns == 63
+is_time was_quiet left = was_quiet || left == 0
 
--- how many turns have passed since
-abbrev pub turns_after : Bool → ℕ → ℕ
-turns_after was_quiet turns = if is_time was_quiet turns then 0 else turns + 1
+-- how many turns may pass without it, once this was wanted: none after a command, since more may come with it
+abbrev pub turns_between : Order → ℕ
+turns_between (Submit command) = 0
+turns_between order = 63
+
+-- how many may still pass
+abbrev pub turns_left : Bool → ℕ → Order → ℕ
+turns_left true left order = turns_between order
+turns_left false left order = left - 1
 
 -- where it is time, the desk sleeps and looks; else it wants no more than that the relay goes on
 abbrev pub LooksIf : Bool → Bool → Bool → Reports → Client → List Talk → Order → Client → Type 0

@@ -3,11 +3,11 @@
 ghost use Rattle.std.specs.Prelude.{◌≡◌, [], List};
 ghost use Rattle.macs_requests.specs.Talks.{Note, Talk, with_notes, with_talk};
 ghost use Rattle.macs_desk.specs.Listening.{LooksIf, MeasuresIf, is_time, reports_of};
-ghost use Rattle.macs_desk.specs.Listening.{said_of_ending, said_of_taking, turns_after};
+ghost use Rattle.macs_desk.specs.Listening.{said_of_ending, said_of_taking, turns_left};
 ghost use Rattle.macs_desk.specs.Listening.{under_way_after};
 ghost use Rattle.macs_desk.specs.UnderWay.{entries_of, is_full, without};
 
-use crate::listening::{is_time, look, rest};
+use crate::listening::{TURNS_BETWEEN, is_time, look, rest, turns_between};
 use crate::measuring::measure;
 use crate::replies::{ended, not_taken};
 use crate::under_way::{Queue, UnderWay};
@@ -18,10 +18,10 @@ use macs_requests::{Client, Clients, Metrics};
 use std::alloc::Global;
 
 /// A desk that serves clients. It listens to them after a quiet turn, before which it sleeps, and
-/// else at each 64th turn, and takes one line then. `show` and `counters` are answered at once. A
-/// command is handed in, and its client is told once it is done: `ok` after it is kept, and not
-/// before. Up to 16 commands are under way; while they are, no line is taken. `stop` ends the relay,
-/// and so does the wish to end the process.
+/// else at each 64th turn, and takes one line then; after a command it listens again before the
+/// next turn. `show` and `counters` are answered at once. A command is handed in, and its client is
+/// answered once it is done: `ok` after it is kept, and not before. Up to 16 commands are under way;
+/// while they are, no line is taken. `stop` ends the relay, and so does the wish to end the process.
 ///
 /// What clients do never holds a frame: no call waits for one of them. A client that goes away
 /// loses its answers, and none of its commands that were taken.
@@ -33,8 +33,8 @@ pub struct ControlDesk<C, M> {
     under_way: Queue,
     /// The client whose line was taken last.
     asking: Client,
-    /// The turns since it looked after its clients, 63 at most.
-    turns: u8,
+    /// How many turns may pass before it looks after its clients, if none of them is quiet.
+    turns_left: u8,
 }
 
 impl<C: Clients, M: Metrics> ControlDesk<C, M> {
@@ -43,7 +43,7 @@ impl<C: Clients, M: Metrics> ControlDesk<C, M> {
         ensures clients { result.clients ≡ clients }
         ensures metrics { result.metrics ≡ metrics }
         ensures none { entries_of result.under_way ≡ [] }
-        ensures turns { result.turns ≡ 0 }
+        ensures turns { result.turns_left ≡ 63 }
     {
         ControlDesk {
             alloc,
@@ -51,15 +51,22 @@ impl<C: Clients, M: Metrics> ControlDesk<C, M> {
             metrics,
             under_way: Queue::new(),
             asking: Client::default(),
-            turns: 0,
+            turns_left: TURNS_BETWEEN,
         }
     }
 
-    /// The clients.
-    pub fn clients(&self) -> &C
-        ensures { result.now ≡ self.now.clients }
+}
+
+impl<C, M> ControlDesk<C, M> {
+    /// The clients, and where the metrics are written.
+    pub fn into_parts(self) -> (C, M)
+        ensures clients { result.0 ≡ self.clients }
+        ensures metrics { result.1 ≡ self.metrics }
     {
-        &self.clients
+        let ControlDesk {
+            clients, metrics, ..
+        } = self;
+        (clients, metrics)
     }
 }
 
@@ -74,25 +81,27 @@ impl<D: SectorDisk, P: Wire + Counted, W: Wire + Counted, C: Clients, M: Metrics
         was_quiet: bool,
     ) -> Order
         ensures talk { (talk : List Talk)
-            × LooksIf (is_time was_quiet self.old.turns) was_quiet (is_full (entries_of self.old.under_way))
+            × LooksIf (is_time was_quiet self.old.turns_left) was_quiet (is_full (entries_of self.old.under_way))
             (reports_of endpoint.now (P.wire_counts controlled.now) (W.wire_counts common.now))
             self.old.asking talk result self.new.asking
             × (C.talk self.new.clients ≡ with_talk (C.talk self.old.clients) talk) }
         ensures notes { (notes : List Note)
-            × MeasuresIf (is_time was_quiet self.old.turns)
+            × MeasuresIf (is_time was_quiet self.old.turns_left)
             (reports_of endpoint.now (P.wire_counts controlled.now) (W.wire_counts common.now)).measured notes
             × (M.notes self.new.metrics ≡ with_notes (M.notes self.old.metrics) notes) }
         ensures under_way { entries_of self.new.under_way ≡ entries_of self.old.under_way }
-        ensures turns { self.new.turns ≡ turns_after was_quiet self.old.turns }
+        ensures turns { self.new.turns_left
+            ≡ turns_left (is_time was_quiet self.old.turns_left) self.old.turns_left result }
     {
-        if !is_time(&mut self.turns, was_quiet) {
+        if !is_time(was_quiet, self.turns_left) {
+            self.turns_left = self.turns_left.saturating_sub(1);
             return Order::Go;
         }
         let controlled = controlled.counts();
         let common = common.counts();
         rest(was_quiet, &mut self.clients);
         measure(self.alloc, endpoint, &controlled, &common, &mut self.metrics);
-        look(
+        let order = look(
             self.alloc,
             endpoint,
             &controlled,
@@ -100,7 +109,9 @@ impl<D: SectorDisk, P: Wire + Counted, W: Wire + Counted, C: Clients, M: Metrics
             self.under_way.is_full(),
             &mut self.clients,
             &mut self.asking,
-        )
+        );
+        self.turns_left = turns_between(&order);
+        order
     }
 
     fn took(&mut self, answer: Result<Ticket, SubmitFault>)

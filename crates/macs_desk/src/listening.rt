@@ -3,7 +3,7 @@
 ghost use Rattle.std.specs.Prelude.{◌≡◌, List};
 ghost use Rattle.macs_requests.specs.Talks.{Talk, with_talk};
 ghost use Rattle.macs_desk.specs.Listening.{Listens, Looks, is_time, reports_of, sleep_after};
-ghost use Rattle.macs_desk.specs.Listening.{turns_after};
+ghost use Rattle.macs_desk.specs.Listening.{turns_between};
 
 use crate::answering::read;
 use macs_disk::SectorDisk;
@@ -12,20 +12,25 @@ use macs_endpoint::Endpoint;
 use macs_requests::{Client, Clients};
 use std::alloc::Global;
 
-/// After how many turns without it a desk looks after its clients.
-const TURNS_BETWEEN: u8 = 63;
+/// How many turns pass without a look at the clients, if none of them is quiet.
+pub const TURNS_BETWEEN: u8 = 63;
 
-/// Whether it is time to look after clients: after a quiet turn, and else at each 64th turn.
-pub fn is_time(turns: &mut u8, was_quiet: bool) -> bool
-    ensures time { result ≡ is_time was_quiet turns.old }
-    ensures turns { turns.new ≡ turns_after was_quiet turns.old }
+/// Whether it is time to look after the clients, where so many turns may pass without it.
+pub fn is_time(was_quiet: bool, left: u8) -> bool
+    ensures { result ≡ is_time was_quiet left }
 {
-    if was_quiet || *turns == TURNS_BETWEEN {
-        *turns = 0;
-        return true;
+    was_quiet || left == 0
+}
+
+/// How many turns may pass without it, once this was wanted: none after a command, since more may
+/// come with it.
+pub fn turns_between(order: &Order) -> u8
+    ensures { result ≡ turns_between order.now }
+{
+    match order {
+        Order::Submit(_) => 0,
+        Order::Go | Order::End => TURNS_BETWEEN,
     }
-    *turns = turns.saturating_add(1);
-    false
 }
 
 /// Sleeps after a quiet turn.

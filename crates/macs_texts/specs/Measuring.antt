@@ -56,10 +56,13 @@ tx_name = codes "macsec_tx_frames_total"
 abbrev pub tx_sample : TxCounters → TxFault → List ℕ
 tx_sample c fault = sample tx_name (label (codes "answer") (fault_words fault)) (fault_count fault c)
 
--- what comes before these: how many went out
+-- how many went out
+abbrev pub protected_sample : TxCounters → List ℕ
+protected_sample c = sample tx_name (label (codes "answer") (codes "protected")) c.protected
+
+-- what comes before the faults
 abbrev pub tx_front : TxCounters → List ℕ
-tx_front c = metric_head tx_name (codes "counter") (codes "Plain frames by what was answered.")
-    ++ sample tx_name (label (codes "answer") (codes "protected")) c.protected
+tx_front c = metric_head tx_name (codes "counter") (codes "Plain frames by what was answered.") ++ protected_sample c
 
 -- all of them
 abbrev pub tx_metric : TxCounters → List ℕ

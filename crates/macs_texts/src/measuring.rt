@@ -9,13 +9,13 @@ ghost use Rattle.macs_rxsc.specs.Value as rxsc;
 ghost use Rattle.macs_txsc.specs.Value as txsc;
 ghost use Rattle.macs_texts.specs.Measuring.{channel_labels, channel_metric, channel_sample};
 ghost use Rattle.macs_texts.specs.Measuring.{channel_samples, key_numbers, keys_metric, left_metric, left_sample};
-ghost use Rattle.macs_texts.specs.Measuring.{metrics_text, rx_metric, rx_sample, tx_front};
-ghost use Rattle.macs_texts.specs.Measuring.{tx_metric, tx_sample, wire_metric, wire_numbers};
+ghost use Rattle.macs_texts.specs.Measuring.{metrics_text, protected_sample, rx_metric, rx_sample};
+ghost use Rattle.macs_texts.specs.Measuring.{tx_front, tx_metric, tx_sample, wire_metric, wire_numbers};
 ghost use Rattle.macs_texts.specs.Measuring.{wires_metrics};
 
 use crate::counting::{CHANNEL_VERDICTS, RX_VERDICTS, TX_FAULTS, left_of};
 use crate::lines::joined;
-use crate::samples::{label, metric_head, sample, sample_of};
+use crate::samples::{label, labelled, metric_head, sample_of};
 use crate::words::{fault_words, verdict_words};
 use macs_config::{Config, MAX_SPENT};
 use macs_disk::SectorDisk;
@@ -35,23 +35,46 @@ fn tx_sample<D: SectorDisk>(
     ensures { IfOk result (λ text. string_bytes text
         ≡ tx_sample (txsc.counters_of endpoint.now.tx) fault) }
 {
-    let labels = label(alloc, "answer", fault_words(fault))?;
     let count = endpoint.counters().tx_fault(fault);
-    sample(alloc, "macsec_tx_frames_total", labels.as_str(), count)
+    labelled(
+        alloc,
+        "macsec_tx_frames_total",
+        "answer",
+        fault_words(fault),
+        count,
+    )
 }
 
-/// What comes before these: how many went out.
+/// How many plain frames went out.
+fn protected_sample<D: SectorDisk>(
+    alloc: Global,
+    endpoint: &Endpoint<D>,
+) -> Result<String, AllocError>
+    ensures { IfOk result (λ text. string_bytes text
+        ≡ protected_sample (txsc.counters_of endpoint.now.tx)) }
+{
+    let count = endpoint.counters().protected();
+    labelled(
+        alloc,
+        "macsec_tx_frames_total",
+        "answer",
+        "protected",
+        count,
+    )
+}
+
+/// What comes before the faults: how many went out.
 fn tx_front<D: SectorDisk>(alloc: Global, endpoint: &Endpoint<D>) -> Result<String, AllocError>
     ensures { IfOk result (λ text. string_bytes text
         ≡ tx_front (txsc.counters_of endpoint.now.tx)) }
 {
-    let name = "macsec_tx_frames_total";
-    let labels = label(alloc, "answer", "protected")?;
-    let count = endpoint.counters().protected();
-    joined(
-        metric_head(alloc, name, "counter", "Plain frames by what was answered."),
-        sample(alloc, name, labels.as_str(), count),
-    )
+    let head = metric_head(
+        alloc,
+        "macsec_tx_frames_total",
+        "counter",
+        "Plain frames by what was answered.",
+    );
+    joined(head, protected_sample(alloc, endpoint))
 }
 
 /// Plain frames, by what was answered.
@@ -75,9 +98,14 @@ fn rx_sample<D: SectorDisk>(
     ensures { IfOk result (λ text. string_bytes text
         ≡ rx_sample (rxsc.counters_of endpoint.now.rx) verdict) }
 {
-    let labels = label(alloc, "verdict", verdict_words(verdict))?;
     let count = endpoint.counters().verdict(verdict);
-    sample(alloc, "macsec_rx_frames_total", labels.as_str(), count)
+    labelled(
+        alloc,
+        "macsec_rx_frames_total",
+        "verdict",
+        verdict_words(verdict),
+        count,
+    )
 }
 
 /// Received frames, by their verdict.
@@ -174,11 +202,9 @@ fn wire_numbers(
 ) -> Result<String, AllocError>
     ensures { IfOk result (λ text. string_bytes text ≡ wire_numbers name.now controlled common) }
 {
-    let first = label(alloc, "wire", "1")?;
-    let second = label(alloc, "wire", "2")?;
     joined(
-        sample(alloc, name, first.as_str(), controlled),
-        sample(alloc, name, second.as_str(), common),
+        labelled(alloc, name, "wire", "1", controlled),
+        labelled(alloc, name, "wire", "2", common),
     )
 }
 
@@ -284,12 +310,10 @@ fn left_metric<D: SectorDisk>(alloc: Global, endpoint: &Endpoint<D>) -> Result<S
 fn key_numbers(alloc: Global, tx: u64, rx: u64) -> Result<String, AllocError>
     ensures { IfOk result (λ text. string_bytes text ≡ key_numbers tx rx) }
 {
-    let first = label(alloc, "side", "tx")?;
-    let second = label(alloc, "side", "rx")?;
     let name = "macsec_keys_left";
     let text = metric_head(alloc, name, "gauge", "Keys that may still be installed.");
-    let text = joined(text, sample(alloc, name, first.as_str(), tx));
-    joined(text, sample(alloc, name, second.as_str(), rx))
+    let text = joined(text, labelled(alloc, name, "side", "tx", tx));
+    joined(text, labelled(alloc, name, "side", "rx", rx))
 }
 
 /// How many keys may still be installed on either side.

@@ -22,6 +22,21 @@ pub fn sample(alloc: Global, name: &str, labels: &str, number: u64) -> Result<St
     ended(format!(in alloc; "{name}{{{labels}}} {number}")?)
 }
 
+/// The same under one label.
+pub fn labelled(
+    alloc: Global,
+    name: &str,
+    of: &str,
+    value: &str,
+    number: u64,
+) -> Result<String, AllocError>
+    ensures { IfOk result (λ text. string_bytes text
+        ≡ sample name.now (label of.now value.now) number) }
+{
+    let labels = label(alloc, of, value)?;
+    sample(alloc, name, labels.as_str(), number)
+}
+
 /// The same of a number that may be absent: no text where it is.
 pub fn sample_of(
     alloc: Global,
@@ -50,12 +65,7 @@ fn type_line(alloc: Global, name: &str, kind: &str) -> Result<String, AllocError
 }
 
 /// What a metric is, and of which kind: the lines before its numbers.
-pub fn metric_head(
-    alloc: Global,
-    name: &str,
-    kind: &str,
-    help: &str,
-) -> Result<String, AllocError>
+pub fn metric_head(alloc: Global, name: &str, kind: &str, help: &str) -> Result<String, AllocError>
     ensures { IfOk result (λ text. string_bytes text ≡ metric_head name.now kind.now help.now) }
 {
     joined(help_line(alloc, name, help), type_line(alloc, name, kind))
