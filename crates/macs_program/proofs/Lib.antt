@@ -17,7 +17,6 @@ pub mod Opened
 pub mod Performed
 pub mod Printing
 pub mod Relayed
-pub mod Shown
 pub mod SpelledWires
 pub mod Spelling
 pub mod TextLines

@@ -6,7 +6,6 @@ pub mod Addresses
 pub mod Contents
 pub mod Failing
 pub mod NewDisks
-pub mod Showing
 pub mod Applying
 pub mod Summing
 pub mod CaptureFiles

@@ -19,7 +19,7 @@ use Rattle.macs_words.specs.Help.{topic_text}
 use Rattle.macs_program.specs.NewDisks.{FormatFails, Formats}
 use Rattle.macs_program.specs.Relaying.{ComesTo, RelayEndsIn, turns_of}
 use Rattle.macs_program.specs.Request.{InputFaultHolds, input_faults}
-use Rattle.macs_program.specs.Showing.{line}
+use Rattle.macs_texts.specs.Lines.{line}
 use Rattle.macs_program.specs.Summing.{relay_line, summary_line}
 use Rattle.macs_program.specs.Values.{SpellsIdentity, SpellsLayout, ValueFaultHolds, value_faults}
 use Rattle.macs_words.specs.Words.{AreRefused, AsksFor, AsksForNothing, Names, macsecd}

@@ -19,7 +19,6 @@ mod output;
 mod relaying;
 mod request;
 pub mod run;
-mod showing;
 mod status;
 mod stream;
 mod values;
