@@ -1,3 +1,4 @@
-pub mod Marks
-pub mod Heard
+pub mod Asked
 pub mod Called
+pub mod Heard
+pub mod Marks

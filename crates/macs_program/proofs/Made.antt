@@ -102,6 +102,7 @@ after-no-usage (failures.Disk fault) is = λ e. cc
 after-no-usage failures.Memory is = λ e. cc
 after-no-usage failures.Output is = λ e. cc
 after-no-usage failures.Wire is = absurd is
+after-no-usage failures.Control is = absurd is
 after-no-usage (failures.Usage cause) is = absurd is
 after-no-usage (failures.Value fault) is = absurd is
 after-no-usage (failures.Address fault) is = absurd is

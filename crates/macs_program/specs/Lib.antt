@@ -14,4 +14,5 @@ pub mod Endpoints
 pub mod Relaying
 pub mod Watching
 pub mod Tasks
+pub mod Asking
 pub mod Run
