@@ -20,7 +20,7 @@ pub use binding::{LocalSockets, Reach, SystemSockets, bind};
 pub use buffers::ask_for_buffer;
 pub use connection::{Connection, Taken};
 pub use control_socket::{ControlFault, ControlSocket, remove_name};
-pub use metrics_file::{FileCalls, MetricsFile, SystemFiles, replace};
+pub use metrics_file::{FileCalls, MetricsFile, MetricsPlace, SystemFiles, replace};
 pub use notifier::Notifier;
 pub use patient::PatientStream;
 pub use seat::{Hearing, Seat};

@@ -91,3 +91,43 @@ impl<T: Files + Clock> Metrics for MetricsFile<'_, T> {
         replace(&mut files, self.new.as_str(), self.path, text);
     }
 }
+
+/// Where the counters are written: to a file, or nowhere.
+#[derive(Drop)]
+pub enum MetricsPlace<'a, T> {
+    Nowhere,
+    File(MetricsFile<'a, T>),
+}
+
+impl<'a, T: Files + Clock> MetricsPlace<'a, T> {
+    /// The file of this name, where one is given.
+    pub fn new(
+        rt: &'a T,
+        alloc: Global,
+        path: Option<&'a str>,
+    ) -> Result<MetricsPlace<'a, T>, AllocError> {
+        match path {
+            None => Ok(MetricsPlace::Nowhere),
+            Some(path) => {
+                let file = MetricsFile::new(rt, alloc, path)?;
+                Ok(MetricsPlace::File(file))
+            }
+        }
+    }
+}
+
+impl<T: Files + Clock> Metrics for MetricsPlace<'_, T> {
+    fn is_due(&mut self) -> bool {
+        match self {
+            MetricsPlace::Nowhere => false,
+            MetricsPlace::File(file) => file.is_due(),
+        }
+    }
+
+    fn put(&mut self, text: &[u8]) {
+        match self {
+            MetricsPlace::Nowhere => {}
+            MetricsPlace::File(file) => file.put(text),
+        }
+    }
+}

@@ -1,5 +1,5 @@
 -- What `ask` prints, and how it fails.
-use Rattle.std.specs.Prelude.{◌≡◌, ⊤, ℕ, List, Option}
+use Rattle.std.specs.Prelude.{◌≡◌, ◌==◌, if◌then◌else◌, ⊤, ℕ, List, Option}
 use Rattle.std.specs.Io.KnownBytes.{Appends}
 use Rattle.macs_config.specs.declared.refusal.Refusal.{Refusal}
 use Rattle.macs_words.specs.declared.action.Question.{Question}
@@ -31,3 +31,7 @@ IsOfAsking failures.Commands = ⊤
 IsOfAsking failures.Memory = ⊤
 IsOfAsking failures.Output = ⊤
 IsOfAsking other = ⊥
+
+-- what a status of an answer says where the request was not done: the relay ended, it had no memory, or it is no answer
+abbrev pub failure_in : ℕ → Failure
+failure_in status = if status == 4 then failures.Disk (disk.Journal journal.Stopped) else (if status == 5 then failures.Memory else failures.Control)

@@ -73,7 +73,7 @@ pub fn commands_in(alloc: Global, octets: &[u8]) -> Result<Vec<Command>, Failure
 }
 
 /// The line of a command by its number, which was kept or refused.
-fn outcome_line(at: usize, outcome: Option<Refusal>) -> Line
+pub fn outcome_line(at: usize, outcome: Option<Refusal>) -> Line
     ensures { result.items ≡ outcome_line at outcome }
 {
     let mut line = Line::new();
@@ -143,7 +143,7 @@ fn apply_command<D: SectorDisk, W: Stream>(
 }
 
 /// How a run ends after one more command.
-fn status_after(status: Status, is_refused: bool) -> Status
+pub fn status_after(status: Status, is_refused: bool) -> Status
     ensures { result ≡ (if is_refused then Status.Refused else status) }
 {
     if is_refused { Status::Refused } else { status }

@@ -4,6 +4,8 @@
 mod addresses;
 mod answer;
 mod applying;
+mod asking;
+mod attended;
 mod capture_file;
 mod captures;
 mod capturing;
