@@ -1,5 +1,5 @@
 -- What clients are answered: lines, the last of which has the exit status of the program that asked.
-use Rattle.std.specs.Prelude.{ℕ, ◌++◌, List, codes, Ok, Err}
+use Rattle.std.specs.Prelude.{ℕ, ◌++◌, List, codes, Result, Ok, Err}
 use Rattle.macs_edge.specs.declared.attending.CommandEnd.{CommandEnd}
 use Rattle.macs_edge.specs.declared.attending.CommandEnd.TheVariants.{Done, Failed}
 use Rattle.macs_endpoint.specs.declared.fault.CommandFault.{CommandFault}
@@ -24,10 +24,14 @@ abbrev pub failed_text : CommandFault → List ℕ
 failed_text (Refused refusal) = refused_line (refusal_name refusal) ++ end_text 3
 failed_text fault = end_text 4
 
--- what became of a command
+-- a command is done: it is kept, or it is not
+abbrev pub done_text : Result (Unit {0}) CommandFault → List ℕ
+done_text (Ok done) = line (codes "ok") ++ end_text 0
+done_text (Err fault) = failed_text fault
+
+-- what became of a command that was taken
 abbrev pub ended_text : CommandEnd → List ℕ
-ended_text (Done (Ok done)) = line (codes "ok") ++ end_text 0
-ended_text (Done (Err fault)) = failed_text fault
+ended_text (Done answer) = done_text answer
 ended_text Failed = end_text 4
 
 -- why a command is not taken

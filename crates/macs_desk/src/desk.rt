@@ -54,7 +54,6 @@ impl<C: Clients, M: Metrics> ControlDesk<C, M> {
             turns_left: TURNS_BETWEEN,
         }
     }
-
 }
 
 impl<C, M> ControlDesk<C, M> {
@@ -64,22 +63,17 @@ impl<C, M> ControlDesk<C, M> {
         ensures metrics { result.1 ≡ self.metrics }
     {
         let ControlDesk {
-            clients, metrics, ..
+            clients,
+            metrics,
+            ..
         } = self;
         (clients, metrics)
     }
 }
 
 impl<D: SectorDisk, P: Wire + Counted, W: Wire + Counted, C: Clients, M: Metrics> Desk<D, P, W>
-    for ControlDesk<C, M>
-{
-    fn next(
-        &mut self,
-        endpoint: &Endpoint<D>,
-        controlled: &P,
-        common: &W,
-        was_quiet: bool,
-    ) -> Order
+    for ControlDesk<C, M> {
+    fn next(&mut self, endpoint: &Endpoint<D>, controlled: &P, common: &W, was_quiet: bool) -> Order
         ensures talk { (talk : List Talk)
             × LooksIf (is_time was_quiet self.old.turns_left) was_quiet (is_full (entries_of self.old.under_way))
             (reports_of endpoint.now (P.wire_counts controlled.now) (W.wire_counts common.now))
@@ -100,7 +94,13 @@ impl<D: SectorDisk, P: Wire + Counted, W: Wire + Counted, C: Clients, M: Metrics
         let controlled = controlled.counts();
         let common = common.counts();
         rest(was_quiet, &mut self.clients);
-        measure(self.alloc, endpoint, &controlled, &common, &mut self.metrics);
+        measure(
+            self.alloc,
+            endpoint,
+            &controlled,
+            &common,
+            &mut self.metrics,
+        );
         let order = look(
             self.alloc,
             endpoint,

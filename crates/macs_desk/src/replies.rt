@@ -1,7 +1,7 @@
 //! What clients are answered.
 
 ghost use Rattle.std.specs.Prelude.{◌≡◌, ◌≤◌, ◌++◌, codes, length};
-ghost use Rattle.macs_desk.specs.Replies.{ended_text, failed_text, not_taken_text};
+ghost use Rattle.macs_desk.specs.Replies.{done_text, ended_text, failed_text, not_taken_text};
 ghost use Rattle.macs_desk.specs.Replies.{refused_line, submit_fault_name};
 
 use arrayvec::ArrayVec;
@@ -58,13 +58,22 @@ fn failed(fault: CommandFault) -> Reply
     }
 }
 
+/// The answer to a command that is done.
+fn done(answer: Result<(), CommandFault>) -> Reply
+    ensures { result.items ≡ done_text answer }
+{
+    match answer {
+        Ok(()) => reply_of("ok\nend 0\n"),
+        Err(fault) => failed(fault),
+    }
+}
+
 /// The answer to a command that was taken.
 pub fn ended(end: CommandEnd) -> Reply
     ensures { result.items ≡ ended_text end }
 {
     match end {
-        CommandEnd::Done(Ok(())) => reply_of("ok\nend 0\n"),
-        CommandEnd::Done(Err(fault)) => failed(fault),
+        CommandEnd::Done(answer) => done(answer),
         CommandEnd::Failed => reply_of("end 4\n"),
     }
 }

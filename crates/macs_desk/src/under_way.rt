@@ -1,6 +1,6 @@
 //! The commands under way, and who gave them.
 
-ghost use Rattle.std.specs.Prelude.{◌≡◌, []};
+ghost use Rattle.std.specs.Prelude.{◌≡◌, ◌≤◌, [], length};
 ghost use Rattle.macs_desk.specs.UnderWay.{client_of, entries_of, is_full, joined, without};
 
 use arrayvec::ArrayVec;
@@ -34,9 +34,10 @@ impl Queue {
 
     /// Whether 16 commands are under way.
     pub fn is_full(&self) -> bool
-        ensures { result ≡ is_full (entries_of self.now) }
+        ensures full { result ≡ is_full (entries_of self.now) }
+        ensures most { length (entries_of self.now) ≤ 16 }
     {
-        self.entries.len() == MOST_UNDER_WAY
+        self.entries.is_full()
     }
 
     /// Takes a command that was taken to wait. Where 16 are under way it is not kept: nobody is told

@@ -82,7 +82,8 @@ pub fn act(
             &mut tools.talks,
             tools.alloc,
             answer,
-        ).is_some()
+        )
+        .is_some()
         || files::apply(endpoint, words, tools.commands.as_slice(), answer).is_some()
         || serving::serve(endpoint, words, &mut tools.service, answer).is_some()
         || running::run(endpoint, words, &mut tools.captures, tools.alloc, answer).is_some()
