@@ -17,8 +17,8 @@ pub mod Opened
 pub mod Performed
 pub mod Printing
 pub mod Relayed
-pub mod Shown
 pub mod SpelledWires
 pub mod Spelling
 pub mod TextLines
+pub mod Told
 mod WrittenOver

@@ -7,20 +7,38 @@ use Rattle.std.proofs.lemmas.Result.{IfErr-weaker, IfOk-weaker}
 use Rattle.macs_config.specs.declared.refusal.Refusal.{Refusal}
 use Rattle.macs_disk.specs.Files.{FileState}
 use Rattle.macs_program.specs.Applying.{outcome_lines, outcomes_status}
+use Rattle.macs_program.specs.Asking.{IsOfAsking, PrintsAnswer, PrintsFront}
 use Rattle.macs_program.specs.Failing.{failure_status}
 use Rattle.macs_program.specs.Run.{Does, FailsAs, Performs, Prints, WrongValues}
 use Rattle.macs_program.specs.declared.failure.Failure.{Failure}
+use Rattle.macs_program.specs.declared.failure.Failure.TheVariants as failures
 use Rattle.macs_program.specs.declared.failure.Failure.TheVariants.{Output}
 use Rattle.macs_program.specs.declared.status.Status.{Status}
 use Rattle.macs_program.specs.declared.status.Status.TheVariants as ends
 use Rattle.macs_words.specs.declared.action.Action.{Action}
-use Rattle.macs_words.specs.declared.action.Action.TheVariants.{Open, Format, Apply, Show, Protect, Validate, Relay}
+use Rattle.macs_words.specs.declared.action.Action.TheVariants.{Open, Format, Apply, Show, Protect, Validate, Relay, Ask}
 use Rattle.macs_words.specs.declared.action.WireEnds.{WireEnds}
-use Rattle.macs_words.specs.declared.pace.Pace.{Pace}
+use Rattle.macs_words.specs.declared.action.Question.{Question}
+use Rattle.macs_words.specs.declared.action.Question.TheVariants as question
+use Rattle.macs_words.specs.declared.pace.Running.{Running}
 
 -- a failure of the disk is none of the output
 of-disk : (failure : Failure) → failure_status failure ≡ ends.Disk → failure ≢ Output
 of-disk failure disk is = let e = sym disk ∙ ap failure_status is in cc
+
+-- a failure of `ask` is no wrong usage
+asking-no-usage : (failure : Failure) → IsOfAsking failure → failure_status failure ≢ ends.Usage
+asking-no-usage (failures.Usage cause) is = absurd is
+asking-no-usage (failures.Value fault) is = absurd is
+asking-no-usage (failures.Address fault) is = absurd is
+asking-no-usage (failures.Disk fault) is = λ e. cc
+asking-no-usage failures.Capture is = absurd is
+asking-no-usage failures.Commands is = λ e. cc
+asking-no-usage failures.Wire is = absurd is
+asking-no-usage failures.Control is = λ e. cc
+asking-no-usage failures.Memory is = λ e. cc
+asking-no-usage (failures.Input fault) is = absurd is
+asking-no-usage failures.Output is = λ e. cc
 
 done-or-refused : (refused : Bool) → ((if refused then ends.Refused else ends.Done) ≡ ends.Done) ⊎ ((if refused then ends.Refused else ends.Done) ≡ ends.Refused)
 done-or-refused true = inr refl
@@ -137,17 +155,38 @@ module _ {F W : Type 0} (state_of : F → FileState) (contents : W → Option (L
     broken = broken;
   }
 
-  pub relays : (disk : Bor (List ℕ)) (controlled common : WireEnds) (pace : Pace)
-      → IfOk result (Does state_of (Relay disk controlled common pace) input (contents old) (contents new))
-      → IfErr result (λ failure. failure_status failure ≡ ends.Usage → WrongValues (Relay disk controlled common pace) × (new ≡ old)) → Silent
-      → IfErr result (FailsAs state_of (Relay disk controlled common pace) input (contents old) (contents new)) → Broken
-      → Performs state_of contents failed (Relay disk controlled common pace) input old result new
-  relays disk controlled common pace done usage silent fails broken = record {
+  pub relays : (disk : Bor (List ℕ)) (controlled common : WireEnds) (running : Running)
+      → IfOk result (Does state_of (Relay disk controlled common running) input (contents old) (contents new))
+      → IfErr result (λ failure. failure_status failure ≡ ends.Usage → WrongValues (Relay disk controlled common running) × (new ≡ old)) → Silent
+      → IfErr result (FailsAs state_of (Relay disk controlled common running) input (contents old) (contents new)) → Broken
+      → Performs state_of contents failed (Relay disk controlled common running) input old result new
+  relays disk controlled common running done usage silent fails broken = record {
     does = done;
     status = IfOk-weaker result _ _ (λ status all. let (summary, comes, spelled, printed, is) = all in inl is) done;
     usage = usage;
     disk = IfErr-weaker result _ _ (λ failure same disk. ((λ is. absurd cc), same disk)) (kept silent);
     before = before silent;
+    fails = fails;
+    broken = broken;
+  }
+
+  -- how an answer ends that was printed
+  answer-status : (asked : Question) (status : Status) → PrintsAnswer asked (contents old) (contents new) status
+      → (status ≡ ends.Done) ⊎ (status ≡ ends.Refused)
+  answer-status question.Show status printed = inl printed.2
+  answer-status question.Counters status printed = inl printed.2
+  answer-status question.Stop status printed = inl printed.2
+  answer-status (question.Apply file) status printed = applied-status printed.0 status printed.2
+
+  pub asks : (path : Bor (List ℕ)) (asked : Question) → IfOk result (PrintsAnswer asked (contents old) (contents new)) → IfErr result IsOfAsking
+      → IfErr result (λ failure. failure ≢ Output → PrintsFront asked (contents old) (contents new)) → Broken
+      → Performs state_of contents failed (Ask path asked) input old result new
+  asks path asked done fails front broken = record {
+    does = done;
+    status = IfOk-weaker result _ _ (answer-status asked) done;
+    usage = IfErr-weaker result _ _ (λ failure is usage. absurd (asking-no-usage failure is usage)) fails;
+    disk = IfErr-weaker result _ _ (λ failure printed disk. ((λ is. absurd cc), printed (of-disk failure disk))) front;
+    before = front;
     fails = fails;
     broken = broken;
   }

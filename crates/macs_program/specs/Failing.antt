@@ -8,6 +8,10 @@ use Rattle.macs_edge.specs.declared.udp_wire.BindFault.{BindFault}
 use Rattle.macs_edge.specs.declared.udp_wire.BindFault.TheVariants as bind
 use Rattle.macs_edge.specs.declared.passing.RunFault.{RunFault}
 use Rattle.macs_edge.specs.declared.passing.RunFault.TheVariants.{Device, Pcap}
+use Rattle.macs_control.specs.declared.asking.AskFault.{AskFault}
+use Rattle.macs_control.specs.declared.asking.AskFault.TheVariants as asking
+use Rattle.macs_control.specs.declared.control_socket.ControlFault.{ControlFault}
+use Rattle.macs_control.specs.declared.control_socket.ControlFault.TheVariants as control
 use Rattle.macs_endpoint.specs.declared.fault.RefillFault.{RefillFault}
 use Rattle.macs_endpoint.specs.declared.fault.RefillFault.TheVariants as refill
 use Rattle.macs_journal.specs.declared.fault.JournalFault.{JournalFault}
@@ -69,6 +73,16 @@ abbrev pub failure_of_bind : BindFault → Failure
 failure_of_bind bind.Memory = failure.Memory
 failure_of_bind bind.Bind = failure.Wire
 
+-- a control socket that cannot be bound, or want of memory
+abbrev pub failure_of_control : ControlFault → Failure
+failure_of_control control.Memory = failure.Memory
+failure_of_control control.Bind = failure.Control
+
+-- a relay that does not answer, or want of memory
+abbrev pub failure_of_asking : AskFault → Failure
+failure_of_asking asking.Memory = failure.Memory
+failure_of_asking asking.Gone = failure.Control
+
 -- ---- what the program says of it, in one line
 
 -- a value of a new endpoint
@@ -115,6 +129,7 @@ failure_text (failure.Disk fault) = disk_fault_text fault
 failure_text failure.Capture = codes "capture"
 failure_text failure.Commands = codes "commands"
 failure_text failure.Wire = codes "wire"
+failure_text failure.Control = codes "control"
 failure_text failure.Memory = codes "memory"
 failure_text (failure.Input fault) = input_fault_text fault
 failure_text failure.Output = codes "output"
@@ -130,6 +145,7 @@ failure_status (failure.Disk fault) = ends.Disk
 failure_status failure.Capture = ends.Fault
 failure_status failure.Commands = ends.Fault
 failure_status failure.Wire = ends.Fault
+failure_status failure.Control = ends.Fault
 failure_status failure.Memory = ends.Fault
 failure_status (failure.Input fault) = ends.Fault
 failure_status failure.Output = ends.Fault

@@ -6,7 +6,6 @@ pub mod Addresses
 pub mod Contents
 pub mod Failing
 pub mod NewDisks
-pub mod Showing
 pub mod Applying
 pub mod Summing
 pub mod CaptureFiles
@@ -15,4 +14,5 @@ pub mod Endpoints
 pub mod Relaying
 pub mod Watching
 pub mod Tasks
+pub mod Asking
 pub mod Run

@@ -11,20 +11,21 @@ use Rattle.macs_edge.specs.declared.relaying.RelaySummary.{RelaySummary}
 use Rattle.macs_edge.specs.declared.settling.Side.TheVariants.{Common, Controlled}
 use Rattle.macs_program.specs.Addresses.{AddressFaultHolds, SpellsBoth, address_faults}
 use Rattle.macs_program.specs.Answer.{Answers, answer_status, answer_text}
+use Rattle.macs_program.specs.Asking.{IsOfAsking, PrintsAnswer, PrintsFront}
 use Rattle.macs_program.specs.Applying.{outcome_lines}
 use Rattle.macs_fields.specs.First.{IsFirst}
 use Rattle.macs_program.specs.Endpoints.{AppliesIn, BreaksOffIn, OpeningFails, PassEndsIn, PassesIn, ShowsIn}
 use Rattle.macs_program.specs.Failing.{failure_of_words, failure_status, failure_text}
 use Rattle.macs_words.specs.Help.{topic_text}
 use Rattle.macs_program.specs.NewDisks.{FormatFails, Formats}
-use Rattle.macs_program.specs.Relaying.{ComesTo, RelayEndsIn, turns_of}
+use Rattle.macs_program.specs.Relaying.{ComesTo, RelayEndsIn, course_of}
 use Rattle.macs_program.specs.Request.{InputFaultHolds, input_faults}
-use Rattle.macs_program.specs.Showing.{line}
+use Rattle.macs_texts.specs.Lines.{line}
 use Rattle.macs_program.specs.Summing.{relay_line, summary_line}
 use Rattle.macs_program.specs.Values.{SpellsIdentity, SpellsLayout, ValueFaultHolds, value_faults}
 use Rattle.macs_words.specs.Words.{AreRefused, AsksFor, AsksForNothing, Names, macsecd}
 use Rattle.macs_words.specs.declared.action.Action.{Action}
-use Rattle.macs_words.specs.declared.action.Action.TheVariants.{Open, Format, Apply, Show, Protect, Validate, Relay}
+use Rattle.macs_words.specs.declared.action.Action.TheVariants.{Open, Format, Apply, Show, Protect, Validate, Relay, Ask}
 use Rattle.macs_program.specs.declared.addresses.AddressFault.{AddressFault}
 use Rattle.macs_program.specs.declared.answer.Answer.{Answer}
 use Rattle.macs_program.specs.declared.capturing.Direction.TheVariants as direction
@@ -44,7 +45,7 @@ Prints input before after status =
     (answer : Answer) × Answers input answer × Appends before after (line (answer_text answer)) × (status ≡ answer_status answer)
 
 -- What a run prints that does what it is asked for, where `state_of` says what files are. Which file has a name is not known here: the lines are
--- those of what is done with some endpoint that was opened on a disk in a file; that of a relay is what some endpoint comes to in so many turns
+-- those of what is done with some endpoint that was opened on a disk in a file; that of a relay is what some endpoint comes to
 abbrev pub Does : {F : Type 0} → (F → FileState) → Action → Option (List ℕ) → Option (List ℕ) → Option (List ℕ) → Status → Type 0
 Does state_of Open input before after status = IfSome input (λ octets. Prints octets before after status)
 Does state_of (Format disk sci tx_block rx_block block is_over) input before after status =
@@ -60,9 +61,10 @@ Does state_of (Protect disk from to) input before after status =
 Does state_of (Validate disk from to) input before after status =
     (summary : Summary) × PassesIn state_of Common summary
     × Appends before after (summary_line direction.Validate summary) × (status ≡ ends.Done)
-Does state_of (Relay disk controlled common pace) input before after status =
-    (summary : RelaySummary) × ComesTo state_of (turns_of pace) summary × SpellsBoth controlled common
+Does state_of (Relay disk controlled common running) input before after status =
+    (summary : RelaySummary) × ComesTo state_of (course_of running) summary × SpellsBoth controlled common
     × Appends before after (relay_line summary) × (status ≡ ends.Done)
+Does state_of (Ask path asked) input before after status = PrintsAnswer asked before after status
 
 -- a run that does not fail is asked for help and prints it, or its words are taken and name an action, and it does that
 abbrev pub Replies : {F : Type 0} → (F → FileState) → List Text → Option (List ℕ) → Option (List ℕ) → Option (List ℕ) → Status → Type 0
@@ -71,16 +73,17 @@ Replies state_of words input before after status =
     ⊎ ((takes macsecd words ≡ true)
     × (action : Action) × Names (subcommand_of macsecd words) action × Does state_of action input before after status)
 
--- What was printed before a disk fault: of `apply` the lines of the commands before it, else nothing
+-- What was printed before a disk fault: of `apply` and of `ask PATH apply` the lines of the commands before it, else nothing
 abbrev pub HasPrinted : Action → Option (List ℕ) → Option (List ℕ) → Type 0
 HasPrinted (Apply disk file) before after = (outcomes : List (Option Refusal)) × Appends before after (outcome_lines 1 outcomes)
+HasPrinted (Ask path asked) before after = PrintsFront asked before after
 HasPrinted action before after = after ≡ before
 
 -- a value of the action is none that it takes
 abbrev pub WrongValues : Action → Type 0
 WrongValues (Format disk sci tx_block rx_block block is_over) =
     (fault : ValueFault) × ValueFaultHolds sci.now tx_block rx_block (option_map (λ text. text.now) block) fault
-WrongValues (Relay disk controlled common pace) = (fault : AddressFault) × AddressFaultHolds controlled common fault
+WrongValues (Relay disk controlled common running) = (fault : AddressFault) × AddressFaultHolds controlled common fault
 WrongValues action = ⊥
 
 -- How `open` fails: a read failed, or the input, of which 20,001 octets at most are read, has this first fault; or there is no memory; or a print
@@ -104,15 +107,16 @@ FailsAs state_of (Apply disk file) octets before after failure = OpeningFails st
 FailsAs state_of (Show disk) octets before after failure = OpeningFails state_of failure ⊎ (failure ≡ Memory) ⊎ (failure ≡ Output)
 FailsAs state_of (Protect disk from to) octets before after failure = OpeningFails state_of failure ⊎ PassEndsIn state_of Controlled failure
 FailsAs state_of (Validate disk from to) octets before after failure = OpeningFails state_of failure ⊎ PassEndsIn state_of Common failure
-FailsAs state_of (Relay disk controlled common pace) octets before after failure =
+FailsAs state_of (Relay disk controlled common running) octets before after failure =
     ((fault : AddressFault) × (failure ≡ Address fault) × IsFirst (AddressFaultHolds controlled common) address_faults fault)
-    ⊎ OpeningFails state_of failure ⊎ RelayEndsIn state_of (turns_of pace) failure
+    ⊎ OpeningFails state_of failure ⊎ RelayEndsIn state_of (course_of running) failure
+FailsAs state_of (Ask path asked) octets before after failure = IsOfAsking failure
 
 -- it is one that hands frames to an endpoint
 abbrev pub is_on_frames : Action → Bool
 is_on_frames (Protect disk from to) = true
 is_on_frames (Validate disk from to) = true
-is_on_frames (Relay disk controlled common pace) = true
+is_on_frames (Relay disk controlled common running) = true
 is_on_frames action = false
 
 -- An action is done, with a status of these two, or fails. A failure that is wrong usage is that of a wrong value, and nothing was
@@ -134,7 +138,7 @@ FailsFor state_of words octets before after failure =
     ⊎ ((topic : Topic) × AsksFor words topic × (failure ≡ Output))
     ⊎ ((action : Action) × Names (subcommand_of macsecd words) action × FailsAs state_of action octets before after failure)
 
--- what was printed before a failure: nothing, or of `apply` the lines of the commands before it
+-- what was printed before a failure: nothing, or of `apply` and of `ask PATH apply` the lines of the commands before it
 abbrev pub PrintedBefore : List Text → Option (List ℕ) → Option (List ℕ) → Type 0
 PrintedBefore words before after =
     (after ≡ before) ⊎ ((action : Action) × Names (subcommand_of macsecd words) action × HasPrinted action before after)

@@ -3,7 +3,7 @@ use Rattle.std.specs.Prelude.{◌++◌, ℕ, List, codes}
 use Rattle.std.specs.Fmt.{decimal}
 use Rattle.macs_edge.specs.declared.passing.Summary.{Summary}
 use Rattle.macs_edge.specs.declared.relaying.RelaySummary.{RelaySummary}
-use Rattle.macs_program.specs.Showing.{line}
+use Rattle.macs_texts.specs.Lines.{line}
 use Rattle.macs_program.specs.declared.capturing.Direction.{Direction}
 use Rattle.macs_program.specs.declared.capturing.Direction.TheVariants as direction
 

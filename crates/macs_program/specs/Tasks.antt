@@ -10,7 +10,7 @@ use Rattle.macs_endpoint.specs.Value.{EndpointValue}
 use Rattle.macs_program.specs.Capturing.{side_of}
 use Rattle.macs_program.specs.Endpoints.{AppliesFile, BreaksOff, IsEndpointIn, OpeningFails, PassEnds, PassesBetween, shown_text}
 use Rattle.macs_program.specs.Failing.{failure_status}
-use Rattle.macs_program.specs.Relaying.{IsAfterAddresses, RelayEnds, Relays}
+use Rattle.macs_program.specs.Relaying.{Course, IsAfterAddresses, RelayEnds, Relays}
 use Rattle.macs_program.specs.Summing.{relay_line, summary_line}
 use Rattle.macs_program.specs.declared.capturing.Direction.{Direction}
 use Rattle.macs_program.specs.declared.failure.Failure.{Failure}
@@ -71,12 +71,12 @@ pub record DoesPass {D W : Type 0} (disk_of : D → Disk) (contents : W → Opti
   pub silent : IfErr result (λ failure. failure ≢ Output → after ≡ before)
   pub broken : IfErr result (λ failure. failure ≡ Output → has_failed after ≡ true)
 
--- `relay`: frames are relayed through the endpoint between two wires in so many turns, or in fewer
-pub record DoesRelay {D W : Type 0} (disk_of : D → Disk) (contents : W → Option (List ℕ)) (has_failed : W → Bool) (turns : ℕ)
+-- `relay`: frames are relayed through the endpoint between two wires
+pub record DoesRelay {D W : Type 0} (disk_of : D → Disk) (contents : W → Option (List ℕ)) (has_failed : W → Bool) (course : Course)
     (old : EndpointValue D) (before : W) (result : Result Status Failure) (new : EndpointValue D) (after : W) : Type 0 where
-  pub printed : IfOk result (λ status. (summary : RelaySummary) × Relays disk_of turns old summary new
+  pub printed : IfOk result (λ status. (summary : RelaySummary) × Relays disk_of course old summary new
       × Appends (contents before) (contents after) (relay_line summary) × (status ≡ ends.Done))
-  pub ended : IfErr result (λ failure. RelayEnds disk_of turns old failure new)
+  pub ended : IfErr result (λ failure. RelayEnds disk_of course old failure new)
   pub failed : IfErr result IsAfterAddresses
   pub silent : IfErr result (λ failure. failure ≢ Output → after ≡ before)
   pub broken : IfErr result (λ failure. failure ≡ Output → has_failed after ≡ true)

@@ -4,6 +4,8 @@
 mod addresses;
 mod answer;
 mod applying;
+mod asking;
+mod attended;
 mod capture_file;
 mod captures;
 mod capturing;
@@ -19,7 +21,6 @@ mod output;
 mod relaying;
 mod request;
 pub mod run;
-mod showing;
 mod status;
 mod stream;
 mod values;

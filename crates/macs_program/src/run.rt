@@ -13,6 +13,7 @@ ghost use Rattle.macs_program.specs.declared.failure.Failure.{Failure};
 ghost use Rattle.macs_program.specs.declared.status.Status.{Status};
 
 use crate::answer::{Answer, answer_of};
+use crate::asking::ask;
 use crate::capture_file::CaptureFile;
 use crate::capturing::Direction;
 use crate::failure::Failure;
@@ -27,7 +28,7 @@ use std::alloc::{AllocError, Allocator, Global};
 use std::io;
 use std::io::Read;
 use std::net::Net;
-use std::rt::Files;
+use std::rt::{Clock, Env, Files};
 
 /// One octet more than the longest input that is taken.
 const MAX_READ: usize = 20_001;
@@ -77,7 +78,7 @@ fn open_input<R: Read, W: Stream>(
 }
 
 /// Does what an action asks for.
-fn perform<T: Files + Net, R: Read, W: Stream>(
+fn perform<T: Files + Net + Clock + Env, R: Read, W: Stream>(
     rt: &T,
     alloc: Global,
     action: Action,
@@ -106,11 +107,12 @@ where
         Action::Protect { .. } | Action::Validate { .. } | Action::Relay { .. } => {
             perform_on_frames(rt, alloc, action, out)
         }
+        Action::Ask { path, question } => ask(rt, alloc, path, question, out),
     }
 }
 
 /// Does what an action asks for that hands frames to an endpoint.
-fn perform_on_frames<T: Files + Net, W: Stream>(
+fn perform_on_frames<T: Files + Net + Clock + Env, W: Stream>(
     rt: &T,
     alloc: Global,
     action: Action,
@@ -137,14 +139,14 @@ where
             disk,
             controlled,
             common,
-            pace,
-        } => relay(rt, alloc, disk, controlled, common, pace, out),
+            running,
+        } => relay(rt, alloc, disk, controlled, common, running, out),
         _ => unreachable!(),
     }
 }
 
 /// Does what the words ask for.
-fn act<T: Files + Net, R: Read, W: Stream>(
+fn act<T: Files + Net + Clock + Env, R: Read, W: Stream>(
     rt: &T,
     alloc: Global,
     words: &[&str],
@@ -188,7 +190,7 @@ pub fn report<E: Stream>(failure: &Failure, err: &mut E) -> u8
 /// standard error. It answers the status of the process. Faults are found in this order: the words;
 /// the SCI, the blocks and the addresses; the disk file and its opening; the other files or the binds from
 /// left to right; that the order among files is this one is tested.
-pub fn run<T: Files + Net, R: Read, W: Stream, E: Stream>(
+pub fn run<T: Files + Net + Clock + Env, R: Read, W: Stream, E: Stream>(
     rt: &T,
     alloc: Global,
     words: &[&str],

@@ -1,2 +1,5 @@
 pub mod Lines
+pub mod Refusals
+pub mod Showing
 pub mod Counting
+pub mod Measuring

@@ -1,5 +1,6 @@
 pub mod Controls
 pub mod Given
 pub mod Paces
+pub mod Questions
 pub mod Subcommands
 pub mod Taken

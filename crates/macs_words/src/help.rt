@@ -3,7 +3,7 @@
 ghost use Rattle.std.specs.Prelude.{◌≡◌, ◌↔◌, IsTrue, Some};
 ghost use Rattle.macs_words.specs.Words.{AsksFor, IsHelpFlag, IsVersionFlag, name_of, texts};
 
-use crate::help_texts::{APPLY, FORMAT, HELP, OPEN, PROTECT, RELAY, SHOW, VALIDATE, VERSION};
+use crate::help_texts::{APPLY, ASK, FORMAT, HELP, OPEN, PROTECT, RELAY, SHOW, VALIDATE, VERSION};
 
 /// A subcommand.
 #[derive(Clone, Copy)]
@@ -15,6 +15,7 @@ pub enum Subcommand {
     Protect,
     Validate,
     Relay,
+    Ask,
 }
 
 /// What is asked for in place of an action.
@@ -45,6 +46,7 @@ impl Subcommand {
             "protect" => Some(Subcommand::Protect),
             "validate" => Some(Subcommand::Validate),
             "relay" => Some(Subcommand::Relay),
+            "ask" => Some(Subcommand::Ask),
             _ => None,
         }
     }
@@ -61,6 +63,7 @@ impl Subcommand {
             Subcommand::Protect => PROTECT,
             Subcommand::Validate => VALIDATE,
             Subcommand::Relay => RELAY,
+            Subcommand::Ask => ASK,
         }
     }
 }

@@ -8,4 +8,5 @@ returns c =
     let with-4 = c.with_words-words-4.ensures _ _ with-3 c.show_words.ensures in
     let with-5 = c.with_words-words-5.ensures _ _ with-4 c.capture_words.ensures in
     let with-6 = c.with_words-words-6.ensures _ _ with-5 c.capture_words-2.ensures in
-    c.with_words.ensures _ _ with-6 c.relay_words.ensures
+    let with-7 = c.with_words-words-7.ensures _ _ with-6 c.relay_words.ensures in
+    c.with_words.ensures _ _ with-7 c.ask_words.ensures
