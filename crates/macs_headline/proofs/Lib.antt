@@ -75,6 +75,9 @@ pub mod Tickets
 pub mod Waits
 mod Turns
 mod EndpointWords
+mod CountWords
+mod NeedWords
+mod FailureWords
 mod FrameWords
 mod QueueWords
 pub mod RefusedDays

@@ -22,3 +22,4 @@ pub mod SpelledWires
 pub mod Spelling
 pub mod TextLines
 mod WrittenOver
+mod Drawn

@@ -16,3 +16,4 @@ pub mod Relaying
 pub mod Watching
 pub mod Tasks
 pub mod Run
+pub mod Drawn
