@@ -32,7 +32,7 @@ use Rattle.macs_edge.proofs.Flowing.{AreFrames, Goes, IsFrame, flow-begins, goes
 -- ---- turns
 
 steps-append : {D : Type 0} (calls more : List (Transition D)) → steps_made (calls ++ more) ≡ steps_made calls + steps_made more
-steps-append [] more = refl
+steps-append [] more = omega arith
 steps-append (call ∷ calls) more = let later = steps-append calls more in omega (arith, later)
 
 no_step : (call : Call) → IsFrame call → steps_in_call call ≡ 0
@@ -70,7 +70,7 @@ module _ {D : Type 0} (disk_of : D → Disk) where
   )
   turns_go (suc turns) old new out back (between, progress, before, last) =
       let (goes, count) = turns_go turns old between out back before in
-      let more = turn-goes (Ok progress) old between new goes last in
+      let more = turn-goes disk_of (Ok progress) old between new goes last in
       let one = one_step goes.calls more.frames more.goes.calls _ refl more.are_frames more.calls in
       (more.goes, omega (arith, one, count))
 
@@ -82,7 +82,7 @@ module _ {D : Type 0} (disk_of : D → Disk) where
       (flow, ap steps_made same ∙ count, tt)
   flows-in-turns turns old new (Err fault) out back (done, between, at, named, few, before, last) =
       let (goes, count) = turns_go done old between out back before in
-      let more = turn-goes (Err at) old between new goes last in
+      let more = turn-goes disk_of (Err at) old between new goes last in
       let one = one_step goes.calls more.frames more.goes.calls _ refl more.are_frames more.calls in
       let (flow, same) = goes-flows disk_of old new more.goes in
       let all = ap steps_made same in
@@ -169,11 +169,10 @@ first_received : (peer : SocketAddr) (old : SocketState) (new : Option SocketSta
     × (first.address ≡ peer → length first.octets ≤ 9216 → (got ≡ Frame) × (frame ≡ first.octets))
     × (first.address ≡ peer → 9216 < length first.octets → (got ≡ TooLong) × (frame ≡ []))
 first_received peer old new got frame first rest (inl (one, more, is, left, given)) waits =
-    let same = first_of old.waiting one first more rest is waits in (
-      left ∙ ap (λ (later : List Datagram). Some (record old { waiting = later })) same.1,
-      what_is_given peer first.address first.octets frame got
-          (subst (λ (d : Datagram). IsGiven peer d.address d.octets got frame) same.0 given),
-    )
+    let same = first_of old.waiting one first more rest is waits in
+    let what = what_is_given peer first.address first.octets frame got
+        (subst (λ (d : Datagram). IsGiven peer d.address d.octets got frame) same.0 given) in
+    (left ∙ ap (λ (later : List Datagram). Some (record old { waiting = later })) same.1, what.0, what.1, what.2)
 first_received peer old new got frame first rest (inr (empty, same, nothing)) waits = absurd (no_first old.waiting rest first waits empty)
 
 pub socket-words : SocketWords
