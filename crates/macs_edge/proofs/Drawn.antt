@@ -1,6 +1,8 @@
 -- All that is to be drawn from words on turns, on records that pass, on sleeps and on sockets.
-use Rattle.std.proofs.Common.{◌≡◌, ◌≢◌, ◌<◌, ◌≤◌, ◌⊎◌, ◌↔◌, inl, inr, ◌+◌, ◌++◌, ℕ, zero, suc, Bool, true, false, List, [], ◌∷◌, length, take, Option, Some, None, Result, Ok, Err, OnErr, OnOk, refl, sym, ◌∙◌, ap, subst, arith}
-use Rattle.std.specs.Prelude.{IsTrue}
+use Rattle.std.proofs.Common.{◌≡◌, ◌≢◌, ◌<◌, ◌≤◌, ◌⊎◌, ◌↔◌, inl, inr, ◌+◌, ◌++◌, ◌&&◌, ℕ, zero, suc, Bool, true, false, cond, List, [], ◌∷◌, length, take, Option, Some, None, Result, Ok, Err, OnErr, OnOk, refl, sym, ◌∙◌, ap, subst, arith}
+use Rattle.std.specs.Prelude.{IsTrue, nat_le, nat_lt}
+use Rattle.std.proofs.Math.Bool.{and-false}
+use Rattle.std.proofs.lemmas.Bool.{and_from, le-leb, le-ltb, lt-leb, lt-ltb}
 use Rattle.std.specs.declared.io.ErrorKind.{ErrorKind}
 use Rattle.std.specs.declared.net.SocketAddr.{SocketAddr}
 use Rattle.macs_disk.specs.Disk.{Disk}
@@ -15,14 +17,19 @@ use Rattle.macs_endpoint.specs.declared.fault.ProtectFault.TheVariants.{Tx}
 use Rattle.macs_endpoint.specs.declared.fault.RefillFault.{RefillFault}
 use Rattle.macs_endpoint.specs.declared.progress.Step.{Step as Progress}
 use Rattle.macs_endpoint.specs.declared.progress.Step.TheVariants.{Idle}
+use Rattle.macs_edge.specs.Attending.{answers_of, goes_on}
 use Rattle.macs_edge.specs.Counts.{CountsStrangers, CountsWaiting}
 use Rattle.macs_edge.specs.Datagrams.{Datagram, SocketState}
-use Rattle.macs_edge.specs.Drawn.{CountWords, FlowsInTurns, PassWords, RestWords, SocketWords}
+use Rattle.macs_edge.specs.Drawn.{CountWords, DeskWords, FaultWords, FlowsInTurns, PassWords, RestWords, SocketWords, TurnWords}
+use Rattle.macs_edge.specs.FaultWires.{CallsValue, failed_among}
 use Rattle.macs_edge.specs.Passing.{Passes, passed_record}
-use Rattle.macs_edge.specs.Relaying.{Relay, Relays, TakesTurn, TakesTurns, empty_lane, summary_of}
+use Rattle.macs_edge.specs.Relaying.{HandsSlot, Relay, Relays, TakesTurn, TakesTurns, Way, empty_lane, summary_of}
 use Rattle.macs_edge.specs.Resting.{IsQuiet, TakesTurnsResting, one_if}
 use Rattle.macs_edge.specs.Settling.{Settles, call_on}
 use Rattle.macs_edge.specs.WireDatagrams.{IsGiven, ReceivesDatagram}
+use Rattle.macs_edge.specs.declared.attending.DeskEvent.{DeskEvent}
+use Rattle.macs_edge.specs.declared.attending.Order.{Order}
+use Rattle.macs_edge.specs.declared.attending.Order.TheVariants.{End, Go, Submit}
 use Rattle.macs_edge.specs.declared.relaying.RelaySummary.{RelaySummary}
 use Rattle.macs_edge.specs.declared.settling.Side.{Side}
 use Rattle.macs_edge.specs.declared.wire.Got.{Got}
@@ -218,4 +225,79 @@ count-words = record {
   failed = λ socket cause old new is. (is.taken, is.strangers, is.sent);
   sent = λ c. refl;
   not_sent = λ cause c. refl;
+}
+
+-- ---- one turn
+
+module _ {D : Type 0} (disk_of : D → Disk) where
+  empty : (side : Side) (slot : Option (List ℕ)) (old new : Way D) → HandsSlot disk_of side slot old new → slot ≡ None → new ≡ old
+  empty side None old new hands is = hands
+  empty side (Some frame) old new hands is = absurd (cc)
+
+  full : (side : Side) (slot : Option (List ℕ)) (old new : Way D) (frame : List ℕ) → HandsSlot disk_of side slot old new → slot ≡ Some frame
+      → HandsSlot disk_of side (Some frame) old new
+  full side slot old new frame hands is = subst (λ (s : Option (List ℕ)). HandsSlot disk_of side s old new) is hands
+
+  pub turn-words : TurnWords disk_of
+  turn-words = record {
+    turn = λ answer old new (late, (middle, controlled, common, out, back), sound, call). (late, middle, controlled, common, out, back, call);
+    carries = λ side old new is. is;
+    empty = λ side old new hands is. empty side old.lane.slot old new hands is;
+    full = λ side old new frame hands is.
+        let (reply, sound, call, from, becomes) = full side old.lane.slot old new frame hands is in
+        (reply, call, from, becomes);
+  }
+
+-- ---- a desk
+
+not_end : (order : Order) → true ≡ goes_on order → order ≢ End
+not_end Go follows is = absurd (cc)
+not_end (Submit command) follows is = absurd (cc)
+not_end End follows is = absurd (cc)
+
+pub desk-words : {D : Type 0} (disk_of : D → Disk) → DeskWords disk_of
+desk-words disk_of = record {
+  none = λ old new events quiet is. is;
+  one = λ turns old new events quiet is. is;
+  turn = λ was_quiet old new events progress (before, endpoint, (order, told, follows, does, noted), turn, is). (
+    order,
+    told,
+    endpoint,
+    not_end order follows,
+    does,
+    turn,
+    is ∙ ap (λ (l : List DeskEvent). l ++ answers_of progress) noted,
+  );
+  submitted = λ old new command told (answer, noted, sound, call). (answer, noted, call);
+  nothing = λ old new told is. is;
+  ends = λ turns taken quiet earlier events is. is;
+  answered = λ turns old events summary endpoint controlled common (to_common, to_controlled, (during, attends, is), told).
+      (to_common, to_controlled, during, attends, is, told);
+}
+
+-- ---- a wire that fails
+
+among_by : (b : Bool) → b ≡ true → cond {A = ℕ} b 1 0 ≡ 1
+among_by true is = refl
+among_by false is = absurd (cc)
+
+failed : (c : CallsValue) → 1 ≤ c.fails_at → c.fails_at ≤ c.asked → failed_among c ≡ 1
+failed c least most = among_by (nat_lt 0 c.fails_at && nat_le c.fails_at c.asked)
+    (and_from (nat_lt 0 c.fails_at) (nat_le c.fails_at c.asked) (lt-ltb 0 c.fails_at (omega (arith, least))) (le-leb c.fails_at c.asked most))
+
+not_yet : (c : CallsValue) → c.asked < c.fails_at → failed_among c ≡ 0
+not_yet c above = ap (λ (b : Bool). cond (nat_lt 0 c.fails_at && b) 1 0) (lt-leb c.fails_at c.asked above)
+    ∙ ap (λ (b : Bool). cond b 1 0) (and-false (nat_lt 0 c.fails_at))
+
+never : (c : CallsValue) → c.fails_at ≡ 0 → failed_among c ≡ 0
+never c is = ap (λ (b : Bool). cond (b && nat_le c.fails_at c.asked) 1 0) (le-ltb 0 c.fails_at (omega (arith, is)))
+
+pub fault-words : FaultWords
+fault-words = record {
+  fails = λ c. (λ is. is, λ is. is);
+  asked = λ c. refl;
+  failed = failed;
+  not_yet = not_yet;
+  never = never;
+  wire = λ state w. refl;
 }

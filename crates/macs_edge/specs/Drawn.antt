@@ -1,9 +1,10 @@
 -- What is to be drawn from words on turns and steps, on records that pass, on sleeps, and on sockets of which the datagrams are known.
-use Rattle.std.specs.Prelude.{◌≡◌, ◌≢◌, ◌<◌, ◌≤◌, ◌⊎◌, ◌↔◌, ◌+◌, ◌-◌, ◌^◌, ◌++◌, ℕ, suc, Bool, true, false, List, [], ◌∷◌, length, take, Option, Some, None, Result, Ok, Err, OnErr, OnOk}
+use Rattle.std.specs.Prelude.{◌≡◌, ◌≢◌, ◌<◌, ◌≤◌, ◌⊎◌, ◌↔◌, ◌+◌, ◌-◌, ◌^◌, ◌++◌, ℕ, suc, Bool, true, false, IsTrue, List, [], ◌∷◌, length, take, Option, Some, None, Result, Ok, Err, OnErr, OnOk}
 use Rattle.std.specs.Io.KnownBytes.{Appends}
 use Rattle.std.specs.declared.io.ErrorKind.{ErrorKind}
 use Rattle.std.specs.declared.io.ErrorKind.TheVariants.{WouldBlock}
 use Rattle.std.specs.declared.net.SocketAddr.{SocketAddr}
+use Rattle.macs_config.specs.declared.command.Command.{Command}
 use Rattle.macs_disk.specs.Disk.{Disk}
 use Rattle.macs_txsc.specs.declared.fault.TxFault.{TxFault}
 use Rattle.macs_txsc.specs.declared.fault.TxFault.TheVariants.{NoNumber}
@@ -12,23 +13,33 @@ use Rattle.macs_rxsc.specs.declared.verdict.Reason.{Reason}
 use Rattle.macs_rxsc.specs.declared.verdict.Verdict.TheVariants.{Delivered, Discarded}
 use Rattle.macs_pcap.specs.Captures.{records_text}
 use Rattle.macs_pcap.specs.Records.{CaptureRecord}
+use Rattle.macs_endpoint.specs.Calls.{IsCall}
 use Rattle.macs_endpoint.specs.Lasting.{steps_made}
 use Rattle.macs_endpoint.specs.Lives.{Lives}
-use Rattle.macs_endpoint.specs.State.{Protected, Protects, Received, Receives, Reply, State}
-use Rattle.macs_endpoint.specs.Step.{Step}
+use Rattle.macs_endpoint.specs.State.{Advanced, Advances, Protected, Protects, Received, Receives, Reply, State, Submits, Submitted}
+use Rattle.macs_endpoint.specs.Step.{IsStopped, Step}
+use Rattle.macs_endpoint.specs.Value.{EndpointValue}
 use Rattle.macs_endpoint.specs.declared.fault.ProtectFault.TheVariants.{Tx}
 use Rattle.macs_endpoint.specs.declared.fault.RefillFault.{RefillFault}
+use Rattle.macs_endpoint.specs.declared.fault.StepFault.{StepFault}
+use Rattle.macs_endpoint.specs.declared.fault.SubmitFault.{SubmitFault}
 use Rattle.macs_endpoint.specs.declared.progress.Step.{Step as Progress}
 use Rattle.macs_endpoint.specs.declared.progress.Step.TheVariants.{Idle}
+use Rattle.macs_edge.specs.Attending.{AttendsTurns, Does, EndsAt, IsAttended, TakesAllAttended, TakesAttended, answers_of, failed_of}
 use Rattle.macs_edge.specs.Counts.{CountsReceive, counts_after_send}
 use Rattle.macs_edge.specs.Datagrams.{Datagram, GivesDatagram, SocketState, TakesDatagram}
+use Rattle.macs_edge.specs.FaultWires.{CallsValue, FailsNext, FaultWireValue, asked_once_more, failed_among, fault_wire_state}
 use Rattle.macs_edge.specs.Flows.{IsFlow}
 use Rattle.macs_edge.specs.Passing.{HandsAllIn, HasPassed, Passes, Run}
-use Rattle.macs_edge.specs.Relaying.{Relay, Relays, TakesTurn, summary_of}
+use Rattle.macs_edge.specs.Relaying.{Carries, Fills, Forwards, HandsOver, LaneValue, Relay, Relays, TakesTurn, Way, one_dropped, relay_of, summary_of, way_of}
 use Rattle.macs_edge.specs.Resting.{IsQuiet, TakesTurnsResting}
-use Rattle.macs_edge.specs.Settling.{Settles, call_on}
+use Rattle.macs_edge.specs.Settling.{Settles, Waits, call_on}
 use Rattle.macs_edge.specs.WireDatagrams.{ReceivesDatagram, SendsDatagram}
-use Rattle.macs_edge.specs.Wires.{saturated}
+use Rattle.macs_edge.specs.Wires.{WireState, saturated}
+use Rattle.macs_edge.specs.declared.attending.DeskEvent.{DeskEvent}
+use Rattle.macs_edge.specs.declared.attending.DeskEvent.TheVariants.{Took, Wanted}
+use Rattle.macs_edge.specs.declared.attending.Order.{Order}
+use Rattle.macs_edge.specs.declared.attending.Order.TheVariants.{End, Go, Submit}
 use Rattle.macs_edge.specs.declared.counts.WireCounts.{WireCounts}
 use Rattle.macs_edge.specs.declared.datagrams.Arrived.{Arrived}
 use Rattle.macs_edge.specs.declared.relaying.RelaySummary.{RelaySummary}
@@ -127,3 +138,64 @@ pub record CountWords : Type 0 where
       → (new.taken ≡ old.taken) × (new.strangers ≡ old.strangers) × (new.sent ≡ old.sent)
   pub sent : (c : WireCounts) → counts_after_send (Ok tt) c ≡ record c { sent = saturated (c.sent + 1) }
   pub not_sent : (cause : WireFault) (c : WireCounts) → counts_after_send (Err cause) c ≡ record c { failed_sends = saturated (c.failed_sends + 1) }
+
+-- ---- one turn
+
+-- In a turn plain frames are carried first, and then frames from the common side; a step of the endpoint ends it. A full slot is handed in: its frame passes and is sent
+-- once, or is left out and counted so, and the slot is empty; or it waits, or finds the endpoint stopped, and stays.
+pub record TurnWords {D : Type 0} (disk_of : D → Disk) : Type 0 where
+  pub turn : (answer : Result Progress StepFault) (old new : Relay D) → TakesTurn disk_of answer old new → (late : EndpointValue D) × (middle : EndpointValue D)
+      × (controlled : WireState) × (common : WireState)
+      × Carries disk_of Controlled (way_of old.endpoint old.controlled old.common old.to_common) (way_of middle controlled common new.to_common)
+      × Carries disk_of Common (way_of middle common controlled old.to_controlled) (way_of late new.common new.controlled new.to_controlled)
+      × IsCall disk_of late Advances (Advanced answer) new.endpoint
+  pub carries : (side : Side) (old new : Way D) → Carries disk_of side old new → (from : WireState) × (lane : LaneValue) × Fills old.from old.lane from lane
+      × HandsOver disk_of side (way_of old.endpoint from old.to lane) new
+  pub empty : (side : Side) (old new : Way D) → HandsOver disk_of side old new → old.lane.slot ≡ None → new ≡ old
+  pub full : (side : Side) (old new : Way D) (frame : List ℕ) → HandsOver disk_of side old new → old.lane.slot ≡ Some frame → (reply : Reply)
+      × IsCall disk_of old.endpoint (call_on side frame) reply new.endpoint × (new.from ≡ old.from)
+      × (((passed : List ℕ) × Settles reply (Some passed) × (new.lane.slot ≡ None) × Forwards old.to passed old.lane.tally new.to new.lane.tally)
+      ⊎ (Settles reply None × (new.lane.slot ≡ None) × (new.lane.tally ≡ one_dropped old.lane.tally) × (new.to ≡ old.to))
+      ⊎ ((Waits reply ⊎ IsStopped (call_on side frame) reply) × (new.lane ≡ old.lane) × (new.to ≡ old.to)))
+
+-- ---- a desk
+
+-- Before the first turn no event is noted, and none was quiet. Before each the desk is asked what is wanted, and given whether the one before was quiet; a command is
+-- submitted then and its answer noted, and where the end is wanted no turn follows. After it the desk is given what its step is done with. In the end as many turns
+-- were taken as there are, or fewer, and the end was wanted; what still waits has failed.
+pub record DeskWords {D : Type 0} (disk_of : D → Disk) : Type 0 where
+  pub none : (old new : Relay D) (events : List DeskEvent) (quiet : Bool) → TakesAllAttended disk_of 0 old events quiet new
+      → (events ≡ []) × (quiet ≡ false) × (new ≡ old)
+  pub one : (turns : ℕ) (old new : Relay D) (events : List DeskEvent) (quiet : Bool) → TakesAllAttended disk_of (suc turns) old events quiet new
+      → (between : Relay D) × (earlier : List DeskEvent) × (was_quiet : Bool) × (last : List DeskEvent) × (progress : Progress)
+      × TakesAllAttended disk_of turns old earlier was_quiet between × TakesAttended disk_of was_quiet between last progress new
+      × (IsTrue quiet ↔ IsQuiet progress between new) × (events ≡ earlier ++ last)
+  pub turn : (was_quiet : Bool) (old new : Relay D) (events : List DeskEvent) (progress : Progress) → TakesAttended disk_of was_quiet old events progress new
+      → (order : Order) × (told : List DeskEvent) × (endpoint : EndpointValue D) × (order ≢ End) × Does disk_of order old.endpoint told endpoint
+      × TakesTurn disk_of (Ok progress) (record old { endpoint = endpoint }) new × (events ≡ (Wanted was_quiet order ∷ told) ++ answers_of progress)
+  pub submitted : (old new : EndpointValue D) (command : Command) (told : List DeskEvent) → Does disk_of (Submit command) old told new
+      → (answer : Result ℕ SubmitFault) × (told ≡ Took answer ∷ []) × IsCall disk_of old (Submits command) (Submitted answer) new
+  pub nothing : (old new : EndpointValue D) (told : List DeskEvent) → Does disk_of Go old told new → (told ≡ []) × (new ≡ old)
+  pub ends : (turns taken : ℕ) (quiet : Bool) (earlier events : List DeskEvent) → EndsAt turns taken quiet earlier events
+      → ((taken ≡ turns) × (events ≡ earlier)) ⊎ ((taken < turns) × (events ≡ earlier ++ Wanted quiet End ∷ []))
+  pub answered : (turns : ℕ) (old : Relay D) (events : List DeskEvent) (summary : RelaySummary) (endpoint : EndpointValue D) (controlled common : WireState)
+      → IsAttended disk_of turns old events (Ok summary) endpoint controlled common → (to_common : LaneValue) × (to_controlled : LaneValue)
+      × (during : List DeskEvent) × AttendsTurns disk_of turns old during (Ok tt) (relay_of endpoint controlled common to_common to_controlled)
+      × (events ≡ during ++ failed_of endpoint.waiting) × (summary ≡ summary_of to_common to_controlled)
+
+-- ---- a wire that fails
+
+-- The call with the number that is to fail fails, counted from 1; each that is asked for is counted. One has failed among those that were asked for, where that number
+-- came up. Such a wire has the frames of the one behind it, and counts its own failed calls with those of that.
+pub record FaultWords : Type 0 where
+  pub fails : (c : CallsValue) → FailsNext c ↔ (c.asked + 1 ≡ c.fails_at)
+  pub asked : (c : CallsValue) → asked_once_more c ≡ record { fails_at = c.fails_at; asked = saturated (c.asked + 1) }
+  pub failed : (c : CallsValue) → 1 ≤ c.fails_at → c.fails_at ≤ c.asked → failed_among c ≡ 1
+  pub not_yet : (c : CallsValue) → c.asked < c.fails_at → failed_among c ≡ 0
+  pub never : (c : CallsValue) → c.fails_at ≡ 0 → failed_among c ≡ 0
+  pub wire : (state : ℕ → WireState) (w : FaultWireValue ℕ) → fault_wire_state state w ≡ record {
+    waiting = (state w.inner).waiting;
+    sent = (state w.inner).sent;
+    failed_receives = saturated ((state w.inner).failed_receives + failed_among w.receives);
+    failed_sends = saturated ((state w.inner).failed_sends + failed_among w.sends);
+  }

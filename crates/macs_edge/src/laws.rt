@@ -6,7 +6,8 @@ ghost use Rattle.macs_endpoint.specs.State.{State};
 ghost use Rattle.macs_endpoint.specs.declared.fault.RefillFault.{RefillFault};
 ghost use Rattle.macs_edge.specs.Attending.{Attends};
 ghost use Rattle.macs_edge.specs.Commanding.{IsAttendedFlow};
-ghost use Rattle.macs_edge.specs.Drawn.{CountWords, FlowsInTurns, PassWords, RestWords, SocketWords};
+ghost use Rattle.macs_edge.specs.Drawn.{CountWords, DeskWords, FaultWords, FlowsInTurns, PassWords, RestWords};
+ghost use Rattle.macs_edge.specs.Drawn.{SocketWords, TurnWords};
 ghost use Rattle.macs_edge.specs.Flows.{IsFlow};
 ghost use Rattle.macs_edge.specs.Passing.{BecomesCapture, Passes};
 ghost use Rattle.macs_edge.specs.Relaying.{Relay, Relays, empty_lane, summary_of};
@@ -85,4 +86,10 @@ pub fn drawn<D: SectorDisk>()
     ensures sockets { SocketWords }
     // What a wire counts.
     ensures counts { CountWords }
+    // What a turn does, and in which order.
+    ensures turns { TurnWords D.disk }
+    // What passes between a relay and its desk.
+    ensures desk { DeskWords D.disk }
+    // Which calls of a wire fail that is made to.
+    ensures faults { FaultWords }
 {}

@@ -78,6 +78,7 @@ mod EndpointWords
 mod CountWords
 mod NeedWords
 mod FailureWords
+mod StandWords
 mod FrameWords
 mod QueueWords
 pub mod RefusedDays

@@ -22,6 +22,7 @@ pub mod EndpointWords
 pub mod CountWords
 pub mod NeedWords
 pub mod FailureWords
+pub mod StandWords
 pub mod Reasons
 pub mod Begun
 pub mod Stopping

@@ -37,6 +37,7 @@ ghost use Rattle.macs_headline.specs.EndpointWords.{OpeningsCount, ServedWords};
 ghost use Rattle.macs_headline.specs.CountWords.{CountsAreNamed, CountsRiseAlone};
 ghost use Rattle.macs_headline.specs.NeedWords.{NeedsAreInOrder, TurnsAreUsed};
 ghost use Rattle.macs_headline.specs.FailureWords.{FailureWords};
+ghost use Rattle.macs_headline.specs.StandWords.{CallsLeave, ServedEnds};
 ghost use Rattle.macs_headline.specs.Endings.{DroppedPassOn, EndsAreEarlier, ImagesAreWhole, KillingsPassOn, LosesPower, LossesSettle};
 ghost use Rattle.macs_headline.specs.Endings.{PassedOnAgain, PowerLossesPassOn};
 ghost use Rattle.macs_headline.specs.Endings.{ReadsPassOn, SyncsPassOn, TheseAreAlike, TheseArePassedOn};
@@ -290,8 +291,12 @@ pub fn endpoint_words<D: SectorDisk>()
     // Under which counter, and under no other; and what is counted of each channel.
     ensures counts { CountsAreNamed }
     ensures alone { CountsRiseAlone D.disk }
+    // What an opening, a `format`, a command, a step and a refill leave.
+    ensures left { CallsLeave D.disk }
     // What a loss of power leaves of events that are served, and when that halts.
     ensures served { ServedWords D.disk }
+    // That they are calls, and that no answer before the last says that a device call failed.
+    ensures ends { ServedEnds D.disk }
     // One more step, reservation, command or frame is counted where a call or its answer says
     // so, and else none.
     ensures counted { TurnsAreCounted D }

@@ -9,6 +9,7 @@ use Rattle.macs_config.specs.Config.{Config}
 use Rattle.macs_config.specs.declared.command.Command.{Command}
 use Rattle.macs_config.specs.declared.refusal.Refusal.{Refusal}
 use Rattle.macs_disk.specs.Disk.{Disk}
+use Rattle.std.specs.Io.KnownBytes.{Appends}
 use Rattle.macs_disk.specs.Files.{FileState}
 use Rattle.macs_edge.specs.declared.passing.RunFault.{RunFault}
 use Rattle.macs_edge.specs.declared.passing.Summary.{Summary}
@@ -29,13 +30,14 @@ use Rattle.macs_frame.proofs.Readings.{verified_once}
 use Rattle.macs_journal.specs.declared.fault.JournalFault.TheVariants as journal
 use Rattle.macs_pcap.specs.States.{SinkState}
 use Rattle.macs_program.specs.Answer.{Answers, AnswersRequest, answer_status, answer_text, refusal_text, valid_text}
-use Rattle.macs_program.specs.Applying.{Applies, EndsRun, SaysCommands, answer_of, commit_fault}
+use Rattle.macs_program.specs.Applying.{Applies, EndsRun, SaysCommands, answer_of, commit_fault, outcome_lines}
 use Rattle.macs_program.specs.Capturing.{EndsWith, IsFlushed}
 use Rattle.macs_program.specs.Contents.{HasOpenGate, IsBlankFile}
-use Rattle.macs_program.specs.Drawn.{AnswerWords, ApplyWords, CaptureWords, FileWords}
+use Rattle.macs_program.specs.Drawn.{AnswerWords, ApplyWords, CaptureWords, FileWords, LineWords, is_apply}
 use Rattle.macs_program.specs.Failing.{failure_of_run}
 use Rattle.macs_program.specs.NewDisks.{Permits}
 use Rattle.macs_program.specs.Request.{offset_text}
+use Rattle.macs_program.specs.Run.{HasPrinted}
 use Rattle.macs_program.specs.declared.answer.Answer.{Answer}
 use Rattle.macs_program.specs.declared.answer.Answer.TheVariants.{Refused, Valid}
 use Rattle.macs_program.specs.declared.contents.Contents.TheVariants as contents
@@ -44,6 +46,8 @@ use Rattle.macs_program.specs.declared.failure.DiskFault.TheVariants as disk
 use Rattle.macs_program.specs.declared.failure.Failure.{Failure}
 use Rattle.macs_program.specs.declared.failure.Failure.TheVariants as failures
 use Rattle.macs_program.specs.declared.request.Request.{Request}
+use Rattle.macs_words.specs.declared.action.Action.{Action}
+use Rattle.macs_words.specs.declared.action.Action.TheVariants.{Apply}
 
 -- ---- one answer
 
@@ -111,19 +115,19 @@ answer-words = record {
 outcome_once : (s t u : State) (command : Command) (a b : Option Refusal) → Step s (Commands command) (Ran (answer_of a)) t
     → Step s (Commands command) (Ran (answer_of b)) u → (a ≡ b) × (t ≡ u)
 outcome_once s t u command None None (inl stopped) y = absurd stopped.1
-outcome_once s t u command None None (inr (running, none, (config, is, same))) (inl stopped) = absurd stopped.1
-outcome_once s t u command None None (inr (running, none, (config, is, same))) (inr (running', none', (config', is', same'))) =
+outcome_once s t u command None None (inr (running, (none, (config, is, same)))) (inl stopped) = absurd stopped.1
+outcome_once s t u command None None (inr (running, (none, (config, is, same)))) (inr (running', (none', (config', is', same')))) =
     let one : config ≡ config' = cc in
     (refl, same ∙ ap (state_after_command s command) one ∙ sym same')
 outcome_once s t u command None (Some at) (inl stopped) y = absurd stopped.1
-outcome_once s t u command None (Some at) (inr (running, none, (config, is, same))) (inl stopped) = absurd stopped.1
-outcome_once s t u command None (Some at) (inr (running, none, (config, is, same))) (inr (running', none', is', same')) = absurd (cc)
+outcome_once s t u command None (Some at) (inr (running, (none, (config, is, same)))) (inl stopped) = absurd stopped.1
+outcome_once s t u command None (Some at) (inr (running, (none, (config, is, same)))) (inr (running', (none', is', same'))) = absurd (cc)
 outcome_once s t u command (Some at) None (inl stopped) y = absurd stopped.1
-outcome_once s t u command (Some at) None (inr (running, none, is, same)) (inl stopped) = absurd stopped.1
-outcome_once s t u command (Some at) None (inr (running, none, is, same)) (inr (running', none', (config, is', same'))) = absurd (cc)
+outcome_once s t u command (Some at) None (inr (running, (none, is, same))) (inl stopped) = absurd stopped.1
+outcome_once s t u command (Some at) None (inr (running, (none, is, same))) (inr (running', (none', (config, is', same')))) = absurd (cc)
 outcome_once s t u command (Some at) (Some other) (inl stopped) y = absurd stopped.1
-outcome_once s t u command (Some at) (Some other) (inr (running, none, is, same)) (inl stopped) = absurd stopped.1
-outcome_once s t u command (Some at) (Some other) (inr (running, none, is, same)) (inr (running', none', is', same')) =
+outcome_once s t u command (Some at) (Some other) (inr (running, (none, is, same))) (inl stopped) = absurd stopped.1
+outcome_once s t u command (Some at) (Some other) (inr (running, (none, is, same))) (inr (running', (none', is', same'))) =
     let one : at ≡ other = cc in
     (ap Some one, same ∙ sym same')
 
@@ -258,7 +262,7 @@ taken_for false settled sectors fault (contents.Other, are, is) = inr (cc, refl,
 
 pub file-words : {F : Type 0} (file : F → FileState) → FileWords file
 file-words file = record {
-  disk = λ d is. (is.known, is.fresh);
+  opened = λ d is. (is.known, is.fresh);
   endpoint = λ e is. (is.disk, is.is_disk, is.opens);
   fails = λ failure is. elim is [
     | inl no_file ↦ inl no_file
@@ -272,4 +276,28 @@ file-words file = record {
   not_formatted = λ is_over identity failure is. is;
   not_blank = λ is_over given failure is. is;
   taken = λ is_over given fault t. (t.settles, taken_for is_over t.settled (given.size / 512) fault t.permits);
+}
+
+-- ---- what is printed
+
+nothing_printed : (action : Action) (before after : Option (List ℕ)) → HasPrinted action before after → is_apply action ≡ false → after ≡ before
+nothing_printed (Apply disk file) before after printed is = absurd (cc)
+nothing_printed action before after printed is = printed
+
+commands_printed : (action : Action) (before after : Option (List ℕ)) → HasPrinted action before after → is_apply action ≡ true
+    → (outcomes : List (Option Refusal)) × Appends before after (outcome_lines 1 outcomes)
+commands_printed (Apply disk file) before after printed is = printed
+commands_printed action before after printed is = absurd (cc)
+
+pub line-words : LineWords
+line-words = record {
+  prints = λ input before after status is. is;
+  nothing = nothing_printed;
+  commands = commands_printed;
+  complained = λ before after failed text is. is;
+  complaint = λ failure. refl;
+  status_codes = (refl, refl, refl, refl, refl);
+  of_disk = λ fault. refl;
+  of_input = λ fault. refl;
+  of_others = (refl, refl, refl, refl, refl);
 }

@@ -39,18 +39,22 @@ use Rattle.macs_program.specs.CaptureFiles.{Asked, Asks, AsksInOrder, Makes, Ope
 use Rattle.macs_program.specs.Capturing.{EndsPass, EndsWith, IsFlushed, PassesCapture}
 use Rattle.macs_program.specs.Contents.{HasOpenGate, IsBlankFile}
 use Rattle.macs_program.specs.Endpoints.{AppliesFile, AppliesIn, BreaksOff, BreaksOffIn, IsDiskIn, IsEndpointIn, IsRefusedIn, OpeningFails, PassesIn, ShowsIn, shown_text}
-use Rattle.macs_program.specs.Failing.{failure_of_file, failure_of_journal, failure_of_run}
+use Rattle.macs_program.specs.Failing.{failure_of_file, failure_of_journal, failure_of_run, failure_status, failure_text}
 use Rattle.macs_program.specs.Lines.{line_at, lines}
 use Rattle.macs_program.specs.NewDisks.{BlankFails, FormatFails, Formats, IsTaken, Permits}
 use Rattle.macs_program.specs.Request.{Spells, offset_text}
+use Rattle.macs_program.specs.Run.{HasPrinted, Prints, PrintsUnlessFailed, code_of, complaint}
 use Rattle.macs_program.specs.declared.answer.Answer.{Answer}
 use Rattle.macs_program.specs.declared.failure.DiskFault.{DiskFault}
 use Rattle.macs_program.specs.declared.failure.DiskFault.TheVariants as disk
 use Rattle.macs_program.specs.declared.failure.Failure.{Failure}
 use Rattle.macs_program.specs.declared.failure.Failure.TheVariants as failures
+use Rattle.macs_program.specs.declared.request.InputFault.{InputFault}
 use Rattle.macs_program.specs.declared.request.Request.{Request}
 use Rattle.macs_program.specs.declared.status.Status.{Status}
 use Rattle.macs_program.specs.declared.status.Status.TheVariants as ends
+use Rattle.macs_words.specs.declared.action.Action.{Action}
+use Rattle.macs_words.specs.declared.action.Action.TheVariants.{Apply}
 
 -- ---- `open`
 
@@ -138,7 +142,7 @@ pub record CaptureWords {D : Type 0} (disk_of : D → Disk) : Type 0 where
 -- layout, and formatted with the identity; one that is not has a fault that names it, and of a file that behaves that fault is a device call's, or is that of what
 -- it held when it was settled.
 pub record FileWords {F : Type 0} (file : F → FileState) : Type 0 where
-  pub disk : (d : FileDisk F) → IsDiskIn file d → (Behaves (file (file_given d)) → IsOpened (file (file_given d)) 0 (layout_of d) (disk_in_file file d))
+  pub opened : (d : FileDisk F) → IsDiskIn file d → (Behaves (file (file_given d)) → IsOpened (file (file_given d)) 0 (layout_of d) (disk_in_file file d))
       × IsFresh (disk_in_file file d)
   pub endpoint : (e : EndpointValue (FileDisk F)) → IsEndpointIn file e → (d : FileDisk F) × IsDiskIn file d × Opens (disk_in_file file) d e
   pub fails : (failure : Failure) → OpeningFails file failure → ((fault : FileFault) × (failure ≡ failure_of_file fault))
@@ -167,3 +171,27 @@ pub record FileWords {F : Type 0} (file : F → FileState) : Type 0 where
   pub taken : (is_over : Bool) (given : FileState) (fault : DiskFault) (t : IsTaken is_over given fault) → Settles given t.settled
       × (((fault ≡ disk.Journal journal.AlreadyFormatted) × HasOpenGate t.settled (given.size / 512))
       ⊎ ((fault ≡ disk.File) × (is_over ≡ false) × (¬ HasOpenGate t.settled (given.size / 512)) × (¬ IsBlankFile t.settled (given.size / 512))))
+
+-- ---- what is printed
+
+-- it is `apply`
+abbrev pub is_apply : Action → Bool
+is_apply (Apply disk file) = true
+is_apply action = false
+
+-- `open` prints one line, that of its answer. Before a failure nothing was printed but, of `apply`, the lines of commands from the first one on. The line of a
+-- failure is printed, or the stream failed. Each status has its code, and each failure its status.
+pub record LineWords : Type 0 where
+  pub prints : (input : List ℕ) (before after : Option (List ℕ)) (status : Status) → Prints input before after status → (answer : Answer) × Answers input answer
+      × Appends before after (answer_text answer ++ 10 ∷ []) × (status ≡ answer_status answer)
+  pub nothing : (action : Action) (before after : Option (List ℕ)) → HasPrinted action before after → is_apply action ≡ false → after ≡ before
+  pub commands : (action : Action) (before after : Option (List ℕ)) → HasPrinted action before after → is_apply action ≡ true
+      → (outcomes : List (Option Refusal)) × Appends before after (outcome_lines 1 outcomes)
+  pub complained : (before after : Option (List ℕ)) (failed : Bool) (text : List ℕ) → PrintsUnlessFailed before after failed text
+      → Appends before after text ⊎ (failed ≡ true)
+  pub complaint : (failure : Failure) → complaint failure ≡ (codes "macsecd: " ++ failure_text failure) ++ 10 ∷ []
+  pub status_codes : (code_of ends.Done ≡ 0) × (code_of ends.Usage ≡ 2) × (code_of ends.Refused ≡ 3) × (code_of ends.Disk ≡ 4) × (code_of ends.Fault ≡ 5)
+  pub of_disk : (fault : DiskFault) → failure_status (failures.Disk fault) ≡ ends.Disk
+  pub of_input : (fault : InputFault) → failure_status (failures.Input fault) ≡ ends.Fault
+  pub of_others : (failure_status failures.Capture ≡ ends.Fault) × (failure_status failures.Commands ≡ ends.Fault) × (failure_status failures.Wire ≡ ends.Fault)
+      × (failure_status failures.Memory ≡ ends.Fault) × (failure_status failures.Output ≡ ends.Fault)

@@ -5,7 +5,7 @@ ghost use Rattle.macs_config.specs.Identity.{Identity};
 ghost use Rattle.macs_disk.specs.Files.{Behaves, FileState, Settles};
 ghost use Rattle.macs_disk.specs.declared.layout.Layout.{Layout};
 ghost use Rattle.macs_program.specs.Contents.{ContentsAre, HasOpenGate, IsBlankFile};
-ghost use Rattle.macs_program.specs.Drawn.{AnswerWords, ApplyWords, CaptureWords, FileWords};
+ghost use Rattle.macs_program.specs.Drawn.{AnswerWords, ApplyWords, CaptureWords, FileWords, LineWords};
 ghost use Rattle.macs_program.specs.NewDisks.{Formats, Permits};
 ghost use Rattle.macs_program.specs.declared.contents.Contents.{Contents};
 
@@ -41,4 +41,6 @@ pub fn words<D: SectorDisk, F: DiskFile>()
     ensures captures { CaptureWords D.disk }
     // Which endpoint is opened, and which file becomes a disk.
     ensures files { FileWords F.file }
+    // What is printed, and with which status a run ends.
+    ensures lines { LineWords }
 {}

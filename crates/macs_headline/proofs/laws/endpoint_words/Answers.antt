@@ -1,6 +1,7 @@
 use Rattle.macs_headline.proofs.EndpointWords.{calls-are-counted, ceilings-are-raised, openings-count, served-words}
 use Rattle.macs_headline.proofs.CountWords.{counts-are-named, counts-rise-alone}
 use Rattle.macs_headline.proofs.NeedWords.{needs-are-in-order, turns-are-used}
+use Rattle.macs_headline.proofs.StandWords.{calls-leave, served-ends}
 use Rattle.macs_headline.proofs.Turns.{turns-are-built, turns-are-counted}
 use Rattle.macs_headline.proofs.laws.endpoint_words.Goals as goal
 
@@ -33,3 +34,9 @@ returns-clause-counts g c = counts-are-named
 
 pub returns-clause-alone : goal.returns-clause-alone
 returns-clause-alone g c = counts-rise-alone g.D.SectorDisk.disk
+
+pub returns-clause-left : goal.returns-clause-left
+returns-clause-left g c = calls-leave g.D.SectorDisk.disk
+
+pub returns-clause-ends : goal.returns-clause-ends
+returns-clause-ends g c = served-ends g.D.SectorDisk.disk

@@ -1,4 +1,4 @@
-use Rattle.macs_program.proofs.Drawn.{answer-words, apply-words, capture-words, file-words}
+use Rattle.macs_program.proofs.Drawn.{answer-words, apply-words, capture-words, file-words, line-words}
 use Rattle.macs_program.proofs.laws.words.Goals as goal
 
 pub returns-clause-answers : goal.returns-clause-answers
@@ -12,3 +12,6 @@ returns-clause-captures g c = capture-words g.D.SectorDisk.disk
 
 pub returns-clause-files : goal.returns-clause-files
 returns-clause-files g c = file-words g.F.DiskFile.file
+
+pub returns-clause-lines : goal.returns-clause-lines
+returns-clause-lines g c = line-words
