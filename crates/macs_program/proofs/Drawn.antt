@@ -11,6 +11,8 @@ use Rattle.macs_config.specs.declared.refusal.Refusal.{Refusal}
 use Rattle.macs_disk.specs.Disk.{Disk}
 use Rattle.std.specs.Io.KnownBytes.{Appends}
 use Rattle.macs_disk.specs.Files.{FileState}
+use Rattle.macs_disk.specs.declared.layout.Layout.{Layout}
+use Rattle.macs_disk.specs.declared.layout.Layout.TheVariants.{Packed, Spaced}
 use Rattle.macs_edge.specs.declared.passing.RunFault.{RunFault}
 use Rattle.macs_edge.specs.declared.passing.Summary.{Summary}
 use Rattle.macs_endpoint.specs.Calls.{IsCall}
@@ -33,11 +35,12 @@ use Rattle.macs_program.specs.Answer.{Answers, AnswersRequest, answer_status, an
 use Rattle.macs_program.specs.Applying.{Applies, EndsRun, SaysCommands, answer_of, commit_fault, outcome_lines}
 use Rattle.macs_program.specs.Capturing.{EndsWith, IsFlushed}
 use Rattle.macs_program.specs.Contents.{HasOpenGate, IsBlankFile}
-use Rattle.macs_program.specs.Drawn.{AnswerWords, ApplyWords, CaptureWords, FileWords, LineWords, is_apply}
+use Rattle.macs_program.specs.Drawn.{AnswerWords, ApplyWords, CaptureWords, FileWords, LineWords, ValueWords, is_apply, is_silent}
 use Rattle.macs_program.specs.Failing.{failure_of_run}
 use Rattle.macs_program.specs.NewDisks.{Permits}
 use Rattle.macs_program.specs.Request.{offset_text}
 use Rattle.macs_program.specs.Run.{HasPrinted}
+use Rattle.macs_program.specs.Values.{SpellsLayout}
 use Rattle.macs_program.specs.declared.answer.Answer.{Answer}
 use Rattle.macs_program.specs.declared.answer.Answer.TheVariants.{Refused, Valid}
 use Rattle.macs_program.specs.declared.contents.Contents.TheVariants as contents
@@ -47,7 +50,7 @@ use Rattle.macs_program.specs.declared.failure.Failure.{Failure}
 use Rattle.macs_program.specs.declared.failure.Failure.TheVariants as failures
 use Rattle.macs_program.specs.declared.request.Request.{Request}
 use Rattle.macs_words.specs.declared.action.Action.{Action}
-use Rattle.macs_words.specs.declared.action.Action.TheVariants.{Apply}
+use Rattle.macs_words.specs.declared.action.Action.TheVariants.{Apply, Format, Open, Protect, Relay, Show, Validate}
 
 -- ---- one answer
 
@@ -280,9 +283,14 @@ file-words file = record {
 
 -- ---- what is printed
 
-nothing_printed : (action : Action) (before after : Option (List ℕ)) → HasPrinted action before after → is_apply action ≡ false → after ≡ before
-nothing_printed (Apply disk file) before after printed is = absurd (cc)
-nothing_printed action before after printed is = printed
+nothing_printed : (action : Action) (before after : Option (List ℕ)) → HasPrinted action before after → is_silent action ≡ true → after ≡ before
+nothing_printed Open before after printed is = printed
+nothing_printed (Format disk sci tx_block rx_block block is_over) before after printed is = printed
+nothing_printed (Show disk) before after printed is = printed
+nothing_printed (Protect disk from to) before after printed is = printed
+nothing_printed (Validate disk from to) before after printed is = printed
+nothing_printed (Relay disk controlled common pace) before after printed is = printed
+nothing_printed action before after printed is = absurd (cc)
 
 commands_printed : (action : Action) (before after : Option (List ℕ)) → HasPrinted action before after → is_apply action ≡ true
     → (outcomes : List (Option Refusal)) × Appends before after (outcome_lines 1 outcomes)
@@ -300,4 +308,19 @@ line-words = record {
   of_disk = λ fault. refl;
   of_input = λ fault. refl;
   of_others = (refl, refl, refl, refl, refl);
+}
+
+-- ---- values
+
+layout_named : (text : List ℕ) (layout : Layout) → SpellsLayout (Some text) layout
+    → ((layout ≡ Packed) × (text ≡ codes "512")) ⊎ ((layout ≡ Spaced) × (text ≡ codes "4096"))
+layout_named text Packed is = inl (refl, is)
+layout_named text Spaced is = inr (refl, is)
+
+pub value-words : ValueWords
+value-words = record {
+  identity = λ sci tx_block rx_block identity s. (s.sci_is.1, s.sci_is.0, s.tx_is, s.rx_is, s.tx_fits, s.rx_fits);
+  packed = λ layout is. is;
+  block = layout_named;
+  wires = λ controlled common (first, second, one, two). (first, second, one.own_is, one.peer_is, two.own_is, two.peer_is);
 }

@@ -1,13 +1,14 @@
 -- What is to be drawn from words of the program's contracts: of answers, of commands that are given, of new disks, of captures and of lines.
 use Rattle.std.specs.Prelude.{◌≡◌, ◌≢◌, ◌≤◌, ◌⊎◌, ◌↔◌, ◌+◌, ◌/◌, ◌++◌, true, false, ℕ, Bool, List, [], ◌∷◌, length, codes, Contains, Option, Some, None, Result, Ok, Err}
 use Rattle.std.specs.Io.KnownBytes.{Appends, Keeps}
+use Rattle.std.specs.Net.Grammar.{IsSocketText}
 use Rattle.std.specs.Str.{IsUtf8}
 use Rattle.hex.specs.Hex.{decode_of}
 use Rattle.toml.specs.Data.{Members}
 use Rattle.toml.specs.Parse.{parse_document}
 use Rattle.macs_aes.specs.Keys.{octets_of_key}
 use Rattle.macs_commands.specs.CommandFiles.{file_commands}
-use Rattle.macs_config.specs.Identity.{Identity}
+use Rattle.macs_config.specs.Identity.{Identity, IsBlock}
 use Rattle.macs_config.specs.declared.command.Command.{Command}
 use Rattle.macs_config.specs.declared.refusal.Refusal.{Refusal}
 use Rattle.macs_disk.specs.Disk.{Disk}
@@ -16,6 +17,7 @@ use Rattle.macs_disk.specs.Files.{Behaves, FileState, Settles}
 use Rattle.macs_disk.specs.declared.file.FileDisk.{FileDisk}
 use Rattle.macs_disk.specs.declared.file_fault.FileFault.{FileFault}
 use Rattle.macs_disk.specs.declared.layout.Layout.{Layout}
+use Rattle.macs_disk.specs.declared.layout.Layout.TheVariants.{Packed, Spaced}
 use Rattle.macs_edge.specs.Passing.{RunsOver, run_of}
 use Rattle.macs_edge.specs.declared.passing.RunFault.{RunFault}
 use Rattle.macs_edge.specs.declared.passing.Summary.{Summary}
@@ -33,6 +35,7 @@ use Rattle.macs_frame.specs.Tag.{tag_of}
 use Rattle.macs_journal.specs.declared.fault.JournalFault.{JournalFault}
 use Rattle.macs_journal.specs.declared.fault.JournalFault.TheVariants as journal
 use Rattle.macs_pcap.specs.States.{SinkState, SourceState}
+use Rattle.macs_program.specs.Addresses.{SpellsBoth}
 use Rattle.macs_program.specs.Answer.{Answers, answer_status, answer_text}
 use Rattle.macs_program.specs.Applying.{Applies, AppliesAll, AppliesSome, EndsRun, SaysCommands, commit_fault, outcome_lines, outcomes_status}
 use Rattle.macs_program.specs.CaptureFiles.{Asked, Asks, AsksInOrder, Makes, Opens as OpensCapture}
@@ -44,6 +47,8 @@ use Rattle.macs_program.specs.Lines.{line_at, lines}
 use Rattle.macs_program.specs.NewDisks.{BlankFails, FormatFails, Formats, IsTaken, Permits}
 use Rattle.macs_program.specs.Request.{Spells, offset_text}
 use Rattle.macs_program.specs.Run.{HasPrinted, Prints, PrintsUnlessFailed, code_of, complaint}
+use Rattle.macs_program.specs.Values.{SpellsIdentity, SpellsLayout}
+use Rattle.macs_program.specs.declared.addresses.WireAddresses.{WireAddresses}
 use Rattle.macs_program.specs.declared.answer.Answer.{Answer}
 use Rattle.macs_program.specs.declared.failure.DiskFault.{DiskFault}
 use Rattle.macs_program.specs.declared.failure.DiskFault.TheVariants as disk
@@ -53,8 +58,9 @@ use Rattle.macs_program.specs.declared.request.InputFault.{InputFault}
 use Rattle.macs_program.specs.declared.request.Request.{Request}
 use Rattle.macs_program.specs.declared.status.Status.{Status}
 use Rattle.macs_program.specs.declared.status.Status.TheVariants as ends
+use Rattle.macs_words.specs.declared.action.WireEnds.{WireEnds}
 use Rattle.macs_words.specs.declared.action.Action.{Action}
-use Rattle.macs_words.specs.declared.action.Action.TheVariants.{Apply}
+use Rattle.macs_words.specs.declared.action.Action.TheVariants.{Apply, Format, Open, Protect, Relay, Show, Validate}
 
 -- ---- `open`
 
@@ -179,12 +185,22 @@ abbrev pub is_apply : Action → Bool
 is_apply (Apply disk file) = true
 is_apply action = false
 
--- `open` prints one line, that of its answer. Before a failure nothing was printed but, of `apply`, the lines of commands from the first one on. The line of a
+-- it is one that prints nothing before a failure
+abbrev pub is_silent : Action → Bool
+is_silent Open = true
+is_silent (Format disk sci tx_block rx_block block is_over) = true
+is_silent (Show disk) = true
+is_silent (Protect disk from to) = true
+is_silent (Validate disk from to) = true
+is_silent (Relay disk controlled common pace) = true
+is_silent action = false
+
+-- `open` prints one line, that of its answer. Before a failure of another one than `apply` nothing was printed, and of `apply` the lines of commands, from the first one on. The line of a
 -- failure is printed, or the stream failed. Each status has its code, and each failure its status.
 pub record LineWords : Type 0 where
   pub prints : (input : List ℕ) (before after : Option (List ℕ)) (status : Status) → Prints input before after status → (answer : Answer) × Answers input answer
       × Appends before after (answer_text answer ++ 10 ∷ []) × (status ≡ answer_status answer)
-  pub nothing : (action : Action) (before after : Option (List ℕ)) → HasPrinted action before after → is_apply action ≡ false → after ≡ before
+  pub nothing : (action : Action) (before after : Option (List ℕ)) → HasPrinted action before after → is_silent action ≡ true → after ≡ before
   pub commands : (action : Action) (before after : Option (List ℕ)) → HasPrinted action before after → is_apply action ≡ true
       → (outcomes : List (Option Refusal)) × Appends before after (outcome_lines 1 outcomes)
   pub complained : (before after : Option (List ℕ)) (failed : Bool) (text : List ℕ) → PrintsUnlessFailed before after failed text
@@ -195,3 +211,18 @@ pub record LineWords : Type 0 where
   pub of_input : (fault : InputFault) → failure_status (failures.Input fault) ≡ ends.Fault
   pub of_others : (failure_status failures.Capture ≡ ends.Fault) × (failure_status failures.Commands ≡ ends.Fault) × (failure_status failures.Wire ≡ ends.Fault)
       × (failure_status failures.Memory ≡ ends.Fault) × (failure_status failures.Output ≡ ends.Fault)
+
+-- ---- values
+
+-- The identity of a `format` has the SCI of its word, of 8 octets in hex, and the blocks of its words, each in range. The layout is that of the word: of 512 where
+-- none is given; and there is one. The ends of both wires of a `relay` are those of its words.
+pub record ValueWords : Type 0 where
+  pub identity : (sci : List ℕ) (tx_block rx_block : ℕ) (identity : Identity) → SpellsIdentity sci tx_block rx_block identity
+      → (decode_of sci ≡ Ok identity.sci) × (length identity.sci ≡ 8) × (identity.tx_block ≡ tx_block) × (identity.rx_block ≡ rx_block)
+      × IsBlock tx_block × IsBlock rx_block
+  pub packed : (layout : Layout) → SpellsLayout None layout → layout ≡ Packed
+  pub block : (text : List ℕ) (layout : Layout) → SpellsLayout (Some text) layout
+      → ((layout ≡ Packed) × (text ≡ codes "512")) ⊎ ((layout ≡ Spaced) × (text ≡ codes "4096"))
+  pub wires : (controlled common : WireEnds) → SpellsBoth controlled common → (first : WireAddresses) × (second : WireAddresses)
+      × IsSocketText controlled.own.now first.own × IsSocketText controlled.peer.now first.peer
+      × IsSocketText common.own.now second.own × IsSocketText common.peer.now second.peer

@@ -5,7 +5,7 @@ ghost use Rattle.macs_config.specs.Identity.{Identity};
 ghost use Rattle.macs_disk.specs.Files.{Behaves, FileState, Settles};
 ghost use Rattle.macs_disk.specs.declared.layout.Layout.{Layout};
 ghost use Rattle.macs_program.specs.Contents.{ContentsAre, HasOpenGate, IsBlankFile};
-ghost use Rattle.macs_program.specs.Drawn.{AnswerWords, ApplyWords, CaptureWords, FileWords, LineWords};
+ghost use Rattle.macs_program.specs.Drawn.{AnswerWords, ApplyWords, CaptureWords, FileWords, LineWords, ValueWords};
 ghost use Rattle.macs_program.specs.NewDisks.{Formats, Permits};
 ghost use Rattle.macs_program.specs.declared.contents.Contents.{Contents};
 
@@ -43,4 +43,6 @@ pub fn words<D: SectorDisk, F: DiskFile>()
     ensures files { FileWords F.file }
     // What is printed, and with which status a run ends.
     ensures lines { LineWords }
+    // Which values words spell.
+    ensures values { ValueWords }
 {}

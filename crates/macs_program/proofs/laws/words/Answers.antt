@@ -1,4 +1,4 @@
-use Rattle.macs_program.proofs.Drawn.{answer-words, apply-words, capture-words, file-words, line-words}
+use Rattle.macs_program.proofs.Drawn.{answer-words, apply-words, capture-words, file-words, line-words, value-words}
 use Rattle.macs_program.proofs.laws.words.Goals as goal
 
 pub returns-clause-answers : goal.returns-clause-answers
@@ -15,3 +15,6 @@ returns-clause-files g c = file-words g.F.DiskFile.file
 
 pub returns-clause-lines : goal.returns-clause-lines
 returns-clause-lines g c = line-words
+
+pub returns-clause-values : goal.returns-clause-values
+returns-clause-values g c = value-words
