@@ -1,5 +1,6 @@
 -- What is counted of each answer, and of each channel.
-use Rattle.std.proofs.Common.{◌≡◌, ◌≢◌, ℕ, Bool, true, false, cond, List, [], ◌∷◌, Option, Some, None, Result, Ok, Err, bytes_eq, refl, sym, ◌∙◌, ap, subst}
+use Rattle.std.proofs.Common.{◌≡◌, ◌≢◌, ℕ, Bool, true, false, cond, List, [], ◌∷◌, Option, Some, None, Result, Ok, Err}
+use Rattle.std.proofs.Common.{bytes_eq, refl, sym, ◌∙◌, ap, subst}
 use Rattle.std.specs.Option.{option_map}
 use Rattle.macs_config.specs.Numbers.{one_more}
 use Rattle.macs_config.specs.Tables.{put_at}
@@ -13,7 +14,8 @@ use Rattle.macs_txsc.specs.Value as txsc
 use Rattle.macs_txsc.specs.declared.counters.TxCounters.{TxCounters}
 use Rattle.macs_txsc.specs.declared.fault.TxFault.{TxFault}
 use Rattle.macs_txsc.specs.declared.fault.TxFault.TheVariants as fault
-use Rattle.macs_rxsc.specs.Counting.{channel_count_of, channel_counters_after_verdict, count_of, counters_after_verdict, counters_after_verdict_at, no_channel_counts, no_counts as no_rx_counts}
+use Rattle.macs_rxsc.specs.Counting.{channel_count_of, channel_counters_after_verdict, count_of, counters_after_verdict}
+use Rattle.macs_rxsc.specs.Counting.{counters_after_verdict_at, no_channel_counts, no_counts as no_rx_counts}
 use Rattle.macs_rxsc.specs.Receive.{channel_of}
 use Rattle.macs_rxsc.specs.Value as rxsc
 use Rattle.macs_rxsc.specs.declared.counters.ChannelCounters.{ChannelCounters}
@@ -22,8 +24,10 @@ use Rattle.macs_rxsc.specs.declared.verdict.Kind.TheVariants as kind
 use Rattle.macs_rxsc.specs.declared.verdict.Reason.TheVariants as reason
 use Rattle.macs_rxsc.specs.declared.verdict.Verdict.{Verdict}
 use Rattle.macs_rxsc.specs.declared.verdict.Verdict.TheVariants.{Delivered, Discarded, HeldBack}
-use Rattle.macs_endpoint.specs.Counting.{channel_counters_after, channel_counters_after_command, channel_counters_after_made, rx_counters_after, tx_counters_after}
-use Rattle.macs_endpoint.specs.State.{Advances, Call, Commands, Protected, Protects, Received, Receives, Refills, Reply, State, Submits, command_made, no_logs, rx_side}
+use Rattle.macs_endpoint.specs.Counting.{channel_counters_after, channel_counters_after_command}
+use Rattle.macs_endpoint.specs.Counting.{channel_counters_after_made, rx_counters_after, tx_counters_after}
+use Rattle.macs_endpoint.specs.State.{Advances, Call, Commands, Protected, Protects, Received, Receives, Refills, Reply}
+use Rattle.macs_endpoint.specs.State.{State, Submits, command_made, no_logs, rx_side}
 use Rattle.macs_endpoint.specs.Value.{state_of}
 use Rattle.macs_endpoint.specs.declared.fault.ProtectFault.{ProtectFault}
 use Rattle.macs_endpoint.specs.declared.fault.Stopped.{Stopped}
@@ -41,7 +45,8 @@ no_fault fault.NoEncodingSa = refl
 no_fault fault.Exhausted = refl
 no_fault fault.NoNumber = refl
 
-no_verdict : (verdict : Verdict) → (count_of verdict no_rx_counts ≡ 0) × (channel_count_of verdict no_channel_counts ≡ 0)
+no_verdict : (verdict : Verdict) → (count_of verdict no_rx_counts ≡ 0)
+    × (channel_count_of verdict no_channel_counts ≡ 0)
 no_verdict (Delivered kind.Ok) = (refl, refl)
 no_verdict (Delivered kind.Delayed) = (refl, refl)
 no_verdict (Delivered kind.Invalid) = (refl, refl)
@@ -72,7 +77,8 @@ counts-are-named = record {
 
 -- ---- one count alone
 
-other_fault : (at other : TxFault) (c : TxCounters) → at ≢ other → fault_count other (counters_after_fault at c) ≡ fault_count other c
+other_fault : (at other : TxFault) (c : TxCounters) → at ≢ other
+    → fault_count other (counters_after_fault at c) ≡ fault_count other c
 other_fault fault.Runt fault.Runt c differ = absurd (differ refl)
 other_fault fault.TooLong fault.TooLong c differ = absurd (differ refl)
 other_fault fault.ForeignSource fault.ForeignSource c differ = absurd (differ refl)
@@ -89,7 +95,8 @@ none_sent fault.NoEncodingSa c = refl
 none_sent fault.Exhausted c = refl
 none_sent fault.NoNumber c = refl
 
-other_verdict : (verdict other : Verdict) (c : RxCounters) → verdict ≢ other → count_of other (counters_after_verdict verdict c) ≡ count_of other c
+other_verdict : (verdict other : Verdict) (c : RxCounters) → verdict ≢ other
+    → count_of other (counters_after_verdict verdict c) ≡ count_of other c
 other_verdict (Delivered kind.Ok) (Delivered kind.Ok) c differ = absurd (differ refl)
 other_verdict (Delivered kind.Delayed) (Delivered kind.Delayed) c differ = absurd (differ refl)
 other_verdict (Delivered kind.Invalid) (Delivered kind.Invalid) c differ = absurd (differ refl)
@@ -161,21 +168,27 @@ other_of_channel (Discarded reason.Late) (Delivered kind.Ok) c differ = refl
 other_of_channel (Discarded reason.NotValid) (Delivered kind.Ok) c differ = refl
 other_of_channel verdict other c differ = refl
 
-at_channel : (named : Option (List ℕ)) (verdict : Verdict) (table : List ℕ → Option ChannelCounters) (sci : List ℕ) (c : ChannelCounters) → named ≡ Some sci
-    → table sci ≡ Some c → counters_after_verdict_at named verdict table sci ≡ Some (channel_counters_after_verdict verdict c)
+at_channel : (named : Option (List ℕ)) (verdict : Verdict) (table : List ℕ
+    → Option ChannelCounters) (sci : List ℕ) (c : ChannelCounters) → named ≡ Some sci
+    → table sci ≡ Some c
+    → counters_after_verdict_at named verdict table sci ≡ Some (channel_counters_after_verdict verdict c)
 at_channel named verdict table sci c is has =
     ap (λ (n : Option (List ℕ)). counters_after_verdict_at n verdict table sci) is
-    ∙ ap (λ (b : Bool). cond b (option_map (channel_counters_after_verdict verdict) (table sci)) (table sci)) (bytes_eq-itself sci)
+    ∙ ap (λ (b : Bool). cond b (option_map (channel_counters_after_verdict verdict) (table sci)) (table sci))
+    (bytes_eq-itself sci)
     ∙ ap (option_map (channel_counters_after_verdict verdict)) has
 
-other_channel : (named : Option (List ℕ)) (verdict : Verdict) (table : List ℕ → Option ChannelCounters) (sci : List ℕ) → named ≢ Some sci
+other_channel : (named : Option (List ℕ)) (verdict : Verdict) (table : List ℕ → Option ChannelCounters) (sci : List ℕ)
+    → named ≢ Some sci
     → counters_after_verdict_at named verdict table sci ≡ table sci
 other_channel None verdict table sci differ = refl
-other_channel (Some at) verdict table sci differ = put_at_all (λ x. x ≡ table sci) table at (option_map (channel_counters_after_verdict verdict) (table at)) sci
+other_channel (Some at) verdict table sci differ = put_at_all
+    (λ x. x ≡ table sci) table at (option_map (channel_counters_after_verdict verdict) (table at)) sci
     (λ same. absurd (differ (ap Some (sym same)))) (λ other. refl)
 
 -- what a command makes of the counts of channels
-after_made : (s : State) (call : Call) (reply : Reply) (command : Command) (table : List ℕ → Option ChannelCounters) → command_made s call reply ≡ Some command
+after_made : (s : State) (call : Call) (reply : Reply) (command : Command) (table : List ℕ → Option ChannelCounters)
+    → command_made s call reply ≡ Some command
     → channel_counters_after s call reply table ≡ channel_counters_after_command command table
 after_made s (Receives frame) reply command table is = absurd (none-some command is)
 after_made s call reply command table is = ap (λ (made : Option Command). channel_counters_after_made made table) is
@@ -186,25 +199,30 @@ after_none : (s : State) (call : Call) (reply : Reply) (table : List ℕ → Opt
 after_none s (Receives frame) (Received (Ok verdict) out) table other = absurd (other (Ok verdict) out refl)
 after_none s call reply table other = refl
 
-not_of : (made : Option Command) (table : List ℕ → Option ChannelCounters) (sci : List ℕ) → made ≢ Some (RxAdd sci) → made ≢ Some (RxDrop sci)
+not_of : (made : Option Command) (table : List ℕ → Option ChannelCounters) (sci : List ℕ) → made ≢ Some (RxAdd sci)
+    → made ≢ Some (RxDrop sci)
     → channel_counters_after_made made table sci ≡ table sci
 not_of None table sci no_add no_drop = refl
-not_of (Some (RxAdd at)) table sci no_add no_drop = put_at_all (λ x. x ≡ table sci) table at (Some no_channel_counts) sci
+not_of (Some (RxAdd at)) table sci no_add no_drop = put_at_all
+    (λ x. x ≡ table sci) table at (Some no_channel_counts) sci
     (λ same. absurd (no_add (λ i. Some (RxAdd (sym same i))))) (λ other. refl)
 not_of (Some (RxDrop at)) table sci no_add no_drop = put_at_all (λ x. x ≡ table sci) table at None sci
     (λ same. absurd (no_drop (λ i. Some (RxDrop (sym same i))))) (λ other. refl)
 not_of (Some command) table sci no_add no_drop = refl
 
-put_here : (table : List ℕ → Option ChannelCounters) (sci : List ℕ) (x : Option ChannelCounters) → put_at table sci x sci ≡ x
+put_here : (table : List ℕ → Option ChannelCounters) (sci : List ℕ) (x : Option ChannelCounters)
+    → put_at table sci x sci ≡ x
 put_here table sci x = ap (λ (b : Bool). cond b x (table sci)) (bytes_eq-itself sci)
 
 -- ---- answers of other functions
 
-no_protect : (reply : Reply) (c : TxCounters) → ((result : Result ℕ ProtectFault) (out : List ℕ) → reply ≢ Protected result out) → tx_counters_after reply c ≡ c
+no_protect : (reply : Reply) (c : TxCounters) → ((result : Result ℕ ProtectFault) (out : List ℕ)
+    → reply ≢ Protected result out) → tx_counters_after reply c ≡ c
 no_protect (Protected result out) c other = absurd (other result out refl)
 no_protect reply c other = refl
 
-no_receive : (reply : Reply) (c : RxCounters) → ((result : Result Verdict Stopped) (out : List ℕ) → reply ≢ Received result out) → rx_counters_after reply c ≡ c
+no_receive : (reply : Reply) (c : RxCounters) → ((result : Result Verdict Stopped) (out : List ℕ)
+    → reply ≢ Received result out) → rx_counters_after reply c ≡ c
 no_receive (Received result out) c other = absurd (other result out refl)
 no_receive reply c other = refl
 
@@ -221,34 +239,44 @@ pub counts-rise-alone : {D : Type 0} (disk_of : D → Disk) → CountsRiseAlone 
 counts-rise-alone disk_of = record {
   other_faults = λ old new plain out at other call differ.
       ap (fault_count other) call.behaves.tx_counters ∙ other_fault at other (txsc.counters_of old.tx) differ;
-  none_sent = λ old new plain out at call. ap (λ (c : TxCounters). c.protected) call.behaves.tx_counters ∙ none_sent at (txsc.counters_of old.tx);
+  none_sent = λ old new plain out at call. ap (λ (c : TxCounters). c.protected) call.behaves.tx_counters
+      ∙ none_sent at (txsc.counters_of old.tx);
   other_verdicts = λ old new frame out verdict other call differ.
       ap (count_of other) call.behaves.rx_counters ∙ other_verdict verdict other (rxsc.counters_of old.rx) differ;
   of_channel = λ old new frame out sci verdict c call is has. (
     channel_counters_after_verdict verdict c,
     ap (λ (t : List ℕ → Option ChannelCounters). t sci) call.behaves.channel_counters
-        ∙ at_channel (channel_of (rx_side (state_of old no_logs)) frame) verdict (rxsc.channel_counters_of old.rx) sci c is has,
+        ∙ at_channel (channel_of (rx_side (state_of old no_logs)) frame) verdict
+        (rxsc.channel_counters_of old.rx) sci c is has,
     λ counted. channel_counted verdict c counted,
     λ other differ. other_of_channel verdict other c differ,
   );
   other_channels = λ old new frame out sci verdict call differ.
       ap (λ (t : List ℕ → Option ChannelCounters). t sci) call.behaves.channel_counters
-      ∙ other_channel (channel_of (rx_side (state_of old no_logs)) frame) verdict (rxsc.channel_counters_of old.rx) sci differ;
+      ∙ other_channel (channel_of (rx_side (state_of old no_logs)) frame) verdict
+      (rxsc.channel_counters_of old.rx) sci differ;
   added = λ old new call reply sci is made.
       ap (λ (t : List ℕ → Option ChannelCounters). t sci)
-          (is.behaves.channel_counters ∙ after_made (state_of old no_logs) call reply (RxAdd sci) (rxsc.channel_counters_of old.rx) made)
+      (is.behaves.channel_counters
+      ∙ after_made (state_of old no_logs) call reply (RxAdd sci) (rxsc.channel_counters_of old.rx) made)
       ∙ put_here (rxsc.channel_counters_of old.rx) sci (Some no_channel_counts);
   dropped = λ old new call reply sci is made.
       ap (λ (t : List ℕ → Option ChannelCounters). t sci)
-          (is.behaves.channel_counters ∙ after_made (state_of old no_logs) call reply (RxDrop sci) (rxsc.channel_counters_of old.rx) made)
+      (is.behaves.channel_counters
+      ∙ after_made (state_of old no_logs) call reply (RxDrop sci) (rxsc.channel_counters_of old.rx) made)
       ∙ put_here (rxsc.channel_counters_of old.rx) sci None;
   not_sent = λ old new call reply is other. is.behaves.tx_counters ∙ no_protect reply (txsc.counters_of old.tx) other;
-  not_received = λ old new call reply is other. is.behaves.rx_counters ∙ no_receive reply (rxsc.counters_of old.rx) other;
+  not_received = λ old new call reply is other. is.behaves.rx_counters
+      ∙ no_receive reply (rxsc.counters_of old.rx) other;
   stopped = λ old new call out is. is.behaves.tx_counters;
-  not_judged = λ old new call out stopped is.
-      (is.behaves.rx_counters, is.behaves.channel_counters ∙ not_judged (state_of old no_logs) call out stopped (rxsc.channel_counters_of old.rx));
+  not_judged = λ old new call out stopped is. (
+    is.behaves.rx_counters,
+    is.behaves.channel_counters
+        ∙ not_judged (state_of old no_logs) call out stopped (rxsc.channel_counters_of old.rx),
+  );
   no_channel = λ old new call reply sci is other no_add no_drop.
       ap (λ (t : List ℕ → Option ChannelCounters). t sci)
-          (is.behaves.channel_counters ∙ after_none (state_of old no_logs) call reply (rxsc.channel_counters_of old.rx) other)
+      (is.behaves.channel_counters
+      ∙ after_none (state_of old no_logs) call reply (rxsc.channel_counters_of old.rx) other)
       ∙ not_of (command_made (state_of old no_logs) call reply) (rxsc.channel_counters_of old.rx) sci no_add no_drop;
 }

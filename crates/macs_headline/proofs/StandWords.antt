@@ -1,5 +1,6 @@
 -- What an endpoint is left with.
-use Rattle.std.proofs.Common.{◌≡◌, ◌≢◌, ◌≤◌, ◌⊎◌, inl, inr, ◌+◌, ◌++◌, ◌==◌, ℕ, Bool, true, false, cond, List, [], ◌∷◌, length, Some, None, Result, Ok, Err, refl, sym, ◌∙◌, ap, subst, arith}
+use Rattle.std.proofs.Common.{◌≡◌, ◌≢◌, ◌≤◌, ◌⊎◌, inl, inr, ◌+◌, ◌++◌, ◌==◌, ℕ, Bool, true, false, cond, List, [], ◌∷◌}
+use Rattle.std.proofs.Common.{length, Some, None, Result, Ok, Err, refl, sym, ◌∙◌, ap, subst, arith}
 use Rattle.std.specs.Prelude.{Contains}
 use Rattle.std.specs.Result.{IsErrOf}
 use Rattle.std.proofs.lemmas.Bool.{eq-eqb}
@@ -10,7 +11,8 @@ use Rattle.macs_journal.specs.declared.fault.JournalFault.TheVariants.{AlreadyFo
 use Rattle.macs_store.specs.Keeps.{generation_with_change, most_with_change, slots_with_change}
 use Rattle.macs_store.specs.Snapshot.{snapshot}
 use Rattle.macs_store.specs.Standing.{Standing}
-use Rattle.macs_store.specs.Value.{IsIdle, StoreValue, calls_left, calls_with, generation, generation_then, generation_with, slots_then, slots_with, used_slots}
+use Rattle.macs_store.specs.Value.{IsIdle, StoreValue, calls_left, calls_with, generation, generation_then}
+use Rattle.macs_store.specs.Value.{generation_with, slots_then, slots_with, used_slots}
 use Rattle.macs_endpoint.specs.Keeping.{KeepsCommand}
 use Rattle.macs_endpoint.specs.Serving.{EndsAs, is_halt}
 use Rattle.macs_endpoint.specs.Spending.{reserved_in}
@@ -23,7 +25,8 @@ use Rattle.macs_headline.proofs.Lists.{contains-cases, contains-none}
 
 -- ---- one change where all slots are used
 
-at_end : (b : Bool) (used number : ℕ) (s : Standing) → b ≡ true → (cond b (length (snapshot s) + 1) (used + 1) ≡ length (snapshot s) + 1)
+at_end : (b : Bool) (used number : ℕ) (s : Standing) → b ≡ true
+    → (cond b (length (snapshot s) + 1) (used + 1) ≡ length (snapshot s) + 1)
     × (cond b (number + 1) number ≡ number + 1) × (cond b (523 + length (snapshot s)) 4 ≡ 523 + length (snapshot s))
 at_end true used number s is = (refl, refl, refl)
 at_end false used number s is = absurd (cc)
@@ -31,22 +34,27 @@ at_end false used number s is = absurd (cc)
 named_by : (fault name : JournalFault) → IsErrOf {T = Unit {0}} (Err fault) name → fault ≡ name
 named_by fault name is = cc
 
-format_named : (fault : JournalFault) → IsErrOf {T = Unit {0}} (Err fault) TooSmall ⊎ (IsErrOf {T = Unit {0}} (Err fault) DiskFault ⊎ IsErrOf {T = Unit {0}} (Err fault) AlreadyFormatted)
+format_named : (fault : JournalFault) → IsErrOf {T = Unit {0}} (Err fault) TooSmall
+    ⊎ (IsErrOf {T = Unit {0}} (Err fault) DiskFault ⊎ IsErrOf {T = Unit {0}} (Err fault) AlreadyFormatted)
     → (fault ≡ TooSmall) ⊎ ((fault ≡ DiskFault) ⊎ (fault ≡ AlreadyFormatted))
 format_named fault (inl small) = inl (named_by fault TooSmall small)
 format_named fault (inr (inl failed)) = inr (inl (named_by fault DiskFault failed))
 format_named fault (inr (inr taken)) = inr (inr (named_by fault AlreadyFormatted taken))
 
 module _ {D : Type 0} (disk_of : D → Disk) where
-  command_anew : (old new : EndpointValue D) (command : Command) → KeepsCommand disk_of old command (Ok tt) new → IsIdle old.store → used_slots old.store ≡ 256
-      → (generation new.store ≡ generation old.store + 1) × (used_slots new.store ≡ length (snapshot (reserved_in old)) + 1)
+  command_anew : (old new : EndpointValue D) (command : Command) → KeepsCommand disk_of old command (Ok tt) new
+      → IsIdle old.store → used_slots old.store ≡ 256
+      → (generation new.store ≡ generation old.store + 1)
+      × (used_slots new.store ≡ length (snapshot (reserved_in old)) + 1)
       × ((disk_in disk_of new).clock ≤ (disk_in disk_of old).clock + 523 + length (snapshot (reserved_in old)))
   command_anew old new command keeps idle full =
       let calls : calls_left old.store ≡ 0 = ap (calls_with old.store) idle in
       let slots : slots_then old.store ≡ used_slots old.store = ap (slots_with old.store) idle in
       let number : generation_then old.store ≡ generation old.store = ap (generation_with old.store) idle in
       let all : (slots_then old.store == 256) ≡ true = eq-eqb (slots_then old.store) 256 (slots ∙ full) in
-      let (used, next, four) = at_end (slots_then old.store == 256) (slots_then old.store) (generation_then old.store) (reserved_in old) all in
+      let (used, next, four) =
+      at_end (slots_then old.store == 256) (slots_then old.store) (generation_then old.store)
+      (reserved_in old) all in
       let most = keeps.most in (
         keeps.generation ∙ next ∙ ap (λ (n : ℕ). n + 1) number,
         keeps.slots ∙ used,
@@ -78,7 +86,8 @@ module _ {D : Type 0} (disk_of : D → Disk) where
 
 -- ---- events that are served
 
-before_halt : (front : List Reply) (last : Reply) → EndsAs (front ++ last ∷ []) Halted → (reply : Reply) → Contains front reply → is_halt reply ≡ false
+before_halt : (front : List Reply) (last : Reply) → EndsAs (front ++ last ∷ []) Halted → (reply : Reply)
+    → Contains front reply → is_halt reply ≡ false
 before_halt [] last ends reply within = absurd (contains-none reply within)
 before_halt (first ∷ []) last ends reply within = elim (contains-cases first [] reply within) [
   | inl same ↦ subst (λ (r : Reply). is_halt r ≡ false) (sym same) ends.0
@@ -89,7 +98,8 @@ before_halt (first ∷ next ∷ front) last ends reply within = elim (contains-c
   | inr later ↦ before_halt (next ∷ front) last ends.1 reply later
 ]
 
-none_halts : (replies : List Reply) (end : ServeEnd) → EndsAs replies end → end ≢ Halted → (reply : Reply) → Contains replies reply → is_halt reply ≡ false
+none_halts : (replies : List Reply) (end : ServeEnd) → EndsAs replies end → end ≢ Halted → (reply : Reply)
+    → Contains replies reply → is_halt reply ≡ false
 none_halts [] end ends other reply within = absurd (contains-none reply within)
 none_halts (first ∷ []) Halted ends other reply within = absurd (other refl)
 none_halts (first ∷ []) Ended ends other reply within = elim (contains-cases first [] reply within) [
@@ -100,10 +110,11 @@ none_halts (first ∷ []) TurnsSpent ends other reply within = elim (contains-ca
   | inl same ↦ subst (λ (r : Reply). is_halt r ≡ false) (sym same) ends.0
   | inr later ↦ absurd (contains-none reply later)
 ]
-none_halts (first ∷ next ∷ replies) end ends other reply within = elim (contains-cases first (next ∷ replies) reply within) [
-  | inl same ↦ subst (λ (r : Reply). is_halt r ≡ false) (sym same) ends.0
-  | inr later ↦ none_halts (next ∷ replies) end ends.1 other reply later
-]
+none_halts (first ∷ next ∷ replies) end ends other reply within = elim
+    (contains-cases first (next ∷ replies) reply within) [
+      | inl same ↦ subst (λ (r : Reply). is_halt r ≡ false) (sym same) ends.0
+      | inr later ↦ none_halts (next ∷ replies) end ends.1 other reply later
+    ]
 
 pub served-ends : {D : Type 0} (disk_of : D → Disk) → ServedEnds disk_of
 served-ends disk_of = record {
