@@ -1,5 +1,6 @@
 pub mod Lines
 pub mod Request
+pub mod Inputs
 pub mod Answer
 pub mod Values
 pub mod Addresses
