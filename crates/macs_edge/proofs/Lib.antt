@@ -15,3 +15,4 @@ mod Attended
 mod Rested
 mod AttendedFlows
 mod Words
+mod Drawn

@@ -34,6 +34,10 @@ ghost use Rattle.macs_headline.specs.Editions.{EditionsAlike, EditionsRead, Edit
 ghost use Rattle.macs_headline.specs.Drawn.{LifeWords, LogWords, MomentsAreExact, NumberWords};
 ghost use Rattle.macs_headline.specs.EndpointWords.{CallsAreCounted, CeilingsAreRaised};
 ghost use Rattle.macs_headline.specs.EndpointWords.{OpeningsCount, ServedWords};
+ghost use Rattle.macs_headline.specs.CountWords.{CountsAreNamed, CountsRiseAlone};
+ghost use Rattle.macs_headline.specs.NeedWords.{NeedsAreInOrder, TurnsAreUsed};
+ghost use Rattle.macs_headline.specs.FailureWords.{FailureWords};
+ghost use Rattle.macs_headline.specs.StandWords.{CallsLeave, ServedEnds};
 ghost use Rattle.macs_headline.specs.Endings.{DroppedPassOn, EndsAreEarlier, ImagesAreWhole, KillingsPassOn, LosesPower, LossesSettle};
 ghost use Rattle.macs_headline.specs.Endings.{PassedOnAgain, PowerLossesPassOn};
 ghost use Rattle.macs_headline.specs.Endings.{ReadsPassOn, SyncsPassOn, TheseAreAlike, TheseArePassedOn};
@@ -279,10 +283,20 @@ pub fn endpoint_words<D: SectorDisk>()
     ensures openings { OpeningsCount D.disk }
     // Which ceilings are raised, and how many device calls a refill and a command make.
     ensures raised { CeilingsAreRaised D.disk }
+    // In which order ceilings are needed, and which calls use a turn.
+    ensures needs { NeedsAreInOrder }
+    ensures turns { TurnsAreUsed D.disk }
     // What a call counts.
     ensures counters { CallsAreCounted D.disk }
+    // Under which counter, and under no other; and what is counted of each channel.
+    ensures counts { CountsAreNamed }
+    ensures alone { CountsRiseAlone D.disk }
+    // What an opening, a `format`, a command, a step and a refill leave.
+    ensures left { CallsLeave D.disk }
     // What a loss of power leaves of events that are served, and when that halts.
     ensures served { ServedWords D.disk }
+    // That they are calls, and that no answer before the last says that a device call failed.
+    ensures ends { ServedEnds D.disk }
     // One more step, reservation, command or frame is counted where a call or its answer says
     // so, and else none.
     ensures counted { TurnsAreCounted D }
@@ -459,6 +473,11 @@ pub fn new_disks()
 pub fn power_losses()
     ensures { (disk : Disk) (since : ℕ) (image : Image) → LeftSince disk since image
         → LosesPower disk since (disk_after_loss disk image) }
+{}
+
+/// Which calls of a file failed, where that is known, and which fault comes of them.
+pub fn failed_calls()
+    ensures { FailureWords }
 {}
 
 /// A disk in a file that behaves is one that histories are of, where the blocks of its device suit the layout.

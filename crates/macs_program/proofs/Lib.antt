@@ -22,3 +22,4 @@ pub mod Spelling
 pub mod TextLines
 pub mod Told
 mod WrittenOver
+mod Drawn

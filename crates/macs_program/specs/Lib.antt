@@ -1,5 +1,6 @@
 pub mod Lines
 pub mod Request
+pub mod Inputs
 pub mod Answer
 pub mod Values
 pub mod Addresses
@@ -16,3 +17,4 @@ pub mod Watching
 pub mod Tasks
 pub mod Asking
 pub mod Run
+pub mod Drawn

@@ -1,0 +1,268 @@
+-- Ceilings that are needed, the order in which they are raised, and whose turn it is after a call.
+use Rattle.std.proofs.Common.{◌≡◌, ◌≢◌, ◌<◌, ◌≤◌, ◌⊎◌, inl, inr, ◌-◌, ◌/◌, ◌^◌, ◌++◌, ◌||◌, ℕ, zero, suc, Bool, true}
+use Rattle.std.proofs.Common.{false, cond, List, [], ◌∷◌, Option, Some, None, Result, Ok, Err, refl, sym, ◌∙◌, ap}
+use Rattle.std.proofs.Common.{subst, arith}
+use Rattle.std.specs.Prelude.{Contains, nat_le, nat_lt}
+use Rattle.std.specs.Option.{option_map_or}
+use Rattle.std.proofs.lemmas.Bool.{and_from, and_parts, le-leb, leb-true, lt-ltb, ltb-true}
+use Rattle.macs_config.specs.Numbers.{block_beyond}
+use Rattle.macs_config.specs.declared.command.Command.{Command}
+use Rattle.macs_disk.specs.Disk.{Disk}
+use Rattle.macs_txsc.specs.Transmit.{Outgoing, TxSide, next_outgoing}
+use Rattle.macs_txsc.specs.Transmit as transmit
+use Rattle.macs_rxsc.specs.Needs.{Need, first_need, need_by_seen, need_of, raised_ceiling}
+use Rattle.macs_rxsc.specs.Needs as needs
+use Rattle.macs_rxsc.specs.Receive.{Numbers}
+use Rattle.macs_rxsc.proofs.Needed.{is-need, needs_among, own-place}
+use Rattle.macs_endpoint.specs.Advancing.{turn_after}
+use Rattle.macs_endpoint.specs.Ceilings.{either_raise}
+use Rattle.macs_endpoint.specs.State.{Commands, Protects, Ran, Receives, Reply, Submits}
+use Rattle.macs_endpoint.specs.Value.{EndpointValue}
+use Rattle.macs_endpoint.specs.declared.fault.CommandFault.{CommandFault}
+use Rattle.macs_endpoint.specs.declared.fault.CommandFault.TheVariants as ran
+use Rattle.macs_endpoint.specs.declared.turn.Turn.TheVariants.{Reservation}
+use Rattle.macs_headline.specs.NeedWords.{NeedsAreInOrder, TurnsAreUsed}
+use Rattle.macs_headline.proofs.Ledger.{some_one}
+use Rattle.macs_headline.proofs.Lists.{contains-cases, contains-none}
+use Rattle.macs_headline.proofs.LookUps.{none-some}
+
+-- ---- one association
+
+either_holds : (x y : Bool) → (x || y) ≡ true → (x ≡ true) ⊎ (y ≡ true)
+either_holds true y is = inl refl
+either_holds false y is = inr is
+
+one_holds : (x y : Bool) → (x ≡ true) ⊎ (y ≡ true) → (x || y) ≡ true
+one_holds true y holds = refl
+one_holds false y (inl is) = absurd (cc)
+one_holds false y (inr is) = is
+
+below_too : (ceiling top seen pn block : ℕ) → ceiling ≡ top → pn ≡ seen → top < block_beyond seen block
+    → ceiling < block_beyond pn block
+below_too ceiling top seen pn block is same below = omega (arith, is, same, below)
+
+reached_too : (ceiling top seen pn : ℕ) → ceiling ≡ top → pn ≡ seen → top ≤ seen → ceiling ≤ pn
+reached_too ceiling top seen pn is same reached = omega (arith, is, same, reached)
+
+few_too : (ceiling top next held half : ℕ) → ceiling ≡ top → next ≡ held → top - held ≤ half → ceiling - next ≤ half
+few_too ceiling top next held half is same few = omega (arith, is, same, few)
+
+received : (block an ceiling : ℕ) (sci : List ℕ) (n : Numbers) (need : Need)
+    → need_of block sci an (Some n) (Some ceiling) ≡ Some need
+    → (need.sci ≡ sci) × (need.an ≡ an) × (n.seen ≡ Some need.pn) × (ceiling < block_beyond need.pn block)
+    × ((ceiling ≤ need.pn) ⊎ (ceiling - n.next ≤ block / 2))
+received block an ceiling sci n need is =
+    let told = is-need block sci an (Some n) (Some ceiling) need is in
+    let held : n ≡ told.held = some_one (Some n) n told.held refl told.has in
+    let top : ceiling ≡ told.top = some_one (Some ceiling) ceiling told.top refl told.has_ceiling in
+    let pn : need.pn ≡ told.seen = ap (λ (x : Need). x.pn) told.is in
+    let next : n.next ≡ told.held.next = ap (λ (x : Numbers). x.next) held in
+    let parts = and_parts (nat_le told.top told.seen || nat_le (told.top - told.held.next) (block / 2))
+    (nat_lt told.top (raised_ceiling block told.seen)) told.test in (
+      ap (λ (x : Need). x.sci) told.is,
+      ap (λ (x : Need). x.an) told.is,
+      ap (λ (x : Numbers). x.seen) held ∙ told.has_seen ∙ ap Some (sym pn),
+      below_too ceiling told.top told.seen need.pn block top pn (ltb-true told.top
+          (raised_ceiling block told.seen) parts.1),
+      elim (either_holds (nat_le told.top told.seen) (nat_le (told.top - told.held.next) (block / 2)) parts.0) [
+        | inl reached ↦ inl (reached_too ceiling told.top told.seen need.pn top pn
+            (leb-true told.top told.seen reached))
+        | inr few ↦ inr (few_too ceiling told.top n.next told.held.next (block / 2) top next
+            (leb-true (told.top - told.held.next) (block / 2) few))
+      ],
+    )
+
+to_receive : (block an ceiling pn : ℕ) (sci : List ℕ) (n : Numbers) → n.seen ≡ Some pn → ceiling < block_beyond pn block
+    → (ceiling ≤ pn) ⊎ (ceiling - n.next ≤ block / 2)
+    → need_of block sci an (Some n) (Some ceiling) ≡ Some (record { sci = sci; an = an; pn = pn })
+to_receive block an ceiling pn sci n seen below either =
+    let near : (nat_le ceiling pn || nat_le (ceiling - n.next) (block / 2)) ≡ true = one_holds (nat_le ceiling pn)
+    (nat_le (ceiling - n.next) (block / 2))
+    (elim either [
+      | inl reached ↦ inl (le-leb ceiling pn reached)
+      | inr few ↦ inr (le-leb (ceiling - n.next) (block / 2) few)
+    ]) in
+    let test : needs.is_needed block n.next ceiling pn ≡ true = and_from
+    (nat_le ceiling pn || nat_le (ceiling - n.next) (block / 2))
+    (nat_lt ceiling (raised_ceiling block pn)) near (lt-ltb ceiling (raised_ceiling block pn) below) in
+    ap (need_by_seen block sci an n ceiling) seen
+    ∙ ap (λ (b : Bool). cond b (Some (record { sci = sci; an = an; pn = pn })) None) test
+
+taken : (b : Bool) (x an : ℕ) → cond b (Some x) None ≡ Some an → (b ≡ true) × (x ≡ an)
+taken true x an is = (refl, some_one (Some x) x an refl is)
+taken false x an is = absurd (none-some an is)
+
+sent_at : (block an : ℕ) (o : Outgoing) (ceiling : Option ℕ)
+    → cond (option_map_or (transmit.is_needed block o.pn) ceiling false) (Some o.an) None ≡ Some an
+    → (top : ℕ) × (ceiling ≡ Some top) × (o.an ≡ an) × (top < 2 ^ 32) × (top - o.pn ≤ block / 2)
+sent_at block an o None is = absurd (none-some an is)
+sent_at block an o (Some top) is =
+    let named = taken (transmit.is_needed block o.pn top) o.an an is in
+    let parts = and_parts (nat_le (top - o.pn) (block / 2)) (nat_lt top (2 ^ 32)) named.0 in
+    (top, refl, named.1, ltb-true top (2 ^ 32) parts.1, leb-true (top - o.pn) (block / 2) parts.0)
+
+sent : (ceilings : ℕ → Option ℕ) (block an : ℕ) (out : Option Outgoing) → transmit.need_at ceilings block out ≡ Some an
+    → (o : Outgoing) × (ceiling : ℕ) × (out ≡ Some o) × (o.an ≡ an) × (ceilings an ≡ Some ceiling) × (ceiling < 2 ^ 32)
+    × (ceiling - o.pn ≤ block / 2)
+sent ceilings block an None is = absurd (none-some an is)
+sent ceilings block an (Some o) is =
+    let (top, has, named, below, few) = sent_at block an o (ceilings o.an) is in
+    (o, top, refl, named, ap ceilings (sym named) ∙ has, below, few)
+
+to_send : (ceilings : ℕ → Option ℕ) (block ceiling : ℕ) (out : Option Outgoing) (o : Outgoing) → out ≡ Some o
+    → ceilings o.an ≡ Some ceiling → ceiling < 2 ^ 32
+    → ceiling - o.pn ≤ block / 2 → transmit.need_at ceilings block out ≡ Some o.an
+to_send ceilings block ceiling out o is has below few =
+    let test : transmit.is_needed block o.pn ceiling ≡ true = and_from (nat_le (ceiling - o.pn) (block / 2))
+    (nat_lt ceiling (2 ^ 32))
+    (le-leb (ceiling - o.pn) (block / 2) few) (lt-ltb ceiling (2 ^ 32) below) in
+    ap (transmit.need_at ceilings block) is
+    ∙ ap (λ (c : Option ℕ). cond (option_map_or (transmit.is_needed block o.pn) c false) (Some o.an) None) has
+    ∙ ap (λ (b : Bool). cond b (Some o.an) None) test
+
+-- ---- the first of all
+
+below_one : (P : ℕ → Type 0) → P 0 → (an : ℕ) → an < 1 → P an
+below_one P a zero less = a
+below_one P a (suc n) less = absurd (omega (arith, less))
+
+below_two : (P : ℕ → Type 0) → P 0 → P 1 → (an : ℕ) → an < 2 → P an
+below_two P a b zero less = a
+below_two P a b (suc zero) less = b
+below_two P a b (suc (suc n)) less = absurd (omega (arith, less))
+
+below_three : (P : ℕ → Type 0) → P 0 → P 1 → P 2 → (an : ℕ) → an < 3 → P an
+below_three P a b c zero less = a
+below_three P a b c (suc zero) less = b
+below_three P a b c (suc (suc zero)) less = c
+below_three P a b c (suc (suc (suc n))) less = absurd (omega (arith, less))
+
+below_four : (P : ℕ → Type 0) → P 0 → P 1 → P 2 → P 3 → (an : ℕ) → an < 4 → P an
+below_four P a b c d zero less = a
+below_four P a b c d (suc zero) less = b
+below_four P a b c d (suc (suc zero)) less = c
+below_four P a b c d (suc (suc (suc zero))) less = d
+below_four P a b c d (suc (suc (suc (suc n)))) less = absurd (omega (arith, less))
+
+picked : (o : Option Need) (rest : List (Option Need)) (need : Need) → first_need (o ∷ rest) ≡ Some need
+    → (o ≡ Some need) ⊎ ((o ≡ None) × (first_need rest ≡ Some need))
+picked None rest need is = inr (refl, is)
+picked (Some n) rest need is = inl is
+
+passed : (o : Option Need) (rest : List (Option Need)) → first_need (o ∷ rest) ≡ None → (o ≡ None)
+    × (first_need rest ≡ None)
+passed None rest is = (refl, is)
+passed (Some n) rest is = absurd (none-some n (sym is))
+
+module _ (numbers : List ℕ → ℕ → Option Numbers) (c : List ℕ → ℕ → Option ℕ) (block : ℕ) where
+  abbrev need_at : List ℕ → ℕ → Option Need
+  need_at sci an = need_of block sci an (numbers sci an) (c sci an)
+
+  abbrev ComesFirst : List (List ℕ) → Need → Type 0
+  ComesFirst channels need = (front : List (List ℕ)) × (behind : List (List ℕ))
+      × (channels ≡ front ++ need.sci ∷ behind)
+      × ((sci : List ℕ) (an : ℕ) → Contains front sci → an < 4 → need_at sci an ≡ None)
+      × ((an : ℕ) → an < need.an → need_at need.sci an ≡ None)
+      × (need_at need.sci need.an ≡ Some need)
+
+  here : (sci : List ℕ) (channels : List (List ℕ)) (need : Need) (at : ℕ) → need_at sci at ≡ Some need → ((an : ℕ)
+      → an < at → need_at sci an ≡ None)
+      → ComesFirst (sci ∷ channels) need
+  here sci channels need at is none =
+      let place = own-place numbers c block sci at need is in
+      let same : at ≡ need.an = place.1 in (
+        [],
+        channels,
+        ap (λ (s : List ℕ). s ∷ channels) place.0,
+        λ other an within less. absurd (contains-none other within),
+        λ an less. subst (λ (s : List ℕ). need_at s an ≡ None) place.0 (none an (omega (arith, less, same))),
+        sym (λ i. need_at (place.0 i) (place.1 i)) ∙ is,
+      )
+
+  comes_first : (channels : List (List ℕ)) (need : Need) → first_need (needs_among numbers c block channels) ≡ Some need
+      → ComesFirst channels need
+  comes_first [] need is = absurd (none-some need is)
+  comes_first (sci ∷ channels) need is =
+      let none : ℕ → Type 0 = λ an. need_at sci an ≡ None in
+      elim (picked (need_at sci 0)
+      (need_at sci 1 ∷ need_at sci 2 ∷ need_at sci 3 ∷ needs_among numbers c block channels) need is) [
+        | inl first ↦ here sci channels need 0 first (λ an less. absurd (omega (arith, less)))
+        | inr (no0, is1) ↦ elim (picked (need_at sci 1)
+            (need_at sci 2 ∷ need_at sci 3 ∷ needs_among numbers c block channels) need is1) [
+              | inl first ↦ here sci channels need 1 first (below_one none no0)
+              | inr (no1, is2) ↦ elim (picked (need_at sci 2)
+                  (need_at sci 3 ∷ needs_among numbers c block channels) need is2) [
+                    | inl first ↦ here sci channels need 2 first (below_two none no0 no1)
+                    | inr (no2, is3) ↦ elim (picked (need_at sci 3) (needs_among numbers c block channels) need is3) [
+                      | inl first ↦ here sci channels need 3 first (below_three none no0 no1 no2)
+                      | inr (no3, later) ↦
+                          let (front, behind, split, before, below, at) = comes_first channels need later in (
+                            sci ∷ front,
+                            behind,
+                            ap (sci ∷◌) split,
+                            λ other an within less. elim (contains-cases sci front other within) [
+                              | inl same ↦ subst (λ (s : List ℕ). need_at s an ≡ None)
+                                  (sym same) (below_four none no0 no1 no2 no3 an less)
+                              | inr rest ↦ before other an rest less
+                            ],
+                            below,
+                            at,
+                          )
+                    ]
+                  ]
+            ]
+      ]
+
+  none_among : (channels : List (List ℕ)) → first_need (needs_among numbers c block channels) ≡ None
+      → (sci : List ℕ) (an : ℕ) → Contains channels sci → an < 4
+      → need_at sci an ≡ None
+  none_among [] is sci an within less = absurd (contains-none sci within)
+  none_among (first ∷ channels) is sci an within less =
+      let one = passed (need_at first 0)
+      (need_at first 1 ∷ need_at first 2 ∷ need_at first 3 ∷ needs_among numbers c block channels) is in
+      let two = passed (need_at first 1)
+      (need_at first 2 ∷ need_at first 3 ∷ needs_among numbers c block channels) one.1 in
+      let three = passed (need_at first 2) (need_at first 3 ∷ needs_among numbers c block channels) two.1 in
+      let four = passed (need_at first 3) (needs_among numbers c block channels) three.1 in
+      elim (contains-cases first channels sci within) [
+        | inl same ↦ subst (λ (s : List ℕ). need_at s an ≡ None) (sym same) (below_four
+            (λ (n : ℕ). need_at first n ≡ None) one.0 two.0 three.0 four.0 an less)
+        | inr later ↦ none_among channels four.1 sci an later less
+      ]
+
+pub needs-are-in-order : NeedsAreInOrder
+needs-are-in-order = record {
+  receive = received;
+  to_receive = to_receive;
+  send = λ t ceilings block an is. sent ceilings block an (next_outgoing t) is;
+  to_send = λ t ceilings block ceiling o is has below few. to_send ceilings block ceiling
+      (next_outgoing t) o is has below few;
+  first = λ r ceilings block need is. comes_first r.numbers ceilings block r.channels need is;
+  none = λ r ceilings block is sci an within less. none_among r.numbers ceilings block r.channels is sci an within less;
+  receive_behind = λ t r s need none is. (λ i. either_raise (none i) (is i));
+  neither = λ t r s none is. (λ i. either_raise (none i) (is i));
+}
+
+-- ---- turns
+
+module _ {D : Type 0} where
+  used : (old : EndpointValue D) (command : Command) (result : Result (Unit {0}) CommandFault)
+      → result ≢ Err ran.Stopped → result ≢ Err ran.Busy
+      → turn_after old (Commands command) (Ran result) ≡ Reservation
+  used old command (Err ran.Stopped) not_stopped not_busy = absurd (not_stopped refl)
+  used old command (Err ran.Busy) not_stopped not_busy = absurd (not_busy refl)
+  used old command result not_stopped not_busy = refl
+
+pub turns-are-used : {D : Type 0} (disk_of : D → Disk) → TurnsAreUsed disk_of
+turns-are-used disk_of = record {
+  command = λ old new command result call not_stopped not_busy. call.behaves.turn
+      ∙ used old command result not_stopped not_busy;
+  done = λ old new ticket result call. call.behaves.turn;
+  reserved = λ old new call. call.behaves.turn;
+  spent = λ old new call. call.behaves.turn;
+  worked = λ old new call. call.behaves.turn;
+  idle = λ old new call. call.behaves.turn;
+  submitted = λ old new command reply call. call.behaves.turn;
+  sent = λ old new plain reply call. call.behaves.turn;
+  received = λ old new frame reply call. call.behaves.turn;
+}
