@@ -14,7 +14,7 @@ use lib.Bits.{and_zero_r, xor_zero_l}
 use Rattle.macs_gf.specs.Gf128.{times_power, times_x}
 use Rattle.macs_gf.proofs.Xor.{digit_scaled}
 use Rattle.macs_ghash.specs.Tables.{nibble_product, octet_from_left, octets_in, sum_of}
-use Rattle.macs_ghash.proofs.OctetLanes.{below_sixteen}
+use Rattle.macs_lanes.proofs.Sixteen.{below_sixteen}
 use Rattle.macs_ghash.specs.declared.filling.TheConstants.{MASKS}
 
 -- ---- an octet of sums

@@ -12,7 +12,8 @@ use Rattle.macs_gf.proofs.GhashBlocks.{block_at-is, block_octets}
 use Rattle.macs_ghash.specs.Tables.{block_of_octets, octet_from_left}
 use Rattle.macs_ghash.proofs.OctetSteps.{block_equal, block_xor}
 use Rattle.macs_ghash.proofs.OctetSums.{octets_whole}
-use Rattle.macs_ghash.proofs.OctetLanes.{below_sixteen, block_number, octet_of_number}
+use Rattle.macs_ghash.proofs.OctetLanes.{block_number, octet_of_number}
+use Rattle.macs_lanes.proofs.Sixteen.{below_sixteen}
 
 pub each_below : (bound : ℕ) (xs : List ℕ) → 0 < bound → All (λ v. v < bound) xs → (m : ℕ) → get_or xs m 0 < bound
 each_below bound xs some all m = elim (cases_lt m (length xs)) [
@@ -30,13 +31,17 @@ octet_of_block_at octets l j len small k =
     ∙ octet_of_number block size (λ j k. subst (λ (v : ℕ). v < 256) (sym (at j k)) (small (16 * l + j))) j k ∙ at j k
 
 -- a block depends on its octets alone
-pub block_same : (xs ys : List ℕ) (l : ℕ) → 16 * l + 16 ≤ length xs → 16 * l + 16 ≤ length ys → ((j : ℕ) → j < 16 → get_or xs (16 * l + j) 0 ≡ get_or ys (16 * l + j) 0)
-    → block_at xs l ≡ block_at ys l
-block_same xs ys l lx ly same =
+pub block_moved : (xs ys : List ℕ) (l m : ℕ) → 16 * l + 16 ≤ length xs → 16 * m + 16 ≤ length ys → ((j : ℕ) → j < 16 → get_or xs (16 * l + j) 0 ≡ get_or ys (16 * m + j) 0)
+    → block_at xs l ≡ block_at ys m
+block_moved xs ys l m lx ly same =
     let block : List ℕ = take 16 (drop (16 * l) xs) in
     let size : length block ≡ 16 = length-take-le 16 (drop (16 * l) xs) (omega (arith, length-drop (16 * l) xs)) in
     ap (from_be_bytes w128) (block_octets xs l)
-    ∙ block_at-is ys block l size ly (λ j k. get_or-take 16 (drop (16 * l) xs) j 0 k ∙ get_or-drop (16 * l) xs j 0 ∙ same j k)
+    ∙ block_at-is ys block m size ly (λ j k. get_or-take 16 (drop (16 * l) xs) j 0 k ∙ get_or-drop (16 * l) xs j 0 ∙ same j k)
+
+pub block_same : (xs ys : List ℕ) (l : ℕ) → 16 * l + 16 ≤ length xs → 16 * l + 16 ≤ length ys → ((j : ℕ) → j < 16 → get_or xs (16 * l + j) 0 ≡ get_or ys (16 * l + j) 0)
+    → block_at xs l ≡ block_at ys l
+block_same xs ys l lx ly same = block_moved xs ys l l lx ly same
 
 -- a block as the sum of its octets
 block_of_string : (octets : List ℕ) (l : ℕ) → 16 * l + 16 ≤ length octets → ((m : ℕ) → get_or octets m 0 < 256)

@@ -67,7 +67,7 @@ const TWICE: PlacesTable = [
 /// n of octet 16 g + j of plane k is bit k (the least significant first) of octet j of block 8 g +
 /// n. In clauses it is the list of the blocks, each a list of 16 octets.
 #[derive(Drop)]
-pub struct Across {
+pub(crate) struct Across {
     rows: Planes<LANES>,
 }
 
@@ -203,7 +203,7 @@ fn mixed(x: &Planes<LANES>, turns: usize) -> Planes<LANES>
 impl Across {
     /// The blocks, across lanes.
     #[inline(always)]
-    pub fn load(blocks: &[Block; LANES]) -> Self
+    pub(crate) fn load(blocks: &[Block; LANES]) -> Self
         ensures { result ≡ blocks.now }
     {
         let rows = loaded(blocks);
@@ -212,7 +212,7 @@ impl Across {
 
     /// The blocks.
     #[inline(always)]
-    pub fn store(&self) -> [Block; LANES]
+    pub(crate) fn store(&self) -> [Block; LANES]
         ensures { result ≡ self.now }
     {
         stored(&self.rows)
@@ -220,7 +220,7 @@ impl Across {
 
     /// SubBytes (FIPS 197, 5.1.1) of each block.
     #[inline(always)]
-    pub fn sub_bytes(&mut self)
+    pub(crate) fn sub_bytes(&mut self)
         ensures { self.new ≡ map sub_bytes self.old }
     {
         let rows = s_boxes(&self.rows);
@@ -229,7 +229,7 @@ impl Across {
 
     /// ShiftRows (FIPS 197, 5.1.2) of each block, twice.
     #[inline(always)]
-    pub fn shift_rows_twice(&mut self)
+    pub(crate) fn shift_rows_twice(&mut self)
         ensures { self.new ≡ map (turned 2) self.old }
     {
         let rows = moved_each(&self.rows, &TWICE);
@@ -239,7 +239,7 @@ impl Across {
     /// MixColumns (FIPS 197, 5.1.3) of each block, where ShiftRows has still to turn the rows so
     /// many times, before and after.
     #[inline(always)]
-    pub fn mix_columns(&mut self, turns: usize)
+    pub(crate) fn mix_columns(&mut self, turns: usize)
         requires { turns < 4 }
         ensures { map (turned turns) self.new ≡ map mix_columns (map (turned turns) self.old) }
     {
@@ -249,7 +249,7 @@ impl Across {
 
     /// AddRoundKey (FIPS 197, 5.1.4) of each block.
     #[inline(always)]
-    pub fn add_round_key(&mut self, key: &KeyPlanes)
+    pub(crate) fn add_round_key(&mut self, key: &KeyPlanes)
         requires { ArePlanes LANES key.now }
         ensures { (k : List ℕ) → IsKeyPlanes LANES k key.now → self.new ≡ keyed k self.old }
     {

@@ -4,7 +4,7 @@ use Rattle.macs_planes.specs.Blocks.{octet_basis}
 use Rattle.macs_planes.specs.Columns.{IsCrossed}
 use Rattle.macs_planes.proofs.AcrossLanes.{across_filled, across_more, below_eight_bit, bit_within, block_from, lane_within, place_within, stored_word}
 use Rattle.macs_planes.proofs.Circuit.{octet_was}
-use Rattle.macs_planes.proofs.Sixteen.{below_eight}
+use Rattle.macs_lanes.proofs.Sixteen.{below_eight}
 use Rattle.macs_planes.specs.declared.places.TheConstants.{LANES}
 use Rattle.macs_planes.proofs.across.stored.Goals as goal
 
