@@ -13,6 +13,7 @@ use Rattle.macs_ghash.specs.Tables.{block_of_octets, octet_from_left, octets_in,
 use Rattle.macs_ghash.proofs.OctetSteps.{block_equal}
 use Rattle.macs_ghash.proofs.OctetSums.{octets_whole}
 use Rattle.macs_ghash.specs.declared.octets.TheConstants.{BEFORE, LAST}
+use Rattle.macs_ghash.specs.declared.turns.TheConstants.{FLIPPED}
 
 -- an octet in its sixteen
 pub by_sixteen : (x : List ℕ) (m : ℕ) → octets_in x (m / 16) (m % 16) ≡ get_or x m 0
@@ -88,6 +89,12 @@ before_at n g j le h k = table_at BEFORE before before_are n g j le h k
 
 pub last_at : (n g j : ℕ) → n ≤ 2 → g < n → j < 16 → get_or (take (16 * n) LAST) (16 * g + j) 0 ≡ last j
 last_at n g j le h k = table_at LAST last last_are n g j le h k
+
+flipped_are : map (λ m. get_or FLIPPED m 0) (range_with_len 0 32) ≡ map (λ m. bit_xor (m % 16) 7) (range_with_len 0 32)
+flipped_are = refl
+
+pub flipped_at : (n g j : ℕ) → n ≤ 2 → g < n → j < 16 → get_or (take (16 * n) FLIPPED) (16 * g + j) 0 ≡ bit_xor j 7
+flipped_at n g j le h k = table_at FLIPPED (λ j. bit_xor j 7) flipped_are n g j le h k
 
 cond_at : (v p : ℕ) → p ≡ 128 → cond (zeroes 16 w8 p) 0 v ≡ 0
 cond_at v p e = subst (λ (q : ℕ). cond (zeroes 16 w8 q) 0 v ≡ 0) (sym e) refl
