@@ -16,7 +16,10 @@ use crate::answer::{Answer, answer_of};
 use crate::asking::ask;
 use crate::capture_file::CaptureFile;
 use crate::capturing::Direction;
+use crate::check::check;
 use crate::failure::Failure;
+use crate::inspect::inspect;
+use crate::key::key;
 use crate::on_disk::{apply, format, pass, relay, show};
 use crate::output::print;
 use crate::request::InputFault;
@@ -28,6 +31,7 @@ use std::alloc::{AllocError, Allocator, Global};
 use std::io;
 use std::io::Read;
 use std::net::Net;
+use std::random::RandomSource;
 use std::rt::{Clock, Env, Files};
 
 /// One octet more than the longest input that is taken.
@@ -78,7 +82,7 @@ fn open_input<R: Read, W: Stream>(
 }
 
 /// Does what an action asks for.
-fn perform<T: Files + Net + Clock + Env, R: Read, W: Stream>(
+fn perform<T: Files + Net + Clock + Env + RandomSource, R: Read, W: Stream>(
     rt: &T,
     alloc: Global,
     action: Action,
@@ -108,6 +112,9 @@ where
             perform_on_frames(rt, alloc, action, out)
         }
         Action::Ask { path, question } => ask(rt, alloc, path, question, out),
+        Action::Key { is_long } => key(rt, is_long, out),
+        Action::Inspect { input: from } => inspect(rt, alloc, from, out),
+        Action::Check { file } => check(rt, alloc, file, out),
     }
 }
 
@@ -146,7 +153,7 @@ where
 }
 
 /// Does what the words ask for.
-fn act<T: Files + Net + Clock + Env, R: Read, W: Stream>(
+fn act<T: Files + Net + Clock + Env + RandomSource, R: Read, W: Stream>(
     rt: &T,
     alloc: Global,
     words: &[&str],
@@ -190,7 +197,7 @@ pub fn report<E: Stream>(failure: &Failure, err: &mut E) -> u8
 /// standard error. It answers the status of the process. Faults are found in this order: the words;
 /// the SCI, the blocks and the addresses; the disk file and its opening; the other files or the binds from
 /// left to right; that the order among files is this one is tested.
-pub fn run<T: Files + Net + Clock + Env, R: Read, W: Stream, E: Stream>(
+pub fn run<T: Files + Net + Clock + Env + RandomSource, R: Read, W: Stream, E: Stream>(
     rt: &T,
     alloc: Global,
     words: &[&str],
