@@ -22,4 +22,5 @@ pub mod Relayed
 pub mod SpelledWires
 pub mod Spelling
 pub mod TextLines
+pub mod Told
 mod WrittenOver

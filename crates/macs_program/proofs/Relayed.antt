@@ -4,7 +4,9 @@ use Rattle.std.specs.Io.KnownBytes.{Appends}
 use Rattle.macs_disk.specs.Disk.{Disk}
 use Rattle.macs_disk.specs.FileDisks.{disk_in_file}
 use Rattle.macs_disk.specs.Files.{FileState}
+use Rattle.macs_edge.specs.Attending.{IsAttended}
 use Rattle.macs_edge.specs.Relaying.{Relay, empty_lane, relay_of}
+use Rattle.macs_edge.specs.declared.attending.DeskEvent.{DeskEvent}
 use Rattle.macs_edge.specs.Wires.{WireState}
 use Rattle.macs_edge.specs.declared.relaying.RelaySummary.{RelaySummary}
 use Rattle.macs_endpoint.specs.Value.{EndpointValue}
@@ -17,7 +19,7 @@ use Rattle.macs_program.proofs.Failures.{IsOfSocket, disk-no-output, of-opening,
 use Rattle.macs_program.specs.Addresses.{AddressFaultHolds, SpellsBoth, address_faults}
 use Rattle.macs_program.specs.Endpoints.{OpeningFails}
 use Rattle.macs_program.specs.Failing.{failure_of_refill, failure_status}
-use Rattle.macs_program.specs.Relaying.{ComesTo, Course, EndsRelay, IsAfterAddresses, IsOfRelay, IsRun, RelayEndsIn, Relays, StopsRelay, new_wire}
+use Rattle.macs_program.specs.Relaying.{ComesTo, Course, EndsRelay, IsAfterAddresses, IsOfRelay, IsRun, RelayEndsIn, Relays, StopsRelay, attended, new_wire}
 use Rattle.macs_program.specs.Summing.{relay_line}
 use Rattle.macs_program.specs.Tasks.{DoesRelay, IsRunIn}
 use Rattle.macs_program.specs.declared.addresses.AddressFault.{AddressFault}
@@ -115,7 +117,15 @@ address-handed Holds order before after error failure was is same exactly fault 
 
 -- ---- an endpoint between two wires
 
--- a wire or a control socket that is not bound
+-- a wire, or what a desk needs, that is not there
+pub of-wire : (failure : Failure) → (failure ≡ failures.Memory) ⊎ (failure ≡ failures.Wire) → IsOfSocket failure
+of-wire failure (inl memory) = inl memory
+of-wire failure (inr wire) = inr (inl wire)
+
+pub of-desk : (failure : Failure) → (failure ≡ failures.Memory) ⊎ (failure ≡ failures.Control) → IsOfSocket failure
+of-desk failure (inl memory) = inl memory
+of-desk failure (inr control) = inr (inr control)
+
 wire-behind : (failure : Failure) → IsOfSocket failure → IsAfterAddresses failure
 wire-behind failure (inl memory) = subst IsAfterAddresses (sym memory) tt
 wire-behind failure (inr (inl wire)) = subst IsAfterAddresses (sym wire) tt
@@ -158,6 +168,24 @@ module _ {D W : Type 0} (disk_of : D → Disk) (contents : W → Option (List �
     silent = silent;
     broken = broken;
   }
+
+module _ {D W : Type 0} (disk_of : D → Disk) (contents : W → Option (List ℕ)) (has_failed : W → Bool) (turns : ℕ) (old : EndpointValue D) (before : W) where
+  -- one that is attended, between two wires that are new
+  pub frames-attended : (new : EndpointValue D) (after : W) (first second controlled common : WireState) (result : Result Status Failure)
+      → first ≡ new_wire → second ≡ new_wire
+      → IfOk result (λ status. (summary : RelaySummary) × (events : List DeskEvent)
+      × IsAttended disk_of turns (relay_of old first second empty_lane empty_lane) events (Ok summary) new controlled common
+      × Appends (contents before) (contents after) (relay_line summary) × (status ≡ ends.Done))
+      → IfErr result (λ failure. EndsRelay disk_of (attended turns) (relay_of old first second empty_lane empty_lane) failure new controlled common)
+      → IfErr result (λ failure. failure ≢ failures.Output → after ≡ before)
+      → IfErr result (λ failure. failure ≡ failures.Output → has_failed after ≡ true)
+      → DoesRelay disk_of contents has_failed (attended turns) old before result new after
+  frames-attended new after first second controlled common (Ok status) one other (summary, events, attends, printed, is) ended silent broken =
+      frames-relayed disk_of contents has_failed (attended turns) old before new after first second controlled common (Ok status) one other
+      (summary, (events, attends), printed, is) ended silent broken
+  frames-attended new after first second controlled common (Err failure) one other attends ended silent broken =
+      frames-relayed disk_of contents has_failed (attended turns) old before new after first second controlled common (Err failure) one other
+      tt ended silent broken
 
 -- ---- what `relay` comes to
 

@@ -22,7 +22,7 @@ ghost use Rattle.macs_program.specs.Endpoints.{AppliesIn, BreaksOffIn, IsDiskIn,
 ghost use Rattle.macs_program.specs.Endpoints.{PassEndsIn, PassesIn, ShowsIn};
 ghost use Rattle.macs_program.specs.Failing.{failure_status};
 ghost use Rattle.macs_program.specs.NewDisks.{FormatFails, Formats, MakesDisk};
-ghost use Rattle.macs_program.specs.Relaying.{ComesTo, IsOfRelay, RelayEndsIn, attended, course_of, is_attended, new_wire, turns_of, unattended};
+ghost use Rattle.macs_program.specs.Relaying.{ComesTo, IsOfRelay, RelayEndsIn, course_of, is_attended, new_wire, turns_of};
 ghost use Rattle.macs_program.specs.Summing.{relay_line, summary_line};
 ghost use Rattle.macs_program.specs.Tasks.{DoesApply, DoesPass, DoesRelay, DoesShow, Doing, IsRunIn};
 ghost use Rattle.macs_program.specs.Values.{SpellsIdentity, SpellsLayout, ValueFaultHolds, value_faults};
@@ -371,7 +371,7 @@ fn bind_wires<N: Net>(net: &N, alloc: Global, addresses: Addresses) -> Result<Wi
 
 impl Wires {
     ghost use Rattle.std.specs.Prelude.{◌≡◌, IfSome};
-    ghost use Rattle.macs_program.specs.Relaying.{attended, new_wire, turns_of, unattended};
+    ghost use Rattle.macs_program.specs.Relaying.{attended, new_wire, unattended};
     ghost use Rattle.macs_program.specs.Tasks.{DoesRelay};
 
     /// What is watched of them, where a sleep is so long at most.
@@ -434,11 +434,12 @@ impl Wires {
         alloc: Global,
         endpoint: &mut Endpoint<D>,
         running: Running,
+        turns: u64,
         out: &mut W,
     ) -> Result<Status, Failure>
         requires controlled { ⟦<UdpWire<Global, UdpSocket> as Wire>⟧.state self.old.controlled ≡ new_wire }
         requires common { ⟦<UdpWire<Global, UdpSocket> as Wire>⟧.state self.old.common ≡ new_wire }
-        ensures { DoesRelay D.disk W.contents W.failed (attended (turns_of running.entry.pace)) endpoint.old out.old result endpoint.new out.new }
+        ensures { DoesRelay D.disk W.contents W.failed (attended turns) endpoint.old out.old result endpoint.new out.new }
     {
         let sockets = Sockets {
             controlled: self.controlled.as_raw_fd(),
@@ -448,7 +449,6 @@ impl Wires {
         let notifier = Notifier::of_environment(rt, alloc);
         notifier.ready();
         let Wires { controlled, common } = self;
-        let turns = turns_of(running.pace);
         let result = relay_frames_attended(endpoint, controlled, common, &mut desk, turns, out);
         notifier.stopping();
         leave(rt, &running);
@@ -495,10 +495,10 @@ impl<T: Files + Net + Clock + Env, D: SectorDisk, W: Stream> Task<D, W> for Rela
         if let Some(octets) = self.running.buffer {
             wires.ask_for_buffers(self.rt, octets);
         }
-        if is_attended(&self.running) {
-            return wires.attend(self.rt, self.alloc, endpoint, self.running, out);
-        }
         let turns = turns_of(self.running.pace);
+        if is_attended(&self.running) {
+            return wires.attend(self.rt, self.alloc, endpoint, self.running, turns, out);
+        }
         match self.running.pace {
             Pace::Busy { .. } => wires.relay(endpoint, turns, out),
             Pace::Waiting { limit, .. } => wires.relay_resting(endpoint, limit, turns, out),
