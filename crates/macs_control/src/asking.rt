@@ -123,6 +123,16 @@ impl<S: Connection> Asker<S> {
         }
     }
 
+    /// Waits until the relay ends the connection, or says nothing for a minute.
+    pub fn outlast(&mut self) {
+        for _look in 0..MAX_LINES {
+            match self.relay.hear() {
+                Hearing::Gone => return,
+                Hearing::Line(_) | Hearing::Silence => {}
+            }
+        }
+    }
+
     /// Reads an answer up to its end.
     pub fn answer(&mut self, alloc: Global) -> Result<Answer, AskFault>
         ensures { IfOk result (λ answer. BeginsWithAnswer

@@ -22,7 +22,9 @@ fn option_value(number: u32) -> [u8; 16]
 fn kept_for(socket: RawFd) -> Option<u32> {
     let mut value = [0; 16];
     let mut length = 4;
-    let read = unsafe { c::getsockopt(socket, c::SOL_SOCKET, c::SO_RCVBUF, &mut value, &mut length) };
+    let read = unsafe {
+        c::getsockopt(socket, c::SOL_SOCKET, c::SO_RCVBUF, &mut value, &mut length)
+    };
     if read < 0 {
         return None;
     }

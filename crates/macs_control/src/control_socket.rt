@@ -70,7 +70,10 @@ fn socket_at(seats: &Seats<UnixStream>, at: usize) -> RawFd {
 }
 
 /// The listener at a name, where there is to be one.
-fn listener_at<T: Files + Net>(rt: &T, path: Option<&str>) -> Result<Option<UnixListener>, ControlFault> {
+fn listener_at<T: Files + Net>(
+    rt: &T,
+    path: Option<&str>,
+) -> Result<Option<UnixListener>, ControlFault> {
     let Some(path) = path else {
         return Ok(None);
     };

@@ -69,8 +69,7 @@ pub struct Notifier {
 }
 
 /// Sends a text to an address, as one datagram. Nobody hears of a failure: the program goes on.
-fn send_to(address: &LocalAddress, text: &[u8])
-{
+fn send_to(address: &LocalAddress, text: &[u8]) {
     let fd = unsafe { c::socket(c::AF_UNIX, c::SOCK_DGRAM | c::SOCK_CLOEXEC, 0) };
     if fd < 0 {
         return;

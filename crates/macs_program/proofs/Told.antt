@@ -20,8 +20,7 @@ pub one-told : (before known after : Option (List ℕ)) (count : ℕ) (status no
     → Appends known after (outcome_line (count + 1) outcome) → TellsSo before after (count + 1) now
 one-told before known after count status now refused outcome (outcomes, counted, printed, status_is) now_is is line =
     let place : count + 1 ≡ 1 + length outcomes = omega (arith, counted) in
-    let more : length (outcomes ++ outcome ∷ []) ≡ length outcomes + 1 = length_push outcomes outcome in
-    (
+    let more : length (outcomes ++ outcome ∷ []) ≡ length outcomes + 1 = length_push outcomes outcome in (
       outcomes ++ outcome ∷ [],
       omega (arith, more, counted),
       subst (λ (text : List ℕ). Appends before after text) (sym (lines-more 1 outcomes outcome))

@@ -90,7 +90,7 @@ fn print_answer<W: Stream>(answer: &Answer, out: &mut W) -> Result<Status, Failu
     Ok(Status::Done)
 }
 
-/// Asks a relay for a text, or to end, and prints what it answers.
+/// Asks a relay for a text, and prints it.
 fn ask_once<N: Net, W: Stream>(
     net: &N,
     alloc: Global,
@@ -106,6 +106,25 @@ fn ask_once<N: Net, W: Stream>(
 {
     let mut asker = asker_at(net, path)?;
     let answer = answer_to(alloc, &mut asker, &request)?;
+    print_answer(&answer, out)
+}
+
+/// Asks a relay to end, and waits until it did: its last line is printed then.
+fn ask_stop<N: Net, W: Stream>(
+    net: &N,
+    alloc: Global,
+    path: &str,
+    out: &mut W,
+) -> Result<Status, Failure>
+    ensures printed { IfOk result (λ status. (text : List ℕ)
+        × Appends (W.contents out.old) (W.contents out.new) text × (status ≡ Status.Done)) }
+    ensures failed { IfErr result IsOfAsking }
+    ensures silent { IfErr result (λ failure. failure ≢ Failure.Output → out.new ≡ out.old) }
+    ensures broken { IfErr result (λ failure. failure ≡ Failure.Output → W.failed out.new ≡ true) }
+{
+    let mut asker = asker_at(net, path)?;
+    let answer = answer_to(alloc, &mut asker, &Request::Stop)?;
+    asker.outlast();
     print_answer(&answer, out)
 }
 
@@ -217,7 +236,7 @@ pub fn ask<T: Files + Net, W: Stream>(
     match question {
         Question::Show => ask_once(rt, alloc, path, Request::Show, out),
         Question::Counters => ask_once(rt, alloc, path, Request::Counters, out),
-        Question::Stop => ask_once(rt, alloc, path, Request::Stop, out),
+        Question::Stop => ask_stop(rt, alloc, path, out),
         Question::Apply(file) => ask_apply(rt, alloc, path, file, out),
     }
 }

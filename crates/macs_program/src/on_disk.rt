@@ -389,6 +389,18 @@ impl Wires {
         }
     }
 
+    /// Their sockets.
+    fn sockets(&self) -> Sockets
+        ensures controlled { IfSome (⟦<UdpWire<Global, UdpSocket> as AsRawFd>⟧.raw_fd self.now.controlled)
+            (λ socket. result.controlled ≡ socket) }
+        ensures common { IfSome (⟦<UdpWire<Global, UdpSocket> as AsRawFd>⟧.raw_fd self.now.common)
+            (λ socket. result.common ≡ socket) }
+    {
+        let controlled = self.controlled.as_raw_fd();
+        let common = self.common.as_raw_fd();
+        Sockets { controlled, common }
+    }
+
     /// Relays frames between them in turns of which none waits.
     fn relay<D: SectorDisk, W: Stream>(
         &mut self,
@@ -441,11 +453,7 @@ impl Wires {
         requires common { ⟦<UdpWire<Global, UdpSocket> as Wire>⟧.state self.old.common ≡ new_wire }
         ensures { DoesRelay D.disk W.contents W.failed (attended turns) endpoint.old out.old result endpoint.new out.new }
     {
-        let sockets = Sockets {
-            controlled: self.controlled.as_raw_fd(),
-            common: self.common.as_raw_fd(),
-        };
-        let mut desk = desk_for(rt, alloc, &running, sockets)?;
+        let mut desk = desk_for(rt, alloc, &running, self.sockets())?;
         let notifier = Notifier::of_environment(rt, alloc);
         notifier.ready();
         let Wires { controlled, common } = self;

@@ -113,13 +113,7 @@ pub fn relay_frames_resting<D: SectorDisk, P: Wire, C: Wire, I: Idle, W: Stream>
 
 /// Relays frames as `relay_frames` does, attended by a desk, which may hand in commands and end the relay before a
 /// turn.
-pub fn relay_frames_attended<
-    D: SectorDisk,
-    P: Wire,
-    C: Wire,
-    K: Desk<D, P, C>,
-    W: Stream,
->(
+pub fn relay_frames_attended<D: SectorDisk, P: Wire, C: Wire, K: Desk<D, P, C>, W: Stream>(
     endpoint: &mut Endpoint<D>,
     controlled: &mut P,
     common: &mut C,

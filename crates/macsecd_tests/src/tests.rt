@@ -34,7 +34,7 @@ use std::fs::File;
 use std::io::{Read, Write};
 use std::net::Net;
 use std::process::Abort;
-use std::rt::Files;
+use std::rt::{Clock, Env, Files};
 use std::test::Fail;
 
 /// The key and the SCI of most of the frames.
@@ -89,7 +89,7 @@ impl Outcome {
 const OPENED: Outcome = Outcome::Done(INTEGRITY_LINE);
 
 /// Runs the program. What is proved of a run stays behind: the tests look at what it does.
-fn status_of<T: Files + Net, R: Read, W: Write, E: Write>(
+fn status_of<T: Files + Net + Clock + Env, R: Read, W: Write, E: Write>(
     system: &T,
     alloc: Global,
     words: &[&str],
@@ -106,7 +106,7 @@ where
 }
 
 /// Runs the words over a system on what a reader gives, and asserts the whole outcome.
-fn expect_over<T: Files + Net, R: Read>(
+fn expect_over<T: Files + Net + Clock + Env, R: Read>(
     rt: &impl Abort,
     system: &T,
     alloc: Global,
@@ -128,7 +128,7 @@ where
 
 /// Runs the words on what a reader gives, and asserts the whole outcome.
 fn expect_of<R: Read>(
-    rt: &(impl Abort + Files<File = File> + Net),
+    rt: &(impl Abort + Files<File = File> + Net + Clock + Env),
     alloc: Global,
     words: &[&str],
     input: &mut R,
@@ -139,7 +139,7 @@ fn expect_of<R: Read>(
 
 /// Runs the words on an input, and asserts the whole outcome.
 fn expect(
-    rt: &(impl Abort + Files<File = File> + Net),
+    rt: &(impl Abort + Files<File = File> + Net + Clock + Env),
     alloc: Global,
     words: &[&str],
     input: &str,
@@ -159,7 +159,7 @@ fn joined(alloc: Global, texts: &[&str]) -> Result<String, AllocError> {
 
 /// Opens an input of these texts, one behind the other, and asserts the whole outcome.
 fn expect_texts(
-    rt: &(impl Abort + Files<File = File> + Net),
+    rt: &(impl Abort + Files<File = File> + Net + Clock + Env),
     alloc: Global,
     texts: &[&str],
     outcome: Outcome,
@@ -171,7 +171,7 @@ fn expect_texts(
 
 /// Opens an input of a key, an SCI, an offset and a frame, each line with its end.
 fn expect_lines(
-    rt: &(impl Abort + Files<File = File> + Net),
+    rt: &(impl Abort + Files<File = File> + Net + Clock + Env),
     alloc: Global,
     [key, sci, offset, frame]: [&str; 4],
     outcome: Outcome,

@@ -10,6 +10,8 @@ pub const HELP_TEXT: &str = "usage: macsecd [SUBCOMMAND VALUES..]
   validate DISK INPUT OUTPUT   validates the frames of a capture
   relay DISK OWN1 PEER1 OWN2 PEER2 --turns n
                                relays frames between two wires of UDP
+  ask PATH show|counters|stop|apply FILE
+                               asks a running relay over its control socket
 
 macsecd SUBCOMMAND --help says more of each; --version prints the version.
 A fault is one line on standard error.
@@ -112,6 +114,7 @@ status: 0 done, 2 usage, 4 disk, 5 capture, output or memory
 
 pub const RELAY_TEXT: &str = "usage: macsecd relay DISK OWN1 PEER1 OWN2 PEER2 --turns n
        macsecd relay DISK OWN1 PEER1 OWN2 PEER2 --wait MS [--turns n]
+  and [--control PATH] [--metrics FILE] [--buffer OCTETS]
 
 Relays frames between two wires of UDP: a datagram is one Ethernet frame without
 FCS. Frames of the first wire, the controlled side, are protected and go to the
@@ -126,9 +129,33 @@ it prints 'sent 6 delivered 0 dropped 0 faults 0'.
   --wait MS      after a turn that brought nothing it sleeps until a datagram is
                  there on either wire, at most so many milliseconds: 1 to 60000.
                  Without --turns it goes on until a signal ends it
+  --control PATH    a local socket for its owner alone, at which it is asked while
+                    it runs: see 'macsecd ask --help'
+  --metrics FILE    a file that the counters are written to, once a second, as
+                    a text for Prometheus
+  --buffer OCTETS   how much the system is asked to keep for each wire of what
+                    waits: 1 to 1073741823
 Without --wait no turn waits for a frame: one processor is busy until the last.
 
 example: macsecd relay left.disk 127.0.0.1:4001 127.0.0.1:4000 \\
            127.0.0.1:5001 127.0.0.1:5002 --turns 10000000
-status: 0 done, 2 usage, 4 disk, 5 wire, output or memory
+status: 0 done, 2 usage, 4 disk, 5 wire, control, output or memory
+";
+
+pub const ASK_TEXT: &str = "usage: macsecd ask PATH show
+       macsecd ask PATH counters
+       macsecd ask PATH apply FILE
+       macsecd ask PATH stop
+
+Asks a running relay over its control socket, and prints its answer.
+  PATH         the socket: what the relay was given as --control
+  show         the configuration and the packet numbers, as they are now
+  counters     each counter of the endpoint and of both wires, a line each
+  apply FILE   applies the commands of a TOML file, as 'macsecd apply' does: a
+               line for each once it is kept, '1 ok', '2 refused KeySpent'
+  stop         ends the relay, which prints its last line
+
+example: macsecd ask /run/macsecd/left/control apply new_keys.toml
+status: 0 done, 2 usage, 3 a command refused, 4 the relay ended, 5 nobody there,
+        input, output or memory
 ";

@@ -1,7 +1,7 @@
 //! Words: the action, and what is refused.
 
 use super::{INTEGRITY, KEY, OPENED, Outcome, SCI, expect, expect_lines, joined};
-use macs_words::{Action, Pace, action_of};
+use macs_words::{Action, Pace, Question, Running, action_of};
 use std::alloc::Global;
 use std::test::Fail;
 
@@ -102,7 +102,27 @@ const WORDS_TOO_FEW: &[&[&str]] = &[
     &["validate"],
     &["validate", "left.disk"],
     &["validate", "left.disk", "protected.pcap"],
+    &["ask"],
+    &["ask", "control"],
 ];
+
+/// Words that ask nothing that a relay is asked, and the line that says what it is asked.
+const NO_QUESTION: Outcome =
+    Outcome::Usage("macsecd: ask PATH show, counters, stop, or apply FILE\n");
+
+const WORDS_OF_NO_QUESTION: &[&[&str]] = &[
+    &["ask", "control", "Show"],
+    &["ask", "control", "apply"],
+    &["ask", "control", "show", "left.toml"],
+    &["ask", "control", "", "left.toml"],
+];
+
+#[test]
+fn refuses_a_question_that_is_none(rt: HostRuntime) {
+    for words in WORDS_OF_NO_QUESTION {
+        expect(&rt, rt.alloc(), words, "", NO_QUESTION);
+    }
+}
 
 /// Each value is required.
 #[test]
@@ -139,6 +159,7 @@ const WORDS_TOO_MANY: &[&[&str]] = &[
         "plain.pcap",
         "more",
     ],
+    &["ask", "control", "apply", "left.toml", "more"],
 ];
 
 #[test]
@@ -463,7 +484,92 @@ const TAKEN: &[(&[&str], Parts<'static>)] = &[
         &["relay", "--turns", "5", "--", "--wait", "a", "b", "c", "e"],
         ("relay", ["--wait", "a", "b", "c", "e"], [5, 0]),
     ),
+    (
+        &["ask", "p", "show"],
+        ("ask show", ["p", "", "", "", ""], [0, 0]),
+    ),
+    (
+        &["ask", "show", "counters"],
+        ("ask counters", ["show", "", "", "", ""], [0, 0]),
+    ),
+    (
+        &["ask", "p", "stop"],
+        ("ask stop", ["p", "", "", "", ""], [0, 0]),
+    ),
+    (
+        &["ask", "p", "apply", "show"],
+        ("ask apply", ["p", "show", "", "", ""], [0, 0]),
+    ),
 ];
+
+/// What a relay serves: a control socket, a file of counters, and a buffer in octets.
+type Served<'a> = (&'a str, &'a str, u32);
+
+/// Words of a relay, and what it serves.
+const SERVED: &[(&[&str], Served<'static>)] = &[
+    (
+        &["relay", "d", "a", "b", "c", "e", "--wait", "5"],
+        ("", "", 0),
+    ),
+    (
+        &[
+            "relay",
+            "d",
+            "a",
+            "b",
+            "c",
+            "e",
+            "--wait",
+            "5",
+            "--control",
+            "p",
+            "--metrics",
+            "m",
+            "--buffer",
+            "1073741823",
+        ],
+        ("p", "m", 1_073_741_823),
+    ),
+    (
+        &[
+            "relay",
+            "--buffer=1",
+            "--metrics=m",
+            "d",
+            "a",
+            "b",
+            "c",
+            "e",
+            "--turns",
+            "5",
+        ],
+        ("", "m", 1),
+    ),
+];
+
+/// What a relay serves that is run so.
+fn served<'a>(running: Running<'a>) -> Served<'a> {
+    (
+        running.control.unwrap_or(""),
+        running.metrics.unwrap_or(""),
+        running.buffer.unwrap_or(0),
+    )
+}
+
+/// Whether words name a relay that serves this.
+fn serves(alloc: Global, words: &[&str], what: Served) -> bool {
+    match named(alloc, words) {
+        Some(Action::Relay { running, .. }) => served(running) == what,
+        _ => false,
+    }
+}
+
+#[test]
+fn takes_what_a_relay_serves(rt: HostRuntime) {
+    for (words, what) in SERVED {
+        assert!(rt; serves(rt.alloc(), words, *what));
+    }
+}
 
 /// An action in its parts.
 fn parts<'a>(action: Action<'a>) -> Parts<'a> {
@@ -503,9 +609,9 @@ fn parts<'a>(action: Action<'a>) -> Parts<'a> {
             disk,
             controlled,
             common,
-            pace,
+            running,
         } => {
-            let (name, numbers) = pace_parts(pace);
+            let (name, numbers) = pace_parts(running.pace);
             (
                 name,
                 [
@@ -518,6 +624,20 @@ fn parts<'a>(action: Action<'a>) -> Parts<'a> {
                 numbers,
             )
         }
+        Action::Ask { path, question } => {
+            let (name, file) = question_parts(question);
+            (name, [path, file, "", "", ""], [0, 0])
+        }
+    }
+}
+
+/// What a relay is asked, and the file of its commands.
+fn question_parts<'a>(question: Question<'a>) -> (&'static str, &'a str) {
+    match question {
+        Question::Show => ("ask show", ""),
+        Question::Counters => ("ask counters", ""),
+        Question::Stop => ("ask stop", ""),
+        Question::Apply(file) => ("ask apply", file),
     }
 }
 
