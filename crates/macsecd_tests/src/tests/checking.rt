@@ -15,10 +15,7 @@ const CHECKED: &[Step] = &[
         Outcome::Done("2 commands\n"),
     ),
     Text("story-check/one", "[[command]]\ndo = 'tx-use'\nan = 0\n"),
-    Run(
-        &["check", "story-check/one"],
-        Outcome::Done("1 command\n"),
-    ),
+    Run(&["check", "story-check/one"], Outcome::Done("1 command\n")),
     Text("story-check/none", ""),
     Run(
         &["check", "story-check/none"],
@@ -105,10 +102,7 @@ const FAULTS: &[(&str, &str)] = &[
         "sci = '12153524c0895e81'\\n",
         "macsecd: command file: not tables [[command]] alone\n",
     ),
-    (
-        "[[command]\\n",
-        "macsecd: command file: not TOML\n",
-    ),
+    ("[[command]\\n", "macsecd: command file: not TOML\n"),
 ];
 
 #[test]
