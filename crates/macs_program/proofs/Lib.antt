@@ -3,6 +3,7 @@ pub mod Applied
 pub mod AskedFor
 pub mod Buffers
 pub mod Captured
+pub mod Checked
 pub mod Codes
 pub mod Commanded
 pub mod Complaining
@@ -11,6 +12,7 @@ pub mod Failures
 pub mod FirstFault
 pub mod HexDigits
 pub mod InFiles
+pub mod Inspected
 pub mod Looks
 pub mod Made
 pub mod Opened

@@ -9,7 +9,10 @@ use Rattle.macs_disk.specs.Files.{FileState}
 use Rattle.macs_program.specs.Applying.{outcome_lines, outcomes_status}
 use Rattle.macs_program.specs.Asking.{IsOfAsking, PrintsAnswer, PrintsFront}
 use Rattle.macs_program.specs.Failing.{failure_status}
+use Rattle.macs_program.specs.Checking.{CheckFails, PrintsCount}
 use Rattle.macs_program.specs.Inputs.{InputRead}
+use Rattle.macs_program.specs.Inspecting.{InspectFails, Inspects, IsOfInspecting, PrintsFrames}
+use Rattle.macs_program.specs.Keys.{GivesKey, IsOfKey}
 use Rattle.macs_program.specs.Run.{Does, FailsAs, Performs, Prints, WrongValues}
 use Rattle.macs_program.specs.declared.failure.Failure.{Failure}
 use Rattle.macs_program.specs.declared.failure.Failure.TheVariants as failures
@@ -17,7 +20,7 @@ use Rattle.macs_program.specs.declared.failure.Failure.TheVariants.{Output}
 use Rattle.macs_program.specs.declared.status.Status.{Status}
 use Rattle.macs_program.specs.declared.status.Status.TheVariants as ends
 use Rattle.macs_words.specs.declared.action.Action.{Action}
-use Rattle.macs_words.specs.declared.action.Action.TheVariants.{Open, Format, Apply, Show, Protect, Validate, Relay, Ask}
+use Rattle.macs_words.specs.declared.action.Action.TheVariants.{Open, Format, Apply, Show, Protect, Validate, Relay, Ask, Key, Inspect, Check}
 use Rattle.macs_words.specs.declared.action.WireEnds.{WireEnds}
 use Rattle.macs_words.specs.declared.action.Question.{Question}
 use Rattle.macs_words.specs.declared.action.Question.TheVariants as question
@@ -37,9 +40,51 @@ asking-no-usage failures.Capture is = absurd is
 asking-no-usage failures.Commands is = λ e. cc
 asking-no-usage failures.Wire is = absurd is
 asking-no-usage failures.Control is = λ e. cc
+asking-no-usage failures.Random is = absurd is
+asking-no-usage (failures.CommandFile cause) is = absurd is
 asking-no-usage failures.Memory is = λ e. cc
 asking-no-usage (failures.Input fault) is = absurd is
 asking-no-usage failures.Output is = λ e. cc
+
+-- a failure of `key` is no wrong usage, and none of the disk
+key-no-usage : (failure : Failure) → IsOfKey failure → (failure_status failure ≢ ends.Usage) × (failure_status failure ≢ ends.Disk)
+key-no-usage failures.Random is = ((λ e. cc), (λ e. cc))
+key-no-usage failures.Output is = ((λ e. cc), (λ e. cc))
+key-no-usage (failures.Usage cause) is = absurd is
+key-no-usage (failures.Value fault) is = absurd is
+key-no-usage (failures.Address fault) is = absurd is
+key-no-usage (failures.Disk fault) is = absurd is
+key-no-usage failures.Capture is = absurd is
+key-no-usage failures.Commands is = absurd is
+key-no-usage failures.Wire is = absurd is
+key-no-usage failures.Control is = absurd is
+key-no-usage (failures.CommandFile cause) is = absurd is
+key-no-usage failures.Memory is = absurd is
+key-no-usage (failures.Input fault) is = absurd is
+
+-- nor is one of `inspect`
+inspecting-no-usage : (failure : Failure) → IsOfInspecting failure → (failure_status failure ≢ ends.Usage) × (failure_status failure ≢ ends.Disk)
+inspecting-no-usage failures.Capture is = ((λ e. cc), (λ e. cc))
+inspecting-no-usage failures.Memory is = ((λ e. cc), (λ e. cc))
+inspecting-no-usage failures.Output is = ((λ e. cc), (λ e. cc))
+inspecting-no-usage failures.Random is = absurd is
+inspecting-no-usage (failures.Usage cause) is = absurd is
+inspecting-no-usage (failures.Value fault) is = absurd is
+inspecting-no-usage (failures.Address fault) is = absurd is
+inspecting-no-usage (failures.Disk fault) is = absurd is
+inspecting-no-usage failures.Commands is = absurd is
+inspecting-no-usage failures.Wire is = absurd is
+inspecting-no-usage failures.Control is = absurd is
+inspecting-no-usage (failures.CommandFile cause) is = absurd is
+inspecting-no-usage (failures.Input fault) is = absurd is
+
+-- nor is one of `check`
+checking-no-usage : (failure : Failure) → CheckFails failure → (failure_status failure ≢ ends.Usage) × (failure_status failure ≢ ends.Disk)
+checking-no-usage failure (inl is) = ((λ e. let f = sym e ∙ ap failure_status is in cc), (λ e. let f = sym e ∙ ap failure_status is in cc))
+checking-no-usage failure (inr (inl is)) = ((λ e. let f = sym e ∙ ap failure_status is in cc), (λ e. let f = sym e ∙ ap failure_status is in cc))
+checking-no-usage failure (inr (inr (octets, inl is))) = ((λ e. let f = sym e ∙ ap failure_status is in cc), (λ e. let f = sym e ∙ ap failure_status is in cc))
+checking-no-usage failure (inr (inr (octets, inr (text, is, said)))) =
+    ((λ e. let f = sym e ∙ ap failure_status is in cc), (λ e. let f = sym e ∙ ap failure_status is in cc))
 
 done-or-refused : (refused : Bool) → ((if refused then ends.Refused else ends.Done) ≡ ends.Done) ⊎ ((if refused then ends.Refused else ends.Done) ≡ ends.Refused)
 done-or-refused true = inr refl
@@ -188,6 +233,43 @@ module _ {F W : Type 0} (state_of : F → FileState) (contents : W → Option (L
     usage = IfErr-weaker result _ _ (λ failure is usage. absurd (asking-no-usage failure is usage)) fails;
     disk = IfErr-weaker result _ _ (λ failure printed disk. ((λ is. absurd cc), printed (of-disk failure disk))) front;
     before = front;
+    fails = fails;
+    broken = broken;
+  }
+
+  pub keys : (is_long : Bool) → IfOk result (λ status. GivesKey is_long (contents old) (contents new) × (status ≡ ends.Done)) → IfErr result IsOfKey
+      → Silent → Broken → Performs state_of contents failed (Key is_long) input old result new
+  keys is_long done fails silent broken = record {
+    does = done;
+    status = IfOk-weaker result _ _ (λ status all. inl all.1) done;
+    usage = IfErr-weaker result _ _ (λ failure is usage. absurd ((key-no-usage failure is).0 usage)) fails;
+    disk = IfErr-weaker result _ _ (λ failure is disk. absurd ((key-no-usage failure is).1 disk)) fails;
+    before = before silent;
+    fails = fails;
+    broken = broken;
+  }
+
+  pub inspects : (from : Bor (List ℕ)) → IfOk result (λ status. Inspects (contents old) (contents new) × (status ≡ ends.Done)) → IfErr result IsOfInspecting
+      → IfErr result (InspectFails (contents old) (contents new)) → IfErr result (λ failure. failure ≢ Output → PrintsFrames (contents old) (contents new))
+      → Broken → Performs state_of contents failed (Inspect from) input old result new
+  inspects from done ours fails front broken = record {
+    does = done;
+    status = IfOk-weaker result _ _ (λ status all. inl all.1) done;
+    usage = IfErr-weaker result _ _ (λ failure is usage. absurd ((inspecting-no-usage failure is).0 usage)) ours;
+    disk = IfErr-weaker result _ _ (λ failure is disk. absurd ((inspecting-no-usage failure is).1 disk)) ours;
+    before = front;
+    fails = fails;
+    broken = broken;
+  }
+
+  pub checks : (file : Bor (List ℕ)) → IfOk result (λ status. PrintsCount (contents old) (contents new) × (status ≡ ends.Done)) → IfErr result CheckFails
+      → Silent → Broken → Performs state_of contents failed (Check file) input old result new
+  checks file done fails silent broken = record {
+    does = done;
+    status = IfOk-weaker result _ _ (λ status all. inl all.1) done;
+    usage = IfErr-weaker result _ _ (λ failure is usage. absurd ((checking-no-usage failure is).0 usage)) fails;
+    disk = IfErr-weaker result _ _ (λ failure is disk. absurd ((checking-no-usage failure is).1 disk)) fails;
+    before = before silent;
     fails = fails;
     broken = broken;
   }

@@ -16,6 +16,7 @@ use Rattle.macs_endpoint.specs.declared.fault.RefillFault.{RefillFault}
 use Rattle.macs_endpoint.specs.declared.fault.RefillFault.TheVariants as refill
 use Rattle.macs_journal.specs.declared.fault.JournalFault.{JournalFault}
 use Rattle.macs_journal.specs.declared.fault.JournalFault.TheVariants as journal
+use Rattle.macs_pcap.specs.declared.fault.PcapFault.{PcapFault}
 use Rattle.macs_pcap.specs.declared.fault.PcapFault.TheVariants as pcap
 use Rattle.macs_words.specs.declared.action.UsageFault.{UsageFault}
 use Rattle.macs_words.specs.declared.action.UsageFault.TheVariants as usage
@@ -61,6 +62,11 @@ failure_of_refill refill.Stopped = failure_of_journal journal.Stopped
 failure_of_refill refill.Busy = failure.Disk disk.Busy
 failure_of_refill refill.GenerationsSpent = failure_of_journal journal.GenerationsSpent
 failure_of_refill refill.Disk = failure_of_journal journal.Disk
+
+-- a capture that is wrong, or want of memory
+abbrev pub failure_of_capture : PcapFault → Failure
+failure_of_capture pcap.Memory = failure.Memory
+failure_of_capture fault = failure.Capture
 
 -- a capture that is wrong, want of memory, or a fault of the disk
 abbrev pub failure_of_run : RunFault → Failure
@@ -130,6 +136,8 @@ failure_text failure.Capture = codes "capture"
 failure_text failure.Commands = codes "commands"
 failure_text failure.Wire = codes "wire"
 failure_text failure.Control = codes "control"
+failure_text failure.Random = codes "random source"
+failure_text (failure.CommandFile cause) = string_bytes cause
 failure_text failure.Memory = codes "memory"
 failure_text (failure.Input fault) = input_fault_text fault
 failure_text failure.Output = codes "output"
@@ -146,6 +154,8 @@ failure_status failure.Capture = ends.Fault
 failure_status failure.Commands = ends.Fault
 failure_status failure.Wire = ends.Fault
 failure_status failure.Control = ends.Fault
+failure_status failure.Random = ends.Fault
+failure_status (failure.CommandFile cause) = ends.Fault
 failure_status failure.Memory = ends.Fault
 failure_status (failure.Input fault) = ends.Fault
 failure_status failure.Output = ends.Fault

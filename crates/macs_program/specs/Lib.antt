@@ -16,5 +16,8 @@ pub mod Relaying
 pub mod Watching
 pub mod Tasks
 pub mod Asking
+pub mod Keys
+pub mod Inspecting
+pub mod Checking
 pub mod Run
 pub mod Drawn

@@ -13,9 +13,12 @@ use Rattle.macs_program.specs.Addresses.{AddressFaultHolds, SpellsBoth, address_
 use Rattle.macs_program.specs.Answer.{Answers, answer_status, answer_text}
 use Rattle.macs_program.specs.Asking.{IsOfAsking, PrintsAnswer, PrintsFront}
 use Rattle.macs_program.specs.Applying.{outcome_lines}
+use Rattle.macs_program.specs.Checking.{CheckFails, PrintsCount}
 use Rattle.macs_fields.specs.First.{IsFirst}
 use Rattle.macs_program.specs.Endpoints.{AppliesIn, BreaksOffIn, OpeningFails, PassEndsIn, PassesIn, ShowsIn}
 use Rattle.macs_program.specs.Failing.{failure_of_words, failure_status, failure_text}
+use Rattle.macs_program.specs.Inspecting.{InspectFails, Inspects, PrintsFrames}
+use Rattle.macs_program.specs.Keys.{GivesKey, IsOfKey}
 use Rattle.macs_words.specs.Help.{topic_text}
 use Rattle.macs_program.specs.Inputs.{InputRead, read_of}
 use Rattle.macs_program.specs.NewDisks.{FormatFails, Formats}
@@ -26,7 +29,7 @@ use Rattle.macs_program.specs.Summing.{relay_line, summary_line}
 use Rattle.macs_program.specs.Values.{SpellsIdentity, SpellsLayout, ValueFaultHolds, value_faults}
 use Rattle.macs_words.specs.Words.{AreRefused, AsksFor, AsksForNothing, Names, macsecd}
 use Rattle.macs_words.specs.declared.action.Action.{Action}
-use Rattle.macs_words.specs.declared.action.Action.TheVariants.{Open, Format, Apply, Show, Protect, Validate, Relay, Ask}
+use Rattle.macs_words.specs.declared.action.Action.TheVariants.{Open, Format, Apply, Show, Protect, Validate, Relay, Ask, Key, Inspect, Check}
 use Rattle.macs_program.specs.declared.addresses.AddressFault.{AddressFault}
 use Rattle.macs_program.specs.declared.answer.Answer.{Answer}
 use Rattle.macs_program.specs.declared.capturing.Direction.TheVariants as direction
@@ -66,6 +69,9 @@ Does state_of (Relay disk controlled common running) input before after status =
     (summary : RelaySummary) × ComesTo state_of (course_of running) summary × SpellsBoth controlled common
     × Appends before after (relay_line summary) × (status ≡ ends.Done)
 Does state_of (Ask path asked) input before after status = PrintsAnswer asked before after status
+Does state_of (Key is_long) input before after status = GivesKey is_long before after × (status ≡ ends.Done)
+Does state_of (Inspect from) input before after status = Inspects before after × (status ≡ ends.Done)
+Does state_of (Check file) input before after status = PrintsCount before after × (status ≡ ends.Done)
 
 -- a run that does not fail is asked for help and prints it, or its words are taken and name an action, and it does that
 abbrev pub Replies : {F : Type 0} → (F → FileState) → List Text → InputRead → Option (List ℕ) → Option (List ℕ) → Status → Type 0
@@ -74,10 +80,12 @@ Replies state_of words input before after status =
     ⊎ ((takes macsecd words ≡ true)
     × (action : Action) × Names (subcommand_of macsecd words) action × Does state_of action input before after status)
 
--- What was printed before a disk fault: of `apply` and of `ask PATH apply` the lines of the commands before it, else nothing
+-- What was printed before a failure: of `apply` and of `ask PATH apply` the lines of the commands before it, of `inspect` those of the frames
+-- before it, else nothing
 abbrev pub HasPrinted : Action → Option (List ℕ) → Option (List ℕ) → Type 0
 HasPrinted (Apply disk file) before after = (outcomes : List (Option Refusal)) × Appends before after (outcome_lines 1 outcomes)
 HasPrinted (Ask path asked) before after = PrintsFront asked before after
+HasPrinted (Inspect from) before after = PrintsFrames before after
 HasPrinted action before after = after ≡ before
 
 -- a value of the action is none that it takes
@@ -112,6 +120,9 @@ FailsAs state_of (Relay disk controlled common running) octets before after fail
     ((fault : AddressFault) × (failure ≡ Address fault) × IsFirst (AddressFaultHolds controlled common) address_faults fault)
     ⊎ OpeningFails state_of failure ⊎ RelayEndsIn state_of (course_of running) failure
 FailsAs state_of (Ask path asked) octets before after failure = IsOfAsking failure
+FailsAs state_of (Key is_long) octets before after failure = IsOfKey failure
+FailsAs state_of (Inspect from) octets before after failure = InspectFails before after failure
+FailsAs state_of (Check file) octets before after failure = CheckFails failure
 
 -- it is one that hands frames to an endpoint
 abbrev pub is_on_frames : Action → Bool
@@ -139,7 +150,7 @@ FailsFor state_of words octets before after failure =
     ⊎ ((topic : Topic) × AsksFor words topic × (failure ≡ Output))
     ⊎ ((action : Action) × Names (subcommand_of macsecd words) action × FailsAs state_of action octets before after failure)
 
--- what was printed before a failure: nothing, or of `apply` and of `ask PATH apply` the lines of the commands before it
+-- what was printed before a failure: nothing, or the lines of the commands or frames before it
 abbrev pub PrintedBefore : List Text → Option (List ℕ) → Option (List ℕ) → Type 0
 PrintedBefore words before after =
     (after ≡ before) ⊎ ((action : Action) × Names (subcommand_of macsecd words) action × HasPrinted action before after)

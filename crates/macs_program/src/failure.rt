@@ -46,6 +46,10 @@ pub enum Failure {
     Wire,
     /// A control socket cannot be bound; or no relay is at it, or what is said there is no answer.
     Control,
+    /// The system's random source gives nothing.
+    Random,
+    /// A command file has a fault, of which this is said.
+    CommandFile(String),
     /// Memory is wanting.
     Memory,
     /// The input cannot be read, or spells no request.
@@ -94,6 +98,8 @@ impl Failure {
             Failure::Commands => "commands",
             Failure::Wire => "wire",
             Failure::Control => "control",
+            Failure::Random => "random source",
+            Failure::CommandFile(cause) => cause.as_str(),
             Failure::Memory => "memory",
             Failure::Input(fault) => fault.text(),
             Failure::Output => "output",
@@ -111,6 +117,8 @@ impl Failure {
             | Failure::Commands
             | Failure::Wire
             | Failure::Control
+            | Failure::Random
+            | Failure::CommandFile(_)
             | Failure::Memory
             | Failure::Input(_)
             | Failure::Output => Status::Fault,
@@ -282,6 +290,20 @@ impl From<RefillFault> for Failure {
             RefillFault::Busy => Failure::Disk(DiskFault::Busy), // Never: a turn makes a step, and no whole reservation.
             RefillFault::GenerationsSpent => JournalFault::GenerationsSpent.into(),
             RefillFault::Disk => JournalFault::Disk.into(),
+        }
+    }
+}
+
+impl From<PcapFault> for Failure {
+    ghost use Rattle.std.specs.Prelude.{◌≡◌};
+    ghost use Rattle.macs_program.specs.Failing.{failure_of_capture};
+
+    ghost from_gives = { λ fault failure. failure ≡ failure_of_capture fault };
+
+    fn from(fault: PcapFault) -> Failure {
+        match fault {
+            PcapFault::Memory => Failure::Memory,
+            _ => Failure::Capture,
         }
     }
 }

@@ -17,8 +17,11 @@ use crate::answer::{Answer, answer_of};
 use crate::asking::ask;
 use crate::capture_file::CaptureFile;
 use crate::capturing::Direction;
+use crate::check::check;
 use crate::failure::Failure;
 use crate::input::{Input, InputText};
+use crate::inspect::inspect;
+use crate::key::key;
 use crate::on_disk::{apply, format, pass, relay, show};
 use crate::output::print;
 use crate::request::InputFault;
@@ -27,6 +30,7 @@ use crate::stream::{PrintFailed, Stream};
 use macs_words::{Action, action_of, topic_of};
 use std::alloc::{AllocError, Allocator, Global};
 use std::net::Net;
+use std::random::RandomSource;
 use std::rt::{Clock, Env, Files};
 
 /// Reads an input, as far as it can be of use.
@@ -70,7 +74,7 @@ fn open_input<R: Input, W: Stream>(
 }
 
 /// Does what an action asks for.
-fn perform<T: Files + Net + Clock + Env, R: Input, W: Stream>(
+fn perform<T: Files + Net + Clock + Env + RandomSource, R: Input, W: Stream>(
     rt: &T,
     alloc: Global,
     action: Action,
@@ -101,6 +105,9 @@ where
             perform_on_frames(rt, alloc, action, out)
         }
         Action::Ask { path, question } => ask(rt, alloc, path, question, out),
+        Action::Key { is_long } => key(rt, is_long, out),
+        Action::Inspect { input: from } => inspect(rt, alloc, from, out),
+        Action::Check { file } => check(rt, alloc, file, out),
     }
 }
 
@@ -139,7 +146,7 @@ where
 }
 
 /// Does what the words ask for.
-fn act<T: Files + Net + Clock + Env, R: Input, W: Stream>(
+fn act<T: Files + Net + Clock + Env + RandomSource, R: Input, W: Stream>(
     rt: &T,
     alloc: Global,
     words: &[&str],
@@ -183,7 +190,7 @@ pub fn report<E: Stream>(failure: &Failure, err: &mut E) -> u8
 /// standard error. It answers the status of the process. Faults are found in this order: the words;
 /// the SCI, the blocks and the addresses; the disk file and its opening; the other files or the binds from
 /// left to right; that the order among files is this one is tested.
-pub fn run<T: Files + Net + Clock + Env, R: Input, W: Stream, E: Stream>(
+pub fn run<T: Files + Net + Clock + Env + RandomSource, R: Input, W: Stream, E: Stream>(
     rt: &T,
     alloc: Global,
     words: &[&str],

@@ -23,7 +23,7 @@ use Rattle.clap.specs.declared.error.kind.ErrorKind.TheVariants.{OutOfMemory}
 use Rattle.clap.proofs.OnLiterals.{clap_on_literals}
 use Rattle.clap.proofs.ValueTestLemmas.{accepts-Accepts}
 use Rattle.macs_words.specs.declared.action.Action.{Action}
-use Rattle.macs_words.specs.declared.action.Action.TheVariants.{Open, Format, Apply, Show, Protect, Validate, Relay, Ask}
+use Rattle.macs_words.specs.declared.action.Action.TheVariants.{Open, Format, Apply, Show, Protect, Validate, Relay, Ask, Key, Inspect, Check}
 use Rattle.macs_words.specs.declared.action.Question.{Question}
 use Rattle.macs_words.specs.declared.action.Question.TheVariants as question
 use Rattle.macs_words.specs.declared.pace.Pace.{Pace}
@@ -84,6 +84,9 @@ blocks rows (Protect disk input output) named fits = absurd (omega (arith, ap (�
 blocks rows (Validate disk input output) named fits = absurd (omega (arith, ap (λ (t : Text). slice_index t 0) named.0))
 blocks rows (Relay disk controlled common running) named fits = absurd (omega (arith, ap (λ (t : Text). slice_index t 0) named.0))
 blocks rows (Ask path asked) named fits = absurd (omega (arith, ap (λ (t : Text). slice_index t 0) named.0))
+blocks rows (Key is_long) named fits = absurd (omega (arith, ap (λ (t : Text). slice_index t 0) named.0))
+blocks rows (Inspect input) named fits = absurd (omega (arith, ap (λ (t : Text). slice_index t 0) named.0))
+blocks rows (Check file) named fits = absurd (omega (arith, ap (λ (t : Text). slice_index t 0) named.0))
 
 -- ---- what `relay` is given
 
@@ -98,6 +101,9 @@ pace_of rows (Protect disk input output) named fits = absurd (omega (arith, ap (
 pace_of rows (Validate disk input output) named fits = absurd (omega (arith, ap (λ (t : Text). slice_index t 0) named.0))
 pace_of rows (Relay disk controlled common running) named fits = (running.pace, running.buffer, named.6, fits, named.7)
 pace_of rows (Ask path asked) named fits = absurd (omega (arith, ap (λ (t : Text). slice_index t 0) named.0))
+pace_of rows (Key is_long) named fits = absurd (omega (arith, ap (λ (t : Text). slice_index t 0) named.0))
+pace_of rows (Inspect input) named fits = absurd (omega (arith, ap (λ (t : Text). slice_index t 0) named.0))
+pace_of rows (Check file) named fits = absurd (omega (arith, ap (λ (t : Text). slice_index t 0) named.0))
 
 -- ---- what `ask` is given
 
@@ -111,6 +117,9 @@ question_of rows (Protect disk input output) named = absurd (omega (arith, ap (�
 question_of rows (Validate disk input output) named = absurd (omega (arith, ap (λ (t : Text). slice_index t 0) named.0))
 question_of rows (Relay disk controlled common running) named = absurd (omega (arith, ap (λ (t : Text). slice_index t 0) named.0))
 question_of rows (Ask path asked) named = (asked, named.2)
+question_of rows (Key is_long) named = absurd (omega (arith, ap (λ (t : Text). slice_index t 0) named.0))
+question_of rows (Inspect input) named = absurd (omega (arith, ap (λ (t : Text). slice_index t 0) named.0))
+question_of rows (Check file) named = absurd (omega (arith, ap (λ (t : Text). slice_index t 0) named.0))
 
 -- ---- what each subcommand is given
 
@@ -447,6 +456,32 @@ ask-named words passes =
       | inr none ↦ inl (inr (refl, none))
     ]
 
+key-named : IsNamed (shape_at 8)
+unfolding clap_on_literals
+key-named words passes =
+    let rows = rows_after (shape_at 8).rules [] words in
+    inr (Key (is_flagged rows (codes "long")), (refl, flagged rows (codes "long")), tt)
+
+inspect-named : IsNamed (shape_at 9)
+unfolding clap_on_literals
+inspect-named words passes =
+    let rules : AreValueRules (shape_at 9).rules = record {
+      each = (value-is 1 (codes "INPUT"), tt);
+      own = (refl, tt);
+    } in
+    let input = given (shape_at 9) words (with_index 1 (filled (value_rule (codes "INPUT")))) rules refl passes refl refl in
+    inr (Inspect (text_of input.0), (refl, input.1), tt)
+
+check-named : IsNamed (shape_at 10)
+unfolding clap_on_literals
+check-named words passes =
+    let rules : AreValueRules (shape_at 10).rules = record {
+      each = (value-is 1 (codes "FILE"), tt);
+      own = (refl, tt);
+    } in
+    let file = given (shape_at 10) words (with_index 1 (filled (value_rule (codes "FILE")))) rules refl passes refl refl in
+    inr (Check (text_of file.0), (refl, file.1), tt)
+
 -- ---- the words of a whole command line
 
 -- the first of the subcommands that answers to a name
@@ -474,8 +509,12 @@ first-of-three true true d is = refl
 first-of-three true false d is = cc
 first-of-three false b d is = cc
 
+-- those that need no endpoint
+lone-named : AllByRecursion IsNamed (shape_at 8 ∷ shape_at 9 ∷ shape_at 10 ∷ [])
+lone-named = (key-named, (inspect-named, (check-named, tt)))
+
 all-named : AllByRecursion IsNamed (built macsecd).subs
-all-named = (open-named, (format-named, (apply-named, (show-named, (protect-named, (validate-named, (relay-named, (ask-named, tt))))))))
+all-named = (open-named, (format-named, (apply-named, (show-named, (protect-named, (validate-named, (relay-named, (ask-named, lone-named))))))))
 
 -- each command line that clap takes is read
 pub named : (words : List Text) → takes macsecd words ≡ true → IsRead (subcommand_of macsecd words)

@@ -15,7 +15,7 @@ use Rattle.macs_words.specs.Waits.{IsRoom, IsWaitLimit}
 use Rattle.macs_words.specs.declared.action.UsageFault.{UsageFault}
 use Rattle.macs_words.specs.declared.action.UsageFault.TheVariants.{Usage, Memory}
 use Rattle.macs_words.specs.declared.action.Action.{Action}
-use Rattle.macs_words.specs.declared.action.Action.TheVariants.{Open, Format, Apply, Show, Protect, Validate, Relay, Ask}
+use Rattle.macs_words.specs.declared.action.Action.TheVariants.{Open, Format, Apply, Show, Protect, Validate, Relay, Ask, Key, Inspect, Check}
 use Rattle.macs_words.specs.declared.action.Question.{Question}
 use Rattle.macs_words.specs.declared.action.Question.TheVariants as question
 use Rattle.macs_words.specs.declared.pace.Pace.{Pace}
@@ -91,6 +91,14 @@ frame_subcommands =
 abbrev pub ask_subcommand : Shape
 ask_subcommand = subcommand_with (codes "ask") (value_rule (codes "PATH") ∷ value_rule (codes "WORD") ∷ last_rule (codes "FILE") ∷ [])
 
+-- those that need no endpoint
+abbrev pub lone_subcommands : List Shape
+lone_subcommands =
+    subcommand_with (codes "key") (flag_rule (codes "long") ∷ [])
+    ∷ subcommand_with (codes "inspect") (value_rule (codes "INPUT") ∷ [])
+    ∷ subcommand_with (codes "check") (value_rule (codes "FILE") ∷ [])
+    ∷ []
+
 -- the words begin after the program's name, and no flag and no subcommand of the library's asks for help or the version
 abbrev pub bare_app : App
 bare_app = on_top (λ s. record s {
@@ -104,7 +112,7 @@ bare_app = on_top (λ s. record s {
 abbrev pub macsecd : App
 macsecd = record {
   top = record bare_app.top { is_leaf = false };
-  subs = first_subcommands ++ frame_subcommands ++ ask_subcommand ∷ [];
+  subs = first_subcommands ++ frame_subcommands ++ ask_subcommand ∷ lone_subcommands;
 }
 
 -- ---- actions
@@ -180,6 +188,9 @@ Names (Some found) (Relay disk controlled common running) =
     × HasPace found.1 running.pace × MayHaveRoom found.1 (codes "buffer") running.buffer
     × MayHaveText found.1 (codes "control") running.control × MayHaveText found.1 (codes "metrics") running.metrics
 Names (Some found) (Ask path asked) = (found.0 ≡ codes "ask") × HasText found.1 (codes "PATH") path.now × HasQuestion found.1 asked
+Names (Some found) (Key is_long) = (found.0 ≡ codes "key") × IsFlagged found.1 (codes "long") is_long
+Names (Some found) (Inspect input) = (found.0 ≡ codes "inspect") × HasText found.1 (codes "INPUT") input.now
+Names (Some found) (Check file) = (found.0 ≡ codes "check") × HasText found.1 (codes "FILE") file.now
 
 -- a relay of which neither the turns nor a wait is given: it names no action
 abbrev pub LacksPace : Option (Text × List Row) → Type 0
@@ -246,6 +257,9 @@ name_of subcommand.Protect = codes "protect"
 name_of subcommand.Validate = codes "validate"
 name_of subcommand.Relay = codes "relay"
 name_of subcommand.Ask = codes "ask"
+name_of subcommand.Key = codes "key"
+name_of subcommand.Inspect = codes "inspect"
+name_of subcommand.Check = codes "check"
 
 -- The words ask for the topic: a help flag alone, the name of a subcommand and a help flag behind it, or the version flag alone
 abbrev pub AsksFor : List Text → Topic → Type 0

@@ -70,6 +70,19 @@ pub enum Action<'a> {
         path: &'a str,
         question: Question<'a>,
     },
+    /// Prints a fresh key: `key`, and `--long` where it is given.
+    Key {
+        /// Whether the key has 256 bits.
+        is_long: bool,
+    },
+    /// Prints what the SecTAG of each frame of a capture says: `inspect INPUT`.
+    Inspect {
+        input: &'a str,
+    },
+    /// Checks the commands of a file: `check FILE`.
+    Check {
+        file: &'a str,
+    },
 }
 
 /// What a running relay is asked.
@@ -279,6 +292,22 @@ fn ask_words<'a>(alloc: Global) -> Result<Command<'a>, AllocError>
     with_value(words, last(alloc, "FILE"))
 }
 
+/// The words of `key`.
+fn key_words<'a>(alloc: Global) -> Result<Command<'a>, AllocError>
+    ensures { IfOk result (λ command. IsClapCommand command (with_rule
+        (new_app (codes "key")) (flag_rule (codes "long")))) }
+{
+    with_value(Ok(Command::new(alloc, "key")), flag(alloc, "long"))
+}
+
+/// The words of a subcommand over one file alone.
+fn file_words<'a>(alloc: Global, name: &'a str, file: &'a str) -> Result<Command<'a>, AllocError>
+    ensures { IfOk result (λ command. IsClapCommand command (with_rule
+        (new_app name.entry.now) (value_rule file.entry.now))) }
+{
+    with_value(Ok(Command::new(alloc, name)), value(alloc, file))
+}
+
 /// The words before any subcommand: they begin after the program's name, and nothing of the library's own asks for
 /// help or the version.
 fn bare_words<'a>(alloc: Global) -> Command<'a>
@@ -315,7 +344,10 @@ fn known_words<'a>(alloc: Global) -> Result<Command<'a>, AllocError>
     let words = with_words(words, capture_words(alloc, "protect"));
     let words = with_words(words, capture_words(alloc, "validate"));
     let words = with_words(words, relay_words(alloc));
-    with_words(words, ask_words(alloc))
+    let words = with_words(words, ask_words(alloc));
+    let words = with_words(words, key_words(alloc));
+    let words = with_words(words, file_words(alloc, "inspect", "INPUT"));
+    with_words(words, file_words(alloc, "check", "FILE"))
 }
 
 /// What an error says first, in one line. It repeats the words, so control characters are replaced.
@@ -589,6 +621,36 @@ fn ask_in<'a>(values: &ArgMatches<'a>) -> Option<Action<'a>>
     Some(Action::Ask { path, question })
 }
 
+/// `key`, with `--long` or without it.
+fn key_in<'a>(values: &ArgMatches<'a>) -> Option<Action<'a>>
+    ensures read { IfSome result (λ action. Names (Some (codes "key", rows_of (found_of values.now))) action) }
+    ensures found { IsSome result }
+{
+    Some(Action::Key {
+        is_long: is_flagged(values, "long"),
+    })
+}
+
+/// `inspect` with its value.
+fn inspect_in<'a>(values: &ArgMatches<'a>) -> Option<Action<'a>>
+    ensures read { IfSome result (λ action. Names (Some (codes "inspect", rows_of (found_of values.now))) action) }
+    ensures found { (action : Action) → Names (Some (codes "inspect", rows_of (found_of values.now))) action
+        → IsSome result }
+{
+    let input = text_in(values, "INPUT")?;
+    Some(Action::Inspect { input })
+}
+
+/// `check` with its value.
+fn check_in<'a>(values: &ArgMatches<'a>) -> Option<Action<'a>>
+    ensures read { IfSome result (λ action. Names (Some (codes "check", rows_of (found_of values.now))) action) }
+    ensures found { (action : Action) → Names (Some (codes "check", rows_of (found_of values.now))) action
+        → IsSome result }
+{
+    let file = text_in(values, "FILE")?;
+    Some(Action::Check { file })
+}
+
 /// The action of the subcommand that was used with its values, `open` where there was none.
 fn action_in<'a>(matches: &ArgMatches<'a>) -> Option<Action<'a>>
     ensures read { IfSome result (Names (subcommand_rows_of matches.now)) }
@@ -607,6 +669,9 @@ fn action_in<'a>(matches: &ArgMatches<'a>) -> Option<Action<'a>>
         "validate" => validate_in(values),
         "relay" => relay_in(values),
         "ask" => ask_in(values),
+        "key" => key_in(values),
+        "inspect" => inspect_in(values),
+        "check" => check_in(values),
         _ => None,
     }
 }

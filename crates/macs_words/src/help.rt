@@ -3,7 +3,9 @@
 ghost use Rattle.std.specs.Prelude.{◌≡◌, ◌↔◌, IsTrue, Some};
 ghost use Rattle.macs_words.specs.Words.{AsksFor, IsHelpFlag, IsVersionFlag, name_of, texts};
 
-use crate::help_texts::{APPLY, ASK, FORMAT, HELP, OPEN, PROTECT, RELAY, SHOW, VALIDATE, VERSION};
+use crate::help_texts::{
+    APPLY, ASK, CHECK, FORMAT, HELP, INSPECT, KEY, OPEN, PROTECT, RELAY, SHOW, VALIDATE, VERSION,
+};
 
 /// A subcommand.
 #[derive(Clone, Copy)]
@@ -16,6 +18,9 @@ pub enum Subcommand {
     Validate,
     Relay,
     Ask,
+    Key,
+    Inspect,
+    Check,
 }
 
 /// What is asked for in place of an action.
@@ -47,6 +52,9 @@ impl Subcommand {
             "validate" => Some(Subcommand::Validate),
             "relay" => Some(Subcommand::Relay),
             "ask" => Some(Subcommand::Ask),
+            "key" => Some(Subcommand::Key),
+            "inspect" => Some(Subcommand::Inspect),
+            "check" => Some(Subcommand::Check),
             _ => None,
         }
     }
@@ -64,6 +72,9 @@ impl Subcommand {
             Subcommand::Validate => VALIDATE,
             Subcommand::Relay => RELAY,
             Subcommand::Ask => ASK,
+            Subcommand::Key => KEY,
+            Subcommand::Inspect => INSPECT,
+            Subcommand::Check => CHECK,
         }
     }
 }

@@ -12,6 +12,9 @@ pub const HELP_TEXT: &str = "usage: macsecd [SUBCOMMAND VALUES..]
                                relays frames between two wires of UDP
   ask PATH show|counters|stop|apply FILE
                                asks a running relay over its control socket
+  key                          prints a fresh key
+  inspect INPUT                prints what the SecTAG of each frame says
+  check FILE                   checks the commands of a TOML file
 
 macsecd SUBCOMMAND --help says more of each; --version prints the version.
 A fault is one line on standard error.
@@ -158,4 +161,45 @@ Asks a running relay over its control socket, and prints its answer.
 example: macsecd ask /run/macsecd/left/control apply new_keys.toml
 status: 0 done, 2 usage, 3 a command refused, 4 the relay ended, 5 nobody there,
         input, output or memory
+";
+
+pub const KEY_TEXT: &str = "usage: macsecd key [--long]
+
+Prints a fresh key in hex digits, as the system's random source gives it: for
+GCM-AES-128, 32 digits.
+  --long   for GCM-AES-256: 64 digits
+
+example: macsecd key --long
+status: 0 done, 2 usage, 5 random source, output or memory
+";
+
+pub const INSPECT_TEXT: &str = "usage: macsecd inspect INPUT
+
+Prints a line for each frame of a capture: its number, what its SecTAG says, and
+how many octets it has. No key is needed, and nothing is verified.
+  INPUT   a classic capture (pcap) of Ethernet frames, whole and without FCS
+A line is one of
+  1 an=0 pn=1025 sl=0 e=1 c=1 sci=0200000000010001 octets=92
+  2 an=0 pn=1026 sl=0 e=1 c=1 es octets=84
+                the channel is that of the source address and port 00-01
+  3 an=0 pn=1027 sl=46 e=0 c=0 octets=82
+                the channel is not named
+  4 runt, oversize, no tag, bad tag or for kay
+                what is wrong with it, as 'macsecd open' says it
+
+example: macsecd inspect protected.pcap
+status: 0 done, 2 usage, 5 capture, output or memory
+";
+
+pub const CHECK_TEXT: &str = "usage: macsecd check FILE
+
+Checks whether the commands of a TOML file can be read, as 'macsecd apply' reads
+them, and prints how many there are: '4 commands'. Whether an endpoint takes them
+is not looked at.
+  FILE   as of apply: see 'macsecd apply --help'
+A fault is one line: the command, its key, and what is wrong with it, as
+  command 3 key: not 32 or 64 hex digits
+
+example: macsecd check examples/left.toml
+status: 0 done, 2 usage, 5 a fault of the file, output or memory
 ";

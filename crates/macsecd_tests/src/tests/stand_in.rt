@@ -5,12 +5,13 @@ use super::peers::Peers;
 use macs_disk::DiskFile;
 use macs_program::CaptureFile;
 use std::alloc::Allocator;
+use std::env::FillError;
 use std::fs::{File, Metadata, OpenFile, OpenOptions};
 use std::io;
 use std::io::{ErrorKind, Read, Seek, SeekFrom, Write};
 use std::net::{Net, SocketAddr, UdpSocket};
 use std::path::PathBuf;
-use std::env::FillError;
+use std::random::RandomSource;
 use std::rt::{Clock, Env, Files};
 use std::time::Duration;
 
@@ -283,6 +284,12 @@ impl<R: Env> Env for StandIn<'_, R> {
 
     fn var_at(&self, i: usize, buf: &mut [u8]) -> Result<usize, FillError> {
         self.system.var_at(i, buf)
+    }
+}
+
+impl<R: RandomSource> RandomSource for StandIn<'_, R> {
+    fn fill_bytes(&self, buf: &mut [u8]) -> io::Result<()> {
+        self.system.fill_bytes(buf)
     }
 }
 

@@ -104,11 +104,14 @@ const WORDS_TOO_FEW: &[&[&str]] = &[
     &["validate", "left.disk", "protected.pcap"],
     &["ask"],
     &["ask", "control"],
+    &["inspect"],
+    &["check"],
 ];
 
 /// Words that ask nothing that a relay is asked, and the line that says what it is asked.
-const NO_QUESTION: Outcome =
-    Outcome::Usage("macsecd: ask PATH show, counters, stop, or apply FILE\n");
+const NO_QUESTION: Outcome = Outcome::Usage(
+    "macsecd: ask PATH show, counters, stop, or apply FILE\n",
+);
 
 const WORDS_OF_NO_QUESTION: &[&[&str]] = &[
     &["ask", "control", "Show"],
@@ -160,6 +163,10 @@ const WORDS_TOO_MANY: &[&[&str]] = &[
         "more",
     ],
     &["ask", "control", "apply", "left.toml", "more"],
+    &["key", "more"],
+    &["key", "--long", "more"],
+    &["inspect", "plain.pcap", "more"],
+    &["check", "left.toml", "more"],
 ];
 
 #[test]
@@ -259,6 +266,22 @@ const WORDS_WITH_OPTIONS: &[(&[&str], Outcome)] = &[
     (
         &["show", "-V"],
         Outcome::Usage("macsecd: unexpected argument '-V' found\n"),
+    ),
+    (
+        &["key", "--long=1"],
+        Outcome::Usage("macsecd: unexpected value '1' for '--long' found; no more were expected\n"),
+    ),
+    (
+        &["key", "--long", "--long"],
+        Outcome::Usage("macsecd: the argument '--long' cannot be used multiple times\n"),
+    ),
+    (
+        &["inspect", "--long", "plain.pcap"],
+        Outcome::Usage("macsecd: unexpected argument '--long' found\n"),
+    ),
+    (
+        &["check", "left.toml", "--help"],
+        Outcome::Usage("macsecd: unexpected argument '--help' found\n"),
     ),
 ];
 
@@ -500,6 +523,19 @@ const TAKEN: &[(&[&str], Parts<'static>)] = &[
         &["ask", "p", "apply", "show"],
         ("ask apply", ["p", "show", "", "", ""], [0, 0]),
     ),
+    (&["key"], ("key", ["", "", "", "", ""], [0, 0])),
+    (
+        &["key", "--long"],
+        ("key", ["long", "", "", "", ""], [0, 0]),
+    ),
+    (
+        &["inspect", "key"],
+        ("inspect", ["key", "", "", "", ""], [0, 0]),
+    ),
+    (
+        &["check", "--", "--long"],
+        ("check", ["--long", "", "", "", ""], [0, 0]),
+    ),
 ];
 
 /// What a relay serves: a control socket, a file of counters, and a buffer in octets.
@@ -636,6 +672,13 @@ fn parts<'a>(action: Action<'a>) -> Parts<'a> {
             let (name, file) = question_parts(question);
             (name, [path, file, "", "", ""], [0, 0])
         }
+        Action::Key { is_long } => (
+            "key",
+            [if is_long { "long" } else { "" }, "", "", "", ""],
+            [0, 0],
+        ),
+        Action::Inspect { input } => ("inspect", [input, "", "", "", ""], [0, 0]),
+        Action::Check { file } => ("check", [file, "", "", "", ""], [0, 0]),
     }
 }
 
