@@ -5,8 +5,10 @@ use Rattle.std.proofs.Common.{subst, arith}
 use Rattle.std.specs.Prelude.{Contains, nat_le, nat_lt}
 use Rattle.std.specs.Option.{option_map_or}
 use Rattle.std.proofs.lemmas.Bool.{and_from, and_parts, le-leb, leb-true, lt-ltb, ltb-true}
+use Rattle.macs_config.specs.Config.{comes_before, is_ascending}
 use Rattle.macs_config.specs.Numbers.{block_beyond}
 use Rattle.macs_config.specs.declared.command.Command.{Command}
+use Rattle.macs_config.proofs.Kept.{apply-keeps}
 use Rattle.macs_disk.specs.Disk.{Disk}
 use Rattle.macs_txsc.specs.Transmit.{Outgoing, TxSide, next_outgoing}
 use Rattle.macs_txsc.specs.Transmit as transmit
@@ -230,6 +232,17 @@ module _ (numbers : List ℕ → ℕ → Option Numbers) (c : List ℕ → ℕ �
         | inr later ↦ none_among channels four.1 sci an later less
       ]
 
+-- ---- channels
+
+next_behind : (front behind : List (List ℕ)) (a b : List ℕ) → is_ascending (front ++ a ∷ b ∷ behind) ≡ true
+    → comes_before a b ≡ true
+next_behind [] behind a b is = (and_parts (comes_before a b) (is_ascending (b ∷ behind)) is).0
+next_behind (x ∷ []) behind a b is =
+    next_behind [] behind a b (and_parts (comes_before x a) (is_ascending (a ∷ b ∷ behind)) is).1
+next_behind (x ∷ y ∷ front) behind a b is =
+    next_behind (y ∷ front) behind a b
+    (and_parts (comes_before x y) (is_ascending (y ∷ front ++ a ∷ b ∷ behind)) is).1
+
 pub needs-are-in-order : NeedsAreInOrder
 needs-are-in-order = record {
   receive = received;
@@ -239,6 +252,9 @@ needs-are-in-order = record {
       (next_outgoing t) o is has below few;
   first = λ r ceilings block need is. comes_first r.numbers ceilings block r.channels need is;
   none = λ r ceilings block is sci an within less. none_among r.numbers ceilings block r.channels is sci an within less;
+  ascending = λ edition identity old new command is done front behind a b split. next_behind front behind a b
+      (subst (λ (channels : List (List ℕ)). is_ascending channels ≡ true) split
+      (apply-keeps edition identity old new command is done).channels_ascend);
   receive_behind = λ t r s need none is. (λ i. either_raise (none i) (is i));
   neither = λ t r s none is. (λ i. either_raise (none i) (is i));
 }

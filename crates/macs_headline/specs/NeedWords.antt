@@ -1,6 +1,10 @@
 -- The headline on ceilings that are needed, in which order they are raised, and whose turn it is after a call.
-use Rattle.std.specs.Prelude.{◌≡◌, ◌≢◌, ◌<◌, ◌≤◌, ◌⊎◌, ◌-◌, ◌/◌, ◌^◌, ◌++◌, ℕ, List, [], ◌∷◌, Contains, Option, Some}
+use Rattle.std.specs.Prelude.{◌≡◌, ◌≢◌, ◌<◌, ◌≤◌, ◌⊎◌, ◌-◌, ◌/◌, ◌^◌, ◌++◌, true, ℕ, List, [], ◌∷◌, Contains, Option}
+use Rattle.std.specs.Prelude.{Some}
 use Rattle.std.specs.Prelude.{None, Result, Ok, Err}
+use Rattle.macs_config.specs.Apply.{apply}
+use Rattle.macs_config.specs.Config.{Config, Edition, IsConfig, comes_before}
+use Rattle.macs_config.specs.Identity.{Identity}
 use Rattle.macs_config.specs.Numbers.{block_beyond}
 use Rattle.macs_config.specs.declared.command.Command.{Command}
 use Rattle.macs_disk.specs.Disk.{Disk}
@@ -23,8 +27,8 @@ use Rattle.macs_endpoint.specs.declared.turn.Turn.TheVariants.{Command as Comman
 -- A receive association needs a higher ceiling where a frame was seen on it, a higher one is to be had, which is a
 -- block beyond the greatest number seen; and that number has reached the ceiling, or half a block at most is left below
 -- it. The association that frames go out under needs one where half a block at most is left below a ceiling that is
--- below 2^32. The transmit side comes first, and then receive associations: by channels in their order, of one channel
--- by their numbers.
+-- below 2^32. The transmit side comes first, and then receive associations: by channels in their order, which is
+-- that of their SCIs, octet by octet, and of one channel by their numbers.
 pub record NeedsAreInOrder : Type 0 where
   pub receive : (block an ceiling : ℕ) (sci : List ℕ) (n : Numbers) (need : Need)
       → needs.need_of block sci an (Some n) (Some ceiling) ≡ Some need
@@ -52,6 +56,9 @@ pub record NeedsAreInOrder : Type 0 where
   pub none : (r : RxSide) (ceilings : List ℕ → ℕ → Option ℕ) (block : ℕ) → needs.first_need_of r ceilings block ≡ None
       → (sci : List ℕ) (an : ℕ)
       → Contains r.channels sci → an < 4 → needs.need_of block sci an (r.numbers sci an) (ceilings sci an) ≡ None
+  pub ascending : (edition : Edition) (identity : Identity) (old new : Config) (command : Command)
+      → IsConfig edition identity old → apply edition identity old command ≡ Ok new
+      → (front behind : List (List ℕ)) (a b : List ℕ) → new.channels ≡ front ++ a ∷ b ∷ behind → comes_before a b ≡ true
   pub receive_behind : (t : TxSide) (r : RxSide) (s : Standing) (need : Need)
       → transmit.need_of t s.ceilings.tx s.identity.tx_block ≡ None
       → needs.first_need_of r s.ceilings.rx s.identity.rx_block ≡ Some need → first_raise s t r ≡ Some (RaiseRx need)
