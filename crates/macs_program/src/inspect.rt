@@ -1,7 +1,9 @@
 //! `inspect`: what the SecTAG of each frame of a capture says.
 
-ghost use Rattle.std.specs.Prelude.{◌≡◌, ◌≢◌, ◌<◌, length, true, IfErr, IfOk, string_bytes};
+ghost use Rattle.std.specs.Prelude.{◌≡◌, ◌≢◌, ◌<◌, ◌++◌, codes, length, true, IfErr, IfOk, string_bytes};
+ghost use Rattle.std.specs.Fmt.{decimal};
 ghost use Rattle.macs_frame.specs.Tag.{short_length};
+ghost use Rattle.macs_texts.specs.Lines.{line};
 ghost use Rattle.macs_program.specs.Inspecting.{InspectFails, Inspects, InspectsNext, IsLineOf, IsOfInspecting, IsSaidOf};
 ghost use Rattle.macs_program.specs.Inspecting.{PrintsFrames, RunsCapture, RunsRecords, bit_text, tag_text};
 
@@ -79,14 +81,21 @@ fn said_of(alloc: Global, frame: &[u8]) -> Result<String, AllocError>
     }
 }
 
+/// A line of a number and what is said.
+fn numbered(alloc: Global, at: u64, said: &str) -> Result<String, AllocError>
+    ensures { IfOk result (λ text. string_bytes text ≡ line (decimal at ++ (codes " " ++ said.now))) }
+{
+    let mut line = format!(in alloc; "{at} {said}")?;
+    line.push('\n')?;
+    Ok(line)
+}
+
 /// The line of a frame by its number.
 fn inspect_line(alloc: Global, at: u64, frame: &[u8]) -> Result<String, AllocError>
     ensures { IfOk result (λ text. IsLineOf at frame.now (string_bytes text)) }
 {
     let said = said_of(alloc, frame)?;
-    let mut line = format!(in alloc; "{at} {said}")?;
-    line.push('\n')?;
-    Ok(line)
+    numbered(alloc, at, said.as_str())
 }
 
 /// Prints the line of the next frame of a capture, behind so many others. Whether there is one.
