@@ -8,7 +8,7 @@ pub returns-clause-next : goal.returns-clause-next
 returns-clause-next g c =
     let items = c.read_record.new.into.items in
     let read = read_as c.args.big c.args.count _ (g.R.Source.state c.args.source.now) (g.R.Source.state c.read_record.new.source) items
-    c.in_ok-stamp.field-0 c.in-Some._stamp c.in-Some.is c.in_ok-stamp.ensures in
+    c.in_ok-_stamp.field-0 c.in-Some._stamp c.in-Some.is c.in_ok-_stamp.ensures in
     let said = subst (λ frame. IsLineOf (c.args.count + 1) frame (string_bytes c.in_ok-line.line)) c.as_slice.ensures.value c.in_ok-line.ensures in (
       record { stamp = c.in-Some._stamp; frame = items },
       _,
