@@ -342,22 +342,45 @@ def one_that_never_reads():
         it.stop()
 
 
+def sixteen(first):
+    """Sixteen commands, each of a channel, in ascending order of their SCI."""
+    return [f"02000000{n:04x}0001" for n in range(first, first + 16)]
+
+
+def send_channels(client, channels):
+    client.sendall("".join(f"rx-add {sci}\n" for sci in channels).encode())
+
+
+def channels_of(disk):
+    lines = run("show", disk).stdout.splitlines()
+    return [line.split()[1] for line in lines if line.startswith("channel ") and line != "channel 0200000000020001"]
+
+
 @a_try
 def one_that_goes_away_with_commands_under_way():
     with link() as it:
-        client = it.connect()
-        lines = [f"rx-add 02000000{n:04x}0001" for n in range(0x100, 0x110)]
-        client.sendall("".join(line + "\n" for line in lines).encode())
-        assert until_end(client) == b"ok\nend 0\n" or True
+        client, wanted = it.connect(), sixteen(0x100)
+        send_channels(client, wanted)
         client.close()
         assert it.passes() < 1
-        until(lambda: it.ask("show").returncode == 0)
         shown = it.ask("show").stdout
         it.stop()
-        kept = [line.split()[1] for line in run("show", it.disk).stdout.splitlines() if line.startswith("channel 02000000")]
-        wanted = [line.split()[1] for line in lines]
-        assert kept == sorted(wanted[:len(kept)] + ["0200000000020001"])[:len(kept)] or set(kept) - {"0200000000020001"} <= set(wanted)
-        assert set(kept) >= {line.split()[1] for line in shown.splitlines() if line.startswith("channel 02000000")}
+        kept = channels_of(it.disk)
+        assert kept == wanted[:len(kept)] and all(f"channel {sci}\n" in shown for sci in kept[:-1]), (kept, shown)
+
+
+@a_try
+def a_relay_that_is_killed_with_sixteen_under_way():
+    for wait in range(8):
+        with link() as it:
+            client, wanted = it.connect(), sixteen(0x300)
+            send_channels(client, wanted)
+            time.sleep(wait / 1000)
+            it.left.kill()
+            answers = read_all(client)[0].decode().splitlines()
+            it.left.communicate()
+            told, kept = answers.count("ok"), channels_of(it.disk)
+            assert kept == wanted[:len(kept)] and told <= len(kept) <= told + 1, (answers, kept)
 
 
 @a_try
@@ -374,14 +397,14 @@ def a_client_that_shuts_its_side():
 @a_try
 def stop_with_work_under_way():
     with link() as it:
-        client = it.connect()
-        lines = [f"rx-add 02000000{n:04x}0001" for n in range(0x200, 0x208)]
-        client.sendall("".join(line + "\n" for line in lines).encode() + b"stop\n")
+        client, wanted = it.connect(), sixteen(0x200)[:8]
+        send_channels(client, wanted)
+        client.sendall(b"stop\n")
         answers = read_all(client)[0].decode().splitlines()
         it.ended()
-        told = sum(1 for line in answers if line == "ok")
-        kept = [line for line in run("show", it.disk).stdout.splitlines() if line.startswith("channel 02000000") and "0000020001" not in line]
-        assert len(kept) in (told, told + 1), (answers, kept)
+        told, kept = answers.count("ok"), channels_of(it.disk)
+        assert kept == wanted[:len(kept)] and told <= len(kept) <= told + 1, (answers, kept)
+        assert answers.count("end 0") + answers.count("end 4") == 9, answers
 
 
 @a_try

@@ -21,21 +21,15 @@ clients
 | 1 stop
 serve-clients 20 = sent 0 delivered 0 dropped 0 faults 0
 clients-counts = listened 5 slept 5 said 6
-said 1 = 1 sci 0200000000010001 blocks tx 65536 rx 65536 validate strict replay off window 0 sci-mode explicit encoding 0 tx 0 confidential offset 0 next 1 spent tx 1 rx 0
+said 1 = 1 sci 0200000000010001 blocks tx 65536 rx 65536 validate strict replay on window 0 sci-mode explicit encoding 0 tx 0 confidential offset 0 next 1 spent tx 1 rx 0
 said 2 = 1 end 0
 said 3 = 2 tx protected 0 tx runt 0 tx too-long 0 *
 said 4 = 2 end 0
 said 5 = 3 end 2
 said 6 = 1 end 0
 
-# A line has one spelling, and 255 octets at most.
+# A request has one spelling.
 story what is no request
-with line=,show
-with line=SHOW
-with line=tx-use,01
-with line=tx-use,4
-with line=tx-use,1,2
-with line=set-replay,on
 use left
 clients
 | 1 SHOW
@@ -60,9 +54,21 @@ serve-clients 200 = sent 150 delivered 0 dropped 0 faults 0
 clients-counts = listened 53 slept 49 said 2
 said 1 = 1 ok end 0
 said 2 = 1 ok end 0
-sent-number common 71 = 71
-sent-number common 72 = 1
-sent-number common 150 = 79
+sent-number common 70 = 71
+sent-number common 71 = 1
+sent-number common 149 = 79
+
+# A client that asks again and again is answered at each 64th turn while frames pass: they pass one a turn.
+story requests hold no frame
+use left
+each 0 129 push controlled 60 $
+clients
+| 1 show
+| 1 show
+| 1 show
+| 1 show
+serve-clients 130 = sent 130 delivered 0 dropped 0 faults 0
+clients-counts = listened 2 slept 0 said 4
 
 # Commands come one before each turn, and every fourth turn is done with one. So the 21st is the 16th under way, and
 # no line is taken after it until the quiet turn at the end.
@@ -180,7 +186,7 @@ clients
 | 2 set-replay on 2
 | gone 1
 serve-clients 20 = sent 0 delivered 0 dropped 0 faults 0
-clients-counts = listened 14 slept 12 said 1
+clients-counts = listened 13 slept 11 said 1
 said 1 = 2 ok end 0
 window = 2
 

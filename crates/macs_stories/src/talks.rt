@@ -57,7 +57,8 @@ impl Talks {
 
     fn note(&mut self, client: u64, text: &[u8]) -> Result<(), AllocError> {
         let text = String::from_str(self.alloc, str::from_utf8(text).unwrap_or("no text"))?;
-        self.told.push(Told { client, text })
+        self.told.push(Told { client, text })?;
+        Ok(())
     }
 
     /// `CLIENT LINE`: this client sends this line; `gone CLIENT`: it goes away; others do nothing.

@@ -583,8 +583,16 @@ const SERVED: &[(&[&str], Served<'static>)] = &[
     ),
 ];
 
-/// What a relay serves that is run so.
-fn served<'a>(running: Running<'a>) -> Served<'a> {
+/// What a relay serves, of the action that it is.
+fn served<'a>(action: Action<'a>) -> Option<Served<'a>> {
+    match action {
+        Action::Relay { running, .. } => Some(served_so(running)),
+        _ => None,
+    }
+}
+
+/// What a relay serves that runs so.
+fn served_so<'a>(running: Running<'a>) -> Served<'a> {
     (
         running.control.unwrap_or(""),
         running.metrics.unwrap_or(""),
@@ -592,18 +600,18 @@ fn served<'a>(running: Running<'a>) -> Served<'a> {
     )
 }
 
-/// Whether words name a relay that serves this.
-fn serves(alloc: Global, words: &[&str], what: Served) -> bool {
-    match named(alloc, words) {
-        Some(Action::Relay { running, .. }) => served(running) == what,
-        _ => false,
-    }
-}
-
 #[test]
 fn takes_what_a_relay_serves(rt: HostRuntime) {
-    for (words, what) in SERVED {
-        assert!(rt; serves(rt.alloc(), words, *what));
+    for (words, (control, metrics, buffer)) in SERVED {
+        let Some(action) = named(rt.alloc(), words) else {
+            panic!(rt; "{control}");
+        };
+        let Some((found_control, found_metrics, found_buffer)) = served(action) else {
+            panic!(rt; "{metrics}");
+        };
+        assert_eq!(rt; found_control, *control);
+        assert_eq!(rt; found_metrics, *metrics);
+        assert_eq!(rt; found_buffer, *buffer);
     }
 }
 
