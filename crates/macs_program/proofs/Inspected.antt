@@ -164,7 +164,7 @@ next-front big count old new between after failure (inr (inr is)) other = absurd
 pub front-printed : (old new : SourceState) (before after : Option (List ℕ)) (failure : Failure) → StopsCapture old before failure new after
     → failure ≢ failures.Output → PrintsFrames before after
 front-printed old new before after failure (inl (fault, reads, is, same)) other =
-    ([], [], refl, subst (λ (a : Option (List ℕ)). Appends before a []) (sym same) (Appends-nil before))
+    ([], ([], refl, subst (λ (a : Option (List ℕ)). Appends before a []) (sym same) (Appends-nil before)))
 front-printed old new before after failure (inr (header, behind, begins, stops)) other =
     let same = next-front header.big (length stops.records) stops.until new stops.between after failure stops.stops other in
     (stops.records, subst (λ (a : Option (List ℕ)). PrintsLines stops.records before a) (sym same) stops.inspected.printed)

@@ -37,12 +37,17 @@ name_text (Explicit sci) = codes " sci=" ++ encode_lower sci
 name_text EndStation = codes " es"
 name_text Implicit = []
 
--- what a SecTAG says, its SL, and how many octets its frame has
+-- the numbers that a SecTAG says, and its SL
+abbrev pub numbers_text : SecTag → ℕ → List ℕ
+numbers_text tag short = codes "an=" ++ (decimal tag.an ++ (codes " pn=" ++ (decimal tag.pn ++ (codes " sl=" ++ decimal short))))
+
+-- its bits E and C, and its channel
+abbrev pub bits_text : SecTag → List ℕ
+bits_text tag = codes "e=" ++ (bit_text tag.encrypted ++ (codes " c=" ++ (bit_text tag.changed ++ name_text tag.name)))
+
+-- all that a SecTAG says, its SL, and how many octets its frame has
 abbrev pub tag_text : SecTag → ℕ → ℕ → List ℕ
-tag_text tag short octets =
-    codes "an=" ++ (decimal tag.an ++ (codes " pn=" ++ (decimal tag.pn ++ (codes " sl=" ++ (decimal short
-    ++ (codes " e=" ++ (bit_text tag.encrypted ++ (codes " c=" ++ (bit_text tag.changed
-    ++ (name_text tag.name ++ (codes " octets=" ++ decimal octets)))))))))))
+tag_text tag short octets = numbers_text tag short ++ (codes " " ++ (bits_text tag ++ (codes " octets=" ++ decimal octets)))
 
 -- what is said of a frame: its first fault in the words of `open`, or what its SecTAG says
 abbrev pub IsSaidOf : List ℕ → List ℕ → Type 0

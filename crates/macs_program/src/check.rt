@@ -1,6 +1,7 @@
 //! `check`: whether the commands of a file can be read, and else the first fault.
 
 ghost use Rattle.std.specs.Prelude.{◌≡◌, ◌≢◌, ◌⊎◌, ◌++◌, ◌<◌, ◌^◌, ◌==◌, if◌then◌else◌, codes, ℕ, List, true, IfErr, IfOk, IfSome, string_bytes};
+ghost use Rattle.toml.specs.Data.{Members};
 ghost use Rattle.toml.specs.View.{table_view};
 ghost use Rattle.toml.specs.Parse.{parse_document};
 ghost use Rattle.macs_config.specs.declared.command.Command.{Command};

@@ -1,9 +1,11 @@
 //! `inspect`: what the SecTAG of each frame of a capture says.
 
-ghost use Rattle.std.specs.Prelude.{◌≡◌, ◌≢◌, ◌<◌, length, true, IfErr, IfOk, string_bytes};
+ghost use Rattle.std.specs.Prelude.{◌≡◌, ◌≢◌, ◌<◌, ◌++◌, codes, length, true, IfErr, IfOk, string_bytes};
+ghost use Rattle.std.specs.Fmt.{decimal};
 ghost use Rattle.macs_frame.specs.Tag.{short_length};
+ghost use Rattle.macs_texts.specs.Lines.{line};
 ghost use Rattle.macs_program.specs.Inspecting.{InspectFails, Inspects, InspectsNext, IsLineOf, IsOfInspecting, IsSaidOf};
-ghost use Rattle.macs_program.specs.Inspecting.{PrintsFrames, RunsCapture, RunsRecords, bit_text, tag_text};
+ghost use Rattle.macs_program.specs.Inspecting.{PrintsFrames, RunsCapture, RunsRecords, bit_text, bits_text, numbers_text, tag_text};
 
 use crate::answer::refusal_text;
 use crate::capture_file::CaptureFile;
@@ -49,16 +51,32 @@ fn bit_text(bit: bool) -> &'static str
     if bit { "1" } else { "0" }
 }
 
+/// The numbers that a SecTAG says, and its SL.
+fn numbers_text(alloc: Global, tag: &SecTag, short: u8) -> Result<String, AllocError>
+    ensures { IfOk result (λ text. string_bytes text ≡ numbers_text tag.now short) }
+{
+    let an = tag.an.get();
+    let pn = tag.pn.get();
+    format!(in alloc; "an={an} pn={pn} sl={short}")
+}
+
+/// The bits E and C of a SecTAG, and its channel.
+fn bits_text(alloc: Global, tag: &SecTag) -> Result<String, AllocError>
+    ensures { IfOk result (λ text. string_bytes text ≡ bits_text tag.now) }
+{
+    let e = bit_text(tag.encrypted);
+    let c = bit_text(tag.changed);
+    let name = NameText(tag.name);
+    format!(in alloc; "e={e} c={c}{name}")
+}
+
 /// What a SecTAG says, with its SL, and how many octets its frame has.
 fn tag_text(alloc: Global, tag: &SecTag, short: u8, octets: usize) -> Result<String, AllocError>
     ensures { IfOk result (λ text. string_bytes text ≡ tag_text tag.now short octets) }
 {
-    let an = tag.an.get();
-    let pn = tag.pn.get();
-    let e = bit_text(tag.encrypted);
-    let c = bit_text(tag.changed);
-    let name = NameText(tag.name);
-    format!(in alloc; "an={an} pn={pn} sl={short} e={e} c={c}{name} octets={octets}")
+    let numbers = numbers_text(alloc, tag, short)?;
+    let bits = bits_text(alloc, tag)?;
+    format!(in alloc; "{numbers} {bits} octets={octets}")
 }
 
 /// The SL of a frame.
@@ -79,14 +97,21 @@ fn said_of(alloc: Global, frame: &[u8]) -> Result<String, AllocError>
     }
 }
 
+/// A line of a number and what is said.
+fn numbered(alloc: Global, at: u64, said: &str) -> Result<String, AllocError>
+    ensures { IfOk result (λ text. string_bytes text ≡ line (decimal at ++ (codes " " ++ said.now))) }
+{
+    let mut line = format!(in alloc; "{at} {said}")?;
+    line.push('\n')?;
+    Ok(line)
+}
+
 /// The line of a frame by its number.
 fn inspect_line(alloc: Global, at: u64, frame: &[u8]) -> Result<String, AllocError>
     ensures { IfOk result (λ text. IsLineOf at frame.now (string_bytes text)) }
 {
     let said = said_of(alloc, frame)?;
-    let mut line = format!(in alloc; "{at} {said}")?;
-    line.push('\n')?;
-    Ok(line)
+    numbered(alloc, at, said.as_str())
 }
 
 /// Prints the line of the next frame of a capture, behind so many others. Whether there is one.
