@@ -6,7 +6,9 @@ ghost use Rattle.macs_aes.specs.Keys.{octets_of_key};
 ghost use Rattle.macs_aes.specs.Cipher.{encrypt};
 ghost use Rattle.macs_gcm.specs.Gcm.{Opens, hash_subkey, pre_counter_block, seal, authentication_tag};
 
-use crate::counter::{GROUPED, gctr_next_by_blocks, gctr_next_by_groups, mask_room, put_masks, xor_whole};
+use crate::counter::{
+    GROUPED, gctr_next_by_blocks, gctr_next_by_groups, mask_room, put_masks, xor_whole,
+};
 use macs_aes::{Block, Key, Schedule, encrypt_block};
 use macs_ghash::{Powers, ghash};
 use macs_planes::{GroupKeys, key_room};
