@@ -243,17 +243,7 @@ const WORDS: &[Step] = &[
         Usage("macsecd: the following required arguments were not provided:\n"),
     ),
     Run(
-        &[
-            "relay",
-            NO,
-            ANY,
-            ANY,
-            ANY,
-            ANY,
-            "--turns",
-            "1",
-            "--control",
-        ],
+        &["relay", NO, ANY, ANY, ANY, ANY, "--turns", "1", "--control"],
         Usage("macsecd: a value is required for '--control <control>' but none was supplied\n"),
     ),
     Run(

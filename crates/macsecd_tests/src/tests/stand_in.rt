@@ -5,12 +5,12 @@ use super::peers::Peers;
 use macs_disk::DiskFile;
 use macs_program::CaptureFile;
 use std::alloc::Allocator;
+use std::env::FillError;
 use std::fs::{File, Metadata, OpenFile, OpenOptions};
 use std::io;
 use std::io::{ErrorKind, Read, Seek, SeekFrom, Write};
 use std::net::{Net, SocketAddr, UdpSocket};
 use std::path::PathBuf;
-use std::env::FillError;
 use std::rt::{Clock, Env, Files};
 use std::time::Duration;
 

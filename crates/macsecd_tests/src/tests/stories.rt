@@ -106,7 +106,10 @@ fn octets_of(rt: &impl Abort, alloc: Global, text: &str) -> Result<Vec<u8>, Fail
 }
 
 /// Writes 0xff over the first octet of a file.
-fn spoil(rt: &(impl Abort + Files<File = File> + Net + Clock + Env), path: &str) -> Result<(), Fail> {
+fn spoil(
+    rt: &(impl Abort + Files<File = File> + Net + Clock + Env),
+    path: &str,
+) -> Result<(), Fail> {
     let mut file = OpenOptions::new().write(true).open(rt, path)?;
     file.write_all(&[0xff])?;
     Ok(())

@@ -107,8 +107,9 @@ const WORDS_TOO_FEW: &[&[&str]] = &[
 ];
 
 /// Words that ask nothing that a relay is asked, and the line that says what it is asked.
-const NO_QUESTION: Outcome =
-    Outcome::Usage("macsecd: ask PATH show, counters, stop, or apply FILE\n");
+const NO_QUESTION: Outcome = Outcome::Usage(
+    "macsecd: ask PATH show, counters, stop, or apply FILE\n",
+);
 
 const WORDS_OF_NO_QUESTION: &[&[&str]] = &[
     &["ask", "control", "Show"],
