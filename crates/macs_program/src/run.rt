@@ -136,12 +136,14 @@ where
             disk,
             input: from,
             output: to,
-        } => pass(rt, alloc, Direction::Protect, disk, from, to, out),
+            is_all,
+        } => pass(rt, alloc, Direction::Protect, is_all, disk, from, to, out),
         Action::Validate {
             disk,
             input: from,
             output: to,
-        } => pass(rt, alloc, Direction::Validate, disk, from, to, out),
+            is_all,
+        } => pass(rt, alloc, Direction::Validate, is_all, disk, from, to, out),
         Action::Relay {
             disk,
             controlled,
