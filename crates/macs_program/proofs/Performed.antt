@@ -2,7 +2,7 @@
 use Rattle.std.proofs.Common.{Bor, ◌≡◌, ◌≢◌, ◌⊎◌, inl, inr, ℕ, List, Bool, true, false, if◌then◌else◌, Option, IfSome, Result, IfErr, IfOk, refl, sym, ◌∙◌, ap}
 use Rattle.std.specs.Io.KnownBytes.{Appends}
 use Rattle.std.specs.List.{list_any}
-use Rattle.std.specs.Prelude.{is_some}
+use Rattle.std.specs.Prelude.{◌&&◌, is_some, nat_lt}
 use Rattle.std.proofs.lemmas.Result.{IfErr-weaker, IfOk-weaker}
 use Rattle.macs_config.specs.declared.refusal.Refusal.{Refusal}
 use Rattle.macs_disk.specs.Files.{FileState}
@@ -14,6 +14,8 @@ use Rattle.macs_program.specs.Inputs.{InputRead}
 use Rattle.macs_program.specs.Inspecting.{InspectFails, Inspects, IsOfInspecting, PrintsFrames}
 use Rattle.macs_program.specs.Keys.{GivesKey, IsOfKey}
 use Rattle.macs_program.specs.Run.{Does, FailsAs, Performs, Prints, WrongValues}
+use Rattle.macs_edge.specs.declared.passing.Summary.{Summary}
+use Rattle.macs_program.specs.Summing.{pass_status}
 use Rattle.macs_program.specs.declared.failure.Failure.{Failure}
 use Rattle.macs_program.specs.declared.failure.Failure.TheVariants as failures
 use Rattle.macs_program.specs.declared.failure.Failure.TheVariants.{Output}
@@ -89,6 +91,12 @@ checking-no-usage failure (inr (inr (octets, inr (text, is, said)))) =
 done-or-refused : (refused : Bool) → ((if refused then ends.Refused else ends.Done) ≡ ends.Done) ⊎ ((if refused then ends.Refused else ends.Done) ≡ ends.Refused)
 done-or-refused true = inr refl
 done-or-refused false = inl refl
+
+pass-ends : (is_all : Bool) (summary : Summary) (status : Status) → status ≡ pass_status is_all summary → (status ≡ ends.Done) ⊎ (status ≡ ends.Refused)
+pass-ends is_all summary status is = elim (done-or-refused (is_all && nat_lt 0 summary.dropped)) [
+  | inl done ↦ inl (is ∙ done)
+  | inr refused ↦ inr (is ∙ refused)
+]
 
 applied-status : (outcomes : List (Option Refusal)) (status : Status) → status ≡ outcomes_status outcomes → (status ≡ ends.Done) ⊎ (status ≡ ends.Refused)
 applied-status outcomes status is = elim (done-or-refused (list_any is_some outcomes)) [
@@ -175,26 +183,26 @@ module _ {F W : Type 0} (state_of : F → FileState) (contents : W → Option (L
     broken = broken;
   }
 
-  pub protects : (disk from to : Bor (List ℕ)) → IfOk result (Does state_of (Protect disk from to) input (contents old) (contents new)) → NoUsage → Silent
-      → IfErr result (FailsAs state_of (Protect disk from to) input (contents old) (contents new)) → Broken
-      → Performs state_of contents failed (Protect disk from to) input old result new
-  protects disk from to done other silent fails broken = record {
+  pub protects : (disk from to : Bor (List ℕ)) (is_all : Bool) → IfOk result (Does state_of (Protect disk from to is_all) input (contents old) (contents new)) → NoUsage → Silent
+      → IfErr result (FailsAs state_of (Protect disk from to is_all) input (contents old) (contents new)) → Broken
+      → Performs state_of contents failed (Protect disk from to is_all) input old result new
+  protects disk from to is_all done other silent fails broken = record {
     does = done;
-    status = IfOk-weaker result _ _ (λ status all. let (summary, passes, printed, is) = all in inl is) done;
-    usage = no-usage (Protect disk from to) other;
+    status = IfOk-weaker result _ _ (λ status all. let (summary, passes, printed, is) = all in pass-ends is_all summary status is) done;
+    usage = no-usage (Protect disk from to is_all) other;
     disk = IfErr-weaker result _ _ (λ failure same disk. ((λ is. absurd cc), same disk)) (kept silent);
     before = before silent;
     fails = fails;
     broken = broken;
   }
 
-  pub validates : (disk from to : Bor (List ℕ)) → IfOk result (Does state_of (Validate disk from to) input (contents old) (contents new)) → NoUsage → Silent
-      → IfErr result (FailsAs state_of (Validate disk from to) input (contents old) (contents new)) → Broken
-      → Performs state_of contents failed (Validate disk from to) input old result new
-  validates disk from to done other silent fails broken = record {
+  pub validates : (disk from to : Bor (List ℕ)) (is_all : Bool) → IfOk result (Does state_of (Validate disk from to is_all) input (contents old) (contents new)) → NoUsage → Silent
+      → IfErr result (FailsAs state_of (Validate disk from to is_all) input (contents old) (contents new)) → Broken
+      → Performs state_of contents failed (Validate disk from to is_all) input old result new
+  validates disk from to is_all done other silent fails broken = record {
     does = done;
-    status = IfOk-weaker result _ _ (λ status all. let (summary, passes, printed, is) = all in inl is) done;
-    usage = no-usage (Validate disk from to) other;
+    status = IfOk-weaker result _ _ (λ status all. let (summary, passes, printed, is) = all in pass-ends is_all summary status is) done;
+    usage = no-usage (Validate disk from to is_all) other;
     disk = IfErr-weaker result _ _ (λ failure same disk. ((λ is. absurd cc), same disk)) (kept silent);
     before = before silent;
     fails = fails;

@@ -25,7 +25,7 @@ use Rattle.macs_program.specs.NewDisks.{FormatFails, Formats}
 use Rattle.macs_program.specs.Relaying.{ComesTo, RelayEndsIn, course_of}
 use Rattle.macs_program.specs.Request.{InputFaultHolds, input_faults}
 use Rattle.macs_texts.specs.Lines.{line}
-use Rattle.macs_program.specs.Summing.{relay_line, summary_line}
+use Rattle.macs_program.specs.Summing.{pass_status, relay_line, summary_line}
 use Rattle.macs_program.specs.Values.{SpellsIdentity, SpellsLayout, ValueFaultHolds, value_faults}
 use Rattle.macs_words.specs.Words.{AreRefused, AsksFor, AsksForNothing, Names, macsecd}
 use Rattle.macs_words.specs.declared.action.Action.{Action}
@@ -59,12 +59,12 @@ Does state_of (Format disk sci tx_block rx_block block is_over) input before aft
 Does state_of (Apply disk file) input before after status =
     AppliesIn state_of before after status
 Does state_of (Show disk) input before after status = ShowsIn state_of before after × (status ≡ ends.Done)
-Does state_of (Protect disk from to) input before after status =
+Does state_of (Protect disk from to is_all) input before after status =
     (summary : Summary) × PassesIn state_of Controlled summary
-    × Appends before after (summary_line direction.Protect summary) × (status ≡ ends.Done)
-Does state_of (Validate disk from to) input before after status =
+    × Appends before after (summary_line direction.Protect summary) × (status ≡ pass_status is_all summary)
+Does state_of (Validate disk from to is_all) input before after status =
     (summary : Summary) × PassesIn state_of Common summary
-    × Appends before after (summary_line direction.Validate summary) × (status ≡ ends.Done)
+    × Appends before after (summary_line direction.Validate summary) × (status ≡ pass_status is_all summary)
 Does state_of (Relay disk controlled common running) input before after status =
     (summary : RelaySummary) × ComesTo state_of (course_of running) summary × SpellsBoth controlled common
     × Appends before after (relay_line summary) × (status ≡ ends.Done)
@@ -114,8 +114,8 @@ FailsAs state_of (Format disk sci tx_block rx_block block is_over) octets before
     ⊎ (failure ≡ Output)
 FailsAs state_of (Apply disk file) octets before after failure = OpeningFails state_of failure ⊎ BreaksOffIn state_of before after failure
 FailsAs state_of (Show disk) octets before after failure = OpeningFails state_of failure ⊎ (failure ≡ Memory) ⊎ (failure ≡ Output)
-FailsAs state_of (Protect disk from to) octets before after failure = OpeningFails state_of failure ⊎ PassEndsIn state_of Controlled failure
-FailsAs state_of (Validate disk from to) octets before after failure = OpeningFails state_of failure ⊎ PassEndsIn state_of Common failure
+FailsAs state_of (Protect disk from to is_all) octets before after failure = OpeningFails state_of failure ⊎ PassEndsIn state_of Controlled failure
+FailsAs state_of (Validate disk from to is_all) octets before after failure = OpeningFails state_of failure ⊎ PassEndsIn state_of Common failure
 FailsAs state_of (Relay disk controlled common running) octets before after failure =
     ((fault : AddressFault) × (failure ≡ Address fault) × IsFirst (AddressFaultHolds controlled common) address_faults fault)
     ⊎ OpeningFails state_of failure ⊎ RelayEndsIn state_of (course_of running) failure
@@ -126,8 +126,8 @@ FailsAs state_of (Check file) octets before after failure = CheckFails failure
 
 -- it is one that hands frames to an endpoint
 abbrev pub is_on_frames : Action → Bool
-is_on_frames (Protect disk from to) = true
-is_on_frames (Validate disk from to) = true
+is_on_frames (Protect disk from to is_all) = true
+is_on_frames (Validate disk from to is_all) = true
 is_on_frames (Relay disk controlled common running) = true
 is_on_frames action = false
 

@@ -23,7 +23,7 @@ ghost use Rattle.macs_program.specs.Endpoints.{PassEndsIn, PassesIn, ShowsIn};
 ghost use Rattle.macs_program.specs.Failing.{failure_status};
 ghost use Rattle.macs_program.specs.NewDisks.{FormatFails, Formats, MakesDisk};
 ghost use Rattle.macs_program.specs.Relaying.{ComesTo, IsOfRelay, RelayEndsIn, course_of, is_attended, new_wire, turns_of};
-ghost use Rattle.macs_program.specs.Summing.{relay_line, summary_line};
+ghost use Rattle.macs_program.specs.Summing.{pass_status, relay_line, summary_line};
 ghost use Rattle.macs_program.specs.Tasks.{DoesApply, DoesPass, DoesRelay, DoesShow, Doing, IsRunIn};
 ghost use Rattle.macs_program.specs.Values.{SpellsIdentity, SpellsLayout, ValueFaultHolds, value_faults};
 ghost use Rattle.macs_program.specs.declared.addresses.AddressFault.{AddressFault};
@@ -274,15 +274,24 @@ fn pass_between<C: Captures, D: SectorDisk, W: Stream>(
     alloc: Global,
     endpoint: &mut Endpoint<D>,
     direction: Direction,
+    is_all: bool,
     from: &str,
     to: &str,
     out: &mut W,
 ) -> Result<Status, Failure>
     ensures asks { AsksInOrder from.now to.now (C.asked captures.old) (C.asked captures.new) result }
-    ensures passes { DoesPass D.disk W.contents W.failed direction endpoint.old out.old result endpoint.new out.new }
+    ensures passes { DoesPass D.disk W.contents W.failed direction is_all endpoint.old out.old result endpoint.new out.new }
 {
     let (mut source, mut sink) = open_both(captures, from, to)?;
-    pass_frames(alloc, endpoint, direction, &mut source, &mut sink, out)
+    pass_frames(
+        alloc,
+        endpoint,
+        direction,
+        is_all,
+        &mut source,
+        &mut sink,
+        out,
+    )
 }
 
 /// Takes a capture in a file through an endpoint into another file.
@@ -291,6 +300,7 @@ struct PassFile<'a, T> {
     rt: &'a T,
     alloc: Global,
     direction: Direction,
+    is_all: bool,
     from: &'a str,
     to: &'a str,
 }
@@ -299,7 +309,7 @@ impl<T: Files, D: SectorDisk, W: Stream> Task<D, W> for PassFile<'_, T>
 where
     T::File: CaptureFile,
 {
-    ghost does = { λ task. DoesPass D.disk W.contents W.failed task.direction };
+    ghost does = { λ task. DoesPass D.disk W.contents W.failed task.direction task.is_all };
 
     #[inline(never)]
     fn run(&self, endpoint: &mut Endpoint<D>, out: &mut W) -> Result<Status, Failure> {
@@ -310,6 +320,7 @@ where
             alloc,
             endpoint,
             self.direction,
+            self.is_all,
             self.from,
             self.to,
             out,
@@ -323,6 +334,7 @@ pub fn pass<'a, T: Files, W: Stream>(
     rt: &'a T,
     alloc: Global,
     direction: Direction,
+    is_all: bool,
     disk: &str,
     from: &'a str,
     to: &'a str,
@@ -332,7 +344,8 @@ where
     T::File: CaptureFile,
     ensures printed { IfOk result (λ status. (summary : Summary)
         × PassesIn T.File.file (side_of direction) summary
-        × Appends (W.contents out.old) (W.contents out.new) (summary_line direction summary) × (status ≡ Status.Done)) }
+        × Appends (W.contents out.old) (W.contents out.new) (summary_line direction summary)
+        × (status ≡ pass_status is_all summary)) }
     ensures ended { IfErr result (λ failure. OpeningFails T.File.file failure
         ⊎ PassEndsIn T.File.file (side_of direction) failure) }
     ensures failed { IfErr result (λ failure. failure_status failure ≢ Status.Usage) }
@@ -343,6 +356,7 @@ where
         rt,
         alloc,
         direction,
+        is_all,
         from,
         to,
     };

@@ -129,12 +129,14 @@ where
             disk,
             input: from,
             output: to,
-        } => pass(rt, alloc, Direction::Protect, disk, from, to, out),
+            is_all,
+        } => pass(rt, alloc, Direction::Protect, is_all, disk, from, to, out),
         Action::Validate {
             disk,
             input: from,
             output: to,
-        } => pass(rt, alloc, Direction::Validate, disk, from, to, out),
+            is_all,
+        } => pass(rt, alloc, Direction::Validate, is_all, disk, from, to, out),
         Action::Relay {
             disk,
             controlled,
@@ -221,7 +223,7 @@ where
         × HasPrinted action (W.contents out.old) (W.contents out.new) }
     // At 2, 4 and 5 there is a failure of this status, of the words or of the action that they name, whose line is
     // printed on standard error, whole, unless that fails. Nothing was printed on standard output before it but, of
-    // `apply`, the lines of the commands before the failure; where the failure is that of standard output, a print
+    // `apply`, `ask` and `inspect`, the lines before the failure; where the failure is that of standard output, a print
     // there failed.
     ensures reported { (result ≢ 0) → (result ≢ 3) → (failure : Failure) × (result ≡ code_of (failure_status failure))
         × PrintsUnlessFailed (E.contents err.old) (E.contents err.new) (E.failed err.new) (complaint failure)

@@ -80,8 +80,10 @@ first_subcommands =
 -- those that take frames through an endpoint
 abbrev pub frame_subcommands : List Shape
 frame_subcommands =
-    subcommand_with (codes "protect") (value_rule (codes "DISK") ∷ value_rule (codes "INPUT") ∷ value_rule (codes "OUTPUT") ∷ [])
-    ∷ subcommand_with (codes "validate") (value_rule (codes "DISK") ∷ value_rule (codes "INPUT") ∷ value_rule (codes "OUTPUT") ∷ [])
+    subcommand_with (codes "protect") (value_rule (codes "DISK") ∷ value_rule (codes "INPUT") ∷ value_rule (codes "OUTPUT")
+    ∷ flag_rule (codes "all") ∷ [])
+    ∷ subcommand_with (codes "validate") (value_rule (codes "DISK") ∷ value_rule (codes "INPUT") ∷ value_rule (codes "OUTPUT")
+    ∷ flag_rule (codes "all") ∷ [])
     ∷ subcommand_with (codes "relay") (value_rule (codes "DISK") ∷ value_rule (codes "OWN1") ∷ value_rule (codes "PEER1")
     ∷ value_rule (codes "OWN2") ∷ value_rule (codes "PEER2") ∷ count_rule (codes "turns") ∷ wait_rule (codes "wait")
     ∷ room_rule (codes "buffer") ∷ option_rule (codes "control") ∷ option_rule (codes "metrics") ∷ [])
@@ -175,12 +177,14 @@ Names (Some found) (Format disk sci tx_block rx_block block is_over) =
 Names (Some found) (Apply disk file) =
     (found.0 ≡ codes "apply") × HasText found.1 (codes "DISK") disk.now × HasText found.1 (codes "FILE") file.now
 Names (Some found) (Show disk) = (found.0 ≡ codes "show") × HasText found.1 (codes "DISK") disk.now
-Names (Some found) (Protect disk input output) =
+Names (Some found) (Protect disk input output is_all) =
     (found.0 ≡ codes "protect") × HasText found.1 (codes "DISK") disk.now
     × HasText found.1 (codes "INPUT") input.now × HasText found.1 (codes "OUTPUT") output.now
-Names (Some found) (Validate disk input output) =
+    × IsFlagged found.1 (codes "all") is_all
+Names (Some found) (Validate disk input output is_all) =
     (found.0 ≡ codes "validate") × HasText found.1 (codes "DISK") disk.now
     × HasText found.1 (codes "INPUT") input.now × HasText found.1 (codes "OUTPUT") output.now
+    × IsFlagged found.1 (codes "all") is_all
 Names (Some found) (Relay disk controlled common running) =
     (found.0 ≡ codes "relay") × HasText found.1 (codes "DISK") disk.now
     × HasText found.1 (codes "OWN1") controlled.own.now × HasText found.1 (codes "PEER1") controlled.peer.now

@@ -44,17 +44,21 @@ pub enum Action<'a> {
     Show {
         disk: &'a str,
     },
-    /// Protects the frames of a capture: `protect DISK INPUT OUTPUT`.
+    /// Protects the frames of a capture: `protect DISK INPUT OUTPUT`, and `--all` where it is given.
     Protect {
         disk: &'a str,
         input: &'a str,
         output: &'a str,
+        /// Whether a frame that is dropped is said by the status.
+        is_all: bool,
     },
-    /// Validates the frames of a capture: `validate DISK INPUT OUTPUT`.
+    /// Validates the frames of a capture: `validate DISK INPUT OUTPUT`, and `--all` where it is given.
     Validate {
         disk: &'a str,
         input: &'a str,
         output: &'a str,
+        /// Whether a frame that is discarded is said by the status.
+        is_all: bool,
     },
     /// Relays frames between two wires: `relay DISK OWN1 PEER1 OWN2 PEER2` with `--turns n`, `--wait MS` or
     /// both, and with `--control PATH`, `--metrics FILE` and `--buffer OCTETS` where they are given.
@@ -211,13 +215,14 @@ fn show_words<'a>(alloc: Global) -> Result<Command<'a>, AllocError>
 
 /// The words of a subcommand over a disk and two captures.
 fn capture_words<'a>(alloc: Global, name: &'a str) -> Result<Command<'a>, AllocError>
-    ensures { IfOk result (λ command. IsClapCommand command (with_rule (with_rule (with_rule
+    ensures { IfOk result (λ command. IsClapCommand command (with_rule (with_rule (with_rule (with_rule
         (new_app name.entry.now) (value_rule (codes "DISK"))) (value_rule (codes "INPUT")))
-        (value_rule (codes "OUTPUT")))) }
+        (value_rule (codes "OUTPUT"))) (flag_rule (codes "all")))) }
 {
     let words = with_value(Ok(Command::new(alloc, name)), value(alloc, "DISK"));
     let words = with_value(words, value(alloc, "INPUT"));
-    with_value(words, value(alloc, "OUTPUT"))
+    let words = with_value(words, value(alloc, "OUTPUT"));
+    with_value(words, flag(alloc, "all"))
 }
 
 /// A number of 64 bits that may be given behind its name.
@@ -511,6 +516,7 @@ fn protect_in<'a>(values: &ArgMatches<'a>) -> Option<Action<'a>>
         disk,
         input,
         output,
+        is_all: is_flagged(values, "all"),
     })
 }
 
@@ -527,6 +533,7 @@ fn validate_in<'a>(values: &ArgMatches<'a>) -> Option<Action<'a>>
         disk,
         input,
         output,
+        is_all: is_flagged(values, "all"),
     })
 }
 

@@ -51,58 +51,58 @@ fn commands_are_counted(rt: HostRuntime) -> Result<(), Fail> {
 /// Command files with a fault, and the line that says where it is and why.
 const FAULTS: &[(&str, &str)] = &[
     (
-        "[[command]]\\ndo = 'tx-use'\\nan = 0\\n[[command]]\\ndo = 'rx-add'\\nsci = '12153524c0895e81'\\n[[command]]\\ndo = 'tx-install'\\nan = 0\\nkey = 'ad7a2bd03eac835a6f620fdcb506b34'\\n",
+        "[[command]]\ndo = 'tx-use'\nan = 0\n[[command]]\ndo = 'rx-add'\nsci = '12153524c0895e81'\n[[command]]\ndo = 'tx-install'\nan = 0\nkey = 'ad7a2bd03eac835a6f620fdcb506b34'\n",
         "macsecd: command 3 key: not 32 or 64 hex digits\n",
     ),
     (
-        "[[command]]\\ndo = 'tx-use'\\nan = 4\\n",
+        "[[command]]\ndo = 'tx-use'\nan = 4\n",
         "macsecd: command 1 an: not 0 to 3\n",
     ),
     (
-        "[[command]]\\ndo = 'rx-add'\\n",
+        "[[command]]\ndo = 'rx-add'\n",
         "macsecd: command 1 sci: not 16 hex digits\n",
     ),
     (
-        "[[command]]\\ndo = 'set-validate'\\nmode = 'explicit'\\n",
+        "[[command]]\ndo = 'set-validate'\nmode = 'explicit'\n",
         "macsecd: command 1 mode: not a mode of this command\n",
     ),
     (
-        "[[command]]\\ndo = 'set-replay'\\non = 1\\nwindow = 0\\n",
+        "[[command]]\ndo = 'set-replay'\non = 1\nwindow = 0\n",
         "macsecd: command 1 on: not true or false\n",
     ),
     (
-        "[[command]]\\ndo = 'set-replay'\\non = true\\nwindow = -1\\n",
+        "[[command]]\ndo = 'set-replay'\non = true\nwindow = -1\n",
         "macsecd: command 1 window: not 0 to 4294967295\n",
     ),
     (
-        "[[command]]\\ndo = 'tx-install'\\nan = 0\\nkey = 'ad7a2bd03eac835a6f620fdcb506b345'\\nstart = 4294967296\\n",
+        "[[command]]\ndo = 'tx-install'\nan = 0\nkey = 'ad7a2bd03eac835a6f620fdcb506b345'\nstart = 4294967296\n",
         "macsecd: command 1 start: not 1 to 4294967295\n",
     ),
     (
-        "[[command]]\\ndo = 'tx-install'\\nan = 0\\nkey = 'ad7a2bd03eac835a6f620fdcb506b345'\\nstart = 1\\n",
+        "[[command]]\ndo = 'tx-install'\nan = 0\nkey = 'ad7a2bd03eac835a6f620fdcb506b345'\nstart = 1\n",
         "macsecd: command 1 confidential: not true or false\n",
     ),
     (
-        "[[command]]\\ndo = 'tx-install'\\nan = 0\\nkey = 'ad7a2bd03eac835a6f620fdcb506b345'\\nstart = 1\\nconfidential = true\\noffset = 256\\n",
+        "[[command]]\ndo = 'tx-install'\nan = 0\nkey = 'ad7a2bd03eac835a6f620fdcb506b345'\nstart = 1\nconfidential = true\noffset = 256\n",
         "macsecd: command 1 offset: not 0, 30 or 50\n",
     ),
     (
-        "[[command]]\\ndo = 'tx-use'\\nan = 0\\n[[command]]\\ndo = 'use-tx'\\nan = 0\\n",
+        "[[command]]\ndo = 'tx-use'\nan = 0\n[[command]]\ndo = 'use-tx'\nan = 0\n",
         "macsecd: command 2 do: not a command\n",
     ),
     (
-        "[[command]]\\nan = 0\\n",
+        "[[command]]\nan = 0\n",
         "macsecd: command 1 do: not a command\n",
     ),
     (
-        "[[command]]\\ndo = 'tx-use'\\nan = 0\\nkey = ''\\n",
+        "[[command]]\ndo = 'tx-use'\nan = 0\nkey = ''\n",
         "macsecd: command 1: a key that it does not have\n",
     ),
     (
-        "sci = '12153524c0895e81'\\n",
+        "sci = '12153524c0895e81'\n",
         "macsecd: command file: not tables [[command]] alone\n",
     ),
-    ("[[command]\\n", "macsecd: command file: not TOML\n"),
+    ("[[command]\n", "macsecd: command file: not TOML\n"),
 ];
 
 #[test]

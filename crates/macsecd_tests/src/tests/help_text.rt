@@ -89,30 +89,32 @@ example: macsecd show left.disk
 status: 0 done, 2 usage, 4 disk, 5 output or memory
 ";
 
-pub const PROTECT_TEXT: &str = "usage: macsecd protect DISK INPUT OUTPUT
+pub const PROTECT_TEXT: &str = "usage: macsecd protect DISK INPUT OUTPUT [--all]
 
 Protects the frames of a capture under the association in use, writes the
 capture of the frames that go out, and prints 'protected 3 dropped 0'.
   DISK     a disk file that was formatted
   INPUT    a classic capture (pcap) of Ethernet frames, whole and without FCS
   OUTPUT   the capture that is made; a file of that name is written over
+  --all    ends with status 3 where a frame was dropped
 DISK, INPUT and OUTPUT are three files, and no disk file is taken for OUTPUT.
 
 example: macsecd protect left.disk examples/plain.pcap protected.pcap
-status: 0 done, 2 usage, 4 disk, 5 capture, output or memory
+status: 0 done, 2 usage, 3 a frame dropped, 4 disk, 5 capture, output or memory
 ";
 
-pub const VALIDATE_TEXT: &str = "usage: macsecd validate DISK INPUT OUTPUT
+pub const VALIDATE_TEXT: &str = "usage: macsecd validate DISK INPUT OUTPUT [--all]
 
 Validates the frames of a capture, writes the capture of the frames that are
 delivered, and prints 'delivered 3 discarded 1'.
   DISK     a disk file that was formatted
   INPUT    a classic capture (pcap) of Ethernet frames, whole and without FCS
   OUTPUT   the capture that is made; a file of that name is written over
+  --all    ends with status 3 where a frame was discarded
 DISK, INPUT and OUTPUT are three files, and no disk file is taken for OUTPUT.
 
 example: macsecd validate right.disk protected.pcap plain.pcap
-status: 0 done, 2 usage, 4 disk, 5 capture, output or memory
+status: 0 done, 2 usage, 3 a frame discarded, 4 disk, 5 capture, output or memory
 ";
 
 pub const RELAY_TEXT: &str = "usage: macsecd relay DISK OWN1 PEER1 OWN2 PEER2 --turns n

@@ -355,7 +355,7 @@ fn take(
 /// Takes steps, one after another, over files in a folder that is not there at first, and that is removed
 /// at the end.
 pub fn play(
-    rt: &(impl Abort + Files<File = File> + Net + Clock + Env + AllocGlobal),
+    rt: &(impl Abort + Files<File = File> + Net + Clock + Env + RandomSource + AllocGlobal),
     alloc: Global,
     folder: &str,
     story: &[Step],

@@ -268,6 +268,14 @@ const WORDS_WITH_OPTIONS: &[(&[&str], Outcome)] = &[
         Outcome::Usage("macsecd: unexpected argument '-V' found\n"),
     ),
     (
+        &["protect", "d", "i", "o", "--all=1"],
+        Outcome::Usage("macsecd: unexpected value '1' for '--all' found; no more were expected\n"),
+    ),
+    (
+        &["validate", "--all", "d", "i", "o", "--all"],
+        Outcome::Usage("macsecd: the argument '--all' cannot be used multiple times\n"),
+    ),
+    (
         &["key", "--long=1"],
         Outcome::Usage("macsecd: unexpected value '1' for '--long' found; no more were expected\n"),
     ),
@@ -523,6 +531,14 @@ const TAKEN: &[(&[&str], Parts<'static>)] = &[
         &["ask", "p", "apply", "show"],
         ("ask apply", ["p", "show", "", "", ""], [0, 0]),
     ),
+    (
+        &["protect", "--all", "d", "i", "o"],
+        ("protect", ["d", "i", "o", "all", ""], [0, 0]),
+    ),
+    (
+        &["validate", "d", "--all", "--", "--all", "o"],
+        ("validate", ["d", "--all", "o", "all", ""], [0, 0]),
+    ),
     (&["key"], ("key", ["", "", "", "", ""], [0, 0])),
     (
         &["key", "--long"],
@@ -643,12 +659,22 @@ fn parts<'a>(action: Action<'a>) -> Parts<'a> {
             disk,
             input,
             output,
-        } => ("protect", [disk, input, output, "", ""], [0, 0]),
+            is_all,
+        } => (
+            "protect",
+            [disk, input, output, if is_all { "all" } else { "" }, ""],
+            [0, 0],
+        ),
         Action::Validate {
             disk,
             input,
             output,
-        } => ("validate", [disk, input, output, "", ""], [0, 0]),
+            is_all,
+        } => (
+            "validate",
+            [disk, input, output, if is_all { "all" } else { "" }, ""],
+            [0, 0],
+        ),
         Action::Relay {
             disk,
             controlled,
