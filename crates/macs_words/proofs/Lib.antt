@@ -3,3 +3,4 @@ pub mod Given
 pub mod Paces
 pub mod Subcommands
 pub mod Taken
+mod ActionWords
