@@ -8,7 +8,12 @@ use Rattle.std.proofs.lemmas.Bool.{and_from, le-leb, le-ltb, lt-leb, lt-ltb}
 use Rattle.std.specs.declared.io.ErrorKind.{ErrorKind}
 use Rattle.std.specs.declared.net.SocketAddr.{SocketAddr}
 use Rattle.macs_disk.specs.Disk.{Disk}
+use Rattle.macs_pcap.specs.Header.{header_text}
+use Rattle.macs_pcap.specs.Reading.{HoldsOfLeft, ReadsHeader}
 use Rattle.macs_pcap.specs.Records.{CaptureRecord}
+use Rattle.macs_pcap.specs.Writing.{WritesText}
+use Rattle.macs_pcap.specs.declared.fault.PcapFault.TheVariants.{Write}
+use Rattle.macs_pcap.specs.declared.header.Header.{Header}
 use Rattle.macs_txsc.specs.declared.fault.TxFault.{TxFault}
 use Rattle.macs_txsc.specs.declared.fault.TxFault.TheVariants.{Runt, TooLong, ForeignSource, NoEncodingSa, Exhausted}
 use Rattle.macs_txsc.specs.declared.fault.TxFault.TheVariants.{NoNumber}
@@ -26,18 +31,22 @@ use Rattle.macs_edge.specs.Datagrams.{Datagram, SocketState}
 use Rattle.macs_edge.specs.Drawn.{CountWords, DeskWords, FaultWords, FlowsInTurns, PassWords, RestWords, SocketWords}
 use Rattle.macs_edge.specs.Drawn.{TurnWords}
 use Rattle.macs_edge.specs.FaultWires.{CallsValue, failed_among}
-use Rattle.macs_edge.specs.Passing.{Passes, passed_record}
-use Rattle.macs_edge.specs.Relaying.{HandsSlot, Relay, Relays, TakesTurn, TakesTurns, Way, empty_lane, summary_of}
+use Rattle.macs_edge.specs.Passing.{HasPassed, Passes, Run, RunsOver, passed_record}
+use Rattle.macs_edge.specs.Relaying.{FillsSlot, HandsSlot, LaneValue, Relay, Relays, TakesTurn, TakesTurns, Way, empty_lane, summary_of}
 use Rattle.macs_edge.specs.Resting.{IsQuiet, TakesTurnsResting, one_if}
 use Rattle.macs_edge.specs.Settling.{Settles, call_on}
 use Rattle.macs_edge.specs.WireDatagrams.{IsGiven, ReceivesDatagram}
+use Rattle.macs_edge.specs.Wires.{WireState}
 use Rattle.macs_edge.specs.declared.attending.DeskEvent.{DeskEvent}
 use Rattle.macs_edge.specs.declared.attending.Order.{Order}
 use Rattle.macs_edge.specs.declared.attending.Order.TheVariants.{End, Go, Submit}
+use Rattle.macs_edge.specs.declared.passing.RunFault.TheVariants.{Pcap}
+use Rattle.macs_edge.specs.declared.passing.Summary.{Summary}
 use Rattle.macs_edge.specs.declared.relaying.RelaySummary.{RelaySummary}
 use Rattle.macs_edge.specs.declared.settling.Side.{Side}
 use Rattle.macs_edge.specs.declared.wire.Got.{Got}
 use Rattle.macs_edge.specs.declared.wire.Got.TheVariants.{Frame, Nothing, TooLong}
+use Rattle.macs_edge.proofs.Answering.{answered-by, done-by, each-answered, submitted-by}
 use Rattle.macs_edge.proofs.Flowing.{AreFrames, Goes, IsFrame, flow-begins, goes-flows, turn-goes}
 
 -- ---- turns
@@ -122,6 +131,8 @@ module _ {D : Type 0} (disk_of : D → Disk) where
   rest-words = record {
     quiet = quiet;
     none = λ old new slept is. is;
+    rested = λ turns slept old new summary is. is;
+    failed = λ turns slept old new at is. (is.0, is.1, is.2, is.3, is.4, is.5, is.6);
     one = λ turns slept old new (between, before, progress, was, earlier, last, which, count). (
       between,
       before,
@@ -157,6 +168,23 @@ refused_by NoEncodingSa out passed settles = (λ is. absurd cc, settles)
 refused_by Exhausted out passed settles = (λ is. absurd cc, settles)
 refused_by NoNumber out passed settles = absurd settles
 
+module _ {D : Type 0} (disk_of : D → Disk) where
+  run_over : (side : Side) (old new : Run D) (s : Summary) → RunsOver disk_of side old (Ok s) new
+      → (header : Header) × (between : Run D) × ReadsHeader old.source between.source (Ok header)
+      × WritesText {T = Unit {0}} old.sink between.sink (header_text header) (Ok tt)
+      × (between.endpoint ≡ old.endpoint)
+      × (records : List CaptureRecord) × (passed : List CaptureRecord)
+      × HasPassed disk_of side header.big between records passed new
+      × HoldsOfLeft between.source.left new.source.left (λ left rest. rest ≡ [])
+      × (s.passed ≡ length passed) × (s.passed + s.dropped ≡ length records)
+  run_over side old new s (inl (at, ends, read, same, sink)) =
+      absurd (let wrong : Ok s ≡ Err (Pcap at) = ends in cc)
+  run_over side old new s (inr (inl (header, read, ends, writes, same))) =
+      absurd (let wrong : Ok s ≡ Err (Pcap Write) = ends in cc)
+  run_over side old new s (inr (inr (header, between, reads, writes, same, runs))) =
+      let (records, passed, has, all, counts) = runs in
+      (header, between, reads, writes, same, records, passed, has, all, counts.0, counts.1)
+
 pub pass-words : {D : Type 0} (disk_of : D → Disk) → PassWords disk_of
 pass-words disk_of = record {
   none = λ side old new passed is. is;
@@ -167,6 +195,14 @@ pass-words disk_of = record {
   refused = refused_by;
   delivered = λ kind out passed settles. settles;
   discarded = λ reason out passed settles. settles;
+  steps = λ side big old new records passed h logs. h.steps logs;
+  taken = λ side big old new records passed h. h.taken;
+  none_in = λ side turns is. is;
+  all_in = λ side taken more turns is. is;
+  over = run_over disk_of;
+  ended = λ side big old new at is. is;
+  halted = λ side big count old new at is. is;
+  broken = λ side big count old new at is. is;
   run = λ side big old new records passed h. (h.few, h.lives, h.handed, h.sent, h.writes, h.reads);
 }
 
@@ -274,10 +310,26 @@ module _ {D : Type 0} (disk_of : D → Disk) where
       → HandsSlot disk_of side (Some frame) old new
   full side slot old new frame hands is = subst (λ (s : Option (List ℕ)). HandsSlot disk_of side s old new) is hands
 
+  asked : (slot : Option (List ℕ)) (from from' : WireState) (lane lane' : LaneValue)
+      → FillsSlot slot from lane from' lane' → slot ≡ None → FillsSlot None from lane from' lane'
+  asked slot from from' lane lane' fills is =
+      subst (λ (s : Option (List ℕ)). FillsSlot s from lane from' lane') is fills
+
+  not_asked : (slot : Option (List ℕ)) (from from' : WireState) (lane lane' : LaneValue) (frame : List ℕ)
+      → FillsSlot slot from lane from' lane' → slot ≡ Some frame → FillsSlot (Some frame) from lane from' lane'
+  not_asked slot from from' lane lane' frame fills is =
+      subst (λ (s : Option (List ℕ)). FillsSlot s from lane from' lane') is fills
+
   pub turn-words : TurnWords disk_of
   turn-words = record {
     turn = λ answer old new (late, (middle, controlled, common, out, back), sound, call).
         (late, middle, controlled, common, out, back, call);
+    fills = λ from from' lane lane' fills is. asked lane.slot from from' lane lane' fills is;
+    not_asked = λ from from' lane lane' frame fills is. not_asked lane.slot from from' lane lane' frame fills is;
+    filled_with = λ frame lane. refl;
+    filled_none = λ frame lane. refl;
+    filled_too_long = λ frame lane. refl;
+    filled_failed = λ frame lane cause. refl;
     carries = λ side old new is. is;
     empty = λ side old new hands is. empty side old.lane.slot old new hands is;
     full = λ side old new frame hands is.
@@ -308,6 +360,45 @@ desk-words disk_of = record {
   submitted = λ old new command told (answer, noted, sound, call). (answer, noted, call);
   nothing = λ old new told is. is;
   ends = λ turns taken quiet earlier events is. is;
+  taken = λ turns old new events is. is;
+  failed = λ turns old events at endpoint controlled common (
+    to_common,
+    to_controlled,
+    (during, step, named, attends, is),
+    told,
+  ).
+      (to_common, to_controlled, during, step, named, attends, is);
+  last = λ turns old new events at (
+    taken,
+    between,
+    earlier,
+    quiet,
+    last,
+    endpoint,
+    fewer,
+    before,
+    (order, told, follows, does, noted),
+    turn,
+    is,
+  ). (
+    taken,
+    between,
+    earlier,
+    quiet,
+    order,
+    told,
+    endpoint,
+    fewer,
+    before,
+    not_end order follows,
+    does,
+    turn,
+    is ∙ ap (λ (l : List DeskEvent). earlier ++ l) noted,
+  );
+  kept = λ old new events summary a. done-by disk_of old new events summary a;
+  noted = λ old new events summary a. answered-by disk_of old new events summary a;
+  handed = λ old new events summary a. submitted-by disk_of old new events summary a;
+  each = λ old new events summary a. each-answered disk_of old new events summary a;
   answered = λ turns old events summary endpoint controlled common (
     to_common,
     to_controlled,

@@ -1,7 +1,7 @@
 -- What is to be drawn from words on turns and steps, on records that pass, on sleeps, and on sockets of which the
 -- datagrams are known.
 use Rattle.std.specs.Prelude.{◌≡◌, ◌≢◌, ◌<◌, ◌≤◌, ◌⊎◌, ◌↔◌, ◌+◌, ◌-◌, ◌^◌, ◌++◌, ℕ, suc, Bool, true, false, IsTrue}
-use Rattle.std.specs.Prelude.{List, [], ◌∷◌, length, take, Option, Some, None, Result, Ok, Err, OnErr, OnOk}
+use Rattle.std.specs.Prelude.{List, [], ◌∷◌, length, take, Contains, Option, Some, None, Result, Ok, Err, OnErr, OnOk}
 use Rattle.std.specs.Io.KnownBytes.{Appends}
 use Rattle.std.specs.declared.io.ErrorKind.{ErrorKind}
 use Rattle.std.specs.declared.io.ErrorKind.TheVariants.{WouldBlock}
@@ -13,41 +13,56 @@ use Rattle.macs_txsc.specs.declared.fault.TxFault.TheVariants.{NoNumber}
 use Rattle.macs_rxsc.specs.declared.verdict.Kind.{Kind}
 use Rattle.macs_rxsc.specs.declared.verdict.Reason.{Reason}
 use Rattle.macs_rxsc.specs.declared.verdict.Verdict.TheVariants.{Delivered, Discarded}
-use Rattle.macs_pcap.specs.Captures.{records_text}
-use Rattle.macs_pcap.specs.Records.{CaptureRecord}
+use Rattle.macs_pcap.specs.Captures.{BeginsWithRecords, records_text}
+use Rattle.macs_pcap.specs.Header.{header_text}
+use Rattle.macs_pcap.specs.Reading.{HoldsOfLeft, ReadsHeader, ReadsRecord}
+use Rattle.macs_pcap.specs.Records.{CaptureRecord, record_text}
+use Rattle.macs_pcap.specs.Writing.{WritesText}
+use Rattle.macs_pcap.specs.declared.fault.PcapFault.{PcapFault}
+use Rattle.macs_pcap.specs.declared.header.Header.{Header}
 use Rattle.macs_endpoint.specs.Calls.{IsCall}
 use Rattle.macs_endpoint.specs.Lasting.{steps_made}
-use Rattle.macs_endpoint.specs.Lives.{Lives}
-use Rattle.macs_endpoint.specs.State.{Advanced, Advances, Protected, Protects, Received, Receives, Reply, State}
+use Rattle.macs_endpoint.specs.Faults.{refill_fault_named}
+use Rattle.macs_endpoint.specs.Lives.{Lives, Transition}
+use Rattle.macs_endpoint.specs.State.{Advanced, Advances, Logs, Protected, Protects, Received, Receives, Reply, State}
 use Rattle.macs_endpoint.specs.State.{Submits, Submitted}
 use Rattle.macs_endpoint.specs.Step.{IsStopped, Step}
-use Rattle.macs_endpoint.specs.Value.{EndpointValue}
+use Rattle.macs_endpoint.specs.Value.{EndpointValue, state_of}
+use Rattle.macs_endpoint.specs.declared.fault.CommandFault.{CommandFault}
 use Rattle.macs_endpoint.specs.declared.fault.ProtectFault.TheVariants.{Tx}
 use Rattle.macs_endpoint.specs.declared.fault.RefillFault.{RefillFault}
 use Rattle.macs_endpoint.specs.declared.fault.StepFault.{StepFault}
 use Rattle.macs_endpoint.specs.declared.fault.SubmitFault.{SubmitFault}
 use Rattle.macs_endpoint.specs.declared.progress.Step.{Step as Progress}
 use Rattle.macs_endpoint.specs.declared.progress.Step.TheVariants.{Idle}
+use Rattle.macs_endpoint.specs.declared.progress.Step.TheVariants as step
 use Rattle.macs_edge.specs.Attending.{AttendsTurns, Does, EndsAt, IsAttended, TakesAllAttended, TakesAttended}
 use Rattle.macs_edge.specs.Attending.{answers_of, failed_of}
+use Rattle.macs_edge.specs.Commanding.{IsAttendedFlow}
 use Rattle.macs_edge.specs.Counts.{CountsReceive, counts_after_send}
 use Rattle.macs_edge.specs.Datagrams.{Datagram, GivesDatagram, SocketState, TakesDatagram}
 use Rattle.macs_edge.specs.FaultWires.{CallsValue, FailsNext, FaultWireValue, asked_once_more, failed_among}
 use Rattle.macs_edge.specs.FaultWires.{fault_wire_state}
 use Rattle.macs_edge.specs.Flows.{IsFlow}
-use Rattle.macs_edge.specs.Passing.{HandsAllIn, HasPassed, Passes, Run}
+use Rattle.macs_edge.specs.Passing.{HandsAllIn, HasPassed, Passes, Run, RunsOver, RunsRecords, Stops, TakesRecord}
 use Rattle.macs_edge.specs.Relaying.{Carries, Fills, Forwards, HandsOver, LaneValue, Relay, Relays, TakesTurn, Way}
-use Rattle.macs_edge.specs.Relaying.{one_dropped, relay_of, summary_of, way_of}
-use Rattle.macs_edge.specs.Resting.{IsQuiet, TakesTurnsResting}
-use Rattle.macs_edge.specs.Settling.{Settles, Waits, call_on}
+use Rattle.macs_edge.specs.Relaying.{filled, one_dropped, one_fault, relay_of, summary_of, way_of}
+use Rattle.macs_edge.specs.Resting.{IsQuiet, RelaysResting, TakesTurnsResting}
+use Rattle.macs_edge.specs.Settling.{Halts, HandsIn, Settles, Waits, call_on}
 use Rattle.macs_edge.specs.WireDatagrams.{ReceivesDatagram, SendsDatagram}
 use Rattle.macs_edge.specs.Wires.{WireState, saturated}
+use Rattle.macs_edge.specs.Wires as wires
+use Rattle.macs_edge.specs.declared.attending.CommandEnd.{CommandEnd}
+use Rattle.macs_edge.specs.declared.attending.CommandEnd.TheVariants as end
 use Rattle.macs_edge.specs.declared.attending.DeskEvent.{DeskEvent}
-use Rattle.macs_edge.specs.declared.attending.DeskEvent.TheVariants.{Took, Wanted}
+use Rattle.macs_edge.specs.declared.attending.DeskEvent.TheVariants.{Answered, Took, Wanted}
 use Rattle.macs_edge.specs.declared.attending.Order.{Order}
 use Rattle.macs_edge.specs.declared.attending.Order.TheVariants.{End, Go, Submit}
 use Rattle.macs_edge.specs.declared.counts.WireCounts.{WireCounts}
 use Rattle.macs_edge.specs.declared.datagrams.Arrived.{Arrived}
+use Rattle.macs_edge.specs.declared.passing.RunFault.{RunFault}
+use Rattle.macs_edge.specs.declared.passing.RunFault.TheVariants.{Device, Pcap}
+use Rattle.macs_edge.specs.declared.passing.Summary.{Summary}
 use Rattle.macs_edge.specs.declared.relaying.RelaySummary.{RelaySummary}
 use Rattle.macs_edge.specs.declared.settling.Side.{Side}
 use Rattle.macs_edge.specs.declared.settling.Side.TheVariants.{Common, Controlled}
@@ -65,13 +80,20 @@ FlowsInTurns disk_of turns old result new = (flow : IsFlow disk_of old new (summ
     × OnOk result (steps_made flow.calls ≡ turns) × OnErr result (steps_made flow.calls ≤ turns)
 
 -- A turn is quiet where its step found no work, both slots are empty after it, and nothing was counted in it. A relay
--- that rests sleeps once after each quiet turn, and not after another.
+-- that rests sleeps once after each quiet turn, and not after another. It takes all its turns so; or fewer, and then one
+-- whose step is answered with the fault, with no sleep after it.
 pub record RestWords {D : Type 0} (disk_of : D → Disk) : Type 0 where
   pub quiet : (progress : Progress) (old new : Relay D) → IsQuiet progress old new ↔ ((progress ≡ Idle)
       × (new.to_common.slot ≡ None)
       × (new.to_controlled.slot ≡ None) × (new.to_common.tally ≡ old.to_common.tally)
       × (new.to_controlled.tally ≡ old.to_controlled.tally))
   pub none : (old new : Relay D) (slept : ℕ) → TakesTurnsResting disk_of 0 old slept new → (new ≡ old) × (slept ≡ 0)
+  pub rested : (turns slept : ℕ) (old new : Relay D) (summary : RelaySummary)
+      → RelaysResting disk_of turns old slept (Ok summary) new → TakesTurnsResting disk_of turns old slept new
+  pub failed : (turns slept : ℕ) (old new : Relay D) (at : RefillFault)
+      → RelaysResting {T = RelaySummary} disk_of turns old slept (Err at) new
+      → (done : ℕ) × (between : Relay D) × (step : StepFault) × (at ≡ refill_fault_named step) × (done < turns)
+      × TakesTurnsResting disk_of done old slept between × TakesTurn disk_of (Err step) between new
   pub one : (turns slept : ℕ) (old new : Relay D) → TakesTurnsResting disk_of (suc turns) old slept new
       → (between : Relay D) × (before : ℕ)
       × (progress : Progress) × TakesTurnsResting disk_of turns old before between
@@ -85,7 +107,11 @@ pub record RestWords {D : Type 0} (disk_of : D → Disk) : Type 0 where
 -- what passes of the others; or it is left out. A frame is answered by `protect` with its number, and by `receive` as
 -- delivered; it is left out for a fault but that there is no number, or discarded. Of a run: no more records are taken
 -- than a capture may have, by calls of the endpoint one after another, each handed in so; they are the first of those
--- that were left, and what passes is written.
+-- that were left, and what passes is written. What passes is what passes of each record as though none had
+-- waited. A run that is answered Ok read a header and wrote it, and took every record that was left, to the end; it
+-- counts those that passed and the others. One that ends in a fault of the device took one record more, and its frame
+-- found the endpoint stopped, or waited for a refill that is answered so; in one of the captures, the next record was
+-- not read, or what passed of it was not written whole.
 pub record PassWords {D : Type 0} (disk_of : D → Disk) : Type 0 where
   pub none : (side : Side) (old new : State) (passed : List CaptureRecord) → Passes side old [] passed new
       → (passed ≡ []) × (new ≡ old)
@@ -105,6 +131,41 @@ pub record PassWords {D : Type 0} (disk_of : D → Disk) : Type 0 where
       → Settles (Received (Ok (Delivered kind)) out) passed → passed ≡ Some out
   pub discarded : (reason : Reason) (out : List ℕ) (passed : Option (List ℕ))
       → Settles (Received (Ok (Discarded reason)) out) passed → passed ≡ None
+  pub steps : (side : Side) (big : Bool) (old new : Run D) (records passed : List CaptureRecord)
+      → HasPassed disk_of side big old records passed new → (logs : Logs) → (after : Logs)
+      × Passes side (state_of old.endpoint logs) records passed (state_of new.endpoint after)
+  pub taken : (side : Side) (big : Bool) (old new : Run D) (records passed : List CaptureRecord)
+      → HasPassed disk_of side big old records passed new
+      → HoldsOfLeft old.source.left new.source.left (λ left rest. BeginsWithRecords big left records rest)
+  pub none_in : (side : Side) (turns : List (Transition D)) → HandsAllIn side [] turns → turns ≡ []
+  pub all_in : (side : Side) (taken : CaptureRecord) (more : List CaptureRecord) (turns : List (Transition D))
+      → HandsAllIn side (taken ∷ more) turns
+      → (first : List (Transition D)) × (rest : List (Transition D)) × (reply : Reply) × (turns ≡ first ++ rest)
+      × HandsIn (call_on side taken.frame) first reply × HandsAllIn side more rest
+  pub over : (side : Side) (old new : Run D) (s : Summary) → RunsOver disk_of side old (Ok s) new
+      → (header : Header) × (between : Run D) × ReadsHeader old.source between.source (Ok header)
+      × WritesText {T = Unit {0}} old.sink between.sink (header_text header) (Ok tt)
+      × (between.endpoint ≡ old.endpoint)
+      × (records : List CaptureRecord) × (passed : List CaptureRecord)
+      × HasPassed disk_of side header.big between records passed new
+      × HoldsOfLeft between.source.left new.source.left (λ left rest. rest ≡ [])
+      × (s.passed ≡ length passed) × (s.passed + s.dropped ≡ length records)
+  pub ended : (side : Side) (big : Bool) (old new : Run D) (at : RunFault) → RunsRecords disk_of side big old (Err at) new
+      → (records : List CaptureRecord) × (passed : List CaptureRecord) × (between : Run D)
+      × HasPassed disk_of side big old records passed between
+      × Stops disk_of side big (length records) between at new
+  pub halted : (side : Side) (big : Bool) (count : ℕ) (old new : Run D) (at : RefillFault)
+      → Stops disk_of side big count old (Device at) new
+      → (taken : CaptureRecord) × (room : ℕ)
+      × ReadsRecord big count room old.source new.source taken.frame (Ok (Some taken.stamp))
+      × Halts disk_of old.endpoint (call_on side taken.frame) at new.endpoint × (new.sink ≡ old.sink)
+  pub broken : (side : Side) (big : Bool) (count : ℕ) (old new : Run D) (at : PcapFault)
+      → Stops disk_of side big count old (Pcap at) new
+      → ((room : ℕ) × ReadsRecord big count room old.source new.source [] (Err at)
+      × (new.endpoint ≡ old.endpoint) × (new.sink ≡ old.sink))
+      ⊎ ((taken : CaptureRecord) × (frame : List ℕ)
+      × TakesRecord disk_of side big count old taken (Some frame) new
+      × WritesText {T = Unit {0}} old.sink new.sink (record_text big taken.stamp frame) (Err at))
   pub run : (side : Side) (big : Bool) (old new : Run D) (records passed : List CaptureRecord)
       (h : HasPassed disk_of side big old records passed new)
       → (length records ≤ 2 ^ 32 - 1) × Lives disk_of old.endpoint h.turns new.endpoint
@@ -181,7 +242,9 @@ pub record CountWords : Type 0 where
 
 -- ---- one turn
 
--- In a turn plain frames are carried first, and then frames from the common side; a step of the endpoint ends it. A
+-- In a turn plain frames are carried first, and then frames from the common side; a step of the endpoint ends it. An
+-- empty slot takes the frame that its wire gives, if it gives one; one that is too long is counted as dropped, and a
+-- failed receive as a fault; a wire is not asked where the slot is full. A
 -- full slot is handed in: its frame passes and is sent once, or is left out and counted so, and the slot is empty; or
 -- it waits, or finds the endpoint stopped, and stays.
 pub record TurnWords {D : Type 0} (disk_of : D → Disk) : Type 0 where
@@ -193,6 +256,17 @@ pub record TurnWords {D : Type 0} (disk_of : D → Disk) : Type 0 where
       × Carries disk_of Common (way_of middle common controlled old.to_controlled)
       (way_of late new.common new.controlled new.to_controlled)
       × IsCall disk_of late Advances (Advanced answer) new.endpoint
+  pub fills : (from from' : WireState) (lane lane' : LaneValue) → Fills from lane from' lane' → lane.slot ≡ None
+      → (answer : Result Got WireFault) × (frame : List ℕ) × wires.Receives from answer frame from'
+      × (lane' ≡ filled answer frame lane)
+  pub not_asked : (from from' : WireState) (lane lane' : LaneValue) (frame : List ℕ) → Fills from lane from' lane'
+      → lane.slot ≡ Some frame → (from' ≡ from) × (lane' ≡ lane)
+  pub filled_with : (frame : List ℕ) (lane : LaneValue) → filled (Ok Frame) frame lane ≡ record lane { slot = Some frame }
+  pub filled_none : (frame : List ℕ) (lane : LaneValue) → filled (Ok Nothing) frame lane ≡ lane
+  pub filled_too_long : (frame : List ℕ) (lane : LaneValue)
+      → filled (Ok TooLong) frame lane ≡ record lane { tally = one_dropped lane.tally }
+  pub filled_failed : (frame : List ℕ) (lane : LaneValue) (cause : WireFault)
+      → filled (Err cause) frame lane ≡ record lane { tally = one_fault lane.tally }
   pub carries : (side : Side) (old new : Way D) → Carries disk_of side old new → (from : WireState) × (lane : LaneValue)
       × Fills old.from old.lane from lane
       × HandsOver disk_of side (way_of old.endpoint from old.to lane) new
@@ -211,7 +285,10 @@ pub record TurnWords {D : Type 0} (disk_of : D → Disk) : Type 0 where
 -- Before the first turn no event is noted, and none was quiet. Before each the desk is asked what is wanted, and given
 -- whether the one before was quiet; a command is submitted then and its answer noted, and where the end is wanted no
 -- turn follows. After it the desk is given what its step is done with. In the end as many turns were taken as there
--- are, or fewer, and the end was wanted; what still waits has failed.
+-- are, or fewer, and the end was wanted; what still waits has failed. A relay that ends in a fault has the name of the
+-- fault of its last turn's step. Over a whole relay: a command is answered as kept, or as refused, only where a step is
+-- done with its ticket so; what is noted of a command that was handed in is what `submit` answered; each that is wanted
+-- is submitted; and each that was taken is answered.
 pub record DeskWords {D : Type 0} (disk_of : D → Disk) : Type 0 where
   pub none : (old new : Relay D) (events : List DeskEvent) (quiet : Bool)
       → TakesAllAttended disk_of 0 old events quiet new
@@ -238,6 +315,39 @@ pub record DeskWords {D : Type 0} (disk_of : D → Disk) : Type 0 where
   pub ends : (turns taken : ℕ) (quiet : Bool) (earlier events : List DeskEvent)
       → EndsAt turns taken quiet earlier events
       → ((taken ≡ turns) × (events ≡ earlier)) ⊎ ((taken < turns) × (events ≡ earlier ++ Wanted quiet End ∷ []))
+  pub taken : (turns : ℕ) (old new : Relay D) (events : List DeskEvent) → AttendsTurns disk_of turns old events (Ok tt) new
+      → (taken : ℕ) × (earlier : List DeskEvent) × (quiet : Bool) × TakesAllAttended disk_of taken old earlier quiet new
+      × EndsAt turns taken quiet earlier events
+  pub failed : (turns : ℕ) (old : Relay D) (events : List DeskEvent) (at : RefillFault) (endpoint : EndpointValue D)
+      (controlled common : WireState)
+      → IsAttended disk_of turns old events (Err at) endpoint controlled common → (to_common : LaneValue)
+      × (to_controlled : LaneValue) × (during : List DeskEvent) × (step : StepFault) × (at ≡ refill_fault_named step)
+      × AttendsTurns disk_of turns old during (Err step)
+      (relay_of endpoint controlled common to_common to_controlled)
+      × (events ≡ during ++ failed_of endpoint.waiting)
+  pub last : (turns : ℕ) (old new : Relay D) (events : List DeskEvent) (at : StepFault)
+      → AttendsTurns disk_of turns old events (Err at) new
+      → (taken : ℕ) × (between : Relay D) × (earlier : List DeskEvent) × (quiet : Bool) × (order : Order)
+      × (told : List DeskEvent) × (endpoint : EndpointValue D) × (taken < turns)
+      × TakesAllAttended disk_of taken old earlier quiet between × (order ≢ End)
+      × Does disk_of order between.endpoint told endpoint
+      × TakesTurn disk_of (Err at) (record between { endpoint = endpoint }) new
+      × (events ≡ earlier ++ (Wanted quiet order ∷ told))
+  pub kept : (old new : Relay D) (events : List DeskEvent) (summary : RelaySummary)
+      (a : IsAttendedFlow disk_of old events new summary) (ticket : ℕ) (result : Result (Unit {0}) CommandFault)
+      → Contains events (Answered ticket (end.Done result)) → (turn : Transition D) × Contains a.flow.calls turn
+      × (turn.call ≡ Advances) × (turn.reply ≡ Advanced (Ok (step.Done ticket result)))
+  pub noted : (old new : Relay D) (events : List DeskEvent) (summary : RelaySummary)
+      (a : IsAttendedFlow disk_of old events new summary) (answer : Result ℕ SubmitFault)
+      → Contains events (Took answer) → (command : Command) × (turn : Transition D) × Contains a.flow.calls turn
+      × (turn.call ≡ Submits command) × (turn.reply ≡ Submitted answer)
+  pub handed : (old new : Relay D) (events : List DeskEvent) (summary : RelaySummary)
+      (a : IsAttendedFlow disk_of old events new summary) (was_quiet : Bool) (command : Command)
+      → Contains events (Wanted was_quiet (Submit command)) → (turn : Transition D) × Contains a.flow.calls turn
+      × (turn.call ≡ Submits command)
+  pub each : (old new : Relay D) (events : List DeskEvent) (summary : RelaySummary)
+      (a : IsAttendedFlow disk_of old events new summary) (ticket : ℕ)
+      → Contains events (Took (Ok ticket)) → (what : CommandEnd) × Contains events (Answered ticket what)
   pub answered : (turns : ℕ) (old : Relay D) (events : List DeskEvent) (summary : RelaySummary)
       (endpoint : EndpointValue D) (controlled common : WireState)
       → IsAttended disk_of turns old events (Ok summary) endpoint controlled common → (to_common : LaneValue)

@@ -2,9 +2,13 @@
 use Rattle.std.proofs.Common.{◌≡◌, ◌≢◌, ◌<◌, ◌≤◌, ◌⊎◌, inl, inr, ◌-◌, ◌/◌, ◌^◌, ◌++◌, ◌||◌, ℕ, zero, suc, Bool, true}
 use Rattle.std.proofs.Common.{false, cond, List, [], ◌∷◌, Option, Some, None, Result, Ok, Err, refl, sym, ◌∙◌, ap}
 use Rattle.std.proofs.Common.{subst, arith}
+use Rattle.std.proofs.Common.{◌==◌, Ordering, Less, Equal, Greater, nat_cmp, is_lt}
 use Rattle.std.specs.Prelude.{Contains, nat_le, nat_lt}
+use Rattle.std.specs.Cmp.Lexicographic.{nat_list_cmp_total, slice_cmp}
+use Rattle.std.specs.Ordering.{ordering_then}
+use Rattle.std.proofs.lemmas.Cmp.{nat_cmp_total, tied_itself}
 use Rattle.std.specs.Option.{option_map_or}
-use Rattle.std.proofs.lemmas.Bool.{and_from, and_parts, le-leb, leb-true, lt-ltb, ltb-true}
+use Rattle.std.proofs.lemmas.Bool.{and_from, and_parts, le-leb, le-ltb, leb-true, lt-ltb, ltb-true, ne_eqb}
 use Rattle.macs_config.specs.Config.{comes_before, is_ascending}
 use Rattle.macs_config.specs.Numbers.{block_beyond}
 use Rattle.macs_config.specs.declared.command.Command.{Command}
@@ -16,13 +20,17 @@ use Rattle.macs_rxsc.specs.Needs.{Need, first_need, need_by_seen, need_of, raise
 use Rattle.macs_rxsc.specs.Needs as needs
 use Rattle.macs_rxsc.specs.Receive.{Numbers}
 use Rattle.macs_rxsc.proofs.Needed.{is-need, needs_among, own-place}
-use Rattle.macs_endpoint.specs.Advancing.{turn_after}
-use Rattle.macs_endpoint.specs.Ceilings.{either_raise}
-use Rattle.macs_endpoint.specs.State.{Commands, Protects, Ran, Receives, Reply, Submits}
+use Rattle.macs_endpoint.specs.Advancing.{turn_after, turn_after_refill}
+use Rattle.macs_endpoint.specs.Ceilings.{Raise, either_raise}
+use Rattle.macs_endpoint.specs.State.{Advanced, Advances, Commands, Protects, Ran, Receives, Refilled, Refills, Reply, Submits}
 use Rattle.macs_endpoint.specs.Value.{EndpointValue}
 use Rattle.macs_endpoint.specs.declared.fault.CommandFault.{CommandFault}
 use Rattle.macs_endpoint.specs.declared.fault.CommandFault.TheVariants as ran
-use Rattle.macs_endpoint.specs.declared.turn.Turn.TheVariants.{Reservation}
+use Rattle.macs_endpoint.specs.declared.fault.RefillFault.{RefillFault}
+use Rattle.macs_endpoint.specs.declared.fault.RefillFault.TheVariants as refill
+use Rattle.macs_endpoint.specs.declared.fault.StepFault.{StepFault}
+use Rattle.macs_endpoint.specs.declared.fault.StepFault.TheVariants as step
+use Rattle.macs_endpoint.specs.declared.turn.Turn.TheVariants.{Command as CommandTurn, Reservation}
 use Rattle.macs_headline.specs.NeedWords.{NeedsAreInOrder, TurnsAreUsed}
 use Rattle.macs_headline.proofs.Ledger.{some_one}
 use Rattle.macs_headline.proofs.Lists.{contains-cases, contains-none}
@@ -243,6 +251,33 @@ next_behind (x ∷ y ∷ front) behind a b is =
     next_behind (y ∷ front) behind a b
     (and_parts (comes_before x y) (is_ascending (y ∷ front ++ a ∷ b ∷ behind)) is).1
 
+-- ---- the order of channels
+
+earlier : (front a b : List ℕ) (x y : ℕ) → x < y → comes_before (front ++ x ∷ a) (front ++ y ∷ b) ≡ true
+earlier [] a b x y less =
+    ap (λ (t : Bool). is_lt (ordering_then (cond t Less (cond (x == y) Equal Greater)) (slice_cmp nat_cmp a b)))
+    (lt-ltb x y less)
+earlier (z ∷ front) a b x y less =
+    ap (λ (o : Ordering). is_lt (ordering_then o (slice_cmp nat_cmp (front ++ x ∷ a) (front ++ y ∷ b))))
+    (tied_itself nat_cmp_total z) ∙ earlier front a b x y less
+
+later : (front a b : List ℕ) (x y : ℕ) → y < x → comes_before (front ++ x ∷ a) (front ++ y ∷ b) ≡ false
+later [] a b x y more =
+    let least : nat_lt x y ≡ false = le-ltb x y (omega (arith, more)) in
+    let apart : (x == y) ≡ false = ne_eqb x y (λ same. omega (arith, same, more)) in
+    (λ i. is_lt (ordering_then (cond (least i) Less (cond (apart i) Equal Greater)) (slice_cmp nat_cmp a b)))
+later (z ∷ front) a b x y more =
+    ap (λ (o : Ordering). is_lt (ordering_then o (slice_cmp nat_cmp (front ++ x ∷ a) (front ++ y ∷ b))))
+    (tied_itself nat_cmp_total z) ∙ later front a b x y more
+
+ascending : (front behind : List (List ℕ)) (sci next : List ℕ) → is_ascending (front ++ sci ∷ next ∷ behind) ≡ true
+    → comes_before sci next ≡ true
+ascending [] behind sci next is = (and_parts (comes_before sci next) (is_ascending (next ∷ behind)) is).0
+ascending (c ∷ []) behind sci next is =
+    ascending [] behind sci next (and_parts (comes_before c sci) (is_ascending (sci ∷ next ∷ behind)) is).1
+ascending (c ∷ d ∷ front) behind sci next is = ascending (d ∷ front) behind sci next
+    (and_parts (comes_before c d) (is_ascending (d ∷ front ++ sci ∷ next ∷ behind)) is).1
+
 pub needs-are-in-order : NeedsAreInOrder
 needs-are-in-order = record {
   receive = received;
@@ -252,9 +287,13 @@ needs-are-in-order = record {
       (next_outgoing t) o is has below few;
   first = λ r ceilings block need is. comes_first r.numbers ceilings block r.channels need is;
   none = λ r ceilings block is sci an within less. none_among r.numbers ceilings block r.channels is sci an within less;
-  ascending = λ edition identity old new command is done front behind a b split. next_behind front behind a b
+  stays = λ edition identity old new command is done front behind a b split. next_behind front behind a b
       (subst (λ (channels : List (List ℕ)). is_ascending channels ≡ true) split
       (apply-keeps edition identity old new command is done).channels_ascend);
+  earlier = earlier;
+  later = later;
+  itself = λ sci. ap is_lt (tied_itself nat_list_cmp_total sci);
+  ascending = ascending;
   receive_behind = λ t r s need none is. (λ i. either_raise (none i) (is i));
   neither = λ t r s none is. (λ i. either_raise (none i) (is i));
 }
@@ -269,10 +308,43 @@ module _ {D : Type 0} where
   used old command (Err ran.Busy) not_stopped not_busy = absurd (not_busy refl)
   used old command result not_stopped not_busy = refl
 
+  not_begun : (old : EndpointValue D) (command : Command) (fault : CommandFault) → (fault ≡ ran.Stopped) ⊎ (fault ≡ ran.Busy)
+      → turn_after old (Commands command) (Ran (Err fault)) ≡ old.turn
+  not_begun old command fault (inl is) = ap (λ (f : CommandFault). turn_after old (Commands command) (Ran (Err f))) is
+  not_begun old command fault (inr is) = ap (λ (f : CommandFault). turn_after old (Commands command) (Ran (Err f))) is
+
+  refilled : (old : EndpointValue D) (reply : Reply) → old.reserving ≡ None → turn_after old Refills reply ≡ old.turn
+  refilled old (Refilled (Err refill.Stopped)) none = refl
+  refilled old (Refilled (Err refill.Busy)) none = refl
+  refilled old (Refilled result) none = ap (turn_after_refill old.turn) none
+  refilled old reply none = refl
+
+  finished : (old : EndpointValue D) (raise : Raise) (result : Result (Unit {0}) RefillFault) → old.reserving ≡ Some raise
+      → result ≢ Err refill.Stopped → result ≢ Err refill.Busy → turn_after old Refills (Refilled result) ≡ CommandTurn
+  finished old raise (Err refill.Stopped) is not_stopped not_busy = absurd (not_stopped refl)
+  finished old raise (Err refill.Busy) is not_stopped not_busy = absurd (not_busy refl)
+  finished old raise result is not_stopped not_busy = ap (turn_after_refill old.turn) is
+
+  not_refilled : (old : EndpointValue D) (fault : RefillFault) → (fault ≡ refill.Stopped) ⊎ (fault ≡ refill.Busy)
+      → turn_after old Refills (Refilled (Err fault)) ≡ old.turn
+  not_refilled old fault (inl is) = ap (λ (f : RefillFault). turn_after old Refills (Refilled (Err f))) is
+  not_refilled old fault (inr is) = ap (λ (f : RefillFault). turn_after old Refills (Refilled (Err f))) is
+
+  failed : (old : EndpointValue D) (fault : StepFault) → (fault ≡ step.Disk) ⊎ (fault ≡ step.Stopped)
+      → turn_after old Advances (Advanced (Err fault)) ≡ old.turn
+  failed old fault (inl is) = ap (λ (f : StepFault). turn_after old Advances (Advanced (Err f))) is
+  failed old fault (inr is) = ap (λ (f : StepFault). turn_after old Advances (Advanced (Err f))) is
+
 pub turns-are-used : {D : Type 0} (disk_of : D → Disk) → TurnsAreUsed disk_of
 turns-are-used disk_of = record {
   command = λ old new command result call not_stopped not_busy. call.behaves.turn
       ∙ used old command result not_stopped not_busy;
+  not_begun = λ old new command fault which call. call.behaves.turn ∙ not_begun old command fault which;
+  refilled = λ old new reply call none. call.behaves.turn ∙ refilled old reply none;
+  finished = λ old new raise result call is not_stopped not_busy. call.behaves.turn
+      ∙ finished old raise result is not_stopped not_busy;
+  not_refilled = λ old new fault which call. call.behaves.turn ∙ not_refilled old fault which;
+  failed = λ old new fault which call. call.behaves.turn ∙ failed old fault which;
   done = λ old new ticket result call. call.behaves.turn;
   reserved = λ old new call. call.behaves.turn;
   spent = λ old new call. call.behaves.turn;

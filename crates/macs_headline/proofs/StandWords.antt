@@ -18,6 +18,7 @@ use Rattle.macs_endpoint.specs.Serving.{EndsAs, is_halt}
 use Rattle.macs_endpoint.specs.Spending.{reserved_in}
 use Rattle.macs_endpoint.specs.State.{Reply, no_logs, State}
 use Rattle.macs_endpoint.specs.Value.{EndpointValue, disk_in}
+use Rattle.macs_endpoint.specs.declared.fault.CommandFault.{CommandFault}
 use Rattle.macs_endpoint.specs.declared.event.ServeEnd.{ServeEnd}
 use Rattle.macs_endpoint.specs.declared.event.ServeEnd.TheVariants.{Ended, Halted, TurnsSpent}
 use Rattle.macs_headline.specs.StandWords.{CallsLeave, ServedEnds}
@@ -30,6 +31,11 @@ at_end : (b : Bool) (used number : ℕ) (s : Standing) → b ≡ true
     × (cond b (number + 1) number ≡ number + 1) × (cond b (523 + length (snapshot s)) 4 ≡ 523 + length (snapshot s))
 at_end true used number s is = (refl, refl, refl)
 at_end false used number s is = absurd (cc)
+
+-- one change, whether all slots are used or not
+at_most : (b : Bool) (s : Standing) → cond b (523 + length (snapshot s)) 4 ≤ 523 + length (snapshot s)
+at_most true s = omega arith
+at_most false s = omega arith
 
 named_by : (fault name : JournalFault) → IsErrOf {T = Unit {0}} (Err fault) name → fault ≡ name
 named_by fault name is = cc
@@ -61,6 +67,15 @@ module _ {D : Type 0} (disk_of : D → Disk) where
         omega (arith, calls, four, most),
       )
 
+  command_calls : (old new : EndpointValue D) (command : Command) (result : Result (Unit {0}) CommandFault)
+      → KeepsCommand disk_of old command result new
+      → (disk_in disk_of new).clock
+      ≤ (disk_in disk_of old).clock + calls_left old.store + (523 + length (snapshot (reserved_in old)))
+  command_calls old new command result keeps =
+      let most = keeps.most in
+      let one = at_most (slots_then old.store == 256) (reserved_in old) in
+      omega (arith, most, one)
+
   pub calls-leave : CallsLeave disk_of
   calls-leave = record {
     opened = λ disk first is. (
@@ -73,9 +88,17 @@ module _ {D : Type 0} (disk_of : D → Disk) where
     format_names = λ old new identity fault is. format_named fault is.device.names;
     format_taken = λ old new identity is honest. let taken = is.device.taken refl honest in (taken.0, taken.2);
     format_fails = λ old new identity result is. is.device.work.fails;
+    format_done = λ old new identity is. is.device.work.fails;
+    format_spares = λ old new identity result is honest. is.device.others honest;
+    format_spares_all = λ old new identity result is honest has_open. is.device.journal has_open honest;
+    opening_spares = λ old first c is honest migrates. (is.device.migrated honest c migrates).0.others;
+    refused_spares = λ old refused c s is honest migrates. (is.refused.migrated honest c s migrates).others;
+    compaction_spares = λ old new records result is honest. is.others honest;
+    compaction_until = λ old new records result before opened is honest holds counted. is.until honest before holds opened counted;
     reserved = λ old new call. call.behaves.ceilings;
     command_failed = λ old new command call. call.behaves.ceilings;
     command_anew = command_anew;
+    command_calls = command_calls;
     command_spent = λ old new command keeps. keeps.spent refl;
     refill_failed = λ old new spends. elim spends [
       | inl in_hand ↦ inl (in_hand.raise, in_hand.reserving, in_hand.stands, in_hand.most)

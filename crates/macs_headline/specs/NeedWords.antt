@@ -1,9 +1,8 @@
 -- The headline on ceilings that are needed, in which order they are raised, and whose turn it is after a call.
-use Rattle.std.specs.Prelude.{◌≡◌, ◌≢◌, ◌<◌, ◌≤◌, ◌⊎◌, ◌-◌, ◌/◌, ◌^◌, ◌++◌, true, ℕ, List, [], ◌∷◌, Contains, Option}
-use Rattle.std.specs.Prelude.{Some}
+use Rattle.std.specs.Prelude.{◌≡◌, ◌≢◌, ◌<◌, ◌≤◌, ◌⊎◌, ◌-◌, ◌/◌, ◌^◌, ◌++◌, ℕ, true, false, List, [], ◌∷◌, Contains, Option, Some}
 use Rattle.std.specs.Prelude.{None, Result, Ok, Err}
 use Rattle.macs_config.specs.Apply.{apply}
-use Rattle.macs_config.specs.Config.{Config, Edition, IsConfig, comes_before}
+use Rattle.macs_config.specs.Config.{Config, Edition, IsConfig, comes_before, is_ascending}
 use Rattle.macs_config.specs.Identity.{Identity}
 use Rattle.macs_config.specs.Numbers.{block_beyond}
 use Rattle.macs_config.specs.declared.command.Command.{Command}
@@ -15,11 +14,15 @@ use Rattle.macs_rxsc.specs.Needs as needs
 use Rattle.macs_rxsc.specs.Receive.{Numbers, RxSide}
 use Rattle.macs_store.specs.Standing.{Standing}
 use Rattle.macs_endpoint.specs.Calls.{IsCall}
-use Rattle.macs_endpoint.specs.Ceilings.{RaiseRx, first_raise}
-use Rattle.macs_endpoint.specs.State.{Advanced, Advances, Commands, Protects, Ran, Receives, Reply, Submits}
+use Rattle.macs_endpoint.specs.Ceilings.{Raise, RaiseRx, first_raise}
+use Rattle.macs_endpoint.specs.State.{Advanced, Advances, Commands, Protects, Ran, Receives, Refilled, Refills, Reply}
+use Rattle.macs_endpoint.specs.State.{Submits}
 use Rattle.macs_endpoint.specs.Value.{EndpointValue}
 use Rattle.macs_endpoint.specs.declared.fault.CommandFault.{CommandFault}
 use Rattle.macs_endpoint.specs.declared.fault.CommandFault.TheVariants as ran
+use Rattle.macs_endpoint.specs.declared.fault.RefillFault.{RefillFault}
+use Rattle.macs_endpoint.specs.declared.fault.RefillFault.TheVariants as refill
+use Rattle.macs_endpoint.specs.declared.fault.StepFault.{StepFault}
 use Rattle.macs_endpoint.specs.declared.fault.StepFault.TheVariants as step
 use Rattle.macs_endpoint.specs.declared.progress.Step.TheVariants.{Done, Idle, Reserved, Worked}
 use Rattle.macs_endpoint.specs.declared.turn.Turn.TheVariants.{Command as CommandTurn, Reservation}
@@ -27,8 +30,9 @@ use Rattle.macs_endpoint.specs.declared.turn.Turn.TheVariants.{Command as Comman
 -- A receive association needs a higher ceiling where a frame was seen on it, a higher one is to be had, which is a
 -- block beyond the greatest number seen; and that number has reached the ceiling, or half a block at most is left below
 -- it. The association that frames go out under needs one where half a block at most is left below a ceiling that is
--- below 2^32. The transmit side comes first, and then receive associations: by channels in their order, which is
--- that of their SCIs, octet by octet, and of one channel by their numbers.
+-- below 2^32. The transmit side comes first, and then receive associations: by channels in their order, of one channel
+-- by their numbers. Channels that ascend do so from each SCI to the next, by the first octet in which two differ. They stay
+-- so after each command.
 pub record NeedsAreInOrder : Type 0 where
   pub receive : (block an ceiling : ℕ) (sci : List ℕ) (n : Numbers) (need : Need)
       → needs.need_of block sci an (Some n) (Some ceiling) ≡ Some need
@@ -56,9 +60,14 @@ pub record NeedsAreInOrder : Type 0 where
   pub none : (r : RxSide) (ceilings : List ℕ → ℕ → Option ℕ) (block : ℕ) → needs.first_need_of r ceilings block ≡ None
       → (sci : List ℕ) (an : ℕ)
       → Contains r.channels sci → an < 4 → needs.need_of block sci an (r.numbers sci an) (ceilings sci an) ≡ None
-  pub ascending : (edition : Edition) (identity : Identity) (old new : Config) (command : Command)
+  pub stays : (edition : Edition) (identity : Identity) (old new : Config) (command : Command)
       → IsConfig edition identity old → apply edition identity old command ≡ Ok new
       → (front behind : List (List ℕ)) (a b : List ℕ) → new.channels ≡ front ++ a ∷ b ∷ behind → comes_before a b ≡ true
+  pub earlier : (front a b : List ℕ) (x y : ℕ) → x < y → comes_before (front ++ x ∷ a) (front ++ y ∷ b) ≡ true
+  pub later : (front a b : List ℕ) (x y : ℕ) → y < x → comes_before (front ++ x ∷ a) (front ++ y ∷ b) ≡ false
+  pub itself : (sci : List ℕ) → comes_before sci sci ≡ false
+  pub ascending : (front behind : List (List ℕ)) (sci next : List ℕ)
+      → is_ascending (front ++ sci ∷ next ∷ behind) ≡ true → comes_before sci next ≡ true
   pub receive_behind : (t : TxSide) (r : RxSide) (s : Standing) (need : Need)
       → transmit.need_of t s.ceilings.tx s.identity.tx_block ≡ None
       → needs.first_need_of r s.ceilings.rx s.identity.rx_block ≡ Some need → first_raise s t r ≡ Some (RaiseRx need)
@@ -66,12 +75,26 @@ pub record NeedsAreInOrder : Type 0 where
       → needs.first_need_of r s.ceilings.rx s.identity.rx_block ≡ None → first_raise s t r ≡ None
 
 -- A command leaves the turn to a reservation, whatever it is answered but Stopped and Busy; so does a step that is done
--- with one. A step that made a reservation, or that the journal has no room for, leaves it to a command. Other steps,
--- frames and commands that are to wait leave the turn as it was.
+-- with one. A step that made a reservation, or that the journal has no room for, leaves it to a command, and so does a
+-- refill that found one in hand. Other steps and refills, those that fail or are not begun included, frames, and commands
+-- that are to wait or are not begun leave the turn as it was.
 pub record TurnsAreUsed {D : Type 0} (disk_of : D → Disk) : Type 0 where
   pub command : (old new : EndpointValue D) (command : Command) (result : Result (Unit {0}) CommandFault)
       → IsCall disk_of old (Commands command) (Ran result) new
       → result ≢ Err ran.Stopped → result ≢ Err ran.Busy → new.turn ≡ Reservation
+  pub not_begun : (old new : EndpointValue D) (command : Command) (fault : CommandFault)
+      → (fault ≡ ran.Stopped) ⊎ (fault ≡ ran.Busy) → IsCall disk_of old (Commands command) (Ran (Err fault)) new
+      → new.turn ≡ old.turn
+  pub refilled : (old new : EndpointValue D) (reply : Reply) → IsCall disk_of old Refills reply new
+      → old.reserving ≡ None → new.turn ≡ old.turn
+  pub finished : (old new : EndpointValue D) (raise : Raise) (result : Result (Unit {0}) RefillFault)
+      → IsCall disk_of old Refills (Refilled result) new → old.reserving ≡ Some raise
+      → result ≢ Err refill.Stopped → result ≢ Err refill.Busy → new.turn ≡ CommandTurn
+  pub not_refilled : (old new : EndpointValue D) (fault : RefillFault)
+      → (fault ≡ refill.Stopped) ⊎ (fault ≡ refill.Busy) → IsCall disk_of old Refills (Refilled (Err fault)) new
+      → new.turn ≡ old.turn
+  pub failed : (old new : EndpointValue D) (fault : StepFault) → (fault ≡ step.Disk) ⊎ (fault ≡ step.Stopped)
+      → IsCall disk_of old Advances (Advanced (Err fault)) new → new.turn ≡ old.turn
   pub done : (old new : EndpointValue D) (ticket : ℕ) (result : Result (Unit {0}) CommandFault)
       → IsCall disk_of old Advances (Advanced (Ok (Done ticket result))) new → new.turn ≡ Reservation
   pub reserved : (old new : EndpointValue D) → IsCall disk_of old Advances (Advanced (Ok Reserved)) new
