@@ -12,7 +12,8 @@ begins-none None = tt
 begins-none (Some all) = (all, refl, refl)
 
 -- no line was whole
-pub after-silence : (start : Option (List ℕ)) (held kept : List ℕ) (old new : Option Link) → BeginsWith start [] (unread held old)
+pub after-silence : (start : Option (List ℕ)) (held kept : List ℕ) (old new : Option Link)
+    → BeginsWith start [] (unread held old)
     → Hears held old hears.Silence kept new → BeginsWith start [] (unread kept new)
 after-silence None held kept old new begins heard = tt
 after-silence (Some all) held kept None new begins heard = let e = begins.1 in cc
@@ -22,7 +23,8 @@ after-silence (Some all) held kept (Some link) new (before, was, begins) (left, 
     (kept ++ left.coming, refl, begins ∙ sym e ∙ sym stays)
 
 -- a line behind what was read
-pub line-behind : (start mid new : Option (List ℕ)) (text line : List ℕ) → BeginsWith start text mid → BeginsWithLine mid line new
+pub line-behind : (start mid new : Option (List ℕ)) (text line : List ℕ) → BeginsWith start text mid
+    → BeginsWithLine mid line new
     → BeginsWith start (text ++ (line ++ 10 ∷ [])) new
 line-behind None mid new text line begins next = tt
 line-behind (Some all) None new text line begins next = let e = begins.1 in cc
@@ -31,7 +33,8 @@ line-behind (Some all) (Some rest) new text line (before, was, begins) (left, is
     (left, is, begins ∙ ap (λ (l : List ℕ). text ++ l) (sym e ∙ cut ∙ sym (append_assoc line (10 ∷ []) left)) ∙ sym (append_assoc text (line ++ 10 ∷ []) left))
 
 -- the line that ends an answer behind its text
-pub end-behind : (start mid new : Option (List ℕ)) (text line : List ℕ) (status : ℕ) → BeginsWith start text mid → BeginsWithLine mid line new
+pub end-behind : (start mid new : Option (List ℕ)) (text line : List ℕ) (status : ℕ) → BeginsWith start text mid
+    → BeginsWithLine mid line new
     → line ≡ end_line status → BeginsWithAnswer start text status new
 end-behind None mid new text line status begins next ends = tt
 end-behind (Some all) None new text line status begins next ends = let e = begins.1 in cc

@@ -10,16 +10,19 @@ use Rattle.macs_control.specs.declared.seat.Hearing.TheVariants as hears
 
 -- ---- octets that came
 
-pub fills-octets : (held into kept : List ℕ) (count : ℕ) (old new : Option Link) → TakesOctets old new into (Octets count)
+pub fills-octets : (held into kept : List ℕ) (count : ℕ) (old new : Option Link)
+    → TakesOctets old new into (Octets count)
     → kept ≡ held ++ take count into → Fills held old (Octets count) kept new
 fills-octets held into kept count None new takes is = tt
 fills-octets held into kept count (Some old) new takes is = (take count into, takes.0, takes.1, is, takes.2)
 
-pub fills-nothing : (held into : List ℕ) (old new : Option Link) → TakesOctets old new into Nothing → Fills held old Nothing held new
+pub fills-nothing : (held into : List ℕ) (old new : Option Link) → TakesOctets old new into Nothing
+    → Fills held old Nothing held new
 fills-nothing held into None new takes = tt
 fills-nothing held into (Some old) new takes = (refl, takes)
 
-pub fills-gone : (held into : List ℕ) (old new : Option Link) → TakesOctets old new into Gone → Fills held old Gone held new
+pub fills-gone : (held into : List ℕ) (old new : Option Link) → TakesOctets old new into Gone
+    → Fills held old Gone held new
 fills-gone held into None new takes = tt
 fills-gone held into (Some old) new takes = (refl, takes)
 

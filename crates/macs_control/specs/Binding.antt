@@ -4,7 +4,8 @@ use Rattle.std.specs.Option.{option_map}
 use Rattle.macs_control.specs.declared.binding.Reach.{Reach}
 use Rattle.macs_control.specs.declared.binding.Reach.TheVariants as found
 
--- it is looked who has a name; a name is removed; a socket is made; its mode is set; it is given a name; it takes connections: and what came of it
+-- it is looked who has a name; a name is removed; a socket is made; its mode is set; it is given a name; it takes
+-- connections: and what came of it
 pub data SocketCall : Type 0 where
   Reaches : (path : List ℕ) → (reach : Reach) → SocketCall
   Removes : (path : List ℕ) → (done : Bool) → SocketCall
@@ -19,11 +20,13 @@ with_calls known more = option_map (λ before. before ++ more) known
 
 -- the calls that find a name free, or free it: the second of them removes a socket that was left behind
 abbrev pub IsClear : List ℕ → List SocketCall → Type 0
-IsClear path calls = (calls ≡ Reaches path found.Nothing ∷ []) ⊎ (calls ≡ Reaches path found.Stale ∷ Removes path true ∷ [])
+IsClear path calls =
+    (calls ≡ Reaches path found.Nothing ∷ []) ⊎ (calls ≡ Reaches path found.Stale ∷ Removes path true ∷ [])
 
 -- those that find it taken, or cannot free it
 abbrev pub IsTaken : List ℕ → List SocketCall → Type 0
-IsTaken path calls = (calls ≡ Reaches path found.Taken ∷ []) ⊎ (calls ≡ Reaches path found.Stale ∷ Removes path false ∷ [])
+IsTaken path calls =
+    (calls ≡ Reaches path found.Taken ∷ []) ⊎ (calls ≡ Reaches path found.Stale ∷ Removes path false ∷ [])
 
 -- whether a name is free now, and by which calls
 abbrev pub Clears : List ℕ → Option (List SocketCall) → Option (List SocketCall) → Bool → Type 0
@@ -45,11 +48,14 @@ IsNotNamed path before after = (calls : List SocketCall) × CutCalls path calls 
 -- the name is free, the socket gets it, and takes connections
 abbrev pub IsBound : List ℕ → Option (List SocketCall) → Option (List SocketCall) → Type 0
 IsBound path before after =
-    (calls : List SocketCall) × IsClear path calls × (after ≡ with_calls before (calls ++ named_calls path ++ Listens true ∷ []))
+    (calls : List SocketCall) × IsClear path calls
+    × (after ≡ with_calls before (calls ++ named_calls path ++ Listens true ∷ []))
 
 -- the name is taken; or it is free and one of the next calls fails, which is the last one
 abbrev pub IsNotBound : List ℕ → Option (List SocketCall) → Option (List SocketCall) → Type 0
 IsNotBound path before after =
     ((calls : List SocketCall) × IsTaken path calls × (after ≡ with_calls before calls))
-    ⊎ ((calls : List SocketCall) × (cut : List SocketCall) × IsClear path calls × CutCalls path cut × (after ≡ with_calls before (calls ++ cut)))
-    ⊎ ((calls : List SocketCall) × IsClear path calls × (after ≡ with_calls before (calls ++ named_calls path ++ Listens false ∷ [])))
+    ⊎ ((calls : List SocketCall) × (cut : List SocketCall) × IsClear path calls × CutCalls path cut
+    × (after ≡ with_calls before (calls ++ cut)))
+    ⊎ ((calls : List SocketCall) × IsClear path calls
+    × (after ≡ with_calls before (calls ++ named_calls path ++ Listens false ∷ [])))

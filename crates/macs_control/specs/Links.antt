@@ -6,7 +6,8 @@ use Rattle.macs_control.specs.declared.seat.Hearing.{Hearing}
 use Rattle.macs_control.specs.declared.seat.Hearing.TheVariants as hears
 use Rattle.macs_requests.specs.Inboxes.{HasNoFeed}
 
--- what is known of a connection: the octets that the other side sent and that were not taken yet, and those that it was sent, both in their order
+-- what is known of a connection: the octets that the other side sent and that were not taken yet, and those that it
+-- was sent, both in their order
 pub record Link : Type 0 where
   pub coming : List ℕ
   pub given : List ℕ
@@ -35,11 +36,12 @@ GivesOctets (Some old) new octets false =
 abbrev pub Fills : List ℕ → Option Link → Taken → List ℕ → Option Link → Type 0
 Fills held None taken kept new = ⊤
 Fills held (Some old) (Octets count) kept new =
-    (came rest : List ℕ) × (old.coming ≡ came ++ rest) × (kept ≡ held ++ came) × (new ≡ Some (record old { coming = rest }))
+    (came rest : List ℕ) × (old.coming ≡ came ++ rest) × (kept ≡ held ++ came)
+    × (new ≡ Some (record old { coming = rest }))
 Fills held (Some old) other kept new = (kept ≡ held) × (new ≡ Some old)
 
--- What is heard of a client that sent `text` more than was heard: its first line, and then what comes behind that; or no line is whole, and nothing
--- is lost; or it is gone
+-- What is heard of a client that sent `text` more than was heard: its first line, and then what comes behind that; or
+-- no line is whole, and nothing is lost; or it is gone
 abbrev pub HearsOf : List ℕ → Hearing → List ℕ → Type 0
 HearsOf text (hears.Line line) left = (text ≡ line.items ++ 10 ∷ left) × HasNoFeed line.items
 HearsOf text hears.Silence left = left ≡ text
@@ -49,4 +51,5 @@ HearsOf text hears.Gone left = left ≡ text
 abbrev pub Hears : List ℕ → Option Link → Hearing → List ℕ → Option Link → Type 0
 Hears held None heard kept new = ⊤
 Hears held (Some old) heard kept new =
-    (left : Link) × (new ≡ Some left) × (left.given ≡ old.given) × HearsOf (held ++ old.coming) heard (kept ++ left.coming)
+    (left : Link) × (new ≡ Some left) × (left.given ≡ old.given)
+    × HearsOf (held ++ old.coming) heard (kept ++ left.coming)

@@ -94,11 +94,12 @@ impl<S: Connection> Asker<S> {
         Err(AskFault::Gone)
     }
 
-    /// The next line. A look at the connection that brings no whole line brings an octet of it at least, or was
-    /// interrupted.
+    /// The next line. A look at the connection that brings no whole line brings an octet of it at
+    /// least, or was interrupted.
     fn next_line(&mut self) -> Option<Line>
         ensures { IfSome result (λ line. BeginsWithLine
-            (unread (held_by (relay_of self.old)) (S.link (connection_of (relay_of self.old)))) line.items
+            (unread (held_by (relay_of self.old)) (S.link (connection_of (relay_of self.old))))
+            line.items
             (unread (held_by (relay_of self.new)) (S.link (connection_of (relay_of self.new))))) }
     {
         for _look in 0..=MAX_LINE {
@@ -114,7 +115,8 @@ impl<S: Connection> Asker<S> {
     /// The next line, which has to come.
     fn line(&mut self) -> Result<Line, AskFault>
         ensures { IfOk result (λ line. BeginsWithLine
-            (unread (held_by (relay_of self.old)) (S.link (connection_of (relay_of self.old)))) line.items
+            (unread (held_by (relay_of self.old)) (S.link (connection_of (relay_of self.old))))
+            line.items
             (unread (held_by (relay_of self.new)) (S.link (connection_of (relay_of self.new))))) }
     {
         match self.next_line() {
@@ -136,7 +138,8 @@ impl<S: Connection> Asker<S> {
     /// Reads an answer up to its end.
     pub fn answer(&mut self, alloc: Global) -> Result<Answer, AskFault>
         ensures { IfOk result (λ answer. BeginsWithAnswer
-            (unread (held_by (relay_of self.old)) (S.link (connection_of (relay_of self.old)))) answer.text.items answer.status
+            (unread (held_by (relay_of self.old)) (S.link (connection_of (relay_of self.old))))
+            answer.text.items answer.status
             (unread (held_by (relay_of self.new)) (S.link (connection_of (relay_of self.new))))) }
     {
         let mut text = Vec::new(alloc);

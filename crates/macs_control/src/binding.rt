@@ -1,8 +1,9 @@
-//! How a control socket gets its name: one that was left behind is removed, and nobody but the owner
-//! of the program reaches the new one, from its first moment on.
+//! How a control socket gets its name: one that was left behind is removed, and nobody but the
+//! owner of the program reaches the new one, from its first moment on.
 
 ghost use Rattle.std.specs.Prelude.{◌≡◌, IfNone, OnSome};
-ghost use Rattle.macs_control.specs.Binding.{Clears, IsBound, IsNotBound, IsNotNamed, named_calls, with_calls};
+ghost use Rattle.macs_control.specs.Binding.{Clears, IsBound, IsNotBound, IsNotNamed};
+ghost use Rattle.macs_control.specs.Binding.{named_calls, with_calls};
 
 use std::io::ErrorKind;
 use std::net::Net;
@@ -31,7 +32,8 @@ pub enum Reach {
 /// What is asked of the system to make a control socket. Tests put others in its place.
 pub trait LocalSockets {
     ghost use Rattle.std.specs.Prelude.{◌≡◌, [], ◌∷◌, List, Option, None, is_some};
-    ghost use Rattle.macs_control.specs.Binding.{Binds, Listens, Makes, Reaches, Removes, SetsMode, SocketCall, with_calls};
+    ghost use Rattle.macs_control.specs.Binding.{Binds, Listens, Makes, Reaches, Removes, SetsMode};
+    ghost use Rattle.macs_control.specs.Binding.{SocketCall, with_calls};
 
     /// The calls so far, in their order, and what came of each, where that is known.
     ghost asked: { Self → Option (List SocketCall) } = { λ _. None };
@@ -136,8 +138,10 @@ fn clear<L: LocalSockets>(sockets: &mut L, path: &str) -> bool
 
 /// A socket with a name that was free. Its mode is set before it has the name.
 fn named<L: LocalSockets>(sockets: &mut L, path: &str) -> Option<OwnedFd>
-    ensures named { OnSome result (L.asked sockets.new ≡ with_calls (L.asked sockets.old) (named_calls path.now)) }
-    ensures failed { IfNone result (IsNotNamed path.now (L.asked sockets.old) (L.asked sockets.new)) }
+    ensures named { OnSome result
+        (L.asked sockets.new ≡ with_calls (L.asked sockets.old) (named_calls path.now)) }
+    ensures failed { IfNone result
+        (IsNotNamed path.now (L.asked sockets.old) (L.asked sockets.new)) }
 {
     let socket = sockets.make()?;
     if !sockets.set_mode(&socket, OWNER_ALONE) {
@@ -149,11 +153,12 @@ fn named<L: LocalSockets>(sockets: &mut L, path: &str) -> Option<OwnedFd>
     Some(socket)
 }
 
-/// A socket that takes connections at a name. There is none where a program listens there, where the
-/// name belongs to something else, or where a call of the system fails.
+/// A socket that takes connections at a name. There is none where a program listens there, where
+/// the name belongs to something else, or where a call of the system fails.
 pub fn bind<L: LocalSockets>(sockets: &mut L, path: &str) -> Option<UnixListener>
     ensures bound { OnSome result (IsBound path.now (L.asked sockets.old) (L.asked sockets.new)) }
-    ensures failed { IfNone result (IsNotBound path.now (L.asked sockets.old) (L.asked sockets.new)) }
+    ensures failed { IfNone result
+        (IsNotBound path.now (L.asked sockets.old) (L.asked sockets.new)) }
 {
     if !clear(sockets, path) {
         return None;

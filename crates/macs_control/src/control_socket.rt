@@ -20,7 +20,8 @@ const LONGEST_SLEEP: u16 = 1_000;
 pub enum ControlFault {
     /// There is no memory for its clients.
     Memory,
-    /// A program listens at its name, or the name belongs to another file, or a call of the system failed.
+    /// A program listens at its name, or the name belongs to another file, or a call of the system
+    /// failed.
     Bind,
 }
 
@@ -45,7 +46,10 @@ pub struct ControlSocket<'a, T> {
     listener: Option<UnixListener>,
     seats: Seats<UnixStream>,
     second: EachSecond,
+    /// A line was heard last: more may be at hand.
     has_heard: bool,
+    /// The sleep before showed that nobody says anything.
+    is_still: bool,
 }
 
 /// Takes in clients that connected.
@@ -84,8 +88,8 @@ fn listener_at<T: Files + Net>(
 }
 
 impl<'a, T: Files + Clock> ControlSocket<'a, T> {
-    /// Over these wires and a socket at a name, or without one: then there are no clients. Each sleep is for so many
-    /// milliseconds at most, and for a second at most.
+    /// Over these wires and a socket at a name, or without one: then there are no clients. Each
+    /// sleep is for so many milliseconds at most, and for a second at most.
     pub fn bind(
         rt: &'a T,
         alloc: Global,
@@ -107,6 +111,7 @@ impl<'a, T: Files + Clock> ControlSocket<'a, T> {
             seats,
             second: EachSecond::new(),
             has_heard: false,
+            is_still: false,
         })
     }
 
@@ -129,7 +134,12 @@ impl<'a, T: Files + Clock> ControlSocket<'a, T> {
 }
 
 impl<T: Files + Clock> Clients for ControlSocket<'_, T> {
+    /// After a sleep that only a wire ended, no client is looked at.
     fn hear(&mut self) -> Option<Heard> {
+        if self.is_still {
+            self.is_still = false;
+            return None;
+        }
         if let Some(listener) = &self.listener {
             greet(listener, &mut self.seats);
         }
@@ -147,7 +157,7 @@ impl<T: Files + Clock> Clients for ControlSocket<'_, T> {
         if self.has_heard {
             return;
         }
-        self.watch().sleep(self.limit.min(LONGEST_SLEEP));
+        self.is_still = !self.watch().sleep(self.limit.min(LONGEST_SLEEP));
     }
 
     fn is_ended(&mut self) -> bool {
@@ -155,7 +165,8 @@ impl<T: Files + Clock> Clients for ControlSocket<'_, T> {
     }
 }
 
-/// Removes the name of a control socket at the end. Where that fails, the next relay finds it left behind.
+/// Removes the name of a control socket at the end. Where that fails, the next relay finds it left
+/// behind.
 pub fn remove_name<T: Files>(rt: &T, path: &str) {
     let _ = rt.remove_file(path);
 }

@@ -17,13 +17,16 @@ pub trait FileCalls {
     /// The calls so far, in their order, and whether each was done, where that is known.
     ghost asked: { Self → Option (List FileCall) } = { λ _. None };
 
-    /// Writes a text to a file of this name, which is made where there is none: all of it, or the call has failed.
+    /// Writes a text to a file of this name, which is made where there is none: all of it, or the
+    /// call has failed.
     fn write(&mut self, path: &str, text: &[u8]) -> bool
-        ensures { asked self.new ≡ with_calls (asked self.old) (Writes path.now text.now result ∷ []) };
+        ensures { asked self.new
+            ≡ with_calls (asked self.old) (Writes path.now text.now result ∷ []) };
 
     /// Gives a file the name of another one, in place of that.
     fn rename(&mut self, from: &str, to: &str) -> bool
-        ensures { asked self.new ≡ with_calls (asked self.old) (Renames from.now to.now result ∷ []) };
+        ensures { asked self.new
+            ≡ with_calls (asked self.old) (Renames from.now to.now result ∷ []) };
 }
 
 /// The files of the system.

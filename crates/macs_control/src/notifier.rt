@@ -37,7 +37,8 @@ fn name_octets(name: &[u8]) -> Name
     octets
 }
 
-/// Puts the family of local sockets (`AF_UNIX`, a number of 16 bits, the low octet first) and a name at the front.
+/// Puts the family of local sockets (`AF_UNIX`, a number of 16 bits, the low octet first) and a
+/// name at the front.
 fn put_name(octets: &mut [u8], name: &[u8])
     requires { 2 + length name.now ≤ length octets.old }
     ensures { take (2 + length name.now) octets.new ≡ 1 ∷ 0 ∷ name.now }

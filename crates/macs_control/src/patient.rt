@@ -9,7 +9,8 @@ use std::time::Duration;
 /// How long a read or a write waits, in seconds: longer than any command takes.
 const PATIENCE: u64 = 60;
 
-/// A connection to a relay, each call of which waits for a minute at most: what then has not come does not come.
+/// A connection to a relay, each call of which waits for a minute at most: what then has not come
+/// does not come.
 #[derive(Drop)]
 pub struct PatientStream {
     stream: UnixStream,

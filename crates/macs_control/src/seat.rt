@@ -99,7 +99,8 @@ impl<S: Connection> Seat<S> {
     pub fn give(&mut self, text: &[u8]) -> bool
         ensures client { client_of self.new ≡ client_of self.old }
         ensures held { held_by self.new ≡ held_by self.old }
-        ensures given { GivesOctets (S.link (connection_of self.old)) (S.link (connection_of self.new)) text.now result }
+        ensures given { GivesOctets (S.link (connection_of self.old))
+            (S.link (connection_of self.new)) text.now result }
     {
         self.connection.give(text)
     }

@@ -61,8 +61,8 @@ impl<S: Connection> Seats<S> {
         let _ = self.seats.push(Seat::new(Client(self.last), connection));
     }
 
-    /// Hears the client at a place. One that said a line goes to the last place, and one that is gone
-    /// loses its own.
+    /// Hears the client at a place. One that said a line goes to the last place, and one that is
+    /// gone loses its own.
     fn hear_at(&mut self, at: usize) -> Option<Heard>
         requires { at < seat_count self.old }
     {
@@ -100,8 +100,8 @@ impl<S: Connection> Seats<S> {
         None
     }
 
-    /// Sends a text to a client. One that does not take all of it at once loses its place, and to one
-    /// that has none nothing is sent.
+    /// Sends a text to a client. One that does not take all of it at once loses its place, and to
+    /// one that has none nothing is sent.
     pub fn say(&mut self, client: Client, text: &[u8]) {
         if let Some(at) = at_client(self.seats.as_slice(), client) {
             if !self.seats[at].give(text) {

@@ -39,8 +39,8 @@ fn is_term_in(digits: &str) -> bool
     }
 }
 
-/// Whether a text as that of `/proc/self/status` says that SIGTERM waits: it was sent to the process,
-/// which was started with that signal held back.
+/// Whether a text as that of `/proc/self/status` says that SIGTERM waits: it was sent to the
+/// process, which was started with that signal held back.
 pub fn is_term_pending(status: &str) -> bool
     ensures { IsTrue result → IsTermPending status.now }
 {

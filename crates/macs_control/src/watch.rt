@@ -40,6 +40,11 @@ fn readable(socket: RawFd) -> pollfd
     }
 }
 
+/// Whether one of these was found to be ready, or has failed.
+fn is_any_found(asked: &[pollfd]) -> bool {
+    asked.iter().any(|each| each.revents != 0)
+}
+
 impl Watch {
     ghost use Rattle.std.specs.Prelude.{◌≡◌, ◌∷◌, [], map};
     ghost use Rattle.macs_control.specs.Watching.{asks, watched};
@@ -59,9 +64,12 @@ impl Watch {
         ]
     }
 
-    /// Sleeps until one of them can be read, so many milliseconds at most. What is there already
-    /// ends the sleep at once (POSIX.1-2017, `poll`). Where the call fails, there is no sleep.
-    pub fn sleep(&self, milliseconds: u16) {
-        let _ = poll(&mut self.asked(), i32::from(milliseconds));
+    /// Sleeps until one of them can be read, so many milliseconds at most, and answers whether one
+    /// is that is no wire. What is there already ends the sleep at once (POSIX.1-2017, `poll`).
+    /// Where the call fails there is no sleep, and whether one is is not known.
+    pub fn sleep(&self, milliseconds: u16) -> bool {
+        let mut asked = self.asked();
+        let found = poll(&mut asked, i32::from(milliseconds));
+        found < 0 || is_any_found(&asked[2..])
     }
 }
