@@ -1,2 +1,3 @@
 mod Counted
 mod Reading
+mod CommandWords

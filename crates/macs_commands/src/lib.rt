@@ -4,6 +4,7 @@
 mod command_files;
 mod config_fault;
 mod fields;
+pub mod laws;
 mod lines;
 mod modes;
 mod word;

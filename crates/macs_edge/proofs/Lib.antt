@@ -14,4 +14,6 @@ mod Matching
 mod Attended
 mod Rested
 mod AttendedFlows
+mod Answering
 mod Words
+mod Drawn

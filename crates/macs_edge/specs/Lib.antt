@@ -13,3 +13,4 @@ pub mod Attending
 pub mod Commanding
 pub mod Counts
 pub mod Words
+pub mod Drawn

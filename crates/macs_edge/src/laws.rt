@@ -6,6 +6,8 @@ ghost use Rattle.macs_endpoint.specs.State.{State};
 ghost use Rattle.macs_endpoint.specs.declared.fault.RefillFault.{RefillFault};
 ghost use Rattle.macs_edge.specs.Attending.{Attends};
 ghost use Rattle.macs_edge.specs.Commanding.{IsAttendedFlow};
+ghost use Rattle.macs_edge.specs.Drawn.{CountWords, DeskWords, FaultWords, FlowsInTurns, PassWords, RestWords};
+ghost use Rattle.macs_edge.specs.Drawn.{SocketWords, TurnWords};
 ghost use Rattle.macs_edge.specs.Flows.{IsFlow};
 ghost use Rattle.macs_edge.specs.Passing.{BecomesCapture, Passes};
 ghost use Rattle.macs_edge.specs.Relaying.{Relay, Relays, empty_lane, summary_of};
@@ -63,4 +65,31 @@ pub fn words<D: SectorDisk>()
     ensures settling { SettlingWords D.disk }
     // What becomes a capture.
     ensures captures { TheseBecomeCaptures }
+{}
+
+/// A relay makes one step a turn: as many as it has turns, or fewer where a step is answered with a
+/// fault.
+pub fn steps_are_turns<D: SectorDisk>()
+    ensures { (turns : ℕ) (old new : Relay D) (result : Result RelaySummary RefillFault)
+        → old.to_common ≡ empty_lane → old.to_controlled ≡ empty_lane → Relays D.disk turns old result new
+        → FlowsInTurns D.disk turns old result new }
+{}
+
+/// What is to be drawn of records that pass, of sleeps, and of sockets of which the datagrams are
+/// known.
+pub fn drawn<D: SectorDisk>()
+    // What passes of each record, and what a run does.
+    ensures passes { PassWords D.disk }
+    // After which turns a relay sleeps.
+    ensures rests { RestWords D.disk }
+    // What a socket gives and takes, and what a wire makes of it.
+    ensures sockets { SocketWords }
+    // What a wire counts.
+    ensures counts { CountWords }
+    // What a turn does, and in which order.
+    ensures turns { TurnWords D.disk }
+    // What passes between a relay and its desk.
+    ensures desk { DeskWords D.disk }
+    // Which calls of a wire fail that is made to.
+    ensures faults { FaultWords }
 {}

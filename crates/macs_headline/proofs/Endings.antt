@@ -4,7 +4,7 @@ use Rattle.macs_disk.specs.Disk.{Disk, IsDeviceCall, IsHonest, now}
 use Rattle.macs_disk.specs.States.{DiskState, Image, IsImage, IsSector, IsSound}
 use Rattle.macs_disk.specs.declared.disk.DeviceFault.{DeviceFault}
 use Rattle.macs_headline.specs.Deeds.{IsPassedOn}
-use Rattle.macs_headline.specs.Endings.{DroppedPassOn, EndsAreEarlier, ImagesAreWhole, KillingsPassOn, LossesSettle, PassedOnAgain, PowerLossesPassOn, ReadsPassOn, SyncsPassOn, TheseAreAlike, TheseArePassedOn, WritesBackAsSyncs, WrittenBackPassOn, state_written_back}
+use Rattle.macs_headline.specs.Endings.{DroppedPassOn, EndsAreEarlier, ImagesAreWhole, KillingsPassOn, LossesSettle, PassedOnAgain, PowerLossesPassOn, ReadsPassOn, SyncsPassOn, TheseAreAlike, TheseAreImages, TheseArePassedOn, WritesBackAsSyncs, WrittenBackPassOn, state_written_back}
 use Rattle.macs_headline.proofs.Losses.{settled-passed}
 
 pub these-are-alike : TheseAreAlike
@@ -137,6 +137,12 @@ losses-settle ran new since loses i = (
   ap (λ (s : DiskState). s.pending i) loses.settled,
   ap (λ (s : DiskState). s.seen i) loses.settled ∙ sym (ap (λ (s : DiskState). s.durable i) loses.settled),
 )
+
+pub these-are-images : TheseAreImages
+these-are-images state image kept size octets = record {
+  kept = kept;
+  whole = λ i pending. record { size = size i pending; octets = λ k. octets i k pending };
+}
 
 pub images-are-whole : ImagesAreWhole
 images-are-whole state image is i pending = ((is.whole i pending).size, (is.whole i pending).octets)

@@ -31,11 +31,16 @@ use Rattle.macs_endpoint.specs.Keeping.{KeepsCommand}
 use Rattle.macs_endpoint.specs.Lives.{FitsLife, LeavesLife, Transition}
 use Rattle.macs_endpoint.specs.Serving.{EndsAs, is_halt}
 use Rattle.macs_endpoint.specs.Spending.{Spends, generation_in_raises, most_in_raises, reserved_in, slots_in_raises}
-use Rattle.macs_endpoint.specs.State.{Commands, Protects, Ran, Receives, Refilled, Refills, Reply, no_logs, rx_side, tx_side}
+use Rattle.macs_endpoint.specs.State.{Advanced, Commands, Protected, Protects, Ran, Received, Receives, Refilled, Refills, Reply, Submitted, no_logs, rx_side, tx_side}
 use Rattle.macs_endpoint.specs.Value.{EndpointValue, disk_in, state_of}
 use Rattle.macs_endpoint.specs.declared.event.ServeEnd.TheVariants.{Halted}
 use Rattle.macs_endpoint.specs.declared.fault.CommandFault.TheVariants as ran
+use Rattle.macs_endpoint.specs.declared.fault.ProtectFault.TheVariants as protect
 use Rattle.macs_endpoint.specs.declared.fault.RefillFault.TheVariants as refill
+use Rattle.macs_endpoint.specs.declared.fault.StepFault.TheVariants as step
+use Rattle.macs_endpoint.specs.declared.fault.Stopped.{Stopped}
+use Rattle.macs_endpoint.specs.declared.fault.SubmitFault.TheVariants as submit
+use Rattle.macs_headline.specs.Stopping.{TellsFault, TellsStopped}
 use Rattle.macs_headline.specs.EndpointWords.{CallsAreCounted, CeilingsAreRaised, OpeningsCount, ServedWords}
 use Rattle.macs_headline.proofs.LookUps.{none-some}
 use Rattle.macs_headline.proofs.Ledger.{some_one}
@@ -184,6 +189,32 @@ module _ {D : Type 0} (disk_of : D → Disk) where
     )
   ]
 
+  -- a refill that is done
+  refilled : (old new : EndpointValue D) → IsCall disk_of old Refills (Refilled (Ok tt)) new → old.reserving ≡ None
+      → IsRefilled (tx_side (state_of old no_logs)) (rx_side (state_of old no_logs)) (standing_in old.store) (standing_in new.store) None
+  refilled old new call none =
+      subst (λ (s : Standing). IsRefilled (tx_side (state_of old no_logs)) (rx_side (state_of old no_logs)) s (standing_in new.store) None)
+      (reserved_none (standing_in old.store) old.reserving none) call.behaves.ceilings
+
+  refilled_behind : (old new : EndpointValue D) (raise : Raise) → IsCall disk_of old Refills (Refilled (Ok tt)) new → old.reserving ≡ Some raise
+      → IsRefilled (tx_side (state_of old no_logs)) (rx_side (state_of old no_logs)) (standing_with_raise (standing_in old.store) raise)
+      (standing_in new.store) None
+  refilled_behind old new raise call is =
+      subst (λ (s : Standing). IsRefilled (tx_side (state_of old no_logs)) (rx_side (state_of old no_logs)) s (standing_in new.store) None)
+      (reserved_some (standing_in old.store) old.reserving raise is) call.behaves.ceilings
+
+  spends_so : (old : EndpointValue D) (new : StoreValue D) → Spends disk_of old (Ok tt) new → old.reserving ≡ None
+      → (next : Option Raise) × IsRefilled (tx_side (state_of old no_logs)) (rx_side (state_of old no_logs)) (standing_in old.store) (standing_in new) next
+  spends_so old new (raises, has) none = (
+    first_raise (standing_in new) (tx_side (state_of old no_logs)) (rx_side (state_of old no_logs)),
+    record {
+      raises = raises;
+      raised = subst (λ (s : Standing). Raises (tx_side (state_of old no_logs)) (rx_side (state_of old no_logs)) s raises (standing_in new))
+          (reserved_none (standing_in old.store) old.reserving none) has.raised;
+      is_next = refl;
+    },
+  )
+
   pub ceilings-are-raised : CeilingsAreRaised disk_of
   ceilings-are-raised = record {
     none = λ t r old new next is none. none_raised t r old new is.raises is.raised none;
@@ -195,6 +226,9 @@ module _ {D : Type 0} (disk_of : D → Disk) where
     spent = λ old new command call none. call.behaves.ceilings ∙ reserved_none (standing_in old.store) old.reserving none;
     spent_behind = λ old new command raise call is. call.behaves.ceilings ∙ reserved_some (standing_in old.store) old.reserving raise is;
     fault = refill_fault;
+    refilled = refilled;
+    refilled_behind = refilled_behind;
+    spends = spends_so;
     refill = refill_calls;
     command = command_calls;
   }
@@ -250,6 +284,35 @@ module _ {D : Type 0} (disk_of : D → Disk) where
   halted_last (reply ∷ next ∷ replies) ends =
       let rest = halted_last (next ∷ replies) ends.1 in (reply ∷ rest.0, rest.1, ap (reply ∷◌) rest.2, rest.3)
 
+  -- which answers say that a device call failed
+  halts : (reply : Reply) → TellsFault reply → is_halt reply ≡ true
+  halts (Ran (Err ran.Disk)) tells = refl
+  halts (Refilled (Err refill.Disk)) tells = refl
+  halts (Advanced (Err step.Disk)) tells = refl
+  halts reply tells = absurd tells
+
+  halts_stopped : (reply : Reply) → TellsStopped reply → is_halt reply ≡ true
+  halts_stopped (Ran (Err ran.Stopped)) tells = refl
+  halts_stopped (Refilled (Err refill.Stopped)) tells = refl
+  halts_stopped (Submitted (Err submit.Stopped)) tells = refl
+  halts_stopped (Advanced (Err step.Stopped)) tells = refl
+  halts_stopped (Protected (Err protect.Stopped) out) tells = refl
+  halts_stopped (Received (Err stopped) out) tells = refl
+  halts_stopped reply tells = absurd tells
+
+  halts_alone : (reply : Reply) → is_halt reply ≡ true → TellsFault reply ⊎ (TellsStopped reply
+      ⊎ (((out : List ℕ) × (reply ≡ Protected (Err protect.Stopped) out)) ⊎ ((stopped : Stopped) × (out : List ℕ) × (reply ≡ Received (Err stopped) out))))
+  halts_alone (Ran (Err ran.Disk)) is = inl tt
+  halts_alone (Refilled (Err refill.Disk)) is = inl tt
+  halts_alone (Advanced (Err step.Disk)) is = inl tt
+  halts_alone (Ran (Err ran.Stopped)) is = inr (inl tt)
+  halts_alone (Refilled (Err refill.Stopped)) is = inr (inl tt)
+  halts_alone (Submitted (Err submit.Stopped)) is = inr (inl tt)
+  halts_alone (Advanced (Err step.Stopped)) is = inr (inl tt)
+  halts_alone (Protected (Err protect.Stopped) out) is = inr (inr (inl (out, refl)))
+  halts_alone (Received (Err stopped) out) is = inr (inr (inr (stopped, out, refl)))
+  halts_alone reply is = absurd (cc)
+
   pub served-words : ServedWords disk_of
   served-words = record {
     left = left_since;
@@ -261,5 +324,18 @@ module _ {D : Type 0} (disk_of : D → Disk) where
     ended = λ most old new before after i. i.ended refl;
     taken = λ most old new before after end i tells. i.taken tells;
     given = λ most old new before after end i tells. i.given tells;
+    commanded = λ command. refl;
+    plain = λ frame. refl;
+    tagged = λ frame. refl;
+    work = refl;
+    submitted = λ result. refl;
+    protected = λ result out. refl;
+    received = λ result out. refl;
+    stepped = λ result. refl;
+    ran = λ result. refl;
+    refilled = λ result. refl;
+    halts = halts;
+    halts_stopped = halts_stopped;
+    halts_alone = halts_alone;
     halted = halted_last;
   }

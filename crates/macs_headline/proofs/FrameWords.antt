@@ -52,6 +52,7 @@ frame-words sectors = record {
     λ is. named_as s new plain out pn f identity _ is,
     λ is. named_as s new plain out pn f identity _ is,
   );
+  bits = λ s new plain out pn f identity. f.bits identity;
   read = λ s new plain out pn f identity. f.read identity;
   delivered = λ s new frame out kind d. (d.named, d.association, d.are_numbers, d.guarded, d.verified, d.only, d.logged);
   other_frame = λ lives logs plain out key pn number o. o.other;

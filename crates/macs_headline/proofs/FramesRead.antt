@@ -1,16 +1,16 @@
 -- A frame that goes out is read as it was written, and verifies.
-use Rattle.std.proofs.Common.{◌≡◌, ◌<◌, ◌≤◌, ◌+◌, ◌^◌, ◌++◌, ◌&&◌, ℕ, false, true, not, List, [], ◌∷◌, length, take, drop, refl, sym, ◌∙◌, ap, arith}
-use Rattle.std.specs.Prelude.{slice_range}
+use Rattle.std.proofs.Common.{◌≡◌, ◌<◌, ◌≤◌, ◌+◌, ◌^◌, ◌++◌, ◌%◌, ◌&&◌, ℕ, false, true, not, List, [], ◌∷◌, length, take, drop, refl, sym, ◌∙◌, ap, arith}
+use Rattle.std.specs.Prelude.{slice_index, slice_range}
 use Rattle.std.proofs.lemmas.Bool.{not-false}
 use Rattle.std.proofs.lemmas.List.{take-append-drop}
 use Rattle.macs_fields.specs.Fields.{octets_of}
 use Rattle.macs_frame.specs.Opening.{Verified}
 use Rattle.macs_frame.specs.Protection.{IsName, IsWritten, overhead}
-use Rattle.macs_frame.specs.Tag.{name_of}
+use Rattle.macs_frame.specs.Tag.{has_bit, name_of}
 use Rattle.macs_frame.specs.declared.tag.ScName.{ScName}
 use Rattle.macs_frame.specs.declared.tag.SecTag.{SecTag}
 use Rattle.macs_frame.proofs.Protection.{protected_is_read, protected_is_verified}
-use Rattle.macs_config.specs.Association.{is_end_station, offset_of}
+use Rattle.macs_config.specs.Association.{is_confidential, is_end_station, offset_of}
 use Rattle.macs_config.specs.Identity.{IsIdentity, is_port_one}
 use Rattle.macs_config.specs.declared.command.SciMode.{SciMode}
 use Rattle.macs_config.specs.declared.command.SciMode.TheVariants.{EndStation, Explicit, Implicit}
@@ -58,6 +58,15 @@ module _ (s : State) (plain : List ℕ) (o : Outgoing) (is : IsIdentity s.identi
   frame-named =
       let read = protected_is_read o.sa.key s.identity.sci tag (octets_of (offset_of o.sa.protection)) plain written long fits in
       named_by s.config.mode s.identity.sci (name_of (frame_of (tx_side s) o plain)) (sym (ap (λ (t : SecTag). t.name) read.0.reading.tag))
+
+  -- it has the AN, and E and C both set under confidentiality, else both clear
+  pub frame-bits : (slice_index (frame_of (tx_side s) o plain) 14 % 4 ≡ o.an)
+      × (has_bit (slice_index (frame_of (tx_side s) o plain) 14) 0x08 ≡ is_confidential o.sa.protection)
+      × (has_bit (slice_index (frame_of (tx_side s) o plain) 14) 0x04 ≡ is_confidential o.sa.protection)
+  frame-bits =
+      let read = protected_is_read o.sa.key s.identity.sci tag (octets_of (offset_of o.sa.protection)) plain written long fits in
+      let is = read.0.reading.tag in
+      (sym (ap (λ (t : SecTag). t.an) is), sym (ap (λ (t : SecTag). t.encrypted) is), sym (ap (λ (t : SecTag). t.changed) is))
 
   -- and it verifies
   pub frame-read : Verified (frame_of (tx_side s) o plain) o.sa.key s.identity.sci (octets_of (offset_of o.sa.protection)) plain

@@ -75,6 +75,10 @@ pub mod Tickets
 pub mod Waits
 mod Turns
 mod EndpointWords
+mod CountWords
+mod NeedWords
+mod FailureWords
+mod StandWords
 mod FrameWords
 mod QueueWords
 pub mod RefusedDays

@@ -1,14 +1,14 @@
 -- Next packet numbers stay within 1 and 2^32, and commands in hand and those that wait in their ranges.
-use Rattle.std.proofs.Common.{◌≡◌, ◌<◌, ◌≤◌, ◌+◌, ◌^◌, ◌==◌, inl, inr, ℕ, refl, sym, ◌∙◌, ap, subst, arith, List, [], ◌∷◌, length, Bool, true, false, cond, Result, Ok, Err}
+use Rattle.std.proofs.Common.{◌≡◌, ◌<◌, ◌≤◌, ◌+◌, ◌%◌, ◌^◌, ◌==◌, inl, inr, ℕ, refl, sym, ◌∙◌, ap, subst, arith, List, [], ◌∷◌, length, Bool, true, false, cond, Result, Ok, Err}
 use Rattle.std.specs.Prelude.{Option, Some, None, IfSome, not, ◌&&◌, is_ok, slice_index}
 use Rattle.std.specs.List.{AllByRecursion}
 use Rattle.std.proofs.lemmas.Bool.{cases_eq, eq-eqb, ltb-false, not-false}
 use Rattle.macs_fields.specs.Fields.{octets_of}
 use Rattle.macs_frame.specs.Opening.{Verified}
 use Rattle.macs_frame.specs.Protection.{overhead}
-use Rattle.macs_frame.specs.Tag.{name_of}
+use Rattle.macs_frame.specs.Tag.{has_bit, name_of}
 use Rattle.macs_config.specs.Apply.{IsCommand, apply, config_after, refusal_of}
-use Rattle.macs_config.specs.Association.{is_end_station, offset_of}
+use Rattle.macs_config.specs.Association.{is_confidential, is_end_station, offset_of}
 use Rattle.macs_config.specs.Config.{Config, Edition}
 use Rattle.macs_config.specs.Identity.{Identity, is_port_one}
 use Rattle.macs_config.specs.Tables.{put}
@@ -49,7 +49,7 @@ use Rattle.macs_headline.proofs.Ledger.{some_one}
 use Rattle.macs_headline.proofs.Places.{put-that, put-this}
 use Rattle.macs_headline.proofs.Accepted.{NoTest, accepted, no-test, right-mode, right-start, tx_of}
 use Rattle.macs_headline.proofs.Effects.{outgoing_is}
-use Rattle.macs_headline.proofs.FramesRead.{frame-named, frame-read, own-source}
+use Rattle.macs_headline.proofs.FramesRead.{frame-bits, frame-named, frame-read, own-source}
 use Rattle.macs_headline.proofs.Histories.{fits-restart, found-new}
 use Rattle.macs_headline.proofs.ShortLengths.{short-length}
 
@@ -258,6 +258,10 @@ module _ (edition : Edition) where
           own = own-source old.config.mode old.identity.sci plain tests.1.1.0 ranged.channel.1;
           named = λ identity. subst (λ (frame : List ℕ). IsNamedIn old.config.mode old.identity.sci (name_of frame)) (sym is_out)
               (frame-named old plain o identity placed within.0 below long fits);
+          bits = λ identity. subst (λ (frame : List ℕ). (slice_index frame 14 % 4 ≡ o.an)
+              × (has_bit (slice_index frame 14) 0x08 ≡ is_confidential o.sa.protection)
+              × (has_bit (slice_index frame 14) 0x04 ≡ is_confidential o.sa.protection)) (sym is_out)
+              (frame-bits old plain o identity placed within.0 below long fits);
           read = λ identity. subst (λ (frame : List ℕ). Verified frame o.sa.key old.identity.sci (octets_of (offset_of o.sa.protection)) plain) (sym is_out)
               (frame-read old plain o identity placed within.0 below long fits);
         }),

@@ -83,6 +83,12 @@ abbrev pub ImagesAreWhole : Type 0
 ImagesAreWhole = (state : DiskState) (image : Image) → IsImage state image → (i : ℕ) → state.pending i ≡ true
     → (length (image i) ≡ 512) × ((k : ℕ) → get_or (image i) k 0 < 2 ^ 8)
 
+-- And so is each image that has what is durable in the sectors that are not pending, and any 512 octets in those that are.
+abbrev pub TheseAreImages : Type 0
+TheseAreImages = (state : DiskState) (image : Image) → ((i : ℕ) → state.pending i ≡ false → image i ≡ state.durable i)
+    → ((i : ℕ) → state.pending i ≡ true → length (image i) ≡ 512)
+    → ((i k : ℕ) → state.pending i ≡ true → get_or (image i) k 0 < 2 ^ 8) → IsImage state image
+
 -- What ended in calls that came before others ended in the earlier ones: each end fits the work of its own moment.
 abbrev pub EndsAreEarlier : Type 0
 EndsAreEarlier = (old ran new : Disk) (since : ℕ) → Works old ran → (p : IsPassedOn ran since new) → (from : ℕ) → from ≤ p.moment → p.moment ≤ old.clock

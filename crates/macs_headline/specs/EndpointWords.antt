@@ -1,6 +1,7 @@
 -- What is to be drawn of the endpoint's contracts on openings, on ceilings and refills, on commands that are kept, on turns, on counters, and on events that are
 -- served: words that stand in what these promise, and in no law of the endpoint.
 use Rattle.std.specs.Prelude.{◌≡◌, ◌≢◌, ◌<◌, ◌≤◌, ◌⊎◌, ◌+◌, ◌-◌, ◌*◌, ◌++◌, true, ℕ, List, [], ◌∷◌, length, map, Option, Some, None, Result, Ok, Err}
+use Rattle.arrayvec.specs.ArrayVec.{ArrayVec}
 use Rattle.macs_config.specs.Identity.{Identity}
 use Rattle.macs_config.specs.Numbers.{one_more}
 use Rattle.macs_config.specs.declared.command.Command.{Command}
@@ -33,16 +34,27 @@ use Rattle.macs_endpoint.specs.Opening.{IsOpening}
 use Rattle.macs_endpoint.specs.Restart.{Fits, state_during}
 use Rattle.macs_endpoint.specs.Serving.{EndsAs, IsServed, Told, call_of, is_halt, reply_of}
 use Rattle.macs_endpoint.specs.Spending.{Spends}
-use Rattle.macs_endpoint.specs.State.{Commands, Protected, Protects, Ran, Received, Receives, Refilled, Refills, Reply, no_logs, rx_side, tx_side}
+use Rattle.macs_endpoint.specs.State.{Advanced, Advances, Commands, Protected, Protects, Ran, Received, Receives, Refilled, Refills, Reply, Submits, Submitted, no_logs, rx_side, tx_side}
 use Rattle.macs_endpoint.specs.Value.{EndpointValue, disk_in, state_of}
 use Rattle.macs_endpoint.specs.declared.event.Answer.{Answer}
+use Rattle.macs_endpoint.specs.declared.event.Answer.TheVariants as answer
 use Rattle.macs_endpoint.specs.declared.event.Event.{Event}
+use Rattle.macs_endpoint.specs.declared.event.Event.TheVariants as event
 use Rattle.macs_endpoint.specs.declared.event.ServeEnd.{ServeEnd}
 use Rattle.macs_endpoint.specs.declared.event.ServeEnd.TheVariants.{Ended, Halted, TurnsSpent}
+use Rattle.macs_endpoint.specs.declared.fault.CommandFault.{CommandFault}
 use Rattle.macs_endpoint.specs.declared.fault.CommandFault.TheVariants as ran
+use Rattle.macs_endpoint.specs.declared.fault.ProtectFault.{ProtectFault}
+use Rattle.macs_endpoint.specs.declared.fault.ProtectFault.TheVariants as protect
 use Rattle.macs_endpoint.specs.declared.fault.ProtectFault.TheVariants.{Tx}
+use Rattle.macs_endpoint.specs.declared.fault.RefillFault.{RefillFault}
 use Rattle.macs_endpoint.specs.declared.fault.RefillFault.TheVariants as refill
+use Rattle.macs_endpoint.specs.declared.fault.StepFault.{StepFault}
+use Rattle.macs_endpoint.specs.declared.fault.Stopped.{Stopped}
+use Rattle.macs_endpoint.specs.declared.fault.SubmitFault.{SubmitFault}
+use Rattle.macs_endpoint.specs.declared.progress.Step.{Step as Progress}
 use Rattle.macs_endpoint.specs.declared.turn.Turn.TheVariants.{Command as CommandTurn, Reservation}
+use Rattle.macs_headline.specs.Stopping.{TellsFault, TellsStopped}
 
 -- An opening that succeeds counts no failed device call, begins with a reservation's turn, and has counted nothing. A disk that is too small is told so, by an
 -- opening and by a `format`, and is as it was; and no other is.
@@ -63,6 +75,8 @@ pub record OpeningsCount {D : Type 0} (disk_of : D → Disk) : Type 0 where
 -- A ceiling that the transmit side needs comes first. A command that is kept leaves the turn to a reservation, and a refill that finished one to a command.
 -- After a refill nothing was raised where nothing is needed first, and else nothing, or that, and then the others so. A command that is answered as
 -- GenerationsSpent leaves what stands, with the reservation that was in hand; and a refill that is answered as Disk, where none was in hand, what was raised so.
+-- One that is answered as Ok leaves what was raised so, the reservation in hand first, until none is needed; and its slots and device calls are those of ceilings
+-- that were raised so.
 -- A refill, and a command that is kept, of an endpoint with no work in hand, make four device calls at most for each slot that they use, where the journal does
 -- not begin anew; and the command uses one.
 pub record CeilingsAreRaised {D : Type 0} (disk_of : D → Disk) : Type 0 where
@@ -82,6 +96,13 @@ pub record CeilingsAreRaised {D : Type 0} (disk_of : D → Disk) : Type 0 where
       → old.reserving ≡ Some raise → standing_in new.store ≡ standing_with_raise (standing_in old.store) raise
   pub fault : (old new : EndpointValue D) → IsCall disk_of old Refills (Refilled (Err refill.Disk)) new → old.reserving ≡ None
       → (raise : Raise) × IsRefilled (tx_side (state_of old no_logs)) (rx_side (state_of old no_logs)) (standing_in old.store) (standing_in new.store) (Some raise)
+  pub refilled : (old new : EndpointValue D) → IsCall disk_of old Refills (Refilled (Ok tt)) new → old.reserving ≡ None
+      → IsRefilled (tx_side (state_of old no_logs)) (rx_side (state_of old no_logs)) (standing_in old.store) (standing_in new.store) None
+  pub refilled_behind : (old new : EndpointValue D) (raise : Raise) → IsCall disk_of old Refills (Refilled (Ok tt)) new → old.reserving ≡ Some raise
+      → IsRefilled (tx_side (state_of old no_logs)) (rx_side (state_of old no_logs)) (standing_with_raise (standing_in old.store) raise)
+      (standing_in new.store) None
+  pub spends : (old : EndpointValue D) (new : StoreValue D) → Spends disk_of old (Ok tt) new → old.reserving ≡ None
+      → (next : Option Raise) × IsRefilled (tx_side (state_of old no_logs)) (rx_side (state_of old no_logs)) (standing_in old.store) (standing_in new) next
   pub refill : (old : EndpointValue D) (new : StoreValue D) → Spends disk_of old (Ok tt) new → IsIdle old.store → generation new ≡ generation old.store
       → (store.disk_in disk_of new).clock ≤ (disk_in disk_of old).clock + 4 * (used_slots new - used_slots old.store)
   pub command : (old new : EndpointValue D) (command : Command) → KeepsCommand disk_of old command (Ok tt) new → IsIdle old.store
@@ -103,7 +124,9 @@ pub record CallsAreCounted {D : Type 0} (disk_of : D → Disk) : Type 0 where
 -- Of events that are served: since the calls before it were answered, a power loss leaves at each moment an image that fits the state before one of the calls that
 -- are left, with its command in hand, or the one after the last. No more calls are made than turns were given, and as many where those are spent; Ended comes with
 -- a turn left, and no event. A source that tells its events gave those of the calls, in their order, and a sink that tells its answers took theirs. Halted is
--- the end where the last answer says that a device call failed, and no other one does.
+-- the end where the last answer says that a device call failed, and no other one does. An operator's command is submitted, a frame from the controlled side is
+-- protected, one from the common side is received, and where there is time for work a step is made; each answer has what the call was answered. A device call
+-- failed, now or before, where an answer says Disk or Stopped, and where none does it did not.
 pub record ServedWords {D : Type 0} (disk_of : D → Disk) : Type 0 where
   pub left : (final : Disk) (e : EndpointValue D) (turns : List (Transition D)) → LeavesLife disk_of final e turns
       → (image : Image) → LeftSince final (disk_in disk_of e).clock image → FitsLife final.sectors e turns image
@@ -124,5 +147,19 @@ pub record ServedWords {D : Type 0} (disk_of : D → Disk) : Type 0 where
   pub given : (most : ℕ) (old new : EndpointValue D) (before after : Told) (end : ServeEnd) (i : IsServed disk_of most old before end new after)
       → before.sink_tells ≡ true → (answers : List Answer) × (after.took ≡ before.took ++ answers)
       × (map reply_of answers ≡ map (λ turn. turn.reply) i.turns)
+  pub commanded : (command : Command) → call_of (event.Operator command) ≡ Submits command
+  pub plain : (frame : ArrayVec ℕ) → call_of (event.Controlled frame) ≡ Protects frame.items
+  pub tagged : (frame : ArrayVec ℕ) → call_of (event.Common frame) ≡ Receives frame.items
+  pub work : call_of event.Work ≡ Advances
+  pub submitted : (result : Result ℕ SubmitFault) → reply_of (answer.Submitted result) ≡ Submitted result
+  pub protected : (result : Result ℕ ProtectFault) (out : ArrayVec ℕ) → reply_of (answer.Protected result out) ≡ Protected result out.items
+  pub received : (result : Result Verdict Stopped) (out : ArrayVec ℕ) → reply_of (answer.Received result out) ≡ Received result out.items
+  pub stepped : (result : Result Progress StepFault) → reply_of (answer.Stepped result) ≡ Advanced result
+  pub ran : (result : Result (Unit {0}) CommandFault) → reply_of (answer.Ran result) ≡ Ran result
+  pub refilled : (result : Result (Unit {0}) RefillFault) → reply_of (answer.Refilled result) ≡ Refilled result
+  pub halts : (reply : Reply) → TellsFault reply → is_halt reply ≡ true
+  pub halts_stopped : (reply : Reply) → TellsStopped reply → is_halt reply ≡ true
+  pub halts_alone : (reply : Reply) → is_halt reply ≡ true → TellsFault reply ⊎ (TellsStopped reply
+      ⊎ (((out : List ℕ) × (reply ≡ Protected (Err protect.Stopped) out)) ⊎ ((stopped : Stopped) × (out : List ℕ) × (reply ≡ Received (Err stopped) out))))
   pub halted : (replies : List Reply) → EndsAs replies Halted → (before : List Reply) × (reply : Reply) × (before ++ reply ∷ [] ≡ replies)
       × (is_halt reply ≡ true)

@@ -1,12 +1,12 @@
 -- The headline on words that say what a frame is: all that is to be drawn from each, by the frame's octets and the state's fields.
-use Rattle.std.specs.Prelude.{◌≡◌, ◌≢◌, ◌<◌, ◌≤◌, ◌+◌, ◌-◌, ◌^◌, ◌++◌, true, false, if◌then◌else◌, ℕ, List, [], ◌∷◌, length, nat_lt, slice_index, slice_range, take, drop, All, Some}
+use Rattle.std.specs.Prelude.{◌≡◌, ◌≢◌, ◌<◌, ◌≤◌, ◌+◌, ◌-◌, ◌%◌, ◌^◌, ◌++◌, true, false, if◌then◌else◌, ℕ, List, [], ◌∷◌, length, nat_lt, slice_index, slice_range, take, drop, All, Some}
 use Rattle.std.specs.Int.{w32, from_be_bytes, to_be_bytes}
 use Rattle.macs_fields.specs.Fields.{octets_of}
 use Rattle.macs_gcm.specs.Gcm.{seal}
 use Rattle.macs_frame.specs.Opening.{Verified}
 use Rattle.macs_frame.specs.Tag.{has_bit, name_of, tag_of}
 use Rattle.macs_frame.specs.declared.tag.ScName.TheVariants.{EndStation as NamesStation, Explicit as NamesSci, Implicit as NamesNone}
-use Rattle.macs_config.specs.Association.{offset_of}
+use Rattle.macs_config.specs.Association.{is_confidential, offset_of}
 use Rattle.macs_config.specs.Identity.{IsIdentity}
 use Rattle.macs_config.specs.declared.command.SciMode.TheVariants.{EndStation, Explicit, Implicit}
 use Rattle.macs_rxsc.specs.Receive.{Numbers, channel_of}
@@ -34,7 +34,8 @@ iv_in sci frame = sci ++ to_be_bytes w32 (from_be_bytes w32 (slice_range frame 1
 
 -- A standard frame is under the association that frames go out under, with its next number, 1 to 2^32 - 1, which joins those that were used, and the next one is
 -- one more. SL is the number of octets of Secure Data where they are fewer than 48, else 0; in end station mode the SCI is the source address with port 00-01.
--- Where the identity is in its ranges, the tag names the channel as the mode says, and the frame verifies as the plain one. A frame that is delivered as verified
+-- Where the identity is in its ranges, the tag names the channel as the mode says, octet 14 has the AN, and E and C both set where the association gives
+-- confidentiality, else both clear; and the frame verifies as the plain one. A frame that is delivered as verified
 -- verifies under the association that its tag names, gives its plain frame and no other, and where replay protection is on is not below the lowest acceptable
 -- number there. What is another frame, or another delivery, than one of a
 -- key has another number under that key, and SCI; and what is found after one is beyond its number. A frame that is given has octets below 256.
@@ -52,6 +53,9 @@ pub record FrameWords (sectors : ℕ) : Type 0 where
   pub named : (s new : State) (plain out : List ℕ) (pn : ℕ) → IsStandardFrame s plain pn out new → IsIdentity s.identity
       → (s.config.mode ≡ Explicit → name_of out ≡ NamesSci s.identity.sci) × (s.config.mode ≡ EndStation → name_of out ≡ NamesStation)
       × (s.config.mode ≡ Implicit → name_of out ≡ NamesNone)
+  pub bits : (s new : State) (plain out : List ℕ) (pn : ℕ) (f : IsStandardFrame s plain pn out new) → IsIdentity s.identity
+      → (slice_index out 14 % 4 ≡ f.an) × (has_bit (slice_index out 14) 0x08 ≡ is_confidential f.sa.protection)
+      × (has_bit (slice_index out 14) 0x04 ≡ is_confidential f.sa.protection)
   pub read : (s new : State) (plain out : List ℕ) (pn : ℕ) (f : IsStandardFrame s plain pn out new) → IsIdentity s.identity
       → Verified out f.sa.key s.identity.sci (octets_of (offset_of f.sa.protection)) plain
   pub delivered : (s new : State) (frame out : List ℕ) (kind : Kind) (d : IsVerifiedDelivery s frame kind out new)

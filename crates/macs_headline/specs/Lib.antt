@@ -19,6 +19,10 @@ pub mod Refused
 pub mod Waits
 pub mod Turns
 pub mod EndpointWords
+pub mod CountWords
+pub mod NeedWords
+pub mod FailureWords
+pub mod StandWords
 pub mod Reasons
 pub mod Begun
 pub mod Stopping

@@ -4,7 +4,7 @@ ghost use Rattle.std.specs.Prelude.{◌≡◌, ◌≤◌, ℕ, Bool, true, List,
 ghost use Rattle.macs_disk.specs.Disk.{Disk, IsHonest, LeftSince, MayLeave, disk_after_loss};
 ghost use Rattle.macs_disk.specs.FileDisks.{IsBlank, IsFoundAgain, IsFoundAs, IsLeftAsShown, IsOpened, disk_in_file};
 ghost use Rattle.macs_disk.specs.FileDisks.{file_left, layout_of, state_in_file};
-ghost use Rattle.macs_disk.specs.Files.{Behaves, FileState, HasNothingNew};
+ghost use Rattle.macs_disk.specs.Files.{Behaves, FileState, HasNothingNew, IsClaimed, IsSure, Settles};
 ghost use Rattle.macs_disk.specs.Layouts.{suits};
 ghost use Rattle.macs_disk.specs.Memory.{blank_memory};
 ghost use Rattle.macs_disk.specs.States.{Image, IsImage};
@@ -34,8 +34,12 @@ ghost use Rattle.macs_headline.specs.Editions.{EditionsAlike, EditionsRead, Edit
 ghost use Rattle.macs_headline.specs.Drawn.{LifeWords, LogWords, MomentsAreExact, NumberWords};
 ghost use Rattle.macs_headline.specs.EndpointWords.{CallsAreCounted, CeilingsAreRaised};
 ghost use Rattle.macs_headline.specs.EndpointWords.{OpeningsCount, ServedWords};
+ghost use Rattle.macs_headline.specs.CountWords.{CountsAreNamed, CountsRiseAlone};
+ghost use Rattle.macs_headline.specs.NeedWords.{NeedsAreInOrder, TurnsAreUsed};
+ghost use Rattle.macs_headline.specs.FailureWords.{FailureWords};
+ghost use Rattle.macs_headline.specs.StandWords.{CallsLeave, ServedEnds};
 ghost use Rattle.macs_headline.specs.Endings.{DroppedPassOn, EndsAreEarlier, ImagesAreWhole, KillingsPassOn, LosesPower, LossesSettle};
-ghost use Rattle.macs_headline.specs.Endings.{PassedOnAgain, PowerLossesPassOn};
+ghost use Rattle.macs_headline.specs.Endings.{PassedOnAgain, PowerLossesPassOn, TheseAreImages};
 ghost use Rattle.macs_headline.specs.Endings.{ReadsPassOn, SyncsPassOn, TheseAreAlike, TheseArePassedOn};
 ghost use Rattle.macs_headline.specs.Endings.{WritesBackAsSyncs, WrittenBackPassOn};
 ghost use Rattle.macs_headline.specs.ExampleLives.{IsWorkedHistory};
@@ -279,10 +283,20 @@ pub fn endpoint_words<D: SectorDisk>()
     ensures openings { OpeningsCount D.disk }
     // Which ceilings are raised, and how many device calls a refill and a command make.
     ensures raised { CeilingsAreRaised D.disk }
+    // In which order ceilings are needed, and which calls use a turn.
+    ensures needs { NeedsAreInOrder }
+    ensures turns { TurnsAreUsed D.disk }
     // What a call counts.
     ensures counters { CallsAreCounted D.disk }
+    // Under which counter, and under no other; and what is counted of each channel.
+    ensures counts { CountsAreNamed }
+    ensures alone { CountsRiseAlone D.disk }
+    // What an opening, a `format`, a command, a step and a refill leave.
+    ensures left { CallsLeave D.disk }
     // What a loss of power leaves of events that are served, and when that halts.
     ensures served { ServedWords D.disk }
+    // That they are calls, and that no answer before the last says that a device call failed.
+    ensures ends { ServedEnds D.disk }
     // One more step, reservation, command or frame is counted where a call or its answer says
     // so, and else none.
     ensures counted { TurnsAreCounted D }
@@ -361,6 +375,7 @@ pub fn endings<D: SectorDisk>()
     // After a power loss nothing is pending; a sector that was has 512 octets, whichever.
     ensures settled { LossesSettle }
     ensures whole { ImagesAreWhole }
+    ensures as_whole { TheseAreImages }
 {}
 
 /// What is done with a disk that has a history, by the contracts of `format`, of `Endpoint::open` and of an
@@ -461,6 +476,11 @@ pub fn power_losses()
         → LosesPower disk since (disk_after_loss disk image) }
 {}
 
+/// Which calls of a file failed, where that is known, and which fault comes of them.
+pub fn failed_calls()
+    ensures { FailureWords }
+{}
+
 /// A disk in a file that behaves is one that histories are of, where the blocks of its device suit the layout.
 pub fn files<F: DiskFile>()
     // A new one is a new disk.
@@ -483,6 +503,9 @@ pub fn files<F: DiskFile>()
     ensures let_go { (left file : FileState) → file.block ≡ left.block → file.size ≡ left.size
         → file.is_size_durable ≡ left.is_size_durable → ((p : ℕ) → file.durable p ≡ left.durable p)
         → ((n : ℕ) → file.pending n ≡ left.pending n) → HasNothingNew left file }
+    // A file that is settled is claimed, and where it was sure of what it shows, it shows that still.
+    ensures settled { (old new : FileState) → Settles old new → IsClaimed new
+        × (IsSure old → new.seen ≡ old.seen) }
     // Blocks of 512 octets suit both layouts, and those of 4,096 the one in which sectors lie apart.
     ensures blocks { (suits Packed 512 ≡ true) × (suits Spaced 512 ≡ true) × (suits Spaced 4096 ≡ true) }
 {

@@ -24,3 +24,4 @@ pub mod Spelling
 pub mod TextLines
 pub mod Told
 mod WrittenOver
+mod Drawn

@@ -10,6 +10,7 @@ use Rattle.macs_program.specs.Applying.{outcome_lines, outcomes_status}
 use Rattle.macs_program.specs.Asking.{IsOfAsking, PrintsAnswer, PrintsFront}
 use Rattle.macs_program.specs.Failing.{failure_status}
 use Rattle.macs_program.specs.Checking.{CheckFails, PrintsCount}
+use Rattle.macs_program.specs.Inputs.{InputRead}
 use Rattle.macs_program.specs.Inspecting.{InspectFails, Inspects, IsOfInspecting, PrintsFrames}
 use Rattle.macs_program.specs.Keys.{GivesKey, IsOfKey}
 use Rattle.macs_program.specs.Run.{Does, FailsAs, Performs, Prints, WrongValues}
@@ -103,7 +104,7 @@ applied-status outcomes status is = elim (done-or-refused (list_any is_some outc
   | inr refused ↦ inr (is ∙ refused)
 ]
 
-module _ {F W : Type 0} (state_of : F → FileState) (contents : W → Option (List ℕ)) (failed : W → Bool) (input : Option (List ℕ)) (old : W)
+module _ {F W : Type 0} (state_of : F → FileState) (contents : W → Option (List ℕ)) (failed : W → Bool) (input : InputRead) (old : W)
     (result : Result Status Failure) (new : W) where
   -- it is no wrong usage
   abbrev NoUsage : Type 0
@@ -126,7 +127,7 @@ module _ {F W : Type 0} (state_of : F → FileState) (contents : W → Option (L
   kept : Silent → IfErr result (λ failure. failure_status failure ≡ ends.Disk → contents new ≡ contents old)
   kept silent = IfErr-weaker result _ _ (λ failure still disk. ap contents (still (of-disk failure disk))) silent
 
-  pub opens : IfOk result (λ status. IfSome input (λ octets. Prints octets (contents old) (contents new) status))
+  pub opens : IfOk result (λ status. IfSome input.octets (λ octets. Prints octets (contents old) (contents new) status))
       → IfOk result (λ status. (status ≡ ends.Done) ⊎ (status ≡ ends.Refused)) → IfErr result (λ failure. failure_status failure ≡ ends.Fault) → Silent
       → IfErr result (FailsAs state_of Open input (contents old) (contents new)) → Broken
       → Performs state_of contents failed Open input old result new

@@ -1,5 +1,6 @@
 pub mod Lines
 pub mod Request
+pub mod Inputs
 pub mod Answer
 pub mod Values
 pub mod Addresses
@@ -19,3 +20,4 @@ pub mod Keys
 pub mod Inspecting
 pub mod Checking
 pub mod Run
+pub mod Drawn

@@ -20,6 +20,7 @@ use Rattle.macs_program.specs.Failing.{failure_of_words, failure_status, failure
 use Rattle.macs_program.specs.Inspecting.{InspectFails, Inspects, PrintsFrames}
 use Rattle.macs_program.specs.Keys.{GivesKey, IsOfKey}
 use Rattle.macs_words.specs.Help.{topic_text}
+use Rattle.macs_program.specs.Inputs.{InputRead, read_of}
 use Rattle.macs_program.specs.NewDisks.{FormatFails, Formats}
 use Rattle.macs_program.specs.Relaying.{ComesTo, RelayEndsIn, course_of}
 use Rattle.macs_program.specs.Request.{InputFaultHolds, input_faults}
@@ -49,8 +50,8 @@ Prints input before after status =
 
 -- What a run prints that does what it is asked for, where `state_of` says what files are. Which file has a name is not known here: the lines are
 -- those of what is done with some endpoint that was opened on a disk in a file; that of a relay is what some endpoint comes to
-abbrev pub Does : {F : Type 0} → (F → FileState) → Action → Option (List ℕ) → Option (List ℕ) → Option (List ℕ) → Status → Type 0
-Does state_of Open input before after status = IfSome input (λ octets. Prints octets before after status)
+abbrev pub Does : {F : Type 0} → (F → FileState) → Action → InputRead → Option (List ℕ) → Option (List ℕ) → Status → Type 0
+Does state_of Open input before after status = IfSome input.octets (λ octets. Prints octets before after status)
 Does state_of (Format disk sci tx_block rx_block block is_over) input before after status =
     (identity : Identity) × SpellsIdentity sci.now tx_block rx_block identity
     × (layout : Layout) × SpellsLayout (option_map (λ text. text.now) block) layout × Formats state_of is_over layout identity
@@ -73,7 +74,7 @@ Does state_of (Inspect from) input before after status = Inspects before after �
 Does state_of (Check file) input before after status = PrintsCount before after × (status ≡ ends.Done)
 
 -- a run that does not fail is asked for help and prints it, or its words are taken and name an action, and it does that
-abbrev pub Replies : {F : Type 0} → (F → FileState) → List Text → Option (List ℕ) → Option (List ℕ) → Option (List ℕ) → Status → Type 0
+abbrev pub Replies : {F : Type 0} → (F → FileState) → List Text → InputRead → Option (List ℕ) → Option (List ℕ) → Status → Type 0
 Replies state_of words input before after status =
     ((topic : Topic) × AsksFor words topic × Appends before after (topic_text topic) × (status ≡ ends.Done))
     ⊎ ((takes macsecd words ≡ true)
@@ -96,16 +97,16 @@ WrongValues action = ⊥
 
 -- How `open` fails: a read failed, or the input, of which 20,001 octets at most are read, has this first fault; or there is no memory; or a print
 -- failed
-abbrev pub OpenFails : Option (List ℕ) → Failure → Type 0
-OpenFails octets failure =
-    (failure ≡ Input request_faults.Input)
-    ⊎ ((fault : InputFault) × (failure ≡ Input fault) × IfSome octets (λ all. IsFirst (InputFaultHolds (take 20001 all)) input_faults fault))
+abbrev pub OpenFails : InputRead → Failure → Type 0
+OpenFails input failure =
+    ((failure ≡ Input request_faults.Input) × (input.has_failed ≡ true))
+    ⊎ ((fault : InputFault) × (failure ≡ Input fault) × IfSome input.octets (λ all. IsFirst (InputFaultHolds (take 20001 all)) input_faults fault))
     ⊎ (failure ≡ Memory) ⊎ (failure ≡ Output)
 
 -- How an action fails, where `state_of` says what files are: for the first value of the words that is none, for the opening of the endpoint, or as
 -- what is done with it ends
-abbrev pub FailsAs : {F : Type 0} → (F → FileState) → Action → Option (List ℕ) → Option (List ℕ) → Option (List ℕ) → Failure → Type 0
-FailsAs state_of Open octets before after failure = OpenFails octets failure
+abbrev pub FailsAs : {F : Type 0} → (F → FileState) → Action → InputRead → Option (List ℕ) → Option (List ℕ) → Failure → Type 0
+FailsAs state_of Open input before after failure = OpenFails input failure
 FailsAs state_of (Format disk sci tx_block rx_block block is_over) octets before after failure =
     ((fault : ValueFault) × (failure ≡ Value fault)
     × IsFirst (ValueFaultHolds sci.now tx_block rx_block (option_map (λ text. text.now) block)) value_faults fault)
@@ -133,7 +134,7 @@ is_on_frames action = false
 -- An action is done, with a status of these two, or fails. A failure that is wrong usage is that of a wrong value, and nothing was
 -- printed; one of the disk is that of another action than `open`; and one of the output is that of a print that failed
 pub record Performs {F W : Type 0} (state_of : F → FileState) (contents : W → Option (List ℕ)) (failed : W → Bool) (action : Action)
-    (input : Option (List ℕ)) (old : W) (result : Result Status Failure) (new : W) : Type 0 where
+    (input : InputRead) (old : W) (result : Result Status Failure) (new : W) : Type 0 where
   pub does : IfOk result (Does state_of action input (contents old) (contents new))
   pub status : IfOk result (λ end. (end ≡ ends.Done) ⊎ (end ≡ ends.Refused))
   pub usage : IfErr result (λ failure. failure_status failure ≡ ends.Usage → WrongValues action × (new ≡ old))
@@ -143,7 +144,7 @@ pub record Performs {F W : Type 0} (state_of : F → FileState) (contents : W �
   pub broken : IfErr result (λ failure. failure ≡ Output → failed new ≡ true)
 
 -- how a run fails: its words are refused, or help cannot be printed, or the words name an action that fails so
-abbrev pub FailsFor : {F : Type 0} → (F → FileState) → List Text → Option (List ℕ) → Option (List ℕ) → Option (List ℕ) → Failure → Type 0
+abbrev pub FailsFor : {F : Type 0} → (F → FileState) → List Text → InputRead → Option (List ℕ) → Option (List ℕ) → Failure → Type 0
 FailsFor state_of words octets before after failure =
     ((fault : UsageFault) × (failure ≡ failure_of_words fault))
     ⊎ ((topic : Topic) × AsksFor words topic × (failure ≡ Output))
@@ -162,16 +163,16 @@ HasWrongValues words =
 -- What a run does but for the line of a failure: it replies, with a status of these two, or fails. A failure that is wrong usage is that of words which
 -- ask for no help, and nothing was printed; one of the disk is that of an action that the words name, other than `open`; and one of the output is that of
 -- a print that failed. The input is left unread by all words but those that name `open`
-pub record Acts {F R W : Type 0} (state_of : F → FileState) (remaining : R → Option (List ℕ)) (contents : W → Option (List ℕ)) (failed : W → Bool)
+pub record Acts {F R W : Type 0} (state_of : F → FileState) (remaining : R → Option (List ℕ)) (read_failed : R → Bool) (contents : W → Option (List ℕ)) (failed : W → Bool)
     (words : List Text) (input : R) (old : W) (result : Result Status Failure) (left : R) (new : W) : Type 0 where
-  pub replied : IfOk result (Replies state_of words (remaining input) (contents old) (contents new))
+  pub replied : IfOk result (Replies state_of words (read_of remaining read_failed input left) (contents old) (contents new))
   pub status : IfOk result (λ end. (end ≡ ends.Done) ⊎ (end ≡ ends.Refused))
   pub usage : IfErr result (λ failure. failure_status failure ≡ ends.Usage → (AreRefused words ⊎ HasWrongValues words) × (new ≡ old))
   pub help : IfErr result (λ failure. failure_status failure ≡ ends.Usage → AsksForNothing words)
   pub disk : IfErr result (λ failure. failure_status failure ≡ ends.Disk → (takes macsecd words ≡ true)
       × (action : Action) × Names (subcommand_of macsecd words) action × (action ≢ Open) × HasPrinted action (contents old) (contents new))
   pub before : IfErr result (λ failure. failure ≢ Output → PrintedBefore words (contents old) (contents new))
-  pub fails : IfErr result (FailsFor state_of words (remaining input) (contents old) (contents new))
+  pub fails : IfErr result (FailsFor state_of words (read_of remaining read_failed input left) (contents old) (contents new))
   pub broken : IfErr result (λ failure. failure ≡ Output → failed new ≡ true)
   pub unread : ((takes macsecd words ≡ true) × Names (subcommand_of macsecd words) Open → ⊥) → left ≡ input
 

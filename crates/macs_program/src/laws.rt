@@ -5,10 +5,11 @@ ghost use Rattle.macs_config.specs.Identity.{Identity};
 ghost use Rattle.macs_disk.specs.Files.{Behaves, FileState, Settles};
 ghost use Rattle.macs_disk.specs.declared.layout.Layout.{Layout};
 ghost use Rattle.macs_program.specs.Contents.{ContentsAre, HasOpenGate, IsBlankFile};
+ghost use Rattle.macs_program.specs.Drawn.{AnswerWords, ApplyWords, CaptureWords, FileWords, LineWords, ValueWords};
 ghost use Rattle.macs_program.specs.NewDisks.{Formats, Permits};
 ghost use Rattle.macs_program.specs.declared.contents.Contents.{Contents};
 
-use macs_disk::DiskFile;
+use macs_disk::{DiskFile, SectorDisk};
 
 /// A file is made the disk of a new endpoint only where it held nothing when it was settled, or where
 /// it may be written over and held no endpoint in use.
@@ -27,4 +28,21 @@ pub fn written_over<F: DiskFile>()
         → Formats F.file is_over layout identity → (given : F) × (Behaves (F.file given)
         → (settled : FileState) × Settles (F.file given) settled
         × Permits is_over settled ((F.file given).size / 512) None) }
+{}
+
+/// What is to be drawn of words in which the program's contracts end: to one input belongs one
+/// answer, to one endpoint and these commands belong these outcomes.
+pub fn words<D: SectorDisk, F: DiskFile>()
+    // What `open` answers.
+    ensures answers { AnswerWords }
+    // What `apply` does, line by line.
+    ensures applies { ApplyWords D.disk }
+    // What a run over captures asks for, and how it ends.
+    ensures captures { CaptureWords D.disk }
+    // Which endpoint is opened, and which file becomes a disk.
+    ensures files { FileWords F.file }
+    // What is printed, and with which status a run ends.
+    ensures lines { LineWords }
+    // Which values words spell.
+    ensures values { ValueWords }
 {}

@@ -4,3 +4,4 @@ pub mod Paces
 pub mod Questions
 pub mod Subcommands
 pub mod Taken
+mod ActionWords

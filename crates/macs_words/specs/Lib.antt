@@ -2,3 +2,4 @@ pub mod Controls
 pub mod Waits
 pub mod Words
 pub mod Help
+pub mod ActionWords

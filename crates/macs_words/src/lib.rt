@@ -4,6 +4,7 @@
 mod action;
 mod help;
 mod help_texts;
+pub mod laws;
 mod pace;
 mod plain_text;
 

@@ -31,7 +31,7 @@ mod wires;
 mod words;
 
 use macs_program::run::run;
-use macs_program::{CaptureFile, WriterStream};
+use macs_program::{CaptureFile, ReaderInput, WriterStream};
 use std::alloc::{AllocError, Global};
 use std::fs::File;
 use std::io::{Read, Write};
@@ -107,9 +107,10 @@ fn status_of<T: Files + Net + Clock + Env + RandomSource, R: Read, W: Write, E: 
 where
     T::File: CaptureFile,
 {
+    let mut input = ReaderInput::new(input);
     let mut out = WriterStream::new(out);
     let mut err = WriterStream::new(err);
-    run(system, alloc, words, input, &mut out, &mut err)
+    run(system, alloc, words, &mut input, &mut out, &mut err)
 }
 
 /// Runs the words over a system on what a reader gives, and asserts the whole outcome.

@@ -1,4 +1,4 @@
-use Rattle.macs_headline.proofs.Endings.{dropped-pass-on, ends-are-earlier, images-are-whole, killings-pass-on, losses-settle, passed-on-again, power-losses-pass-on, reads-pass-on, syncs-pass-on, these-are-alike, these-are-passed-on, writes-back-as-syncs, written-back-pass-on}
+use Rattle.macs_headline.proofs.Endings.{dropped-pass-on, ends-are-earlier, images-are-whole, killings-pass-on, losses-settle, passed-on-again, power-losses-pass-on, reads-pass-on, syncs-pass-on, these-are-alike, these-are-images, these-are-passed-on, writes-back-as-syncs, written-back-pass-on}
 use Rattle.macs_headline.proofs.laws.endings.Goals as goal
 
 pub returns-clause-as_alike : goal.returns-clause-as_alike
@@ -39,3 +39,6 @@ returns-clause-settled g c = losses-settle
 
 pub returns-clause-whole : goal.returns-clause-whole
 returns-clause-whole g c = images-are-whole
+
+pub returns-clause-as_whole : goal.returns-clause-as_whole
+returns-clause-as_whole g c = these-are-images

@@ -1,4 +1,7 @@
 use Rattle.macs_headline.proofs.EndpointWords.{calls-are-counted, ceilings-are-raised, openings-count, served-words}
+use Rattle.macs_headline.proofs.CountWords.{counts-are-named, counts-rise-alone}
+use Rattle.macs_headline.proofs.NeedWords.{needs-are-in-order, turns-are-used}
+use Rattle.macs_headline.proofs.StandWords.{calls-leave, served-ends}
 use Rattle.macs_headline.proofs.Turns.{turns-are-built, turns-are-counted}
 use Rattle.macs_headline.proofs.laws.endpoint_words.Goals as goal
 
@@ -19,3 +22,21 @@ returns-clause-counted g c = turns-are-counted
 
 pub returns-clause-built : goal.returns-clause-built
 returns-clause-built g c = turns-are-built
+
+pub returns-clause-needs : goal.returns-clause-needs
+returns-clause-needs g c = needs-are-in-order
+
+pub returns-clause-turns : goal.returns-clause-turns
+returns-clause-turns g c = turns-are-used g.D.SectorDisk.disk
+
+pub returns-clause-counts : goal.returns-clause-counts
+returns-clause-counts g c = counts-are-named
+
+pub returns-clause-alone : goal.returns-clause-alone
+returns-clause-alone g c = counts-rise-alone g.D.SectorDisk.disk
+
+pub returns-clause-left : goal.returns-clause-left
+returns-clause-left g c = calls-leave g.D.SectorDisk.disk
+
+pub returns-clause-ends : goal.returns-clause-ends
+returns-clause-ends g c = served-ends g.D.SectorDisk.disk

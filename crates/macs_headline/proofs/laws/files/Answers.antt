@@ -1,3 +1,5 @@
+use Rattle.std.proofs.Common.{ap, ◌∙◌}
+use Rattle.macs_disk.specs.Files.{FileState}
 use Rattle.macs_headline.proofs.DiskFiles.{blank-file-is-new, left-suited, let-go, opened-again}
 use Rattle.macs_headline.proofs.laws.files.Goals as goal
 
@@ -14,3 +16,9 @@ returns-clause-reopened g c it file again new left found behaves honest nothing 
 
 pub returns-clause-let_go : goal.returns-clause-let_go
 returns-clause-let_go g c = let-go
+
+pub returns-clause-settled : goal.returns-clause-settled
+returns-clause-settled g c = λ old new is. (
+  ap (λ (f : FileState). f.is_claimed) is.3,
+  λ sure. ap (λ (f : FileState). f.seen) is.3 ∙ is.2 sure,
+)

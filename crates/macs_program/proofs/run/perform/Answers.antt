@@ -14,7 +14,7 @@ pub returns-in-Show-clause-performs : goal.returns-in-Show-clause-performs
 returns-in-Show-clause-performs g c = rw c.in-Show.is (shows _ _ _ _ _ _ _ _ c.show.ensures.printed c.show.ensures.failed c.show.ensures.silent c.show.ensures.ended c.show.ensures.broken)
 
 pub returns-in-Protect-clause-performs : goal.returns-in-Protect-clause-performs
-returns-in-Protect-clause-performs g c = c.perform_on_frames.ensures (g.R.Read.remaining c.args.input.now)
+returns-in-Protect-clause-performs g c = c.perform_on_frames.ensures _
 
 pub returns-in-Key-clause-performs : goal.returns-in-Key-clause-performs
 returns-in-Key-clause-performs g c = rw c.in-Key.is (keys _ _ _ _ _ _ _ _ c.key.ensures.printed c.key.ensures.failed c.key.ensures.silent c.key.ensures.broken)

@@ -1,0 +1,14 @@
+//! Laws of the definitions: which commands a file says, in its own terms.
+
+ghost use Rattle.macs_commands.specs.CommandWords.{FileWords, LineWords, ValueWords};
+
+/// The words of `commands_of` say this: which commands a file says, in which order, and with which
+/// values.
+pub fn words()
+    // Which tables say a command, and in which order.
+    ensures files { FileWords }
+    // What each command has from the keys of its table.
+    ensures lines { LineWords }
+    // What a value at a key is.
+    ensures values { ValueWords }
+{}

@@ -1,0 +1,20 @@
+use Rattle.macs_program.proofs.Drawn.{answer-words, apply-words, capture-words, file-words, line-words, value-words}
+use Rattle.macs_program.proofs.laws.words.Goals as goal
+
+pub returns-clause-answers : goal.returns-clause-answers
+returns-clause-answers g c = answer-words
+
+pub returns-clause-applies : goal.returns-clause-applies
+returns-clause-applies g c = apply-words g.D.SectorDisk.disk
+
+pub returns-clause-captures : goal.returns-clause-captures
+returns-clause-captures g c = capture-words g.D.SectorDisk.disk
+
+pub returns-clause-files : goal.returns-clause-files
+returns-clause-files g c = file-words g.F.DiskFile.file
+
+pub returns-clause-lines : goal.returns-clause-lines
+returns-clause-lines g c = line-words
+
+pub returns-clause-values : goal.returns-clause-values
+returns-clause-values g c = value-words
