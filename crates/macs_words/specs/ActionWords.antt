@@ -15,14 +15,15 @@ use Rattle.macs_words.specs.declared.pace.Pace.{Pace}
 use Rattle.macs_words.specs.declared.pace.Pace.TheVariants.{Busy, Waiting}
 
 -- Words without a subcommand, and `open`, name the opening of a frame. Each other subcommand names its own action, with
--- the texts that stand at its values: `format` writes over a file exactly where `--over` is used, and takes a block of the
--- device exactly where `--block` is. A number is its digits, in decimal. A relay that is given turns alone is busy; one that
--- is given a wait, 1 to 60,000 ms, waits so long at most. Words that the program does not take are refused, and so is a relay
--- without turns and without a wait; no others.
+-- the texts that stand at its values: `format` writes over a file exactly where `--over` is used, and takes a block of
+-- the device exactly where `--block` is. A number is its digits, in decimal. A relay that is given turns alone is busy;
+-- one that is given a wait, any of 1 to 60,000 ms, waits so long at most. Words that the program does not take are
+-- refused, and so is a relay without turns and without a wait; no others.
 pub record ActionWords : Type 0 where
   pub none : (action : Action) → Names None action → action ≡ Open
   pub opening : (name : Text) (values : List Row) → Names (Some (name, values)) Open → name ≡ codes "open"
-  pub format : (name : Text) (values : List Row) (disk sci : Bor Text) (tx rx : ℕ) (block : Option (Bor Text)) (is_over : Bool)
+  pub format : (name : Text) (values : List Row) (disk sci : Bor Text) (tx rx : ℕ) (block : Option (Bor Text))
+      (is_over : Bool)
       → Names (Some (name, values)) (Format disk sci tx rx block is_over) → (name ≡ codes "format")
       × (first_of (codes "DISK") values ≡ Some disk.now) × (first_of (codes "SCI") values ≡ Some sci.now)
       × HasNumber values (codes "TX") tx × HasNumber values (codes "RX") rx
@@ -46,7 +47,8 @@ pub record ActionWords : Type 0 where
       → (name ≡ codes "relay") × (first_of (codes "DISK") values ≡ Some disk.now)
       × (first_of (codes "OWN1") values ≡ Some controlled.own.now)
       × (first_of (codes "PEER1") values ≡ Some controlled.peer.now)
-      × (first_of (codes "OWN2") values ≡ Some common.own.now) × (first_of (codes "PEER2") values ≡ Some common.peer.now)
+      × (first_of (codes "OWN2") values ≡ Some common.own.now)
+      × (first_of (codes "PEER2") values ≡ Some common.peer.now)
       × HasPace values pace
   pub number : (values : List Row) (name : Text) (n : ℕ) → HasNumber values name n
       → (text : Text) × (first_of name values ≡ Some text) × IsNumeral 10 (without_leading_plus text)
@@ -59,12 +61,14 @@ pub record ActionWords : Type 0 where
   pub endless : (values : List Row) (limit : Milliseconds) → HasPace values (Waiting limit None)
       → HasNumber values (codes "wait") limit.0 × (1 ≤ limit.0) × (limit.0 ≤ 60000)
       × (first_of (codes "turns") values ≡ None)
+  pub any_wait : (values : List Row) (limit : Milliseconds) → HasNumber values (codes "wait") limit.0
+      → 1 ≤ limit.0 → limit.0 ≤ 60000 → first_of (codes "turns") values ≡ None → HasPace values (Waiting limit None)
   pub refused : (words : List Text) → AreRefused words → (takes macsecd words ≢ true)
       ⊎ ((values : List Row) × (subcommand_of macsecd words ≡ Some (codes "relay", values))
       × (first_of (codes "turns") values ≡ None) × (first_of (codes "wait") values ≡ None))
 
--- `--help` and `-h` ask for help, alone, and after the name of a subcommand for help on it; `--version` alone asks which
--- program it is.
+-- `--help` and `-h` ask for help, alone, and after the name of a subcommand for help on it; `--version` alone asks
+-- which program it is.
 pub record HelpWords : Type 0 where
   pub help : (word : Text) → AsksFor (word ∷ []) Help ↔ ((word ≡ codes "--help") ⊎ (word ≡ codes "-h"))
   pub help_on : (name word : Text) (which : Subcommand) → AsksFor (name ∷ word ∷ []) (HelpOn which)
