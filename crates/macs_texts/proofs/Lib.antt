@@ -1,1 +1,2 @@
 mod Shown
+mod CounterWords
