@@ -1,14 +1,18 @@
-// What a relay is measured with: one that only copies datagrams, and a load that counts them.
+// What a relay is measured with: two that only copy datagrams, a load that counts them, and frames that go one at a time.
 //
-//     relay copy OWN1 PEER1 OWN2 PEER2         copies datagrams from wire 1 to wire 2, until it is killed
-//     relay load OWN1 PEER1 OWN2 OCTETS COUNT  sends frames to PEER1 and counts those that come to OWN2
+//     relay copy OWN1 PEER1 OWN2 PEER2          copies datagrams from wire 1 to wire 2 and back, until it is killed
+//     relay rest OWN1 PEER1 OWN2 PEER2          the same, and sleeps until a datagram is there (epoll)
+//     relay load OWN1 PEER1 OWN2 OCTETS COUNT   sends frames to PEER1 and counts those that come to OWN2
+//     relay trips OWN1 PEER1 OWN2 OCTETS COUNT  the same one at a time, a millisecond apart
 //
 // Addresses are ports on loopback. The load has at most 32 frames under way, so that no socket's buffer overflows; a frame that does not
-// come within a tenth of a second is lost. It prints the frames that came, the seconds, and the frames a second.
+// come within a tenth of a second is lost. It prints the frames that came, the seconds, and the frames a second. `trips` prints the frames that
+// came, and the median and the 99th of a hundred of the microseconds from a send until the frame is there.
 #include <arpa/inet.h>
 #include <stdio.h>
 #include <stdlib.h>
 #include <string.h>
+#include <sys/epoll.h>
 #include <sys/socket.h>
 #include <sys/time.h>
 #include <time.h>
@@ -50,6 +54,59 @@ static _Noreturn void copy(char **words) {
     }
 }
 
+static void watch(int queue, int wire) {
+    struct epoll_event on = {.events = EPOLLIN, .data.fd = wire};
+    if (epoll_ctl(queue, EPOLL_CTL_ADD, wire, &on)) {
+        perror("epoll_ctl");
+        exit(1);
+    }
+}
+
+static _Noreturn void rest(char **words) {
+    int controlled = bound(words[0]), common = bound(words[2]), queue = epoll_create1(0);
+    struct sockaddr_in inside = at(words[1]), outside = at(words[3]);
+    static char room[ROOM];
+    watch(queue, controlled);
+    watch(queue, common);
+    for (;;) {
+        struct epoll_event ready[2];
+        int found = epoll_wait(queue, ready, 2, -1);
+        for (int i = 0; i < found; i++) {
+            int from = ready[i].data.fd, to = from == common ? controlled : common;
+            struct sockaddr_in peer = from == common ? inside : outside;
+            ssize_t count;
+            while ((count = recv(from, room, ROOM, MSG_DONTWAIT)) >= 0) sendto(to, room, count, 0, (struct sockaddr *)&peer, sizeof peer);
+        }
+    }
+}
+
+static int by_size(const void *one, const void *other) {
+    double a = *(const double *)one, b = *(const double *)other;
+    return (a > b) - (a < b);
+}
+
+static int trips(char **words) {
+    int from = bound(words[0]), to = bound(words[2]);
+    struct sockaddr_in peer = at(words[1]);
+    size_t octets = atoi(words[3]);
+    long count = atol(words[4]), came = 0;
+    static char frame[ROOM], room[ROOM];
+    struct timeval wait = {.tv_usec = 100000};
+    struct timespec gap = {.tv_nsec = 1000000};
+    double *took = calloc(count, sizeof *took);
+    setsockopt(to, SOL_SOCKET, SO_RCVTIMEO, &wait, sizeof wait);
+    memset(frame, 0x5a, octets);
+    for (long i = 0; i < count; i++) {
+        double begin = now();
+        sendto(from, frame, octets, 0, (struct sockaddr *)&peer, sizeof peer);
+        if (recv(to, room, ROOM, 0) >= 0) took[came++] = (now() - begin) * 1e6;
+        nanosleep(&gap, NULL);
+    }
+    qsort(took, came, sizeof *took, by_size);
+    printf("%ld %.1f %.1f\n", came, came ? took[came / 2] : 0, came ? took[came * 99 / 100] : 0);
+    return 0;
+}
+
 static int load(char **words) {
     int from = bound(words[0]), to = bound(words[2]);
     struct sockaddr_in peer = at(words[1]);
@@ -75,6 +132,8 @@ static int load(char **words) {
 
 int main(int words, char **word) {
     if (words == 6 && !strcmp(word[1], "copy")) copy(word + 2);
+    if (words == 6 && !strcmp(word[1], "rest")) rest(word + 2);
     if (words == 7 && !strcmp(word[1], "load")) return load(word + 2);
+    if (words == 7 && !strcmp(word[1], "trips")) return trips(word + 2);
     return 2;
 }

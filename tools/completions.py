@@ -13,8 +13,8 @@ import sys
 sys.dont_write_bytecode = True
 import help_texts
 
-# The operands that are names of files.
-FILES = ("DISK", "FILE", "INPUT", "OUTPUT")
+# The operands, and the values of options, that are names of files.
+FILES = ("DISK", "FILE", "INPUT", "OUTPUT", "PATH")
 NOTE = "# Made by tools/completions.py from the help of the program."
 
 
@@ -37,9 +37,16 @@ def offered(words):
     return f"""COMPREPLY=($(compgen -W {quoted(' '.join(words))} -- "$word"))"""
 
 
+def bash_value(option):
+    return "compopt -o default" if option.value in FILES else offered(option.choices)
+
+
 def bash_case(subcommand):
     yield f"    {subcommand.word})"
-    yield from (f"        [ \"$before\" != {it.name} ] || {{ {offered(it.choices)}; return; }}" for it in subcommand.options if it.value)
+    yield from (f"        [ \"$before\" != {it.name} ] || {{ {bash_value(it)}; return; }}" for it in subcommand.options if it.value)
+    for place in range(max(len(it.operands) for it in subcommand.forms)):
+        if subcommand.choices_at(place):
+            yield f"        [ \"$COMP_CWORD\" -ne {place + 2} ] || {{ {offered(subcommand.choices_at(place))}; return; }}"
     yield f"        options={quoted(' '.join(it.name for it in subcommand.options))} files={'yes' if has_files(subcommand) else 'no'}"
     yield "        ;;"
 
@@ -63,17 +70,18 @@ def bash(given):
 # zsh: the list of subcommands, and for each one the words of `_arguments`.
 
 def zsh_option(option):
-    values = f"({' '.join(option.choices)})" if option.choices else " "
+    values = f"({' '.join(option.choices)})" if option.choices else "_files" if option.value in FILES else " "
     value = f":{option.value}:{values}" if option.value else ""
     return quoted(f"{option.name}{value}")
 
 
-def zsh_operand(at, name):
-    return quoted(f"{at}:{name}:{'_files' if name in FILES else ' '}")
+def zsh_operand(subcommand, at, name):
+    choices = subcommand.choices_at(at - 1)
+    return quoted(f"{at}:word:({' '.join(choices)})" if choices else f"{at}:{name}:{'_files' if name in FILES else ' '}")
 
 
 def zsh_case(subcommand):
-    words = [*map(zsh_option, subcommand.options), quoted("(- *)--help"), *(zsh_operand(at, it) for at, it in enumerate(subcommand.operands, 1))]
+    words = [*map(zsh_option, subcommand.options), quoted("(- *)--help"), *(zsh_operand(subcommand, at, it) for at, it in enumerate(max((form.operands for form in subcommand.forms), key=len), 1))]
     return f"    {subcommand.word}) _arguments {' '.join(words)} ;;"
 
 
@@ -98,8 +106,12 @@ def fish_lines(subcommand):
     yield f"complete -c macsecd -n __fish_use_subcommand -f -a {subcommand.word} -d {quoted(subcommand.summary)}"
     yield f"complete -c macsecd {right_after} -l help"
     for option in subcommand.options:
-        value = " -x" * bool(option.value) + f" -a {quoted(' '.join(option.choices))}" * bool(option.choices)
+        value = (" -r -F" if option.value in FILES else " -x") * bool(option.value) + f" -a {quoted(' '.join(option.choices))}" * bool(option.choices)
         yield f"complete -c macsecd {seen} -l {option.name.removeprefix('--')}{value}"
+    for place in range(max(len(it.operands) for it in subcommand.forms)):
+        if subcommand.choices_at(place):
+            at = f"-n {quoted(f'{condition}; and test (count (commandline -opc)) -eq {place + 2}')}"
+            yield f"complete -c macsecd {at} -f -a {quoted(' '.join(subcommand.choices_at(place)))}"
     yield f"complete -c macsecd {seen} {'-F' if has_files(subcommand) else '-f'}"
 
 

@@ -43,6 +43,10 @@ class Subcommand:
     def operands(self):
         return self.forms[0].operands
 
+    def choices_at(self, place):
+        """The words that the help has at a place among the operands, counted from 0, where it has words there and no names."""
+        return tuple(dict.fromkeys(it.operands[place] for it in self.forms if len(it.operands) > place and it.operands[place].islower()))
+
     @property
     def options(self):
         """The options of all forms, each once."""
@@ -76,9 +80,20 @@ def form(usage, text):
     return Form(tuple(OPTION.sub("", usage).split()[2:]), options)
 
 
+def with_common(lines):
+    """The lines of a usage. One that begins with `and` has options of all that come before it."""
+    forms = []
+    for line in lines:
+        if line.startswith("and "):
+            forms = [f"{it} {line.removeprefix('and ')}" for it in forms]
+        else:
+            forms.append(line)
+    return tuple(forms)
+
+
 def subcommand(program, word, summary):
     text = printed(program, word, "--help")
-    usage = tuple(it.removeprefix("usage:").strip() for it in text.split("\n\n")[0].splitlines())
+    usage = with_common(it.removeprefix("usage:").strip() for it in text.split("\n\n")[0].splitlines())
     return Subcommand(word, usage, tuple(form(it, text) for it in usage), summary, text)
 
 

@@ -199,6 +199,7 @@ def page_of_program(given):
         [".SH EXIT STATUS"],
         *([".TP", rf"\fB{status}\fR", escaped(meaning)] for status, meaning in given.statuses()),
         [".SH A LINK BETWEEN TWO NETWORKS", *roff(without(section("docs/OPERATIONS.md", "## A link between two networks"), "| example"))],
+        [".SH A LINK THAT RUNS FOR YEARS", *roff(section("docs/OPERATIONS.md", "## A link that runs for years"))],
         [".SH CHANGING KEYS", *roff(section("docs/OPERATIONS.md", "### Changing keys"))],
         [".SH CHOOSING BLOCKS", *roff(section("docs/OPERATIONS.md", "## Choosing blocks"))],
         [".SH AFTER A POWER LOSS", *roff(without(section("docs/OPERATIONS.md", "### After a power loss"), "**Tried.**", "- Each time the", "Neither shows"))],

@@ -1,4 +1,3 @@
-mod across;
 mod aes;
 mod fields;
 mod gcm;

@@ -1,4 +1,4 @@
--- What a wire over UDP counts.
+-- What a wire counts.
 use Rattle.std.specs.Prelude.{◌≡◌, ◌⊎◌, ◌+◌, ℕ, Bool, true, false, if◌then◌else◌, List, [], ◌∷◌, Option, Some, None}
 use Rattle.std.specs.Prelude.{Result, Ok, Err}
 use Rattle.macs_edge.specs.Datagrams.{Datagram, SocketState}
@@ -45,3 +45,10 @@ pub record CountsReceive (socket : Option SocketState) (answer : Result Got Wire
 abbrev pub counts_after_send : Result (Unit {0}) WireFault → WireCounts → WireCounts
 counts_after_send (Ok done) c = record c { sent = saturated (c.sent + 1) }
 counts_after_send (Err fault) c = record c { failed_sends = saturated (c.failed_sends + 1) }
+
+-- what a receive counts of a wire without strangers: a frame that is taken, or a failure
+abbrev pub counts_after_receive : Result Got WireFault → WireCounts → WireCounts
+counts_after_receive (Ok Nothing) c = c
+counts_after_receive (Ok Frame) c = record c { taken = saturated (c.taken + 1) }
+counts_after_receive (Ok TooLong) c = record c { taken = saturated (c.taken + 1) }
+counts_after_receive (Err fault) c = record c { failed_receives = saturated (c.failed_receives + 1) }

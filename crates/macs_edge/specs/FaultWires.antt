@@ -1,6 +1,7 @@
 -- A wire that fails some calls itself: these do not reach the wire behind it.
 use Rattle.std.specs.Prelude.{◌≡◌, ◌+◌, ◌&&◌, ℕ, if◌then◌else◌, nat_le, nat_lt}
 use Rattle.macs_edge.specs.Wires.{WireState, saturated}
+use Rattle.macs_edge.specs.declared.counts.WireCounts.{WireCounts}
 
 -- calls of one kind: the number of the one that is to fail, counted from 1, where 0 is none; and how many were asked for, up to 2^64 - 1
 pub record CallsValue : Type 0 where
@@ -33,4 +34,11 @@ fault_wire_state state wire = record {
   sent = (state wire.inner).sent;
   failed_receives = saturated ((state wire.inner).failed_receives + failed_among wire.receives);
   failed_sends = saturated ((state wire.inner).failed_sends + failed_among wire.sends);
+}
+
+-- what it counted, where this is what the wire behind it counts: its own failed calls are counted with those of that wire
+abbrev pub fault_wire_counts : {W : Type 0} → (W → WireCounts) → FaultWireValue W → WireCounts
+fault_wire_counts counts wire = record (counts wire.inner) {
+  failed_receives = saturated ((counts wire.inner).failed_receives + failed_among wire.receives);
+  failed_sends = saturated ((counts wire.inner).failed_sends + failed_among wire.sends);
 }

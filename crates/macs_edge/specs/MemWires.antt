@@ -1,6 +1,7 @@
 -- A wire in memory.
 use Rattle.std.specs.Prelude.{ℕ, List, Some, Vec, map}
 use Rattle.macs_edge.specs.Wires.{WireState}
+use Rattle.macs_edge.specs.declared.counts.WireCounts.{WireCounts}
 use Rattle.macs_edge.specs.declared.mem_wire.MemWire.{MemWire}
 
 -- the octets of each frame
@@ -20,6 +21,16 @@ abbrev pub mem_wire_state : {A : Type 0} → MemWire A → WireState
 mem_wire_state wire = record {
   waiting = Some (waiting_in wire);
   sent = Some (sent_in wire);
+  failed_receives = 0;
+  failed_sends = wire.failed_sends;
+}
+
+-- what it counted: it has no strangers, and no receive of it fails
+abbrev pub mem_wire_counts : {A : Type 0} → MemWire A → WireCounts
+mem_wire_counts wire = record {
+  strangers = 0;
+  taken = wire.frames_taken;
+  sent = wire.frames_sent;
   failed_receives = 0;
   failed_sends = wire.failed_sends;
 }

@@ -18,6 +18,19 @@ pub struct WireCounts {
     pub failed_sends: u64,
 }
 
+/// A wire that counts what passes over it.
+pub trait Counted {
+    ghost use Rattle.std.specs.Prelude.{◌≡◌};
+    ghost use Rattle.macs_edge.specs.declared.counts.WireCounts.{WireCounts};
+
+    /// What it counted so far.
+    ghost wire_counts: { Self → WireCounts };
+
+    /// What it counted so far.
+    fn counts(&self) -> WireCounts
+        ensures { result ≡ wire_counts self.now };
+}
+
 /// Whether a frame is taken off a wire by this answer.
 pub(crate) fn takes_one(answer: &Result<Got, WireFault>) -> bool
     ensures { result ≡ takes_one answer.now }

@@ -4,6 +4,7 @@ ghost use Rattle.std.specs.Prelude.{◌≡◌, ◌↔◌, ◌+◌, [], if◌then
 ghost use Rattle.macs_edge.specs.FaultWires.{CallsValue, FailsNext, FaultWireValue, asked_once_more, failed_among, fault_wire_state};
 ghost use Rattle.macs_edge.specs.Wires.{Receives, Sends};
 
+use crate::counts::{Counted, WireCounts};
 use crate::wire::{Got, Wire, WireFault};
 use macs_frame::FrameBuf;
 use std::marker::Model;
@@ -40,6 +41,17 @@ impl Calls {
         let fails = self.asked.checked_add(1) == Some(self.fails_at);
         self.asked = self.asked.saturating_add(1);
         fails
+    }
+
+    /// How many of the calls that were asked for failed: one, or none.
+    fn failed(&self) -> u64
+        ensures { result ≡ failed_among self.now }
+    {
+        if 0 < self.fails_at && self.fails_at <= self.asked {
+            1
+        } else {
+            0
+        }
     }
 }
 
@@ -88,6 +100,25 @@ impl<W: Wire> FaultWire<W> {
     {
         let FaultWire { wire, .. } = self;
         wire
+    }
+}
+
+impl<W: Counted> Counted for FaultWire<W> {
+    ghost use Rattle.macs_edge.specs.FaultWires.{fault_wire_counts};
+
+    ghost wire_counts = { fault_wire_counts W.wire_counts };
+
+    fn counts(&self) -> WireCounts {
+        let counts = self.wire.counts();
+        WireCounts {
+            strangers: counts.strangers,
+            taken: counts.taken,
+            sent: counts.sent,
+            failed_receives: counts
+                .failed_receives
+                .saturating_add(self.receives.failed()),
+            failed_sends: counts.failed_sends.saturating_add(self.sends.failed()),
+        }
     }
 }
 

@@ -14,7 +14,7 @@ mod udp_wire;
 mod wire;
 
 pub use attending::{CommandEnd, Desk, DeskEvent, Order, attend};
-pub use counts::WireCounts;
+pub use counts::{Counted, WireCounts};
 pub use datagrams::{Arrived, Datagrams};
 pub use fault_wire::FaultWire;
 pub use macs_commands::{ConfigFault, KeyName, commands_of};

@@ -1,9 +1,12 @@
 //! A wire in memory, for tests and for what is made of wires.
 
 ghost use Rattle.std.specs.Prelude.{◌≡◌, ◌++◌, [], ◌∷◌, IfErr, IsOk, OnErr, OnOk};
-ghost use Rattle.macs_edge.specs.MemWires.{frames_of, mem_wire_state, sent_in, waiting_in};
+ghost use Rattle.macs_edge.specs.Counts.{counts_after_receive, counts_after_send};
+ghost use Rattle.macs_edge.specs.MemWires.{frames_of, mem_wire_counts, mem_wire_state, sent_in};
+ghost use Rattle.macs_edge.specs.MemWires.{waiting_in};
 ghost use Rattle.macs_edge.specs.Wires.{Receives, Sends};
 
+use crate::counts::{Counted, WireCounts};
 use crate::wire::{Got, Wire, WireFault};
 use macs_frame::{FrameBuf, MAX_FRAME};
 use std::alloc::Allocator;
@@ -16,6 +19,8 @@ pub struct MemWire<A: Allocator + Copy> {
     alloc: A,
     waiting: VecDeque<Vec<u8, A>, A>,
     sent: Vec<Vec<u8, A>, A>,
+    frames_taken: u64,
+    frames_sent: u64,
     failed_sends: u64,
 }
 
@@ -25,11 +30,14 @@ impl<A: Allocator + Copy> Wire for MemWire<A> {
     fn receive(&mut self, into: &mut FrameBuf) -> Result<Got, WireFault>
         ensures receives { Receives (mem_wire_state self.old) result into.new.items (mem_wire_state self.new) }
         ensures never { IsOk result }
+        ensures counts { mem_wire_counts self.new
+            ≡ counts_after_receive result (mem_wire_counts self.old) }
     {
         into.clear();
         let Some(frame) = self.waiting.pop_front() else {
             return Ok(Got::Nothing);
         };
+        self.frames_taken = self.frames_taken.saturating_add(1);
         if frame.len() > MAX_FRAME || into.try_extend_from_slice(&frame).is_err() {
             return Ok(Got::TooLong);
         }
@@ -39,8 +47,11 @@ impl<A: Allocator + Copy> Wire for MemWire<A> {
     fn send(&mut self, frame: &[u8]) -> Result<(), WireFault>
         ensures sends { Sends (mem_wire_state self.old) frame.now result (mem_wire_state self.new) }
         ensures memory { IfErr result (λ fault. fault ≡ WireFault.Memory) }
+        ensures counts { mem_wire_counts self.new
+            ≡ counts_after_send result (mem_wire_counts self.old) }
     {
         if self.keep(frame) {
+            self.frames_sent = self.frames_sent.saturating_add(1);
             return Ok(());
         }
         self.failed_sends = self.failed_sends.saturating_add(1);
@@ -48,19 +59,38 @@ impl<A: Allocator + Copy> Wire for MemWire<A> {
     }
 }
 
+impl<A: Allocator + Copy> Counted for MemWire<A> {
+    ghost wire_counts = { λ wire. mem_wire_counts wire };
+
+    fn counts(&self) -> WireCounts {
+        WireCounts {
+            strangers: 0,
+            taken: self.frames_taken,
+            sent: self.frames_sent,
+            failed_receives: 0,
+            failed_sends: self.failed_sends,
+        }
+    }
+}
+
 impl<A: Allocator + Copy> MemWire<A> {
     ghost use Rattle.std.specs.Prelude.{◌≡◌, ◌++◌, [], ◌∷◌, if◌then◌else◌, Some, IfErr, OnErr, OnOk};
-    ghost use Rattle.macs_edge.specs.MemWires.{frames_of, mem_wire_state, sent_in, waiting_in};
+    ghost use Rattle.macs_edge.specs.Counts.{no_counts};
+    ghost use Rattle.macs_edge.specs.MemWires.{frames_of, mem_wire_counts, mem_wire_state, sent_in};
+    ghost use Rattle.macs_edge.specs.MemWires.{waiting_in};
 
     /// A wire on which no frame waits, and on which none was sent.
     pub fn new(alloc: A) -> MemWire<A>
-        ensures { mem_wire_state result
+        ensures state { mem_wire_state result
             ≡ record { waiting = Some []; sent = Some []; failed_receives = 0; failed_sends = 0 } }
+        ensures counts { mem_wire_counts result ≡ no_counts }
     {
         MemWire {
             alloc,
             waiting: VecDeque::new(alloc),
             sent: Vec::new(alloc),
+            frames_taken: 0,
+            frames_sent: 0,
             failed_sends: 0,
         }
     }
@@ -72,6 +102,7 @@ impl<A: Allocator + Copy> MemWire<A> {
             ≡ record (mem_wire_state self.old) { waiting = Some (waiting_in self.old ++ frame.now ∷ []) }) }
         ensures same { OnErr result (mem_wire_state self.new ≡ mem_wire_state self.old) }
         ensures memory { IfErr result (λ fault. fault ≡ WireFault.Memory) }
+        ensures counts { mem_wire_counts self.new ≡ mem_wire_counts self.old }
     {
         let Ok(copy) = Vec::from_slice(self.alloc, frame) else {
             return Err(WireFault::Memory);
@@ -93,6 +124,7 @@ impl<A: Allocator + Copy> MemWire<A> {
     fn keep(&mut self, frame: &[u8]) -> bool
         ensures kept { mem_wire_state self.new ≡ record (mem_wire_state self.old)
             { sent = Some (if result then sent_in self.old ++ frame.now ∷ [] else sent_in self.old) } }
+        ensures counts { mem_wire_counts self.new ≡ mem_wire_counts self.old }
     {
         let Ok(copy) = Vec::from_slice(self.alloc, frame) else {
             return false;

@@ -5,7 +5,7 @@ ghost use Rattle.macs_edge.specs.Counts.{CountsStrangers};
 ghost use Rattle.macs_edge.specs.WireDatagrams.{IsGiven, ReceivesDatagram, SendsDatagram};
 ghost use Rattle.macs_edge.specs.Wires.{FillsBuffer, saturated};
 
-use crate::counts::{WireCounts, takes_one};
+use crate::counts::{Counted, WireCounts, takes_one};
 use crate::datagrams::Datagrams;
 use crate::wire::{Got, Wire, WireFault};
 use macs_frame::{FrameBuf, MAX_FRAME};
@@ -196,6 +196,16 @@ impl<A: Allocator, S: Datagrams> UdpWire<A, S> {
             failed_receives: self.failed_receives,
             failed_sends: self.failed_sends,
         }
+    }
+}
+
+impl<A: Allocator, S: Datagrams> Counted for UdpWire<A, S> {
+    ghost use Rattle.macs_edge.specs.UdpWires.{counts_of};
+
+    ghost wire_counts = { λ wire. counts_of wire };
+
+    fn counts(&self) -> WireCounts {
+        UdpWire::counts(self)
     }
 }
 

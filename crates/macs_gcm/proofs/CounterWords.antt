@@ -5,7 +5,7 @@ use Rattle.std.specs.Simd.Lanes.{Each1, digits_l, number_l}
 use Rattle.std.proofs.lemmas.List.{ext_get_or}
 use Rattle.std.proofs.lemmas.List.FromFn.{fill_by_all}
 use Rattle.std.proofs.lemmas.Simd.{get_or_narrower}
-use Rattle.macs_planes.proofs.Sixteen.{below_sixteen}
+use Rattle.macs_lanes.proofs.Sixteen.{below_sixteen}
 
 pub octets_of_words : (x0 x1 x2 x3 x4 x5 x6 x7 x8 x9 x10 x11 n a b c d : ℕ) → x0 < 256 → x1 < 256 → x2 < 256 → x3 < 256 → x4 < 256 → x5 < 256 → x6 < 256 → x7 < 256 → x8 < 256 → x9 < 256 → x10 < 256 → x11 < 256 → n < 2 ^ 32
     → a ≡ from_le_bytes w32 (x0 ∷ x1 ∷ x2 ∷ x3 ∷ []) → b ≡ from_le_bytes w32 (x4 ∷ x5 ∷ x6 ∷ x7 ∷ []) → c ≡ from_le_bytes w32 (x8 ∷ x9 ∷ x10 ∷ x11 ∷ [])

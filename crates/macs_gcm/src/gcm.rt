@@ -6,7 +6,9 @@ ghost use Rattle.macs_aes.specs.Keys.{octets_of_key};
 ghost use Rattle.macs_aes.specs.Cipher.{encrypt};
 ghost use Rattle.macs_gcm.specs.Gcm.{Opens, hash_subkey, pre_counter_block, seal, authentication_tag};
 
-use crate::counter::{GROUPED, gctr_next_by_blocks, gctr_next_by_groups, masks_from, xor_whole};
+use crate::counter::{
+    GROUPED, gctr_next_by_blocks, gctr_next_by_groups, mask_room, put_masks, xor_whole,
+};
 use macs_aes::{Block, Key, Schedule, encrypt_block};
 use macs_ghash::{Powers, ghash};
 use macs_planes::{GroupKeys, key_room};
@@ -97,7 +99,8 @@ fn seal_by_groups(key: &GcmKey, iv: &[u8; 12], aad: &[u8], text: &mut [u8]) -> [
     let start = pre_counter_block(iv);
     let mut room = key_room();
     let keys = GroupKeys::new(&key.schedule, &mut room);
-    let masks = masks_from(&keys, &start);
+    let mut masks = mask_room();
+    put_masks(&mut masks, &keys, &start, 0);
     gctr_next_by_groups(&key.schedule, &keys, &start, &masks, text);
     tag_of(key, &masks[0], aad, text)
 }
@@ -130,7 +133,8 @@ fn open_by_groups(key: &GcmKey, iv: &[u8; 12], aad: &[u8], text: &mut [u8], tag:
     let start = pre_counter_block(iv);
     let mut room = key_room();
     let keys = GroupKeys::new(&key.schedule, &mut room);
-    let masks = masks_from(&keys, &start);
+    let mut masks = mask_room();
+    put_masks(&mut masks, &keys, &start, 0);
     if !is_equal(&tag_of(key, &masks[0], aad, text), tag) {
         return false;
     }

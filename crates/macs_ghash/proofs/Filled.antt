@@ -14,7 +14,7 @@ use lib.Bits.{and_zero_r, xor_zero_l}
 use Rattle.macs_gf.specs.Gf128.{times_power, times_x}
 use Rattle.macs_gf.proofs.Xor.{digit_scaled}
 use Rattle.macs_ghash.specs.Tables.{nibble_product, octet_from_left, octets_in, sum_of}
-use Rattle.macs_ghash.proofs.OctetLanes.{below_sixteen}
+use Rattle.macs_lanes.proofs.Sixteen.{below_sixteen}
 use Rattle.macs_ghash.specs.declared.filling.TheConstants.{MASKS}
 
 -- ---- an octet of sums
@@ -25,7 +25,7 @@ octet-xor u v b = ap (λ (n : ℕ). n % 256) (xor_shr u v (120 - 8 * b)) ∙ xor
 zero_shifted : (k : ℕ) → 0 / 2 ^ k ≡ 0
 zero_shifted k = div-eq_of_lt (pow_pos k)
 
-octet_none : (b : ℕ) → octet_from_left 0 b ≡ 0
+pub octet_none : (b : ℕ) → octet_from_left 0 b ≡ 0
 octet_none b = ap (λ (n : ℕ). n % 256) (zero_shifted (120 - 8 * b))
 
 octet_digit : (d v b : ℕ) → d < 2 → octet_from_left (d * v) b ≡ d * octet_from_left v b
@@ -185,3 +185,7 @@ pub zeros_at : (n m : ℕ) → get_or {A = ℕ} (replicate n 0) m 0 ≡ 0
 zeros_at zero m = refl
 zeros_at (suc n) zero = refl
 zeros_at (suc n) (suc m) = zeros_at n m
+
+-- one number, and zeros after it
+pub first_alone : (n x g : ℕ) → 0 < g → get_or (set (replicate n 0) 0 x) g 0 ≡ 0
+first_alone n x g some = get_or-set_other (replicate n 0) 0 g x 0 (omega arith) ∙ zeros_at n g

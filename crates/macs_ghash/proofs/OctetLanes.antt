@@ -8,10 +8,12 @@ use Rattle.std.proofs.lemmas.Nat.{and_mask}
 use Rattle.std.proofs.lemmas.Simd.{Each1-from_get_or, SwzOk, SwzOk-from_below, get_or-replicate, get_or-swz_l, get_or-swz_l_below, get_or-zip2, length-replicate, swz_l}
 use mir.Val.{zeroes}
 use lib.Bits.{or_zero_l, or_zero_r}
+use Rattle.macs_lanes.proofs.Sixteen.{below_sixteen}
 use Rattle.macs_ghash.specs.Tables.{block_of_octets, octet_from_left, octets_in, pushed}
 use Rattle.macs_ghash.proofs.OctetSteps.{block_equal}
 use Rattle.macs_ghash.proofs.OctetSums.{octets_whole}
 use Rattle.macs_ghash.specs.declared.octets.TheConstants.{BEFORE, LAST}
+use Rattle.macs_ghash.specs.declared.turns.TheConstants.{FLIPPED}
 
 -- an octet in its sixteen
 pub by_sixteen : (x : List ℕ) (m : ℕ) → octets_in x (m / 16) (m % 16) ≡ get_or x m 0
@@ -88,6 +90,12 @@ before_at n g j le h k = table_at BEFORE before before_are n g j le h k
 pub last_at : (n g j : ℕ) → n ≤ 2 → g < n → j < 16 → get_or (take (16 * n) LAST) (16 * g + j) 0 ≡ last j
 last_at n g j le h k = table_at LAST last last_are n g j le h k
 
+flipped_are : map (λ m. get_or FLIPPED m 0) (range_with_len 0 32) ≡ map (λ m. bit_xor (m % 16) 7) (range_with_len 0 32)
+flipped_are = refl
+
+pub flipped_at : (n g j : ℕ) → n ≤ 2 → g < n → j < 16 → get_or (take (16 * n) FLIPPED) (16 * g + j) 0 ≡ bit_xor j 7
+flipped_at n g j le h k = table_at FLIPPED (λ j. bit_xor j 7) flipped_are n g j le h k
+
 cond_at : (v p : ℕ) → p ≡ 128 → cond (zeroes 16 w8 p) 0 v ≡ 0
 cond_at v p e = subst (λ (q : ℕ). cond (zeroes 16 w8 q) 0 v ≡ 0) (sym e) refl
 
@@ -134,25 +142,6 @@ pushed_joined x f zero = or_zero_r x
 pushed_joined x f (suc j) = or_zero_l (f j)
 
 -- ---- a number from its octets
-
-pub below_sixteen : (P : ℕ → Type 0) → P 0 → P 1 → P 2 → P 3 → P 4 → P 5 → P 6 → P 7 → P 8 → P 9 → P 10 → P 11 → P 12 → P 13 → P 14 → P 15 → (j : ℕ) → j < 16 → P j
-below_sixteen P p0 p1 p2 p3 p4 p5 p6 p7 p8 p9 p10 p11 p12 p13 p14 p15 zero h = p0
-below_sixteen P p0 p1 p2 p3 p4 p5 p6 p7 p8 p9 p10 p11 p12 p13 p14 p15 (suc zero) h = p1
-below_sixteen P p0 p1 p2 p3 p4 p5 p6 p7 p8 p9 p10 p11 p12 p13 p14 p15 (suc (suc zero)) h = p2
-below_sixteen P p0 p1 p2 p3 p4 p5 p6 p7 p8 p9 p10 p11 p12 p13 p14 p15 (suc (suc (suc zero))) h = p3
-below_sixteen P p0 p1 p2 p3 p4 p5 p6 p7 p8 p9 p10 p11 p12 p13 p14 p15 (suc (suc (suc (suc zero)))) h = p4
-below_sixteen P p0 p1 p2 p3 p4 p5 p6 p7 p8 p9 p10 p11 p12 p13 p14 p15 (suc (suc (suc (suc (suc zero))))) h = p5
-below_sixteen P p0 p1 p2 p3 p4 p5 p6 p7 p8 p9 p10 p11 p12 p13 p14 p15 (suc (suc (suc (suc (suc (suc zero)))))) h = p6
-below_sixteen P p0 p1 p2 p3 p4 p5 p6 p7 p8 p9 p10 p11 p12 p13 p14 p15 (suc (suc (suc (suc (suc (suc (suc zero))))))) h = p7
-below_sixteen P p0 p1 p2 p3 p4 p5 p6 p7 p8 p9 p10 p11 p12 p13 p14 p15 (suc (suc (suc (suc (suc (suc (suc (suc zero)))))))) h = p8
-below_sixteen P p0 p1 p2 p3 p4 p5 p6 p7 p8 p9 p10 p11 p12 p13 p14 p15 (suc (suc (suc (suc (suc (suc (suc (suc (suc zero))))))))) h = p9
-below_sixteen P p0 p1 p2 p3 p4 p5 p6 p7 p8 p9 p10 p11 p12 p13 p14 p15 (suc (suc (suc (suc (suc (suc (suc (suc (suc (suc zero)))))))))) h = p10
-below_sixteen P p0 p1 p2 p3 p4 p5 p6 p7 p8 p9 p10 p11 p12 p13 p14 p15 (suc (suc (suc (suc (suc (suc (suc (suc (suc (suc (suc zero))))))))))) h = p11
-below_sixteen P p0 p1 p2 p3 p4 p5 p6 p7 p8 p9 p10 p11 p12 p13 p14 p15 (suc (suc (suc (suc (suc (suc (suc (suc (suc (suc (suc (suc zero)))))))))))) h = p12
-below_sixteen P p0 p1 p2 p3 p4 p5 p6 p7 p8 p9 p10 p11 p12 p13 p14 p15 (suc (suc (suc (suc (suc (suc (suc (suc (suc (suc (suc (suc (suc zero))))))))))))) h = p13
-below_sixteen P p0 p1 p2 p3 p4 p5 p6 p7 p8 p9 p10 p11 p12 p13 p14 p15 (suc (suc (suc (suc (suc (suc (suc (suc (suc (suc (suc (suc (suc (suc zero)))))))))))))) h = p14
-below_sixteen P p0 p1 p2 p3 p4 p5 p6 p7 p8 p9 p10 p11 p12 p13 p14 p15 (suc (suc (suc (suc (suc (suc (suc (suc (suc (suc (suc (suc (suc (suc (suc zero))))))))))))))) h = p15
-below_sixteen P p0 p1 p2 p3 p4 p5 p6 p7 p8 p9 p10 p11 p12 p13 p14 p15 (suc (suc (suc (suc (suc (suc (suc (suc (suc (suc (suc (suc (suc (suc (suc (suc j)))))))))))))))) h = absurd (omega arith)
 
 number_small : (x0 x1 x2 x3 x4 x5 x6 x7 x8 x9 x10 x11 x12 x13 x14 x15 : ℕ) → x0 < 256 → x1 < 256 → x2 < 256 → x3 < 256 → x4 < 256 → x5 < 256 → x6 < 256 → x7 < 256 → x8 < 256 → x9 < 256 → x10 < 256 → x11 < 256 → x12 < 256 → x13 < 256 → x14 < 256 → x15 < 256 → from_be_bytes w128 (x0 ∷ x1 ∷ x2 ∷ x3 ∷ x4 ∷ x5 ∷ x6 ∷ x7 ∷ x8 ∷ x9 ∷ x10 ∷ x11 ∷ x12 ∷ x13 ∷ x14 ∷ x15 ∷ []) < 2 ^ 128
 number_small x0 x1 x2 x3 x4 x5 x6 x7 x8 x9 x10 x11 x12 x13 x14 x15 hx0 hx1 hx2 hx3 hx4 hx5 hx6 hx7 hx8 hx9 hx10 hx11 hx12 hx13 hx14 hx15 = omega arith

@@ -9,10 +9,10 @@ use Rattle.std.proofs.lemmas.Simd.{get_or-replicate}
 use Rattle.std.proofs.lemmas.Nat.{xor_comm}
 use Rattle.macs_gf.specs.Ghash.{block_at}
 use Rattle.macs_gf.proofs.GhashBlocks.{block_at-is, block_octets}
-use Rattle.macs_ghash.specs.Tables.{block_of_octets, octet_from_left}
+use Rattle.macs_ghash.specs.Tables.{block_of_octets, octet_from_left, octets_in}
 use Rattle.macs_ghash.proofs.OctetSteps.{block_equal, block_xor}
 use Rattle.macs_ghash.proofs.OctetSums.{octets_whole}
-use Rattle.macs_ghash.proofs.OctetLanes.{below_sixteen, block_number, octet_of_number}
+use Rattle.macs_ghash.proofs.OctetLanes.{block_number, octet_of_number}
 
 pub each_below : (bound : ℕ) (xs : List ℕ) → 0 < bound → All (λ v. v < bound) xs → (m : ℕ) → get_or xs m 0 < bound
 each_below bound xs some all m = elim (cases_lt m (length xs)) [
@@ -30,13 +30,17 @@ octet_of_block_at octets l j len small k =
     ∙ octet_of_number block size (λ j k. subst (λ (v : ℕ). v < 256) (sym (at j k)) (small (16 * l + j))) j k ∙ at j k
 
 -- a block depends on its octets alone
-pub block_same : (xs ys : List ℕ) (l : ℕ) → 16 * l + 16 ≤ length xs → 16 * l + 16 ≤ length ys → ((j : ℕ) → j < 16 → get_or xs (16 * l + j) 0 ≡ get_or ys (16 * l + j) 0)
-    → block_at xs l ≡ block_at ys l
-block_same xs ys l lx ly same =
+pub block_moved : (xs ys : List ℕ) (l m : ℕ) → 16 * l + 16 ≤ length xs → 16 * m + 16 ≤ length ys → ((j : ℕ) → j < 16 → get_or xs (16 * l + j) 0 ≡ get_or ys (16 * m + j) 0)
+    → block_at xs l ≡ block_at ys m
+block_moved xs ys l m lx ly same =
     let block : List ℕ = take 16 (drop (16 * l) xs) in
     let size : length block ≡ 16 = length-take-le 16 (drop (16 * l) xs) (omega (arith, length-drop (16 * l) xs)) in
     ap (from_be_bytes w128) (block_octets xs l)
-    ∙ block_at-is ys block l size ly (λ j k. get_or-take 16 (drop (16 * l) xs) j 0 k ∙ get_or-drop (16 * l) xs j 0 ∙ same j k)
+    ∙ block_at-is ys block m size ly (λ j k. get_or-take 16 (drop (16 * l) xs) j 0 k ∙ get_or-drop (16 * l) xs j 0 ∙ same j k)
+
+pub block_same : (xs ys : List ℕ) (l : ℕ) → 16 * l + 16 ≤ length xs → 16 * l + 16 ≤ length ys → ((j : ℕ) → j < 16 → get_or xs (16 * l + j) 0 ≡ get_or ys (16 * l + j) 0)
+    → block_at xs l ≡ block_at ys l
+block_same xs ys l lx ly same = block_moved xs ys l l lx ly same
 
 -- a block as the sum of its octets
 block_of_string : (octets : List ℕ) (l : ℕ) → 16 * l + 16 ≤ length octets → ((m : ℕ) → get_or octets m 0 < 256)
@@ -49,26 +53,15 @@ block_of_string octets l len small =
     ∙ block_number block size (λ j k. subst (λ (v : ℕ). v < 256) (sym (at j k)) (small (16 * l + j)))
     ∙ block_equal (λ j. get_or block j 0) (λ j. get_or octets (16 * l + j) 0) at
 
--- the octets of a number as a block
-number_block : (v : ℕ) → v < 2 ^ 128 → block_of_octets (λ j. get_or (to_be_bytes w128 v) j 0) ≡ v
-number_block v h =
-    block_equal (λ j. get_or (to_be_bytes w128 v) j 0) (octet_from_left v)
-    (below_sixteen (λ j. get_or (to_be_bytes w128 v) j 0 ≡ octet_from_left v j) (omega arith) (omega arith) (omega arith) (omega arith) (omega arith) (omega arith) (omega arith) (omega arith)
-    (omega arith) (omega arith) (omega arith) (omega arith) (omega arith) (omega arith) (omega arith) (omega arith))
-    ∙ octets_whole v h
-
 -- octets of a number added to the first block
 pub state_added : (old new : List ℕ) (state : ℕ) → 16 ≤ length old → 16 ≤ length new → ((m : ℕ) → get_or old m 0 < 256) → ((m : ℕ) → get_or new m 0 < 256) → state < 2 ^ 128
-    → ((j : ℕ) → j < 16 → get_or new j 0 ≡ bit_xor (get_or old j 0) (get_or (to_be_bytes w128 state) j 0))
+    → ((j : ℕ) → j < 16 → octets_in new 0 j ≡ bit_xor (octets_in old 0 j) (octet_from_left state j))
     → block_at new 0 ≡ bit_xor state (block_at old 0)
 state_added old new state lo ln so sn h is =
     let a : ℕ → ℕ = λ j. get_or old (16 * 0 + j) 0 in
-    let b : ℕ → ℕ = λ j. get_or (to_be_bytes w128 state) j 0 in
     block_of_string new 0 (omega arith) sn
-    ∙ block_equal (λ j. get_or new (16 * 0 + j) 0) (λ j. bit_xor (a j) (b j)) (λ j k.
-    let here : 16 * 0 + j ≡ j = omega arith in
-    ap (λ (m : ℕ). get_or new m 0) here ∙ is j k ∙ ap (λ (m : ℕ). bit_xor (get_or old m 0) (b j)) (sym here))
-    ∙ block_xor a b ∙ ap₂ bit_xor (sym (block_of_string old 0 (omega arith) so)) (number_block state h) ∙ xor_comm (block_at old 0) state
+    ∙ block_equal (λ j. get_or new (16 * 0 + j) 0) (λ j. bit_xor (a j) (octet_from_left state j)) is
+    ∙ block_xor a (octet_from_left state) ∙ ap₂ bit_xor (sym (block_of_string old 0 (omega arith) so)) (octets_whole state h) ∙ xor_comm (block_at old 0) state
 
 -- a block of zeros
 pub zero_block : (n k : ℕ) → 16 * k + 16 ≤ n → block_at (replicate n 0) k ≡ 0
@@ -76,10 +69,3 @@ zero_block n k h =
     let size : length (replicate {A = ℕ} n 0) ≡ n = length-replicate n 0 in
     sym (block_at-is (replicate n 0) (replicate 16 0) k refl (omega arith)
     (λ j l. get_or-replicate 16 j 0 0 l ∙ sym (get_or-replicate n (16 * k + j) 0 0 (omega arith))))
-
-pub be_small : (v j : ℕ) → j < 16 → get_or (to_be_bytes w128 v) j 0 < 256
-be_small v j h = below_sixteen (λ j. get_or (to_be_bytes w128 v) j 0 < 256) (omega arith) (omega arith) (omega arith) (omega arith) (omega arith) (omega arith) (omega arith) (omega arith) (omega arith) (omega arith) (omega arith) (omega arith) (omega arith) (omega arith) (omega arith) (omega arith) j h
-
-pub not_first : (l j : ℕ) → l ≢ 0 → 16 ≤ 16 * l + j
-not_first zero j h = absurd (h refl)
-not_first (suc l) j h = omega arith

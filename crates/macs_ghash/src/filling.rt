@@ -77,7 +77,7 @@ fn second_half(block: u128) -> u64
 /// The octets of as many blocks as a register has room for: octet b of a block is at the place b ^
 /// 7 of its sixteen.
 #[inline(always)]
-fn octets_of<const P: usize>(blocks: &[u128; P], p: usize) -> Simd<u8, OCTETS>
+pub(crate) fn octets_of<const P: usize>(blocks: &[u128; P], p: usize) -> Simd<u8, OCTETS>
     requires { SIXTEENS * p + SIXTEENS ≤ P }
     ensures { (g b : ℕ) → g < SIXTEENS → b < 16
         → octets_in result g (bit_xor b 7)

@@ -73,9 +73,9 @@ fn put_block<const M: usize>(octets: &mut [u8; M], k: usize, block: &[u8; 16])
     }
 }
 
-/// Blocks of the string that is hashed, as many as M octets have room for, from block i on.
-#[inline(always)]
-pub(crate) fn input_blocks<const M: usize>(aad: &[u8], text: &[u8], i: usize) -> [u8; M]
+/// Blocks of the string that is hashed, as many as M octets have room for, from block i on, taken
+/// one by one.
+fn gathered_blocks<const M: usize>(aad: &[u8], text: &[u8], i: usize) -> [u8; M]
     requires aad { length aad.now < 2 ^ 32 }
     requires text { length text.now < 2 ^ 32 }
     requires within { i + M / 16 ≤ (length aad.now + 15) / 16 + (length text.now + 15) / 16 + 1 }
@@ -87,6 +87,26 @@ pub(crate) fn input_blocks<const M: usize>(aad: &[u8], text: &[u8], i: usize) ->
         put_block(&mut octets, k, &input_block(aad, text, i + k));
     }
     octets
+}
+
+/// Blocks of the string that is hashed, as many as M octets have room for, from block i on. Whole
+/// blocks of the text are side by side already.
+#[inline(always)]
+pub(crate) fn input_blocks<const M: usize>(aad: &[u8], text: &[u8], i: usize) -> [u8; M]
+    requires aad { length aad.now < 2 ^ 32 }
+    requires text { length text.now < 2 ^ 32 }
+    requires within { i + M / 16 ≤ (length aad.now + 15) / 16 + (length text.now + 15) / 16 + 1 }
+    ensures { (k : ℕ) → k < M / 16
+        → block_at result k ≡ block_at (hash_input aad.now text.now) (i + k) }
+{
+    let front = aad.len().div_ceil(16);
+    if i < front || text.len() < 16 * (i - front) {
+        return gathered_blocks(aad, text, i);
+    }
+    match text[16 * (i - front)..].first_chunk::<M>() {
+        Some(blocks) => *blocks,
+        None => gathered_blocks(aad, text, i),
+    }
 }
 
 /// The first blocks of the string that is hashed, behind as many zero blocks as M octets have room

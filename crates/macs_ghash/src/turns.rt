@@ -2,25 +2,50 @@
 
 ghost use Rattle.std.specs.Prelude.{◌≡◌, ◌≢◌, ◌+◌, ◌*◌, ◌/◌, ◌^◌, ◌<◌, ◌≤◌, ◌-◌, ℕ, bit_xor, length};
 ghost use Rattle.macs_gf.specs.Ghash.{block_at, blocks_of, ghash, hash_input, subkey_power};
-ghost use Rattle.macs_ghash.specs.Tables.{AreTables};
+ghost use Rattle.macs_ghash.specs.Tables.{AreTables, octet_from_left, octets_in};
 
-use crate::octets::{OCTETS, SIXTEENS, octets_in_range};
+use crate::filling::octets_of;
+use crate::octets::{OCTETS, SIXTEENS, found, octets_in_range, sum};
 use crate::strings::{behind_zeros, input_blocks};
 use crate::tables::{Part, products};
+use std::simd::prelude::*;
 
-/// A state added to the first of several blocks.
+/// For each octet of a block, the place of its sixteen that `octets_of` puts it at.
+pub(crate) const FLIPPED: [u8; 32] = [
+    7, 6, 5, 4, 3, 2, 1, 0, 15, 14, 13, 12, 11, 10, 9, 8, 7, 6, 5, 4, 3, 2, 1, 0, 15, 14, 13, 12,
+    11, 10, 9, 8,
+];
+
+/// The octets of a state in the first sixteen of a register, and zeros after them.
+#[inline(always)]
+fn octets_of_state(state: u128) -> Simd<u8, OCTETS>
+    ensures first { (j : ℕ) → j < 16 → octets_in result 0 j ≡ octet_from_left state j }
+    ensures rest { (g j : ℕ) → 0 < g → g < SIXTEENS → j < 16 → octets_in result g j ≡ 0 }
+{
+    let mut blocks = [0; SIXTEENS];
+    blocks[0] = state;
+    found(
+        octets_of(&blocks, 0),
+        Simd::<u8, OCTETS>::from_slice(&FLIPPED),
+    )
+}
+
+/// A state added to the first of several blocks. A whole register is stored, so that the load that
+/// follows does not wait for it.
 #[inline(always)]
 pub(crate) fn add_state<const M: usize>(octets: &mut [u8; M], state: u128)
-    requires { 16 ≤ M }
+    requires { OCTETS ≤ M }
     ensures first { block_at octets.new 0 ≡ bit_xor state (block_at octets.old 0) }
     ensures others { (l : ℕ) → 16 * l + 16 ≤ M → l ≢ 0
         → block_at octets.new l ≡ block_at octets.old l }
 {
     octets_in_range(octets);
-    let added = state.to_be_bytes();
-    for j in 0..16 {
-        octets[j] ^= added[j];
-    }
+    let sums = sum(
+        Simd::<u8, OCTETS>::from_slice(octets),
+        octets_of_state(state),
+    );
+    sums.copy_to_slice(octets);
+    octets_in_range(octets);
 }
 
 /// How many blocks the first of turns of `size` blocks takes: at least one, and those that whole

@@ -237,6 +237,12 @@ not_judged s (Receives frame) out is table = refl
 
 pub counts-rise-alone : {D : Type 0} (disk_of : D → Disk) → CountsRiseAlone disk_of
 counts-rise-alone disk_of = record {
+  at_first = λ disk first sci is. (
+    λ among. ap (λ (t : List ℕ → Option ChannelCounters). t sci) is.channel_counters
+        ∙ ap (λ (b : Bool). cond b (Some no_channel_counts) None) among,
+    λ other. ap (λ (t : List ℕ → Option ChannelCounters). t sci) is.channel_counters
+        ∙ ap (λ (b : Bool). cond b (Some no_channel_counts) None) other,
+  );
   other_faults = λ old new plain out at other call differ.
       ap (fault_count other) call.behaves.tx_counters ∙ other_fault at other (txsc.counters_of old.tx) differ;
   none_sent = λ old new plain out at call. ap (λ (c : TxCounters). c.protected) call.behaves.tx_counters

@@ -12,6 +12,7 @@ use Rattle.std.proofs.lemmas.Bool.{and_from, and_parts, le-leb, le-ltb, leb-true
 use Rattle.macs_config.specs.Config.{comes_before, is_ascending}
 use Rattle.macs_config.specs.Numbers.{block_beyond}
 use Rattle.macs_config.specs.declared.command.Command.{Command}
+use Rattle.macs_config.proofs.Kept.{apply-keeps}
 use Rattle.macs_disk.specs.Disk.{Disk}
 use Rattle.macs_txsc.specs.Transmit.{Outgoing, TxSide, next_outgoing}
 use Rattle.macs_txsc.specs.Transmit as transmit
@@ -239,6 +240,17 @@ module _ (numbers : List ℕ → ℕ → Option Numbers) (c : List ℕ → ℕ �
         | inr later ↦ none_among channels four.1 sci an later less
       ]
 
+-- ---- channels
+
+next_behind : (front behind : List (List ℕ)) (a b : List ℕ) → is_ascending (front ++ a ∷ b ∷ behind) ≡ true
+    → comes_before a b ≡ true
+next_behind [] behind a b is = (and_parts (comes_before a b) (is_ascending (b ∷ behind)) is).0
+next_behind (x ∷ []) behind a b is =
+    next_behind [] behind a b (and_parts (comes_before x a) (is_ascending (a ∷ b ∷ behind)) is).1
+next_behind (x ∷ y ∷ front) behind a b is =
+    next_behind (y ∷ front) behind a b
+    (and_parts (comes_before x y) (is_ascending (y ∷ front ++ a ∷ b ∷ behind)) is).1
+
 -- ---- the order of channels
 
 earlier : (front a b : List ℕ) (x y : ℕ) → x < y → comes_before (front ++ x ∷ a) (front ++ y ∷ b) ≡ true
@@ -275,6 +287,9 @@ needs-are-in-order = record {
       (next_outgoing t) o is has below few;
   first = λ r ceilings block need is. comes_first r.numbers ceilings block r.channels need is;
   none = λ r ceilings block is sci an within less. none_among r.numbers ceilings block r.channels is sci an within less;
+  stays = λ edition identity old new command is done front behind a b split. next_behind front behind a b
+      (subst (λ (channels : List (List ℕ)). is_ascending channels ≡ true) split
+      (apply-keeps edition identity old new command is done).channels_ascend);
   earlier = earlier;
   later = later;
   itself = λ sci. ap is_lt (tied_itself nat_list_cmp_total sci);

@@ -2,6 +2,7 @@
 -- counted of each channel.
 use Rattle.std.specs.Prelude.{◌≡◌, ◌≢◌, ◌+◌, ◌-◌, ◌^◌, min, ℕ, Bool, true, false, List, Option, Some, None, Result, Ok}
 use Rattle.std.specs.Prelude.{Err}
+use Rattle.macs_config.specs.Config.{is_among}
 use Rattle.macs_config.specs.Numbers.{one_more}
 use Rattle.macs_config.specs.declared.command.Command.TheVariants.{RxAdd, RxDrop}
 use Rattle.macs_disk.specs.Disk.{Disk}
@@ -19,7 +20,9 @@ use Rattle.macs_rxsc.specs.declared.verdict.Kind.TheVariants as kind
 use Rattle.macs_rxsc.specs.declared.verdict.Reason.TheVariants as reason
 use Rattle.macs_rxsc.specs.declared.verdict.Verdict.{Verdict}
 use Rattle.macs_rxsc.specs.declared.verdict.Verdict.TheVariants.{Delivered, Discarded}
+use Rattle.macs_store.specs.Value.{standing_in}
 use Rattle.macs_endpoint.specs.Calls.{IsCall}
+use Rattle.macs_endpoint.specs.Opening.{IsOpening}
 use Rattle.macs_endpoint.specs.State.{Call, Protected, Protects, Received, Receives, Reply, command_made, no_logs}
 use Rattle.macs_endpoint.specs.State.{rx_side}
 use Rattle.macs_endpoint.specs.Value.{EndpointValue, state_of}
@@ -68,10 +71,14 @@ pub record CountsAreNamed : Type 0 where
 
 -- A fault that is answered adds to its own count alone, and so does a verdict; `counters` says by how much. Of a
 -- channel, a verdict that is counted for it adds one where the frame names it, and nothing else changes; the counts of
--- the others stay. A channel that a command adds begins at 0, one that it drops counts no more. Where `protect` does
--- not answer, what is sent is not counted, nor where it answers Stopped; so with `receive`, whose verdicts and channels
--- stay then.
+-- the others stay. A channel that an opening finds, or a command adds, begins at 0; one that is dropped counts no more.
+-- Where `protect` does not answer, what is sent is not counted, nor where it answers Stopped; so with `receive`, whose
+-- verdicts and channels stay then.
 pub record CountsRiseAlone {D : Type 0} (disk_of : D → Disk) : Type 0 where
+  pub at_first : (disk : D) (first : EndpointValue D) (sci : List ℕ) → IsOpening disk_of disk (Ok first)
+      → (is_among (standing_in first.store).config.channels sci ≡ true
+      → rxsc.channel_counters_of first.rx sci ≡ Some no_channel_counts)
+      × (is_among (standing_in first.store).config.channels sci ≡ false → rxsc.channel_counters_of first.rx sci ≡ None)
   pub other_faults : (old new : EndpointValue D) (plain out : List ℕ) (at other : TxFault)
       → IsCall disk_of old (Protects plain) (Protected (Err (Tx at)) out) new
       → at ≢ other → fault_count other (txsc.counters_of new.tx) ≡ fault_count other (txsc.counters_of old.tx)

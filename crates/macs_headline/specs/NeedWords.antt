@@ -1,7 +1,9 @@
 -- The headline on ceilings that are needed, in which order they are raised, and whose turn it is after a call.
 use Rattle.std.specs.Prelude.{◌≡◌, ◌≢◌, ◌<◌, ◌≤◌, ◌⊎◌, ◌-◌, ◌/◌, ◌^◌, ◌++◌, ℕ, true, false, List, [], ◌∷◌, Contains, Option, Some}
 use Rattle.std.specs.Prelude.{None, Result, Ok, Err}
-use Rattle.macs_config.specs.Config.{comes_before, is_ascending}
+use Rattle.macs_config.specs.Apply.{apply}
+use Rattle.macs_config.specs.Config.{Config, Edition, IsConfig, comes_before, is_ascending}
+use Rattle.macs_config.specs.Identity.{Identity}
 use Rattle.macs_config.specs.Numbers.{block_beyond}
 use Rattle.macs_config.specs.declared.command.Command.{Command}
 use Rattle.macs_disk.specs.Disk.{Disk}
@@ -29,7 +31,8 @@ use Rattle.macs_endpoint.specs.declared.turn.Turn.TheVariants.{Command as Comman
 -- block beyond the greatest number seen; and that number has reached the ceiling, or half a block at most is left below
 -- it. The association that frames go out under needs one where half a block at most is left below a ceiling that is
 -- below 2^32. The transmit side comes first, and then receive associations: by channels in their order, of one channel
--- by their numbers. Channels that ascend do so from each SCI to the next, by the first octet in which two differ.
+-- by their numbers. Channels that ascend do so from each SCI to the next, by the first octet in which two differ. They stay
+-- so after each command.
 pub record NeedsAreInOrder : Type 0 where
   pub receive : (block an ceiling : ℕ) (sci : List ℕ) (n : Numbers) (need : Need)
       → needs.need_of block sci an (Some n) (Some ceiling) ≡ Some need
@@ -57,6 +60,9 @@ pub record NeedsAreInOrder : Type 0 where
   pub none : (r : RxSide) (ceilings : List ℕ → ℕ → Option ℕ) (block : ℕ) → needs.first_need_of r ceilings block ≡ None
       → (sci : List ℕ) (an : ℕ)
       → Contains r.channels sci → an < 4 → needs.need_of block sci an (r.numbers sci an) (ceilings sci an) ≡ None
+  pub stays : (edition : Edition) (identity : Identity) (old new : Config) (command : Command)
+      → IsConfig edition identity old → apply edition identity old command ≡ Ok new
+      → (front behind : List (List ℕ)) (a b : List ℕ) → new.channels ≡ front ++ a ∷ b ∷ behind → comes_before a b ≡ true
   pub earlier : (front a b : List ℕ) (x y : ℕ) → x < y → comes_before (front ++ x ∷ a) (front ++ y ∷ b) ≡ true
   pub later : (front a b : List ℕ) (x y : ℕ) → y < x → comes_before (front ++ x ∷ a) (front ++ y ∷ b) ≡ false
   pub itself : (sci : List ℕ) → comes_before sci sci ≡ false

@@ -1,9 +1,8 @@
 -- Blocks across lanes: steps of each octet, and blocks loaded and stored.
-use Rattle.std.proofs.Common.{◌≡◌, ℕ, ◌+◌, ◌*◌, ◌/◌, ◌%◌, ◌<◌, ◌∙◌, List, [], ◌∷◌, map, get_or, length, slice_index, bit_xor, ap, ap₂, sym, refl, arith, set, inl, inr}
+use Rattle.std.proofs.Common.{◌≡◌, ◌≢◌, ℕ, ◌+◌, ◌*◌, ◌/◌, ◌%◌, ◌<◌, ◌∙◌, List, [], ◌∷◌, map, get_or, length, slice_index, bit_xor, ap, ap₂, sym, refl, arith, inl, inr}
 use Rattle.std.specs.Int.{bit_at}
 use Rattle.std.specs.List.{range_with_len}
 use Rattle.std.proofs.lemmas.Bool.{cases_lt}
-use Rattle.std.proofs.lemmas.List.{get_or-set_other, get_or-set_same}
 use Rattle.std.proofs.lemmas.List.FromFn.{fill_by_all}
 use Rattle.macs_gf.specs.Gf256.{octet_product}
 use Rattle.macs_aes.specs.Cipher.{mixed_octet, xor_tables}
@@ -132,14 +131,26 @@ pub across_filled : (lanes : ℕ) (rows stored : List (List ℕ)) → length sto
 unfolding blocks_across
 across_filled lanes rows stored len each = fill_by_all (block_across rows) stored lanes [] len each
 
--- one block more
-pub across_more : (rows xs : List (List ℕ)) (i : ℕ) (r : List ℕ) → i < length xs → ((k : ℕ) → k < i → get_or xs k [] ≡ block_across rows k)
-    → r ≡ block_across rows i → (k : ℕ) → k < i + 1 → get_or (set xs i r) k [] ≡ block_across rows k
-across_more rows xs i r within held is k h = elim (cases_lt k i) [
-  | inl lt ↦ get_or-set_other xs i k r [] (omega arith) ∙ held k lt
-  | inr ge ↦
-      let same : k ≡ i = omega arith in
-      rw same (get_or-set_same xs i r [] within ∙ is)
+-- an eighth of the blocks put in their places, from the words with their octets
+pub eighth_put : (lanes i : ℕ) (rows blocks : List (List ℕ)) (words : List ℕ) → lanes % 8 ≡ 0
+    → ((g : ℕ) → g < lanes / 8 → length (get_or blocks (8 * g + i) []) ≡ 16)
+    → ((g j : ℕ) → g < lanes / 8 → j < 16 → octet blocks (8 * g + i) j ≡ octet_of_words words (16 * g + j))
+    → ((m : ℕ) → m < 2 * lanes → octet_of_words words m ≡ octet_at rows m i)
+    → (n : ℕ) → n < lanes → n % 8 ≡ i → get_or blocks n [] ≡ block_across rows n
+eighth_put lanes i rows blocks words whole sizes octets is n h e =
+    let at : 8 * (n / 8) + i ≡ n = omega (arith, e) in
+    let low : n / 8 < lanes / 8 = omega arith in
+    block_from rows (get_or blocks n []) n (ap (λ (k : ℕ). length (get_or blocks k [])) (sym at) ∙ sizes (n / 8) low)
+    (λ j k. ap (λ (m : ℕ). octet blocks m j) (sym at) ∙ octets (n / 8) j low k ∙ is (16 * (n / 8) + j) (place_within lanes n j whole h k)
+    ∙ ap (octet_at rows (16 * (n / 8) + j)) (sym e))
+
+-- an eighth more
+pub eighth_more : (lanes : ℕ) (rows old new : List (List ℕ)) (i : ℕ) → ((n : ℕ) → n < lanes → n % 8 < i → get_or old n [] ≡ block_across rows n)
+    → ((n : ℕ) → n % 8 ≢ i → get_or new n [] ≡ get_or old n []) → ((n : ℕ) → n < lanes → n % 8 ≡ i → get_or new n [] ≡ block_across rows n)
+    → (n : ℕ) → n < lanes → n % 8 < i + 1 → get_or new n [] ≡ block_across rows n
+eighth_more lanes rows old new i held others put n h k = elim (cases_lt (n % 8) i) [
+  | inl lt ↦ others n (λ e. absurd (omega (arith, e, lt))) ∙ held n h lt
+  | inr ge ↦ put n h (omega arith)
 ]
 
 -- ---- octets mixed, step by step

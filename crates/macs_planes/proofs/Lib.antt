@@ -6,7 +6,6 @@ pub mod Moves
 pub mod RowMoves
 pub mod EachBlock
 pub mod CrossMoves
-pub mod Sixteen
 pub mod Bytes
 pub mod BitTests
 pub mod Loaded

@@ -1,6 +1,6 @@
 //! Blocks across the lanes of planes, and the cipher's four steps on all of them at a time.
 
-ghost use Rattle.std.specs.Prelude.{◌≡◌, ◌<◌, ℕ, List, [], ◌+◌, ◌*◌, ◌/◌, ◌%◌, get_or, length, map};
+ghost use Rattle.std.specs.Prelude.{◌≡◌, ◌≢◌, ◌<◌, ℕ, List, [], ◌+◌, ◌*◌, ◌/◌, ◌%◌, get_or, length, map};
 ghost use Rattle.macs_aes.specs.Cipher.{mix_columns, mixed_octet, shift_rows, sub_bytes};
 ghost use Rattle.macs_planes.specs.Across.{IsKeyPlanes, blocks_across, octet_at, octet_of_words, row_below, turned};
 ghost use Rattle.macs_planes.specs.Bits.{IsBlock};
@@ -67,7 +67,7 @@ const TWICE: PlacesTable = [
 /// n of octet 16 g + j of plane k is bit k (the least significant first) of octet j of block 8 g +
 /// n. In clauses it is the list of the blocks, each a list of 16 octets.
 #[derive(Drop)]
-pub struct Across {
+pub(crate) struct Across {
     rows: Planes<LANES>,
 }
 
@@ -106,10 +106,24 @@ fn sixteen_of(words: Simd<u16, LANES>, g: usize) -> Block
 {
     let octets = words.to_le_bytes().to_array();
     let mut block = [0; 16];
-    for j in 0..16 {
-        block[j] = octets[16 * g + j];
-    }
+    block.copy_from_slice(&octets[16 * g..16 * g + 16]);
     block
+}
+
+/// The octets of words as block i, and as block i + 8 those after them, where there are sixteen
+/// blocks.
+#[inline(always)]
+fn put_apart(blocks: &mut [Block; LANES], i: usize, words: Simd<u16, LANES>)
+    requires { i < 8 }
+    ensures size { length blocks.new ≡ LANES }
+    ensures sizes { (g : ℕ) → g < LANES / 8 → length (get_or blocks.new (8 * g + i) []) ≡ 16 }
+    ensures octets { (g j : ℕ) → g < LANES / 8 → j < 16
+        → octet blocks.new (8 * g + i) j ≡ octet_of_words words (16 * g + j) }
+    ensures others { (n : ℕ) → n % 8 ≢ i → get_or blocks.new n [] ≡ get_or blocks.old n [] }
+{
+    for g in 0..LANES / 8 {
+        blocks[8 * g + i] = sixteen_of(words, g);
+    }
 }
 
 /// Planes of blocks across lanes.
@@ -149,10 +163,11 @@ fn loaded(blocks: &[Block; LANES]) -> Planes<LANES>
     }
 }
 
-/// The blocks across the lanes of planes.
+/// The blocks across the lanes of planes. Each goes to its place by a call of its own, so that the
+/// compiler takes it from a register.
 #[inline(always)]
-fn stored(x: &Planes<LANES>) -> [Block; LANES]
-    ensures { result ≡ blocks_across LANES x.now }
+fn store_all(x: &Planes<LANES>, blocks: &mut [Block; LANES])
+    ensures { blocks.new ≡ blocks_across LANES x.now }
 {
     let crossed = cross(&Columns {
         q0: x.p0,
@@ -164,22 +179,14 @@ fn stored(x: &Planes<LANES>) -> [Block; LANES]
         q6: x.p6,
         q7: x.p7,
     });
-    let Columns {
-        q0,
-        q1,
-        q2,
-        q3,
-        q4,
-        q5,
-        q6,
-        q7,
-    } = crossed;
-    let eight = [q0, q1, q2, q3, q4, q5, q6, q7];
-    let mut all = [[0; 16]; LANES];
-    for n in 0..LANES {
-        all[n] = sixteen_of(Simd::from_array(eight[n % 8]), n / 8);
-    }
-    all
+    put_apart(blocks, 0, Simd::from_array(crossed.q0));
+    put_apart(blocks, 1, Simd::from_array(crossed.q1));
+    put_apart(blocks, 2, Simd::from_array(crossed.q2));
+    put_apart(blocks, 3, Simd::from_array(crossed.q3));
+    put_apart(blocks, 4, Simd::from_array(crossed.q4));
+    put_apart(blocks, 5, Simd::from_array(crossed.q5));
+    put_apart(blocks, 6, Simd::from_array(crossed.q6));
+    put_apart(blocks, 7, Simd::from_array(crossed.q7));
 }
 
 /// Each octet mixed with the three below it in its column, in blocks whose rows are still to be
@@ -203,24 +210,24 @@ fn mixed(x: &Planes<LANES>, turns: usize) -> Planes<LANES>
 impl Across {
     /// The blocks, across lanes.
     #[inline(always)]
-    pub fn load(blocks: &[Block; LANES]) -> Self
+    pub(crate) fn load(blocks: &[Block; LANES]) -> Self
         ensures { result ≡ blocks.now }
     {
         let rows = loaded(blocks);
         Across { rows }
     }
 
-    /// The blocks.
+    /// The blocks, each in its place.
     #[inline(always)]
-    pub fn store(&self) -> [Block; LANES]
-        ensures { result ≡ self.now }
+    pub(crate) fn store(&self, blocks: &mut [Block; LANES])
+        ensures { blocks.new ≡ self.now }
     {
-        stored(&self.rows)
+        store_all(&self.rows, blocks);
     }
 
     /// SubBytes (FIPS 197, 5.1.1) of each block.
     #[inline(always)]
-    pub fn sub_bytes(&mut self)
+    pub(crate) fn sub_bytes(&mut self)
         ensures { self.new ≡ map sub_bytes self.old }
     {
         let rows = s_boxes(&self.rows);
@@ -229,7 +236,7 @@ impl Across {
 
     /// ShiftRows (FIPS 197, 5.1.2) of each block, twice.
     #[inline(always)]
-    pub fn shift_rows_twice(&mut self)
+    pub(crate) fn shift_rows_twice(&mut self)
         ensures { self.new ≡ map (turned 2) self.old }
     {
         let rows = moved_each(&self.rows, &TWICE);
@@ -239,7 +246,7 @@ impl Across {
     /// MixColumns (FIPS 197, 5.1.3) of each block, where ShiftRows has still to turn the rows so
     /// many times, before and after.
     #[inline(always)]
-    pub fn mix_columns(&mut self, turns: usize)
+    pub(crate) fn mix_columns(&mut self, turns: usize)
         requires { turns < 4 }
         ensures { map (turned turns) self.new ≡ map mix_columns (map (turned turns) self.old) }
     {
@@ -249,7 +256,7 @@ impl Across {
 
     /// AddRoundKey (FIPS 197, 5.1.4) of each block.
     #[inline(always)]
-    pub fn add_round_key(&mut self, key: &KeyPlanes)
+    pub(crate) fn add_round_key(&mut self, key: &KeyPlanes)
         requires { ArePlanes LANES key.now }
         ensures { (k : List ℕ) → IsKeyPlanes LANES k key.now → self.new ≡ keyed k self.old }
     {

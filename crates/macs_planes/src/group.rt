@@ -44,7 +44,7 @@ fn encrypt_group(schedule: &Schedule, keys: &[KeyPlanes; ROUND_KEYS], blocks: &m
         take_round(&mut planes, &keys[round], round, rounds);
     }
     planes.shift_rows_twice();
-    *blocks = planes.store();
+    planes.store(blocks);
 }
 
 /// Each block of whole groups encrypted under the schedule's key, whose round keys are given.

@@ -61,7 +61,7 @@ impl Model for KeyPlanes {
 impl KeyPlanes {
     /// A round key with rows that are still to be turned so many times.
     #[inline(always)]
-    pub fn of(key: &Block, turns: usize) -> Self
+    pub(crate) fn of(key: &Block, turns: usize) -> Self
         requires { turns < 4 }
         ensures { IsKeyPlanes LANES (turned_back turns key.now) result }
     {

@@ -20,7 +20,6 @@ mod rows;
 mod sbox;
 mod subfield;
 
-pub use across::Across;
 pub use group::{GroupKeys, encrypt16};
 pub use key_planes::{KeyPlanes, ROUND_KEYS, key_room};
 pub use places::LANES;

@@ -26,7 +26,7 @@ parted xs i d within =
 
 -- ---- one outcome more
 
-lines-more : (at : ℕ) (outcomes : List (Option Refusal)) (outcome : Option Refusal)
+pub lines-more : (at : ℕ) (outcomes : List (Option Refusal)) (outcome : Option Refusal)
     → outcome_lines at (outcomes ++ outcome ∷ []) ≡ outcome_lines at outcomes ++ outcome_line (at + length outcomes) outcome
 lines-more at [] outcome =
     let place : at ≡ at + 0 = omega arith in
@@ -45,7 +45,7 @@ any-more (None ∷ rest) outcome = any-more rest outcome
 any-more (Some refusal ∷ rest) None = refl
 any-more (Some refusal ∷ rest) (Some other) = refl
 
-status-more : (outcomes : List (Option Refusal)) (outcome : Option Refusal)
+pub status-more : (outcomes : List (Option Refusal)) (outcome : Option Refusal)
     → outcomes_status (outcomes ++ outcome ∷ []) ≡ (if is_some outcome then Refused else outcomes_status outcomes)
 status-more outcomes None = ap (λ (b : Bool). if b then Refused else Done) (any-more outcomes None)
 status-more outcomes (Some refusal) = ap (λ (b : Bool). if b then Refused else Done) (any-more outcomes (Some refusal))

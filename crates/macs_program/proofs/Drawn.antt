@@ -1,6 +1,7 @@
 -- All that is to be drawn from words of the program's contracts.
-use Rattle.std.proofs.Common.{◌≡◌, ◌≢◌, ◌⊎◌, inl, inr, ◌+◌, ◌/◌, ℕ, Bool, true, false, List, [], ◌∷◌, length, Option, Some, None, Result, Ok, Err, refl, sym, ◌∙◌, ap, subst, arith}
-use Rattle.std.specs.Prelude.{codes, get_or}
+use Rattle.std.proofs.Common.{◌≡◌, ◌≢◌, ◌⊎◌, inl, inr, ◌+◌, ◌/◌, ℕ, Bool, true, false, List, [], ◌∷◌, length, Option}
+use Rattle.std.proofs.Common.{Some, None, Result, Ok, Err, refl, sym, ◌∙◌, ap, subst, arith}
+use Rattle.std.specs.Prelude.{IfSome, codes, get_or, take}
 use Rattle.hex.specs.Hex.{decode_of}
 use Rattle.toml.specs.Data.{Members}
 use Rattle.macs_aes.specs.Keys.{octets_of_key}
@@ -35,11 +36,13 @@ use Rattle.macs_program.specs.Answer.{Answers, AnswersRequest, answer_status, an
 use Rattle.macs_program.specs.Applying.{Applies, EndsRun, SaysCommands, answer_of, commit_fault, outcome_lines}
 use Rattle.macs_program.specs.Capturing.{EndsWith, IsFlushed}
 use Rattle.macs_program.specs.Contents.{HasOpenGate, IsBlankFile}
-use Rattle.macs_program.specs.Drawn.{AnswerWords, ApplyWords, CaptureWords, FileWords, LineWords, ValueWords, is_apply, is_silent}
+use Rattle.macs_program.specs.Drawn.{AnswerWords, ApplyWords, CaptureWords, FileWords, LineWords, ValueWords, is_apply}
+use Rattle.macs_program.specs.Drawn.{is_silent}
 use Rattle.macs_program.specs.Failing.{failure_of_run}
 use Rattle.macs_program.specs.NewDisks.{Permits}
-use Rattle.macs_program.specs.Request.{offset_text}
-use Rattle.macs_program.specs.Run.{HasPrinted}
+use Rattle.macs_program.specs.Inputs.{InputRead}
+use Rattle.macs_program.specs.Request.{InputFaultHolds, IsFourLines, input_faults, offset_text}
+use Rattle.macs_program.specs.Run.{HasPrinted, OpenFails}
 use Rattle.macs_program.specs.Values.{SpellsLayout}
 use Rattle.macs_program.specs.declared.answer.Answer.{Answer}
 use Rattle.macs_program.specs.declared.answer.Answer.TheVariants.{Refused, Valid}
@@ -48,6 +51,8 @@ use Rattle.macs_program.specs.declared.failure.DiskFault.{DiskFault}
 use Rattle.macs_program.specs.declared.failure.DiskFault.TheVariants as disk
 use Rattle.macs_program.specs.declared.failure.Failure.{Failure}
 use Rattle.macs_program.specs.declared.failure.Failure.TheVariants as failures
+use Rattle.macs_program.specs.declared.request.InputFault.{InputFault}
+use Rattle.macs_program.specs.declared.request.InputFault.TheVariants as fault
 use Rattle.macs_program.specs.declared.request.Request.{Request}
 use Rattle.macs_words.specs.declared.action.Action.{Action}
 use Rattle.macs_words.specs.declared.action.Action.TheVariants.{Apply, Format, Open, Protect, Relay, Show, Validate}
@@ -62,25 +67,31 @@ offset_once line Zero Thirty is same = let one = ap length (sym is ∙ same) in 
 offset_once line Zero Fifty is same = let one = ap length (sym is ∙ same) in absurd (omega (arith, one))
 offset_once line Thirty Zero is same = let one = ap length (sym is ∙ same) in absurd (omega (arith, one))
 offset_once line Fifty Zero is same = let one = ap length (sym is ∙ same) in absurd (omega (arith, one))
-offset_once line Thirty Fifty is same = let one = ap (λ (text : List ℕ). get_or text 0 0) (sym is ∙ same) in absurd (omega (arith, one))
-offset_once line Fifty Thirty is same = let one = ap (λ (text : List ℕ). get_or text 0 0) (sym is ∙ same) in absurd (omega (arith, one))
+offset_once line Thirty Fifty is same = let one = ap (λ (text : List ℕ). get_or text 0 0) (sym is
+    ∙ same) in absurd (omega (arith, one))
+offset_once line Fifty Thirty is same = let one = ap (λ (text : List ℕ). get_or text 0 0) (sym is
+    ∙ same) in absurd (omega (arith, one))
 
 octets_once : (line a b : List ℕ) → decode_of line ≡ Ok a → decode_of line ≡ Ok b → a ≡ b
 octets_once line a b is same = cc
 
 -- an answer, over the parts of its request
 abbrev IsAnswered : (frame key sci : List ℕ) → ℕ → Answer → Type 0
-IsAnswered frame key sci offset (Valid an pn plain) = NoneHolds (OpenFaultHolds frame key sci offset) open_faults × Verified frame key sci offset plain.items
+IsAnswered frame key sci offset (Valid an pn plain) = NoneHolds (OpenFaultHolds frame key sci offset) open_faults
+    × Verified frame key sci offset plain.items
     × (an ≡ (tag_of frame).an) × (pn ≡ (tag_of frame).pn)
 IsAnswered frame key sci offset (Refused fault) = IsFirst (OpenFaultHolds frame key sci offset) open_faults fault
 
-answered : (r : Request) (answer : Answer) → AnswersRequest r answer → IsAnswered r.frame.items (octets_of_key r.key) r.sci (octets_of r.offset) answer
+answered : (r : Request) (answer : Answer) → AnswersRequest r answer
+    → IsAnswered r.frame.items (octets_of_key r.key) r.sci (octets_of r.offset) answer
 answered r (Valid an pn plain) is = (is.faultless, is.verified, is.association, is.number)
 answered r (Refused fault) is = is
 
-answered_once : (frame key sci : List ℕ) (offset : ℕ) (a b : Answer) → IsAnswered frame key sci offset a → IsAnswered frame key sci offset b
+answered_once : (frame key sci : List ℕ) (offset : ℕ) (a b : Answer) → IsAnswered frame key sci offset a
+    → IsAnswered frame key sci offset b
     → (answer_text a ≡ answer_text b) × (answer_status a ≡ answer_status b)
-answered_once frame key sci offset (Valid an pn plain) (Valid an' pn' plain') (none, verified, is_an, is_pn) (none', verified', is_an', is_pn') =
+answered_once frame key sci offset (Valid an pn plain) (Valid an' pn' plain') (none, verified, is_an, is_pn)
+    (none', verified', is_an', is_pn') =
     let out = verified_once frame key sci offset plain.items plain'.items verified verified' in
     let number = is_an ∙ sym is_an' in
     let packet = is_pn ∙ sym is_pn' in
@@ -93,18 +104,28 @@ answered_once frame key sci offset (Refused fault) (Refused other) first second 
     let same = first-once (OpenFaultHolds frame key sci offset) open_faults fault other first second in
     (ap refusal_text same, refl)
 
-answer_once : (input : List ℕ) (a b : Answer) → Answers input a → Answers input b → (answer_text a ≡ answer_text b) × (answer_status a ≡ answer_status b)
+answer_once : (input : List ℕ) (a b : Answer) → Answers input a → Answers input b → (answer_text a ≡ answer_text b)
+    × (answer_status a ≡ answer_status b)
 answer_once input a b x y =
     let frame = octets_once _ x.request.frame.items y.request.frame.items x.spelled.frame y.spelled.frame in
-    let key = octets_once _ (octets_of_key x.request.key) (octets_of_key y.request.key) x.spelled.key.1 y.spelled.key.1 in
+    let key = octets_once _ (octets_of_key x.request.key)
+    (octets_of_key y.request.key) x.spelled.key.1 y.spelled.key.1 in
     let sci = octets_once _ x.request.sci y.request.sci x.spelled.sci.1 y.spelled.sci.1 in
     let offset = offset_once _ x.request.offset y.request.offset x.spelled.offset y.spelled.offset in
-    let at_y : IsAnswered y.request.frame.items (octets_of_key y.request.key) y.request.sci (octets_of y.request.offset) b = answered y.request b y.answered in
-    let at_offset = subst (λ (n : ℕ). IsAnswered y.request.frame.items (octets_of_key y.request.key) y.request.sci n b) (sym offset) at_y in
-    let at_sci = subst (λ (s : List ℕ). IsAnswered y.request.frame.items (octets_of_key y.request.key) s (octets_of x.request.offset) b) (sym sci) at_offset in
-    let at_key = subst (λ (k : List ℕ). IsAnswered y.request.frame.items k x.request.sci (octets_of x.request.offset) b) (sym key) at_sci in
-    let at_frame = subst (λ (f : List ℕ). IsAnswered f (octets_of_key x.request.key) x.request.sci (octets_of x.request.offset) b) (sym frame) at_key in
-    answered_once x.request.frame.items (octets_of_key x.request.key) x.request.sci (octets_of x.request.offset) a b (answered x.request a x.answered) at_frame
+    let at_y : IsAnswered y.request.frame.items (octets_of_key y.request.key) y.request.sci
+    (octets_of y.request.offset) b = answered y.request b y.answered in
+    let at_offset = subst (λ (n : ℕ). IsAnswered y.request.frame.items (octets_of_key y.request.key) y.request.sci n b)
+    (sym offset) at_y in
+    let at_sci = subst
+    (λ (s : List ℕ). IsAnswered y.request.frame.items (octets_of_key y.request.key) s
+    (octets_of x.request.offset) b) (sym sci) at_offset in
+    let at_key = subst (λ (k : List ℕ). IsAnswered y.request.frame.items k x.request.sci (octets_of x.request.offset) b)
+    (sym key) at_sci in
+    let at_frame = subst
+    (λ (f : List ℕ). IsAnswered f (octets_of_key x.request.key) x.request.sci (octets_of x.request.offset) b)
+    (sym frame) at_key in
+    answered_once x.request.frame.items (octets_of_key x.request.key) x.request.sci (octets_of x.request.offset) a b
+    (answered x.request a x.answered) at_frame
 
 pub answer-words : AnswerWords
 answer-words = record {
@@ -115,22 +136,41 @@ answer-words = record {
 
 -- ---- one outcome for each command
 
-outcome_once : (s t u : State) (command : Command) (a b : Option Refusal) → Step s (Commands command) (Ran (answer_of a)) t
+outcome_once : (s t u : State) (command : Command) (a b : Option Refusal)
+    → Step s (Commands command) (Ran (answer_of a)) t
     → Step s (Commands command) (Ran (answer_of b)) u → (a ≡ b) × (t ≡ u)
 outcome_once s t u command None None (inl stopped) y = absurd stopped.1
 outcome_once s t u command None None (inr (running, (none, (config, is, same)))) (inl stopped) = absurd stopped.1
-outcome_once s t u command None None (inr (running, (none, (config, is, same)))) (inr (running', (none', (config', is', same')))) =
+outcome_once s t u command None None (inr (running, (none, (config, is, same)))) (inr (
+  running',
+  (
+    none',
+    (config', is', same'),
+  ),
+)) =
     let one : config ≡ config' = cc in
     (refl, same ∙ ap (state_after_command s command) one ∙ sym same')
 outcome_once s t u command None (Some at) (inl stopped) y = absurd stopped.1
 outcome_once s t u command None (Some at) (inr (running, (none, (config, is, same)))) (inl stopped) = absurd stopped.1
-outcome_once s t u command None (Some at) (inr (running, (none, (config, is, same)))) (inr (running', (none', is', same'))) = absurd (cc)
+outcome_once s t u command None (Some at) (inr (running, (none, (config, is, same)))) (inr (
+  running',
+  (none', is', same'),
+)) = absurd (cc)
 outcome_once s t u command (Some at) None (inl stopped) y = absurd stopped.1
 outcome_once s t u command (Some at) None (inr (running, (none, is, same))) (inl stopped) = absurd stopped.1
-outcome_once s t u command (Some at) None (inr (running, (none, is, same))) (inr (running', (none', (config, is', same')))) = absurd (cc)
+outcome_once s t u command (Some at) None (inr (running, (none, is, same))) (inr (
+  running',
+  (
+    none',
+    (config, is', same'),
+  ),
+)) = absurd (cc)
 outcome_once s t u command (Some at) (Some other) (inl stopped) y = absurd stopped.1
 outcome_once s t u command (Some at) (Some other) (inr (running, (none, is, same))) (inl stopped) = absurd stopped.1
-outcome_once s t u command (Some at) (Some other) (inr (running, (none, is, same))) (inr (running', (none', is', same'))) =
+outcome_once s t u command (Some at) (Some other) (inr (running, (none, is, same))) (inr (
+  running',
+  (none', is', same'),
+)) =
     let one : at ≡ other = cc in
     (ap Some one, same ∙ sym same')
 
@@ -139,14 +179,20 @@ heads x y xs ys is = (cc, cc)
 
 module _ {D : Type 0} (disk_of : D → Disk) where
   applies_once : (old older new newer : EndpointValue D) (commands : List Command) (p q : List (Option Refusal))
-      → state_of old no_logs ≡ state_of older no_logs → Applies disk_of old commands p new → Applies disk_of older commands q newer → p ≡ q
+      → state_of old no_logs ≡ state_of older no_logs → Applies disk_of old commands p new
+      → Applies disk_of older commands q newer → p ≡ q
   applies_once old older new newer [] p q same x y = x.0 ∙ sym y.0
-  applies_once old older new newer (command ∷ more) p q same (a, rest, between, is, call, later) (b, others, middle, is', call', later') =
+  applies_once old older new newer (command ∷ more) p q same (a, rest, between, is, call, later)
+      (b, others, middle, is', call', later') =
       let one = call.behaves.step no_logs in
       let two = call'.behaves.step no_logs in
       let here = outcome_once (state_of old no_logs) (state_of between one.0) (state_of middle two.0) command a b one.1
-          (subst (λ (s : State). Step s (Commands command) (Ran (answer_of b)) (state_of middle two.0)) (sym same) two.1) in
-      let after : state_of between no_logs ≡ state_of middle no_logs = ap (λ (s : State). record s { logs = no_logs }) here.1 in
+      (subst (λ (s : State). Step s (Commands command) (Ran (answer_of b)) (state_of middle two.0))
+      (sym same) two.1) in
+      let after : state_of between no_logs ≡ state_of middle no_logs = ap (λ (s : State). record s {
+        logs =
+            no_logs;
+      }) here.1 in
       let behind = applies_once between middle new newer more rest others after later later' in
       is ∙ (λ i. here.0 i ∷ behind i) ∙ sym is'
 
@@ -156,21 +202,26 @@ module _ {D : Type 0} (disk_of : D → Disk) where
   kept old new command more rest (outcome, others, between, is, call, later) =
       let (head, tail) = heads None outcome rest others is in (
         between,
-        subst (λ (o : Option Refusal). IsCall disk_of old (Commands command) (Ran (answer_of o)) between) (sym head) call,
+        subst (λ (o : Option Refusal). IsCall disk_of old (Commands command) (Ran (answer_of o)) between)
+            (sym head) call,
         subst (λ (l : List (Option Refusal)). Applies disk_of between more l new) (sym tail) later,
       )
 
-  refused : (old new : EndpointValue D) (command : Command) (more : List Command) (at : Refusal) (rest : List (Option Refusal))
+  refused : (old new : EndpointValue D) (command : Command) (more : List Command) (at : Refusal) (rest : List
+      (Option Refusal))
       → Applies disk_of old (command ∷ more) (Some at ∷ rest) new → (between : EndpointValue D)
-      × IsCall disk_of old (Commands command) (Ran (Err (ran.Refused at))) between × Applies disk_of between more rest new
+      × IsCall disk_of old (Commands command) (Ran (Err (ran.Refused at))) between
+      × Applies disk_of between more rest new
   refused old new command more at rest (outcome, others, between, is, call, later) =
       let (head, tail) = heads (Some at) outcome rest others is in (
         between,
-        subst (λ (o : Option Refusal). IsCall disk_of old (Commands command) (Ran (answer_of o)) between) (sym head) call,
+        subst (λ (o : Option Refusal). IsCall disk_of old (Commands command) (Ran (answer_of o)) between)
+            (sym head) call,
         subst (λ (l : List (Option Refusal)). Applies disk_of between more l new) (sym tail) later,
       )
 
-  as_many : (old new : EndpointValue D) (commands : List Command) (outcomes : List (Option Refusal)) → Applies disk_of old commands outcomes new
+  as_many : (old new : EndpointValue D) (commands : List Command) (outcomes : List (Option Refusal))
+      → Applies disk_of old commands outcomes new
       → length outcomes ≡ length commands
   as_many old new [] outcomes is = ap length is.0
   as_many old new (command ∷ more) outcomes (outcome, rest, between, is, call, later) =
@@ -178,8 +229,10 @@ module _ {D : Type 0} (disk_of : D → Disk) where
       let behind = as_many between new more rest later in
       omega (arith, all, behind)
 
-  by_line : (old new : EndpointValue D) (command : Command) (outcome : Option Refusal) → IsCall disk_of old (Commands command) (Ran (answer_of outcome)) new
-      → (IsCall disk_of old (Commands command) (Ran (Ok tt)) new) ⊎ ((at : Refusal) × IsCall disk_of old (Commands command) (Ran (Err (ran.Refused at))) new)
+  by_line : (old new : EndpointValue D) (command : Command) (outcome : Option Refusal)
+      → IsCall disk_of old (Commands command) (Ran (answer_of outcome)) new
+      → (IsCall disk_of old (Commands command) (Ran (Ok tt)) new) ⊎ ((at : Refusal)
+      × IsCall disk_of old (Commands command) (Ran (Err (ran.Refused at))) new)
   by_line old new command None call = inl call
   by_line old new command (Some at) call = inr (at, call)
 
@@ -202,7 +255,8 @@ says_once octets a b x y =
 
 fault_of : (fault : DiskFault) (answer : CommandFault) → commit_fault fault answer
     → ((answer ≡ ran.Stopped) × (fault ≡ disk.Journal journal.Stopped)) ⊎ ((answer ≡ ran.Busy) × (fault ≡ disk.Busy))
-    ⊎ ((answer ≡ ran.GenerationsSpent) × (fault ≡ disk.Journal journal.GenerationsSpent)) ⊎ ((answer ≡ ran.Disk) × (fault ≡ disk.Journal journal.Disk))
+    ⊎ ((answer ≡ ran.GenerationsSpent) × (fault ≡ disk.Journal journal.GenerationsSpent)) ⊎ ((answer ≡ ran.Disk)
+    × (fault ≡ disk.Journal journal.Disk))
 fault_of fault ran.Stopped is = inl (refl, is)
 fault_of fault ran.Busy is = inr (inl (refl, is))
 fault_of fault ran.GenerationsSpent is = inr (inr (inl (refl, is)))
@@ -234,9 +288,11 @@ apply-words disk_of = record {
 
 -- ---- captures
 
-ends_by : (answer : Result Summary RunFault) (failure : Failure) (before after : SinkState) → EndsWith answer failure before after
+ends_by : (answer : Result Summary RunFault) (failure : Failure) (before after : SinkState)
+    → EndsWith answer failure before after
     → ((summary : Summary) × (answer ≡ Ok summary) × (failure ≡ failures.Capture) × (after.failed ≡ true))
-    ⊎ ((fault : RunFault) × (answer ≡ Err fault) × (failure ≡ failure_of_run fault) × (IsFlushed before after ⊎ (after.failed ≡ true)))
+    ⊎ ((fault : RunFault) × (answer ≡ Err fault) × (failure ≡ failure_of_run fault) × (IsFlushed before after
+    ⊎ (after.failed ≡ true)))
 ends_by (Ok summary) failure before after (is, fails) = inl (summary, refl, is, fails.fails)
 ends_by (Err fault) failure before after (is, inl flushed) = inr (fault, refl, is, inl flushed)
 ends_by (Err fault) failure before after (is, inr fails) = inr (fault, refl, is, inr fails.fails)
@@ -255,7 +311,8 @@ capture-words disk_of = record {
 
 -- ---- disks in files
 
-taken_for : (is_over : Bool) (settled : FileState) (sectors : ℕ) (fault : DiskFault) → Permits is_over settled sectors (Some fault)
+taken_for : (is_over : Bool) (settled : FileState) (sectors : ℕ) (fault : DiskFault)
+    → Permits is_over settled sectors (Some fault)
     → ((fault ≡ disk.Journal journal.AlreadyFormatted) × HasOpenGate settled sectors)
     ⊎ ((fault ≡ disk.File) × (is_over ≡ false) × (¬ HasOpenGate settled sectors) × (¬ IsBlankFile settled sectors))
 taken_for is_over settled sectors fault (contents.Blank, are, is) = absurd (cc)
@@ -274,7 +331,8 @@ file-words file = record {
   applied = λ before after status a. (a.endpoint, a.applies);
   broken = λ before after failure b. (b.endpoint, b.ends);
   shown = λ before after s. (s.endpoint, s.printed);
-  passed = λ side summary p. (p.endpoint, p.passes.source, p.passes.source_left, p.passes.sink, p.passes.sink_left, p.passes.passes);
+  passed = λ side summary p.
+      (p.endpoint, p.passes.source, p.passes.source_left, p.passes.sink, p.passes.sink_left, p.passes.passes);
   formatted = λ is_over layout identity f. (f.made, f.formats);
   not_formatted = λ is_over identity failure is. is;
   not_blank = λ is_over given failure is. is;
@@ -283,7 +341,8 @@ file-words file = record {
 
 -- ---- what is printed
 
-nothing_printed : (action : Action) (before after : Option (List ℕ)) → HasPrinted action before after → is_silent action ≡ true → after ≡ before
+nothing_printed : (action : Action) (before after : Option (List ℕ)) → HasPrinted action before after
+    → is_silent action ≡ true → after ≡ before
 nothing_printed Open before after printed is = printed
 nothing_printed (Format disk sci tx_block rx_block block is_over) before after printed is = printed
 nothing_printed (Show disk) before after printed is = printed
@@ -292,14 +351,46 @@ nothing_printed (Validate disk from to) before after printed is = printed
 nothing_printed (Relay disk controlled common pace) before after printed is = printed
 nothing_printed action before after printed is = absurd (cc)
 
-commands_printed : (action : Action) (before after : Option (List ℕ)) → HasPrinted action before after → is_apply action ≡ true
+commands_printed : (action : Action) (before after : Option (List ℕ)) → HasPrinted action before after
+    → is_apply action ≡ true
     → (outcomes : List (Option Refusal)) × Appends before after (outcome_lines 1 outcomes)
 commands_printed (Apply disk file) before after printed is = printed
 commands_printed action before after printed is = absurd (cc)
 
+-- the first fault of an input is `Input` where it is not four lines
+not_four : (all : List ℕ) → IsFirst (InputFaultHolds all) input_faults fault.Input → ¬ IsFourLines all
+not_four all (inl (holds, is)) = holds
+not_four all (inr (front, inl (holds, is))) = absurd (cc)
+not_four all (inr (front, inr (nor, inl (holds, is)))) = absurd (cc)
+not_four all (inr (front, inr (nor, inr (neither, inl (holds, is))))) = absurd (cc)
+not_four all (inr (front, inr (nor, inr (neither, inr (never, inl (holds, is)))))) = absurd (cc)
+not_four all (inr (front, inr (nor, inr (neither, inr (never, inr (lastly, later)))))) = absurd later
+
+input_of : (a b : InputFault) (failure : Failure) → failure ≡ failures.Input a → failure ≡ failures.Input b → a ≡ b
+input_of a b failure is same = let both : failures.Input a ≡ failures.Input b = sym is ∙ same in cc
+
+not_lines : (octets : Option (List ℕ))
+    → IfSome octets (λ all. IsFirst (InputFaultHolds (take 20001 all)) input_faults fault.Input)
+    → IfSome octets (λ all. ¬ IsFourLines (take 20001 all))
+not_lines None first = tt
+not_lines (Some all) first = not_four (take 20001 all) first
+
+no_input : (input : InputRead) (failure : Failure) → OpenFails input failure → failure ≡ failures.Input fault.Input
+    → (input.has_failed ≡ true) ⊎ IfSome input.octets (λ all. ¬ IsFourLines (take 20001 all))
+no_input input failure (inl (is, failed)) named = inl failed
+no_input input failure (inr (inl (at, is, first))) named =
+    inr (not_lines input.octets (subst (λ (f : InputFault). IfSome input.octets
+    (λ all. IsFirst (InputFaultHolds (take 20001 all)) input_faults f))
+    (input_of at fault.Input failure is named) first))
+no_input input failure (inr (inr (inl memory))) named = absurd (let both : failures.Memory ≡ failures.Input fault.Input =
+    sym memory ∙ named in cc)
+no_input input failure (inr (inr (inr output))) named = absurd (let both : failures.Output ≡ failures.Input fault.Input =
+    sym output ∙ named in cc)
+
 pub line-words : LineWords
 line-words = record {
   prints = λ input before after status is. is;
+  no_input = no_input;
   nothing = nothing_printed;
   commands = commands_printed;
   complained = λ before after failed text is. is;
@@ -322,5 +413,6 @@ value-words = record {
   identity = λ sci tx_block rx_block identity s. (s.sci_is.1, s.sci_is.0, s.tx_is, s.rx_is, s.tx_fits, s.rx_fits);
   packed = λ layout is. is;
   block = layout_named;
-  wires = λ controlled common (first, second, one, two). (first, second, one.own_is, one.peer_is, two.own_is, two.peer_is);
+  wires = λ controlled common (first, second, one, two).
+      (first, second, one.own_is, one.peer_is, two.own_is, two.peer_is);
 }

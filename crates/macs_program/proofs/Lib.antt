@@ -3,6 +3,7 @@ pub mod Applied
 pub mod AskedFor
 pub mod Buffers
 pub mod Captured
+pub mod Checked
 pub mod Codes
 pub mod Commanded
 pub mod Complaining
@@ -11,15 +12,16 @@ pub mod Failures
 pub mod FirstFault
 pub mod HexDigits
 pub mod InFiles
+pub mod Inspected
 pub mod Looks
 pub mod Made
 pub mod Opened
 pub mod Performed
 pub mod Printing
 pub mod Relayed
-pub mod Shown
 pub mod SpelledWires
 pub mod Spelling
 pub mod TextLines
+pub mod Told
 mod WrittenOver
 mod Drawn

@@ -13,7 +13,7 @@ use Rattle.macs_program.proofs.FirstFault.{first-holds}
 use Rattle.macs_program.proofs.Failures.{IsOfDisk, disk-no-output}
 use Rattle.macs_program.specs.Failing.{failure_of_file, failure_status}
 use Rattle.macs_program.specs.NewDisks.{FormatFails, Formats, IsAfterValues, IsTaken, MakesDisk, Permits}
-use Rattle.macs_program.specs.Showing.{line}
+use Rattle.macs_texts.specs.Lines.{line}
 use Rattle.macs_program.specs.Values.{value_faults}
 use Rattle.macs_program.specs.declared.failure.DiskFault.{DiskFault}
 use Rattle.macs_program.specs.declared.failure.DiskFault.TheVariants as disk
@@ -102,6 +102,9 @@ after-no-usage (failures.Disk fault) is = λ e. cc
 after-no-usage failures.Memory is = λ e. cc
 after-no-usage failures.Output is = λ e. cc
 after-no-usage failures.Wire is = absurd is
+after-no-usage failures.Control is = absurd is
+after-no-usage failures.Random is = absurd is
+after-no-usage (failures.CommandFile cause) is = absurd is
 after-no-usage (failures.Usage cause) is = absurd is
 after-no-usage (failures.Value fault) is = absurd is
 after-no-usage (failures.Address fault) is = absurd is

@@ -2,29 +2,101 @@
 use Rattle.std.proofs.Common.{Bor, ◌≡◌, ◌≢◌, ◌⊎◌, inl, inr, ℕ, List, Bool, true, false, if◌then◌else◌, Option, IfSome, Result, IfErr, IfOk, refl, sym, ◌∙◌, ap}
 use Rattle.std.specs.Io.KnownBytes.{Appends}
 use Rattle.std.specs.List.{list_any}
-use Rattle.std.specs.Prelude.{is_some}
+use Rattle.std.specs.Prelude.{◌&&◌, is_some, nat_lt}
 use Rattle.std.proofs.lemmas.Result.{IfErr-weaker, IfOk-weaker}
 use Rattle.macs_config.specs.declared.refusal.Refusal.{Refusal}
 use Rattle.macs_disk.specs.Files.{FileState}
 use Rattle.macs_program.specs.Applying.{outcome_lines, outcomes_status}
+use Rattle.macs_program.specs.Asking.{IsOfAsking, PrintsAnswer, PrintsFront}
 use Rattle.macs_program.specs.Failing.{failure_status}
+use Rattle.macs_program.specs.Checking.{CheckFails, PrintsCount}
+use Rattle.macs_program.specs.Inputs.{InputRead}
+use Rattle.macs_program.specs.Inspecting.{InspectFails, Inspects, IsOfInspecting, PrintsFrames}
+use Rattle.macs_program.specs.Keys.{GivesKey, IsOfKey}
 use Rattle.macs_program.specs.Run.{Does, FailsAs, Performs, Prints, WrongValues}
+use Rattle.macs_edge.specs.declared.passing.Summary.{Summary}
+use Rattle.macs_program.specs.Summing.{pass_status}
 use Rattle.macs_program.specs.declared.failure.Failure.{Failure}
+use Rattle.macs_program.specs.declared.failure.Failure.TheVariants as failures
 use Rattle.macs_program.specs.declared.failure.Failure.TheVariants.{Output}
 use Rattle.macs_program.specs.declared.status.Status.{Status}
 use Rattle.macs_program.specs.declared.status.Status.TheVariants as ends
 use Rattle.macs_words.specs.declared.action.Action.{Action}
-use Rattle.macs_words.specs.declared.action.Action.TheVariants.{Open, Format, Apply, Show, Protect, Validate, Relay}
+use Rattle.macs_words.specs.declared.action.Action.TheVariants.{Open, Format, Apply, Show, Protect, Validate, Relay, Ask, Key, Inspect, Check}
 use Rattle.macs_words.specs.declared.action.WireEnds.{WireEnds}
-use Rattle.macs_words.specs.declared.pace.Pace.{Pace}
+use Rattle.macs_words.specs.declared.action.Question.{Question}
+use Rattle.macs_words.specs.declared.action.Question.TheVariants as question
+use Rattle.macs_words.specs.declared.pace.Running.{Running}
 
 -- a failure of the disk is none of the output
 of-disk : (failure : Failure) → failure_status failure ≡ ends.Disk → failure ≢ Output
 of-disk failure disk is = let e = sym disk ∙ ap failure_status is in cc
 
+-- a failure of `ask` is no wrong usage
+asking-no-usage : (failure : Failure) → IsOfAsking failure → failure_status failure ≢ ends.Usage
+asking-no-usage (failures.Usage cause) is = absurd is
+asking-no-usage (failures.Value fault) is = absurd is
+asking-no-usage (failures.Address fault) is = absurd is
+asking-no-usage (failures.Disk fault) is = λ e. cc
+asking-no-usage failures.Capture is = absurd is
+asking-no-usage failures.Commands is = λ e. cc
+asking-no-usage failures.Wire is = absurd is
+asking-no-usage failures.Control is = λ e. cc
+asking-no-usage failures.Random is = absurd is
+asking-no-usage (failures.CommandFile cause) is = absurd is
+asking-no-usage failures.Memory is = λ e. cc
+asking-no-usage (failures.Input fault) is = absurd is
+asking-no-usage failures.Output is = λ e. cc
+
+-- a failure of `key` is no wrong usage, and none of the disk
+key-no-usage : (failure : Failure) → IsOfKey failure → (failure_status failure ≢ ends.Usage) × (failure_status failure ≢ ends.Disk)
+key-no-usage failures.Random is = ((λ e. cc), (λ e. cc))
+key-no-usage failures.Output is = ((λ e. cc), (λ e. cc))
+key-no-usage (failures.Usage cause) is = absurd is
+key-no-usage (failures.Value fault) is = absurd is
+key-no-usage (failures.Address fault) is = absurd is
+key-no-usage (failures.Disk fault) is = absurd is
+key-no-usage failures.Capture is = absurd is
+key-no-usage failures.Commands is = absurd is
+key-no-usage failures.Wire is = absurd is
+key-no-usage failures.Control is = absurd is
+key-no-usage (failures.CommandFile cause) is = absurd is
+key-no-usage failures.Memory is = absurd is
+key-no-usage (failures.Input fault) is = absurd is
+
+-- nor is one of `inspect`
+inspecting-no-usage : (failure : Failure) → IsOfInspecting failure → (failure_status failure ≢ ends.Usage) × (failure_status failure ≢ ends.Disk)
+inspecting-no-usage failures.Capture is = ((λ e. cc), (λ e. cc))
+inspecting-no-usage failures.Memory is = ((λ e. cc), (λ e. cc))
+inspecting-no-usage failures.Output is = ((λ e. cc), (λ e. cc))
+inspecting-no-usage failures.Random is = absurd is
+inspecting-no-usage (failures.Usage cause) is = absurd is
+inspecting-no-usage (failures.Value fault) is = absurd is
+inspecting-no-usage (failures.Address fault) is = absurd is
+inspecting-no-usage (failures.Disk fault) is = absurd is
+inspecting-no-usage failures.Commands is = absurd is
+inspecting-no-usage failures.Wire is = absurd is
+inspecting-no-usage failures.Control is = absurd is
+inspecting-no-usage (failures.CommandFile cause) is = absurd is
+inspecting-no-usage (failures.Input fault) is = absurd is
+
+-- nor is one of `check`
+checking-no-usage : (failure : Failure) → CheckFails failure → (failure_status failure ≢ ends.Usage) × (failure_status failure ≢ ends.Disk)
+checking-no-usage failure (inl is) = ((λ e. let f = sym e ∙ ap failure_status is in cc), (λ e. let f = sym e ∙ ap failure_status is in cc))
+checking-no-usage failure (inr (inl is)) = ((λ e. let f = sym e ∙ ap failure_status is in cc), (λ e. let f = sym e ∙ ap failure_status is in cc))
+checking-no-usage failure (inr (inr (octets, inl is))) = ((λ e. let f = sym e ∙ ap failure_status is in cc), (λ e. let f = sym e ∙ ap failure_status is in cc))
+checking-no-usage failure (inr (inr (octets, inr (text, is, said)))) =
+    ((λ e. let f = sym e ∙ ap failure_status is in cc), (λ e. let f = sym e ∙ ap failure_status is in cc))
+
 done-or-refused : (refused : Bool) → ((if refused then ends.Refused else ends.Done) ≡ ends.Done) ⊎ ((if refused then ends.Refused else ends.Done) ≡ ends.Refused)
 done-or-refused true = inr refl
 done-or-refused false = inl refl
+
+pass-ends : (is_all : Bool) (summary : Summary) (status : Status) → status ≡ pass_status is_all summary → (status ≡ ends.Done) ⊎ (status ≡ ends.Refused)
+pass-ends is_all summary status is = elim (done-or-refused (is_all && nat_lt 0 summary.dropped)) [
+  | inl done ↦ inl (is ∙ done)
+  | inr refused ↦ inr (is ∙ refused)
+]
 
 applied-status : (outcomes : List (Option Refusal)) (status : Status) → status ≡ outcomes_status outcomes → (status ≡ ends.Done) ⊎ (status ≡ ends.Refused)
 applied-status outcomes status is = elim (done-or-refused (list_any is_some outcomes)) [
@@ -32,7 +104,7 @@ applied-status outcomes status is = elim (done-or-refused (list_any is_some outc
   | inr refused ↦ inr (is ∙ refused)
 ]
 
-module _ {F W : Type 0} (state_of : F → FileState) (contents : W → Option (List ℕ)) (failed : W → Bool) (input : Option (List ℕ)) (old : W)
+module _ {F W : Type 0} (state_of : F → FileState) (contents : W → Option (List ℕ)) (failed : W → Bool) (input : InputRead) (old : W)
     (result : Result Status Failure) (new : W) where
   -- it is no wrong usage
   abbrev NoUsage : Type 0
@@ -55,7 +127,7 @@ module _ {F W : Type 0} (state_of : F → FileState) (contents : W → Option (L
   kept : Silent → IfErr result (λ failure. failure_status failure ≡ ends.Disk → contents new ≡ contents old)
   kept silent = IfErr-weaker result _ _ (λ failure still disk. ap contents (still (of-disk failure disk))) silent
 
-  pub opens : IfOk result (λ status. IfSome input (λ octets. Prints octets (contents old) (contents new) status))
+  pub opens : IfOk result (λ status. IfSome input.octets (λ octets. Prints octets (contents old) (contents new) status))
       → IfOk result (λ status. (status ≡ ends.Done) ⊎ (status ≡ ends.Refused)) → IfErr result (λ failure. failure_status failure ≡ ends.Fault) → Silent
       → IfErr result (FailsAs state_of Open input (contents old) (contents new)) → Broken
       → Performs state_of contents failed Open input old result new
@@ -111,42 +183,100 @@ module _ {F W : Type 0} (state_of : F → FileState) (contents : W → Option (L
     broken = broken;
   }
 
-  pub protects : (disk from to : Bor (List ℕ)) → IfOk result (Does state_of (Protect disk from to) input (contents old) (contents new)) → NoUsage → Silent
-      → IfErr result (FailsAs state_of (Protect disk from to) input (contents old) (contents new)) → Broken
-      → Performs state_of contents failed (Protect disk from to) input old result new
-  protects disk from to done other silent fails broken = record {
+  pub protects : (disk from to : Bor (List ℕ)) (is_all : Bool) → IfOk result (Does state_of (Protect disk from to is_all) input (contents old) (contents new)) → NoUsage → Silent
+      → IfErr result (FailsAs state_of (Protect disk from to is_all) input (contents old) (contents new)) → Broken
+      → Performs state_of contents failed (Protect disk from to is_all) input old result new
+  protects disk from to is_all done other silent fails broken = record {
     does = done;
-    status = IfOk-weaker result _ _ (λ status all. let (summary, passes, printed, is) = all in inl is) done;
-    usage = no-usage (Protect disk from to) other;
+    status = IfOk-weaker result _ _ (λ status all. let (summary, passes, printed, is) = all in pass-ends is_all summary status is) done;
+    usage = no-usage (Protect disk from to is_all) other;
     disk = IfErr-weaker result _ _ (λ failure same disk. ((λ is. absurd cc), same disk)) (kept silent);
     before = before silent;
     fails = fails;
     broken = broken;
   }
 
-  pub validates : (disk from to : Bor (List ℕ)) → IfOk result (Does state_of (Validate disk from to) input (contents old) (contents new)) → NoUsage → Silent
-      → IfErr result (FailsAs state_of (Validate disk from to) input (contents old) (contents new)) → Broken
-      → Performs state_of contents failed (Validate disk from to) input old result new
-  validates disk from to done other silent fails broken = record {
+  pub validates : (disk from to : Bor (List ℕ)) (is_all : Bool) → IfOk result (Does state_of (Validate disk from to is_all) input (contents old) (contents new)) → NoUsage → Silent
+      → IfErr result (FailsAs state_of (Validate disk from to is_all) input (contents old) (contents new)) → Broken
+      → Performs state_of contents failed (Validate disk from to is_all) input old result new
+  validates disk from to is_all done other silent fails broken = record {
     does = done;
-    status = IfOk-weaker result _ _ (λ status all. let (summary, passes, printed, is) = all in inl is) done;
-    usage = no-usage (Validate disk from to) other;
+    status = IfOk-weaker result _ _ (λ status all. let (summary, passes, printed, is) = all in pass-ends is_all summary status is) done;
+    usage = no-usage (Validate disk from to is_all) other;
     disk = IfErr-weaker result _ _ (λ failure same disk. ((λ is. absurd cc), same disk)) (kept silent);
     before = before silent;
     fails = fails;
     broken = broken;
   }
 
-  pub relays : (disk : Bor (List ℕ)) (controlled common : WireEnds) (pace : Pace)
-      → IfOk result (Does state_of (Relay disk controlled common pace) input (contents old) (contents new))
-      → IfErr result (λ failure. failure_status failure ≡ ends.Usage → WrongValues (Relay disk controlled common pace) × (new ≡ old)) → Silent
-      → IfErr result (FailsAs state_of (Relay disk controlled common pace) input (contents old) (contents new)) → Broken
-      → Performs state_of contents failed (Relay disk controlled common pace) input old result new
-  relays disk controlled common pace done usage silent fails broken = record {
+  pub relays : (disk : Bor (List ℕ)) (controlled common : WireEnds) (running : Running)
+      → IfOk result (Does state_of (Relay disk controlled common running) input (contents old) (contents new))
+      → IfErr result (λ failure. failure_status failure ≡ ends.Usage → WrongValues (Relay disk controlled common running) × (new ≡ old)) → Silent
+      → IfErr result (FailsAs state_of (Relay disk controlled common running) input (contents old) (contents new)) → Broken
+      → Performs state_of contents failed (Relay disk controlled common running) input old result new
+  relays disk controlled common running done usage silent fails broken = record {
     does = done;
     status = IfOk-weaker result _ _ (λ status all. let (summary, comes, spelled, printed, is) = all in inl is) done;
     usage = usage;
     disk = IfErr-weaker result _ _ (λ failure same disk. ((λ is. absurd cc), same disk)) (kept silent);
+    before = before silent;
+    fails = fails;
+    broken = broken;
+  }
+
+  -- how an answer ends that was printed
+  answer-status : (asked : Question) (status : Status) → PrintsAnswer asked (contents old) (contents new) status
+      → (status ≡ ends.Done) ⊎ (status ≡ ends.Refused)
+  answer-status question.Show status printed = inl printed.2
+  answer-status question.Counters status printed = inl printed.2
+  answer-status question.Stop status printed = inl printed.2
+  answer-status (question.Apply file) status printed = applied-status printed.0 status printed.2
+
+  pub asks : (path : Bor (List ℕ)) (asked : Question) → IfOk result (PrintsAnswer asked (contents old) (contents new)) → IfErr result IsOfAsking
+      → IfErr result (λ failure. failure ≢ Output → PrintsFront asked (contents old) (contents new)) → Broken
+      → Performs state_of contents failed (Ask path asked) input old result new
+  asks path asked done fails front broken = record {
+    does = done;
+    status = IfOk-weaker result _ _ (answer-status asked) done;
+    usage = IfErr-weaker result _ _ (λ failure is usage. absurd (asking-no-usage failure is usage)) fails;
+    disk = IfErr-weaker result _ _ (λ failure printed disk. ((λ is. absurd cc), printed (of-disk failure disk))) front;
+    before = front;
+    fails = fails;
+    broken = broken;
+  }
+
+  pub keys : (is_long : Bool) → IfOk result (λ status. GivesKey is_long (contents old) (contents new) × (status ≡ ends.Done)) → IfErr result IsOfKey
+      → Silent → Broken → Performs state_of contents failed (Key is_long) input old result new
+  keys is_long done fails silent broken = record {
+    does = done;
+    status = IfOk-weaker result _ _ (λ status all. inl all.1) done;
+    usage = IfErr-weaker result _ _ (λ failure is usage. absurd ((key-no-usage failure is).0 usage)) fails;
+    disk = IfErr-weaker result _ _ (λ failure is disk. absurd ((key-no-usage failure is).1 disk)) fails;
+    before = before silent;
+    fails = fails;
+    broken = broken;
+  }
+
+  pub inspects : (from : Bor (List ℕ)) → IfOk result (λ status. Inspects (contents old) (contents new) × (status ≡ ends.Done)) → IfErr result IsOfInspecting
+      → IfErr result (InspectFails (contents old) (contents new)) → IfErr result (λ failure. failure ≢ Output → PrintsFrames (contents old) (contents new))
+      → Broken → Performs state_of contents failed (Inspect from) input old result new
+  inspects from done ours fails front broken = record {
+    does = done;
+    status = IfOk-weaker result _ _ (λ status all. inl all.1) done;
+    usage = IfErr-weaker result _ _ (λ failure is usage. absurd ((inspecting-no-usage failure is).0 usage)) ours;
+    disk = IfErr-weaker result _ _ (λ failure is disk. absurd ((inspecting-no-usage failure is).1 disk)) ours;
+    before = front;
+    fails = fails;
+    broken = broken;
+  }
+
+  pub checks : (file : Bor (List ℕ)) → IfOk result (λ status. PrintsCount (contents old) (contents new) × (status ≡ ends.Done)) → IfErr result CheckFails
+      → Silent → Broken → Performs state_of contents failed (Check file) input old result new
+  checks file done fails silent broken = record {
+    does = done;
+    status = IfOk-weaker result _ _ (λ status all. inl all.1) done;
+    usage = IfErr-weaker result _ _ (λ failure is usage. absurd ((checking-no-usage failure is).0 usage)) fails;
+    disk = IfErr-weaker result _ _ (λ failure is disk. absurd ((checking-no-usage failure is).1 disk)) fails;
     before = before silent;
     fails = fails;
     broken = broken;

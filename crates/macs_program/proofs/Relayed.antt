@@ -4,7 +4,9 @@ use Rattle.std.specs.Io.KnownBytes.{Appends}
 use Rattle.macs_disk.specs.Disk.{Disk}
 use Rattle.macs_disk.specs.FileDisks.{disk_in_file}
 use Rattle.macs_disk.specs.Files.{FileState}
-use Rattle.macs_edge.specs.Relaying.{IsRelayed, Relay, empty_lane, relay_of}
+use Rattle.macs_edge.specs.Attending.{IsAttended}
+use Rattle.macs_edge.specs.Relaying.{Relay, empty_lane, relay_of}
+use Rattle.macs_edge.specs.declared.attending.DeskEvent.{DeskEvent}
 use Rattle.macs_edge.specs.Wires.{WireState}
 use Rattle.macs_edge.specs.declared.relaying.RelaySummary.{RelaySummary}
 use Rattle.macs_endpoint.specs.Value.{EndpointValue}
@@ -13,11 +15,11 @@ use Rattle.macs_endpoint.specs.declared.fault.RefillFault.TheVariants as refill
 use Rattle.macs_fields.specs.First.{IsFirst}
 use Rattle.macs_words.specs.declared.action.WireEnds.{WireEnds}
 use Rattle.macs_program.proofs.FirstFault.{first-holds}
-use Rattle.macs_program.proofs.Failures.{MemoryOr, disk-no-output, of-opening, wire-no-output}
+use Rattle.macs_program.proofs.Failures.{IsOfSocket, disk-no-output, of-opening, socket-no-output}
 use Rattle.macs_program.specs.Addresses.{AddressFaultHolds, SpellsBoth, address_faults}
 use Rattle.macs_program.specs.Endpoints.{OpeningFails}
 use Rattle.macs_program.specs.Failing.{failure_of_refill, failure_status}
-use Rattle.macs_program.specs.Relaying.{ComesTo, EndsRelay, IsAfterAddresses, IsOfRelay, RelayEndsIn, Relays, StopsRelay, new_wire}
+use Rattle.macs_program.specs.Relaying.{ComesTo, Course, EndsRelay, IsAfterAddresses, IsOfRelay, IsRun, RelayEndsIn, Relays, StopsRelay, attended, new_wire}
 use Rattle.macs_program.specs.Summing.{relay_line}
 use Rattle.macs_program.specs.Tasks.{DoesRelay, IsRunIn}
 use Rattle.macs_program.specs.declared.addresses.AddressFault.{AddressFault}
@@ -27,27 +29,27 @@ use Rattle.macs_program.specs.declared.failure.Failure.TheVariants.{Address}
 use Rattle.macs_program.specs.declared.status.Status.{Status}
 use Rattle.macs_program.specs.declared.status.Status.TheVariants as ends
 
-between-new : {D : Type 0} (disk_of : D → Disk) (turns : ℕ) (summary : RelaySummary) (old new : EndpointValue D) (first second controlled common : WireState)
+between-new : {D : Type 0} (disk_of : D → Disk) (course : Course) (summary : RelaySummary) (old new : EndpointValue D) (first second controlled common : WireState)
     → first ≡ new_wire → second ≡ new_wire
-    → IsRelayed disk_of turns (relay_of old first second empty_lane empty_lane) (Ok summary) new controlled common
-    → Relays disk_of turns old summary new
-between-new disk_of turns summary old new first second controlled common one other relayed = record {
+    → IsRun disk_of course (relay_of old first second empty_lane empty_lane) (Ok summary) new controlled common
+    → Relays disk_of course old summary new
+between-new disk_of course summary old new first second controlled common one other relayed = record {
   controlled = controlled;
   common = common;
-  relayed = subst (λ (w : WireState). IsRelayed disk_of turns (relay_of old w new_wire empty_lane empty_lane) (Ok summary) new controlled common) one
-      (subst (λ (w : WireState). IsRelayed disk_of turns (relay_of old first w empty_lane empty_lane) (Ok summary) new controlled common) other relayed);
+  relayed = subst (λ (w : WireState). IsRun disk_of course (relay_of old w new_wire empty_lane empty_lane) (Ok summary) new controlled common) one
+      (subst (λ (w : WireState). IsRun disk_of course (relay_of old first w empty_lane empty_lane) (Ok summary) new controlled common) other relayed);
 }
 
 -- ---- how a relay ends that is not done
 
-ends-new : {D : Type 0} (disk_of : D → Disk) (turns : ℕ) (old new : EndpointValue D) (first second controlled common : WireState) (failure : Failure)
-    → first ≡ new_wire → second ≡ new_wire → EndsRelay disk_of turns (relay_of old first second empty_lane empty_lane) failure new controlled common
-    → StopsRelay disk_of turns old failure new
-ends-new disk_of turns old new first second controlled common failure one other ends = record {
+ends-new : {D : Type 0} (disk_of : D → Disk) (course : Course) (old new : EndpointValue D) (first second controlled common : WireState) (failure : Failure)
+    → first ≡ new_wire → second ≡ new_wire → EndsRelay disk_of course (relay_of old first second empty_lane empty_lane) failure new controlled common
+    → StopsRelay disk_of course old failure new
+ends-new disk_of course old new first second controlled common failure one other ends = record {
   controlled = controlled;
   common = common;
-  ends = subst (λ (w : WireState). EndsRelay disk_of turns (relay_of old w new_wire empty_lane empty_lane) failure new controlled common) one
-      (subst (λ (w : WireState). EndsRelay disk_of turns (relay_of old first w empty_lane empty_lane) failure new controlled common) other ends);
+  ends = subst (λ (w : WireState). EndsRelay disk_of course (relay_of old w new_wire empty_lane empty_lane) failure new controlled common) one
+      (subst (λ (w : WireState). EndsRelay disk_of course (relay_of old first w empty_lane empty_lane) failure new controlled common) other ends);
 }
 
 refill-behind : (fault : RefillFault) → IsAfterAddresses (failure_of_refill fault)
@@ -57,33 +59,39 @@ refill-behind refill.GenerationsSpent = tt
 refill-behind refill.Disk = tt
 
 -- how a relay ends
-ends-behind : {D : Type 0} (disk_of : D → Disk) (turns : ℕ) (old : Relay D) (failure : Failure) (endpoint : EndpointValue D)
-    (controlled common : WireState) → EndsRelay disk_of turns old failure endpoint controlled common → IsAfterAddresses failure
-ends-behind disk_of turns old failure endpoint controlled common (inl ends) = subst IsAfterAddresses (sym ends.1) (refill-behind ends.0)
-ends-behind disk_of turns old failure endpoint controlled common (inr ends) = subst IsAfterAddresses (sym ends.0) tt
+ends-behind : {D : Type 0} (disk_of : D → Disk) (course : Course) (old : Relay D) (failure : Failure) (endpoint : EndpointValue D)
+    (controlled common : WireState) → EndsRelay disk_of course old failure endpoint controlled common → IsAfterAddresses failure
+ends-behind disk_of course old failure endpoint controlled common (inl ends) = subst IsAfterAddresses (sym ends.1) (refill-behind ends.0)
+ends-behind disk_of course old failure endpoint controlled common (inr ends) = subst IsAfterAddresses (sym ends.0) tt
 
 -- such failures are ones of a relay, and no wrong usage
 behind-of-relay : (failure : Failure) → IsAfterAddresses failure → IsOfRelay failure
 behind-of-relay (failures.Disk fault) is = tt
 behind-of-relay failures.Wire is = tt
+behind-of-relay failures.Control is = tt
 behind-of-relay failures.Memory is = tt
 behind-of-relay failures.Output is = tt
 behind-of-relay (failures.Usage cause) is = absurd is
 behind-of-relay (failures.Value fault) is = absurd is
 behind-of-relay (failures.Address fault) is = tt
 behind-of-relay failures.Capture is = absurd is
+behind-of-relay failures.Random is = absurd is
+behind-of-relay (failures.CommandFile cause) is = absurd is
 behind-of-relay failures.Commands is = absurd is
 behind-of-relay (failures.Input fault) is = absurd is
 
 behind-no-usage : (failure : Failure) → IsAfterAddresses failure → failure_status failure ≢ ends.Usage
 behind-no-usage (failures.Disk fault) is = λ e. cc
 behind-no-usage failures.Wire is = λ e. cc
+behind-no-usage failures.Control is = λ e. cc
 behind-no-usage failures.Memory is = λ e. cc
 behind-no-usage failures.Output is = λ e. cc
 behind-no-usage (failures.Usage cause) is = absurd is
 behind-no-usage (failures.Value fault) is = absurd is
 behind-no-usage (failures.Address fault) is = absurd is
 behind-no-usage failures.Capture is = absurd is
+behind-no-usage failures.Random is = absurd is
+behind-no-usage (failures.CommandFile cause) is = absurd is
 behind-no-usage failures.Commands is = absurd is
 behind-no-usage (failures.Input fault) is = absurd is
 
@@ -109,36 +117,45 @@ address-handed Holds order before after error failure was is same exactly fault 
 
 -- ---- an endpoint between two wires
 
--- a wire that is not bound
-wire-behind : (failure : Failure) → MemoryOr failures.Wire failure → IsAfterAddresses failure
-wire-behind failure (inl memory) = subst IsAfterAddresses (sym memory) tt
-wire-behind failure (inr wire) = subst IsAfterAddresses (sym wire) tt
+-- a wire, or what a desk needs, that is not there
+pub of-wire : (failure : Failure) → (failure ≡ failures.Memory) ⊎ (failure ≡ failures.Wire) → IsOfSocket failure
+of-wire failure (inl memory) = inl memory
+of-wire failure (inr wire) = inr (inl wire)
 
-module _ {D W : Type 0} (disk_of : D → Disk) (contents : W → Option (List ℕ)) (has_failed : W → Bool) (turns : ℕ) (old : EndpointValue D) (before : W) where
-  -- without both wires nothing is done
+pub of-desk : (failure : Failure) → (failure ≡ failures.Memory) ⊎ (failure ≡ failures.Control) → IsOfSocket failure
+of-desk failure (inl memory) = inl memory
+of-desk failure (inr control) = inr (inr control)
+
+wire-behind : (failure : Failure) → IsOfSocket failure → IsAfterAddresses failure
+wire-behind failure (inl memory) = subst IsAfterAddresses (sym memory) tt
+wire-behind failure (inr (inl wire)) = subst IsAfterAddresses (sym wire) tt
+wire-behind failure (inr (inr control)) = subst IsAfterAddresses (sym control) tt
+
+module _ {D W : Type 0} (disk_of : D → Disk) (contents : W → Option (List ℕ)) (has_failed : W → Bool) (course : Course) (old : EndpointValue D) (before : W) where
+  -- without both wires, or the control socket, nothing is done
   pub no-wire : (fault failure : Failure) (result : Result Status Failure) → result ≡ Err failure → failure ≡ fault
-      → (fault ≡ failures.Memory) ⊎ (fault ≡ failures.Wire) → DoesRelay disk_of contents has_failed turns old before result old before
+      → IsOfSocket fault → DoesRelay disk_of contents has_failed course old before result old before
   no-wire fault failure result is same names =
-      let named = subst (λ (f : Failure). MemoryOr failures.Wire f) (sym same) names in
-      subst (λ (r : Result Status Failure). DoesRelay disk_of contents has_failed turns old before r old before) (sym is) (record {
+      let named = subst IsOfSocket (sym same) names in
+      subst (λ (r : Result Status Failure). DoesRelay disk_of contents has_failed course old before r old before) (sym is) (record {
         printed = tt;
         ended = inl (named, refl);
         failed = wire-behind failure named;
         silent = λ other. refl;
-        broken = λ output. absurd (wire-no-output failure named output);
+        broken = λ output. absurd (socket-no-output failure named output);
       })
 
   pub frames-relayed : (new : EndpointValue D) (after : W) (first second controlled common : WireState) (result : Result Status Failure)
       → first ≡ new_wire → second ≡ new_wire
       → IfOk result (λ status. (summary : RelaySummary)
-      × IsRelayed disk_of turns (relay_of old first second empty_lane empty_lane) (Ok summary) new controlled common
+      × IsRun disk_of course (relay_of old first second empty_lane empty_lane) (Ok summary) new controlled common
       × Appends (contents before) (contents after) (relay_line summary) × (status ≡ ends.Done))
-      → IfErr result (λ failure. EndsRelay disk_of turns (relay_of old first second empty_lane empty_lane) failure new controlled common)
+      → IfErr result (λ failure. EndsRelay disk_of course (relay_of old first second empty_lane empty_lane) failure new controlled common)
       → IfErr result (λ failure. failure ≢ failures.Output → after ≡ before)
       → IfErr result (λ failure. failure ≡ failures.Output → has_failed after ≡ true)
-      → DoesRelay disk_of contents has_failed turns old before result new after
+      → DoesRelay disk_of contents has_failed course old before result new after
   frames-relayed new after first second controlled common (Ok status) one other (summary, relayed, printed, is) ended silent broken = record {
-    printed = (summary, between-new disk_of turns summary old new first second controlled common one other relayed, printed, is);
+    printed = (summary, between-new disk_of course summary old new first second controlled common one other relayed, printed, is);
     ended = tt;
     failed = tt;
     silent = tt;
@@ -146,23 +163,41 @@ module _ {D W : Type 0} (disk_of : D → Disk) (contents : W → Option (List �
   }
   frames-relayed new after first second controlled common (Err failure) one other relayed ended silent broken = record {
     printed = tt;
-    ended = inr (ends-new disk_of turns old new first second controlled common failure one other ended);
-    failed = ends-behind disk_of turns (relay_of old first second empty_lane empty_lane) failure new controlled common ended;
+    ended = inr (ends-new disk_of course old new first second controlled common failure one other ended);
+    failed = ends-behind disk_of course (relay_of old first second empty_lane empty_lane) failure new controlled common ended;
     silent = silent;
     broken = broken;
   }
 
+module _ {D W : Type 0} (disk_of : D → Disk) (contents : W → Option (List ℕ)) (has_failed : W → Bool) (turns : ℕ) (old : EndpointValue D) (before : W) where
+  -- one that is attended, between two wires that are new
+  pub frames-attended : (new : EndpointValue D) (after : W) (first second controlled common : WireState) (result : Result Status Failure)
+      → first ≡ new_wire → second ≡ new_wire
+      → IfOk result (λ status. (summary : RelaySummary) × (events : List DeskEvent)
+      × IsAttended disk_of turns (relay_of old first second empty_lane empty_lane) events (Ok summary) new controlled common
+      × Appends (contents before) (contents after) (relay_line summary) × (status ≡ ends.Done))
+      → IfErr result (λ failure. EndsRelay disk_of (attended turns) (relay_of old first second empty_lane empty_lane) failure new controlled common)
+      → IfErr result (λ failure. failure ≢ failures.Output → after ≡ before)
+      → IfErr result (λ failure. failure ≡ failures.Output → has_failed after ≡ true)
+      → DoesRelay disk_of contents has_failed (attended turns) old before result new after
+  frames-attended new after first second controlled common (Ok status) one other (summary, events, attends, printed, is) ended silent broken =
+      frames-relayed disk_of contents has_failed (attended turns) old before new after first second controlled common (Ok status) one other
+      (summary, (events, attends), printed, is) ended silent broken
+  frames-attended new after first second controlled common (Err failure) one other attends ended silent broken =
+      frames-relayed disk_of contents has_failed (attended turns) old before new after first second controlled common (Err failure) one other
+      tt ended silent broken
+
 -- ---- what `relay` comes to
 
 pub record RelayedIn {F W : Type 0} (file : F → FileState) (contents : W → Option (List ℕ)) (has_failed : W → Bool) (controlled common : WireEnds)
-    (turns : ℕ) (before : W) (result : Result Status Failure) (after : W) : Type 0 where
-  pub printed : IfOk result (λ status. (summary : RelaySummary) × ComesTo file turns summary × SpellsBoth controlled common
+    (course : Course) (before : W) (result : Result Status Failure) (after : W) : Type 0 where
+  pub printed : IfOk result (λ status. (summary : RelaySummary) × ComesTo file course summary × SpellsBoth controlled common
       × Appends (contents before) (contents after) (relay_line summary) × (status ≡ ends.Done))
   pub address : (fault : AddressFault) → (result ≡ Err (Address fault)) ↔ IsFirst (AddressFaultHolds controlled common) address_faults fault
   pub usage : IfErr result (λ failure. failure_status failure ≡ ends.Usage
       → ((fault : AddressFault) × AddressFaultHolds controlled common fault) × (after ≡ before))
   pub ended : IfErr result (λ failure. ((fault : AddressFault) × (failure ≡ Address fault)
-      × IsFirst (AddressFaultHolds controlled common) address_faults fault) ⊎ OpeningFails file failure ⊎ RelayEndsIn file turns failure)
+      × IsFirst (AddressFaultHolds controlled common) address_faults fault) ⊎ OpeningFails file failure ⊎ RelayEndsIn file course failure)
   pub names : IfErr result IsOfRelay
   pub silent : IfErr result (λ failure. failure ≢ failures.Output → after ≡ before)
   pub broken : IfErr result (λ failure. failure ≡ failures.Output → has_failed after ≡ true)
@@ -173,14 +208,14 @@ disk-behind file failure fails = elim (of-opening file failure fails) [
   | inr fault ↦ subst IsAfterAddresses (sym fault.1) tt
 ]
 
-module _ {F W T : Type 0} (file : F → FileState) (contents : W → Option (List ℕ)) (has_failed : W → Bool) (controlled common : WireEnds) (turns : ℕ)
+module _ {F W T : Type 0} (file : F → FileState) (contents : W → Option (List ℕ)) (has_failed : W → Bool) (controlled common : WireEnds) (course : Course)
     (before : W) (addresses : Result T AddressFault)
     (exactly : (fault : AddressFault) → (addresses ≡ Err fault) ↔ IsFirst (AddressFaultHolds controlled common) address_faults fault) where
   abbrev Comes : Result Status Failure → W → Type 0
-  Comes result after = RelayedIn file contents has_failed controlled common turns before result after
+  Comes result after = RelayedIn file contents has_failed controlled common course before result after
 
   pub refused-in : (fault : AddressFault) (failure : Failure) (result : Result Status Failure) → addresses ≡ Err fault → result ≡ Err failure
-      → failure ≡ Address fault → RelayedIn file contents has_failed controlled common turns before result before
+      → failure ≡ Address fault → RelayedIn file contents has_failed controlled common course before result before
   refused-in fault failure result was is same =
       let first = (exactly fault).0 was in
       subst (λ (r : Result Status Failure). Comes r before) (sym is) (record {
@@ -208,8 +243,8 @@ module _ {F W T : Type 0} (file : F → FileState) (contents : W → Option (Lis
       }
 
   pub relayed-in : (value : T) (after : W) (result : Result Status Failure) → addresses ≡ Ok value → SpellsBoth controlled common
-      → IsRunIn file (DoesRelay (disk_in_file file) contents has_failed turns) before result after
-      → RelayedIn file contents has_failed controlled common turns before result after
+      → IsRunIn file (DoesRelay (disk_in_file file) contents has_failed course) before result after
+      → RelayedIn file contents has_failed controlled common course before result after
   relayed-in value after result was spelled (inl none) =
       subst (λ (r : Result Status Failure). Comes r after) (sym none.is) (none-relayed-in value after none.failure was none.fails none.silent)
   relayed-in value after (Ok status) was spelled (inr run) =

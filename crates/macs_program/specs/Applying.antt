@@ -8,7 +8,6 @@ use Rattle.toml.specs.Data.{Members}
 use Rattle.toml.specs.Parse.{parse_document}
 use Rattle.macs_config.specs.declared.command.Command.{Command}
 use Rattle.macs_config.specs.declared.refusal.Refusal.{Refusal}
-use Rattle.macs_config.specs.declared.refusal.Refusal.TheVariants as refusal
 use Rattle.macs_disk.specs.Disk.{Disk}
 use Rattle.macs_commands.specs.CommandFiles.{file_commands}
 use Rattle.macs_endpoint.specs.Calls.{IsCall}
@@ -17,7 +16,8 @@ use Rattle.macs_endpoint.specs.Value.{EndpointValue}
 use Rattle.macs_endpoint.specs.declared.fault.CommandFault.{CommandFault}
 use Rattle.macs_endpoint.specs.declared.fault.CommandFault.TheVariants as ran
 use Rattle.macs_journal.specs.declared.fault.JournalFault.TheVariants as journal
-use Rattle.macs_program.specs.Showing.{line}
+use Rattle.macs_texts.specs.Lines.{line}
+use Rattle.macs_texts.specs.Refusals.{refusal_name}
 use Rattle.macs_program.specs.declared.failure.DiskFault.{DiskFault}
 use Rattle.macs_program.specs.declared.failure.DiskFault.TheVariants as disk
 use Rattle.macs_program.specs.declared.failure.Failure.{Failure}
@@ -45,21 +45,6 @@ pub record SaidByFile {F : Type 0} (remaining : F → Option (List ℕ)) (comman
   pub said : IfSome (remaining file) (λ octets. SaysCommands octets commands)
 
 -- ---- lines
-
--- how a refusal is named
-abbrev pub refusal_name : Refusal → List ℕ
-refusal_name refusal.StartRange = codes "StartRange"
-refusal_name refusal.OffsetChoice = codes "OffsetChoice"
-refusal_name refusal.OwnSci = codes "OwnSci"
-refusal_name refusal.EndStationSci = codes "EndStationSci"
-refusal_name refusal.NoChannel = codes "NoChannel"
-refusal_name refusal.ChannelTaken = codes "ChannelTaken"
-refusal_name refusal.ChannelsFull = codes "ChannelsFull"
-refusal_name refusal.SlotTaken = codes "SlotTaken"
-refusal_name refusal.SlotEmpty = codes "SlotEmpty"
-refusal_name refusal.InUse = codes "InUse"
-refusal_name refusal.KeySpent = codes "KeySpent"
-refusal_name refusal.SpentFull = codes "SpentFull"
 
 -- the line of a command by its number, which was kept or refused
 abbrev pub outcome_line : ℕ → Option Refusal → List ℕ

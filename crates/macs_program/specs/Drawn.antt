@@ -1,5 +1,7 @@
--- What is to be drawn from words of the program's contracts: of answers, of commands that are given, of new disks, of captures and of lines.
-use Rattle.std.specs.Prelude.{◌≡◌, ◌≢◌, ◌≤◌, ◌⊎◌, ◌↔◌, ◌+◌, ◌/◌, ◌++◌, true, false, ℕ, Bool, List, [], ◌∷◌, length, codes, Contains, Option, Some, None, Result, Ok, Err}
+-- What is to be drawn from words of the program's contracts: of answers, of commands that are given, of new disks, of
+-- captures and of lines.
+use Rattle.std.specs.Prelude.{◌≡◌, ◌≢◌, ◌≤◌, ◌⊎◌, ◌↔◌, ◌+◌, ◌/◌, ◌++◌, true, false, ℕ, Bool, List, [], ◌∷◌, length}
+use Rattle.std.specs.Prelude.{codes, take, Option, Some, None, IfSome, Result, Ok, Err}
 use Rattle.std.specs.Io.KnownBytes.{Appends, Keeps}
 use Rattle.std.specs.Net.Grammar.{IsSocketText}
 use Rattle.std.specs.Str.{IsUtf8}
@@ -37,16 +39,20 @@ use Rattle.macs_journal.specs.declared.fault.JournalFault.TheVariants as journal
 use Rattle.macs_pcap.specs.States.{SinkState, SourceState}
 use Rattle.macs_program.specs.Addresses.{SpellsBoth}
 use Rattle.macs_program.specs.Answer.{Answers, answer_status, answer_text}
-use Rattle.macs_program.specs.Applying.{Applies, AppliesAll, AppliesSome, EndsRun, SaysCommands, commit_fault, outcome_lines, outcomes_status}
+use Rattle.macs_program.specs.Applying.{Applies, AppliesAll, AppliesSome, EndsRun, SaysCommands, commit_fault}
+use Rattle.macs_program.specs.Applying.{outcome_lines, outcomes_status}
 use Rattle.macs_program.specs.CaptureFiles.{Asked, Asks, AsksInOrder, Makes, Opens as OpensCapture}
 use Rattle.macs_program.specs.Capturing.{EndsPass, EndsWith, IsFlushed, PassesCapture}
 use Rattle.macs_program.specs.Contents.{HasOpenGate, IsBlankFile}
-use Rattle.macs_program.specs.Endpoints.{AppliesFile, AppliesIn, BreaksOff, BreaksOffIn, IsDiskIn, IsEndpointIn, IsRefusedIn, OpeningFails, PassesIn, ShowsIn, shown_text}
-use Rattle.macs_program.specs.Failing.{failure_of_file, failure_of_journal, failure_of_run, failure_status, failure_text}
+use Rattle.macs_program.specs.Endpoints.{AppliesFile, AppliesIn, BreaksOff, BreaksOffIn, IsDiskIn, IsEndpointIn}
+use Rattle.macs_program.specs.Endpoints.{IsRefusedIn, OpeningFails, PassesIn, ShowsIn, shown_text}
+use Rattle.macs_program.specs.Failing.{failure_of_file, failure_of_journal, failure_of_run, failure_status}
+use Rattle.macs_program.specs.Failing.{failure_text}
+use Rattle.macs_program.specs.Inputs.{InputRead}
 use Rattle.macs_program.specs.Lines.{line_at, lines}
 use Rattle.macs_program.specs.NewDisks.{BlankFails, FormatFails, Formats, IsTaken, Permits}
-use Rattle.macs_program.specs.Request.{Spells, offset_text}
-use Rattle.macs_program.specs.Run.{HasPrinted, Prints, PrintsUnlessFailed, code_of, complaint}
+use Rattle.macs_program.specs.Request.{IsFourLines, Spells, offset_text}
+use Rattle.macs_program.specs.Run.{HasPrinted, OpenFails, Prints, PrintsUnlessFailed, code_of, complaint}
 use Rattle.macs_program.specs.Values.{SpellsIdentity, SpellsLayout}
 use Rattle.macs_program.specs.declared.addresses.WireAddresses.{WireAddresses}
 use Rattle.macs_program.specs.declared.answer.Answer.{Answer}
@@ -55,6 +61,7 @@ use Rattle.macs_program.specs.declared.failure.DiskFault.TheVariants as disk
 use Rattle.macs_program.specs.declared.failure.Failure.{Failure}
 use Rattle.macs_program.specs.declared.failure.Failure.TheVariants as failures
 use Rattle.macs_program.specs.declared.request.InputFault.{InputFault}
+use Rattle.macs_program.specs.declared.request.InputFault.TheVariants as fault
 use Rattle.macs_program.specs.declared.request.Request.{Request}
 use Rattle.macs_program.specs.declared.status.Status.{Status}
 use Rattle.macs_program.specs.declared.status.Status.TheVariants as ends
@@ -64,108 +71,145 @@ use Rattle.macs_words.specs.declared.action.Action.TheVariants.{Apply, Format, O
 
 -- ---- `open`
 
--- To one input belongs one line, and one status. The four lines are a key, an SCI, an offset and a frame, in at most 20,000 octets.
+-- To one input belongs one line, and one status. The four lines are a key, an SCI, an offset and a frame, in at most
+-- 20,000 octets.
 pub record AnswerWords : Type 0 where
-  pub one : (input : List ℕ) (a b : Answer) → Answers input a → Answers input b → (answer_text a ≡ answer_text b) × (answer_status a ≡ answer_status b)
+  pub one : (input : List ℕ) (a b : Answer) → Answers input a → Answers input b → (answer_text a ≡ answer_text b)
+      × (answer_status a ≡ answer_status b)
   pub spelled : (input : List ℕ) (answer : Answer) (a : Answers input answer) → Spells input a.request
   pub four : (input : List ℕ) (r : Request) → Spells input r → (length input ≤ 20000) × (length (lines input) ≡ 4)
-      × (decode_of (line_at input 0) ≡ Ok (octets_of_key r.key)) × (decode_of (line_at input 1) ≡ Ok r.sci) × (length r.sci ≡ 8)
+      × (decode_of (line_at input 0) ≡ Ok (octets_of_key r.key)) × (decode_of (line_at input 1) ≡ Ok r.sci)
+      × (length r.sci ≡ 8)
       × (line_at input 2 ≡ offset_text r.offset) × (decode_of (line_at input 3) ≡ Ok r.frame.items)
 
 -- ---- `apply`
 
--- To one endpoint and these commands belong these outcomes, whatever the disk does: each is kept, or refused as `command` of the endpoint answers; and to one
--- file one list of commands. A file is of TOML, in UTF-8, of 1,048,576 octets at most. A line is printed for each command, in their order, and the run has the
--- status of those outcomes. It ends for a command that the endpoint answers so, or whose line cannot be printed.
+-- To one endpoint and these commands belong these outcomes, whatever the disk does: each is kept, or refused as
+-- `command` of the endpoint answers; and to one file one list of commands. A file is of TOML, in UTF-8, of 1,048,576
+-- octets at most. A line is printed for each command, in their order, and the run has the status of those outcomes. It
+-- ends for a command that the endpoint answers so, or whose line cannot be printed.
 pub record ApplyWords {D : Type 0} (disk_of : D → Disk) : Type 0 where
-  pub one : (old new other : EndpointValue D) (commands : List Command) (p q : List (Option Refusal)) → Applies disk_of old commands p new
+  pub one : (old new other : EndpointValue D) (commands : List Command) (p q : List (Option Refusal))
+      → Applies disk_of old commands p new
       → Applies disk_of old commands q other → p ≡ q
-  pub none : (old new : EndpointValue D) (outcomes : List (Option Refusal)) → Applies disk_of old [] outcomes new → (outcomes ≡ []) × (new ≡ old)
+  pub none : (old new : EndpointValue D) (outcomes : List (Option Refusal)) → Applies disk_of old [] outcomes new
+      → (outcomes ≡ []) × (new ≡ old)
   pub kept : (old new : EndpointValue D) (command : Command) (more : List Command) (rest : List (Option Refusal))
       → Applies disk_of old (command ∷ more) (None ∷ rest) new → (between : EndpointValue D)
       × IsCall disk_of old (Commands command) (Ran (Ok tt)) between × Applies disk_of between more rest new
-  pub refused : (old new : EndpointValue D) (command : Command) (more : List Command) (at : Refusal) (rest : List (Option Refusal))
+  pub refused : (old new : EndpointValue D) (command : Command) (more : List Command) (at : Refusal) (rest : List
+      (Option Refusal))
       → Applies disk_of old (command ∷ more) (Some at ∷ rest) new → (between : EndpointValue D)
-      × IsCall disk_of old (Commands command) (Ran (Err (ran.Refused at))) between × Applies disk_of between more rest new
-  pub as_many : (old new : EndpointValue D) (commands : List Command) (outcomes : List (Option Refusal)) → Applies disk_of old commands outcomes new
+      × IsCall disk_of old (Commands command) (Ran (Err (ran.Refused at))) between
+      × Applies disk_of between more rest new
+  pub as_many : (old new : EndpointValue D) (commands : List Command) (outcomes : List (Option Refusal))
+      → Applies disk_of old commands outcomes new
       → length outcomes ≡ length commands
   pub all : (old new : EndpointValue D) (commands : List Command) (before after : Option (List ℕ)) (status : Status)
       (a : AppliesAll disk_of old commands before after status new) → Applies disk_of old commands a.outcomes new
       × Appends before after (outcome_lines 1 a.outcomes) × (status ≡ outcomes_status a.outcomes)
-  pub file : (old new : EndpointValue D) (before after : Option (List ℕ)) (status : Status) (f : AppliesFile disk_of old before after status new)
+  pub file : (old new : EndpointValue D) (before after : Option (List ℕ)) (status : Status)
+      (f : AppliesFile disk_of old before after status new)
       → SaysCommands f.octets f.commands × AppliesAll disk_of old f.commands before after status new
   pub one_file : (octets : List ℕ) (a b : List Command) → SaysCommands octets a → SaysCommands octets b → a ≡ b
-  pub says : (octets : List ℕ) (commands : List Command) → SaysCommands octets commands → (length octets ≤ 1048576) × IsUtf8 octets
+  pub says : (octets : List ℕ) (commands : List Command) → SaysCommands octets commands → (length octets ≤ 1048576)
+      × IsUtf8 octets
       × (members : Members) × (parse_document octets ≡ Some members) × (file_commands members ≡ Ok commands)
   pub done : outcomes_status [] ≡ ends.Done
   pub done_more : (rest : List (Option Refusal)) → outcomes_status (None ∷ rest) ≡ outcomes_status rest
   pub refused_status : (at : Refusal) (rest : List (Option Refusal)) → outcomes_status (Some at ∷ rest) ≡ ends.Refused
-  pub breaks : (old new : EndpointValue D) (command : Command) (failure : Failure) → EndsRun disk_of old command failure new
+  pub breaks : (old new : EndpointValue D) (command : Command) (failure : Failure)
+      → EndsRun disk_of old command failure new
       → ((fault : DiskFault) × (answer : CommandFault) × (failure ≡ failures.Disk fault) × commit_fault fault answer
       × IsCall disk_of old (Commands command) (Ran (Err answer)) new)
       ⊎ ((failure ≡ failures.Output) × ((IsCall disk_of old (Commands command) (Ran (Ok tt)) new)
       ⊎ ((at : Refusal) × IsCall disk_of old (Commands command) (Ran (Err (ran.Refused at))) new)))
   pub fault_of : (fault : DiskFault) (answer : CommandFault) → commit_fault fault answer
       → ((answer ≡ ran.Stopped) × (fault ≡ disk.Journal journal.Stopped)) ⊎ ((answer ≡ ran.Busy) × (fault ≡ disk.Busy))
-      ⊎ ((answer ≡ ran.GenerationsSpent) × (fault ≡ disk.Journal journal.GenerationsSpent)) ⊎ ((answer ≡ ran.Disk) × (fault ≡ disk.Journal journal.Disk))
+      ⊎ ((answer ≡ ran.GenerationsSpent) × (fault ≡ disk.Journal journal.GenerationsSpent)) ⊎ ((answer ≡ ran.Disk)
+      × (fault ≡ disk.Journal journal.Disk))
   pub some : (old new : EndpointValue D) (commands : List Command) (before after : Option (List ℕ)) (failure : Failure)
       (a : AppliesSome disk_of old commands before after failure new) → (commands ≡ a.done ++ a.next ∷ a.left)
       × Applies disk_of old a.done a.outcomes a.between × EndsRun disk_of a.between a.next failure new
       × (failure ≢ failures.Output → Appends before after (outcome_lines 1 a.outcomes))
-  pub broken : (old new : EndpointValue D) (before after : Option (List ℕ)) (failure : Failure) → BreaksOff disk_of old before after failure new
+  pub broken : (old new : EndpointValue D) (before after : Option (List ℕ)) (failure : Failure)
+      → BreaksOff disk_of old before after failure new
       → (((failure ≡ failures.Memory) ⊎ (failure ≡ failures.Commands)) × (new ≡ old) × (after ≡ before))
-      ⊎ ((octets : List ℕ) × (commands : List Command) × SaysCommands octets commands × AppliesSome disk_of old commands before after failure new)
+      ⊎ ((octets : List ℕ) × (commands : List Command) × SaysCommands octets commands
+      × AppliesSome disk_of old commands before after failure new)
 
 -- ---- captures
 
--- A run asks for its INPUT, then for its OUTPUT, and for no other; where it fails, for as much as it came to. All that a sink took is handed on at the end, or a
--- flush failed; a run that went to its end fails for that alone, and one that did not with its own fault.
+-- A run asks for its INPUT, then for its OUTPUT, and for no other; where it fails, for as much as it came to. All that
+-- a sink took is handed on at the end, or a flush failed; a run that went to its end fails for that alone, and one that
+-- did not with its own fault.
 pub record CaptureWords {D : Type 0} (disk_of : D → Disk) : Type 0 where
-  pub asks : (before : List Asked) (after : Option (List Asked)) (more : List Asked) → Asks (Some before) after more ↔ (after ≡ Some (before ++ more))
-  pub both : (from to : List ℕ) (before : List Asked) (after : Option (List Asked)) (status : Status) → AsksInOrder from to (Some before) after (Ok status)
+  pub asks : (before : List Asked) (after : Option (List Asked)) (more : List Asked) → Asks (Some before) after more
+      ↔ (after ≡ Some (before ++ more))
+  pub both : (from to : List ℕ) (before : List Asked) (after : Option (List Asked)) (status : Status)
+      → AsksInOrder from to (Some before) after (Ok status)
       → after ≡ Some (before ++ OpensCapture from true ∷ Makes to true ∷ [])
-  pub fewer : (from to : List ℕ) (before : List Asked) (after : Option (List Asked)) (failure : Failure) → AsksInOrder from to (Some before) after (Err failure)
-      → (after ≡ Some (before ++ OpensCapture from false ∷ [])) ⊎ ((after ≡ Some (before ++ OpensCapture from true ∷ Makes to false ∷ []))
+  pub fewer : (from to : List ℕ) (before : List Asked) (after : Option (List Asked)) (failure : Failure)
+      → AsksInOrder from to (Some before) after (Err failure)
+      → (after ≡ Some (before ++ OpensCapture from false ∷ []))
+      ⊎ ((after ≡ Some (before ++ OpensCapture from true ∷ Makes to false ∷ []))
       ⊎ (after ≡ Some (before ++ OpensCapture from true ∷ Makes to true ∷ [])))
-  pub flushed : (before after : SinkState) → IsFlushed before after → Keeps before.held after.held × (after.failed ≡ before.failed) × (after.flushed ≡ true)
-  pub passed : (side : Side) (old new : EndpointValue D) (source left : SourceState) (sink after : SinkState) (summary : Summary)
+  pub flushed : (before after : SinkState) → IsFlushed before after → Keeps before.held after.held
+      × (after.failed ≡ before.failed) × (after.flushed ≡ true)
+  pub passed : (side : Side) (old new : EndpointValue D) (source left : SourceState) (sink after : SinkState)
+      (summary : Summary)
       → PassesCapture disk_of side (run_of old source sink) (Ok summary) (run_of new left after) → (between : SinkState)
       × RunsOver disk_of side (run_of old source sink) (Ok summary) (run_of new left between) × IsFlushed between after
-  pub not_passed : (side : Side) (old new : EndpointValue D) (source left : SourceState) (sink after : SinkState) (failure : Failure)
-      → PassesCapture disk_of side (run_of old source sink) (Err failure) (run_of new left after) → (between : SinkState) × (answer : Result Summary RunFault)
+  pub not_passed : (side : Side) (old new : EndpointValue D) (source left : SourceState) (sink after : SinkState)
+      (failure : Failure)
+      → PassesCapture disk_of side (run_of old source sink) (Err failure) (run_of new left after)
+      → (between : SinkState) × (answer : Result Summary RunFault)
       × RunsOver disk_of side (run_of old source sink) answer (run_of new left between)
       × (((summary : Summary) × (answer ≡ Ok summary) × (failure ≡ failures.Capture) × (after.failed ≡ true))
-      ⊎ ((fault : RunFault) × (answer ≡ Err fault) × (failure ≡ failure_of_run fault) × (IsFlushed between after ⊎ (after.failed ≡ true))))
-  pub ends : (side : Side) (old new : EndpointValue D) (source left : SourceState) (sink after : SinkState) (failure : Failure)
+      ⊎ ((fault : RunFault) × (answer ≡ Err fault) × (failure ≡ failure_of_run fault) × (IsFlushed between after
+      ⊎ (after.failed ≡ true))))
+  pub ends : (side : Side) (old new : EndpointValue D) (source left : SourceState) (sink after : SinkState)
+      (failure : Failure)
       → EndsPass disk_of side (run_of old source sink) failure (run_of new left after)
       → PassesCapture disk_of side (run_of old source sink) (Err failure) (run_of new left after)
-      ⊎ ((failure ≡ failures.Output) × (summary : Summary) × PassesCapture disk_of side (run_of old source sink) (Ok summary) (run_of new left after))
+      ⊎ ((failure ≡ failures.Output) × (summary : Summary)
+      × PassesCapture disk_of side (run_of old source sink) (Ok summary) (run_of new left after))
 
 -- ---- disks in files
 
--- A disk in a file is one that was opened there as long as the file is, and no call of it was made yet. An endpoint in a file was opened on such a disk. A subcommand
--- does what it does with one; where none is opened the failure is that of the file, or of the opening that is refused. A file that is made a disk is blank in its
--- layout, and formatted with the identity; one that is not has a fault that names it, and of a file that behaves that fault is a device call's, or is that of what
--- it held when it was settled.
+-- A disk in a file is one that was opened there as long as the file is, and no call of it was made yet. An endpoint in
+-- a file was opened on such a disk. A subcommand does what it does with one; where none is opened the failure is that
+-- of the file, or of the opening that is refused. A file that is made a disk is blank in its layout, and formatted with
+-- the identity; one that is not has a fault that names it, and of a file that behaves that fault is a device call's, or
+-- is that of what it held when it was settled.
 pub record FileWords {F : Type 0} (file : F → FileState) : Type 0 where
-  pub opened : (d : FileDisk F) → IsDiskIn file d → (Behaves (file (file_given d)) → IsOpened (file (file_given d)) 0 (layout_of d) (disk_in_file file d))
+  pub opened : (d : FileDisk F) → IsDiskIn file d → (Behaves (file (file_given d))
+      → IsOpened (file (file_given d)) 0 (layout_of d) (disk_in_file file d))
       × IsFresh (disk_in_file file d)
-  pub endpoint : (e : EndpointValue (FileDisk F)) → IsEndpointIn file e → (d : FileDisk F) × IsDiskIn file d × Opens (disk_in_file file) d e
-  pub fails : (failure : Failure) → OpeningFails file failure → ((fault : FileFault) × (failure ≡ failure_of_file fault))
-      ⊎ ((d : FileDisk F) × (left : FileDisk F) × (fault : JournalFault) × (failure ≡ failure_of_journal fault) × IsDiskIn file d
+  pub endpoint : (e : EndpointValue (FileDisk F)) → IsEndpointIn file e → (d : FileDisk F) × IsDiskIn file d
+      × Opens (disk_in_file file) d e
+  pub fails : (failure : Failure) → OpeningFails file failure → ((fault : FileFault)
+      × (failure ≡ failure_of_file fault))
+      ⊎ ((d : FileDisk F) × (left : FileDisk F) × (fault : JournalFault) × (failure ≡ failure_of_journal fault)
+      × IsDiskIn file d
       × RefusesOpening (disk_in_file file) d left fault)
-  pub applied : (before after : Option (List ℕ)) (status : Status) (a : AppliesIn file before after status) → IsEndpointIn file a.old
+  pub applied : (before after : Option (List ℕ)) (status : Status) (a : AppliesIn file before after status)
+      → IsEndpointIn file a.old
       × AppliesFile (disk_in_file file) a.old before after status a.new
-  pub broken : (before after : Option (List ℕ)) (failure : Failure) (b : BreaksOffIn file before after failure) → IsEndpointIn file b.old
+  pub broken : (before after : Option (List ℕ)) (failure : Failure) (b : BreaksOffIn file before after failure)
+      → IsEndpointIn file b.old
       × BreaksOff (disk_in_file file) b.old before after failure b.new
-  pub shown : (before after : Option (List ℕ)) (s : ShowsIn file before after) → IsEndpointIn file s.shown × Appends before after (shown_text s.shown)
+  pub shown : (before after : Option (List ℕ)) (s : ShowsIn file before after) → IsEndpointIn file s.shown
+      × Appends before after (shown_text s.shown)
   pub passed : (side : Side) (summary : Summary) (p : PassesIn file side summary) → IsEndpointIn file p.old
       × (source : SourceState) × (left : SourceState) × (sink : SinkState) × (after : SinkState)
       × PassesCapture (disk_in_file file) side (run_of p.old source sink) (Ok summary) (run_of p.new left after)
   pub formatted : (is_over : Bool) (layout : Layout) (identity : Identity) (f : Formats file is_over layout identity)
-      → (Behaves (file (file_given f.blank)) → IsBlank (file (file_given f.blank)) (file (file_left f.blank)) layout (disk_in_file file f.blank))
+      → (Behaves (file (file_given f.blank))
+      → IsBlank (file (file_given f.blank)) (file (file_left f.blank)) layout (disk_in_file file f.blank))
       × IsFormat (disk_in_file file) f.blank identity (Ok tt) f.new
-  pub not_formatted : (is_over : Bool) (identity : Identity) (failure : Failure) → FormatFails file is_over identity failure
+  pub not_formatted : (is_over : Bool) (identity : Identity) (failure : Failure)
+      → FormatFails file is_over identity failure
       → ((fault : FileFault) × (failure ≡ failure_of_file fault))
       ⊎ ((given : F) × BlankFails is_over (file given) failure)
       ⊎ ((blank : FileDisk F) × (left : FileDisk F) × (fault : JournalFault) × (failure ≡ failure_of_journal fault)
@@ -174,9 +218,11 @@ pub record FileWords {F : Type 0} (file : F → FileState) : Type 0 where
       → ((fault : FileFault) × (failure ≡ failure_of_file fault))
       ⊎ ((fault : DiskFault) × (failure ≡ failures.Disk fault)
       × (Behaves given → (fault ≡ disk.Journal journal.Disk) ⊎ IsTaken is_over given fault))
-  pub taken : (is_over : Bool) (given : FileState) (fault : DiskFault) (t : IsTaken is_over given fault) → Settles given t.settled
+  pub taken : (is_over : Bool) (given : FileState) (fault : DiskFault) (t : IsTaken is_over given fault)
+      → Settles given t.settled
       × (((fault ≡ disk.Journal journal.AlreadyFormatted) × HasOpenGate t.settled (given.size / 512))
-      ⊎ ((fault ≡ disk.File) × (is_over ≡ false) × (¬ HasOpenGate t.settled (given.size / 512)) × (¬ IsBlankFile t.settled (given.size / 512))))
+      ⊎ ((fault ≡ disk.File) × (is_over ≡ false) × (¬ HasOpenGate t.settled (given.size / 512))
+      × (¬ IsBlankFile t.settled (given.size / 512))))
 
 -- ---- what is printed
 
@@ -195,34 +241,49 @@ is_silent (Validate disk from to) = true
 is_silent (Relay disk controlled common pace) = true
 is_silent action = false
 
--- `open` prints one line, that of its answer. Before a failure of another one than `apply` nothing was printed, and of `apply` the lines of commands, from the first one on. The line of a
--- failure is printed, or the stream failed. Each status has its code, and each failure its status.
+-- `open` prints one line, that of its answer. It fails as `input` only where a read failed, or the input is not four
+-- lines of 20,000 octets at most. Before a failure of another one than `apply` nothing was printed, and of `apply` the
+-- lines of commands, from the first one on. The line of a failure is printed, or the stream failed. Each status has its
+-- code, and each failure its status.
 pub record LineWords : Type 0 where
-  pub prints : (input : List ℕ) (before after : Option (List ℕ)) (status : Status) → Prints input before after status → (answer : Answer) × Answers input answer
+  pub prints : (input : List ℕ) (before after : Option (List ℕ)) (status : Status) → Prints input before after status
+      → (answer : Answer) × Answers input answer
       × Appends before after (answer_text answer ++ 10 ∷ []) × (status ≡ answer_status answer)
-  pub nothing : (action : Action) (before after : Option (List ℕ)) → HasPrinted action before after → is_silent action ≡ true → after ≡ before
-  pub commands : (action : Action) (before after : Option (List ℕ)) → HasPrinted action before after → is_apply action ≡ true
+  pub no_input : (input : InputRead) (failure : Failure) → OpenFails input failure
+      → failure ≡ failures.Input fault.Input
+      → (input.has_failed ≡ true) ⊎ IfSome input.octets (λ all. ¬ IsFourLines (take 20001 all))
+  pub nothing : (action : Action) (before after : Option (List ℕ)) → HasPrinted action before after
+      → is_silent action ≡ true → after ≡ before
+  pub commands : (action : Action) (before after : Option (List ℕ)) → HasPrinted action before after
+      → is_apply action ≡ true
       → (outcomes : List (Option Refusal)) × Appends before after (outcome_lines 1 outcomes)
-  pub complained : (before after : Option (List ℕ)) (failed : Bool) (text : List ℕ) → PrintsUnlessFailed before after failed text
+  pub complained : (before after : Option (List ℕ)) (failed : Bool) (text : List ℕ)
+      → PrintsUnlessFailed before after failed text
       → Appends before after text ⊎ (failed ≡ true)
   pub complaint : (failure : Failure) → complaint failure ≡ (codes "macsecd: " ++ failure_text failure) ++ 10 ∷ []
-  pub status_codes : (code_of ends.Done ≡ 0) × (code_of ends.Usage ≡ 2) × (code_of ends.Refused ≡ 3) × (code_of ends.Disk ≡ 4) × (code_of ends.Fault ≡ 5)
+  pub status_codes : (code_of ends.Done ≡ 0) × (code_of ends.Usage ≡ 2) × (code_of ends.Refused ≡ 3)
+      × (code_of ends.Disk ≡ 4) × (code_of ends.Fault ≡ 5)
   pub of_disk : (fault : DiskFault) → failure_status (failures.Disk fault) ≡ ends.Disk
   pub of_input : (fault : InputFault) → failure_status (failures.Input fault) ≡ ends.Fault
-  pub of_others : (failure_status failures.Capture ≡ ends.Fault) × (failure_status failures.Commands ≡ ends.Fault) × (failure_status failures.Wire ≡ ends.Fault)
+  pub of_others : (failure_status failures.Capture ≡ ends.Fault) × (failure_status failures.Commands ≡ ends.Fault)
+      × (failure_status failures.Wire ≡ ends.Fault)
       × (failure_status failures.Memory ≡ ends.Fault) × (failure_status failures.Output ≡ ends.Fault)
 
 -- ---- values
 
--- The identity of a `format` has the SCI of its word, of 8 octets in hex, and the blocks of its words, each in range. The layout is that of the word: of 512 where
--- none is given; and there is one. The ends of both wires of a `relay` are those of its words.
+-- The identity of a `format` has the SCI of its word, of 8 octets in hex, and the blocks of its words, each in range.
+-- The layout is that of the word: of 512 where none is given; and there is one. The ends of both wires of a `relay` are
+-- those of its words.
 pub record ValueWords : Type 0 where
-  pub identity : (sci : List ℕ) (tx_block rx_block : ℕ) (identity : Identity) → SpellsIdentity sci tx_block rx_block identity
-      → (decode_of sci ≡ Ok identity.sci) × (length identity.sci ≡ 8) × (identity.tx_block ≡ tx_block) × (identity.rx_block ≡ rx_block)
+  pub identity : (sci : List ℕ) (tx_block rx_block : ℕ) (identity : Identity)
+      → SpellsIdentity sci tx_block rx_block identity
+      → (decode_of sci ≡ Ok identity.sci) × (length identity.sci ≡ 8) × (identity.tx_block ≡ tx_block)
+      × (identity.rx_block ≡ rx_block)
       × IsBlock tx_block × IsBlock rx_block
   pub packed : (layout : Layout) → SpellsLayout None layout → layout ≡ Packed
   pub block : (text : List ℕ) (layout : Layout) → SpellsLayout (Some text) layout
       → ((layout ≡ Packed) × (text ≡ codes "512")) ⊎ ((layout ≡ Spaced) × (text ≡ codes "4096"))
-  pub wires : (controlled common : WireEnds) → SpellsBoth controlled common → (first : WireAddresses) × (second : WireAddresses)
+  pub wires : (controlled common : WireEnds) → SpellsBoth controlled common → (first : WireAddresses)
+      × (second : WireAddresses)
       × IsSocketText controlled.own.now first.own × IsSocketText controlled.peer.now first.peer
       × IsSocketText common.own.now second.own × IsSocketText common.peer.now second.peer

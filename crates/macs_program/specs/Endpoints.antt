@@ -19,7 +19,7 @@ use Rattle.macs_pcap.specs.States.{SinkState, SourceState}
 use Rattle.macs_program.specs.Applying.{AppliesAll, AppliesSome, SaysCommands}
 use Rattle.macs_program.specs.Capturing.{EndsPass, PassesCapture}
 use Rattle.macs_program.specs.Failing.{failure_of_file, failure_of_journal}
-use Rattle.macs_program.specs.Showing.{show_text}
+use Rattle.macs_texts.specs.Showing.{show_text}
 use Rattle.macs_program.specs.declared.failure.Failure.{Failure}
 use Rattle.macs_program.specs.declared.failure.Failure.TheVariants as failures
 use Rattle.macs_program.specs.declared.status.Status.{Status}

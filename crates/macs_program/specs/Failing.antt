@@ -8,10 +8,15 @@ use Rattle.macs_edge.specs.declared.udp_wire.BindFault.{BindFault}
 use Rattle.macs_edge.specs.declared.udp_wire.BindFault.TheVariants as bind
 use Rattle.macs_edge.specs.declared.passing.RunFault.{RunFault}
 use Rattle.macs_edge.specs.declared.passing.RunFault.TheVariants.{Device, Pcap}
+use Rattle.macs_control.specs.declared.asking.AskFault.{AskFault}
+use Rattle.macs_control.specs.declared.asking.AskFault.TheVariants as asking
+use Rattle.macs_control.specs.declared.control_socket.ControlFault.{ControlFault}
+use Rattle.macs_control.specs.declared.control_socket.ControlFault.TheVariants as control
 use Rattle.macs_endpoint.specs.declared.fault.RefillFault.{RefillFault}
 use Rattle.macs_endpoint.specs.declared.fault.RefillFault.TheVariants as refill
 use Rattle.macs_journal.specs.declared.fault.JournalFault.{JournalFault}
 use Rattle.macs_journal.specs.declared.fault.JournalFault.TheVariants as journal
+use Rattle.macs_pcap.specs.declared.fault.PcapFault.{PcapFault}
 use Rattle.macs_pcap.specs.declared.fault.PcapFault.TheVariants as pcap
 use Rattle.macs_words.specs.declared.action.UsageFault.{UsageFault}
 use Rattle.macs_words.specs.declared.action.UsageFault.TheVariants as usage
@@ -58,6 +63,11 @@ failure_of_refill refill.Busy = failure.Disk disk.Busy
 failure_of_refill refill.GenerationsSpent = failure_of_journal journal.GenerationsSpent
 failure_of_refill refill.Disk = failure_of_journal journal.Disk
 
+-- a capture that is wrong, or want of memory
+abbrev pub failure_of_capture : PcapFault → Failure
+failure_of_capture pcap.Memory = failure.Memory
+failure_of_capture fault = failure.Capture
+
 -- a capture that is wrong, want of memory, or a fault of the disk
 abbrev pub failure_of_run : RunFault → Failure
 failure_of_run (Pcap pcap.Memory) = failure.Memory
@@ -68,6 +78,16 @@ failure_of_run (Device fault) = failure_of_refill fault
 abbrev pub failure_of_bind : BindFault → Failure
 failure_of_bind bind.Memory = failure.Memory
 failure_of_bind bind.Bind = failure.Wire
+
+-- a control socket that cannot be bound, or want of memory
+abbrev pub failure_of_control : ControlFault → Failure
+failure_of_control control.Memory = failure.Memory
+failure_of_control control.Bind = failure.Control
+
+-- a relay that does not answer, or want of memory
+abbrev pub failure_of_asking : AskFault → Failure
+failure_of_asking asking.Memory = failure.Memory
+failure_of_asking asking.Gone = failure.Control
 
 -- ---- what the program says of it, in one line
 
@@ -115,6 +135,9 @@ failure_text (failure.Disk fault) = disk_fault_text fault
 failure_text failure.Capture = codes "capture"
 failure_text failure.Commands = codes "commands"
 failure_text failure.Wire = codes "wire"
+failure_text failure.Control = codes "control"
+failure_text failure.Random = codes "random source"
+failure_text (failure.CommandFile cause) = string_bytes cause
 failure_text failure.Memory = codes "memory"
 failure_text (failure.Input fault) = input_fault_text fault
 failure_text failure.Output = codes "output"
@@ -130,6 +153,9 @@ failure_status (failure.Disk fault) = ends.Disk
 failure_status failure.Capture = ends.Fault
 failure_status failure.Commands = ends.Fault
 failure_status failure.Wire = ends.Fault
+failure_status failure.Control = ends.Fault
+failure_status failure.Random = ends.Fault
+failure_status (failure.CommandFile cause) = ends.Fault
 failure_status failure.Memory = ends.Fault
 failure_status (failure.Input fault) = ends.Fault
 failure_status failure.Output = ends.Fault

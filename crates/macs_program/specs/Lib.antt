@@ -1,12 +1,12 @@
 pub mod Lines
 pub mod Request
+pub mod Inputs
 pub mod Answer
 pub mod Values
 pub mod Addresses
 pub mod Contents
 pub mod Failing
 pub mod NewDisks
-pub mod Showing
 pub mod Applying
 pub mod Summing
 pub mod CaptureFiles
@@ -15,5 +15,9 @@ pub mod Endpoints
 pub mod Relaying
 pub mod Watching
 pub mod Tasks
+pub mod Asking
+pub mod Keys
+pub mod Inspecting
+pub mod Checking
 pub mod Run
 pub mod Drawn

@@ -12,7 +12,7 @@ use Rattle.macs_journal.specs.declared.fault.JournalFault.{JournalFault}
 use Rattle.macs_journal.specs.declared.fault.JournalFault.TheVariants as journal
 use Rattle.macs_program.specs.Contents.{ContentsAre}
 use Rattle.macs_program.specs.Failing.{failure_of_file, failure_of_journal}
-use Rattle.macs_program.specs.Showing.{line}
+use Rattle.macs_texts.specs.Lines.{line}
 use Rattle.macs_program.specs.declared.contents.Contents.{Contents}
 use Rattle.macs_program.specs.declared.contents.Contents.TheVariants as contents
 use Rattle.macs_program.specs.declared.failure.DiskFault.{DiskFault}

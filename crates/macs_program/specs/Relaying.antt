@@ -1,15 +1,18 @@
 -- What a relay of the program comes to, and how it ends.
-use Rattle.std.specs.Prelude.{◌≡◌, ◌⊎◌, ◌-◌, ◌^◌, ⊤, ℕ, None, Some, Ok, Err}
+use Rattle.std.specs.Prelude.{◌≡◌, ◌⊎◌, ◌-◌, ◌^◌, ◌||◌, ⊤, ℕ, Bool, true, false, List, None, Some, is_some, Result, Ok, Err}
 use Rattle.macs_disk.specs.Disk.{Disk}
 use Rattle.macs_disk.specs.FileDisks.{disk_in_file}
 use Rattle.macs_disk.specs.Files.{FileState}
 use Rattle.macs_disk.specs.declared.file.FileDisk.{FileDisk}
+use Rattle.macs_edge.specs.Attending.{IsAttended}
 use Rattle.macs_edge.specs.Relaying.{IsRelayed, Relay, empty_lane, relay_of}
+use Rattle.macs_edge.specs.declared.attending.DeskEvent.{DeskEvent}
 use Rattle.macs_edge.specs.Wires.{WireState}
 use Rattle.macs_edge.specs.declared.relaying.RelaySummary.{RelaySummary}
 use Rattle.macs_endpoint.specs.Value.{EndpointValue}
 use Rattle.macs_endpoint.specs.declared.fault.RefillFault.{RefillFault}
 use Rattle.macs_words.specs.declared.pace.Pace.{Pace}
+use Rattle.macs_words.specs.declared.pace.Running.{Running}
 use Rattle.macs_words.specs.declared.pace.Pace.TheVariants.{Busy, Waiting}
 use Rattle.macs_program.specs.Endpoints.{IsEndpointIn}
 use Rattle.macs_program.specs.Failing.{failure_of_refill}
@@ -26,60 +29,92 @@ turns_of (Busy turns) = turns
 turns_of (Waiting limit None) = 2 ^ 64 - 1
 turns_of (Waiting limit (Some turns)) = turns
 
--- a relay in so many turns comes to this summary: of an endpoint that was opened on a disk in a file, where this is what a file is,
+-- what a relay is to be: whether a desk attends it, and how many turns it takes at most
+pub record Course : Type 0 where
+  pub attended : Bool
+  pub turns : ℕ
+
+-- one that nobody attends
+abbrev pub unattended : ℕ → Course
+unattended turns = record { attended = false; turns = turns }
+
+-- one that a desk attends
+abbrev pub attended : ℕ → Course
+attended turns = record { attended = true; turns = turns }
+
+-- a desk attends it where there is a control socket or a file of counters
+abbrev pub is_attended : Running → Bool
+is_attended running = is_some running.control || is_some running.metrics
+
+-- what the words want
+abbrev pub course_of : Running → Course
+course_of running = record { attended = is_attended running; turns = turns_of running.pace }
+
+-- Frames are relayed, and a desk that attends it hands in commands, is told what becomes of them, and may end it
+abbrev pub IsRunBy : Bool → {D : Type 0} → (D → Disk) → ℕ → Relay D → Result RelaySummary RefillFault → EndpointValue D → WireState → WireState → Type 0
+IsRunBy false disk_of turns old result endpoint controlled common = IsRelayed disk_of turns old result endpoint controlled common
+IsRunBy true disk_of turns old result endpoint controlled common =
+    (events : List DeskEvent) × IsAttended disk_of turns old events result endpoint controlled common
+
+abbrev pub IsRun : {D : Type 0} → (D → Disk) → Course → Relay D → Result RelaySummary RefillFault → EndpointValue D → WireState → WireState → Type 0
+IsRun disk_of course old result endpoint controlled common = IsRunBy course.attended disk_of course.turns old result endpoint controlled common
+
+-- a relay comes to this summary: of an endpoint that was opened on a disk in a file, where this is what a file is,
 -- between two new wires
-pub record ComesTo {F : Type 0} (file : F → FileState) (turns : ℕ) (summary : RelaySummary) : Type 0 where
+pub record ComesTo {F : Type 0} (file : F → FileState) (course : Course) (summary : RelaySummary) : Type 0 where
   pub old : EndpointValue (FileDisk F)
   pub new : EndpointValue (FileDisk F)
   pub controlled : WireState
   pub common : WireState
   pub endpoint : IsEndpointIn file old
-  pub relayed : IsRelayed (disk_in_file file) turns (relay_of old new_wire new_wire empty_lane empty_lane) (Ok summary) new controlled common
+  pub relayed : IsRun (disk_in_file file) course (relay_of old new_wire new_wire empty_lane empty_lane) (Ok summary) new controlled common
 
--- how a relay fails: with the fault that has the name of a step's; or all turns are taken, and its line cannot be written
-abbrev pub EndsRelay : {D : Type 0} → (D → Disk) → ℕ → Relay D → Failure → EndpointValue D → WireState → WireState → Type 0
-EndsRelay disk_of turns old failure endpoint controlled common =
-    ((fault : RefillFault) × (failure ≡ failure_of_refill fault) × IsRelayed disk_of turns old (Err fault) endpoint controlled common)
+-- how a relay fails: with the fault that has the name of a step's; or it is at its end, and its line cannot be written
+abbrev pub EndsRelay : {D : Type 0} → (D → Disk) → Course → Relay D → Failure → EndpointValue D → WireState → WireState → Type 0
+EndsRelay disk_of course old failure endpoint controlled common =
+    ((fault : RefillFault) × (failure ≡ failure_of_refill fault) × IsRun disk_of course old (Err fault) endpoint controlled common)
     ⊎ ((failure ≡ failures.Output)
-    × (summary : RelaySummary) × IsRelayed disk_of turns old (Ok summary) endpoint controlled common)
+    × (summary : RelaySummary) × IsRun disk_of course old (Ok summary) endpoint controlled common)
 
--- the failures that `relay` ends with: an address, the disk, a wire, memory and standard output, and no capture, command file or input
+-- the failures that `relay` ends with: an address, the disk, a wire, the control socket, memory and standard output, and no capture, command file or input
 abbrev pub IsOfRelay : Failure → Type 0
 IsOfRelay (failures.Address fault) = ⊤
 IsOfRelay (failures.Disk fault) = ⊤
 IsOfRelay failures.Wire = ⊤
+IsOfRelay failures.Control = ⊤
 IsOfRelay failures.Memory = ⊤
 IsOfRelay failures.Output = ⊤
 IsOfRelay other = ⊥
 
--- the failures after the addresses: of the disk, a wire, memory and standard output
+-- the failures after the addresses: of the disk, a wire, the control socket, memory and standard output
 abbrev pub IsAfterAddresses : Failure → Type 0
 IsAfterAddresses (failures.Disk fault) = ⊤
 IsAfterAddresses failures.Wire = ⊤
+IsAfterAddresses failures.Control = ⊤
 IsAfterAddresses failures.Memory = ⊤
 IsAfterAddresses failures.Output = ⊤
 IsAfterAddresses other = ⊥
 
 -- from this endpoint a relay between two wires that are new comes to this
-pub record Relays {D : Type 0} (disk_of : D → Disk) (turns : ℕ) (old : EndpointValue D) (summary : RelaySummary) (new : EndpointValue D) : Type 0 where
+pub record Relays {D : Type 0} (disk_of : D → Disk) (course : Course) (old : EndpointValue D) (summary : RelaySummary) (new : EndpointValue D) : Type 0 where
   pub controlled : WireState
   pub common : WireState
-  pub relayed : IsRelayed disk_of turns (relay_of old new_wire new_wire empty_lane empty_lane) (Ok summary) new controlled common
+  pub relayed : IsRun disk_of course (relay_of old new_wire new_wire empty_lane empty_lane) (Ok summary) new controlled common
 
 -- between two new wires a relay from this endpoint ends with this failure
-pub record StopsRelay {D : Type 0} (disk_of : D → Disk) (turns : ℕ) (old : EndpointValue D) (failure : Failure) (new : EndpointValue D) : Type 0 where
+pub record StopsRelay {D : Type 0} (disk_of : D → Disk) (course : Course) (old : EndpointValue D) (failure : Failure) (new : EndpointValue D) : Type 0 where
   pub controlled : WireState
   pub common : WireState
-  pub ends : EndsRelay disk_of turns (relay_of old new_wire new_wire empty_lane empty_lane) failure new controlled common
+  pub ends : EndsRelay disk_of course (relay_of old new_wire new_wire empty_lane empty_lane) failure new controlled common
 
--- a wire cannot be bound, or there is no memory, and nothing is done with the endpoint; or the relay ends
-abbrev pub RelayEnds : {D : Type 0} → (D → Disk) → ℕ → EndpointValue D → Failure → EndpointValue D → Type 0
-RelayEnds disk_of turns old failure new =
-    (((failure ≡ failures.Memory) ⊎ (failure ≡ failures.Wire)) × (new ≡ old)) ⊎ StopsRelay disk_of turns old failure new
+-- a wire or the control socket cannot be bound, or there is no memory, and nothing is done with the endpoint; or the relay ends
+abbrev pub RelayEnds : {D : Type 0} → (D → Disk) → Course → EndpointValue D → Failure → EndpointValue D → Type 0
+RelayEnds disk_of course old failure new =
+    (((failure ≡ failures.Memory) ⊎ (failure ≡ failures.Wire) ⊎ (failure ≡ failures.Control)) × (new ≡ old)) ⊎ StopsRelay disk_of course old failure new
 
 -- so it ends with an endpoint on a disk in a file
-pub record RelayEndsIn {F : Type 0} (file : F → FileState) (turns : ℕ) (failure : Failure) : Type 0 where
+pub record RelayEndsIn {F : Type 0} (file : F → FileState) (course : Course) (failure : Failure) : Type 0 where
   pub old : EndpointValue (FileDisk F)
   pub new : EndpointValue (FileDisk F)
   pub endpoint : IsEndpointIn file old
-  pub ends : RelayEnds (disk_in_file file) turns old failure new
+  pub ends : RelayEnds (disk_in_file file) course old failure new

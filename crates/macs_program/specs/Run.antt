@@ -11,20 +11,25 @@ use Rattle.macs_edge.specs.declared.relaying.RelaySummary.{RelaySummary}
 use Rattle.macs_edge.specs.declared.settling.Side.TheVariants.{Common, Controlled}
 use Rattle.macs_program.specs.Addresses.{AddressFaultHolds, SpellsBoth, address_faults}
 use Rattle.macs_program.specs.Answer.{Answers, answer_status, answer_text}
+use Rattle.macs_program.specs.Asking.{IsOfAsking, PrintsAnswer, PrintsFront}
 use Rattle.macs_program.specs.Applying.{outcome_lines}
+use Rattle.macs_program.specs.Checking.{CheckFails, PrintsCount}
 use Rattle.macs_fields.specs.First.{IsFirst}
 use Rattle.macs_program.specs.Endpoints.{AppliesIn, BreaksOffIn, OpeningFails, PassEndsIn, PassesIn, ShowsIn}
 use Rattle.macs_program.specs.Failing.{failure_of_words, failure_status, failure_text}
+use Rattle.macs_program.specs.Inspecting.{InspectFails, Inspects, PrintsFrames}
+use Rattle.macs_program.specs.Keys.{GivesKey, IsOfKey}
 use Rattle.macs_words.specs.Help.{topic_text}
+use Rattle.macs_program.specs.Inputs.{InputRead, read_of}
 use Rattle.macs_program.specs.NewDisks.{FormatFails, Formats}
-use Rattle.macs_program.specs.Relaying.{ComesTo, RelayEndsIn, turns_of}
+use Rattle.macs_program.specs.Relaying.{ComesTo, RelayEndsIn, course_of}
 use Rattle.macs_program.specs.Request.{InputFaultHolds, input_faults}
-use Rattle.macs_program.specs.Showing.{line}
-use Rattle.macs_program.specs.Summing.{relay_line, summary_line}
+use Rattle.macs_texts.specs.Lines.{line}
+use Rattle.macs_program.specs.Summing.{pass_status, relay_line, summary_line}
 use Rattle.macs_program.specs.Values.{SpellsIdentity, SpellsLayout, ValueFaultHolds, value_faults}
 use Rattle.macs_words.specs.Words.{AreRefused, AsksFor, AsksForNothing, Names, macsecd}
 use Rattle.macs_words.specs.declared.action.Action.{Action}
-use Rattle.macs_words.specs.declared.action.Action.TheVariants.{Open, Format, Apply, Show, Protect, Validate, Relay}
+use Rattle.macs_words.specs.declared.action.Action.TheVariants.{Open, Format, Apply, Show, Protect, Validate, Relay, Ask, Key, Inspect, Check}
 use Rattle.macs_program.specs.declared.addresses.AddressFault.{AddressFault}
 use Rattle.macs_program.specs.declared.answer.Answer.{Answer}
 use Rattle.macs_program.specs.declared.capturing.Direction.TheVariants as direction
@@ -44,9 +49,9 @@ Prints input before after status =
     (answer : Answer) × Answers input answer × Appends before after (line (answer_text answer)) × (status ≡ answer_status answer)
 
 -- What a run prints that does what it is asked for, where `state_of` says what files are. Which file has a name is not known here: the lines are
--- those of what is done with some endpoint that was opened on a disk in a file; that of a relay is what some endpoint comes to in so many turns
-abbrev pub Does : {F : Type 0} → (F → FileState) → Action → Option (List ℕ) → Option (List ℕ) → Option (List ℕ) → Status → Type 0
-Does state_of Open input before after status = IfSome input (λ octets. Prints octets before after status)
+-- those of what is done with some endpoint that was opened on a disk in a file; that of a relay is what some endpoint comes to
+abbrev pub Does : {F : Type 0} → (F → FileState) → Action → InputRead → Option (List ℕ) → Option (List ℕ) → Status → Type 0
+Does state_of Open input before after status = IfSome input.octets (λ octets. Prints octets before after status)
 Does state_of (Format disk sci tx_block rx_block block is_over) input before after status =
     (identity : Identity) × SpellsIdentity sci.now tx_block rx_block identity
     × (layout : Layout) × SpellsLayout (option_map (λ text. text.now) block) layout × Formats state_of is_over layout identity
@@ -54,47 +59,54 @@ Does state_of (Format disk sci tx_block rx_block block is_over) input before aft
 Does state_of (Apply disk file) input before after status =
     AppliesIn state_of before after status
 Does state_of (Show disk) input before after status = ShowsIn state_of before after × (status ≡ ends.Done)
-Does state_of (Protect disk from to) input before after status =
+Does state_of (Protect disk from to is_all) input before after status =
     (summary : Summary) × PassesIn state_of Controlled summary
-    × Appends before after (summary_line direction.Protect summary) × (status ≡ ends.Done)
-Does state_of (Validate disk from to) input before after status =
+    × Appends before after (summary_line direction.Protect summary) × (status ≡ pass_status is_all summary)
+Does state_of (Validate disk from to is_all) input before after status =
     (summary : Summary) × PassesIn state_of Common summary
-    × Appends before after (summary_line direction.Validate summary) × (status ≡ ends.Done)
-Does state_of (Relay disk controlled common pace) input before after status =
-    (summary : RelaySummary) × ComesTo state_of (turns_of pace) summary × SpellsBoth controlled common
+    × Appends before after (summary_line direction.Validate summary) × (status ≡ pass_status is_all summary)
+Does state_of (Relay disk controlled common running) input before after status =
+    (summary : RelaySummary) × ComesTo state_of (course_of running) summary × SpellsBoth controlled common
     × Appends before after (relay_line summary) × (status ≡ ends.Done)
+Does state_of (Ask path asked) input before after status = PrintsAnswer asked before after status
+Does state_of (Key is_long) input before after status = GivesKey is_long before after × (status ≡ ends.Done)
+Does state_of (Inspect from) input before after status = Inspects before after × (status ≡ ends.Done)
+Does state_of (Check file) input before after status = PrintsCount before after × (status ≡ ends.Done)
 
 -- a run that does not fail is asked for help and prints it, or its words are taken and name an action, and it does that
-abbrev pub Replies : {F : Type 0} → (F → FileState) → List Text → Option (List ℕ) → Option (List ℕ) → Option (List ℕ) → Status → Type 0
+abbrev pub Replies : {F : Type 0} → (F → FileState) → List Text → InputRead → Option (List ℕ) → Option (List ℕ) → Status → Type 0
 Replies state_of words input before after status =
     ((topic : Topic) × AsksFor words topic × Appends before after (topic_text topic) × (status ≡ ends.Done))
     ⊎ ((takes macsecd words ≡ true)
     × (action : Action) × Names (subcommand_of macsecd words) action × Does state_of action input before after status)
 
--- What was printed before a disk fault: of `apply` the lines of the commands before it, else nothing
+-- What was printed before a failure: of `apply` and of `ask PATH apply` the lines of the commands before it, of `inspect` those of the frames
+-- before it, else nothing
 abbrev pub HasPrinted : Action → Option (List ℕ) → Option (List ℕ) → Type 0
 HasPrinted (Apply disk file) before after = (outcomes : List (Option Refusal)) × Appends before after (outcome_lines 1 outcomes)
+HasPrinted (Ask path asked) before after = PrintsFront asked before after
+HasPrinted (Inspect from) before after = PrintsFrames before after
 HasPrinted action before after = after ≡ before
 
 -- a value of the action is none that it takes
 abbrev pub WrongValues : Action → Type 0
 WrongValues (Format disk sci tx_block rx_block block is_over) =
     (fault : ValueFault) × ValueFaultHolds sci.now tx_block rx_block (option_map (λ text. text.now) block) fault
-WrongValues (Relay disk controlled common pace) = (fault : AddressFault) × AddressFaultHolds controlled common fault
+WrongValues (Relay disk controlled common running) = (fault : AddressFault) × AddressFaultHolds controlled common fault
 WrongValues action = ⊥
 
 -- How `open` fails: a read failed, or the input, of which 20,001 octets at most are read, has this first fault; or there is no memory; or a print
 -- failed
-abbrev pub OpenFails : Option (List ℕ) → Failure → Type 0
-OpenFails octets failure =
-    (failure ≡ Input request_faults.Input)
-    ⊎ ((fault : InputFault) × (failure ≡ Input fault) × IfSome octets (λ all. IsFirst (InputFaultHolds (take 20001 all)) input_faults fault))
+abbrev pub OpenFails : InputRead → Failure → Type 0
+OpenFails input failure =
+    ((failure ≡ Input request_faults.Input) × (input.has_failed ≡ true))
+    ⊎ ((fault : InputFault) × (failure ≡ Input fault) × IfSome input.octets (λ all. IsFirst (InputFaultHolds (take 20001 all)) input_faults fault))
     ⊎ (failure ≡ Memory) ⊎ (failure ≡ Output)
 
 -- How an action fails, where `state_of` says what files are: for the first value of the words that is none, for the opening of the endpoint, or as
 -- what is done with it ends
-abbrev pub FailsAs : {F : Type 0} → (F → FileState) → Action → Option (List ℕ) → Option (List ℕ) → Option (List ℕ) → Failure → Type 0
-FailsAs state_of Open octets before after failure = OpenFails octets failure
+abbrev pub FailsAs : {F : Type 0} → (F → FileState) → Action → InputRead → Option (List ℕ) → Option (List ℕ) → Failure → Type 0
+FailsAs state_of Open input before after failure = OpenFails input failure
 FailsAs state_of (Format disk sci tx_block rx_block block is_over) octets before after failure =
     ((fault : ValueFault) × (failure ≡ Value fault)
     × IsFirst (ValueFaultHolds sci.now tx_block rx_block (option_map (λ text. text.now) block)) value_faults fault)
@@ -102,23 +114,27 @@ FailsAs state_of (Format disk sci tx_block rx_block block is_over) octets before
     ⊎ (failure ≡ Output)
 FailsAs state_of (Apply disk file) octets before after failure = OpeningFails state_of failure ⊎ BreaksOffIn state_of before after failure
 FailsAs state_of (Show disk) octets before after failure = OpeningFails state_of failure ⊎ (failure ≡ Memory) ⊎ (failure ≡ Output)
-FailsAs state_of (Protect disk from to) octets before after failure = OpeningFails state_of failure ⊎ PassEndsIn state_of Controlled failure
-FailsAs state_of (Validate disk from to) octets before after failure = OpeningFails state_of failure ⊎ PassEndsIn state_of Common failure
-FailsAs state_of (Relay disk controlled common pace) octets before after failure =
+FailsAs state_of (Protect disk from to is_all) octets before after failure = OpeningFails state_of failure ⊎ PassEndsIn state_of Controlled failure
+FailsAs state_of (Validate disk from to is_all) octets before after failure = OpeningFails state_of failure ⊎ PassEndsIn state_of Common failure
+FailsAs state_of (Relay disk controlled common running) octets before after failure =
     ((fault : AddressFault) × (failure ≡ Address fault) × IsFirst (AddressFaultHolds controlled common) address_faults fault)
-    ⊎ OpeningFails state_of failure ⊎ RelayEndsIn state_of (turns_of pace) failure
+    ⊎ OpeningFails state_of failure ⊎ RelayEndsIn state_of (course_of running) failure
+FailsAs state_of (Ask path asked) octets before after failure = IsOfAsking failure
+FailsAs state_of (Key is_long) octets before after failure = IsOfKey failure
+FailsAs state_of (Inspect from) octets before after failure = InspectFails before after failure
+FailsAs state_of (Check file) octets before after failure = CheckFails failure
 
 -- it is one that hands frames to an endpoint
 abbrev pub is_on_frames : Action → Bool
-is_on_frames (Protect disk from to) = true
-is_on_frames (Validate disk from to) = true
-is_on_frames (Relay disk controlled common pace) = true
+is_on_frames (Protect disk from to is_all) = true
+is_on_frames (Validate disk from to is_all) = true
+is_on_frames (Relay disk controlled common running) = true
 is_on_frames action = false
 
 -- An action is done, with a status of these two, or fails. A failure that is wrong usage is that of a wrong value, and nothing was
 -- printed; one of the disk is that of another action than `open`; and one of the output is that of a print that failed
 pub record Performs {F W : Type 0} (state_of : F → FileState) (contents : W → Option (List ℕ)) (failed : W → Bool) (action : Action)
-    (input : Option (List ℕ)) (old : W) (result : Result Status Failure) (new : W) : Type 0 where
+    (input : InputRead) (old : W) (result : Result Status Failure) (new : W) : Type 0 where
   pub does : IfOk result (Does state_of action input (contents old) (contents new))
   pub status : IfOk result (λ end. (end ≡ ends.Done) ⊎ (end ≡ ends.Refused))
   pub usage : IfErr result (λ failure. failure_status failure ≡ ends.Usage → WrongValues action × (new ≡ old))
@@ -128,13 +144,13 @@ pub record Performs {F W : Type 0} (state_of : F → FileState) (contents : W �
   pub broken : IfErr result (λ failure. failure ≡ Output → failed new ≡ true)
 
 -- how a run fails: its words are refused, or help cannot be printed, or the words name an action that fails so
-abbrev pub FailsFor : {F : Type 0} → (F → FileState) → List Text → Option (List ℕ) → Option (List ℕ) → Option (List ℕ) → Failure → Type 0
+abbrev pub FailsFor : {F : Type 0} → (F → FileState) → List Text → InputRead → Option (List ℕ) → Option (List ℕ) → Failure → Type 0
 FailsFor state_of words octets before after failure =
     ((fault : UsageFault) × (failure ≡ failure_of_words fault))
     ⊎ ((topic : Topic) × AsksFor words topic × (failure ≡ Output))
     ⊎ ((action : Action) × Names (subcommand_of macsecd words) action × FailsAs state_of action octets before after failure)
 
--- what was printed before a failure: nothing, or of `apply` the lines of the commands before it
+-- what was printed before a failure: nothing, or the lines of the commands or frames before it
 abbrev pub PrintedBefore : List Text → Option (List ℕ) → Option (List ℕ) → Type 0
 PrintedBefore words before after =
     (after ≡ before) ⊎ ((action : Action) × Names (subcommand_of macsecd words) action × HasPrinted action before after)
@@ -147,16 +163,16 @@ HasWrongValues words =
 -- What a run does but for the line of a failure: it replies, with a status of these two, or fails. A failure that is wrong usage is that of words which
 -- ask for no help, and nothing was printed; one of the disk is that of an action that the words name, other than `open`; and one of the output is that of
 -- a print that failed. The input is left unread by all words but those that name `open`
-pub record Acts {F R W : Type 0} (state_of : F → FileState) (remaining : R → Option (List ℕ)) (contents : W → Option (List ℕ)) (failed : W → Bool)
+pub record Acts {F R W : Type 0} (state_of : F → FileState) (remaining : R → Option (List ℕ)) (read_failed : R → Bool) (contents : W → Option (List ℕ)) (failed : W → Bool)
     (words : List Text) (input : R) (old : W) (result : Result Status Failure) (left : R) (new : W) : Type 0 where
-  pub replied : IfOk result (Replies state_of words (remaining input) (contents old) (contents new))
+  pub replied : IfOk result (Replies state_of words (read_of remaining read_failed input left) (contents old) (contents new))
   pub status : IfOk result (λ end. (end ≡ ends.Done) ⊎ (end ≡ ends.Refused))
   pub usage : IfErr result (λ failure. failure_status failure ≡ ends.Usage → (AreRefused words ⊎ HasWrongValues words) × (new ≡ old))
   pub help : IfErr result (λ failure. failure_status failure ≡ ends.Usage → AsksForNothing words)
   pub disk : IfErr result (λ failure. failure_status failure ≡ ends.Disk → (takes macsecd words ≡ true)
       × (action : Action) × Names (subcommand_of macsecd words) action × (action ≢ Open) × HasPrinted action (contents old) (contents new))
   pub before : IfErr result (λ failure. failure ≢ Output → PrintedBefore words (contents old) (contents new))
-  pub fails : IfErr result (FailsFor state_of words (remaining input) (contents old) (contents new))
+  pub fails : IfErr result (FailsFor state_of words (read_of remaining read_failed input left) (contents old) (contents new))
   pub broken : IfErr result (λ failure. failure ≡ Output → failed new ≡ true)
   pub unread : ((takes macsecd words ≡ true) × Names (subcommand_of macsecd words) Open → ⊥) → left ≡ input
 

@@ -1,16 +1,22 @@
 -- The lines that a run over a capture and a relay end with.
-use Rattle.std.specs.Prelude.{◌++◌, ℕ, List, codes}
+use Rattle.std.specs.Prelude.{◌++◌, ◌&&◌, if◌then◌else◌, nat_lt, Bool, ℕ, List, codes}
 use Rattle.std.specs.Fmt.{decimal}
 use Rattle.macs_edge.specs.declared.passing.Summary.{Summary}
 use Rattle.macs_edge.specs.declared.relaying.RelaySummary.{RelaySummary}
-use Rattle.macs_program.specs.Showing.{line}
+use Rattle.macs_texts.specs.Lines.{line}
 use Rattle.macs_program.specs.declared.capturing.Direction.{Direction}
 use Rattle.macs_program.specs.declared.capturing.Direction.TheVariants as direction
+use Rattle.macs_program.specs.declared.status.Status.{Status}
+use Rattle.macs_program.specs.declared.status.Status.TheVariants as ends
 
 -- how many frames passed, and how many were left out
 abbrev pub summary_line : Direction → Summary → List ℕ
 summary_line direction.Protect s = line (codes "protected " ++ (decimal s.passed ++ (codes " dropped " ++ decimal s.dropped)))
 summary_line direction.Validate s = line (codes "delivered " ++ (decimal s.passed ++ (codes " discarded " ++ decimal s.dropped)))
+
+-- how a run over a capture ends: refused where all frames were to pass and one did not, else done
+abbrev pub pass_status : Bool → Summary → Status
+pass_status is_all s = if is_all && nat_lt 0 s.dropped then ends.Refused else ends.Done
 
 -- what became of the frames of a relay
 abbrev pub relay_line : RelaySummary → List ℕ

@@ -10,8 +10,8 @@ use Rattle.macs_endpoint.specs.Value.{EndpointValue}
 use Rattle.macs_program.specs.Capturing.{side_of}
 use Rattle.macs_program.specs.Endpoints.{AppliesFile, BreaksOff, IsEndpointIn, OpeningFails, PassEnds, PassesBetween, shown_text}
 use Rattle.macs_program.specs.Failing.{failure_status}
-use Rattle.macs_program.specs.Relaying.{IsAfterAddresses, RelayEnds, Relays}
-use Rattle.macs_program.specs.Summing.{relay_line, summary_line}
+use Rattle.macs_program.specs.Relaying.{Course, IsAfterAddresses, RelayEnds, Relays}
+use Rattle.macs_program.specs.Summing.{pass_status, relay_line, summary_line}
 use Rattle.macs_program.specs.declared.capturing.Direction.{Direction}
 use Rattle.macs_program.specs.declared.failure.Failure.{Failure}
 use Rattle.macs_program.specs.declared.failure.Failure.TheVariants.{Memory, Output}
@@ -62,21 +62,21 @@ pub record DoesShow {D W : Type 0} (contents : W → Option (List ℕ)) (has_fai
   pub broken : IfErr result (λ failure. failure ≡ Output → has_failed after ≡ true)
 
 -- `protect` and `validate`: a capture is taken through the endpoint into another one, or not whole
-pub record DoesPass {D W : Type 0} (disk_of : D → Disk) (contents : W → Option (List ℕ)) (has_failed : W → Bool) (direction : Direction)
+pub record DoesPass {D W : Type 0} (disk_of : D → Disk) (contents : W → Option (List ℕ)) (has_failed : W → Bool) (direction : Direction) (is_all : Bool)
     (old : EndpointValue D) (before : W) (result : Result Status Failure) (new : EndpointValue D) (after : W) : Type 0 where
   pub printed : IfOk result (λ status. (summary : Summary) × PassesBetween disk_of (side_of direction) old summary new
-      × Appends (contents before) (contents after) (summary_line direction summary) × (status ≡ ends.Done))
+      × Appends (contents before) (contents after) (summary_line direction summary) × (status ≡ pass_status is_all summary))
   pub ended : IfErr result (λ failure. PassEnds disk_of (side_of direction) old failure new)
   pub failed : IfErr result (λ failure. failure_status failure ≢ ends.Usage)
   pub silent : IfErr result (λ failure. failure ≢ Output → after ≡ before)
   pub broken : IfErr result (λ failure. failure ≡ Output → has_failed after ≡ true)
 
--- `relay`: frames are relayed through the endpoint between two wires in so many turns, or in fewer
-pub record DoesRelay {D W : Type 0} (disk_of : D → Disk) (contents : W → Option (List ℕ)) (has_failed : W → Bool) (turns : ℕ)
+-- `relay`: frames are relayed through the endpoint between two wires
+pub record DoesRelay {D W : Type 0} (disk_of : D → Disk) (contents : W → Option (List ℕ)) (has_failed : W → Bool) (course : Course)
     (old : EndpointValue D) (before : W) (result : Result Status Failure) (new : EndpointValue D) (after : W) : Type 0 where
-  pub printed : IfOk result (λ status. (summary : RelaySummary) × Relays disk_of turns old summary new
+  pub printed : IfOk result (λ status. (summary : RelaySummary) × Relays disk_of course old summary new
       × Appends (contents before) (contents after) (relay_line summary) × (status ≡ ends.Done))
-  pub ended : IfErr result (λ failure. RelayEnds disk_of turns old failure new)
+  pub ended : IfErr result (λ failure. RelayEnds disk_of course old failure new)
   pub failed : IfErr result IsAfterAddresses
   pub silent : IfErr result (λ failure. failure ≢ Output → after ≡ before)
   pub broken : IfErr result (λ failure. failure ≡ Output → has_failed after ≡ true)

@@ -36,7 +36,7 @@ impl Answer {
 }
 
 /// What the program prints of a frame that is refused.
-fn refusal_text(fault: OpenFault) -> &'static str
+pub fn refusal_text(fault: OpenFault) -> &'static str
     ensures { result.now ≡ refusal_text fault }
 {
     match fault {

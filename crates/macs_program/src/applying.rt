@@ -1,6 +1,6 @@
 //! `apply`: the commands of a file, one after another.
 
-ghost use Rattle.std.specs.Prelude.{◌≡◌, ◌≢◌, ◌≤◌, ◌+◌, ◌⊎◌, List, Option, length, is_some, if◌then◌else◌, true, IfErr, IfOk, OnOk, Ok, Err};
+ghost use Rattle.std.specs.Prelude.{◌≡◌, ◌≢◌, ◌+◌, ◌⊎◌, List, Option, is_some, if◌then◌else◌, true, IfErr, IfOk, OnOk, Ok, Err};
 ghost use Rattle.std.specs.Io.KnownBytes.{Appends};
 ghost use Rattle.toml.specs.Data.{Members};
 ghost use Rattle.toml.specs.Parse.{parse_document};
@@ -12,7 +12,7 @@ ghost use Rattle.macs_endpoint.specs.Calls.{IsCall};
 ghost use Rattle.macs_endpoint.specs.State.{Commands, Ran};
 ghost use Rattle.macs_endpoint.specs.declared.fault.CommandFault.{CommandFault};
 ghost use Rattle.macs_program.specs.Applying.{AppliesAll, AppliesSome, EndsRun, SaysCommands, answer_of, commit_fault};
-ghost use Rattle.macs_program.specs.Applying.{outcome_line, refusal_name};
+ghost use Rattle.macs_program.specs.Applying.{outcome_line};
 
 use crate::failure::{DiskFault, Failure};
 use crate::output::{Line, print_octets};
@@ -24,6 +24,7 @@ use macs_disk::SectorDisk;
 use macs_edge::commands_of;
 use macs_endpoint::{CommandFault, Endpoint};
 use macs_journal::JournalFault;
+use macs_texts::refusal_name;
 use std::alloc::Global;
 use toml::Table;
 
@@ -71,29 +72,8 @@ pub fn commands_in(alloc: Global, octets: &[u8]) -> Result<Vec<Command>, Failure
     commands_told(alloc, &table)
 }
 
-/// How a refusal is named.
-fn refusal_name(refusal: Refusal) -> &'static str
-    ensures name { result.now ≡ refusal_name refusal }
-    ensures short { length result.now ≤ 13 }
-{
-    match refusal {
-        Refusal::StartRange => "StartRange",
-        Refusal::OffsetChoice => "OffsetChoice",
-        Refusal::OwnSci => "OwnSci",
-        Refusal::EndStationSci => "EndStationSci",
-        Refusal::NoChannel => "NoChannel",
-        Refusal::ChannelTaken => "ChannelTaken",
-        Refusal::ChannelsFull => "ChannelsFull",
-        Refusal::SlotTaken => "SlotTaken",
-        Refusal::SlotEmpty => "SlotEmpty",
-        Refusal::InUse => "InUse",
-        Refusal::KeySpent => "KeySpent",
-        Refusal::SpentFull => "SpentFull",
-    }
-}
-
 /// The line of a command by its number, which was kept or refused.
-fn outcome_line(at: usize, outcome: Option<Refusal>) -> Line
+pub fn outcome_line(at: usize, outcome: Option<Refusal>) -> Line
     ensures { result.items ≡ outcome_line at outcome }
 {
     let mut line = Line::new();
@@ -163,7 +143,7 @@ fn apply_command<D: SectorDisk, W: Stream>(
 }
 
 /// How a run ends after one more command.
-fn status_after(status: Status, is_refused: bool) -> Status
+pub fn status_after(status: Status, is_refused: bool) -> Status
     ensures { result ≡ (if is_refused then Status.Refused else status) }
 {
     if is_refused { Status::Refused } else { status }

@@ -7,7 +7,7 @@ ghost use Rattle.macs_edge.specs.declared.passing.RunFault.{RunFault};
 ghost use Rattle.macs_edge.specs.declared.passing.Summary.{Summary};
 ghost use Rattle.macs_program.specs.Capturing.{EndsPass, PassesCapture, side_of};
 ghost use Rattle.macs_program.specs.Failing.{failure_of_run, failure_status};
-ghost use Rattle.macs_program.specs.Summing.{summary_line};
+ghost use Rattle.macs_program.specs.Summing.{pass_status, summary_line};
 
 use crate::failure::Failure;
 use crate::output::{Line, append_count, print_octets};
@@ -45,6 +45,17 @@ fn summary_line(direction: Direction, summary: Summary) -> Line
     }
     line.push(b'\n');
     line
+}
+
+/// How a run over a capture ends: refused where all frames were to pass and one did not.
+fn pass_status(is_all: bool, summary: Summary) -> Status
+    ensures { result ≡ pass_status is_all summary }
+{
+    if is_all && summary.dropped > 0 {
+        Status::Refused
+    } else {
+        Status::Done
+    }
 }
 
 /// Takes a whole capture through an endpoint. Nothing is flushed.
@@ -97,6 +108,7 @@ pub fn pass_frames<D: SectorDisk, R: Source, S: Sink, W: Stream>(
     alloc: Global,
     endpoint: &mut Endpoint<D>,
     direction: Direction,
+    is_all: bool,
     source: &mut R,
     sink: &mut S,
     out: &mut W,
@@ -104,7 +116,8 @@ pub fn pass_frames<D: SectorDisk, R: Source, S: Sink, W: Stream>(
     ensures printed { IfOk result (λ status. (summary : Summary) × PassesCapture D.disk (side_of direction)
         (run_of endpoint.old (R.state source.old) (S.state sink.old)) (Ok summary)
         (run_of endpoint.new (R.state source.new) (S.state sink.new))
-        × Appends (W.contents out.old) (W.contents out.new) (summary_line direction summary) × (status ≡ Status.Done)) }
+        × Appends (W.contents out.old) (W.contents out.new) (summary_line direction summary)
+        × (status ≡ pass_status is_all summary)) }
     ensures failed { IfErr result (λ failure. failure_status failure ≢ Status.Usage) }
     ensures ended { IfErr result (λ failure. EndsPass D.disk (side_of direction)
         (run_of endpoint.old (R.state source.old) (S.state sink.old)) failure
@@ -114,5 +127,5 @@ pub fn pass_frames<D: SectorDisk, R: Source, S: Sink, W: Stream>(
 {
     let summary = run_capture(alloc, endpoint, direction, source, sink)?;
     print_octets(out, summary_line(direction, summary).as_slice())?;
-    Ok(Status::Done)
+    Ok(pass_status(is_all, summary))
 }

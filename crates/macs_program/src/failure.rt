@@ -4,6 +4,7 @@ use crate::addresses::AddressFault;
 use crate::request::InputFault;
 use crate::status::Status;
 use crate::values::ValueFault;
+use macs_control::{AskFault, ControlFault};
 use macs_disk::FileFault;
 use macs_edge::{BindFault, ConfigFault, RunFault};
 use macs_endpoint::RefillFault;
@@ -20,7 +21,7 @@ pub enum DiskFault {
     File,
     /// It is not a whole number of sectors of 512 octets.
     Length,
-    /// A submitted command waits: never, since the program submits none.
+    /// A submitted command waits: never, since none that is under way is in the way of a reservation.
     Busy,
     /// Something on it failed, or stands on it that is no journal.
     Journal(JournalFault),
@@ -43,6 +44,12 @@ pub enum Failure {
     Commands,
     /// A wire cannot be bound.
     Wire,
+    /// A control socket cannot be bound; or no relay is at it, or what is said there is no answer.
+    Control,
+    /// The system's random source gives nothing.
+    Random,
+    /// A command file has a fault, of which this is said.
+    CommandFile(String),
     /// Memory is wanting.
     Memory,
     /// The input cannot be read, or spells no request.
@@ -90,6 +97,9 @@ impl Failure {
             Failure::Capture => "capture",
             Failure::Commands => "commands",
             Failure::Wire => "wire",
+            Failure::Control => "control",
+            Failure::Random => "random source",
+            Failure::CommandFile(cause) => cause.as_str(),
             Failure::Memory => "memory",
             Failure::Input(fault) => fault.text(),
             Failure::Output => "output",
@@ -106,6 +116,9 @@ impl Failure {
             Failure::Capture
             | Failure::Commands
             | Failure::Wire
+            | Failure::Control
+            | Failure::Random
+            | Failure::CommandFile(_)
             | Failure::Memory
             | Failure::Input(_)
             | Failure::Output => Status::Fault,
@@ -237,6 +250,34 @@ impl From<BindFault> for Failure {
     }
 }
 
+impl From<ControlFault> for Failure {
+    ghost use Rattle.std.specs.Prelude.{◌≡◌};
+    ghost use Rattle.macs_program.specs.Failing.{failure_of_control};
+
+    ghost from_gives = { λ fault failure. failure ≡ failure_of_control fault };
+
+    fn from(fault: ControlFault) -> Failure {
+        match fault {
+            ControlFault::Memory => Failure::Memory,
+            ControlFault::Bind => Failure::Control,
+        }
+    }
+}
+
+impl From<AskFault> for Failure {
+    ghost use Rattle.std.specs.Prelude.{◌≡◌};
+    ghost use Rattle.macs_program.specs.Failing.{failure_of_asking};
+
+    ghost from_gives = { λ fault failure. failure ≡ failure_of_asking fault };
+
+    fn from(fault: AskFault) -> Failure {
+        match fault {
+            AskFault::Memory => Failure::Memory,
+            AskFault::Gone => Failure::Control,
+        }
+    }
+}
+
 impl From<RefillFault> for Failure {
     ghost use Rattle.std.specs.Prelude.{◌≡◌};
     ghost use Rattle.macs_program.specs.Failing.{failure_of_refill};
@@ -246,9 +287,23 @@ impl From<RefillFault> for Failure {
     fn from(fault: RefillFault) -> Failure {
         match fault {
             RefillFault::Stopped => JournalFault::Stopped.into(),
-            RefillFault::Busy => Failure::Disk(DiskFault::Busy), // Never: no command is submitted.
+            RefillFault::Busy => Failure::Disk(DiskFault::Busy), // Never: a turn makes a step, and no whole reservation.
             RefillFault::GenerationsSpent => JournalFault::GenerationsSpent.into(),
             RefillFault::Disk => JournalFault::Disk.into(),
+        }
+    }
+}
+
+impl From<PcapFault> for Failure {
+    ghost use Rattle.std.specs.Prelude.{◌≡◌};
+    ghost use Rattle.macs_program.specs.Failing.{failure_of_capture};
+
+    ghost from_gives = { λ fault failure. failure ≡ failure_of_capture fault };
+
+    fn from(fault: PcapFault) -> Failure {
+        match fault {
+            PcapFault::Memory => Failure::Memory,
+            _ => Failure::Capture,
         }
     }
 }

@@ -22,16 +22,17 @@ ghost use Rattle.macs_program.specs.Endpoints.{AppliesIn, BreaksOffIn, IsDiskIn,
 ghost use Rattle.macs_program.specs.Endpoints.{PassEndsIn, PassesIn, ShowsIn};
 ghost use Rattle.macs_program.specs.Failing.{failure_status};
 ghost use Rattle.macs_program.specs.NewDisks.{FormatFails, Formats, MakesDisk};
-ghost use Rattle.macs_program.specs.Relaying.{ComesTo, IsOfRelay, RelayEndsIn, new_wire, turns_of};
-ghost use Rattle.macs_program.specs.Showing.{line};
-ghost use Rattle.macs_program.specs.Summing.{relay_line, summary_line};
+ghost use Rattle.macs_program.specs.Relaying.{ComesTo, IsOfRelay, RelayEndsIn, course_of, is_attended, new_wire, turns_of};
+ghost use Rattle.macs_program.specs.Summing.{pass_status, relay_line, summary_line};
 ghost use Rattle.macs_program.specs.Tasks.{DoesApply, DoesPass, DoesRelay, DoesShow, Doing, IsRunIn};
 ghost use Rattle.macs_program.specs.Values.{SpellsIdentity, SpellsLayout, ValueFaultHolds, value_faults};
 ghost use Rattle.macs_program.specs.declared.addresses.AddressFault.{AddressFault};
 ghost use Rattle.macs_program.specs.declared.values.ValueFault.{ValueFault};
+ghost use Rattle.macs_texts.specs.Lines.{line};
 
 use crate::addresses::{Addresses, addresses_of};
 use crate::applying::apply_commands;
+use crate::attended::{desk_for, leave};
 use crate::capture_file::CaptureFile;
 use crate::captures::{Captures, SystemCaptures};
 use crate::capturing::{Direction, pass_frames};
@@ -39,20 +40,21 @@ use crate::failure::Failure;
 use crate::files::{commands_of_file, open_disk};
 use crate::new_disk::{NewFile, format_disk};
 use crate::output::print;
-use crate::relaying::{bind, relay_frames, relay_frames_resting};
-use crate::showing::show_lines;
+use crate::relaying::{bind, relay_frames, relay_frames_attended, relay_frames_resting};
 use crate::status::Status;
 use crate::stream::Stream;
 use crate::values::{Given, given_by};
 use crate::watch::Watch;
+use macs_control::{Notifier, Wires as Sockets, ask_for_buffer};
 use macs_disk::{DiskFile, FileDisk, SectorDisk};
 use macs_edge::{UdpWire, Wire};
 use macs_endpoint::{Endpoint, OpenRefused};
-use macs_words::{Milliseconds, Pace, WireEnds};
+use macs_texts::show_lines;
+use macs_words::{Milliseconds, Pace, Running, WireEnds};
 use std::alloc::Global;
 use std::net::{Net, UdpSocket};
 use std::os::fd::AsRawFd;
-use std::rt::Files;
+use std::rt::{Clock, Env, Files};
 
 /// Makes the disk file of an endpoint by what was given, and says so.
 fn format_given<T: Files, W: Stream>(
@@ -272,15 +274,24 @@ fn pass_between<C: Captures, D: SectorDisk, W: Stream>(
     alloc: Global,
     endpoint: &mut Endpoint<D>,
     direction: Direction,
+    is_all: bool,
     from: &str,
     to: &str,
     out: &mut W,
 ) -> Result<Status, Failure>
     ensures asks { AsksInOrder from.now to.now (C.asked captures.old) (C.asked captures.new) result }
-    ensures passes { DoesPass D.disk W.contents W.failed direction endpoint.old out.old result endpoint.new out.new }
+    ensures passes { DoesPass D.disk W.contents W.failed direction is_all endpoint.old out.old result endpoint.new out.new }
 {
     let (mut source, mut sink) = open_both(captures, from, to)?;
-    pass_frames(alloc, endpoint, direction, &mut source, &mut sink, out)
+    pass_frames(
+        alloc,
+        endpoint,
+        direction,
+        is_all,
+        &mut source,
+        &mut sink,
+        out,
+    )
 }
 
 /// Takes a capture in a file through an endpoint into another file.
@@ -289,6 +300,7 @@ struct PassFile<'a, T> {
     rt: &'a T,
     alloc: Global,
     direction: Direction,
+    is_all: bool,
     from: &'a str,
     to: &'a str,
 }
@@ -297,7 +309,7 @@ impl<T: Files, D: SectorDisk, W: Stream> Task<D, W> for PassFile<'_, T>
 where
     T::File: CaptureFile,
 {
-    ghost does = { λ task. DoesPass D.disk W.contents W.failed task.direction };
+    ghost does = { λ task. DoesPass D.disk W.contents W.failed task.direction task.is_all };
 
     #[inline(never)]
     fn run(&self, endpoint: &mut Endpoint<D>, out: &mut W) -> Result<Status, Failure> {
@@ -308,6 +320,7 @@ where
             alloc,
             endpoint,
             self.direction,
+            self.is_all,
             self.from,
             self.to,
             out,
@@ -321,6 +334,7 @@ pub fn pass<'a, T: Files, W: Stream>(
     rt: &'a T,
     alloc: Global,
     direction: Direction,
+    is_all: bool,
     disk: &str,
     from: &'a str,
     to: &'a str,
@@ -330,7 +344,8 @@ where
     T::File: CaptureFile,
     ensures printed { IfOk result (λ status. (summary : Summary)
         × PassesIn T.File.file (side_of direction) summary
-        × Appends (W.contents out.old) (W.contents out.new) (summary_line direction summary) × (status ≡ Status.Done)) }
+        × Appends (W.contents out.old) (W.contents out.new) (summary_line direction summary)
+        × (status ≡ pass_status is_all summary)) }
     ensures ended { IfErr result (λ failure. OpeningFails T.File.file failure
         ⊎ PassEndsIn T.File.file (side_of direction) failure) }
     ensures failed { IfErr result (λ failure. failure_status failure ≢ Status.Usage) }
@@ -341,6 +356,7 @@ where
         rt,
         alloc,
         direction,
+        is_all,
         from,
         to,
     };
@@ -369,7 +385,7 @@ fn bind_wires<N: Net>(net: &N, alloc: Global, addresses: Addresses) -> Result<Wi
 
 impl Wires {
     ghost use Rattle.std.specs.Prelude.{◌≡◌, IfSome};
-    ghost use Rattle.macs_program.specs.Relaying.{new_wire};
+    ghost use Rattle.macs_program.specs.Relaying.{attended, new_wire, unattended};
     ghost use Rattle.macs_program.specs.Tasks.{DoesRelay};
 
     /// What is watched of them, where a sleep is so long at most.
@@ -387,6 +403,18 @@ impl Wires {
         }
     }
 
+    /// Their sockets.
+    fn sockets(&self) -> Sockets
+        ensures controlled { IfSome (⟦<UdpWire<Global, UdpSocket> as AsRawFd>⟧.raw_fd self.now.controlled)
+            (λ socket. result.controlled ≡ socket) }
+        ensures common { IfSome (⟦<UdpWire<Global, UdpSocket> as AsRawFd>⟧.raw_fd self.now.common)
+            (λ socket. result.common ≡ socket) }
+    {
+        let controlled = self.controlled.as_raw_fd();
+        let common = self.common.as_raw_fd();
+        Sockets { controlled, common }
+    }
+
     /// Relays frames between them in turns of which none waits.
     fn relay<D: SectorDisk, W: Stream>(
         &mut self,
@@ -396,7 +424,7 @@ impl Wires {
     ) -> Result<Status, Failure>
         requires controlled { ⟦<UdpWire<Global, UdpSocket> as Wire>⟧.state self.old.controlled ≡ new_wire }
         requires common { ⟦<UdpWire<Global, UdpSocket> as Wire>⟧.state self.old.common ≡ new_wire }
-        ensures { DoesRelay D.disk W.contents W.failed turns endpoint.old out.old result endpoint.new out.new }
+        ensures { DoesRelay D.disk W.contents W.failed (unattended turns) endpoint.old out.old result endpoint.new out.new }
     {
         relay_frames(endpoint, &mut self.controlled, &mut self.common, turns, out)
     }
@@ -411,11 +439,42 @@ impl Wires {
     ) -> Result<Status, Failure>
         requires controlled { ⟦<UdpWire<Global, UdpSocket> as Wire>⟧.state self.old.controlled ≡ new_wire }
         requires common { ⟦<UdpWire<Global, UdpSocket> as Wire>⟧.state self.old.common ≡ new_wire }
-        ensures { DoesRelay D.disk W.contents W.failed turns endpoint.old out.old result endpoint.new out.new }
+        ensures { DoesRelay D.disk W.contents W.failed (unattended turns) endpoint.old out.old result endpoint.new out.new }
     {
         let mut watch = self.watch(limit);
         let Wires { controlled, common } = self;
         relay_frames_resting(endpoint, controlled, common, &mut watch, turns, out)
+    }
+
+    /// Asks the system to keep so many octets of the datagrams that wait at each.
+    fn ask_for_buffers<N: Net>(&self, net: &N, octets: u32) {
+        ask_for_buffer(net, self.controlled.as_raw_fd(), octets);
+        ask_for_buffer(net, self.common.as_raw_fd(), octets);
+    }
+
+    /// Relays frames between them, attended: whoever started the program is told that it serves, once all is bound,
+    /// and that it ends.
+    fn attend<T: Files + Net + Clock + Env, D: SectorDisk, W: Stream>(
+        &mut self,
+        rt: &T,
+        alloc: Global,
+        endpoint: &mut Endpoint<D>,
+        running: Running,
+        turns: u64,
+        out: &mut W,
+    ) -> Result<Status, Failure>
+        requires controlled { ⟦<UdpWire<Global, UdpSocket> as Wire>⟧.state self.old.controlled ≡ new_wire }
+        requires common { ⟦<UdpWire<Global, UdpSocket> as Wire>⟧.state self.old.common ≡ new_wire }
+        ensures { DoesRelay D.disk W.contents W.failed (attended turns) endpoint.old out.old result endpoint.new out.new }
+    {
+        let mut desk = desk_for(rt, alloc, &running, self.sockets())?;
+        let notifier = Notifier::of_environment(rt, alloc);
+        notifier.ready();
+        let Wires { controlled, common } = self;
+        let result = relay_frames_attended(endpoint, controlled, common, &mut desk, turns, out);
+        notifier.stopping();
+        leave(rt, &running);
+        result
     }
 }
 
@@ -433,23 +492,36 @@ fn turns_of(pace: Pace) -> u64
     }
 }
 
-/// Relays frames through an endpoint between two wires.
-#[derive(Drop)]
-struct RelayWires<'a, N> {
-    net: &'a N,
-    alloc: Global,
-    addresses: Addresses,
-    pace: Pace,
+/// Whether a desk attends a relay.
+fn is_attended(running: &Running) -> bool
+    ensures { result ≡ is_attended running.now }
+{
+    running.control.is_some() || running.metrics.is_some()
 }
 
-impl<N: Net, D: SectorDisk, W: Stream> Task<D, W> for RelayWires<'_, N> {
-    ghost does = { λ task. DoesRelay D.disk W.contents W.failed (turns_of task.pace) };
+/// Relays frames through an endpoint between two wires.
+#[derive(Drop)]
+struct RelayWires<'a, T> {
+    rt: &'a T,
+    alloc: Global,
+    addresses: Addresses,
+    running: Running<'a>,
+}
+
+impl<T: Files + Net + Clock + Env, D: SectorDisk, W: Stream> Task<D, W> for RelayWires<'_, T> {
+    ghost does = { λ task. DoesRelay D.disk W.contents W.failed (course_of task.running) };
 
     #[inline(never)]
     fn run(&self, endpoint: &mut Endpoint<D>, out: &mut W) -> Result<Status, Failure> {
-        let mut wires = bind_wires(self.net, self.alloc, self.addresses)?;
-        let turns = turns_of(self.pace);
-        match self.pace {
+        let mut wires = bind_wires(self.rt, self.alloc, self.addresses)?;
+        if let Some(octets) = self.running.buffer {
+            wires.ask_for_buffers(self.rt, octets);
+        }
+        let turns = turns_of(self.running.pace);
+        if is_attended(&self.running) {
+            return wires.attend(self.rt, self.alloc, endpoint, self.running, turns, out);
+        }
+        match self.running.pace {
             Pace::Busy { .. } => wires.relay(endpoint, turns, out),
             Pace::Waiting { limit, .. } => wires.relay_resting(endpoint, limit, turns, out),
         }
@@ -457,18 +529,18 @@ impl<N: Net, D: SectorDisk, W: Stream> Task<D, W> for RelayWires<'_, N> {
 }
 
 /// `relay`: relays frames between two wires, the first of which is the controlled side.
-pub fn relay<T: Files + Net, W: Stream>(
-    rt: &T,
+pub fn relay<'a, T: Files + Net + Clock + Env, W: Stream>(
+    rt: &'a T,
     alloc: Global,
     disk: &str,
     controlled: WireEnds,
     common: WireEnds,
-    pace: Pace,
+    running: Running<'a>,
     out: &mut W,
 ) -> Result<Status, Failure>
 where
     T::File: DiskFile,
-    ensures printed { IfOk result (λ status. (summary : RelaySummary) × ComesTo T.File.file (turns_of pace) summary
+    ensures printed { IfOk result (λ status. (summary : RelaySummary) × ComesTo T.File.file (course_of running.entry) summary
         × SpellsBoth controlled.entry common.entry
         × Appends (W.contents out.old) (W.contents out.new) (relay_line summary) × (status ≡ Status.Done)) }
     ensures address { (fault : AddressFault) → (result ≡ Err (Failure.Address fault))
@@ -477,17 +549,17 @@ where
         → ((fault : AddressFault) × AddressFaultHolds controlled.entry common.entry fault) × (out.new ≡ out.old)) }
     ensures ended { IfErr result (λ failure. ((fault : AddressFault) × (failure ≡ Failure.Address fault)
         × IsFirst (AddressFaultHolds controlled.entry common.entry) address_faults fault)
-        ⊎ OpeningFails T.File.file failure ⊎ RelayEndsIn T.File.file (turns_of pace) failure) }
+        ⊎ OpeningFails T.File.file failure ⊎ RelayEndsIn T.File.file (course_of running.entry) failure) }
     ensures names { IfErr result IsOfRelay }
     ensures silent { IfErr result (λ failure. failure ≢ Failure.Output → out.new ≡ out.old) }
     ensures broken { IfErr result (λ failure. failure ≡ Failure.Output → W.failed out.new ≡ true) }
 {
     let addresses = addresses_of(controlled, common)?;
     let task = RelayWires {
-        net: rt,
+        rt,
         alloc,
         addresses,
-        pace,
+        running,
     };
     with_file(rt, disk, &task, out)
 }

@@ -1,15 +1,13 @@
 //! Lines of text, and text to standard output.
 
-ghost use Rattle.std.specs.Prelude.{◌≡◌, ◌≤◌, ◌+◌, ◌++◌, length, true, IfErr, IfOk, OnErr, OnOk, string_bytes};
+ghost use Rattle.std.specs.Prelude.{◌≡◌, ◌≤◌, ◌+◌, ◌++◌, length, true, IfErr, OnErr, OnOk};
 ghost use Rattle.std.specs.Fmt.{decimal};
 ghost use Rattle.std.specs.Io.KnownBytes.{Appends};
-ghost use Rattle.macs_program.specs.Showing.{line};
 
 use crate::failure::Failure;
 use crate::stream::Stream;
 use arrayvec::ArrayVec;
 use itoa::Buffer;
-use std::alloc::AllocError;
 
 /// The longest line that takes no memory.
 pub const MAX_LINE: usize = 128;
@@ -27,14 +25,6 @@ pub fn append_count(line: &mut Line, name: &str, count: u64)
     line.try_extend_from_slice(name.as_bytes()).unwrap();
     line.try_extend_from_slice(digits.format(count).as_bytes())
         .unwrap();
-}
-
-/// A text with its line feed.
-pub fn ended(mut text: String) -> Result<String, AllocError>
-    ensures { IfOk result (λ ended. string_bytes ended ≡ line (string_bytes text)) }
-{
-    text.push('\n')?;
-    Ok(text)
 }
 
 /// Prints octets on standard output, whole, and hands them on. It fails as `Output`, and exactly where the

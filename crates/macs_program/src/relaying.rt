@@ -1,14 +1,16 @@
 //! `relay`: frames between two wires through an endpoint.
 
-ghost use Rattle.std.specs.Prelude.{◌≡◌, ◌≢◌, ◌⊎◌, ℕ, Result, true, IfErr, IfOk, Ok};
+ghost use Rattle.std.specs.Prelude.{◌≡◌, ◌≢◌, ◌⊎◌, ℕ, List, Result, true, IfErr, IfOk, Ok};
 ghost use Rattle.std.specs.Io.KnownBytes.{Appends};
+ghost use Rattle.macs_edge.specs.Attending.{IsAttended, with_events};
 ghost use Rattle.macs_edge.specs.Relaying.{IsRelayed, empty_lane, relay_of};
 ghost use Rattle.macs_edge.specs.Resting.{IsRelayedResting, with_sleeps};
 ghost use Rattle.macs_edge.specs.UdpWires.{peer_of};
+ghost use Rattle.macs_edge.specs.declared.attending.DeskEvent.{DeskEvent};
 ghost use Rattle.macs_edge.specs.declared.relaying.RelaySummary.{RelaySummary};
 ghost use Rattle.macs_endpoint.specs.declared.fault.RefillFault.{RefillFault};
 ghost use Rattle.macs_program.specs.Failing.{failure_status};
-ghost use Rattle.macs_program.specs.Relaying.{EndsRelay, new_wire};
+ghost use Rattle.macs_program.specs.Relaying.{EndsRelay, attended, new_wire, unattended};
 ghost use Rattle.macs_program.specs.Summing.{relay_line};
 
 use crate::addresses::WireAddresses;
@@ -17,7 +19,7 @@ use crate::output::{Line, append_count, print_octets};
 use crate::status::Status;
 use crate::stream::Stream;
 use macs_disk::SectorDisk;
-use macs_edge::{Idle, RelaySummary, UdpWire, Wire, relay, relay_resting};
+use macs_edge::{Desk, Idle, RelaySummary, UdpWire, Wire, attend, relay, relay_resting};
 use macs_endpoint::Endpoint;
 use std::alloc::Global;
 use std::net::{Net, UdpSocket};
@@ -72,7 +74,7 @@ pub fn relay_frames<D: SectorDisk, P: Wire, C: Wire, W: Stream>(
         endpoint.new (P.state controlled.new) (C.state common.new)
         × Appends (W.contents out.old) (W.contents out.new) (relay_line summary) × (status ≡ Status.Done)) }
     ensures failed { IfErr result (λ failure. failure_status failure ≢ Status.Usage) }
-    ensures ended { IfErr result (λ failure. EndsRelay D.disk turns
+    ensures ended { IfErr result (λ failure. EndsRelay D.disk (unattended turns)
         (relay_of endpoint.old (P.state controlled.old) (C.state common.old) empty_lane empty_lane) failure
         endpoint.new (P.state controlled.new) (C.state common.new)) }
     ensures silent { IfErr result (λ failure. failure ≢ Failure.Output → out.new ≡ out.old) }
@@ -99,12 +101,40 @@ pub fn relay_frames_resting<D: SectorDisk, P: Wire, C: Wire, I: Idle, W: Stream>
         (relay_of endpoint.old (P.state controlled.old) (C.state common.old) empty_lane empty_lane) slept answer
         endpoint.new (P.state controlled.new) (C.state common.new)
         × (I.sleeps idle.new ≡ with_sleeps (I.sleeps idle.old) slept) }
-    ensures ended { IfErr result (λ failure. EndsRelay D.disk turns
+    ensures ended { IfErr result (λ failure. EndsRelay D.disk (unattended turns)
         (relay_of endpoint.old (P.state controlled.old) (C.state common.old) empty_lane empty_lane) failure
         endpoint.new (P.state controlled.new) (C.state common.new)) }
     ensures silent { IfErr result (λ failure. failure ≢ Failure.Output → out.new ≡ out.old) }
     ensures broken { IfErr result (λ failure. failure ≡ Failure.Output → W.failed out.new ≡ true) }
 {
     let summary = relay_resting(endpoint, controlled, common, idle, turns)?;
+    print_summary(summary, out)
+}
+
+/// Relays frames as `relay_frames` does, attended by a desk, which may hand in commands and end the relay before a
+/// turn.
+pub fn relay_frames_attended<D: SectorDisk, P: Wire, C: Wire, K: Desk<D, P, C>, W: Stream>(
+    endpoint: &mut Endpoint<D>,
+    controlled: &mut P,
+    common: &mut C,
+    desk: &mut K,
+    turns: u64,
+    out: &mut W,
+) -> Result<Status, Failure>
+    ensures printed { IfOk result (λ status. (summary : RelaySummary) × (events : List DeskEvent) × IsAttended D.disk turns
+        (relay_of endpoint.old (P.state controlled.old) (C.state common.old) empty_lane empty_lane) events (Ok summary)
+        endpoint.new (P.state controlled.new) (C.state common.new)
+        × Appends (W.contents out.old) (W.contents out.new) (relay_line summary) × (status ≡ Status.Done)) }
+    ensures attended { (events : List DeskEvent) × (answer : Result RelaySummary RefillFault) × IsAttended D.disk turns
+        (relay_of endpoint.old (P.state controlled.old) (C.state common.old) empty_lane empty_lane) events answer
+        endpoint.new (P.state controlled.new) (C.state common.new)
+        × (K.events desk.new ≡ with_events (K.events desk.old) events) }
+    ensures ended { IfErr result (λ failure. EndsRelay D.disk (attended turns)
+        (relay_of endpoint.old (P.state controlled.old) (C.state common.old) empty_lane empty_lane) failure
+        endpoint.new (P.state controlled.new) (C.state common.new)) }
+    ensures silent { IfErr result (λ failure. failure ≢ Failure.Output → out.new ≡ out.old) }
+    ensures broken { IfErr result (λ failure. failure ≡ Failure.Output → W.failed out.new ≡ true) }
+{
+    let summary = attend(endpoint, controlled, common, desk, turns)?;
     print_summary(summary, out)
 }

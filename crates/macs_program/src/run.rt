@@ -5,6 +5,7 @@ ghost use Rattle.std.specs.Io.KnownBytes.{Appends};
 ghost use Rattle.clap.specs.Words.{subcommand_of, takes};
 ghost use Rattle.macs_program.specs.Answer.{answer_text};
 ghost use Rattle.macs_program.specs.Failing.{failure_status};
+ghost use Rattle.macs_program.specs.Inputs.{InputRead, read_of};
 ghost use Rattle.macs_program.specs.Run.{Acts, FailsFor, HasPrinted, HasWrongValues, OpenFails, Performs, PrintedBefore, Prints};
 ghost use Rattle.macs_program.specs.Run.{PrintsUnlessFailed, Replies, code_of, complaint, is_on_frames};
 ghost use Rattle.macs_words.specs.Words.{AreRefused, AsksForNothing, Names, macsecd, texts};
@@ -13,39 +14,35 @@ ghost use Rattle.macs_program.specs.declared.failure.Failure.{Failure};
 ghost use Rattle.macs_program.specs.declared.status.Status.{Status};
 
 use crate::answer::{Answer, answer_of};
+use crate::asking::ask;
 use crate::capture_file::CaptureFile;
 use crate::capturing::Direction;
+use crate::check::check;
 use crate::failure::Failure;
+use crate::input::{Input, InputText};
+use crate::inspect::inspect;
+use crate::key::key;
 use crate::on_disk::{apply, format, pass, relay, show};
 use crate::output::print;
 use crate::request::InputFault;
 use crate::status::Status;
 use crate::stream::{PrintFailed, Stream};
-use arrayvec::ArrayVec;
 use macs_words::{Action, action_of, topic_of};
 use std::alloc::{AllocError, Allocator, Global};
-use std::io;
-use std::io::Read;
 use std::net::Net;
-use std::rt::Files;
-
-/// One octet more than the longest input that is taken.
-const MAX_READ: usize = 20_001;
-
-/// An input as it was read, to its end or to one octet more than it may have.
-type InputText = ArrayVec<u8, MAX_READ>;
+use std::random::RandomSource;
+use std::rt::{Clock, Env, Files};
 
 /// Reads an input, as far as it can be of use.
-fn read_input<R: Read>(input: &mut R) -> Result<InputText, Failure>
-    ensures read { IfOk result (λ text. IfSome (R.remaining input.old)
-        (λ octets. text.items ≡ take MAX_READ octets)) }
+fn read_input<R: Input>(input: &mut R) -> Result<InputText, Failure>
+    ensures read { IfOk result (λ text. IfSome (R.remaining input.old) (λ octets. text.items ≡ take 20001 octets)) }
     ensures failed { IfErr result (λ failure. failure ≡ Failure.Input InputFault.Input) }
+    ensures broken { OnErr result (R.failed input.new ≡ true) }
 {
-    let mut text = InputText::new();
-    match io::copy(&mut input.take(MAX_READ as u64), &mut text) {
-        Ok(_) => Ok(text),
-        Err(_) => Err(Failure::Input(InputFault::Input)),
-    }
+    let Ok(text) = input.read_text() else {
+        return Err(Failure::Input(InputFault::Input));
+    };
+    Ok(text)
 }
 
 /// The line that `open` prints, with its line feed.
@@ -57,7 +54,7 @@ pub fn line_of<A: Allocator>(alloc: A, answer: &Answer) -> Result<String<A>, All
 
 /// `open`: reads an input, and prints the answer to it.
 #[inline(never)]
-fn open_input<R: Read, W: Stream>(
+fn open_input<R: Input, W: Stream>(
     alloc: Global,
     input: &mut R,
     out: &mut W,
@@ -66,7 +63,7 @@ fn open_input<R: Read, W: Stream>(
         (λ octets. Prints octets (W.contents out.old) (W.contents out.new) status)) }
     ensures status { IfOk result (λ status. (status ≡ Status.Done) ⊎ (status ≡ Status.Refused)) }
     ensures failed { IfErr result (λ failure. failure_status failure ≡ Status.Fault) }
-    ensures ended { IfErr result (OpenFails (R.remaining input.old)) }
+    ensures ended { IfErr result (OpenFails (read_of R.remaining R.failed input.old input.new)) }
     ensures silent { IfErr result (λ failure. failure ≢ Failure.Output → out.new ≡ out.old) }
     ensures broken { IfErr result (λ failure. failure ≡ Failure.Output → W.failed out.new ≡ true) }
 {
@@ -77,7 +74,7 @@ fn open_input<R: Read, W: Stream>(
 }
 
 /// Does what an action asks for.
-fn perform<T: Files + Net, R: Read, W: Stream>(
+fn perform<T: Files + Net + Clock + Env + RandomSource, R: Input, W: Stream>(
     rt: &T,
     alloc: Global,
     action: Action,
@@ -86,7 +83,8 @@ fn perform<T: Files + Net, R: Read, W: Stream>(
 ) -> Result<Status, Failure>
 where
     T::File: CaptureFile,
-    ensures performs { Performs T.File.file W.contents W.failed action.entry (R.remaining input.old) out.old result out.new }
+    ensures performs { Performs T.File.file W.contents W.failed action.entry
+        (read_of R.remaining R.failed input.old input.new) out.old result out.new }
     ensures unread { action.entry ≢ Action.Open → input.new ≡ input.old }
 {
     match action {
@@ -106,11 +104,15 @@ where
         Action::Protect { .. } | Action::Validate { .. } | Action::Relay { .. } => {
             perform_on_frames(rt, alloc, action, out)
         }
+        Action::Ask { path, question } => ask(rt, alloc, path, question, out),
+        Action::Key { is_long } => key(rt, is_long, out),
+        Action::Inspect { input: from } => inspect(rt, alloc, from, out),
+        Action::Check { file } => check(rt, alloc, file, out),
     }
 }
 
 /// Does what an action asks for that hands frames to an endpoint.
-fn perform_on_frames<T: Files + Net, W: Stream>(
+fn perform_on_frames<T: Files + Net + Clock + Env, W: Stream>(
     rt: &T,
     alloc: Global,
     action: Action,
@@ -119,7 +121,7 @@ fn perform_on_frames<T: Files + Net, W: Stream>(
 where
     T::File: CaptureFile,
     requires { is_on_frames action ≡ true }
-    ensures { (input : Option (List ℕ))
+    ensures { (input : InputRead)
         → Performs T.File.file W.contents W.failed action.entry input out.old result out.new }
 {
     match action {
@@ -127,24 +129,26 @@ where
             disk,
             input: from,
             output: to,
-        } => pass(rt, alloc, Direction::Protect, disk, from, to, out),
+            is_all,
+        } => pass(rt, alloc, Direction::Protect, is_all, disk, from, to, out),
         Action::Validate {
             disk,
             input: from,
             output: to,
-        } => pass(rt, alloc, Direction::Validate, disk, from, to, out),
+            is_all,
+        } => pass(rt, alloc, Direction::Validate, is_all, disk, from, to, out),
         Action::Relay {
             disk,
             controlled,
             common,
-            pace,
-        } => relay(rt, alloc, disk, controlled, common, pace, out),
+            running,
+        } => relay(rt, alloc, disk, controlled, common, running, out),
         _ => unreachable!(),
     }
 }
 
 /// Does what the words ask for.
-fn act<T: Files + Net, R: Read, W: Stream>(
+fn act<T: Files + Net + Clock + Env + RandomSource, R: Input, W: Stream>(
     rt: &T,
     alloc: Global,
     words: &[&str],
@@ -153,7 +157,7 @@ fn act<T: Files + Net, R: Read, W: Stream>(
 ) -> Result<Status, Failure>
 where
     T::File: CaptureFile,
-    ensures { Acts T.File.file R.remaining W.contents W.failed (texts words.now) input.old out.old result input.new out.new }
+    ensures { Acts T.File.file R.remaining R.failed W.contents W.failed (texts words.now) input.old out.old result input.new out.new }
 {
     if let Some(topic) = topic_of(words) {
         print(out, topic.text())?;
@@ -188,7 +192,7 @@ pub fn report<E: Stream>(failure: &Failure, err: &mut E) -> u8
 /// standard error. It answers the status of the process. Faults are found in this order: the words;
 /// the SCI, the blocks and the addresses; the disk file and its opening; the other files or the binds from
 /// left to right; that the order among files is this one is tested.
-pub fn run<T: Files + Net, R: Read, W: Stream, E: Stream>(
+pub fn run<T: Files + Net + Clock + Env + RandomSource, R: Input, W: Stream, E: Stream>(
     rt: &T,
     alloc: Global,
     words: &[&str],
@@ -203,7 +207,7 @@ where
     // At 0 and 3 the words ask for help or are taken, and the help or what the action prints is written to
     // standard output.
     ensures replied { (result ≡ 0) ⊎ (result ≡ 3) → (status : Status) × (result ≡ code_of status)
-        × Replies T.File.file (texts words.now) (R.remaining input.old)
+        × Replies T.File.file (texts words.now) (read_of R.remaining R.failed input.old input.new)
         (W.contents out.old) (W.contents out.new) status }
     // And nothing on standard error.
     ensures quiet { (result ≡ 0) ⊎ (result ≡ 3) → err.new ≡ err.old }
@@ -219,11 +223,12 @@ where
         × HasPrinted action (W.contents out.old) (W.contents out.new) }
     // At 2, 4 and 5 there is a failure of this status, of the words or of the action that they name, whose line is
     // printed on standard error, whole, unless that fails. Nothing was printed on standard output before it but, of
-    // `apply`, the lines of the commands before the failure; where the failure is that of standard output, a print
+    // `apply`, `ask` and `inspect`, the lines before the failure; where the failure is that of standard output, a print
     // there failed.
     ensures reported { (result ≢ 0) → (result ≢ 3) → (failure : Failure) × (result ≡ code_of (failure_status failure))
         × PrintsUnlessFailed (E.contents err.old) (E.contents err.new) (E.failed err.new) (complaint failure)
-        × FailsFor T.File.file (texts words.now) (R.remaining input.old) (W.contents out.old) (W.contents out.new) failure
+        × FailsFor T.File.file (texts words.now) (read_of R.remaining R.failed input.old input.new)
+        (W.contents out.old) (W.contents out.new) failure
         × (failure ≢ Failure.Output → PrintedBefore (texts words.now) (W.contents out.old) (W.contents out.new))
         × (failure ≡ Failure.Output → W.failed out.new ≡ true) }
     // Where the words are none that are taken, as those that ask for help, or name another action than

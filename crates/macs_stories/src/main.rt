@@ -19,6 +19,7 @@ mod serving;
 mod shelf;
 mod stage;
 mod stories;
+mod talks;
 mod tools;
 mod wires;
 

@@ -3,6 +3,7 @@
 use crate::desks::{self, Orders};
 use crate::endpoint::{Played, act_with_endpoint};
 use crate::serving::{self, Service};
+use crate::talks::{self, Talks};
 use crate::wires::{self, Wires};
 use crate::{files, running};
 use macs_config::Command;
@@ -19,10 +20,12 @@ pub struct Tools {
     captures: Captures,
     service: Service,
     orders: Orders,
+    talks: Talks,
 }
 
 impl Tools {
-    /// Empty wires, no command file, no capture, no events, and a desk without orders.
+    /// Empty wires, no command file, no capture, no events, a desk without orders, and no
+    /// clients.
     pub fn new(alloc: Global) -> Tools {
         Tools {
             alloc,
@@ -31,11 +34,12 @@ impl Tools {
             captures: Captures::new(alloc),
             service: Service::new(alloc),
             orders: Orders::new(alloc),
+            talks: Talks::new(alloc),
         }
     }
 
-    /// Does what is said to a wire, of a command file, of a capture, of events or of a desk; `None`
-    /// where the act is of none of them.
+    /// Does what is said to a wire, of a command file, of a capture, of events, of a desk or of
+    /// clients; `None` where the act is of none of them.
     pub fn act(&mut self, line: Line<'_>, answer: &mut Answer) -> Option<()> {
         let alloc = self.alloc;
         let told = wires::act(&mut self.wires, line.words(), alloc, answer);
@@ -51,6 +55,10 @@ impl Tools {
             return told;
         }
         let told = desks::act(line, &mut self.orders, alloc, answer);
+        if told.is_some() {
+            return told;
+        }
+        let told = talks::act(line, &mut self.talks, alloc, answer);
         if told.is_some() {
             return told;
         }
@@ -71,8 +79,11 @@ pub fn act(
             words,
             &mut tools.wires,
             &mut tools.orders,
+            &mut tools.talks,
+            tools.alloc,
             answer,
-        ).is_some()
+        )
+        .is_some()
         || files::apply(endpoint, words, tools.commands.as_slice(), answer).is_some()
         || serving::serve(endpoint, words, &mut tools.service, answer).is_some()
         || running::run(endpoint, words, &mut tools.captures, tools.alloc, answer).is_some()

@@ -3,11 +3,14 @@
 
 use crate::desks::Orders;
 use crate::endpoint::Played;
+use crate::talks::Talks;
+use macs_desk::ControlDesk;
 use macs_edge::{
     FaultWire, Got, Idle, MemWire, RelaySummary, Wire, WireFault, attend, relay, relay_resting,
 };
 use macs_endpoint::RefillFault;
 use macs_frame::FrameBuf;
+use macs_requests::NoMetrics;
 use macs_story_text::{Answer, Words, filled, frame_at, octets_of, tell_frame, tell_sent, whole};
 use std::alloc::Global;
 use std::mem::replace;
@@ -362,6 +365,28 @@ fn attended(
     )
 }
 
+/// The same with a desk that serves these clients.
+fn served(
+    endpoint: &mut Played,
+    wires: &mut Wires,
+    turns: u64,
+    talks: &mut Talks,
+    alloc: Global,
+) -> Result<RelaySummary, RefillFault> {
+    let clients = replace(talks, Talks::new(alloc));
+    let mut desk = ControlDesk::new(alloc, clients, NoMetrics);
+    let told = attend(
+        endpoint,
+        &mut wires.controlled.front,
+        &mut wires.common.front,
+        &mut desk,
+        turns,
+    );
+    let (clients, _metrics) = desk.into_parts();
+    *talks = clients;
+    told
+}
+
 /// Frames pass between the wires through an endpoint, and the sleeps between are told.
 fn rest_and_tell(endpoint: &mut Played, wires: &mut Wires, turns: u64, answer: &mut Answer) {
     let mut idle = Sleeper { slept: 0 };
@@ -370,13 +395,15 @@ fn rest_and_tell(endpoint: &mut Played, wires: &mut Wires, turns: u64, answer: &
     answer.number(idle.slept);
 }
 
-/// `relay TURNS`, `relay-resting TURNS`, `attend TURNS`: frames pass between the wires through an
+/// `relay TURNS`, `relay-resting TURNS`, `attend TURNS`, `serve-clients TURNS`: frames pass between the wires through an
 /// endpoint; `None` where the words say no such act.
 pub fn pass_frames(
     endpoint: &mut Played,
     words: Words<'_>,
     wires: &mut Wires,
     orders: &mut Orders,
+    talks: &mut Talks,
+    alloc: Global,
     answer: &mut Answer,
 ) -> Option<()> {
     let mut words = words;
@@ -386,6 +413,7 @@ pub fn pass_frames(
         "relay" => tell_relayed(relayed(endpoint, wires, turns), answer),
         "relay-resting" => rest_and_tell(endpoint, wires, turns, answer),
         "attend" => tell_relayed(attended(endpoint, wires, turns, orders), answer),
+        "serve-clients" => tell_relayed(served(endpoint, wires, turns, talks, alloc), answer),
         _ => return None,
     }
     Some(())

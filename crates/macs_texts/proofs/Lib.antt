@@ -1,2 +1,2 @@
-mod Shown
+pub mod Shown
 mod CounterWords

@@ -19,6 +19,7 @@ use Rattle.macs_rxsc.specs.declared.verdict.Verdict.TheVariants.{Delivered, Disc
 use Rattle.macs_endpoint.specs.State.{State}
 use Rattle.macs_edge.specs.declared.counts.WireCounts.{WireCounts}
 use Rattle.macs_texts.specs.Lines.{count_line, count_line_of}
+use Rattle.macs_texts.specs.Showing.{association_numbers}
 
 -- ---- words
 
@@ -107,10 +108,6 @@ wire_text side c =
     ++ count_line side (codes "failed-sends") c.failed_sends)))
 
 -- ---- what is left
-
--- the association numbers, ascending
-abbrev pub association_numbers : List ℕ
-association_numbers = 0 ∷ 1 ∷ 2 ∷ 3 ∷ []
 
 -- how many packet numbers are left under a transmit association, where there is one
 abbrev pub left_line : State → ℕ → List ℕ

@@ -1,3 +1,6 @@
 pub mod Lines
+pub mod Refusals
+pub mod Showing
 pub mod Counting
 pub mod CounterWords
+pub mod Measuring

@@ -24,7 +24,7 @@ use macs_txsc::TxFault;
 use std::alloc::{AllocError, Global};
 
 /// The faults that are counted, in the order in which they are looked for.
-const TX_FAULTS: [TxFault; 6] = [
+pub(crate) const TX_FAULTS: [TxFault; 6] = [
     TxFault::Runt,
     TxFault::TooLong,
     TxFault::ForeignSource,
@@ -34,7 +34,7 @@ const TX_FAULTS: [TxFault; 6] = [
 ];
 
 /// The verdicts that are counted.
-const RX_VERDICTS: [Verdict; 15] = [
+pub(crate) const RX_VERDICTS: [Verdict; 15] = [
     Verdict::Delivered(Kind::Ok),
     Verdict::Delivered(Kind::Delayed),
     Verdict::Delivered(Kind::Invalid),
@@ -53,7 +53,7 @@ const RX_VERDICTS: [Verdict; 15] = [
 ];
 
 /// The verdicts that are counted for a channel.
-const CHANNEL_VERDICTS: [Verdict; 7] = [
+pub(crate) const CHANNEL_VERDICTS: [Verdict; 7] = [
     Verdict::Delivered(Kind::Ok),
     Verdict::Delivered(Kind::Delayed),
     Verdict::Delivered(Kind::Invalid),
@@ -176,7 +176,7 @@ fn wire_lines(alloc: Global, side: &str, counts: &WireCounts) -> Result<String, 
 }
 
 /// How many packet numbers are left, by the next one.
-fn left_of(next: Option<u64>) -> Option<u64>
+pub(crate) fn left_of(next: Option<u64>) -> Option<u64>
     ensures { result ≡ option_map (λ n. 2 ^ 32 - n) next }
 {
     let next = next?;

@@ -4,6 +4,13 @@
 mod counting;
 pub mod laws;
 mod lines;
+mod measuring;
+mod refusals;
+mod samples;
+mod showing;
 mod words;
 
 pub use counting::counter_lines;
+pub use measuring::metric_lines;
+pub use refusals::refusal_name;
+pub use showing::show_lines;

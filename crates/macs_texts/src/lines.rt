@@ -1,17 +1,23 @@
 //! Lines of text.
 
 ghost use Rattle.std.specs.Prelude.{◌≡◌, ◌++◌, ℕ, List, IfOk, string_bytes};
-ghost use Rattle.macs_texts.specs.Lines.{count_line, count_line_of};
+ghost use Rattle.macs_texts.specs.Lines.{count_line, count_line_of, line};
 
 use std::alloc::{AllocError, Global};
+
+/// A text with its line feed.
+pub fn ended(mut text: String) -> Result<String, AllocError>
+    ensures { IfOk result (λ ended. string_bytes ended ≡ line (string_bytes text)) }
+{
+    text.push('\n')?;
+    Ok(text)
+}
 
 /// The line of a count: on which side, of what, and how many.
 pub fn count_line(alloc: Global, side: &str, what: &str, count: u64) -> Result<String, AllocError>
     ensures { IfOk result (λ text. string_bytes text ≡ count_line side.now what.now count) }
 {
-    let mut text = format!(in alloc; "{side} {what} {count}")?;
-    text.push('\n')?;
-    Ok(text)
+    ended(format!(in alloc; "{side} {what} {count}")?)
 }
 
 /// The line of a count that may be absent: no text where it is.

@@ -3,7 +3,8 @@ use Rattle.std.proofs.Common.{◌≡◌, ◌≢◌, ◌⊎◌, inl, inr, Bool, t
 use Rattle.std.specs.Prelude.{codes}
 use Rattle.clap.specs.Words.{Row, Text, first_of, subcommand_of, takes}
 use Rattle.macs_words.specs.ActionWords.{ActionWords, HelpWords}
-use Rattle.macs_words.specs.Words.{AreRefused, LacksPace, macsecd}
+use Rattle.macs_words.specs.Words.{AreRefused, HasQuestion, LacksPace, LacksQuestion, macsecd}
+use Rattle.macs_words.specs.declared.action.Question.{Question}
 
 lacking : (found : Option (Text × List Row)) → LacksPace found
     → (values : List Row) × (found ≡ Some (codes "relay", values))
@@ -12,11 +13,19 @@ lacking None lacks = absurd lacks
 lacking (Some found) lacks =
     (found.1, ap (λ (name : Text). Some (name, found.1)) lacks.0, lacks.1, lacks.2)
 
+unasked : (found : Option (Text × List Row)) → LacksQuestion found
+    → (values : List Row) × (found ≡ Some (codes "ask", values)) × ((asked : Question) → ¬ HasQuestion values asked)
+unasked None lacks = absurd lacks
+unasked (Some found) lacks = (found.1, ap (λ (name : Text). Some (name, found.1)) lacks.0, lacks.1)
+
 refused_so : (words : List Text) → AreRefused words → (takes macsecd words ≢ true)
     ⊎ ((values : List Row) × (subcommand_of macsecd words ≡ Some (codes "relay", values))
     × (first_of (codes "turns") values ≡ None) × (first_of (codes "wait") values ≡ None))
+    ⊎ ((values : List Row) × (subcommand_of macsecd words ≡ Some (codes "ask", values))
+    × ((asked : Question) → ¬ HasQuestion values asked))
 refused_so words (inl other) = inl other
-refused_so words (inr lacks) = inr (lacking (subcommand_of macsecd words) lacks)
+refused_so words (inr (inl lacks)) = inr (inl (lacking (subcommand_of macsecd words) lacks))
+refused_so words (inr (inr lacks)) = inr (inr (unasked (subcommand_of macsecd words) lacks))
 
 pub action-words : ActionWords
 action-words = record {
@@ -25,9 +34,20 @@ action-words = record {
   format = λ name values disk sci tx rx block is_over is. (is.0, is.1, is.2, is.3, is.4, sym is.5, is.6);
   apply = λ name values disk file is. is;
   show = λ name values disk is. is;
-  protect = λ name values disk input output is. is;
-  validate = λ name values disk input output is. is;
-  relay = λ name values disk controlled common pace is. is;
+  protect = λ name values disk input output is_all is. is;
+  validate = λ name values disk input output is_all is. is;
+  relay = λ name values disk controlled common running is.
+      (is.0, is.1, is.2, is.3, is.4, is.5, is.6, is.7, sym is.8, sym is.9);
+  buffer = λ values octets is. (is.0, is.1.0, is.1.1);
+  no_buffer = λ values is. is;
+  ask = λ name values path asked is. is;
+  shown = λ values is. is;
+  counted = λ values is. is;
+  stopped = λ values is. is;
+  applied = λ values file is. is;
+  key = λ name values is_long is. is;
+  inspect = λ name values input is. is;
+  check = λ name values file is. is;
   number = λ values name n is. is;
   busy = λ values turns is. is;
   waiting = λ values limit turns is. (is.0, is.1.0, is.1.1, is.2);

@@ -2,8 +2,8 @@
 use Rattle.std.proofs.Common.{◌≡◌, ◌<◌, ◌^◌, ◌∙◌, ℕ, List, Option, Some, None, IfSome, codes, sym}
 use Rattle.std.specs.Prelude.{IsSome}
 use Rattle.clap.specs.Words.{Row, Text, first_of}
-use Rattle.macs_words.specs.Waits.{IsWaitLimit}
-use Rattle.macs_words.specs.Words.{FitsPace, HasNumber, HasPace, MayHaveNumber}
+use Rattle.macs_words.specs.Waits.{IsRoom, IsWaitLimit}
+use Rattle.macs_words.specs.Words.{FitsPace, HasNumber, HasPace, MayHaveNumber, MayHaveRoom}
 use Rattle.macs_words.specs.declared.pace.Milliseconds.{Milliseconds}
 use Rattle.macs_words.specs.declared.pace.Pace.{Pace}
 use Rattle.macs_words.specs.declared.pace.Pace.TheVariants.{Busy, Waiting}
@@ -28,3 +28,10 @@ pub wait-unread : (rows : List Row) (text : Text) (read : Option Milliseconds) �
     → (pace : Pace) → HasPace rows pace → FitsPace pace → ⊥
 wait-unread rows text read there found is (Busy turns) has fits = let e = sym there ∙ has.1 in cc
 wait-unread rows text read there found is (Waiting limit turns) has fits = let some = found limit.0 has.0 has.1 in cc
+
+-- the octets of a buffer, where they are given
+pub room-unread : (rows : List Row) (name text : Text) (read : Option ℕ) → first_of name rows ≡ Some text
+    → ((n : ℕ) → HasNumber rows name n → IsRoom n → IsSome read) → read ≡ None
+    → (room : Option ℕ) → MayHaveRoom rows name room → ⊥
+room-unread rows name text read there found is None has = let e = sym there ∙ has in cc
+room-unread rows name text read there found is (Some n) has = let some = found n has.0 has.1 in cc

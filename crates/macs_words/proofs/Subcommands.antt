@@ -1,5 +1,5 @@
 -- The subcommands of the program: how their words are built, and what each of them is given.
-use Rattle.std.proofs.Common.{◌≡◌, ◌∙◌, ◌↔◌, ◌⊎◌, ◌<◌, ◌^◌, ◌-◌, inl, inr, ℕ, Bool, true, false, ◌&&◌, ◌||◌, List, [], ◌∷◌, Option, Some, None, codes, refl, ap, ap₂, arith, option_map, if◌then◌else◌}
+use Rattle.std.proofs.Common.{◌≡◌, ◌∙◌, ◌↔◌, ◌⊎◌, ◌<◌, ◌^◌, ◌-◌, inl, inr, ℕ, Bool, true, false, ◌&&◌, ◌||◌, List, [], ◌∷◌, Option, Some, None, codes, refl, ap, ap₂, arith, option_map, sym, if◌then◌else◌}
 use Rattle.std.specs.Prelude.{find, slice_index, unwrap_or}
 use Rattle.std.specs.List.{AllByRecursion, slice_index_or}
 use Rattle.std.specs.Option.{option_map_or}
@@ -23,13 +23,16 @@ use Rattle.clap.specs.declared.error.kind.ErrorKind.TheVariants.{OutOfMemory}
 use Rattle.clap.proofs.OnLiterals.{clap_on_literals}
 use Rattle.clap.proofs.ValueTestLemmas.{accepts-Accepts}
 use Rattle.macs_words.specs.declared.action.Action.{Action}
-use Rattle.macs_words.specs.declared.action.Action.TheVariants.{Open, Format, Apply, Show, Protect, Validate, Relay}
+use Rattle.macs_words.specs.declared.action.Action.TheVariants.{Open, Format, Apply, Show, Protect, Validate, Relay, Ask, Key, Inspect, Check}
+use Rattle.macs_words.specs.declared.action.Question.{Question}
+use Rattle.macs_words.specs.declared.action.Question.TheVariants as question
 use Rattle.macs_words.specs.declared.pace.Pace.{Pace}
 use Rattle.macs_words.specs.declared.pace.Pace.TheVariants.{Busy, Waiting}
 use Rattle.macs_words.specs.declared.action.UsageFault.{UsageFault}
 use Rattle.macs_words.specs.declared.action.UsageFault.TheVariants.{Usage, Memory}
-use Rattle.macs_words.specs.Words.{FitsNumbers, FitsPace, HasNumber, HasPace, IsClapCommand, IsFaultOf, IsFlagged, LacksPace, Names}
-use Rattle.macs_words.specs.Words.{bare_app, count_rule, flag_rule, macsecd, number_rule, option_rule, value_rule, wait_rule}
+use Rattle.macs_words.specs.Waits.{IsRoom}
+use Rattle.macs_words.specs.Words.{FitsNumbers, FitsPace, HasNumber, HasPace, HasQuestion, IsClapCommand, IsFaultOf, IsFlagged, MayHaveRoom, Names, NamesNothing}
+use Rattle.macs_words.specs.Words.{bare_app, count_rule, flag_rule, last_rule, macsecd, number_rule, option_rule, room_rule, value_rule, wait_rule}
 use Rattle.macs_words.proofs.Given.{AreValueRules, IsValueRule, given, passes_where_given}
 use Rattle.macs_words.proofs.Taken.{is_bare_app, taken}
 
@@ -77,22 +80,46 @@ blocks rows Open named fits = cc
 blocks rows (Format disk sci tx_block rx_block block is_over) named fits = (tx_block, rx_block, named.3, fits.0, named.4, fits.1)
 blocks rows (Apply disk file) named fits = absurd (omega (arith, ap (λ (t : Text). slice_index t 0) named.0))
 blocks rows (Show disk) named fits = absurd (omega (arith, ap (λ (t : Text). slice_index t 0) named.0))
-blocks rows (Protect disk input output) named fits = absurd (omega (arith, ap (λ (t : Text). slice_index t 0) named.0))
-blocks rows (Validate disk input output) named fits = absurd (omega (arith, ap (λ (t : Text). slice_index t 0) named.0))
-blocks rows (Relay disk controlled common pace) named fits = absurd (omega (arith, ap (λ (t : Text). slice_index t 0) named.0))
+blocks rows (Protect disk input output is_all) named fits = absurd (omega (arith, ap (λ (t : Text). slice_index t 0) named.0))
+blocks rows (Validate disk input output is_all) named fits = absurd (omega (arith, ap (λ (t : Text). slice_index t 0) named.0))
+blocks rows (Relay disk controlled common running) named fits = absurd (omega (arith, ap (λ (t : Text). slice_index t 0) named.0))
+blocks rows (Ask path asked) named fits = absurd (omega (arith, ap (λ (t : Text). slice_index t 0) named.0))
+blocks rows (Key is_long) named fits = absurd (omega (arith, ap (λ (t : Text). slice_index t 0) named.0))
+blocks rows (Inspect input) named fits = absurd (omega (arith, ap (λ (t : Text). slice_index t 0) named.0))
+blocks rows (Check file) named fits = absurd (omega (arith, ap (λ (t : Text). slice_index t 0) named.0))
 
 -- ---- what `relay` is given
 
--- how it takes its turns is there
+-- how it takes its turns is there, and the buffer
 pub pace_of : (rows : List Row) (action : Action) → Names (Some (codes "relay", rows)) action → FitsNumbers action
-    → (pace : Pace) × HasPace rows pace × FitsPace pace
+    → (pace : Pace) × (room : Option ℕ) × HasPace rows pace × FitsPace pace × MayHaveRoom rows (codes "buffer") room
 pace_of rows Open named fits = cc
 pace_of rows (Format disk sci tx_block rx_block block is_over) named fits = absurd (omega (arith, ap (λ (t : Text). slice_index t 0) named.0))
 pace_of rows (Apply disk file) named fits = absurd (omega (arith, ap (λ (t : Text). slice_index t 0) named.0))
 pace_of rows (Show disk) named fits = absurd (omega (arith, ap (λ (t : Text). slice_index t 0) named.0))
-pace_of rows (Protect disk input output) named fits = absurd (omega (arith, ap (λ (t : Text). slice_index t 0) named.0))
-pace_of rows (Validate disk input output) named fits = absurd (omega (arith, ap (λ (t : Text). slice_index t 0) named.0))
-pace_of rows (Relay disk controlled common pace) named fits = (pace, named.6, fits)
+pace_of rows (Protect disk input output is_all) named fits = absurd (omega (arith, ap (λ (t : Text). slice_index t 0) named.0))
+pace_of rows (Validate disk input output is_all) named fits = absurd (omega (arith, ap (λ (t : Text). slice_index t 0) named.0))
+pace_of rows (Relay disk controlled common running) named fits = (running.pace, running.buffer, named.6, fits, named.7)
+pace_of rows (Ask path asked) named fits = absurd (omega (arith, ap (λ (t : Text). slice_index t 0) named.0))
+pace_of rows (Key is_long) named fits = absurd (omega (arith, ap (λ (t : Text). slice_index t 0) named.0))
+pace_of rows (Inspect input) named fits = absurd (omega (arith, ap (λ (t : Text). slice_index t 0) named.0))
+pace_of rows (Check file) named fits = absurd (omega (arith, ap (λ (t : Text). slice_index t 0) named.0))
+
+-- ---- what `ask` is given
+
+-- its question is there
+pub question_of : (rows : List Row) (action : Action) → Names (Some (codes "ask", rows)) action → (asked : Question) × HasQuestion rows asked
+question_of rows Open named = cc
+question_of rows (Format disk sci tx_block rx_block block is_over) named = absurd (omega (arith, ap (λ (t : Text). slice_index t 0) named.0))
+question_of rows (Apply disk file) named = absurd (omega (arith, ap (λ (t : Text). slice_index t 1) named.0))
+question_of rows (Show disk) named = absurd (omega (arith, ap (λ (t : Text). slice_index t 0) named.0))
+question_of rows (Protect disk input output is_all) named = absurd (omega (arith, ap (λ (t : Text). slice_index t 0) named.0))
+question_of rows (Validate disk input output is_all) named = absurd (omega (arith, ap (λ (t : Text). slice_index t 0) named.0))
+question_of rows (Relay disk controlled common running) named = absurd (omega (arith, ap (λ (t : Text). slice_index t 0) named.0))
+question_of rows (Ask path asked) named = (asked, named.2)
+question_of rows (Key is_long) named = absurd (omega (arith, ap (λ (t : Text). slice_index t 0) named.0))
+question_of rows (Inspect input) named = absurd (omega (arith, ap (λ (t : Text). slice_index t 0) named.0))
+question_of rows (Check file) named = absurd (omega (arith, ap (λ (t : Text). slice_index t 0) named.0))
 
 -- ---- what each subcommand is given
 
@@ -108,9 +135,9 @@ texts-back (Some text) = refl
 abbrev shape_at : ℕ → Shape
 shape_at i = slice_index_or (built macsecd).subs i (built macsecd).top
 
--- the subcommand with its values names an action, or it is a relay of which neither the turns nor a wait is given
+-- the subcommand with its values names an action, or it is one that names none
 abbrev pub IsRead : Option (Text × List Row) → Type 0
-IsRead found = LacksPace found ⊎ ((action : Action) × Names found action × FitsNumbers action)
+IsRead found = NamesNothing found ⊎ ((action : Action) × Names found action × FitsNumbers action)
 
 -- where the subcommand takes the words, it is read
 abbrev IsNamed : Shape → Type 0
@@ -127,6 +154,12 @@ count-is name = record { action = inl refl; missing = inl refl; defaults = inl r
 
 wait-is : (name : Text) → IsValueRule (filled (wait_rule name))
 wait-is name = record { action = inl refl; missing = inl refl; defaults = inl refl; no_short = λ x. refl }
+
+room-is : (name : Text) → IsValueRule (filled (room_rule name))
+room-is name = record { action = inl refl; missing = inl refl; defaults = inl refl; no_short = λ x. refl }
+
+last-is : (place : ℕ) (name : Text) → IsValueRule (with_index place (filled (last_rule name)))
+last-is place name = record { action = inl refl; missing = inl refl; defaults = inl refl; no_short = λ x. refl }
 
 option-is : (name : Text) → IsValueRule (filled (option_rule name))
 option-is name = record { action = inl refl; missing = inl refl; defaults = inl refl; no_short = λ x. refl }
@@ -159,6 +192,9 @@ count-read name text passes = accepts-Accepts false (vp.Unsigned 0 (2 ^ 64 - 1))
 
 wait-read : (name : Text) (text : Text) → value_passes (filled (wait_rule name)) text ≡ true → IsUnsignedIn 1 60000 text
 wait-read name text passes = accepts-Accepts false (vp.Unsigned 1 60000) text passes
+
+room-read : (name : Text) (text : Text) → value_passes (filled (room_rule name)) text ≡ true → IsUnsignedIn 1 1073741823 text
+room-read name text passes = accepts-Accepts false (vp.Unsigned 1 1073741823) text passes
 
 open-named : IsNamed (shape_at 0)
 open-named words passes = inr (Open, refl, tt)
@@ -228,25 +264,27 @@ protect-named : IsNamed (shape_at 4)
 unfolding clap_on_literals
 protect-named words passes =
     let rules : AreValueRules (shape_at 4).rules = record {
-      each = (value-is 1 (codes "DISK"), (value-is 2 (codes "INPUT"), (value-is 3 (codes "OUTPUT"), tt)));
-      own = (refl, (refl, (refl, tt)));
+      each = (value-is 1 (codes "DISK"), (value-is 2 (codes "INPUT"), (value-is 3 (codes "OUTPUT"), (flag-is (codes "all"), tt))));
+      own = (refl, (refl, (refl, (refl, tt))));
     } in
     let disk = given (shape_at 4) words (with_index 1 (filled (value_rule (codes "DISK")))) rules refl passes refl refl in
     let input = given (shape_at 4) words (with_index 2 (filled (value_rule (codes "INPUT")))) rules refl passes refl refl in
     let output = given (shape_at 4) words (with_index 3 (filled (value_rule (codes "OUTPUT")))) rules refl passes refl refl in
-    inr (Protect (text_of disk.0) (text_of input.0) (text_of output.0), (refl, disk.1, input.1, output.1), tt)
+    let rows = rows_after (shape_at 4).rules [] words in
+    inr (Protect (text_of disk.0) (text_of input.0) (text_of output.0) (is_flagged rows (codes "all")), (refl, disk.1, input.1, output.1, flagged rows (codes "all")), tt)
 
 validate-named : IsNamed (shape_at 5)
 unfolding clap_on_literals
 validate-named words passes =
     let rules : AreValueRules (shape_at 5).rules = record {
-      each = (value-is 1 (codes "DISK"), (value-is 2 (codes "INPUT"), (value-is 3 (codes "OUTPUT"), tt)));
-      own = (refl, (refl, (refl, tt)));
+      each = (value-is 1 (codes "DISK"), (value-is 2 (codes "INPUT"), (value-is 3 (codes "OUTPUT"), (flag-is (codes "all"), tt))));
+      own = (refl, (refl, (refl, (refl, tt))));
     } in
     let disk = given (shape_at 5) words (with_index 1 (filled (value_rule (codes "DISK")))) rules refl passes refl refl in
     let input = given (shape_at 5) words (with_index 2 (filled (value_rule (codes "INPUT")))) rules refl passes refl refl in
     let output = given (shape_at 5) words (with_index 3 (filled (value_rule (codes "OUTPUT")))) rules refl passes refl refl in
-    inr (Validate (text_of disk.0) (text_of input.0) (text_of output.0), (refl, disk.1, input.1, output.1), tt)
+    let rows = rows_after (shape_at 5).rules [] words in
+    inr (Validate (text_of disk.0) (text_of input.0) (text_of output.0) (is_flagged rows (codes "all")), (refl, disk.1, input.1, output.1, flagged rows (codes "all")), tt)
 
 -- where they are given, turns and a wait are numbers: so they are a pace, or neither is given
 paced : (rows : List Row) → ((text : Text) → first_of (codes "turns") rows ≡ Some text → IsUnsignedIn 0 (2 ^ 64 - 1) text)
@@ -279,6 +317,19 @@ paced rows count limit = go (first_of (codes "turns") rows) (first_of (codes "wa
           in_count.1,
         )
 
+-- a buffer is a number, where it is given
+roomed : (rows : List Row) (name : Text) → ((text : Text) → first_of name rows ≡ Some text → IsUnsignedIn 1 1073741823 text)
+    → (room : Option ℕ) × MayHaveRoom rows name room
+roomed rows name read = go (first_of name rows) refl
+  where
+    go : (found : Option Text) → first_of name rows ≡ found → (room : Option ℕ) × MayHaveRoom rows name room
+    go None none = (None, none)
+    go (Some text) there =
+        let in_range = read text there in
+        let octets = digits_value 10 (without_leading_plus text) in
+        let above : 0 < octets = omega (arith, in_range.2) in
+        (Some octets, ((text, there, in_range.0, refl), (above, in_range.3)))
+
 relay-named : IsNamed (shape_at 6)
 unfolding clap_on_literals
 relay-named words passes =
@@ -289,11 +340,23 @@ relay-named words passes =
           value-is 2 (codes "OWN1"),
           (
             value-is 3 (codes "PEER1"),
-            (value-is 4 (codes "OWN2"), (value-is 5 (codes "PEER2"), (count-is (codes "turns"), (wait-is (codes "wait"), tt)))),
+            (
+              value-is 4 (codes "OWN2"),
+              (
+                value-is 5 (codes "PEER2"),
+                (
+                  count-is (codes "turns"),
+                  (
+                    wait-is (codes "wait"),
+                    (room-is (codes "buffer"), (option-is (codes "control"), (option-is (codes "metrics"), tt))),
+                  ),
+                ),
+              ),
+            ),
           ),
         ),
       );
-      own = (refl, (refl, (refl, (refl, (refl, (refl, (refl, tt)))))));
+      own = (refl, (refl, (refl, (refl, (refl, (refl, (refl, (refl, (refl, (refl, tt))))))))));
     } in
     let disk = given (shape_at 6) words (with_index 1 (filled (value_rule (codes "DISK")))) rules refl passes refl refl in
     let own_1 = given (shape_at 6) words (with_index 2 (filled (value_rule (codes "OWN1")))) rules refl passes refl refl in
@@ -305,15 +368,121 @@ relay-named words passes =
     λ text there. count-read (codes "turns") text (passes_where_given (shape_at 6) words (filled (count_rule (codes "turns"))) text rules passes refl there) in
     let limit : (text : Text) → first_of (codes "wait") rows ≡ Some text → IsUnsignedIn 1 60000 text =
     λ text there. wait-read (codes "wait") text (passes_where_given (shape_at 6) words (filled (wait_rule (codes "wait"))) text rules passes refl there) in
+    let octets : (text : Text) → first_of (codes "buffer") rows ≡ Some text → IsUnsignedIn 1 1073741823 text =
+    λ text there. room-read (codes "buffer") text (passes_where_given (shape_at 6) words (filled (room_rule (codes "buffer"))) text rules passes refl there) in
+    let room = roomed rows (codes "buffer") octets in
     elim (paced rows count limit) [
-      | inl none ↦ inl (refl, none.0, none.1)
+      | inl none ↦ inl (inl (refl, none.0, none.1))
       | inr (pace, has, fits) ↦ inr (
         Relay (text_of disk.0) (record { own = text_of own_1.0; peer = text_of peer_1.0 })
-            (record { own = text_of own_2.0; peer = text_of peer_2.0 }) pace,
-        (refl, disk.1, own_1.1, peer_1.1, own_2.1, peer_2.1, has),
+            (record { own = text_of own_2.0; peer = text_of peer_2.0 }) (record {
+              pace = pace;
+              buffer = room.0;
+              control = option_map text_of (first_of (codes "control") rows);
+              metrics = option_map text_of (first_of (codes "metrics") rows);
+            }),
+        (
+          refl,
+          disk.1,
+          own_1.1,
+          peer_1.1,
+          own_2.1,
+          peer_2.1,
+          has,
+          room.1,
+          texts-back (first_of (codes "control") rows),
+          texts-back (first_of (codes "metrics") rows),
+        ),
         fits,
       )
     ]
+
+-- whether the words of `ask` ask something
+asks : (rows : List Row) (word : Text) → first_of (codes "WORD") rows ≡ Some word
+    → ((asked : Question) × HasQuestion rows asked) ⊎ ((asked : Question) → ¬ HasQuestion rows asked)
+asks rows word there = go (first_of (codes "FILE") rows) refl
+  where
+    same : (text : Text) → first_of (codes "WORD") rows ≡ Some text → word ≡ text
+    same text has = ap (λ (o : Option Text). unwrap_or o word) (sym there ∙ has)
+
+    is : (text : Text) → bytes_eq word text ≡ true → first_of (codes "WORD") rows ≡ Some text
+    is text equal = there ∙ ap (λ (t : Text). Some t) ((bytes_eq-Decides word text).0 equal)
+
+    differs : (text : Text) → bytes_eq word text ≡ false → first_of (codes "WORD") rows ≡ Some text → ⊥
+    differs text other has = let e = (bytes_eq-Decides word text).1 (same text has) in cc
+
+    none-with : (file : Text) → first_of (codes "FILE") rows ≡ Some file → bytes_eq word (codes "apply") ≡ false
+        → (asked : Question) → HasQuestion rows asked → ⊥
+    none-with file given other question.Show has = let e = sym given ∙ has.1 in cc
+    none-with file given other question.Counters has = let e = sym given ∙ has.1 in cc
+    none-with file given other question.Stop has = let e = sym given ∙ has.1 in cc
+    none-with file given other (question.Apply name) has = differs (codes "apply") other has.0
+
+    none-alone : first_of (codes "FILE") rows ≡ None → bytes_eq word (codes "show") ≡ false → bytes_eq word (codes "counters") ≡ false
+        → bytes_eq word (codes "stop") ≡ false → (asked : Question) → HasQuestion rows asked → ⊥
+    none-alone none first second third question.Show has = differs (codes "show") first has.0
+    none-alone none first second third question.Counters has = differs (codes "counters") second has.0
+    none-alone none first second third question.Stop has = differs (codes "stop") third has.0
+    none-alone none first second third (question.Apply name) has = let e = sym none ∙ has.1 in cc
+
+    with-file : (file : Text) → first_of (codes "FILE") rows ≡ Some file → (applies : Bool) → bytes_eq word (codes "apply") ≡ applies
+        → ((asked : Question) × HasQuestion rows asked) ⊎ ((asked : Question) → ¬ HasQuestion rows asked)
+    with-file file given true equal = inl (question.Apply (text_of file), (is (codes "apply") equal, given))
+    with-file file given false other = inr (none-with file given other)
+
+    alone : first_of (codes "FILE") rows ≡ None → (shows counts stops : Bool) → bytes_eq word (codes "show") ≡ shows
+        → bytes_eq word (codes "counters") ≡ counts → bytes_eq word (codes "stop") ≡ stops
+        → ((asked : Question) × HasQuestion rows asked) ⊎ ((asked : Question) → ¬ HasQuestion rows asked)
+    alone none true counts stops equal second third = inl (question.Show, (is (codes "show") equal, none))
+    alone none false true stops first equal third = inl (question.Counters, (is (codes "counters") equal, none))
+    alone none false false true first second equal = inl (question.Stop, (is (codes "stop") equal, none))
+    alone none false false false first second third = inr (none-alone none first second third)
+
+    go : (found : Option Text) → first_of (codes "FILE") rows ≡ found
+        → ((asked : Question) × HasQuestion rows asked) ⊎ ((asked : Question) → ¬ HasQuestion rows asked)
+    go None none = alone none (bytes_eq word (codes "show")) (bytes_eq word (codes "counters")) (bytes_eq word (codes "stop")) refl refl refl
+    go (Some file) given = with-file file given (bytes_eq word (codes "apply")) refl
+
+ask-named : IsNamed (shape_at 7)
+unfolding clap_on_literals
+ask-named words passes =
+    let rules : AreValueRules (shape_at 7).rules = record {
+      each = (value-is 1 (codes "PATH"), (value-is 2 (codes "WORD"), (last-is 3 (codes "FILE"), tt)));
+      own = (refl, (refl, (refl, tt)));
+    } in
+    let path = given (shape_at 7) words (with_index 1 (filled (value_rule (codes "PATH")))) rules refl passes refl refl in
+    let word = given (shape_at 7) words (with_index 2 (filled (value_rule (codes "WORD")))) rules refl passes refl refl in
+    let rows = rows_after (shape_at 7).rules [] words in
+    elim (asks rows word.0 word.1) [
+      | inl (asked, has) ↦ inr (Ask (text_of path.0) asked, (refl, path.1, has), tt)
+      | inr none ↦ inl (inr (refl, none))
+    ]
+
+key-named : IsNamed (shape_at 8)
+unfolding clap_on_literals
+key-named words passes =
+    let rows = rows_after (shape_at 8).rules [] words in
+    inr (Key (is_flagged rows (codes "long")), (refl, flagged rows (codes "long")), tt)
+
+inspect-named : IsNamed (shape_at 9)
+unfolding clap_on_literals
+inspect-named words passes =
+    let rules : AreValueRules (shape_at 9).rules = record {
+      each = (value-is 1 (codes "INPUT"), tt);
+      own = (refl, tt);
+    } in
+    let input = given (shape_at 9) words (with_index 1 (filled (value_rule (codes "INPUT")))) rules refl passes refl refl in
+    inr (Inspect (text_of input.0), (refl, input.1), tt)
+
+check-named : IsNamed (shape_at 10)
+unfolding clap_on_literals
+check-named words passes =
+    let rules : AreValueRules (shape_at 10).rules = record {
+      each = (value-is 1 (codes "FILE"), tt);
+      own = (refl, tt);
+    } in
+    let file = given (shape_at 10) words (with_index 1 (filled (value_rule (codes "FILE")))) rules refl passes refl refl in
+    inr (Check (text_of file.0), (refl, file.1), tt)
 
 -- ---- the words of a whole command line
 
@@ -342,8 +511,12 @@ first-of-three true true d is = refl
 first-of-three true false d is = cc
 first-of-three false b d is = cc
 
+-- those that need no endpoint
+lone-named : AllByRecursion IsNamed (shape_at 8 ∷ shape_at 9 ∷ shape_at 10 ∷ [])
+lone-named = (key-named, (inspect-named, (check-named, tt)))
+
 all-named : AllByRecursion IsNamed (built macsecd).subs
-all-named = (open-named, (format-named, (apply-named, (show-named, (protect-named, (validate-named, (relay-named, tt)))))))
+all-named = (open-named, (format-named, (apply-named, (show-named, (protect-named, (validate-named, (relay-named, (ask-named, lone-named))))))))
 
 -- each command line that clap takes is read
 pub named : (words : List Text) → takes macsecd words ≡ true → IsRead (subcommand_of macsecd words)

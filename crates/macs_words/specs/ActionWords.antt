@@ -3,9 +3,12 @@ use Rattle.std.specs.Prelude.{◌≡◌, ◌≢◌, ◌≤◌, ◌↔◌, ◌⊎
 use Rattle.std.specs.Str.Parse.{IsNumeral, digits_value, without_leading_plus}
 use Rattle.std.specs.Borrow.{Bor}
 use Rattle.clap.specs.Words.{Row, Text, first_of, subcommand_of, takes}
-use Rattle.macs_words.specs.Words.{AreRefused, AsksFor, HasNumber, HasPace, Names, macsecd, name_of}
+use Rattle.macs_words.specs.Words.{AreRefused, AsksFor, HasNumber, HasPace, HasQuestion, MayHaveRoom, Names, macsecd, name_of}
 use Rattle.macs_words.specs.declared.action.Action.{Action}
-use Rattle.macs_words.specs.declared.action.Action.TheVariants.{Open, Format, Apply, Show, Protect, Validate, Relay}
+use Rattle.macs_words.specs.declared.action.Action.TheVariants.{Open, Format, Apply, Show, Protect, Validate, Relay, Ask}
+use Rattle.macs_words.specs.declared.action.Action.TheVariants.{Key, Inspect, Check}
+use Rattle.macs_words.specs.declared.action.Question.{Question}
+use Rattle.macs_words.specs.declared.action.Question.TheVariants as question
 use Rattle.macs_words.specs.declared.action.WireEnds.{WireEnds}
 use Rattle.macs_words.specs.declared.help.Subcommand.{Subcommand}
 use Rattle.macs_words.specs.declared.help.Subcommand.TheVariants as subcommand
@@ -13,17 +16,19 @@ use Rattle.macs_words.specs.declared.help.Topic.TheVariants.{Help, HelpOn, Versi
 use Rattle.macs_words.specs.declared.pace.Milliseconds.{Milliseconds}
 use Rattle.macs_words.specs.declared.pace.Pace.{Pace}
 use Rattle.macs_words.specs.declared.pace.Pace.TheVariants.{Busy, Waiting}
+use Rattle.macs_words.specs.declared.pace.Running.{Running}
 
 -- Words without a subcommand, and `open`, name the opening of a frame. Each other subcommand names its own action, with
 -- the texts that stand at its values: `format` writes over a file exactly where `--over` is used, and takes a block of
 -- the device exactly where `--block` is. A number is its digits, in decimal. A relay that is given turns alone is busy;
--- one that is given a wait, any of 1 to 60,000 ms, waits so long at most. Words that the program does not take are
--- refused, and so is a relay without turns and without a wait; no others.
+-- one that is given a wait, any of 1 to 60,000 ms, waits so long at most. A running relay is asked one of four words,
+-- and of these `apply` alone with a file. An option without a value is on exactly where it is used. Words that the
+-- program does not take are refused, and so are a relay without turns and without a wait, and an `ask` of anything else;
+-- no others.
 pub record ActionWords : Type 0 where
   pub none : (action : Action) → Names None action → action ≡ Open
   pub opening : (name : Text) (values : List Row) → Names (Some (name, values)) Open → name ≡ codes "open"
-  pub format : (name : Text) (values : List Row) (disk sci : Bor Text) (tx rx : ℕ) (block : Option (Bor Text))
-      (is_over : Bool)
+  pub format : (name : Text) (values : List Row) (disk sci : Bor Text) (tx rx : ℕ) (block : Option (Bor Text)) (is_over : Bool)
       → Names (Some (name, values)) (Format disk sci tx rx block is_over) → (name ≡ codes "format")
       × (first_of (codes "DISK") values ≡ Some disk.now) × (first_of (codes "SCI") values ≡ Some sci.now)
       × HasNumber values (codes "TX") tx × HasNumber values (codes "RX") rx
@@ -34,22 +39,45 @@ pub record ActionWords : Type 0 where
       × (first_of (codes "FILE") values ≡ Some file.now)
   pub show : (name : Text) (values : List Row) (disk : Bor Text) → Names (Some (name, values)) (Show disk)
       → (name ≡ codes "show") × (first_of (codes "DISK") values ≡ Some disk.now)
-  pub protect : (name : Text) (values : List Row) (disk input output : Bor Text)
-      → Names (Some (name, values)) (Protect disk input output)
+  pub protect : (name : Text) (values : List Row) (disk input output : Bor Text) (is_all : Bool)
+      → Names (Some (name, values)) (Protect disk input output is_all)
       → (name ≡ codes "protect") × (first_of (codes "DISK") values ≡ Some disk.now)
       × (first_of (codes "INPUT") values ≡ Some input.now) × (first_of (codes "OUTPUT") values ≡ Some output.now)
-  pub validate : (name : Text) (values : List Row) (disk input output : Bor Text)
-      → Names (Some (name, values)) (Validate disk input output)
+      × ((is_all ≡ true) ↔ (first_of (codes "all") values ≡ Some (codes "true")))
+  pub validate : (name : Text) (values : List Row) (disk input output : Bor Text) (is_all : Bool)
+      → Names (Some (name, values)) (Validate disk input output is_all)
       → (name ≡ codes "validate") × (first_of (codes "DISK") values ≡ Some disk.now)
       × (first_of (codes "INPUT") values ≡ Some input.now) × (first_of (codes "OUTPUT") values ≡ Some output.now)
-  pub relay : (name : Text) (values : List Row) (disk : Bor Text) (controlled common : WireEnds) (pace : Pace)
-      → Names (Some (name, values)) (Relay disk controlled common pace)
+      × ((is_all ≡ true) ↔ (first_of (codes "all") values ≡ Some (codes "true")))
+  pub relay : (name : Text) (values : List Row) (disk : Bor Text) (controlled common : WireEnds) (running : Running)
+      → Names (Some (name, values)) (Relay disk controlled common running)
       → (name ≡ codes "relay") × (first_of (codes "DISK") values ≡ Some disk.now)
       × (first_of (codes "OWN1") values ≡ Some controlled.own.now)
       × (first_of (codes "PEER1") values ≡ Some controlled.peer.now)
-      × (first_of (codes "OWN2") values ≡ Some common.own.now)
-      × (first_of (codes "PEER2") values ≡ Some common.peer.now)
-      × HasPace values pace
+      × (first_of (codes "OWN2") values ≡ Some common.own.now) × (first_of (codes "PEER2") values ≡ Some common.peer.now)
+      × HasPace values running.pace × MayHaveRoom values (codes "buffer") running.buffer
+      × (first_of (codes "control") values ≡ option_map (λ t. t.now) running.control)
+      × (first_of (codes "metrics") values ≡ option_map (λ t. t.now) running.metrics)
+  pub buffer : (values : List Row) (octets : ℕ) → MayHaveRoom values (codes "buffer") (Some octets)
+      → HasNumber values (codes "buffer") octets × (1 ≤ octets) × (octets ≤ 1073741823)
+  pub no_buffer : (values : List Row) → MayHaveRoom values (codes "buffer") None → first_of (codes "buffer") values ≡ None
+  pub ask : (name : Text) (values : List Row) (path : Bor Text) (asked : Question)
+      → Names (Some (name, values)) (Ask path asked)
+      → (name ≡ codes "ask") × (first_of (codes "PATH") values ≡ Some path.now) × HasQuestion values asked
+  pub shown : (values : List Row) → HasQuestion values question.Show
+      → (first_of (codes "WORD") values ≡ Some (codes "show")) × (first_of (codes "FILE") values ≡ None)
+  pub counted : (values : List Row) → HasQuestion values question.Counters
+      → (first_of (codes "WORD") values ≡ Some (codes "counters")) × (first_of (codes "FILE") values ≡ None)
+  pub stopped : (values : List Row) → HasQuestion values question.Stop
+      → (first_of (codes "WORD") values ≡ Some (codes "stop")) × (first_of (codes "FILE") values ≡ None)
+  pub applied : (values : List Row) (file : Bor Text) → HasQuestion values (question.Apply file)
+      → (first_of (codes "WORD") values ≡ Some (codes "apply")) × (first_of (codes "FILE") values ≡ Some file.now)
+  pub key : (name : Text) (values : List Row) (is_long : Bool) → Names (Some (name, values)) (Key is_long)
+      → (name ≡ codes "key") × ((is_long ≡ true) ↔ (first_of (codes "long") values ≡ Some (codes "true")))
+  pub inspect : (name : Text) (values : List Row) (input : Bor Text) → Names (Some (name, values)) (Inspect input)
+      → (name ≡ codes "inspect") × (first_of (codes "INPUT") values ≡ Some input.now)
+  pub check : (name : Text) (values : List Row) (file : Bor Text) → Names (Some (name, values)) (Check file)
+      → (name ≡ codes "check") × (first_of (codes "FILE") values ≡ Some file.now)
   pub number : (values : List Row) (name : Text) (n : ℕ) → HasNumber values name n
       → (text : Text) × (first_of name values ≡ Some text) × IsNumeral 10 (without_leading_plus text)
       × (n ≡ digits_value 10 (without_leading_plus text))
@@ -66,15 +94,18 @@ pub record ActionWords : Type 0 where
   pub refused : (words : List Text) → AreRefused words → (takes macsecd words ≢ true)
       ⊎ ((values : List Row) × (subcommand_of macsecd words ≡ Some (codes "relay", values))
       × (first_of (codes "turns") values ≡ None) × (first_of (codes "wait") values ≡ None))
+      ⊎ ((values : List Row) × (subcommand_of macsecd words ≡ Some (codes "ask", values))
+      × ((asked : Question) → ¬ HasQuestion values asked))
 
--- `--help` and `-h` ask for help, alone, and after the name of a subcommand for help on it; `--version` alone asks
--- which program it is.
+-- `--help` and `-h` ask for help, alone, and after the name of a subcommand for help on it; `--version` alone asks which
+-- program it is.
 pub record HelpWords : Type 0 where
   pub help : (word : Text) → AsksFor (word ∷ []) Help ↔ ((word ≡ codes "--help") ⊎ (word ≡ codes "-h"))
   pub help_on : (name word : Text) (which : Subcommand) → AsksFor (name ∷ word ∷ []) (HelpOn which)
       ↔ ((name ≡ name_of which) × ((word ≡ codes "--help") ⊎ (word ≡ codes "-h")))
   pub version : (word : Text) → AsksFor (word ∷ []) Version ↔ (word ≡ codes "--version")
   pub names : map name_of (subcommand.Open ∷ subcommand.Format ∷ subcommand.Apply ∷ subcommand.Show
-      ∷ subcommand.Protect ∷ subcommand.Validate ∷ subcommand.Relay ∷ [])
+      ∷ subcommand.Protect ∷ subcommand.Validate ∷ subcommand.Relay ∷ subcommand.Ask ∷ subcommand.Key
+      ∷ subcommand.Inspect ∷ subcommand.Check ∷ [])
       ≡ codes "open" ∷ codes "format" ∷ codes "apply" ∷ codes "show" ∷ codes "protect" ∷ codes "validate"
-      ∷ codes "relay" ∷ []
+      ∷ codes "relay" ∷ codes "ask" ∷ codes "key" ∷ codes "inspect" ∷ codes "check" ∷ []

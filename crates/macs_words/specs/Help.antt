@@ -4,7 +4,7 @@ use Rattle.macs_words.specs.declared.help.Subcommand.{Subcommand}
 use Rattle.macs_words.specs.declared.help.Subcommand.TheVariants as subcommand
 use Rattle.macs_words.specs.declared.help.Topic.{Topic}
 use Rattle.macs_words.specs.declared.help.Topic.TheVariants.{Help, HelpOn, Version}
-use Rattle.macs_words.specs.declared.help_texts.TheConstants.{APPLY, FORMAT, HELP, OPEN, PROTECT, RELAY, SHOW, VALIDATE, VERSION}
+use Rattle.macs_words.specs.declared.help_texts.TheConstants.{APPLY, ASK, CHECK, FORMAT, HELP, INSPECT, KEY, OPEN, PROTECT, RELAY, SHOW, VALIDATE, VERSION}
 
 -- what is printed on a subcommand
 abbrev pub subcommand_text : Subcommand → List ℕ
@@ -15,6 +15,10 @@ subcommand_text subcommand.Show = SHOW.now
 subcommand_text subcommand.Protect = PROTECT.now
 subcommand_text subcommand.Validate = VALIDATE.now
 subcommand_text subcommand.Relay = RELAY.now
+subcommand_text subcommand.Ask = ASK.now
+subcommand_text subcommand.Key = KEY.now
+subcommand_text subcommand.Inspect = INSPECT.now
+subcommand_text subcommand.Check = CHECK.now
 
 -- what is printed for a topic, in whole lines
 abbrev pub topic_text : Topic → List ℕ

@@ -11,11 +11,13 @@ use Rattle.clap.specs.declared.builder.command.Command.TheViews.{out-Command as 
 use Rattle.clap.specs.declared.error.Error.{Error}
 use Rattle.clap.specs.declared.error.kind.ErrorKind.TheVariants.{OutOfMemory}
 use Rattle.macs_words.specs.Controls.{IsPrintable}
-use Rattle.macs_words.specs.Waits.{IsWaitLimit}
+use Rattle.macs_words.specs.Waits.{IsRoom, IsWaitLimit}
 use Rattle.macs_words.specs.declared.action.UsageFault.{UsageFault}
 use Rattle.macs_words.specs.declared.action.UsageFault.TheVariants.{Usage, Memory}
 use Rattle.macs_words.specs.declared.action.Action.{Action}
-use Rattle.macs_words.specs.declared.action.Action.TheVariants.{Open, Format, Apply, Show, Protect, Validate, Relay}
+use Rattle.macs_words.specs.declared.action.Action.TheVariants.{Open, Format, Apply, Show, Protect, Validate, Relay, Ask, Key, Inspect, Check}
+use Rattle.macs_words.specs.declared.action.Question.{Question}
+use Rattle.macs_words.specs.declared.action.Question.TheVariants as question
 use Rattle.macs_words.specs.declared.pace.Pace.{Pace}
 use Rattle.macs_words.specs.declared.pace.Pace.TheVariants.{Busy, Waiting}
 use Rattle.macs_words.specs.declared.help.Topic.{Topic}
@@ -49,6 +51,14 @@ count_rule name = record (option_rule name) { parser = Some (vp.Unsigned 0 (2 ^ 
 abbrev pub wait_rule : Text → Rule
 wait_rule name = record (option_rule name) { parser = Some (vp.Unsigned 1 60000) }
 
+-- an option of this name that need not be given: octets of a buffer, 1 to 1,073,741,823, in decimal digits
+abbrev pub room_rule : Text → Rule
+room_rule name = record (option_rule name) { parser = Some (vp.Unsigned 1 1073741823) }
+
+-- a value that may be left out
+abbrev pub last_rule : Text → Rule
+last_rule name = record (new_rule name) { action = Some Set }
+
 -- an option of this name without a value
 abbrev pub flag_rule : Text → Rule
 flag_rule name = record (new_rule name) { long = Some name; action = Some SetTrue }
@@ -70,10 +80,25 @@ first_subcommands =
 -- those that take frames through an endpoint
 abbrev pub frame_subcommands : List Shape
 frame_subcommands =
-    subcommand_with (codes "protect") (value_rule (codes "DISK") ∷ value_rule (codes "INPUT") ∷ value_rule (codes "OUTPUT") ∷ [])
-    ∷ subcommand_with (codes "validate") (value_rule (codes "DISK") ∷ value_rule (codes "INPUT") ∷ value_rule (codes "OUTPUT") ∷ [])
+    subcommand_with (codes "protect") (value_rule (codes "DISK") ∷ value_rule (codes "INPUT") ∷ value_rule (codes "OUTPUT")
+    ∷ flag_rule (codes "all") ∷ [])
+    ∷ subcommand_with (codes "validate") (value_rule (codes "DISK") ∷ value_rule (codes "INPUT") ∷ value_rule (codes "OUTPUT")
+    ∷ flag_rule (codes "all") ∷ [])
     ∷ subcommand_with (codes "relay") (value_rule (codes "DISK") ∷ value_rule (codes "OWN1") ∷ value_rule (codes "PEER1")
-    ∷ value_rule (codes "OWN2") ∷ value_rule (codes "PEER2") ∷ count_rule (codes "turns") ∷ wait_rule (codes "wait") ∷ [])
+    ∷ value_rule (codes "OWN2") ∷ value_rule (codes "PEER2") ∷ count_rule (codes "turns") ∷ wait_rule (codes "wait")
+    ∷ room_rule (codes "buffer") ∷ option_rule (codes "control") ∷ option_rule (codes "metrics") ∷ [])
+    ∷ []
+
+-- the one that asks a running relay
+abbrev pub ask_subcommand : Shape
+ask_subcommand = subcommand_with (codes "ask") (value_rule (codes "PATH") ∷ value_rule (codes "WORD") ∷ last_rule (codes "FILE") ∷ [])
+
+-- those that need no endpoint
+abbrev pub lone_subcommands : List Shape
+lone_subcommands =
+    subcommand_with (codes "key") (flag_rule (codes "long") ∷ [])
+    ∷ subcommand_with (codes "inspect") (value_rule (codes "INPUT") ∷ [])
+    ∷ subcommand_with (codes "check") (value_rule (codes "FILE") ∷ [])
     ∷ []
 
 -- the words begin after the program's name, and no flag and no subcommand of the library's asks for help or the version
@@ -89,7 +114,7 @@ bare_app = on_top (λ s. record s {
 abbrev pub macsecd : App
 macsecd = record {
   top = record bare_app.top { is_leaf = false };
-  subs = first_subcommands ++ frame_subcommands;
+  subs = first_subcommands ++ frame_subcommands ++ ask_subcommand ∷ lone_subcommands;
 }
 
 -- ---- actions
@@ -120,6 +145,23 @@ HasPace values (Busy turns) = HasNumber values (codes "turns") turns × (first_o
 HasPace values (Waiting limit turns) =
     HasNumber values (codes "wait") limit.0 × IsWaitLimit limit.0 × MayHaveNumber values (codes "turns") turns
 
+-- the value of this name is this many octets, 1 to 1,073,741,823, where it is given
+abbrev pub MayHaveRoom : List Row → Text → Option ℕ → Type 0
+MayHaveRoom values name None = first_of name values ≡ None
+MayHaveRoom values name (Some octets) = HasNumber values name octets × IsRoom octets
+
+-- the word of a question that is asked by a word alone
+abbrev pub plain_word : Question → Option Text
+plain_word question.Show = Some (codes "show")
+plain_word question.Counters = Some (codes "counters")
+plain_word question.Stop = Some (codes "stop")
+plain_word (question.Apply file) = None
+
+-- the words of `ask` ask this: a word alone, or `apply` and the file
+abbrev pub HasQuestion : List Row → Question → Type 0
+HasQuestion values (question.Apply file) = HasText values (codes "WORD") (codes "apply") × HasText values (codes "FILE") file.now
+HasQuestion values asked = (first_of (codes "WORD") values ≡ plain_word asked) × (first_of (codes "FILE") values ≡ None)
+
 -- the option without a value is used
 abbrev pub IsFlagged : List Row → Text → Bool → Type 0
 IsFlagged values name is = (is ≡ true) ↔ HasText values name (codes "true")
@@ -135,17 +177,24 @@ Names (Some found) (Format disk sci tx_block rx_block block is_over) =
 Names (Some found) (Apply disk file) =
     (found.0 ≡ codes "apply") × HasText found.1 (codes "DISK") disk.now × HasText found.1 (codes "FILE") file.now
 Names (Some found) (Show disk) = (found.0 ≡ codes "show") × HasText found.1 (codes "DISK") disk.now
-Names (Some found) (Protect disk input output) =
+Names (Some found) (Protect disk input output is_all) =
     (found.0 ≡ codes "protect") × HasText found.1 (codes "DISK") disk.now
     × HasText found.1 (codes "INPUT") input.now × HasText found.1 (codes "OUTPUT") output.now
-Names (Some found) (Validate disk input output) =
+    × IsFlagged found.1 (codes "all") is_all
+Names (Some found) (Validate disk input output is_all) =
     (found.0 ≡ codes "validate") × HasText found.1 (codes "DISK") disk.now
     × HasText found.1 (codes "INPUT") input.now × HasText found.1 (codes "OUTPUT") output.now
-Names (Some found) (Relay disk controlled common pace) =
+    × IsFlagged found.1 (codes "all") is_all
+Names (Some found) (Relay disk controlled common running) =
     (found.0 ≡ codes "relay") × HasText found.1 (codes "DISK") disk.now
     × HasText found.1 (codes "OWN1") controlled.own.now × HasText found.1 (codes "PEER1") controlled.peer.now
     × HasText found.1 (codes "OWN2") common.own.now × HasText found.1 (codes "PEER2") common.peer.now
-    × HasPace found.1 pace
+    × HasPace found.1 running.pace × MayHaveRoom found.1 (codes "buffer") running.buffer
+    × MayHaveText found.1 (codes "control") running.control × MayHaveText found.1 (codes "metrics") running.metrics
+Names (Some found) (Ask path asked) = (found.0 ≡ codes "ask") × HasText found.1 (codes "PATH") path.now × HasQuestion found.1 asked
+Names (Some found) (Key is_long) = (found.0 ≡ codes "key") × IsFlagged found.1 (codes "long") is_long
+Names (Some found) (Inspect input) = (found.0 ≡ codes "inspect") × HasText found.1 (codes "INPUT") input.now
+Names (Some found) (Check file) = (found.0 ≡ codes "check") × HasText found.1 (codes "FILE") file.now
 
 -- a relay of which neither the turns nor a wait is given: it names no action
 abbrev pub LacksPace : Option (Text × List Row) → Type 0
@@ -153,9 +202,18 @@ LacksPace None = ⊥
 LacksPace (Some found) =
     (found.0 ≡ codes "relay") × (first_of (codes "turns") found.1 ≡ None) × (first_of (codes "wait") found.1 ≡ None)
 
--- the words are none that are taken: clap refuses them, or they name a relay of which neither the turns nor a wait is given
+-- an `ask` whose words ask nothing that a relay is asked: it names no action
+abbrev pub LacksQuestion : Option (Text × List Row) → Type 0
+LacksQuestion None = ⊥
+LacksQuestion (Some found) = (found.0 ≡ codes "ask") × ((asked : Question) → ¬ HasQuestion found.1 asked)
+
+-- words that clap takes and that name no action
+abbrev pub NamesNothing : Option (Text × List Row) → Type 0
+NamesNothing found = LacksPace found ⊎ LacksQuestion found
+
+-- the words are none that are taken: clap refuses them, or they name no action
 abbrev pub AreRefused : List Text → Type 0
-AreRefused words = (takes macsecd words ≢ true) ⊎ LacksPace (subcommand_of macsecd words)
+AreRefused words = (takes macsecd words ≢ true) ⊎ NamesNothing (subcommand_of macsecd words)
 
 -- the turns have 64 bits
 abbrev pub FitsPace : Pace → Type 0
@@ -165,7 +223,7 @@ FitsPace (Waiting limit turns) = IfSome turns (λ count. count < 2 ^ 64)
 -- the numbers of the action, if it has any, have so many bits
 abbrev pub FitsNumbers : Action → Type 0
 FitsNumbers (Format disk sci tx_block rx_block block is_over) = (tx_block < 2 ^ 32) × (rx_block < 2 ^ 32)
-FitsNumbers (Relay disk controlled common pace) = FitsPace pace
+FitsNumbers (Relay disk controlled common running) = FitsPace running.pace
 FitsNumbers action = ⊤
 
 -- the command is this one, and has no global argument
@@ -202,6 +260,10 @@ name_of subcommand.Show = codes "show"
 name_of subcommand.Protect = codes "protect"
 name_of subcommand.Validate = codes "validate"
 name_of subcommand.Relay = codes "relay"
+name_of subcommand.Ask = codes "ask"
+name_of subcommand.Key = codes "key"
+name_of subcommand.Inspect = codes "inspect"
+name_of subcommand.Check = codes "check"
 
 -- The words ask for the topic: a help flag alone, the name of a subcommand and a help flag behind it, or the version flag alone
 abbrev pub AsksFor : List Text → Topic → Type 0

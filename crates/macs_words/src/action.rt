@@ -3,13 +3,15 @@
 ghost use Rattle.std.specs.Prelude.{◌≡◌, ◌⊎◌, ◌↔◌, ◌<◌, ◌^◌, ℕ, Option, IfOk, IfErr, IfSome, IsSome, IsTrue, OnOk, Some, true, false, [], codes, option_map, string_bytes};
 ghost use Rattle.clap.specs.Words.{App, Rule, Text, app_of, fault_of, first_of, found_of, new_app, rows_of, rule_of, subcommand_of, subcommand_rows_of, takes, with_rule, with_subcommand};
 ghost use Rattle.macs_words.specs.Controls.{IsPrintable};
-ghost use Rattle.macs_words.specs.Waits.{IsWaitLimit};
+ghost use Rattle.macs_words.specs.Waits.{IsRoom, IsWaitLimit};
 ghost use Rattle.macs_words.specs.Words.{FitsNumbers, FitsPace, HasNumber, HasPace, HasPrintableCause, HasText, IsClapCommand, IsFaultOf};
-ghost use Rattle.macs_words.specs.Words.{LacksPace, MayHaveNumber, Names, bare_app, count_rule, macsecd, number_rule, texts, value_rule};
-ghost use Rattle.macs_words.specs.Words.{flag_rule, option_rule, wait_rule};
+ghost use Rattle.macs_words.specs.Words.{HasQuestion, MayHaveNumber, MayHaveRoom, Names, NamesNothing, bare_app, count_rule, macsecd, number_rule};
+ghost use Rattle.macs_words.specs.Words.{plain_word, texts, value_rule};
+ghost use Rattle.macs_words.specs.Words.{flag_rule, last_rule, option_rule, room_rule, wait_rule};
+ghost use Rattle.macs_words.specs.declared.action.Question.{Question};
 ghost use Rattle.macs_words.specs.declared.pace.Pace.{Pace};
 
-use crate::pace::{Milliseconds, Pace};
+use crate::pace::{Milliseconds, Pace, Running};
 use crate::plain_text::printable;
 use clap::builder::ValueParser;
 use clap::error::ErrorKind;
@@ -42,26 +44,62 @@ pub enum Action<'a> {
     Show {
         disk: &'a str,
     },
-    /// Protects the frames of a capture: `protect DISK INPUT OUTPUT`.
+    /// Protects the frames of a capture: `protect DISK INPUT OUTPUT`, and `--all` where it is given.
     Protect {
         disk: &'a str,
         input: &'a str,
         output: &'a str,
+        /// Whether a frame that is dropped is said by the status.
+        is_all: bool,
     },
-    /// Validates the frames of a capture: `validate DISK INPUT OUTPUT`.
+    /// Validates the frames of a capture: `validate DISK INPUT OUTPUT`, and `--all` where it is given.
     Validate {
         disk: &'a str,
         input: &'a str,
         output: &'a str,
+        /// Whether a frame that is discarded is said by the status.
+        is_all: bool,
     },
     /// Relays frames between two wires: `relay DISK OWN1 PEER1 OWN2 PEER2` with `--turns n`, `--wait MS` or
-    /// both.
+    /// both, and with `--control PATH`, `--metrics FILE` and `--buffer OCTETS` where they are given.
     Relay {
         disk: &'a str,
         controlled: WireEnds<'a>,
         common: WireEnds<'a>,
-        pace: Pace,
+        running: Running<'a>,
     },
+    /// Asks a running relay over its control socket: `ask PATH show`, and so on.
+    Ask {
+        /// The file of the socket.
+        path: &'a str,
+        question: Question<'a>,
+    },
+    /// Prints a fresh key: `key`, and `--long` where it is given.
+    Key {
+        /// Whether the key has 256 bits.
+        is_long: bool,
+    },
+    /// Prints what the SecTAG of each frame of a capture says: `inspect INPUT`.
+    Inspect {
+        input: &'a str,
+    },
+    /// Checks the commands of a file: `check FILE`.
+    Check {
+        file: &'a str,
+    },
+}
+
+/// What a running relay is asked.
+#[derive(Clone, Copy)]
+pub enum Question<'a> {
+    /// For the configuration and the packet numbers: `show`.
+    Show,
+    /// For all that was counted: `counters`.
+    Counters,
+    /// To end: `stop`.
+    Stop,
+    /// To apply the commands of a file: `apply FILE`.
+    Apply(&'a str),
 }
 
 /// The addresses of a wire as they are spelled: `127.0.0.1:4000`, `[::1]:4000`.
@@ -177,13 +215,14 @@ fn show_words<'a>(alloc: Global) -> Result<Command<'a>, AllocError>
 
 /// The words of a subcommand over a disk and two captures.
 fn capture_words<'a>(alloc: Global, name: &'a str) -> Result<Command<'a>, AllocError>
-    ensures { IfOk result (λ command. IsClapCommand command (with_rule (with_rule (with_rule
+    ensures { IfOk result (λ command. IsClapCommand command (with_rule (with_rule (with_rule (with_rule
         (new_app name.entry.now) (value_rule (codes "DISK"))) (value_rule (codes "INPUT")))
-        (value_rule (codes "OUTPUT")))) }
+        (value_rule (codes "OUTPUT"))) (flag_rule (codes "all")))) }
 {
     let words = with_value(Ok(Command::new(alloc, name)), value(alloc, "DISK"));
     let words = with_value(words, value(alloc, "INPUT"));
-    with_value(words, value(alloc, "OUTPUT"))
+    let words = with_value(words, value(alloc, "OUTPUT"));
+    with_value(words, flag(alloc, "all"))
 }
 
 /// A number of 64 bits that may be given behind its name.
@@ -202,8 +241,24 @@ fn wait<'a>(alloc: Global, name: &'a str) -> Arg<'a>
     option(alloc, name).value_parser(ValueParser::unsigned(1, 60_000))
 }
 
-/// The words of `relay`.
-fn relay_words<'a>(alloc: Global) -> Result<Command<'a>, AllocError>
+/// Octets of a buffer, 1 to 1,073,741,823, that may be given behind their name.
+fn room<'a>(alloc: Global, name: &'a str) -> Arg<'a>
+    ensures rule { rule_of result ≡ room_rule name.entry.now }
+    ensures local { result.global ≡ false }
+{
+    option(alloc, name).value_parser(ValueParser::unsigned(1, 1_073_741_823))
+}
+
+/// A value that may be left out, as the last one.
+fn last<'a>(alloc: Global, name: &'a str) -> Arg<'a>
+    ensures rule { rule_of result ≡ last_rule name.entry.now }
+    ensures local { result.global ≡ false }
+{
+    Arg::new(alloc, name).action(ArgAction::Set)
+}
+
+/// The words of `relay` that are values, and how it takes its turns.
+fn wire_words<'a>(alloc: Global) -> Result<Command<'a>, AllocError>
     ensures { IfOk result (λ command. IsClapCommand command (with_rule (with_rule (with_rule (with_rule (with_rule
         (with_rule (with_rule (new_app (codes "relay")) (value_rule (codes "DISK"))) (value_rule (codes "OWN1")))
         (value_rule (codes "PEER1"))) (value_rule (codes "OWN2"))) (value_rule (codes "PEER2")))
@@ -216,6 +271,46 @@ fn relay_words<'a>(alloc: Global) -> Result<Command<'a>, AllocError>
     let words = with_value(words, value(alloc, "PEER2"));
     let words = with_value(words, count(alloc, "turns"));
     with_value(words, wait(alloc, "wait"))
+}
+
+/// The words of `relay`.
+fn relay_words<'a>(alloc: Global) -> Result<Command<'a>, AllocError>
+    ensures { IfOk result (λ command. IsClapCommand command (with_rule (with_rule (with_rule (with_rule (with_rule
+        (with_rule (with_rule (with_rule (with_rule (with_rule (new_app (codes "relay")) (value_rule (codes "DISK")))
+        (value_rule (codes "OWN1"))) (value_rule (codes "PEER1"))) (value_rule (codes "OWN2")))
+        (value_rule (codes "PEER2"))) (count_rule (codes "turns"))) (wait_rule (codes "wait")))
+        (room_rule (codes "buffer"))) (option_rule (codes "control"))) (option_rule (codes "metrics")))) }
+{
+    let words = with_value(wire_words(alloc), room(alloc, "buffer"));
+    let words = with_value(words, option(alloc, "control"));
+    with_value(words, option(alloc, "metrics"))
+}
+
+/// The words of `ask`.
+fn ask_words<'a>(alloc: Global) -> Result<Command<'a>, AllocError>
+    ensures { IfOk result (λ command. IsClapCommand command (with_rule (with_rule (with_rule
+        (new_app (codes "ask")) (value_rule (codes "PATH"))) (value_rule (codes "WORD")))
+        (last_rule (codes "FILE")))) }
+{
+    let words = with_value(Ok(Command::new(alloc, "ask")), value(alloc, "PATH"));
+    let words = with_value(words, value(alloc, "WORD"));
+    with_value(words, last(alloc, "FILE"))
+}
+
+/// The words of `key`.
+fn key_words<'a>(alloc: Global) -> Result<Command<'a>, AllocError>
+    ensures { IfOk result (λ command. IsClapCommand command (with_rule
+        (new_app (codes "key")) (flag_rule (codes "long")))) }
+{
+    with_value(Ok(Command::new(alloc, "key")), flag(alloc, "long"))
+}
+
+/// The words of a subcommand over one file alone.
+fn file_words<'a>(alloc: Global, name: &'a str, file: &'a str) -> Result<Command<'a>, AllocError>
+    ensures { IfOk result (λ command. IsClapCommand command (with_rule
+        (new_app name.entry.now) (value_rule file.entry.now))) }
+{
+    with_value(Ok(Command::new(alloc, name)), value(alloc, file))
 }
 
 /// The words before any subcommand: they begin after the program's name, and nothing of the library's own asks for
@@ -253,7 +348,11 @@ fn known_words<'a>(alloc: Global) -> Result<Command<'a>, AllocError>
     let words = with_words(words, show_words(alloc));
     let words = with_words(words, capture_words(alloc, "protect"));
     let words = with_words(words, capture_words(alloc, "validate"));
-    with_words(words, relay_words(alloc))
+    let words = with_words(words, relay_words(alloc));
+    let words = with_words(words, ask_words(alloc));
+    let words = with_words(words, key_words(alloc));
+    let words = with_words(words, file_words(alloc, "inspect", "INPUT"));
+    with_words(words, file_words(alloc, "check", "FILE"))
 }
 
 /// What an error says first, in one line. It repeats the words, so control characters are replaced.
@@ -329,6 +428,33 @@ fn wait_in(values: &ArgMatches, name: &str) -> Option<Milliseconds>
     Some(Milliseconds(milliseconds))
 }
 
+/// The octets of a buffer, 1 to 1,073,741,823, that a value is in decimal digits.
+fn room_in(values: &ArgMatches, name: &str) -> Option<u32>
+    ensures read { IfSome result (λ octets. HasNumber (rows_of (found_of values.now)) name.now octets × IsRoom octets) }
+    ensures found { (number : ℕ) → HasNumber (rows_of (found_of values.now)) name.now number
+        → IsRoom number → IsSome result }
+{
+    let octets = text_in(values, name)?.parse().ok()?;
+    if octets == 0 || octets > 1_073_741_823 {
+        return None;
+    }
+    Some(octets)
+}
+
+/// The same, where it is given.
+fn optional_room_in(values: &ArgMatches, name: &str) -> Option<Option<u32>>
+    ensures read { IfSome result (MayHaveRoom (rows_of (found_of values.now)) name.now) }
+    ensures found { (room : Option ℕ) → MayHaveRoom (rows_of (found_of values.now)) name.now room → IsSome result }
+{
+    match text_in(values, name) {
+        None => Some(None),
+        Some(_) => {
+            let octets = room_in(values, name)?;
+            Some(Some(octets))
+        }
+    }
+}
+
 /// Whether an option without a value is among the words.
 fn is_flagged(values: &ArgMatches, name: &str) -> bool
     ensures { IsTrue result ↔ HasText (rows_of (found_of values.now)) name.now (codes "true") }
@@ -390,6 +516,7 @@ fn protect_in<'a>(values: &ArgMatches<'a>) -> Option<Action<'a>>
         disk,
         input,
         output,
+        is_all: is_flagged(values, "all"),
     })
 }
 
@@ -406,6 +533,7 @@ fn validate_in<'a>(values: &ArgMatches<'a>) -> Option<Action<'a>>
         disk,
         input,
         output,
+        is_all: is_flagged(values, "all"),
     })
 }
 
@@ -449,12 +577,85 @@ fn relay_in<'a>(values: &ArgMatches<'a>) -> Option<Action<'a>>
     let controlled = ends_in(values, "OWN1", "PEER1")?;
     let common = ends_in(values, "OWN2", "PEER2")?;
     let pace = pace_in(values)?;
+    let buffer = optional_room_in(values, "buffer")?;
+    let running = Running {
+        pace,
+        buffer,
+        control: text_in(values, "control"),
+        metrics: text_in(values, "metrics"),
+    };
     Some(Action::Relay {
         disk,
         controlled,
         common,
-        pace,
+        running,
     })
+}
+
+/// The question that a word alone asks, but for `apply`.
+fn plain_question<'a>(word: &str) -> Option<Question<'a>>
+    ensures { (question : Question) → (result ≡ Some question) ↔ (Some word.now ≡ plain_word question) }
+{
+    match word {
+        "show" => Some(Question::Show),
+        "counters" => Some(Question::Counters),
+        "stop" => Some(Question::Stop),
+        _ => None,
+    }
+}
+
+/// The question of `ask`: `None` where its words ask none.
+fn question_in<'a>(values: &ArgMatches<'a>) -> Option<Question<'a>>
+    ensures read { IfSome result (HasQuestion (rows_of (found_of values.now))) }
+    ensures found { (question : Question) → HasQuestion (rows_of (found_of values.now)) question → IsSome result }
+{
+    let word = text_in(values, "WORD")?;
+    match text_in(values, "FILE") {
+        None => plain_question(word),
+        Some(file) if word == "apply" => Some(Question::Apply(file)),
+        Some(_) => None,
+    }
+}
+
+/// `ask` with its values.
+fn ask_in<'a>(values: &ArgMatches<'a>) -> Option<Action<'a>>
+    ensures read { IfSome result (λ action. Names (Some (codes "ask", rows_of (found_of values.now))) action) }
+    ensures found { (action : Action) → Names (Some (codes "ask", rows_of (found_of values.now))) action
+        → IsSome result }
+{
+    let path = text_in(values, "PATH")?;
+    let question = question_in(values)?;
+    Some(Action::Ask { path, question })
+}
+
+/// `key`, with `--long` or without it.
+fn key_in<'a>(values: &ArgMatches<'a>) -> Option<Action<'a>>
+    ensures read { IfSome result (λ action. Names (Some (codes "key", rows_of (found_of values.now))) action) }
+    ensures found { IsSome result }
+{
+    Some(Action::Key {
+        is_long: is_flagged(values, "long"),
+    })
+}
+
+/// `inspect` with its value.
+fn inspect_in<'a>(values: &ArgMatches<'a>) -> Option<Action<'a>>
+    ensures read { IfSome result (λ action. Names (Some (codes "inspect", rows_of (found_of values.now))) action) }
+    ensures found { (action : Action) → Names (Some (codes "inspect", rows_of (found_of values.now))) action
+        → IsSome result }
+{
+    let input = text_in(values, "INPUT")?;
+    Some(Action::Inspect { input })
+}
+
+/// `check` with its value.
+fn check_in<'a>(values: &ArgMatches<'a>) -> Option<Action<'a>>
+    ensures read { IfSome result (λ action. Names (Some (codes "check", rows_of (found_of values.now))) action) }
+    ensures found { (action : Action) → Names (Some (codes "check", rows_of (found_of values.now))) action
+        → IsSome result }
+{
+    let file = text_in(values, "FILE")?;
+    Some(Action::Check { file })
 }
 
 /// The action of the subcommand that was used with its values, `open` where there was none.
@@ -474,26 +675,35 @@ fn action_in<'a>(matches: &ArgMatches<'a>) -> Option<Action<'a>>
         "protect" => protect_in(values),
         "validate" => validate_in(values),
         "relay" => relay_in(values),
+        "ask" => ask_in(values),
+        "key" => key_in(values),
+        "inspect" => inspect_in(values),
+        "check" => check_in(values),
         _ => None,
     }
 }
 
-/// What is said of a relay that has neither `--turns` nor `--wait`: what clap says where a value is missing.
-fn missing_cause(alloc: Global) -> Result<String, AllocError>
+/// What is said where the words of a subcommand name no action: of `ask` what it may be asked, and of a relay that has
+/// neither `--turns` nor `--wait` what clap says where a value is missing.
+fn missing_cause(alloc: Global, matches: &ArgMatches) -> Result<String, AllocError>
     ensures { IfOk result (λ cause. IsPrintable (string_bytes cause)) }
 {
-    printable(alloc, "the following required arguments were not provided:")
+    match matches.subcommand() {
+        Some(("ask", _)) => printable(alloc, "ask PATH show, counters, stop, or apply FILE"),
+        _ => printable(alloc, "the following required arguments were not provided:"),
+    }
 }
 
 /// The action that the words name, without the program's own name among them. Refused as `Usage` where clap
-/// refuses the words, or where they name a relay with neither `--turns` nor `--wait`; else as `Memory` where
-/// memory is wanting.
+/// refuses the words, or where they name a relay with neither `--turns` nor `--wait`, or ask a relay nothing that it
+/// is asked; else as `Memory` where memory is wanting.
 pub fn action_of<'a>(alloc: Global, words: &'a [&'a str]) -> Result<Action<'a>, UsageFault>
     // What is answered is what clap reads.
     ensures read { IfOk result (Names (subcommand_of macsecd (texts words.now))) }
-    // What clap takes is refused for memory alone, but for a relay with neither turns nor a wait.
+    // What clap takes is refused for memory alone, but for a relay with neither turns nor a wait, and a question that
+    // is none.
     ensures taken { takes macsecd (texts words.now) ≡ true → IfErr result (λ fault.
-        (fault ≡ UsageFault.Memory) ⊎ LacksPace (subcommand_of macsecd (texts words.now))) }
+        (fault ≡ UsageFault.Memory) ⊎ NamesNothing (subcommand_of macsecd (texts words.now))) }
     // What is answered is nothing that clap refuses.
     ensures refused { OnOk result (fault_of macsecd (texts words.now) ≡ []) }
     // The cause of a refusal has no control character.
@@ -502,7 +712,7 @@ pub fn action_of<'a>(alloc: Global, words: &'a [&'a str]) -> Result<Action<'a>, 
     match known_words(alloc)?.try_get_matches_from(words) {
         Ok(matches) => match action_in(&matches) {
             Some(action) => Ok(action),
-            None => Err(UsageFault::Usage(missing_cause(alloc)?)),
+            None => Err(UsageFault::Usage(missing_cause(alloc, &matches)?)),
         },
         Err(error) => Err(usage_fault_of(alloc, &error)?),
     }

@@ -3,7 +3,9 @@
 ghost use Rattle.std.specs.Prelude.{◌≡◌, ◌↔◌, IsTrue, Some};
 ghost use Rattle.macs_words.specs.Words.{AsksFor, IsHelpFlag, IsVersionFlag, name_of, texts};
 
-use crate::help_texts::{APPLY, FORMAT, HELP, OPEN, PROTECT, RELAY, SHOW, VALIDATE, VERSION};
+use crate::help_texts::{
+    APPLY, ASK, CHECK, FORMAT, HELP, INSPECT, KEY, OPEN, PROTECT, RELAY, SHOW, VALIDATE, VERSION,
+};
 
 /// A subcommand.
 #[derive(Clone, Copy)]
@@ -15,6 +17,10 @@ pub enum Subcommand {
     Protect,
     Validate,
     Relay,
+    Ask,
+    Key,
+    Inspect,
+    Check,
 }
 
 /// What is asked for in place of an action.
@@ -45,6 +51,10 @@ impl Subcommand {
             "protect" => Some(Subcommand::Protect),
             "validate" => Some(Subcommand::Validate),
             "relay" => Some(Subcommand::Relay),
+            "ask" => Some(Subcommand::Ask),
+            "key" => Some(Subcommand::Key),
+            "inspect" => Some(Subcommand::Inspect),
+            "check" => Some(Subcommand::Check),
             _ => None,
         }
     }
@@ -61,6 +71,10 @@ impl Subcommand {
             Subcommand::Protect => PROTECT,
             Subcommand::Validate => VALIDATE,
             Subcommand::Relay => RELAY,
+            Subcommand::Ask => ASK,
+            Subcommand::Key => KEY,
+            Subcommand::Inspect => INSPECT,
+            Subcommand::Check => CHECK,
         }
     }
 }

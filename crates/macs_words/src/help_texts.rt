@@ -10,6 +10,11 @@ pub const HELP: &str = "usage: macsecd [SUBCOMMAND VALUES..]
   validate DISK INPUT OUTPUT   validates the frames of a capture
   relay DISK OWN1 PEER1 OWN2 PEER2 --turns n
                                relays frames between two wires of UDP
+  ask PATH show|counters|stop|apply FILE
+                               asks a running relay over its control socket
+  key                          prints a fresh key
+  inspect INPUT                prints what the SecTAG of each frame says
+  check FILE                   checks the commands of a TOML file
 
 macsecd SUBCOMMAND --help says more of each; --version prints the version.
 A fault is one line on standard error.
@@ -84,34 +89,37 @@ example: macsecd show left.disk
 status: 0 done, 2 usage, 4 disk, 5 output or memory
 ";
 
-pub const PROTECT: &str = "usage: macsecd protect DISK INPUT OUTPUT
+pub const PROTECT: &str = "usage: macsecd protect DISK INPUT OUTPUT [--all]
 
 Protects the frames of a capture under the association in use, writes the
 capture of the frames that go out, and prints 'protected 3 dropped 0'.
   DISK     a disk file that was formatted
   INPUT    a classic capture (pcap) of Ethernet frames, whole and without FCS
   OUTPUT   the capture that is made; a file of that name is written over
+  --all    ends with status 3 where a frame was dropped
 DISK, INPUT and OUTPUT are three files, and no disk file is taken for OUTPUT.
 
 example: macsecd protect left.disk examples/plain.pcap protected.pcap
-status: 0 done, 2 usage, 4 disk, 5 capture, output or memory
+status: 0 done, 2 usage, 3 a frame dropped, 4 disk, 5 capture, output or memory
 ";
 
-pub const VALIDATE: &str = "usage: macsecd validate DISK INPUT OUTPUT
+pub const VALIDATE: &str = "usage: macsecd validate DISK INPUT OUTPUT [--all]
 
 Validates the frames of a capture, writes the capture of the frames that are
 delivered, and prints 'delivered 3 discarded 1'.
   DISK     a disk file that was formatted
   INPUT    a classic capture (pcap) of Ethernet frames, whole and without FCS
   OUTPUT   the capture that is made; a file of that name is written over
+  --all    ends with status 3 where a frame was discarded
 DISK, INPUT and OUTPUT are three files, and no disk file is taken for OUTPUT.
 
 example: macsecd validate right.disk protected.pcap plain.pcap
-status: 0 done, 2 usage, 4 disk, 5 capture, output or memory
+status: 0 done, 2 usage, 3 a frame discarded, 4 disk, 5 capture, output or memory
 ";
 
 pub const RELAY: &str = "usage: macsecd relay DISK OWN1 PEER1 OWN2 PEER2 --turns n
        macsecd relay DISK OWN1 PEER1 OWN2 PEER2 --wait MS [--turns n]
+  and [--control PATH] [--metrics FILE] [--buffer OCTETS]
 
 Relays frames between two wires of UDP: a datagram is one Ethernet frame without
 FCS. Frames of the first wire, the controlled side, are protected and go to the
@@ -126,11 +134,76 @@ it prints 'sent 6 delivered 0 dropped 0 faults 0'.
   --wait MS      after a turn that brought nothing it sleeps until a datagram is
                  there on either wire, at most so many milliseconds: 1 to 60000.
                  Without --turns it goes on until a signal ends it
+  --control PATH    a local socket for its owner alone, at which it is asked while
+                    it runs: see 'macsecd ask --help'
+  --metrics FILE    a file that the counters are written to, once a second, as
+                    a text for Prometheus
+  --buffer OCTETS   how much the system is asked to keep for each wire of what
+                    waits: 1 to 1073741823
 Without --wait no turn waits for a frame: one processor is busy until the last.
 
 example: macsecd relay left.disk 127.0.0.1:4001 127.0.0.1:4000 \\
            127.0.0.1:5001 127.0.0.1:5002 --turns 10000000
-status: 0 done, 2 usage, 4 disk, 5 wire, output or memory
+status: 0 done, 2 usage, 4 disk, 5 wire, control, output or memory
+";
+
+pub const ASK: &str = "usage: macsecd ask PATH show
+       macsecd ask PATH counters
+       macsecd ask PATH apply FILE
+       macsecd ask PATH stop
+
+Asks a running relay over its control socket, and prints its answer.
+  PATH         the socket: what the relay was given as --control
+  show         the configuration and the packet numbers, as they are now
+  counters     each counter of the endpoint and of both wires, a line each
+  apply FILE   applies the commands of a TOML file, as 'macsecd apply' does: a
+               line for each once it is kept, '1 ok', '2 refused KeySpent'
+  stop         ends the relay, which prints its last line
+
+example: macsecd ask /run/macsecd/left/control apply new_keys.toml
+status: 0 done, 2 usage, 3 a command refused, 4 the relay ended, 5 nobody there,
+        input, output or memory
+";
+
+pub const KEY: &str = "usage: macsecd key [--long]
+
+Prints a fresh key in hex digits, as the system's random source gives it: for
+GCM-AES-128, 32 digits.
+  --long   for GCM-AES-256: 64 digits
+
+example: macsecd key --long
+status: 0 done, 2 usage, 5 random source, output or memory
+";
+
+pub const INSPECT: &str = "usage: macsecd inspect INPUT
+
+Prints a line for each frame of a capture: its number, what its SecTAG says, and
+how many octets it has. No key is needed, and nothing is verified.
+  INPUT   a classic capture (pcap) of Ethernet frames, whole and without FCS
+A line is one of
+  1 an=0 pn=1025 sl=0 e=1 c=1 sci=0200000000010001 octets=92
+  2 an=0 pn=1026 sl=0 e=1 c=1 es octets=84
+                the channel is that of the source address and port 00-01
+  3 an=0 pn=1027 sl=46 e=0 c=0 octets=82
+                the channel is not named
+  4 runt, oversize, no tag, bad tag or for kay
+                what is wrong with it, as 'macsecd open' says it
+
+example: macsecd inspect protected.pcap
+status: 0 done, 2 usage, 5 capture, output or memory
+";
+
+pub const CHECK: &str = "usage: macsecd check FILE
+
+Checks whether the commands of a TOML file can be read, as 'macsecd apply' reads
+them, and prints how many there are: '4 commands'. Whether an endpoint takes them
+is not looked at.
+  FILE   as of apply: see 'macsecd apply --help'
+A fault is one line: the command, its key, and what is wrong with it, as
+  command 3 key: not 32 or 64 hex digits
+
+example: macsecd check examples/left.toml
+status: 0 done, 2 usage, 5 a fault of the file, output or memory
 ";
 
 pub const VERSION: &str = "macsecd 0.1.0\n";

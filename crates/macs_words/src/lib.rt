@@ -8,6 +8,6 @@ pub mod laws;
 mod pace;
 mod plain_text;
 
-pub use action::{Action, UsageFault, WireEnds, action_of};
+pub use action::{Action, Question, UsageFault, WireEnds, action_of};
 pub use help::{Subcommand, Topic, topic_of};
-pub use pace::{Milliseconds, Pace};
+pub use pace::{Milliseconds, Pace, Running};

@@ -1,4 +1,4 @@
-//! How a relay takes its turns.
+//! How a relay runs: its turns, and what it serves meanwhile.
 
 /// A time in milliseconds.
 #[derive(Clone, Copy)]
@@ -18,4 +18,17 @@ pub enum Pace {
         /// How many turns there are, where `--turns n` is given too.
         turns: Option<u64>,
     },
+}
+
+/// How a relay runs: how it takes its turns, and what it serves meanwhile.
+#[derive(Clone, Copy)]
+pub struct Running<'a> {
+    pub pace: Pace,
+    /// How many octets of datagrams that wait the system is asked to keep for each wire, 1 to
+    /// 1,073,741,823, where it is asked: `--buffer OCTETS`.
+    pub buffer: Option<u32>,
+    /// The file of the control socket, where there is one: `--control PATH`.
+    pub control: Option<&'a str>,
+    /// The file that the counters are written to, where there is one: `--metrics FILE`.
+    pub metrics: Option<&'a str>,
 }

@@ -2,7 +2,7 @@
 #![tactic(auto)]
 
 use macs_program::run::{report, run};
-use macs_program::{Failure, WriterStream};
+use macs_program::{Failure, ReaderInput, WriterStream};
 use std::env;
 use std::fs::File;
 use std::io::ErrorKind;
@@ -50,7 +50,7 @@ fn run_process(rt: &HostRuntime) -> Result<u8, Failure> {
         rt,
         rt.alloc(),
         words.as_slice(),
-        &mut rt.stdin(),
+        &mut ReaderInput::new(rt.stdin()),
         &mut WriterStream::new(rt.stdout()),
         &mut WriterStream::new(rt.stderr()),
     );

@@ -6,11 +6,14 @@ mod applying;
 mod blank_files;
 mod broken_streams;
 mod captures;
+mod checking;
 mod disks;
 mod failing;
 mod help;
 mod help_text;
 mod input;
+mod inspecting;
+mod key;
 mod link;
 mod link_files;
 mod older_files;
@@ -28,13 +31,14 @@ mod wires;
 mod words;
 
 use macs_program::run::run;
-use macs_program::{CaptureFile, WriterStream};
+use macs_program::{CaptureFile, ReaderInput, WriterStream};
 use std::alloc::{AllocError, Global};
 use std::fs::File;
 use std::io::{Read, Write};
 use std::net::Net;
 use std::process::Abort;
-use std::rt::Files;
+use std::random::RandomSource;
+use std::rt::{Clock, Env, Files};
 use std::test::Fail;
 
 /// The key and the SCI of most of the frames.
@@ -69,6 +73,8 @@ enum Outcome {
     DiskBehind(&'static str, &'static str),
     /// Status 5, and the line on standard error.
     Fault(&'static str),
+    /// Status 5, what was printed before, and the line on standard error.
+    FaultBehind(&'static str, &'static str),
 }
 
 impl Outcome {
@@ -81,6 +87,7 @@ impl Outcome {
             Outcome::Disk(err) => (4, "", err),
             Outcome::DiskBehind(out, err) => (4, out, err),
             Outcome::Fault(err) => (5, "", err),
+            Outcome::FaultBehind(out, err) => (5, out, err),
         }
     }
 }
@@ -89,7 +96,7 @@ impl Outcome {
 const OPENED: Outcome = Outcome::Done(INTEGRITY_LINE);
 
 /// Runs the program. What is proved of a run stays behind: the tests look at what it does.
-fn status_of<T: Files + Net, R: Read, W: Write, E: Write>(
+fn status_of<T: Files + Net + Clock + Env + RandomSource, R: Read, W: Write, E: Write>(
     system: &T,
     alloc: Global,
     words: &[&str],
@@ -100,13 +107,14 @@ fn status_of<T: Files + Net, R: Read, W: Write, E: Write>(
 where
     T::File: CaptureFile,
 {
+    let mut input = ReaderInput::new(input);
     let mut out = WriterStream::new(out);
     let mut err = WriterStream::new(err);
-    run(system, alloc, words, input, &mut out, &mut err)
+    run(system, alloc, words, &mut input, &mut out, &mut err)
 }
 
 /// Runs the words over a system on what a reader gives, and asserts the whole outcome.
-fn expect_over<T: Files + Net, R: Read>(
+fn expect_over<T: Files + Net + Clock + Env + RandomSource, R: Read>(
     rt: &impl Abort,
     system: &T,
     alloc: Global,
@@ -128,7 +136,7 @@ where
 
 /// Runs the words on what a reader gives, and asserts the whole outcome.
 fn expect_of<R: Read>(
-    rt: &(impl Abort + Files<File = File> + Net),
+    rt: &(impl Abort + Files<File = File> + Net + Clock + Env + RandomSource),
     alloc: Global,
     words: &[&str],
     input: &mut R,
@@ -139,7 +147,7 @@ fn expect_of<R: Read>(
 
 /// Runs the words on an input, and asserts the whole outcome.
 fn expect(
-    rt: &(impl Abort + Files<File = File> + Net),
+    rt: &(impl Abort + Files<File = File> + Net + Clock + Env + RandomSource),
     alloc: Global,
     words: &[&str],
     input: &str,
@@ -159,7 +167,7 @@ fn joined(alloc: Global, texts: &[&str]) -> Result<String, AllocError> {
 
 /// Opens an input of these texts, one behind the other, and asserts the whole outcome.
 fn expect_texts(
-    rt: &(impl Abort + Files<File = File> + Net),
+    rt: &(impl Abort + Files<File = File> + Net + Clock + Env + RandomSource),
     alloc: Global,
     texts: &[&str],
     outcome: Outcome,
@@ -171,7 +179,7 @@ fn expect_texts(
 
 /// Opens an input of a key, an SCI, an offset and a frame, each line with its end.
 fn expect_lines(
-    rt: &(impl Abort + Files<File = File> + Net),
+    rt: &(impl Abort + Files<File = File> + Net + Clock + Env + RandomSource),
     alloc: Global,
     [key, sci, offset, frame]: [&str; 4],
     outcome: Outcome,

@@ -39,19 +39,20 @@ fn keeps_blocks(rt: HostRuntime) {
 #[test]
 fn begins_empty(rt: HostRuntime) {
     let config = Config::new(&identity_of(&rt, OWN_SCI));
-    assert_eq!(rt; config.identity().sci(), OWN_SCI);
-    assert_eq!(rt; config.validate(), Validate::Strict);
-    assert_eq!(rt;
-        config.replay(),
-        Replay {
-            on: true,
-            window: 0
-        }
-    );
-    assert_eq!(rt; config.sci_mode(), SciMode::Explicit);
-    assert_eq!(rt; config.encoding(), None);
+    let replay = config.replay();
+    assert!(rt; config.identity().sci() == OWN_SCI);
+    assert!(rt; config.validate() == Validate::Strict);
+    assert!(rt; replay.on && replay.window == 0);
+    assert!(rt; config.sci_mode() == SciMode::Explicit);
     assert!(rt; config.channels().is_empty());
-    assert_eq!(rt; (config.spent_tx(), config.spent_rx()), (0, 0));
+    assert!(rt; config.spent_tx() == 0 && config.spent_rx() == 0);
+    config.facts();
+}
+
+#[test]
+fn begins_without_associations(rt: HostRuntime) {
+    let config = Config::new(&identity_of(&rt, OWN_SCI));
+    assert!(rt; config.encoding().is_none());
     for number in 0..4 {
         let an = an_of(&rt, number);
         assert!(rt; config.tx(an).is_none());

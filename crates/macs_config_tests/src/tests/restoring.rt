@@ -394,6 +394,11 @@ fn limits_spent_keys(rt: HostRuntime) -> Result<(), Fail> {
     assert_eq!(rt; config.spent_at(Role::Transmit, 511), Some(made_up(511)));
     parts.push(spent(Role::Receive, FIRST_3))?;
     expect_refused(&rt, &parts, "513 keys of the receive side");
+    Ok(())
+}
+
+#[test]
+fn limits_spent_keys_of_the_transmit_side(rt: HostRuntime) -> Result<(), Fail> {
     let mut parts = Vec::new(rt.alloc());
     parts.push(plain())?;
     spent_many(&rt, &mut parts, Role::Transmit, 513)?;

@@ -76,6 +76,31 @@ fn is_done(rt: &impl Abort, disk: &mut Option<FileDisk>, call: Call) -> bool {
     make(rt, disk, call).is_ok()
 }
 
+/// Opens the disk, with this answer.
+fn opened(
+    rt: &(impl Abort + Files<File = File>),
+    path: &str,
+    disk: Option<FileDisk>,
+    wanted: Answer,
+) -> Option<FileDisk> {
+    let (next, answer) = replaced(disk, FileDisk::open(rt, path));
+    assert!(rt; answer == wanted);
+    next
+}
+
+/// Makes a disk of so many sectors, with this answer.
+fn created(
+    rt: &(impl Abort + Files<File = File>),
+    path: &str,
+    disk: Option<FileDisk>,
+    sectors: u64,
+    wanted: Answer,
+) -> Option<FileDisk> {
+    let (next, answer) = replaced(disk, FileDisk::create(rt, path, sectors));
+    assert!(rt; answer == wanted);
+    next
+}
+
 /// Takes one step.
 fn take(
     rt: &(impl Abort + Files<File = File>),
@@ -85,16 +110,8 @@ fn take(
 ) -> Result<Option<FileDisk>, Fail> {
     match step {
         Zeros(octets) => zeros(rt, path, octets)?,
-        Open(wanted) => {
-            let (stands, answer) = replaced(disk, FileDisk::open(rt, path));
-            assert!(rt; answer == wanted);
-            return Ok(stands);
-        }
-        Create(sectors, wanted) => {
-            let (stands, answer) = replaced(disk, FileDisk::create(rt, path, sectors));
-            assert!(rt; answer == wanted);
-            return Ok(stands);
-        }
+        Open(wanted) => return Ok(opened(rt, path, disk, wanted)),
+        Create(sectors, wanted) => return Ok(created(rt, path, disk, sectors, wanted)),
         Make(call) => assert!(rt; is_done(rt, &mut disk, call)),
         Fails(call) => assert!(rt; !is_done(rt, &mut disk, call)),
         Close => return Ok(None),

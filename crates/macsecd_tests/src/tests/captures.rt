@@ -127,6 +127,49 @@ const PASSED: &[Step] = &[
         ],
         Outcome::Done("delivered 0 discarded 3\n"),
     ),
+    // Where all frames are to pass, the status says whether they did.
+    Run(
+        &[
+            "validate",
+            "story-pass/b",
+            "story-pass/protected",
+            "story-pass/delivered",
+            "--all",
+        ],
+        Outcome::Refused("delivered 0 discarded 3\n"),
+    ),
+    Run(
+        &[
+            "protect",
+            "--all",
+            "story-pass/a",
+            "story-pass/plain",
+            "story-pass/again",
+        ],
+        Outcome::Done("protected 3 dropped 0\n"),
+    ),
+    Run(
+        &[
+            "validate",
+            "--all",
+            "story-pass/b",
+            "story-pass/again",
+            "story-pass/delivered",
+        ],
+        Outcome::Done("delivered 3 discarded 0\n"),
+    ),
+    Holds("story-pass/delivered", DELIVERED),
+    // The receiver has no association in use to send.
+    Run(
+        &[
+            "protect",
+            "--all",
+            "story-pass/b",
+            "story-pass/plain",
+            "story-pass/again",
+        ],
+        Outcome::Refused("protected 0 dropped 3\n"),
+    ),
 ];
 
 #[test]

@@ -1,15 +1,16 @@
 //! What asks for help, and that what the help names is there.
 
 use super::help_text::{
-    APPLY_TEXT, FORMAT_TEXT, HELP_TEXT, OPEN_TEXT, PROTECT_TEXT, RELAY_TEXT, SHOW_TEXT,
-    VALIDATE_TEXT,
+    APPLY_TEXT, ASK_TEXT, CHECK_TEXT, FORMAT_TEXT, HELP_TEXT, INSPECT_TEXT, KEY_TEXT, OPEN_TEXT,
+    PROTECT_TEXT, RELAY_TEXT, SHOW_TEXT, VALIDATE_TEXT,
 };
 use super::{INPUT, OPENED, Outcome, expect, status_of};
 use std::alloc::Global;
 use std::fs::File;
 use std::net::Net;
 use std::process::Abort;
-use std::rt::Files;
+use std::random::RandomSource;
+use std::rt::{Clock, Env, Files};
 
 /// What `--version` prints.
 const VERSION_TEXT: &str = "macsecd 0.1.0\n";
@@ -35,7 +36,7 @@ fn prints_its_version(rt: HostRuntime) {
 
 /// Asks for help on a subcommand with both flags.
 fn expect_help(
-    rt: &(impl Abort + Files<File = File> + Net),
+    rt: &(impl Abort + Files<File = File> + Net + Clock + Env + RandomSource),
     alloc: Global,
     name: &str,
     text: &'static str,
@@ -66,11 +67,19 @@ fn prints_help_on_captures(rt: HostRuntime) {
 #[test]
 fn prints_help_on_relays(rt: HostRuntime) {
     expect_help(&rt, rt.alloc(), "relay", RELAY_TEXT);
+    expect_help(&rt, rt.alloc(), "ask", ASK_TEXT);
+}
+
+#[test]
+fn prints_help_on_what_needs_no_disk(rt: HostRuntime) {
+    expect_help(&rt, rt.alloc(), "key", KEY_TEXT);
+    expect_help(&rt, rt.alloc(), "inspect", INSPECT_TEXT);
+    expect_help(&rt, rt.alloc(), "check", CHECK_TEXT);
 }
 
 /// Asserts that what is printed for these words has this part.
 fn expect_part(
-    rt: &(impl Abort + Files<File = File> + Net),
+    rt: &(impl Abort + Files<File = File> + Net + Clock + Env + RandomSource),
     alloc: Global,
     words: &[&str],
     part: &str,
@@ -93,6 +102,10 @@ const FORMS: &[&str] = &[
     "\n  protect DISK INPUT OUTPUT   ",
     "\n  validate DISK INPUT OUTPUT   ",
     "\n  relay DISK OWN1 PEER1 OWN2 PEER2 --turns n\n",
+    "\n  ask PATH show|counters|stop|apply FILE\n",
+    "\n  key   ",
+    "\n  inspect INPUT   ",
+    "\n  check FILE   ",
 ];
 
 #[test]

@@ -32,6 +32,18 @@ const NO: &str = "story-relay/no";
 
 const DISK: &str = "story-relay/disk";
 
+const CONTROL: &str = "story-relay/control";
+
+/// What its endpoint is: no command and no frame came to it.
+const SHOWN: &str = "sci 12153524c0895e81
+blocks tx 4 rx 4
+validate strict
+replay on window 0
+sci-mode explicit
+encoding none
+spent tx 0 rx 0
+";
+
 const RELAYS: &[Step] = &[
     Run(FORMAT, Done("formatted\n")),
     Run(
@@ -102,6 +114,46 @@ const RELAYS: &[Step] = &[
         &["relay", NO, ONE, ANY, ONE, "[::1]:9", "--turns", "5"],
         Disk("macsecd: disk file\n"),
     ),
+    Run(
+        &[
+            "relay",
+            DISK,
+            ANY,
+            NOBODY,
+            ANY,
+            NOBODY,
+            "--turns",
+            "5",
+            "--control",
+            CONTROL,
+            "--buffer",
+            "4096",
+        ],
+        Done(NOTHING),
+    ),
+    IsMissing(CONTROL),
+    Run(
+        &[
+            "relay",
+            DISK,
+            ANY,
+            NOBODY,
+            ANY,
+            NOBODY,
+            "--turns",
+            "5",
+            "--control",
+            DISK,
+        ],
+        Fault("macsecd: control\n"),
+    ),
+    Run(&["ask", CONTROL, "show"], Fault("macsecd: control\n")),
+    Run(&["ask", DISK, "stop"], Fault("macsecd: control\n")),
+    Run(
+        &["ask", NO, "apply", "story-relay/none.toml"],
+        Fault("macsecd: control\n"),
+    ),
+    Run(&["show", DISK], Done(SHOWN)),
     IsMissing(NO),
 ];
 
@@ -185,6 +237,39 @@ const WORDS: &[Step] = &[
     Run(
         &["relay", NO, BAD, BAD, BAD, BAD, "--wait", "5"],
         Usage(OWN1),
+    ),
+    Run(
+        &["relay", NO, ANY, ANY, ANY, ANY, "--control", NO],
+        Usage("macsecd: the following required arguments were not provided:\n"),
+    ),
+    Run(
+        &["relay", NO, ANY, ANY, ANY, ANY, "--turns", "1", "--control"],
+        Usage("macsecd: a value is required for '--control <control>' but none was supplied\n"),
+    ),
+    Run(
+        &[
+            "relay",
+            NO,
+            ANY,
+            ANY,
+            ANY,
+            ANY,
+            "--metrics",
+            "a",
+            "--metrics",
+            "b",
+        ],
+        Usage("macsecd: the argument '--metrics <metrics>' cannot be used multiple times\n"),
+    ),
+    Run(
+        &["relay", NO, ANY, ANY, ANY, ANY, "--buffer", "0"],
+        Usage("macsecd: invalid value '0' for '--buffer <buffer>': 0 is not in 1..=1073741823\n"),
+    ),
+    Run(
+        &["relay", NO, ANY, ANY, ANY, ANY, "--buffer=1073741824"],
+        Usage(
+            "macsecd: invalid value '1073741824' for '--buffer <buffer>': 1073741824 is not in 1..=1073741823\n",
+        ),
     ),
     IsMissing(NO),
 ];

@@ -5,12 +5,15 @@ use super::peers::Peers;
 use macs_disk::DiskFile;
 use macs_program::CaptureFile;
 use std::alloc::Allocator;
+use std::env::FillError;
 use std::fs::{File, Metadata, OpenFile, OpenOptions};
 use std::io;
 use std::io::{ErrorKind, Read, Seek, SeekFrom, Write};
 use std::net::{Net, SocketAddr, UdpSocket};
 use std::path::PathBuf;
-use std::rt::Files;
+use std::random::RandomSource;
+use std::rt::{Clock, Env, Files};
+use std::time::Duration;
 
 /// What fails of a file. Calls of a kind are counted from 1.
 #[derive(Clone, Copy)]
@@ -257,6 +260,36 @@ impl<R: Files<File = File>> Files for StandIn<'_, R> {
 
     fn canonicalize<B: Allocator>(&self, alloc: B, path: &str) -> io::Result<PathBuf<B>> {
         self.system.canonicalize(alloc, path)
+    }
+}
+
+impl<R: Clock> Clock for StandIn<'_, R> {
+    fn monotonic(&self) -> io::Result<Duration> {
+        self.system.monotonic()
+    }
+
+    fn since_1970(&self) -> io::Result<Duration> {
+        self.system.since_1970()
+    }
+}
+
+impl<R: Env> Env for StandIn<'_, R> {
+    fn arg(&self, i: usize, buf: &mut [u8]) -> Result<usize, FillError> {
+        self.system.arg(i, buf)
+    }
+
+    fn var(&self, name: &str, buf: &mut [u8]) -> Result<usize, FillError> {
+        self.system.var(name, buf)
+    }
+
+    fn var_at(&self, i: usize, buf: &mut [u8]) -> Result<usize, FillError> {
+        self.system.var_at(i, buf)
+    }
+}
+
+impl<R: RandomSource> RandomSource for StandIn<'_, R> {
+    fn fill_bytes(&self, buf: &mut [u8]) -> io::Result<()> {
+        self.system.fill_bytes(buf)
     }
 }
 

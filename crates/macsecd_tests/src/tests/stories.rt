@@ -8,7 +8,8 @@ use std::fs::{File, OpenFile, OpenOptions};
 use std::io::{ErrorKind, Read, Seek, SeekFrom, Write};
 use std::net::Net;
 use std::process::Abort;
-use std::rt::Files;
+use std::random::RandomSource;
+use std::rt::{Clock, Env, Files};
 use std::test::Fail;
 use std::{fs, io};
 
@@ -72,7 +73,7 @@ pub enum Step {
 
 /// Makes a file of these octets.
 fn make(
-    rt: &(impl Abort + Files<File = File> + Net),
+    rt: &(impl Abort + Files<File = File> + Net + Clock + Env + RandomSource),
     path: &str,
     octets: &[u8],
 ) -> Result<(), Fail> {
@@ -82,7 +83,7 @@ fn make(
 
 /// Makes a file of one octet, so many times.
 fn fill(
-    rt: &(impl Abort + Files<File = File> + Net),
+    rt: &(impl Abort + Files<File = File> + Net + Clock + Env + RandomSource),
     alloc: Global,
     path: &str,
     octet: u8,
@@ -106,7 +107,10 @@ fn octets_of(rt: &impl Abort, alloc: Global, text: &str) -> Result<Vec<u8>, Fail
 }
 
 /// Writes 0xff over the first octet of a file.
-fn spoil(rt: &(impl Abort + Files<File = File> + Net), path: &str) -> Result<(), Fail> {
+fn spoil(
+    rt: &(impl Abort + Files<File = File> + Net + Clock + Env + RandomSource),
+    path: &str,
+) -> Result<(), Fail> {
     let mut file = OpenOptions::new().write(true).open(rt, path)?;
     file.write_all(&[0xff])?;
     Ok(())
@@ -114,7 +118,7 @@ fn spoil(rt: &(impl Abort + Files<File = File> + Net), path: &str) -> Result<(),
 
 /// Writes octets from this octet of a file on.
 fn patch(
-    rt: &(impl Abort + Files<File = File> + Net),
+    rt: &(impl Abort + Files<File = File> + Net + Clock + Env + RandomSource),
     path: &str,
     at: u64,
     octets: &[u8],
@@ -127,7 +131,7 @@ fn patch(
 
 /// The octets of a file.
 fn octets_in(
-    rt: &(impl Abort + Files<File = File> + Net),
+    rt: &(impl Abort + Files<File = File> + Net + Clock + Env + RandomSource),
     alloc: Global,
     path: &str,
 ) -> Result<Vec<u8>, Fail> {
@@ -138,7 +142,7 @@ fn octets_in(
 
 /// Runs these words, and looks whether these files hold what they held before.
 fn expect_keeping(
-    rt: &(impl Abort + Files<File = File> + Net),
+    rt: &(impl Abort + Files<File = File> + Net + Clock + Env + RandomSource),
     alloc: Global,
     files: &[&str],
     words: &[&str],
@@ -159,7 +163,7 @@ fn expect_keeping(
 
 /// Runs these words while the file of a path is claimed, beside other readers or not.
 fn expect_claimed(
-    rt: &(impl Abort + Files<File = File> + Net),
+    rt: &(impl Abort + Files<File = File> + Net + Clock + Env + RandomSource),
     alloc: Global,
     path: &str,
     is_shared: bool,
@@ -178,7 +182,7 @@ fn expect_claimed(
 
 /// Runs these words where the file of a path fails.
 fn expect_failing(
-    rt: &(impl Abort + Files<File = File> + Net),
+    rt: &(impl Abort + Files<File = File> + Net + Clock + Env + RandomSource),
     alloc: Global,
     path: &'static str,
     broken: Broken,
@@ -223,7 +227,7 @@ impl Write for Closing {
 
 /// Words over a writer that fails end with status 5 and the line that says so.
 fn expect_output(
-    rt: &(impl Abort + Files<File = File> + Net),
+    rt: &(impl Abort + Files<File = File> + Net + Clock + Env + RandomSource),
     alloc: Global,
     writes: u32,
     flushes: u32,
@@ -238,7 +242,7 @@ fn expect_output(
 
 /// Runs the words of a relay over a system between the wires of two peers.
 fn expect_relay<'a>(
-    rt: &'a (impl Abort + Files<File = File> + Net),
+    rt: &'a (impl Abort + Files<File = File> + Net + Clock + Env + RandomSource),
     alloc: Global,
     peers: &'a Peers,
     words: &'a [&'a str],
@@ -255,7 +259,7 @@ fn expect_relay<'a>(
 
 /// Relays a frame each way, and looks at what comes to the peers.
 fn relay(
-    rt: &(impl Abort + Files<File = File> + Net),
+    rt: &(impl Abort + Files<File = File> + Net + Clock + Env + RandomSource),
     alloc: Global,
     disk: &str,
     frames: Frames,
@@ -274,7 +278,7 @@ fn relay(
 /// Relays a frame each way behind a stranger's datagrams by a relay that waits, in so many turns. It looks at what
 /// comes to the peers.
 fn relay_waiting(
-    rt: &(impl Abort + Files<File = File> + Net),
+    rt: &(impl Abort + Files<File = File> + Net + Clock + Env + RandomSource),
     alloc: Global,
     disk: &str,
     frames: Frames,
@@ -308,7 +312,7 @@ fn expect_frames(
 
 /// Takes one step.
 fn take(
-    rt: &(impl Abort + Files<File = File> + Net),
+    rt: &(impl Abort + Files<File = File> + Net + Clock + Env + RandomSource),
     alloc: Global,
     step: Step,
 ) -> Result<(), Fail> {
@@ -351,7 +355,7 @@ fn take(
 /// Takes steps, one after another, over files in a folder that is not there at first, and that is removed
 /// at the end.
 pub fn play(
-    rt: &(impl Abort + Files<File = File> + Net + AllocGlobal),
+    rt: &(impl Abort + Files<File = File> + Net + Clock + Env + RandomSource + AllocGlobal),
     alloc: Global,
     folder: &str,
     story: &[Step],

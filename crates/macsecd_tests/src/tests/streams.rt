@@ -10,7 +10,8 @@ use std::fs::File;
 use std::io::{self, Read, Write};
 use std::net::Net;
 use std::process::Abort;
-use std::rt::Files;
+use std::random::RandomSource;
+use std::rt::{Clock, Env, Files};
 use std::test::Fail;
 
 /// A reader that gives some octets and then fails.
@@ -198,7 +199,7 @@ fn a_slow_reader_is_read_whole(rt: HostRuntime) {
 
 /// A word on the input over a writer ends with this status and this line on standard error.
 fn expect_written<W: Write>(
-    rt: &(impl Abort + Files<File = File> + Net),
+    rt: &(impl Abort + Files<File = File> + Net + Clock + Env + RandomSource),
     alloc: Global,
     word: &str,
     out: &mut W,
@@ -213,7 +214,7 @@ fn expect_written<W: Write>(
 
 /// The line goes out as far as there is room for it.
 fn expect_narrow(
-    rt: &(impl Abort + Files<File = File> + Net),
+    rt: &(impl Abort + Files<File = File> + Net + Clock + Env + RandomSource),
     alloc: Global,
     room: usize,
     status: u8,

@@ -1,7 +1,7 @@
 //! Words: the action, and what is refused.
 
 use super::{INTEGRITY, KEY, OPENED, Outcome, SCI, expect, expect_lines, joined};
-use macs_words::{Action, Pace, action_of};
+use macs_words::{Action, Pace, Question, Running, action_of};
 use std::alloc::Global;
 use std::test::Fail;
 
@@ -102,7 +102,30 @@ const WORDS_TOO_FEW: &[&[&str]] = &[
     &["validate"],
     &["validate", "left.disk"],
     &["validate", "left.disk", "protected.pcap"],
+    &["ask"],
+    &["ask", "control"],
+    &["inspect"],
+    &["check"],
 ];
+
+/// Words that ask nothing that a relay is asked, and the line that says what it is asked.
+const NO_QUESTION: Outcome = Outcome::Usage(
+    "macsecd: ask PATH show, counters, stop, or apply FILE\n",
+);
+
+const WORDS_OF_NO_QUESTION: &[&[&str]] = &[
+    &["ask", "control", "Show"],
+    &["ask", "control", "apply"],
+    &["ask", "control", "show", "left.toml"],
+    &["ask", "control", "", "left.toml"],
+];
+
+#[test]
+fn refuses_a_question_that_is_none(rt: HostRuntime) {
+    for words in WORDS_OF_NO_QUESTION {
+        expect(&rt, rt.alloc(), words, "", NO_QUESTION);
+    }
+}
 
 /// Each value is required.
 #[test]
@@ -139,6 +162,11 @@ const WORDS_TOO_MANY: &[&[&str]] = &[
         "plain.pcap",
         "more",
     ],
+    &["ask", "control", "apply", "left.toml", "more"],
+    &["key", "more"],
+    &["key", "--long", "more"],
+    &["inspect", "plain.pcap", "more"],
+    &["check", "left.toml", "more"],
 ];
 
 #[test]
@@ -238,6 +266,30 @@ const WORDS_WITH_OPTIONS: &[(&[&str], Outcome)] = &[
     (
         &["show", "-V"],
         Outcome::Usage("macsecd: unexpected argument '-V' found\n"),
+    ),
+    (
+        &["protect", "d", "i", "o", "--all=1"],
+        Outcome::Usage("macsecd: unexpected value '1' for '--all' found; no more were expected\n"),
+    ),
+    (
+        &["validate", "--all", "d", "i", "o", "--all"],
+        Outcome::Usage("macsecd: the argument '--all' cannot be used multiple times\n"),
+    ),
+    (
+        &["key", "--long=1"],
+        Outcome::Usage("macsecd: unexpected value '1' for '--long' found; no more were expected\n"),
+    ),
+    (
+        &["key", "--long", "--long"],
+        Outcome::Usage("macsecd: the argument '--long' cannot be used multiple times\n"),
+    ),
+    (
+        &["inspect", "--long", "plain.pcap"],
+        Outcome::Usage("macsecd: unexpected argument '--long' found\n"),
+    ),
+    (
+        &["check", "left.toml", "--help"],
+        Outcome::Usage("macsecd: unexpected argument '--help' found\n"),
     ),
 ];
 
@@ -463,7 +515,121 @@ const TAKEN: &[(&[&str], Parts<'static>)] = &[
         &["relay", "--turns", "5", "--", "--wait", "a", "b", "c", "e"],
         ("relay", ["--wait", "a", "b", "c", "e"], [5, 0]),
     ),
+    (
+        &["ask", "p", "show"],
+        ("ask show", ["p", "", "", "", ""], [0, 0]),
+    ),
+    (
+        &["ask", "show", "counters"],
+        ("ask counters", ["show", "", "", "", ""], [0, 0]),
+    ),
+    (
+        &["ask", "p", "stop"],
+        ("ask stop", ["p", "", "", "", ""], [0, 0]),
+    ),
+    (
+        &["ask", "p", "apply", "show"],
+        ("ask apply", ["p", "show", "", "", ""], [0, 0]),
+    ),
+    (
+        &["protect", "--all", "d", "i", "o"],
+        ("protect", ["d", "i", "o", "all", ""], [0, 0]),
+    ),
+    (
+        &["validate", "d", "--all", "--", "--all", "o"],
+        ("validate", ["d", "--all", "o", "all", ""], [0, 0]),
+    ),
+    (&["key"], ("key", ["", "", "", "", ""], [0, 0])),
+    (
+        &["key", "--long"],
+        ("key", ["long", "", "", "", ""], [0, 0]),
+    ),
+    (
+        &["inspect", "key"],
+        ("inspect", ["key", "", "", "", ""], [0, 0]),
+    ),
+    (
+        &["check", "--", "--long"],
+        ("check", ["--long", "", "", "", ""], [0, 0]),
+    ),
 ];
+
+/// What a relay serves: a control socket, a file of counters, and a buffer in octets.
+type Served<'a> = (&'a str, &'a str, u32);
+
+/// Words of a relay, and what it serves.
+const SERVED: &[(&[&str], Served<'static>)] = &[
+    (
+        &["relay", "d", "a", "b", "c", "e", "--wait", "5"],
+        ("", "", 0),
+    ),
+    (
+        &[
+            "relay",
+            "d",
+            "a",
+            "b",
+            "c",
+            "e",
+            "--wait",
+            "5",
+            "--control",
+            "p",
+            "--metrics",
+            "m",
+            "--buffer",
+            "1073741823",
+        ],
+        ("p", "m", 1_073_741_823),
+    ),
+    (
+        &[
+            "relay",
+            "--buffer=1",
+            "--metrics=m",
+            "d",
+            "a",
+            "b",
+            "c",
+            "e",
+            "--turns",
+            "5",
+        ],
+        ("", "m", 1),
+    ),
+];
+
+/// What a relay serves, of the action that it is.
+fn served<'a>(action: Action<'a>) -> Option<Served<'a>> {
+    match action {
+        Action::Relay { running, .. } => Some(served_so(running)),
+        _ => None,
+    }
+}
+
+/// What a relay serves that runs so.
+fn served_so<'a>(running: Running<'a>) -> Served<'a> {
+    (
+        running.control.unwrap_or(""),
+        running.metrics.unwrap_or(""),
+        running.buffer.unwrap_or(0),
+    )
+}
+
+#[test]
+fn takes_what_a_relay_serves(rt: HostRuntime) {
+    for (words, (control, metrics, buffer)) in SERVED {
+        let Some(action) = named(rt.alloc(), words) else {
+            panic!(rt; "{control}");
+        };
+        let Some((found_control, found_metrics, found_buffer)) = served(action) else {
+            panic!(rt; "{metrics}");
+        };
+        assert_eq!(rt; found_control, *control);
+        assert_eq!(rt; found_metrics, *metrics);
+        assert_eq!(rt; found_buffer, *buffer);
+    }
+}
 
 /// An action in its parts.
 fn parts<'a>(action: Action<'a>) -> Parts<'a> {
@@ -493,19 +659,29 @@ fn parts<'a>(action: Action<'a>) -> Parts<'a> {
             disk,
             input,
             output,
-        } => ("protect", [disk, input, output, "", ""], [0, 0]),
+            is_all,
+        } => (
+            "protect",
+            [disk, input, output, if is_all { "all" } else { "" }, ""],
+            [0, 0],
+        ),
         Action::Validate {
             disk,
             input,
             output,
-        } => ("validate", [disk, input, output, "", ""], [0, 0]),
+            is_all,
+        } => (
+            "validate",
+            [disk, input, output, if is_all { "all" } else { "" }, ""],
+            [0, 0],
+        ),
         Action::Relay {
             disk,
             controlled,
             common,
-            pace,
+            running,
         } => {
-            let (name, numbers) = pace_parts(pace);
+            let (name, numbers) = pace_parts(running.pace);
             (
                 name,
                 [
@@ -518,6 +694,27 @@ fn parts<'a>(action: Action<'a>) -> Parts<'a> {
                 numbers,
             )
         }
+        Action::Ask { path, question } => {
+            let (name, file) = question_parts(question);
+            (name, [path, file, "", "", ""], [0, 0])
+        }
+        Action::Key { is_long } => (
+            "key",
+            [if is_long { "long" } else { "" }, "", "", "", ""],
+            [0, 0],
+        ),
+        Action::Inspect { input } => ("inspect", [input, "", "", "", ""], [0, 0]),
+        Action::Check { file } => ("check", [file, "", "", "", ""], [0, 0]),
+    }
+}
+
+/// What a relay is asked, and the file of its commands.
+fn question_parts<'a>(question: Question<'a>) -> (&'static str, &'a str) {
+    match question {
+        Question::Show => ("ask show", ""),
+        Question::Counters => ("ask counters", ""),
+        Question::Stop => ("ask stop", ""),
+        Question::Apply(file) => ("ask apply", file),
     }
 }
 

@@ -4,7 +4,7 @@ use Rattle.macs_planes.specs.Bits.{IsBlock}
 use Rattle.macs_planes.specs.Blocks.{octet, octet_basis, zeros, blocks_in}
 use Rattle.macs_planes.proofs.AcrossLanes.{across_blocks, below_eight_bit, bit_within, block_itself, blocks_whole, lane_within, loaded_octet, place_of_block, place_within, sixteen_of_block}
 use Rattle.macs_planes.proofs.Circuit.{octet_of}
-use Rattle.macs_planes.proofs.Sixteen.{below_eight}
+use Rattle.macs_lanes.proofs.Sixteen.{below_eight}
 use Rattle.macs_planes.specs.declared.places.TheConstants.{LANES}
 use Rattle.macs_planes.proofs.across.loaded.Goals as goal
 

@@ -11,7 +11,7 @@ returns-in_err-source-clause-asks g c =
 pub returns-in_err-source-clause-passes : goal.returns-in_err-source-clause-passes
 returns-in_err-source-clause-passes g c =
     let p = err_from_is_err_and c.from_residual.result c.from_residual.ensures.1 in
-    no-capture _ _ _ _ _ _ c.in_err-source.field-0.0 p.0 c.from_residual.result p.1 p.2 c.in_err-source.ensures.failed
+    no-capture _ _ _ _ _ _ _ c.in_err-source.field-0.0 p.0 c.from_residual.result p.1 p.2 c.in_err-source.ensures.failed
 
 pub returns-clause-asks : goal.returns-clause-asks
 returns-clause-asks g c = both _ _ _ _ c.pass_frames.result c.in_ok-source.ensures.order
@@ -19,4 +19,4 @@ returns-clause-asks g c = both _ _ _ _ c.pass_frames.result c.in_ok-source.ensur
 pub returns-clause-passes : goal.returns-clause-passes
 returns-clause-passes g c =
     let said = c.pass_frames.ensures in
-    frames-passed _ _ _ c.args.direction _ _ _ _ _ _ _ _ c.pass_frames.result said.printed said.ended said.failed said.silent said.broken
+    frames-passed _ _ _ c.args.direction c.args.is_all _ _ _ _ _ _ _ _ c.pass_frames.result said.printed said.ended said.failed said.silent said.broken

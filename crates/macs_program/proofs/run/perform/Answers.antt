@@ -1,4 +1,4 @@
-use Rattle.macs_program.proofs.Performed.{applies, formats, opens, shows}
+use Rattle.macs_program.proofs.Performed.{applies, checks, formats, inspects, keys, opens, shows}
 use Rattle.macs_program.proofs.run.perform.Goals as goal
 
 pub returns-in-Open-clause-performs : goal.returns-in-Open-clause-performs
@@ -14,4 +14,13 @@ pub returns-in-Show-clause-performs : goal.returns-in-Show-clause-performs
 returns-in-Show-clause-performs g c = rw c.in-Show.is (shows _ _ _ _ _ _ _ _ c.show.ensures.printed c.show.ensures.failed c.show.ensures.silent c.show.ensures.ended c.show.ensures.broken)
 
 pub returns-in-Protect-clause-performs : goal.returns-in-Protect-clause-performs
-returns-in-Protect-clause-performs g c = c.perform_on_frames.ensures (g.R.Read.remaining c.args.input.now)
+returns-in-Protect-clause-performs g c = c.perform_on_frames.ensures _
+
+pub returns-in-Key-clause-performs : goal.returns-in-Key-clause-performs
+returns-in-Key-clause-performs g c = rw c.in-Key.is (keys _ _ _ _ _ _ _ _ c.key.ensures.printed c.key.ensures.failed c.key.ensures.silent c.key.ensures.broken)
+
+pub returns-in-Inspect-clause-performs : goal.returns-in-Inspect-clause-performs
+returns-in-Inspect-clause-performs g c = rw c.in-Inspect.is (inspects _ _ _ _ _ _ _ _ c.inspect.ensures.printed c.inspect.ensures.failed c.inspect.ensures.ended c.inspect.ensures.front c.inspect.ensures.broken)
+
+pub returns-in-Check-clause-performs : goal.returns-in-Check-clause-performs
+returns-in-Check-clause-performs g c = rw c.in-Check.is (checks _ _ _ _ _ _ _ _ c.check.ensures.printed c.check.ensures.ended c.check.ensures.silent c.check.ensures.broken)

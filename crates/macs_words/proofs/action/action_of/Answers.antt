@@ -1,7 +1,7 @@
 use Rattle.std.proofs.Common.{◌≡◌, ◌∙◌, IfSome, List, [], Option, Some, inl, inr, ap, subst, sym}
 use Rattle.clap.specs.Words.{App, Row, Text, fault_of, is_simple, is_simple_and_free, subcommand_of, subcommand_rows_of, takes}
 use Rattle.macs_words.specs.declared.action.Action.{Action}
-use Rattle.macs_words.specs.Words.{FitsNumbers, LacksPace, Names, macsecd, texts}
+use Rattle.macs_words.specs.Words.{FitsNumbers, Names, NamesNothing, macsecd, texts}
 use Rattle.macs_words.proofs.Subcommands.{IsRead, free, named, simple, taken_without_fault, wants_memory}
 use Rattle.macs_words.proofs.action.action_of.Goals as goal
 

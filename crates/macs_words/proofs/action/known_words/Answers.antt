@@ -8,4 +8,8 @@ returns c =
     let with-4 = c.with_words-words-4.ensures _ _ with-3 c.show_words.ensures in
     let with-5 = c.with_words-words-5.ensures _ _ with-4 c.capture_words.ensures in
     let with-6 = c.with_words-words-6.ensures _ _ with-5 c.capture_words-2.ensures in
-    c.with_words.ensures _ _ with-6 c.relay_words.ensures
+    let with-7 = c.with_words-words-7.ensures _ _ with-6 c.relay_words.ensures in
+    let with-8 = c.with_words-words-8.ensures _ _ with-7 c.ask_words.ensures in
+    let with-9 = c.with_words-words-9.ensures _ _ with-8 c.key_words.ensures in
+    let with-10 = c.with_words-words-10.ensures _ _ with-9 c.file_words.ensures in
+    c.with_words.ensures _ _ with-10 c.file_words-2.ensures

@@ -3,7 +3,7 @@ use Rattle.std.proofs.lemmas.List.{length-set}
 use Rattle.macs_planes.specs.Blocks.{octet_basis, zeros}
 use Rattle.macs_planes.specs.Columns.{IsCrossed}
 use Rattle.macs_planes.proofs.Bytes.{block_was, rows_all, rows_more, stored_row}
-use Rattle.macs_planes.proofs.Sixteen.{below_eight}
+use Rattle.macs_lanes.proofs.Sixteen.{below_eight}
 use Rattle.macs_planes.proofs.planes.Planes.store.Goals as goal
 
 pub loop-i-preserved : goal.loop-i-preserved

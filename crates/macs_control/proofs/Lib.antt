@@ -1,0 +1,4 @@
+pub mod Asked
+pub mod Called
+pub mod Heard
+pub mod Marks

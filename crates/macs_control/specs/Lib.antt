@@ -1,0 +1,10 @@
+pub mod Links
+pub mod Seats
+pub mod Watching
+pub mod Binding
+pub mod Notices
+pub mod Signals
+pub mod Seconds
+pub mod MetricsFiles
+pub mod Buffers
+pub mod Asking

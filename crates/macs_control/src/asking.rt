@@ -1,0 +1,155 @@
+//! The side that asks: a line is sent, and the lines of the answer are read up to its end.
+
+ghost use Rattle.std.specs.Prelude.{◌≡◌, ◌∷◌, ◌++◌, [], IfOk, IfSome, OnOk};
+ghost use Rattle.macs_requests.specs.Requests.{end_line};
+
+use crate::connection::Connection;
+use crate::seat::{Hearing, Seat};
+use macs_requests::{Client, Line, MAX_LINE, end_of_line};
+use std::alloc::{AllocError, Global};
+use std::str;
+
+/// The most lines of an answer.
+const MAX_LINES: usize = 65_536;
+
+/// Why a relay gave no answer.
+#[derive(Clone, Copy, Debug, PartialEq, Eq)]
+pub enum AskFault {
+    /// There is no memory for its answer.
+    Memory,
+    /// It went away, or what it said is no answer.
+    Gone,
+}
+
+impl From<AllocError> for AskFault {
+    ghost use Rattle.std.specs.Prelude.{◌≡◌};
+    ghost use Rattle.macs_control.specs.declared.asking.AskFault.TheVariants.{Memory};
+
+    ghost from_gives = { λ _ fault. fault ≡ Memory };
+
+    fn from(_error: AllocError) -> AskFault {
+        AskFault::Memory
+    }
+}
+
+/// An answer: its lines, each with its end, and the status that comes behind them.
+#[derive(Drop)]
+pub struct Answer {
+    pub text: Vec<u8>,
+    pub status: u8,
+}
+
+/// Who asks a relay.
+#[derive(Drop)]
+pub struct Asker<S> {
+    relay: Seat<S>,
+}
+
+/// The status of a line that ends an answer.
+fn status_in(alloc: Global, line: &Line) -> Result<Option<u8>, AskFault>
+    ensures { IfOk result (λ found. IfSome found (λ status. line.now.items ≡ end_line status)) }
+{
+    let Ok(text) = str::from_utf8(line.as_slice()) else {
+        return Ok(None);
+    };
+    let status = end_of_line(alloc, text)?;
+    Ok(status)
+}
+
+/// Puts a line and its end behind a text.
+fn put_line(text: &mut Vec<u8>, line: &Line) -> Result<(), AllocError>
+    ensures { OnOk result (text.new.items ≡ text.old.items ++ (line.now.items ++ 10 ∷ [])) }
+{
+    text.extend_from_slice(line.as_slice())?;
+    text.push(b'\n')?;
+    Ok(())
+}
+
+impl<S: Connection> Asker<S> {
+    ghost use Rattle.std.specs.Prelude.{◌≡◌, ◌++◌, ◌∷◌, [], IfOk, IfSome, true};
+    ghost use Rattle.macs_control.specs.Asking.{BeginsWithAnswer, BeginsWithLine, relay_of, unread};
+    ghost use Rattle.macs_control.specs.Links.{GivesOctets};
+    ghost use Rattle.macs_control.specs.Seats.{connection_of, held_by};
+
+    /// Over a connection of which nothing was heard yet.
+    pub fn over(connection: S) -> Asker<S>
+        ensures connection { connection_of (relay_of result) ≡ connection }
+        ensures held { held_by (relay_of result) ≡ [] }
+    {
+        Asker {
+            relay: Seat::new(Client(1), connection),
+        }
+    }
+
+    /// Sends a line, to which its end is added.
+    pub fn send(&mut self, alloc: Global, line: &str) -> Result<(), AskFault>
+        ensures sent { IfOk result (λ done. GivesOctets (S.link (connection_of (relay_of self.old)))
+            (S.link (connection_of (relay_of self.new))) (line.now ++ 10 ∷ []) true) }
+        ensures held { held_by (relay_of self.new) ≡ held_by (relay_of self.old) }
+    {
+        let text = format!(in alloc; "{line}\n")?;
+        if self.relay.give(text.as_str().as_bytes()) {
+            return Ok(());
+        }
+        Err(AskFault::Gone)
+    }
+
+    /// The next line. A look at the connection that brings no whole line brings an octet of it at
+    /// least, or was interrupted.
+    fn next_line(&mut self) -> Option<Line>
+        ensures { IfSome result (λ line. BeginsWithLine
+            (unread (held_by (relay_of self.old)) (S.link (connection_of (relay_of self.old))))
+            line.items
+            (unread (held_by (relay_of self.new)) (S.link (connection_of (relay_of self.new))))) }
+    {
+        for _look in 0..=MAX_LINE {
+            match self.relay.hear() {
+                Hearing::Line(line) => return Some(line),
+                Hearing::Silence => {}
+                Hearing::Gone => return None,
+            }
+        }
+        None
+    }
+
+    /// The next line, which has to come.
+    fn line(&mut self) -> Result<Line, AskFault>
+        ensures { IfOk result (λ line. BeginsWithLine
+            (unread (held_by (relay_of self.old)) (S.link (connection_of (relay_of self.old))))
+            line.items
+            (unread (held_by (relay_of self.new)) (S.link (connection_of (relay_of self.new))))) }
+    {
+        match self.next_line() {
+            Some(line) => Ok(line),
+            None => Err(AskFault::Gone),
+        }
+    }
+
+    /// Waits until the relay ends the connection, or says nothing for a minute.
+    pub fn outlast(&mut self) {
+        for _look in 0..MAX_LINES {
+            match self.relay.hear() {
+                Hearing::Gone => return,
+                Hearing::Line(_) | Hearing::Silence => {}
+            }
+        }
+    }
+
+    /// Reads an answer up to its end.
+    pub fn answer(&mut self, alloc: Global) -> Result<Answer, AskFault>
+        ensures { IfOk result (λ answer. BeginsWithAnswer
+            (unread (held_by (relay_of self.old)) (S.link (connection_of (relay_of self.old))))
+            answer.text.items answer.status
+            (unread (held_by (relay_of self.new)) (S.link (connection_of (relay_of self.new))))) }
+    {
+        let mut text = Vec::new(alloc);
+        for _line in 0..MAX_LINES {
+            let line = self.line()?;
+            if let Some(status) = status_in(alloc, &line)? {
+                return Ok(Answer { text, status });
+            }
+            put_line(&mut text, &line)?;
+        }
+        Err(AskFault::Gone)
+    }
+}

@@ -1,0 +1,172 @@
+//! The control socket of a relay, and all that a relay that is attended sleeps on.
+
+use crate::binding::{SystemSockets, bind};
+use crate::seats::{MAX_CLIENTS, Seats};
+use crate::second::EachSecond;
+use crate::signals::is_told_to_end;
+use crate::watch::{NO_SOCKET, Watch, Wires};
+use macs_requests::{Client, Clients, Heard};
+use std::alloc::{AllocError, Global};
+use std::net::Net;
+use std::os::fd::{AsRawFd, RawFd};
+use std::os::unix::net::{UnixListener, UnixStream};
+use std::rt::{Clock, Files};
+
+/// The longest sleep, in milliseconds: so that an end from outside is seen within a second.
+const LONGEST_SLEEP: u16 = 1_000;
+
+/// Why there is no control socket.
+#[derive(Clone, Copy, Debug, PartialEq, Eq)]
+pub enum ControlFault {
+    /// There is no memory for its clients.
+    Memory,
+    /// A program listens at its name, or the name belongs to another file, or a call of the system
+    /// failed.
+    Bind,
+}
+
+impl From<AllocError> for ControlFault {
+    ghost use Rattle.std.specs.Prelude.{◌≡◌};
+    ghost use Rattle.macs_control.specs.declared.control_socket.ControlFault.TheVariants.{Memory};
+
+    ghost from_gives = { λ _ fault. fault ≡ Memory };
+
+    fn from(_error: AllocError) -> ControlFault {
+        ControlFault::Memory
+    }
+}
+
+/// The clients of a relay, and its wires, on which it sleeps too.
+#[derive(Drop)]
+pub struct ControlSocket<'a, T> {
+    rt: &'a T,
+    alloc: Global,
+    wires: Wires,
+    limit: u16,
+    listener: Option<UnixListener>,
+    seats: Seats<UnixStream>,
+    second: EachSecond,
+    /// A line was heard last: more may be at hand.
+    has_heard: bool,
+    /// The sleep before showed that nobody says anything.
+    is_still: bool,
+}
+
+/// Takes in clients that connected.
+fn greet(listener: &UnixListener, seats: &mut Seats<UnixStream>) {
+    for _client in 0..MAX_CLIENTS {
+        let Ok((stream, _)) = listener.accept() else {
+            return;
+        };
+        if stream.set_nonblocking(true).is_ok() {
+            seats.take_in(stream);
+        }
+    }
+}
+
+/// The socket of the client at a place, or none.
+fn socket_at(seats: &Seats<UnixStream>, at: usize) -> RawFd {
+    if at < seats.len() {
+        seats.connection(at).as_raw_fd()
+    } else {
+        NO_SOCKET
+    }
+}
+
+/// The listener at a name, where there is to be one.
+fn listener_at<T: Files + Net>(
+    rt: &T,
+    path: Option<&str>,
+) -> Result<Option<UnixListener>, ControlFault> {
+    let Some(path) = path else {
+        return Ok(None);
+    };
+    match bind(&mut SystemSockets { rt }, path) {
+        Some(listener) => Ok(Some(listener)),
+        None => Err(ControlFault::Bind),
+    }
+}
+
+impl<'a, T: Files + Clock> ControlSocket<'a, T> {
+    /// Over these wires and a socket at a name, or without one: then there are no clients. Each
+    /// sleep is for so many milliseconds at most, and for a second at most.
+    pub fn bind(
+        rt: &'a T,
+        alloc: Global,
+        path: Option<&str>,
+        wires: Wires,
+        limit: u16,
+    ) -> Result<ControlSocket<'a, T>, ControlFault>
+    where
+        T: Net,
+    {
+        let seats = Seats::new(alloc)?;
+        let listener = listener_at(rt, path)?;
+        Ok(ControlSocket {
+            rt,
+            alloc,
+            wires,
+            limit,
+            listener,
+            seats,
+            second: EachSecond::new(),
+            has_heard: false,
+            is_still: false,
+        })
+    }
+
+    /// What is watched.
+    fn watch(&self) -> Watch {
+        let listener = match &self.listener {
+            Some(listener) => listener.as_raw_fd(),
+            None => NO_SOCKET,
+        };
+        let seats = &self.seats;
+        Watch {
+            wires: self.wires,
+            listener,
+            first: socket_at(seats, 0),
+            second: socket_at(seats, 1),
+            third: socket_at(seats, 2),
+            fourth: socket_at(seats, 3),
+        }
+    }
+}
+
+impl<T: Files + Clock> Clients for ControlSocket<'_, T> {
+    /// After a sleep that only a wire ended, no client is looked at.
+    fn hear(&mut self) -> Option<Heard> {
+        if self.is_still {
+            self.is_still = false;
+            return None;
+        }
+        if let Some(listener) = &self.listener {
+            greet(listener, &mut self.seats);
+        }
+        let heard = self.seats.hear();
+        self.has_heard = heard.is_some();
+        heard
+    }
+
+    fn say(&mut self, client: Client, text: &[u8]) {
+        self.seats.say(client, text);
+    }
+
+    /// Where a line was heard last, more of them may be at hand, and there is no sleep.
+    fn sleep(&mut self) {
+        if self.has_heard {
+            return;
+        }
+        self.is_still = !self.watch().sleep(self.limit.min(LONGEST_SLEEP));
+    }
+
+    fn is_ended(&mut self) -> bool {
+        self.second.is_over(self.rt) && is_told_to_end(self.rt, self.alloc)
+    }
+}
+
+/// Removes the name of a control socket at the end. Where that fails, the next relay finds it left
+/// behind.
+pub fn remove_name<T: Files>(rt: &T, path: &str) {
+    let _ = rt.remove_file(path);
+}

@@ -1,0 +1,29 @@
+//! The control socket of a relay: what the system is asked for it, and what comes of its clients.
+#![tactic(auto)]
+
+mod asking;
+mod binding;
+mod buffers;
+mod connection;
+mod control_socket;
+mod metrics_file;
+mod notifier;
+mod patient;
+mod seat;
+mod seats;
+mod second;
+mod signals;
+mod watch;
+
+pub use asking::{Answer, AskFault, Asker};
+pub use binding::{LocalSockets, Reach, SystemSockets, bind};
+pub use buffers::ask_for_buffer;
+pub use connection::{Connection, Taken};
+pub use control_socket::{ControlFault, ControlSocket, remove_name};
+pub use metrics_file::{FileCalls, MetricsFile, MetricsPlace, SystemFiles, replace};
+pub use notifier::Notifier;
+pub use patient::PatientStream;
+pub use seat::{Hearing, Seat};
+pub use seats::{MAX_CLIENTS, Seats};
+pub use signals::is_term_pending;
+pub use watch::{Watch, Wires};

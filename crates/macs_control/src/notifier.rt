@@ -1,0 +1,117 @@
+//! Whoever started the program is told how far it is (sd_notify(3)).
+
+ghost use Rattle.std.specs.Prelude.{◌≡◌, ◌≤◌, ◌+◌, ◌∷◌, length, take, IfSome};
+ghost use Rattle.macs_control.specs.Notices.{HasAddress, name_octets};
+
+use arrayvec::ArrayVec;
+use libc::net as c;
+use std::alloc::Global;
+use std::env;
+use std::net::Net;
+use std::rt::Env;
+
+/// The longest name of a local socket, in octets (unix(7)).
+const MAX_NAME: usize = 107;
+
+/// A name as it is in an address.
+type Name = ArrayVec<u8, MAX_NAME>;
+
+/// The address of a local socket, as the system takes it: so many of these octets count.
+#[derive(Clone, Copy)]
+pub(crate) struct LocalAddress {
+    octets: [u8; 128],
+    count: u32,
+    ghost short: { count ≤ 109 },
+}
+
+/// A name as it is in an address: of an abstract one, which begins with `@`, the first octet is 0.
+fn name_octets(name: &[u8]) -> Name
+    requires { length name.now ≤ 107 }
+    ensures { result.items ≡ name_octets name.now }
+{
+    let mut octets = Name::new();
+    if let Some((first, rest)) = name.split_first() {
+        octets.push(if *first == b'@' { 0 } else { *first });
+        octets.try_extend_from_slice(rest).unwrap();
+    }
+    octets
+}
+
+/// Puts the family of local sockets (`AF_UNIX`, a number of 16 bits, the low octet first) and a
+/// name at the front.
+fn put_name(octets: &mut [u8], name: &[u8])
+    requires { 2 + length name.now ≤ length octets.old }
+    ensures { take (2 + length name.now) octets.new ≡ 1 ∷ 0 ∷ name.now }
+{
+    octets[..2].copy_from_slice(&[1, 0]);
+    octets[2..2 + name.len()].copy_from_slice(name);
+}
+
+/// The address of a name, where it is one: 1 to 107 octets, a path or an abstract name.
+pub(crate) fn address_of(name: &[u8]) -> Option<LocalAddress>
+    ensures count { IfSome result (λ address. address.count ≡ 2 + length name.now) }
+    ensures address { IfSome result (λ address. HasAddress name.now address.octets) }
+{
+    if name.is_empty() || name.len() > MAX_NAME {
+        return None;
+    }
+    let mut octets = [0u8; 128];
+    put_name(&mut octets, name_octets(name).as_slice());
+    Some(LocalAddress {
+        octets,
+        count: (2 + name.len()) as u32,
+    })
+}
+
+/// Who is told how far the program is: the socket that `NOTIFY_SOCKET` names, if there is one.
+#[derive(Clone, Copy)]
+pub struct Notifier {
+    address: Option<LocalAddress>,
+}
+
+/// Sends a text to an address, as one datagram. Nobody hears of a failure: the program goes on.
+fn send_to(address: &LocalAddress, text: &[u8]) {
+    let fd = unsafe { c::socket(c::AF_UNIX, c::SOCK_DGRAM | c::SOCK_CLOEXEC, 0) };
+    if fd < 0 {
+        return;
+    }
+    let _ = unsafe {
+        c::sendto(
+            fd,
+            text,
+            c::MSG_NOSIGNAL | c::MSG_DONTWAIT,
+            &address.octets,
+            address.count,
+        )
+    };
+    libc::close(fd);
+}
+
+impl Notifier {
+    /// Whom the environment names.
+    pub fn of_environment<R: Env + Net>(rt: &R, alloc: Global) -> Notifier {
+        match env::var(&(rt, alloc), "NOTIFY_SOCKET") {
+            Ok(name) => Notifier {
+                address: address_of(name.as_bytes()),
+            },
+            Err(_) => Notifier { address: None },
+        }
+    }
+
+    /// Tells it a text.
+    fn tell(&self, text: &[u8]) {
+        if let Some(address) = &self.address {
+            send_to(address, text);
+        }
+    }
+
+    /// Tells it that the program serves.
+    pub fn ready(&self) {
+        self.tell(b"READY=1");
+    }
+
+    /// Tells it that the program ends.
+    pub fn stopping(&self) {
+        self.tell(b"STOPPING=1");
+    }
+}

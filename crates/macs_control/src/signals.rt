@@ -1,0 +1,59 @@
+//! A signal that is held back.
+
+ghost use Rattle.std.specs.Prelude.{◌≡◌, IsTrue, true, IfSome};
+ghost use Rattle.macs_control.specs.Signals.{HasDigits, IsTermPending, is_term_set};
+
+use std::alloc::Global;
+use std::fs;
+use std::rt::Files;
+
+/// What Linux says of this process (proc(5)).
+const STATUS: &str = "/proc/self/status";
+
+/// What stands before the signals that wait for the process as a whole, in 16 hex digits.
+const MARK: &str = "ShdPnd:\t";
+
+/// The weight of SIGTERM (15) among them.
+const TERM: u64 = 16_384;
+
+/// The digits behind the mark, up to the end of the line.
+fn digits_in(status: &str) -> Option<&str>
+    ensures { IfSome result (λ digits. HasDigits status.now digits.now) }
+{
+    let Some((_, behind)) = status.split_once(MARK) else {
+        return None;
+    };
+    let Some((digits, _)) = behind.split_once('\n') else {
+        return None;
+    };
+    Some(digits)
+}
+
+/// Whether SIGTERM is among the signals that hex digits say.
+fn is_term_in(digits: &str) -> bool
+    ensures { IsTrue result → is_term_set digits.now ≡ true }
+{
+    match u64::from_str_radix(digits, 16) {
+        Ok(signals) => signals / TERM % 2 == 1,
+        Err(_) => false,
+    }
+}
+
+/// Whether a text as that of `/proc/self/status` says that SIGTERM waits: it was sent to the
+/// process, which was started with that signal held back.
+pub fn is_term_pending(status: &str) -> bool
+    ensures { IsTrue result → IsTermPending status.now }
+{
+    match digits_in(status) {
+        Some(digits) => is_term_in(digits),
+        None => false,
+    }
+}
+
+/// Whether SIGTERM was sent to this process and is held back. It is not where that cannot be read.
+pub(crate) fn is_told_to_end<T: Files>(rt: &T, alloc: Global) -> bool {
+    match fs::read_to_string(&(rt, alloc), STATUS) {
+        Ok(status) => is_term_pending(status.as_str()),
+        Err(_) => false,
+    }
+}

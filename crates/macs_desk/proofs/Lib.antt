@@ -1,0 +1,3 @@
+pub mod EndTexts
+pub mod Talking
+pub mod Looking

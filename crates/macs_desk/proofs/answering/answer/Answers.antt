@@ -1,0 +1,24 @@
+use Rattle.std.proofs.Common.{◌∙◌, [], ◌∷◌, refl}
+use Rattle.macs_requests.specs.Talks.{Said}
+use Rattle.macs_desk.specs.Replies.{end_text}
+use Rattle.macs_desk.proofs.EndTexts.{end-0}
+use Rattle.macs_desk.proofs.Talking.{says}
+use Rattle.macs_desk.proofs.answering.answer.Goals as goal
+
+pub returns-in-Show : goal.returns-in-Show
+returns-in-Show g c =
+    let told = c.tell.ensures _ c.show_lines.ensures in
+    rw c.in-Show.is (told.0, (told.1, refl), told.2)
+
+pub returns-in-Counters : goal.returns-in-Counters
+returns-in-Counters g c =
+    let told = c.tell-in-Counters.ensures _ c.counter_lines-report.ensures in
+    rw c.in-Counters.is (told.0, (told.1, refl), told.2)
+
+pub returns-in-Stop : goal.returns-in-Stop
+returns-in-Stop g c = rw c.in-Stop.is (
+  Said c.args.client (end_text 0) ∷ [],
+  (refl, refl),
+  says (g.C.Clients.talk c.args.clients.now) (g.C.Clients.talk c.say.new.self) c.args.client
+      c.as_bytes.result.now (end_text 0) (c.as_bytes.ensures.value ∙ end-0) c.say.ensures,
+)

@@ -1,0 +1,3 @@
+pub mod UnderWay
+pub mod Replies
+pub mod Listening

@@ -1,0 +1,150 @@
+-- When a desk listens to its clients, and what it says to them.
+use Rattle.std.specs.Prelude.{◌≡◌, ◌≢◌, ◌⊎◌, ◌==◌, ◌-◌, ◌++◌, ◌||◌, ℕ, Bool, true, false, List, [], ◌∷◌}
+use Rattle.std.specs.Prelude.{Option, Some, None, Result, Ok, Err}
+use Rattle.std.specs.Str.{IsUtf8}
+use Rattle.macs_edge.specs.declared.attending.CommandEnd.{CommandEnd}
+use Rattle.macs_edge.specs.declared.attending.Order.{Order}
+use Rattle.macs_edge.specs.declared.attending.Order.TheVariants.{Go, Submit, End}
+use Rattle.macs_edge.specs.declared.counts.WireCounts.{WireCounts}
+use Rattle.macs_endpoint.specs.State.{no_logs}
+use Rattle.macs_endpoint.specs.Value.{EndpointValue, state_of}
+use Rattle.macs_endpoint.specs.declared.fault.SubmitFault.{SubmitFault}
+use Rattle.macs_requests.specs.Requests.{IsAsked, request_line}
+use Rattle.macs_requests.specs.Talks.{Talk, Heard, Said, Slept, Looked, Note, Asked, Put}
+use Rattle.macs_requests.specs.declared.clients.Client.{Client}
+use Rattle.macs_requests.specs.declared.clients.Heard.{Heard as HeardLine}
+use Rattle.macs_requests.specs.declared.requests.Request.{Request}
+use Rattle.macs_requests.specs.declared.requests.Request.TheVariants.{Apply, Counters, Show, Stop}
+use Rattle.macs_rxsc.specs.Value as rxsc
+use Rattle.macs_txsc.specs.Value as txsc
+use Rattle.macs_texts.specs.Counting.{counters_text}
+use Rattle.macs_texts.specs.Measuring.{metrics_text}
+use Rattle.macs_texts.specs.Showing.{show_text}
+use Rattle.macs_desk.specs.Replies.{end_text, ended_text, not_taken_text}
+use Rattle.macs_desk.specs.UnderWay.{client_of, joined}
+use Rattle.macs_desk.specs.declared.under_way.UnderWay.{UnderWay as Entry}
+
+-- ---- reports
+
+-- what an endpoint and its wires report: the configuration and the numbers, the counters, and the same for a
+-- collector of metrics
+pub record Reports : Type 0 where
+  pub shown : List ℕ
+  pub counted : List ℕ
+  pub measured : List ℕ
+
+-- what they report now
+abbrev pub reports_of : {D : Type 0} → EndpointValue D → WireCounts → WireCounts → Reports
+reports_of endpoint controlled common = record {
+  shown = show_text (state_of endpoint no_logs);
+  counted = counters_text (state_of endpoint no_logs) (txsc.counters_of endpoint.tx) (rxsc.counters_of endpoint.rx)
+      (rxsc.channel_counters_of endpoint.rx) controlled common;
+  measured = metrics_text (state_of endpoint no_logs) (txsc.counters_of endpoint.tx) (rxsc.counters_of endpoint.rx)
+      (rxsc.channel_counters_of endpoint.rx) controlled common;
+}
+
+-- ---- a line
+
+-- a line is no request's
+abbrev pub IsNoRequest : List ℕ → Type 0
+IsNoRequest text = (request : Request) → IsUtf8 text → IsAsked request → text ≢ request_line request
+
+-- a line is read as this request's, or as none's
+abbrev pub IsRead : List ℕ → Option Request → Type 0
+IsRead text None = IsNoRequest text
+IsRead text (Some request) = text ≡ request_line request
+
+-- a report is said with the end of the answer; or memory is refused, and that is said
+abbrev pub Tells : Client → List ℕ → List Talk → Type 0
+Tells client text talk = (talk ≡ Said client text ∷ Said client (end_text 0) ∷ []) ⊎ (talk ≡ Said client (end_text 5) ∷ [])
+
+-- What a request is answered at once, and what is wanted then. A command is answered when it is done
+abbrev pub Answers : Reports → Client → Request → List Talk → Order → Type 0
+Answers reports client Show talk order = Tells client reports.shown talk × (order ≡ Go)
+Answers reports client Counters talk order = Tells client reports.counted talk × (order ≡ Go)
+Answers reports client Stop talk order = (talk ≡ Said client (end_text 0) ∷ []) × (order ≡ End)
+Answers reports client (Apply command) talk order = (talk ≡ []) × (order ≡ Submit command)
+
+-- a line is read: it is a request's, or none's, or memory is refused
+abbrev pub Reads : Reports → HeardLine → List Talk → Order → Type 0
+Reads reports heard talk order =
+    ((request : Request) × (heard.line.items ≡ request_line request) × Answers reports heard.client request talk order)
+    ⊎ (IsNoRequest heard.line.items × (talk ≡ Said heard.client (end_text 2) ∷ []) × (order ≡ Go))
+    ⊎ ((talk ≡ Said heard.client (end_text 5) ∷ []) × (order ≡ Go))
+
+-- ---- before a turn
+
+-- The next line is asked for, and read; its client is the one that asks from now on. Without a line nothing is said
+abbrev pub Listens : Reports → Client → List Talk → Order → Client → Type 0
+Listens reports old talk order new =
+    ((talk ≡ Heard None ∷ []) × (order ≡ Go) × (new ≡ old))
+    ⊎ ((heard : HeardLine) × (said : List Talk) × (talk ≡ Heard (Some heard) ∷ said) × (new ≡ heard.client)
+    × Reads reports heard said order)
+
+-- no line is asked for while 16 commands are under way
+abbrev pub ListensUnless : Bool → Reports → Client → List Talk → Order → Client → Type 0
+ListensUnless true reports old talk order new = (talk ≡ []) × (order ≡ Go) × (new ≡ old)
+ListensUnless false reports old talk order new = Listens reports old talk order new
+
+-- the relay ends where the process was asked to end
+abbrev pub Looks : Bool → Reports → Client → List Talk → Order → Client → Type 0
+Looks is_full reports old talk order new =
+    ((talk ≡ Looked true ∷ []) × (order ≡ End) × (new ≡ old))
+    ⊎ ((more : List Talk) × (talk ≡ Looked false ∷ more) × ListensUnless is_full reports old more order new)
+
+-- it sleeps after a quiet turn, and after no other
+abbrev pub sleep_after : Bool → List Talk
+sleep_after true = Slept ∷ []
+sleep_after false = []
+
+-- it is time to look after a quiet turn, and once as many turns have passed as may pass without it
+abbrev pub is_time : Bool → ℕ → Bool
+is_time was_quiet left = was_quiet || left == 0
+
+-- how many turns may pass without it, once this was wanted: none after a command, since more may come with it
+abbrev pub turns_between : Order → ℕ
+turns_between (Submit command) = 0
+turns_between order = 63
+
+-- how many may still pass
+abbrev pub turns_left : Bool → ℕ → Order → ℕ
+turns_left true left order = turns_between order
+turns_left false left order = left - 1
+
+-- where it is time, the desk sleeps and looks; else it wants no more than that the relay goes on
+abbrev pub LooksIf : Bool → Bool → Bool → Reports → Client → List Talk → Order → Client → Type 0
+LooksIf true was_quiet is_full reports old talk order new = (more : List Talk)
+    × (talk ≡ sleep_after was_quiet ++ more) × Looks is_full reports old more order new
+LooksIf false was_quiet is_full reports old talk order new = (talk ≡ []) × (order ≡ Go) × (new ≡ old)
+
+-- ---- metrics
+
+-- the metrics are written where that is due, unless memory is refused
+abbrev pub Measures : List ℕ → List Note → Type 0
+Measures text notes = (notes ≡ Asked false ∷ []) ⊎ (notes ≡ Asked true ∷ []) ⊎ (notes ≡ Asked true ∷ Put text ∷ [])
+
+-- the same where it is time to look
+abbrev pub MeasuresIf : Bool → List ℕ → List Note → Type 0
+MeasuresIf true text notes = Measures text notes
+MeasuresIf false text notes = notes ≡ []
+
+-- ---- answers
+
+-- a text for a client, where there is one
+abbrev pub said_to : Option Client → List ℕ → List Talk
+said_to None text = []
+said_to (Some client) text = Said client text ∷ []
+
+-- what is said of a command that was handed in: nothing yet where it was taken
+abbrev pub said_of_taking : Client → Result ℕ SubmitFault → List Talk
+said_of_taking client (Ok ticket) = []
+said_of_taking client (Err fault) = Said client (not_taken_text fault) ∷ []
+
+-- the commands under way then
+abbrev pub under_way_after : List Entry → Client → Result ℕ SubmitFault → List Entry
+under_way_after entries client (Ok ticket) = joined entries (record { ticket = ticket; client = client })
+under_way_after entries client (Err fault) = entries
+
+-- what is said of what became of a command: to the client that gave it, and to no other
+abbrev pub said_of_ending : List Entry → ℕ → CommandEnd → List Talk
+said_of_ending entries ticket end = said_to (client_of entries ticket) (ended_text end)

@@ -1,0 +1,103 @@
+//! What a line of a client comes to.
+
+ghost use Rattle.std.specs.Prelude.{◌≡◌, ℕ, List, IfOk, string_bytes};
+ghost use Rattle.std.specs.Str.{IsUtf8};
+ghost use Rattle.macs_requests.specs.Requests.{IsAsked, request_line};
+ghost use Rattle.macs_requests.specs.Talks.{Talk, with_talk};
+ghost use Rattle.macs_requests.specs.declared.requests.Request.{Request};
+ghost use Rattle.macs_desk.specs.Listening.{Answers, IsRead, Reads, Tells, reports_of};
+
+use crate::replies::{DONE, NO_MEMORY, NO_REQUEST};
+use macs_disk::SectorDisk;
+use macs_edge::{Order, WireCounts};
+use macs_endpoint::Endpoint;
+use macs_requests::{Client, Clients, Heard, Request, request_of_line};
+use macs_texts::{counter_lines, show_lines};
+use std::alloc::{AllocError, Global};
+
+/// The request of a line, `None` where it is no text or that of none. It fails only where memory is
+/// refused.
+fn request_of(alloc: Global, line: &[u8]) -> Result<Option<Request>, AllocError>
+    ensures { IfOk result (λ found. IsRead line.now found) }
+{
+    match str::from_utf8(line) {
+        Ok(text) => request_of_line(alloc, text),
+        Err(_) => Ok(None),
+    }
+}
+
+/// Says a report to a client, with the end of the answer; or that there is no memory for it.
+fn tell<C: Clients>(clients: &mut C, client: Client, report: Result<String, AllocError>)
+    ensures { (text : List ℕ) → IfOk report (λ told. string_bytes told ≡ text)
+        → (talk : List Talk) × Tells client text talk
+        × (C.talk clients.new ≡ with_talk (C.talk clients.old) talk) }
+{
+    match report {
+        Ok(text) => {
+            clients.say(client, text.as_bytes());
+            clients.say(client, DONE.as_bytes());
+        }
+        Err(_) => clients.say(client, NO_MEMORY.as_bytes()),
+    }
+}
+
+/// Answers a request, where it is answered at once, and says what is wanted then.
+fn answer<D: SectorDisk, C: Clients>(
+    alloc: Global,
+    endpoint: &Endpoint<D>,
+    controlled: &WireCounts,
+    common: &WireCounts,
+    client: Client,
+    request: Request,
+    clients: &mut C,
+) -> Order
+    ensures { (talk : List Talk)
+        × Answers (reports_of endpoint.now controlled.now common.now) client request talk result
+        × (C.talk clients.new ≡ with_talk (C.talk clients.old) talk) }
+{
+    match request {
+        Request::Show => {
+            tell(clients, client, show_lines(alloc, endpoint));
+            Order::Go
+        }
+        Request::Counters => {
+            let report = counter_lines(alloc, endpoint, controlled, common);
+            tell(clients, client, report);
+            Order::Go
+        }
+        Request::Stop => {
+            clients.say(client, DONE.as_bytes());
+            Order::End
+        }
+        Request::Apply(command) => Order::Submit(command),
+    }
+}
+
+/// Reads a line, and says what is wanted then.
+pub fn read<D: SectorDisk, C: Clients>(
+    alloc: Global,
+    endpoint: &Endpoint<D>,
+    controlled: &WireCounts,
+    common: &WireCounts,
+    heard: &Heard,
+    clients: &mut C,
+) -> Order
+    ensures { (talk : List Talk)
+        × Reads (reports_of endpoint.now controlled.now common.now) heard.now talk result
+        × (C.talk clients.new ≡ with_talk (C.talk clients.old) talk) }
+{
+    let client = heard.client;
+    match request_of(alloc, heard.line.as_slice()) {
+        Ok(Some(request)) => answer(
+            alloc, endpoint, controlled, common, client, request, clients,
+        ),
+        Ok(None) => {
+            clients.say(client, NO_REQUEST.as_bytes());
+            Order::Go
+        }
+        Err(_) => {
+            clients.say(client, NO_MEMORY.as_bytes());
+            Order::Go
+        }
+    }
+}

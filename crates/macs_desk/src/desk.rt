@@ -1,0 +1,144 @@
+//! The desk.
+
+ghost use Rattle.std.specs.Prelude.{◌≡◌, [], List};
+ghost use Rattle.macs_requests.specs.Talks.{Note, Talk, with_notes, with_talk};
+ghost use Rattle.macs_desk.specs.Listening.{LooksIf, MeasuresIf, is_time, reports_of};
+ghost use Rattle.macs_desk.specs.Listening.{said_of_ending, said_of_taking, turns_left};
+ghost use Rattle.macs_desk.specs.Listening.{under_way_after};
+ghost use Rattle.macs_desk.specs.UnderWay.{entries_of, is_full, without};
+
+use crate::listening::{TURNS_BETWEEN, is_time, look, rest, turns_between};
+use crate::measuring::measure;
+use crate::replies::{ended, not_taken};
+use crate::under_way::{Queue, UnderWay};
+use macs_disk::SectorDisk;
+use macs_edge::{CommandEnd, Counted, Desk, Order, Wire};
+use macs_endpoint::{Endpoint, SubmitFault, Ticket};
+use macs_requests::{Client, Clients, Metrics};
+use std::alloc::Global;
+
+/// A desk that serves clients. It listens to them after a quiet turn, before which it sleeps, and
+/// else at each 64th turn, and takes one line then; after a command it listens again before the
+/// next turn. `show` and `counters` are answered at once. A command is handed in, and its client is
+/// answered once it is done: `ok` after it is kept, and not before. Up to 16 commands are under way;
+/// while they are, no line is taken. `stop` ends the relay, and so does the wish to end the process.
+///
+/// What clients do never holds a frame: no call waits for one of them. A client that goes away
+/// loses its answers, and none of its commands that were taken.
+#[derive(Drop)]
+pub struct ControlDesk<C, M> {
+    alloc: Global,
+    clients: C,
+    metrics: M,
+    under_way: Queue,
+    /// The client whose line was taken last.
+    asking: Client,
+    /// How many turns may pass before it looks after its clients, if none of them is quiet.
+    turns_left: u8,
+}
+
+impl<C: Clients, M: Metrics> ControlDesk<C, M> {
+    /// A desk with no command under way.
+    pub fn new(alloc: Global, clients: C, metrics: M) -> ControlDesk<C, M>
+        ensures clients { result.clients ≡ clients }
+        ensures metrics { result.metrics ≡ metrics }
+        ensures none { entries_of result.under_way ≡ [] }
+        ensures turns { result.turns_left ≡ 63 }
+    {
+        ControlDesk {
+            alloc,
+            clients,
+            metrics,
+            under_way: Queue::new(),
+            asking: Client::default(),
+            turns_left: TURNS_BETWEEN,
+        }
+    }
+}
+
+impl<C, M> ControlDesk<C, M> {
+    /// The clients, and where the metrics are written.
+    pub fn into_parts(self) -> (C, M)
+        ensures clients { result.0 ≡ self.clients }
+        ensures metrics { result.1 ≡ self.metrics }
+    {
+        let ControlDesk {
+            clients,
+            metrics,
+            ..
+        } = self;
+        (clients, metrics)
+    }
+}
+
+impl<D: SectorDisk, P: Wire + Counted, W: Wire + Counted, C: Clients, M: Metrics> Desk<D, P, W>
+    for ControlDesk<C, M> {
+    fn next(&mut self, endpoint: &Endpoint<D>, controlled: &P, common: &W, was_quiet: bool) -> Order
+        ensures talk { (talk : List Talk)
+            × LooksIf (is_time was_quiet self.old.turns_left) was_quiet (is_full (entries_of self.old.under_way))
+            (reports_of endpoint.now (P.wire_counts controlled.now) (W.wire_counts common.now))
+            self.old.asking talk result self.new.asking
+            × (C.talk self.new.clients ≡ with_talk (C.talk self.old.clients) talk) }
+        ensures notes { (notes : List Note)
+            × MeasuresIf (is_time was_quiet self.old.turns_left)
+            (reports_of endpoint.now (P.wire_counts controlled.now) (W.wire_counts common.now)).measured notes
+            × (M.notes self.new.metrics ≡ with_notes (M.notes self.old.metrics) notes) }
+        ensures under_way { entries_of self.new.under_way ≡ entries_of self.old.under_way }
+        ensures turns { self.new.turns_left
+            ≡ turns_left (is_time was_quiet self.old.turns_left) self.old.turns_left result }
+    {
+        if !is_time(was_quiet, self.turns_left) {
+            self.turns_left = self.turns_left.saturating_sub(1);
+            return Order::Go;
+        }
+        let controlled = controlled.counts();
+        let common = common.counts();
+        rest(was_quiet, &mut self.clients);
+        measure(
+            self.alloc,
+            endpoint,
+            &controlled,
+            &common,
+            &mut self.metrics,
+        );
+        let order = look(
+            self.alloc,
+            endpoint,
+            &controlled,
+            &common,
+            self.under_way.is_full(),
+            &mut self.clients,
+            &mut self.asking,
+        );
+        self.turns_left = turns_between(&order);
+        order
+    }
+
+    fn took(&mut self, answer: Result<Ticket, SubmitFault>)
+        ensures talk { C.talk self.new.clients
+            ≡ with_talk (C.talk self.old.clients) (said_of_taking self.old.asking answer) }
+        ensures metrics { self.new.metrics ≡ self.old.metrics }
+        ensures under_way { entries_of self.new.under_way
+            ≡ under_way_after (entries_of self.old.under_way) self.old.asking answer }
+    {
+        match answer {
+            Ok(ticket) => self.under_way.join(UnderWay {
+                ticket: ticket.get(),
+                client: self.asking,
+            }),
+            Err(fault) => self.clients.say(self.asking, not_taken(fault).as_slice()),
+        }
+    }
+
+    fn answered(&mut self, ticket: Ticket, end: CommandEnd)
+        ensures talk { C.talk self.new.clients
+            ≡ with_talk (C.talk self.old.clients) (said_of_ending (entries_of self.old.under_way) ticket end) }
+        ensures metrics { self.new.metrics ≡ self.old.metrics }
+        ensures under_way { entries_of self.new.under_way ≡ without (entries_of self.old.under_way) ticket }
+    {
+        match self.under_way.leave(ticket.get()) {
+            Some(client) => self.clients.say(client, ended(end).as_slice()),
+            None => {}
+        }
+    }
+}

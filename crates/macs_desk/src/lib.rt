@@ -1,0 +1,12 @@
+//! A desk of a relay that serves the clients of a control socket.
+#![tactic(auto)]
+
+mod answering;
+mod desk;
+mod listening;
+mod measuring;
+mod replies;
+mod under_way;
+
+pub use desk::ControlDesk;
+pub use under_way::{MOST_UNDER_WAY, Queue, UnderWay};

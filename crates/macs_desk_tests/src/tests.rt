@@ -1,0 +1,46 @@
+//! Clients and metrics of which it is known what passed: the clauses of a desk are met at them.
+
+mod clients;
+mod metrics;
+mod refusals;
+mod reports;
+
+use macs_config::Identity;
+use macs_disk::{MemDisk, SectorDisk};
+use macs_edge::{Desk, MemWire, attend};
+use macs_endpoint::{Endpoint, format};
+use macs_frame::Sci;
+use std::alloc::Global;
+use std::process::Abort;
+
+/// The disk of a new endpoint.
+fn formatted(rt: &impl Abort, alloc: Global) -> MemDisk {
+    let identity = Identity::new(Sci([2, 0, 0, 0, 0, 1, 0, 1]), 4, 4).expect(rt, "identity");
+    let mut disk = match MemDisk::new(alloc, 1_028) {
+        Ok(disk) => disk,
+        Err(_) => panic!(rt; "no disk"),
+    };
+    assert!(rt; format(&mut disk, &identity).is_ok());
+    disk
+}
+
+fn opened<D: SectorDisk + Drop>(rt: &impl Abort, disk: D) -> Endpoint<D> {
+    match Endpoint::open(disk) {
+        Ok(endpoint) => endpoint,
+        Err(_) => panic!(rt; "not opened"),
+    }
+}
+
+/// A relay of so many turns between two wires on which nothing waits, with this desk.
+fn attended<K: Desk<MemDisk, MemWire<Global>, MemWire<Global>>>(
+    rt: &impl Abort,
+    alloc: Global,
+    desk: &mut K,
+    turns: u64,
+) {
+    let mut endpoint = opened(rt, formatted(rt, alloc));
+    let mut controlled = MemWire::new(alloc);
+    let mut common = MemWire::new(alloc);
+    let told = attend(&mut endpoint, &mut controlled, &mut common, desk, turns);
+    assert!(rt; told.is_ok());
+}

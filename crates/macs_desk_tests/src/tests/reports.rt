@@ -1,0 +1,37 @@
+//! What is reported of a new endpoint, by hand.
+
+use super::attended;
+use super::clients::Asker;
+use macs_desk::ControlDesk;
+use macs_requests::NoMetrics;
+use std::alloc::Global;
+use std::process::Abort;
+
+/// A line, and what its client is told.
+const CASES: &[(&str, &str)] = &[
+    (
+        "show",
+        "5 sci 0200000000010001\nblocks tx 4 rx 4\nvalidate strict\nreplay on window 0\n\
+sci-mode explicit\nencoding none\nspent tx 0 rx 0\n5 end 0\n",
+    ),
+    ("stop", "5 end 0\n"),
+    ("", "5 end 2\n"),
+    ("stop ", "5 end 2\n"),
+    ("set-replay on 4294967296", "5 end 2\n"),
+    ("set-replay on 4294967295", "5 ok\nend 0\n"),
+    ("tx-use 0", "5 refused SlotEmpty\nend 3\n"),
+];
+
+fn answers(rt: &impl Abort, alloc: Global, line: &'static str, told: &str) {
+    let mut desk = ControlDesk::new(alloc, Asker::new(rt, alloc, line), NoMetrics);
+    attended(rt, alloc, &mut desk, 8);
+    let (asker, _metrics) = desk.into_parts();
+    assert!(rt; asker.told.as_str() == told);
+}
+
+#[test]
+fn each_line_is_answered(rt: HostRuntime) {
+    for &(line, told) in CASES {
+        answers(&rt, rt.alloc(), line, told);
+    }
+}

@@ -1,8 +1,0 @@
-use Rattle.std.proofs.Common.{◌≡◌, ◌+◌, ◌*◌, ◌<◌, ℕ, get_or, length}
-use Rattle.macs_planes.proofs.across.sixteen_of.Given as goal
-
-abbrev pub invariant-loop-j : goal.invariant-loop-j
-invariant-loop-j l = record {
-  size : length l.block ≡ 16;
-  done : (k : ℕ) → k < l.j → get_or l.block k 0 ≡ get_or l.octets (16 * l.g + k) 0;
-}

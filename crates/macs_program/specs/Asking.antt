@@ -1,0 +1,37 @@
+-- What `ask` prints, and how it fails.
+use Rattle.std.specs.Prelude.{◌≡◌, ◌==◌, if◌then◌else◌, ⊤, ℕ, List, Option}
+use Rattle.std.specs.Io.KnownBytes.{Appends}
+use Rattle.macs_config.specs.declared.refusal.Refusal.{Refusal}
+use Rattle.macs_words.specs.declared.action.Question.{Question}
+use Rattle.macs_words.specs.declared.action.Question.TheVariants.{Show, Counters, Stop, Apply}
+use Rattle.macs_program.specs.Applying.{outcome_lines, outcomes_status}
+use Rattle.macs_program.specs.declared.failure.DiskFault.TheVariants as disk
+use Rattle.macs_program.specs.declared.failure.Failure.{Failure}
+use Rattle.macs_program.specs.declared.failure.Failure.TheVariants as failures
+use Rattle.macs_program.specs.declared.status.Status.{Status}
+use Rattle.macs_program.specs.declared.status.Status.TheVariants as ends
+use Rattle.macs_journal.specs.declared.fault.JournalFault.TheVariants as journal
+
+-- a line a command, with its number, and the status of them all; or the text of the answer
+abbrev pub PrintsAnswer : Question → Option (List ℕ) → Option (List ℕ) → Status → Type 0
+PrintsAnswer (Apply file) before after status =
+    (outcomes : List (Option Refusal)) × Appends before after (outcome_lines 1 outcomes) × (status ≡ outcomes_status outcomes)
+PrintsAnswer asked before after status = (text : List ℕ) × Appends before after text × (status ≡ ends.Done)
+
+-- what was printed before a failure: the lines of the commands before it, and of other questions nothing
+abbrev pub PrintsFront : Question → Option (List ℕ) → Option (List ℕ) → Type 0
+PrintsFront (Apply file) before after = (outcomes : List (Option Refusal)) × Appends before after (outcome_lines 1 outcomes)
+PrintsFront asked before after = after ≡ before
+
+-- the failures of `ask`: nobody answers, or the relay ended; the command file, memory and standard output
+abbrev pub IsOfAsking : Failure → Type 0
+IsOfAsking (failures.Disk (disk.Journal journal.Stopped)) = ⊤
+IsOfAsking failures.Control = ⊤
+IsOfAsking failures.Commands = ⊤
+IsOfAsking failures.Memory = ⊤
+IsOfAsking failures.Output = ⊤
+IsOfAsking other = ⊥
+
+-- what a status of an answer says where the request was not done: the relay ended, it had no memory, or it is no answer
+abbrev pub failure_in : ℕ → Failure
+failure_in status = if status == 4 then failures.Disk (disk.Journal journal.Stopped) else (if status == 5 then failures.Memory else failures.Control)

@@ -1,0 +1,93 @@
+-- What `check` says of a command file.
+use Rattle.std.specs.Prelude.{◌≡◌, ◌⊎◌, ◌<◌, ◌≤◌, ◌==◌, ◌++◌, if◌then◌else◌, ⊤, ℕ, List, length, codes, Option, Some, None, Err, string_bytes}
+use Rattle.std.specs.Fmt.{decimal}
+use Rattle.std.specs.Io.KnownBytes.{Appends}
+use Rattle.std.specs.Str.{IsUtf8}
+use Rattle.toml.specs.Data.{Members}
+use Rattle.toml.specs.Parse.{parse_document}
+use Rattle.macs_config.specs.declared.command.Command.{Command}
+use Rattle.macs_commands.specs.CommandFiles.{file_commands}
+use Rattle.macs_commands.specs.declared.config_fault.ConfigFault.{ConfigFault}
+use Rattle.macs_commands.specs.declared.config_fault.ConfigFault.TheVariants as config
+use Rattle.macs_commands.specs.declared.config_fault.KeyName.{KeyName}
+use Rattle.macs_commands.specs.declared.config_fault.KeyName.TheVariants as name
+use Rattle.macs_texts.specs.Lines.{line}
+use Rattle.macs_program.specs.Applying.{SaysCommands, longest_file}
+use Rattle.macs_program.specs.declared.failure.Failure.{Failure}
+use Rattle.macs_program.specs.declared.failure.Failure.TheVariants as failures
+
+-- ---- what is said
+
+-- how many commands there are
+abbrev pub count_line : ℕ → List ℕ
+count_line count = line (decimal count ++ (if count == 1 then codes " command" else codes " commands"))
+
+-- a key of a command, as it is written
+abbrev pub key_word : KeyName → List ℕ
+key_word name.Mode = codes "mode"
+key_word name.On = codes "on"
+key_word name.Window = codes "window"
+key_word name.An = codes "an"
+key_word name.Key = codes "key"
+key_word name.Start = codes "start"
+key_word name.Confidential = codes "confidential"
+key_word name.Offset = codes "offset"
+key_word name.Sci = codes "sci"
+
+-- what it is not
+abbrev pub key_reason : KeyName → List ℕ
+key_reason name.Mode = codes "not a mode of this command"
+key_reason name.On = codes "not true or false"
+key_reason name.Window = codes "not 0 to 4294967295"
+key_reason name.An = codes "not 0 to 3"
+key_reason name.Key = codes "not 32 or 64 hex digits"
+key_reason name.Start = codes "not 1 to 4294967295"
+key_reason name.Confidential = codes "not true or false"
+key_reason name.Offset = codes "not 0, 30 or 50"
+key_reason name.Sci = codes "not 16 hex digits"
+
+-- the first fault of the commands of a file, by its place, key and reason
+abbrev pub fault_text : ConfigFault → List ℕ
+fault_text config.Shape = codes "command file: not tables [[command]] alone"
+fault_text (config.Word at) = codes "command " ++ (decimal at ++ codes " do: not a command")
+fault_text (config.Key at name) = codes "command " ++ (decimal at ++ (codes " " ++ (key_word name ++ (codes ": " ++ key_reason name))))
+fault_text (config.Extra at) = codes "command " ++ (decimal at ++ codes ": a key that it does not have")
+fault_text config.Memory = codes "memory"
+
+-- ---- of the octets of a file
+
+-- they say so many commands
+abbrev pub CountsCommands : List ℕ → ℕ → Type 0
+CountsCommands octets count = (commands : List Command) × SaysCommands octets commands × (count ≡ length commands)
+
+-- a text says commands whose first fault this is
+abbrev pub HasFault : List ℕ → List ℕ → Type 0
+HasFault text said =
+    (members : Members) × (parse_document text ≡ Some members)
+    × (fault : ConfigFault) × (file_commands members ≡ Err fault) × (said ≡ fault_text fault)
+
+-- this is said of a text: that it is no TOML, or the fault of its commands
+abbrev pub IsSaidOfText : List ℕ → List ℕ → Type 0
+IsSaidOfText text said = ((parse_document text ≡ None) × (said ≡ codes "command file: not TOML")) ⊎ HasFault text said
+
+-- this is said of octets: that they are too many, or no text, or what is said of the text
+abbrev pub IsSaidOfFile : List ℕ → List ℕ → Type 0
+IsSaidOfFile octets said =
+    ((longest_file < length octets) × (said ≡ codes "command file: more than 1048576 octets"))
+    ⊎ ((length octets ≤ longest_file) × (¬ IsUtf8 octets) × (said ≡ codes "command file: not UTF-8"))
+    ⊎ ((length octets ≤ longest_file) × IsUtf8 octets × IsSaidOfText octets said)
+
+-- a failure says something of a command file for which this holds, unless there is no memory
+abbrev pub Complains : (List ℕ → Type 0) → Failure → Type 0
+Complains Holds failure =
+    (failure ≡ failures.Memory) ⊎ ((text : _) × (failure ≡ failures.CommandFile text) × Holds (string_bytes text))
+
+-- ---- of a file of which is not known here what it has
+
+-- the number of commands is printed that some octets say
+abbrev pub PrintsCount : Option (List ℕ) → Option (List ℕ) → Type 0
+PrintsCount before after = (octets : List ℕ) × (count : ℕ) × CountsCommands octets count × Appends before after (count_line count)
+
+-- the file is not read; or something is said of its octets, or there is no memory; or the number cannot be printed
+abbrev pub CheckFails : Failure → Type 0
+CheckFails failure = (failure ≡ failures.Commands) ⊎ (failure ≡ failures.Output) ⊎ ((octets : List ℕ) × Complains (IsSaidOfFile octets) failure)

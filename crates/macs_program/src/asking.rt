@@ -1,0 +1,242 @@
+//! `ask`: what a running relay is asked over its control socket, and what it answers.
+
+ghost use Rattle.std.specs.Prelude.{◌≡◌, ◌≢◌, ◌⊎◌, ◌++◌, ℕ, List, Option, is_some, true, IfErr, IfOk, IfSome};
+ghost use Rattle.std.specs.Io.KnownBytes.{Appends};
+ghost use Rattle.macs_config.specs.declared.refusal.Refusal.{Refusal};
+ghost use Rattle.macs_program.specs.Applying.{outcome_line, outcome_lines, outcomes_status};
+ghost use Rattle.macs_program.specs.Asking.{IsOfAsking, PrintsAnswer, PrintsFront, failure_in};
+ghost use Rattle.macs_texts.specs.Refusals.{refusal_name};
+
+use crate::applying::{outcome_line, status_after};
+use crate::failure::{DiskFault, Failure};
+use crate::files::commands_of_file;
+use crate::output::print_octets;
+use crate::status::Status;
+use crate::stream::Stream;
+use macs_config::{Command, Refusal};
+use macs_control::{Answer, Asker, Connection, PatientStream};
+use macs_journal::JournalFault;
+use macs_requests::{Request, line_of_request};
+use macs_texts::refusal_name;
+use macs_words::Question;
+use std::alloc::Global;
+use std::net::Net;
+use std::rt::Files;
+
+/// Each reason for which a command is refused.
+const REFUSALS: [Refusal; 12] = [
+    Refusal::StartRange,
+    Refusal::OffsetChoice,
+    Refusal::OwnSci,
+    Refusal::EndStationSci,
+    Refusal::NoChannel,
+    Refusal::ChannelTaken,
+    Refusal::ChannelsFull,
+    Refusal::SlotTaken,
+    Refusal::SlotEmpty,
+    Refusal::InUse,
+    Refusal::KeySpent,
+    Refusal::SpentFull,
+];
+
+/// Who asks the relay that listens at a name. It fails as `Control`, where none does.
+fn asker_at<N: Net>(net: &N, path: &str) -> Result<Asker<PatientStream>, Failure>
+    ensures { IfErr result (λ failure. failure ≡ Failure.Control) }
+{
+    match PatientStream::connect(net, path) {
+        Some(stream) => Ok(Asker::over(stream)),
+        None => Err(Failure::Control),
+    }
+}
+
+/// What a relay answers to a request. It fails as `Memory`, where there is none here, and as `Control` where the
+/// relay goes away or does not answer.
+fn answer_to<S: Connection>(
+    alloc: Global,
+    asker: &mut Asker<S>,
+    request: &Request,
+) -> Result<Answer, Failure>
+    ensures { IfErr result (λ failure. (failure ≡ Failure.Memory) ⊎ (failure ≡ Failure.Control)) }
+{
+    let line = line_of_request(alloc, request)?;
+    asker.send(alloc, line.as_str())?;
+    let answer = asker.answer(alloc)?;
+    Ok(answer)
+}
+
+/// The failure that a status of an answer says, where it says that the request was not done.
+fn failure_in(status: u8) -> Failure
+    ensures { result ≡ failure_in status }
+{
+    match status {
+        4 => Failure::Disk(DiskFault::Journal(JournalFault::Stopped)),
+        5 => Failure::Memory,
+        _ => Failure::Control,
+    }
+}
+
+/// Prints the text of an answer, if the request was done.
+fn print_answer<W: Stream>(answer: &Answer, out: &mut W) -> Result<Status, Failure>
+    ensures printed { IfOk result (λ status. (text : List ℕ)
+        × Appends (W.contents out.old) (W.contents out.new) text × (status ≡ Status.Done)) }
+    ensures failed { IfErr result IsOfAsking }
+    ensures silent { IfErr result (λ failure. failure ≢ Failure.Output → out.new ≡ out.old) }
+    ensures broken { IfErr result (λ failure. failure ≡ Failure.Output → W.failed out.new ≡ true) }
+{
+    if answer.status != 0 {
+        return Err(failure_in(answer.status));
+    }
+    print_octets(out, answer.text.as_slice())?;
+    Ok(Status::Done)
+}
+
+/// Asks a relay for a text, and prints it.
+fn ask_once<N: Net, W: Stream>(
+    net: &N,
+    alloc: Global,
+    path: &str,
+    request: Request,
+    out: &mut W,
+) -> Result<Status, Failure>
+    ensures printed { IfOk result (λ status. (text : List ℕ)
+        × Appends (W.contents out.old) (W.contents out.new) text × (status ≡ Status.Done)) }
+    ensures failed { IfErr result IsOfAsking }
+    ensures silent { IfErr result (λ failure. failure ≢ Failure.Output → out.new ≡ out.old) }
+    ensures broken { IfErr result (λ failure. failure ≡ Failure.Output → W.failed out.new ≡ true) }
+{
+    let mut asker = asker_at(net, path)?;
+    let answer = answer_to(alloc, &mut asker, &request)?;
+    print_answer(&answer, out)
+}
+
+/// Asks a relay to end, and waits until it did: its last line is printed then.
+fn ask_stop<N: Net, W: Stream>(
+    net: &N,
+    alloc: Global,
+    path: &str,
+    out: &mut W,
+) -> Result<Status, Failure>
+    ensures printed { IfOk result (λ status. (text : List ℕ)
+        × Appends (W.contents out.old) (W.contents out.new) text × (status ≡ Status.Done)) }
+    ensures failed { IfErr result IsOfAsking }
+    ensures silent { IfErr result (λ failure. failure ≢ Failure.Output → out.new ≡ out.old) }
+    ensures broken { IfErr result (λ failure. failure ≡ Failure.Output → W.failed out.new ≡ true) }
+{
+    let mut asker = asker_at(net, path)?;
+    let answer = answer_to(alloc, &mut asker, &Request::Stop)?;
+    asker.outlast();
+    print_answer(&answer, out)
+}
+
+/// The refusal whose line a text is.
+fn refusal_in(text: &[u8]) -> Option<Refusal> {
+    let name = text.strip_prefix(b"refused ")?.strip_suffix(b"\n")?;
+    for refusal in REFUSALS {
+        if refusal_name(refusal).as_bytes() == name {
+            return Some(refusal);
+        }
+    }
+    None
+}
+
+/// What a relay made of a command, by its answer: it is kept, or refused. Else it fails.
+fn outcome_in(answer: &Answer) -> Result<Option<Refusal>, Failure>
+    ensures { IfErr result (λ failure. failure ≡ failure_in answer.now.status) }
+{
+    match answer.status {
+        0 => Ok(None),
+        3 => match refusal_in(answer.text.as_slice()) {
+            Some(refusal) => Ok(Some(refusal)),
+            None => Err(Failure::Control),
+        },
+        status => Err(failure_in(status)),
+    }
+}
+
+/// Hands a command to a relay, and prints its line once it is answered. Whether it was refused.
+fn apply_one<S: Connection, W: Stream>(
+    alloc: Global,
+    asker: &mut Asker<S>,
+    at: usize,
+    command: Command,
+    out: &mut W,
+) -> Result<bool, Failure>
+    ensures printed { IfOk result (λ refused. (outcome : Option Refusal) × (refused ≡ is_some outcome)
+        × Appends (W.contents out.old) (W.contents out.new) (outcome_line at outcome)) }
+    ensures failed { IfErr result IsOfAsking }
+    ensures silent { IfErr result (λ failure. failure ≢ Failure.Output → out.new ≡ out.old) }
+    ensures broken { IfErr result (λ failure. failure ≡ Failure.Output → W.failed out.new ≡ true) }
+{
+    let answer = answer_to(alloc, asker, &Request::Apply(command))?;
+    let outcome = outcome_in(&answer)?;
+    print_octets(out, outcome_line(at, outcome).as_slice())?;
+    Ok(outcome.is_some())
+}
+
+/// Hands commands to a relay, one after another, and prints a line for each once it is answered.
+fn apply_each<S: Connection, W: Stream>(
+    alloc: Global,
+    asker: &mut Asker<S>,
+    commands: &[Command],
+    out: &mut W,
+) -> Result<Status, Failure>
+    ensures printed { IfOk result (λ status. (outcomes : List (Option Refusal))
+        × Appends (W.contents out.old) (W.contents out.new) (outcome_lines 1 outcomes)
+        × (status ≡ outcomes_status outcomes)) }
+    ensures failed { IfErr result IsOfAsking }
+    ensures front { IfErr result (λ failure. failure ≢ Failure.Output → (outcomes : List (Option Refusal))
+        × Appends (W.contents out.old) (W.contents out.new) (outcome_lines 1 outcomes)) }
+    ensures broken { IfErr result (λ failure. failure ≡ Failure.Output → W.failed out.new ≡ true) }
+{
+    let mut status = Status::Done;
+    for i in 0..commands.len() {
+        let is_refused = apply_one(alloc, asker, i + 1, commands[i], out)?;
+        status = status_after(status, is_refused);
+    }
+    Ok(status)
+}
+
+/// Has a relay apply the commands of a file.
+fn ask_apply<T: Files + Net, W: Stream>(
+    rt: &T,
+    alloc: Global,
+    path: &str,
+    file: &str,
+    out: &mut W,
+) -> Result<Status, Failure>
+    ensures printed { IfOk result (λ status. (outcomes : List (Option Refusal))
+        × Appends (W.contents out.old) (W.contents out.new) (outcome_lines 1 outcomes)
+        × (status ≡ outcomes_status outcomes)) }
+    ensures failed { IfErr result IsOfAsking }
+    ensures front { IfErr result (λ failure. failure ≢ Failure.Output → (outcomes : List (Option Refusal))
+        × Appends (W.contents out.old) (W.contents out.new) (outcome_lines 1 outcomes)) }
+    ensures broken { IfErr result (λ failure. failure ≡ Failure.Output → W.failed out.new ≡ true) }
+{
+    let mut asker = asker_at(rt, path)?;
+    let commands = commands_of_file(rt, alloc, file)?;
+    apply_each(alloc, &mut asker, commands.as_slice(), out)
+}
+
+/// `ask`: asks a running relay, and prints its answer. It fails first as `Control`, where no relay is at the socket;
+/// then for the command file; as `Disk` with `Stopped`, where the relay ended before it answered a command; and as
+/// `Control`, where it went away.
+pub fn ask<T: Files + Net, W: Stream>(
+    rt: &T,
+    alloc: Global,
+    path: &str,
+    question: Question,
+    out: &mut W,
+) -> Result<Status, Failure>
+    ensures printed { IfOk result (PrintsAnswer question.entry (W.contents out.old) (W.contents out.new)) }
+    ensures failed { IfErr result IsOfAsking }
+    ensures front { IfErr result (λ failure. failure ≢ Failure.Output
+        → PrintsFront question.entry (W.contents out.old) (W.contents out.new)) }
+    ensures broken { IfErr result (λ failure. failure ≡ Failure.Output → W.failed out.new ≡ true) }
+{
+    match question {
+        Question::Show => ask_once(rt, alloc, path, Request::Show, out),
+        Question::Counters => ask_once(rt, alloc, path, Request::Counters, out),
+        Question::Stop => ask_stop(rt, alloc, path, out),
+        Question::Apply(file) => ask_apply(rt, alloc, path, file, out),
+    }
+}

@@ -1,0 +1,197 @@
+//! `check`: whether the commands of a file can be read, and else the first fault.
+
+ghost use Rattle.std.specs.Prelude.{◌≡◌, ◌≢◌, ◌⊎◌, ◌++◌, ◌<◌, ◌^◌, ◌==◌, if◌then◌else◌, codes, ℕ, List, true, IfErr, IfOk, IfSome, string_bytes};
+ghost use Rattle.toml.specs.Data.{Members};
+ghost use Rattle.toml.specs.View.{table_view};
+ghost use Rattle.toml.specs.Parse.{parse_document};
+ghost use Rattle.macs_config.specs.declared.command.Command.{Command};
+ghost use Rattle.macs_commands.specs.CommandFiles.{file_commands};
+ghost use Rattle.std.specs.Prelude.{length, Ok};
+ghost use Rattle.macs_program.specs.Checking.{CheckFails, Complains, CountsCommands, HasFault, IsSaidOfFile, IsSaidOfText};
+ghost use Rattle.macs_program.specs.Checking.{PrintsCount, count_line, fault_text, key_reason, key_word};
+
+use crate::applying::MAX_FILE;
+use crate::failure::Failure;
+use crate::files::failure_of;
+use crate::output::{Line, append_count, print_octets};
+use crate::status::Status;
+use crate::stream::Stream;
+use macs_edge::{ConfigFault, KeyName, commands_of};
+use std::alloc::{AllocError, Global};
+use std::fs;
+use std::io::Read;
+use std::rt::Files;
+use toml::Table;
+
+/// One octet more than the longest command file.
+const MAX_READ: usize = MAX_FILE + 1;
+
+/// A key of a command, as it is written.
+fn key_word(name: KeyName) -> &'static str
+    ensures { result.now ≡ key_word name }
+{
+    match name {
+        KeyName::Mode => "mode",
+        KeyName::On => "on",
+        KeyName::Window => "window",
+        KeyName::An => "an",
+        KeyName::Key => "key",
+        KeyName::Start => "start",
+        KeyName::Confidential => "confidential",
+        KeyName::Offset => "offset",
+        KeyName::Sci => "sci",
+    }
+}
+
+/// What a key of a command is not.
+fn key_reason(name: KeyName) -> &'static str
+    ensures { result.now ≡ key_reason name }
+{
+    match name {
+        KeyName::Mode => "not a mode of this command",
+        KeyName::On => "not true or false",
+        KeyName::Window => "not 0 to 4294967295",
+        KeyName::An => "not 0 to 3",
+        KeyName::Key => "not 32 or 64 hex digits",
+        KeyName::Start => "not 1 to 4294967295",
+        KeyName::Confidential => "not true or false",
+        KeyName::Offset => "not 0, 30 or 50",
+        KeyName::Sci => "not 16 hex digits",
+    }
+}
+
+/// What is said of the first fault of the commands of a file: its place, key and reason.
+fn fault_text(alloc: Global, fault: ConfigFault) -> Result<String, AllocError>
+    ensures { IfOk result (λ text. string_bytes text ≡ fault_text fault) }
+{
+    match fault {
+        ConfigFault::Shape => {
+            String::from_str(alloc, "command file: not tables [[command]] alone")
+        }
+        ConfigFault::Word { at } => format!(in alloc; "command {at} do: not a command"),
+        ConfigFault::Key { at, name } => {
+            let key = key_word(name);
+            let reason = key_reason(name);
+            format!(in alloc; "command {at} {key}: {reason}")
+        }
+        ConfigFault::Extra { at } => format!(in alloc; "command {at}: a key that it does not have"),
+        ConfigFault::Memory => String::from_str(alloc, "memory"),
+    }
+}
+
+/// The failure that says this of a command file, unless there is no memory for it.
+fn failure_saying(text: Result<String, AllocError>) -> Failure
+    ensures { (said : List ℕ) → IfOk text (λ t. string_bytes t ≡ said) → Complains (λ t. t ≡ said) result }
+{
+    match text {
+        Ok(text) => Failure::CommandFile(text),
+        Err(_) => Failure::Memory,
+    }
+}
+
+/// How many commands a table of TOML says.
+fn count_in_table(alloc: Global, table: &Table) -> Result<usize, Failure>
+    ensures counted { IfOk result (λ count. (commands : List Command)
+        × (file_commands (table_view table.now) ≡ Ok commands) × (count ≡ length commands)) }
+    ensures fault { (text : List ℕ) → parse_document text ≡ Some (table_view table.now)
+        → IfErr result (Complains (HasFault text)) }
+{
+    match commands_of(alloc, table) {
+        Ok(commands) => Ok(commands.len()),
+        Err(fault) => match fault {
+            ConfigFault::Memory => Err(Failure::Memory),
+            _ => Err(failure_saying(fault_text(alloc, fault))),
+        },
+    }
+}
+
+/// How many commands a text says.
+fn count_in_text(alloc: Global, text: &str) -> Result<usize, Failure>
+    ensures counted { IfOk result (λ count. (commands : List Command) × (members : Members)
+        × (parse_document text.now ≡ Some members) × (file_commands members ≡ Ok commands) × (count ≡ length commands)) }
+    ensures fault { IfErr result (Complains (IsSaidOfText text.now)) }
+{
+    match toml::table_from_str(alloc, text) {
+        Ok(table) => count_in_table(alloc, &table),
+        Err(error) if error.is_memory() => Err(Failure::Memory),
+        Err(_) => Err(failure_saying(String::from_str(alloc, "command file: not TOML"))),
+    }
+}
+
+/// How many commands the octets of a file say.
+fn count_in(alloc: Global, octets: &[u8]) -> Result<usize, Failure>
+    ensures counted { IfOk result (CountsCommands octets.now) }
+    ensures fault { IfErr result (Complains (IsSaidOfFile octets.now)) }
+{
+    if octets.len() > MAX_FILE {
+        let text = String::from_str(alloc, "command file: more than 1048576 octets");
+        return Err(failure_saying(text));
+    }
+    let Ok(text) = str::from_utf8(octets) else {
+        let text = String::from_str(alloc, "command file: not UTF-8");
+        return Err(failure_saying(text));
+    };
+    count_in_text(alloc, text)
+}
+
+/// How many commands an open file says, of which no more is read than can be of use. It fails as `Commands` where a
+/// read fails.
+pub fn count_read<R: Read>(alloc: Global, file: &mut R) -> Result<usize, Failure>
+    ensures counted { IfOk result (λ count. IfSome (R.remaining file.old) (λ octets. CountsCommands octets count)) }
+    ensures some { IfOk result (λ count. (octets : List ℕ) × CountsCommands octets count) }
+    ensures fault { IfErr result (λ failure. (failure ≡ Failure.Commands)
+        ⊎ IfSome (R.remaining file.old) (λ octets. Complains (IsSaidOfFile octets) failure)) }
+    ensures ended { IfErr result (λ failure. (failure ≡ Failure.Commands)
+        ⊎ ((octets : List ℕ) × Complains (IsSaidOfFile octets) failure)) }
+{
+    let mut octets = Vec::new(alloc);
+    match file.take(MAX_READ as u64).read_to_end(&mut octets) {
+        Ok(_) => count_in(alloc, octets.as_slice()),
+        Err(error) => Err(failure_of(error, Failure::Commands)),
+    }
+}
+
+/// The line that says how many commands there are.
+fn count_line(count: usize) -> Line
+    ensures { result.items ≡ count_line count }
+{
+    let mut line = Line::new();
+    append_count(&mut line, "", count as u64);
+    let word = if count == 1 {
+        " command\n"
+    } else {
+        " commands\n"
+    };
+    line.try_extend_from_slice(word.as_bytes()).unwrap();
+    line
+}
+
+/// How many commands a file says. It fails as `Commands` where it cannot be opened or read.
+fn count_of_file<T: Files>(rt: &T, alloc: Global, path: &str) -> Result<usize, Failure>
+    ensures some { IfOk result (λ count. (octets : List ℕ) × CountsCommands octets count) }
+    ensures ended { IfErr result (λ failure. (failure ≡ Failure.Commands)
+        ⊎ ((octets : List ℕ) × Complains (IsSaidOfFile octets) failure)) }
+{
+    match fs::open(rt, path) {
+        Ok(mut file) => count_read(alloc, &mut file),
+        Err(error) => Err(failure_of(error, Failure::Commands)),
+    }
+}
+
+/// `check`: prints how many commands a file says.
+pub fn check<T: Files, W: Stream>(
+    rt: &T,
+    alloc: Global,
+    path: &str,
+    out: &mut W,
+) -> Result<Status, Failure>
+    ensures printed { IfOk result (λ status.
+        PrintsCount (W.contents out.old) (W.contents out.new) × (status ≡ Status.Done)) }
+    ensures ended { IfErr result CheckFails }
+    ensures silent { IfErr result (λ failure. failure ≢ Failure.Output → out.new ≡ out.old) }
+    ensures broken { IfErr result (λ failure. failure ≡ Failure.Output → W.failed out.new ≡ true) }
+{
+    let count = count_of_file(rt, alloc, path)?;
+    print_octets(out, count_line(count).as_slice())?;
+    Ok(Status::Done)
+}

@@ -1,0 +1,6 @@
+mod Blanks
+mod Values
+mod Told
+mod Whole
+mod Lengths
+mod Feeds

@@ -1,0 +1,8 @@
+use Rattle.macs_requests.proofs.Values.{sci_none, sci_said}
+use Rattle.macs_requests.proofs.fields.sci.Goals as goal
+
+pub returns-in-Some : goal.returns-in-Some
+returns-in-Some c = λ sci is said. sci_said c.in-Some.octets sci c.args.text.now c.in-Some.ensures is said
+
+pub returns-in-None : goal.returns-in-None
+returns-in-None c = λ sci is said. absurd (sci_none sci c.args.text.now c.in-None.ensures is said)

@@ -1,0 +1,63 @@
+-- The fields of commands, as they are written: one form for each.
+use Rattle.std.specs.Prelude.{ℕ, if◌then◌else◌, Bool, true, false, List, codes, Option, Some, None, Ok, Err}
+use Rattle.std.specs.Option.{option_map}
+use Rattle.std.specs.Str.{bytes_eq}
+use Rattle.hex.specs.Hex.{decode_sized, encode_lower}
+use Rattle.macs_aes.specs.Keys.{octets_of_key}
+use Rattle.macs_aes.specs.declared.keys.Key.{Key}
+use Rattle.macs_aes.specs.declared.keys.Key.TheVariants.{Long, Short}
+use Rattle.macs_config.specs.declared.command.SciMode.{SciMode}
+use Rattle.macs_config.specs.declared.command.SciMode.TheVariants.{Explicit, EndStation, Implicit}
+use Rattle.macs_config.specs.declared.command.Validate.{Validate}
+use Rattle.macs_config.specs.declared.command.Validate.TheVariants.{Strict, Check}
+
+-- ---- as they are written
+
+-- what is done with frames that do not verify
+abbrev pub validate_word : Validate → List ℕ
+validate_word Strict = codes "strict"
+validate_word Check = codes "check"
+
+-- how transmitted frames name the channel
+abbrev pub sci_mode_word : SciMode → List ℕ
+sci_mode_word Explicit = codes "explicit"
+sci_mode_word EndStation = codes "end-station"
+sci_mode_word Implicit = codes "implicit"
+
+-- whether replay protection is on
+abbrev pub replay_word : Bool → List ℕ
+replay_word true = codes "on"
+replay_word false = codes "off"
+
+-- whether User Data are encrypted
+abbrev pub protection_word : Bool → List ℕ
+protection_word true = codes "confidential"
+protection_word false = codes "integrity"
+
+-- a key, in 32 hex digits or 64, of lower case
+abbrev pub key_digits : Key → List ℕ
+key_digits key = encode_lower (octets_of_key key)
+
+-- ---- as they are read
+
+-- so many octets, from a text of twice as many hex digits
+abbrev pub octets_of : ℕ → List ℕ → Option (List ℕ)
+octets_of count text = elim (decode_sized text count) [ Ok octets ↦ Some octets | Err cause ↦ None ]
+
+-- a key, from a text of 32 hex digits or of 64
+abbrev pub key_of : List ℕ → Option Key
+key_of text = elim (octets_of 16 text) [
+  | Some short ↦ Some (Short short)
+  | None ↦ option_map Long (octets_of 32 text)
+]
+
+-- what is done with frames that do not verify: strict, unless the word is that for check
+abbrev pub validate_of : List ℕ → Validate
+validate_of text = if bytes_eq text (codes "check") then Check else Strict
+
+-- how transmitted frames name the channel: explicit, unless the word is another's
+abbrev pub sci_mode_of : List ℕ → SciMode
+sci_mode_of text =
+    if bytes_eq text (codes "end-station") then EndStation
+    else if bytes_eq text (codes "implicit") then Implicit
+    else Explicit

@@ -1,0 +1,59 @@
+-- The line of a command: its word, and its fields in order, with a blank before each.
+use Rattle.std.specs.Prelude.{ℕ, List, codes}
+use Rattle.std.specs.Fmt.{decimal}
+use Rattle.hex.specs.Hex.{encode_lower}
+use Rattle.macs_aes.specs.Keys.{HasItsLength}
+use Rattle.macs_config.specs.Apply.{IsCommand}
+use Rattle.macs_config.specs.declared.command.Command.{Command}
+use Rattle.macs_config.specs.declared.command.Command.TheVariants.{SetValidate, SetReplay, SetSciMode}
+use Rattle.macs_config.specs.declared.command.Command.TheVariants.{TxInstall, TxUse, TxRemove}
+use Rattle.macs_config.specs.declared.command.Command.TheVariants.{RxAdd, RxDrop, RxInstall, RxRemove}
+use Rattle.macs_requests.specs.Cutting.{spaced}
+use Rattle.macs_requests.specs.Fields.{key_digits, protection_word, replay_word, sci_mode_word, validate_word}
+
+-- ---- values
+
+-- the key of a command, where it has one, has 16 octets or 32, as its type says
+abbrev pub HasItsKey : Command → Type 0
+HasItsKey (TxInstall an key start confidential offset) = HasItsLength key
+HasItsKey (RxInstall sci an key start offset) = HasItsLength key
+HasItsKey command = Unit {0}
+
+-- a command whose fields are in the ranges that their types keep
+abbrev pub IsTold : Command → Type 0
+IsTold command = IsCommand command × HasItsKey command
+
+-- ---- lines
+
+-- the word of a command
+abbrev pub word_of : Command → List ℕ
+word_of (SetValidate validate) = codes "set-validate"
+word_of (SetReplay on window) = codes "set-replay"
+word_of (SetSciMode mode) = codes "set-sci-mode"
+word_of (TxInstall an key start confidential offset) = codes "tx-install"
+word_of (TxUse an) = codes "tx-use"
+word_of (TxRemove an) = codes "tx-remove"
+word_of (RxAdd sci) = codes "rx-add"
+word_of (RxDrop sci) = codes "rx-drop"
+word_of (RxInstall sci an key start offset) = codes "rx-install"
+word_of (RxRemove sci an) = codes "rx-remove"
+
+-- its fields: numbers in decimal digits, octets in hex digits of lower case
+abbrev pub fields_of : Command → List ℕ
+fields_of (SetValidate validate) = validate_word validate
+fields_of (SetReplay on window) = spaced (replay_word on) (decimal window)
+fields_of (SetSciMode mode) = sci_mode_word mode
+fields_of (TxInstall an key start confidential offset) =
+    spaced (decimal an) (spaced (key_digits key) (spaced (decimal start)
+    (spaced (protection_word confidential) (decimal offset))))
+fields_of (TxUse an) = decimal an
+fields_of (TxRemove an) = decimal an
+fields_of (RxAdd sci) = encode_lower sci
+fields_of (RxDrop sci) = encode_lower sci
+fields_of (RxInstall sci an key start offset) =
+    spaced (encode_lower sci) (spaced (decimal an) (spaced (key_digits key) (spaced (decimal start) (decimal offset))))
+fields_of (RxRemove sci an) = spaced (encode_lower sci) (decimal an)
+
+-- the line of a command, without its end
+abbrev pub command_line : Command → List ℕ
+command_line command = spaced (word_of command) (fields_of command)

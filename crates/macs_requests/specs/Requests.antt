@@ -1,0 +1,32 @@
+-- Requests, a line each, and the end of an answer.
+use Rattle.std.specs.Prelude.{ℕ, if◌then◌else◌, List, codes, Option, Some, None}
+use Rattle.std.specs.Fmt.{decimal}
+use Rattle.std.specs.Str.{bytes_eq}
+use Rattle.macs_requests.specs.Cutting.{spaced}
+use Rattle.macs_requests.specs.Lines.{IsTold, command_line}
+use Rattle.macs_requests.specs.declared.requests.Request.{Request}
+use Rattle.macs_requests.specs.declared.requests.Request.TheVariants.{Apply, Counters, Show, Stop}
+
+-- a request whose command, where it has one, is in the ranges that its types keep
+abbrev pub IsAsked : Request → Type 0
+IsAsked (Apply command) = IsTold command
+IsAsked request = Unit {0}
+
+-- the line of a request, without its end
+abbrev pub request_line : Request → List ℕ
+request_line Show = codes "show"
+request_line Counters = codes "counters"
+request_line Stop = codes "stop"
+request_line (Apply command) = command_line command
+
+-- the request that a word alone names
+abbrev pub plain_request : List ℕ → Option Request
+plain_request line =
+    if bytes_eq line (codes "show") then Some Show
+    else if bytes_eq line (codes "counters") then Some Counters
+    else if bytes_eq line (codes "stop") then Some Stop
+    else None
+
+-- the last line of an answer, without its end: the exit status of the program that asked
+abbrev pub end_line : ℕ → List ℕ
+end_line status = spaced (codes "end") (decimal status)

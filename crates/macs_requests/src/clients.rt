@@ -1,0 +1,46 @@
+//! Who asks: the clients of a desk.
+
+use crate::inbox::Line;
+
+/// A client: the number of its connection, from 1 on. No number is used again, so that an answer to
+/// a client that went away comes to nobody.
+#[derive(Clone, Copy, Debug, Default, PartialEq, Eq)]
+pub struct Client(pub u64);
+
+/// A line, and the client that sent it.
+#[derive(Drop)]
+pub struct Heard {
+    pub client: Client,
+    /// Without its end.
+    pub line: Line,
+}
+
+/// The clients of a desk. No call but `sleep` waits, whatever a client does.
+pub trait Clients {
+    ghost use Rattle.std.specs.Prelude.{◌≡◌, List, [], ◌∷◌, Option, None};
+    ghost use Rattle.macs_requests.specs.Talks.{Heard as WasHeard, Looked, Said, Slept};
+    ghost use Rattle.macs_requests.specs.Talks.{Talk, with_talk};
+
+    /// What passed between them and a desk, the earliest first, where that is known.
+    ghost talk: { Self → Option (List Talk) } = { λ _. None };
+
+    /// Takes the next whole line of a client, where there is one. Lines of one client come in the
+    /// order in which it sent them.
+    fn hear(&mut self) -> Option<Heard>
+        ensures { talk self.new ≡ with_talk (talk self.old) (WasHeard result ∷ []) };
+
+    /// Sends a text to a client. One that went away is told nothing; one that does not take all of
+    /// it at once is let go, and is told nothing more.
+    fn say(&mut self, client: Client, text: &[u8])
+        ensures { talk self.new ≡ with_talk (talk self.old) (Said client text.now ∷ []) };
+
+    /// Sleeps until a datagram or a client is there, and for a bounded time. It is called only after
+    /// a quiet turn.
+    fn sleep(&mut self)
+        ensures { talk self.new ≡ with_talk (talk self.old) (Slept ∷ []) };
+
+    /// Whether the process was asked to end from outside, as by a SIGTERM that is held back. It may
+    /// be called before each turn, and looks no more than about once a second.
+    fn is_ended(&mut self) -> bool
+        ensures { talk self.new ≡ with_talk (talk self.old) (Looked result ∷ []) };
+}

@@ -1,0 +1,5 @@
+//! Lines written by hand, and texts that are no line.
+
+mod ends;
+mod lines;
+mod others;

@@ -1,0 +1,173 @@
+-- The counters of an endpoint and of its wires, as a collector of metrics reads them: the text format of Prometheus,
+-- version 0.0.4.
+use Rattle.std.specs.Prelude.{ℕ, ◌-◌, ◌^◌, List, [], ◌∷◌, ◌++◌, length, map, codes, Option, Some, None}
+use Rattle.std.specs.Fmt.{decimal}
+use Rattle.std.specs.List.{concat}
+use Rattle.std.specs.Option.{option_map}
+use Rattle.hex.specs.Hex.{encode_lower}
+use Rattle.macs_config.specs.Config.{Config, max_spent}
+use Rattle.macs_txsc.specs.Transmit.{fault_count}
+use Rattle.macs_txsc.specs.declared.counters.TxCounters.{TxCounters}
+use Rattle.macs_txsc.specs.declared.fault.TxFault.{TxFault}
+use Rattle.macs_rxsc.specs.Counting.{channel_count_of, count_of}
+use Rattle.macs_rxsc.specs.declared.counters.ChannelCounters.{ChannelCounters}
+use Rattle.macs_rxsc.specs.declared.counters.RxCounters.{RxCounters}
+use Rattle.macs_rxsc.specs.declared.verdict.Verdict.{Verdict}
+use Rattle.macs_endpoint.specs.State.{State}
+use Rattle.macs_edge.specs.declared.counts.WireCounts.{WireCounts}
+use Rattle.macs_texts.specs.Counting.{channel_verdicts, fault_words, rx_verdicts, tx_faults, verdict_words}
+use Rattle.macs_texts.specs.Lines.{line}
+use Rattle.macs_texts.specs.Showing.{association_numbers}
+
+-- ---- lines
+
+-- a label and its value
+abbrev pub label : List ℕ → List ℕ → List ℕ
+label name value = name ++ (codes "=\"" ++ (value ++ codes "\""))
+
+-- a number of a metric, under these labels
+abbrev pub sample : List ℕ → List ℕ → ℕ → List ℕ
+sample name labels number = line (name ++ (codes "{" ++ (labels ++ (codes "} " ++ decimal number))))
+
+-- the same of a number that may be absent
+abbrev pub sample_of : List ℕ → List ℕ → Option ℕ → List ℕ
+sample_of name labels None = []
+sample_of name labels (Some number) = sample name labels number
+
+-- what a metric is
+abbrev pub help_line : List ℕ → List ℕ → List ℕ
+help_line name help = line (codes "# HELP " ++ (name ++ (codes " " ++ help)))
+
+-- of which kind it is
+abbrev pub type_line : List ℕ → List ℕ → List ℕ
+type_line name kind = line (codes "# TYPE " ++ (name ++ (codes " " ++ kind)))
+
+-- both: what comes before its numbers
+abbrev pub metric_head : List ℕ → List ℕ → List ℕ → List ℕ
+metric_head name kind help = help_line name help ++ type_line name kind
+
+-- ---- frames
+
+-- plain frames, by what was answered
+abbrev pub tx_name : List ℕ
+tx_name = codes "macsec_tx_frames_total"
+
+-- how many met a fault
+abbrev pub tx_sample : TxCounters → TxFault → List ℕ
+tx_sample c fault = sample tx_name (label (codes "answer") (fault_words fault)) (fault_count fault c)
+
+-- how many went out
+abbrev pub protected_sample : TxCounters → List ℕ
+protected_sample c = sample tx_name (label (codes "answer") (codes "protected")) c.protected
+
+-- what comes before the faults
+abbrev pub tx_front : TxCounters → List ℕ
+tx_front c = metric_head tx_name (codes "counter") (codes "Plain frames by what was answered.") ++ protected_sample c
+
+-- all of them
+abbrev pub tx_metric : TxCounters → List ℕ
+tx_metric c = tx_front c ++ concat (map (tx_sample c) tx_faults)
+
+-- received frames, by their verdict
+abbrev pub rx_name : List ℕ
+rx_name = codes "macsec_rx_frames_total"
+
+-- how often a verdict was given
+abbrev pub rx_sample : RxCounters → Verdict → List ℕ
+rx_sample c verdict = sample rx_name (label (codes "verdict") (verdict_words verdict)) (count_of verdict c)
+
+-- what comes before these
+abbrev pub rx_head : List ℕ
+rx_head = metric_head rx_name (codes "counter") (codes "Received frames by verdict.")
+
+-- all of them
+abbrev pub rx_metric : RxCounters → List ℕ
+rx_metric c = rx_head ++ concat (map (rx_sample c) rx_verdicts)
+
+-- received frames of a channel, by their verdict
+abbrev pub channel_name : List ℕ
+channel_name = codes "macsec_rx_channel_frames_total"
+
+-- the labels of a verdict on frames of a channel
+abbrev pub channel_labels : List ℕ → Verdict → List ℕ
+channel_labels sci verdict = label (codes "sci") (encode_lower sci) ++ (codes "," ++ label (codes "verdict") (verdict_words verdict))
+
+-- how often a verdict was given on frames of a channel, where there is such a channel
+abbrev pub channel_sample : (List ℕ → Option ChannelCounters) → List ℕ → Verdict → List ℕ
+channel_sample table sci verdict = sample_of channel_name (channel_labels sci verdict)
+    (option_map (channel_count_of verdict) (table sci))
+
+-- and each of them
+abbrev pub channel_samples : (List ℕ → Option ChannelCounters) → List ℕ → List ℕ
+channel_samples table sci = concat (map (channel_sample table sci) channel_verdicts)
+
+-- what comes before these
+abbrev pub channel_head : List ℕ
+channel_head = metric_head channel_name (codes "counter") (codes "Received frames of a channel by verdict.")
+
+-- of all channels
+abbrev pub channel_metric : State → (List ℕ → Option ChannelCounters) → List ℕ
+channel_metric s table = channel_head ++ concat (map (channel_samples table) s.config.channels)
+
+-- ---- wires
+
+-- a number of either wire: the controlled one is the first
+abbrev pub wire_numbers : List ℕ → ℕ → ℕ → List ℕ
+wire_numbers name controlled common =
+    sample name (label (codes "wire") (codes "1")) controlled ++ sample name (label (codes "wire") (codes "2")) common
+
+-- what was counted of either
+abbrev pub wire_metric : List ℕ → List ℕ → ℕ → ℕ → List ℕ
+wire_metric name help controlled common = metric_head name (codes "counter") help ++ wire_numbers name controlled common
+
+-- what they counted
+abbrev pub wires_metrics : WireCounts → WireCounts → List ℕ
+wires_metrics controlled common =
+    wire_metric (codes "macsec_wire_taken_total") (codes "Frames taken off a wire.") controlled.taken common.taken
+    ++ (wire_metric (codes "macsec_wire_sent_total") (codes "Frames sent on a wire.") controlled.sent common.sent
+    ++ (wire_metric (codes "macsec_wire_strangers_total") (codes "Datagrams of another address than the peer's.")
+    controlled.strangers common.strangers
+    ++ (wire_metric (codes "macsec_wire_failed_receives_total") (codes "Receives that failed.")
+    controlled.failed_receives common.failed_receives
+    ++ wire_metric (codes "macsec_wire_failed_sends_total") (codes "Sends that failed.")
+    controlled.failed_sends common.failed_sends)))
+
+-- ---- what is left
+
+-- packet numbers left under a transmit association
+abbrev pub left_name : List ℕ
+left_name = codes "macsec_tx_numbers_left"
+
+-- how many there are, where there is such an association
+abbrev pub left_sample : State → ℕ → List ℕ
+left_sample s an = sample_of left_name (label (codes "an") (decimal an)) (option_map (λ next. 2 ^ 32 - next) (s.next an))
+
+-- what comes before these
+abbrev pub left_head : List ℕ
+left_head = metric_head left_name (codes "gauge") (codes "Packet numbers left under a transmit key.")
+
+-- and under each
+abbrev pub left_metric : State → List ℕ
+left_metric s = left_head ++ concat (map (left_sample s) association_numbers)
+
+-- keys that may still be installed
+abbrev pub keys_name : List ℕ
+keys_name = codes "macsec_keys_left"
+
+-- so many on either side
+abbrev pub key_numbers : ℕ → ℕ → List ℕ
+key_numbers tx rx = metric_head keys_name (codes "gauge") (codes "Keys that may still be installed.")
+    ++ sample keys_name (label (codes "side") (codes "tx")) tx ++ sample keys_name (label (codes "side") (codes "rx")) rx
+
+-- as many as are left
+abbrev pub keys_metric : Config → List ℕ
+keys_metric config = key_numbers (max_spent - length config.spent_tx) (max_spent - length config.spent_rx)
+
+-- ---- the whole
+
+-- the metrics of an endpoint in this state and of its wires
+abbrev pub metrics_text : State → TxCounters → RxCounters → (List ℕ → Option ChannelCounters) → WireCounts
+    → WireCounts → List ℕ
+metrics_text s sent received table controlled common =
+    tx_metric sent ++ (rx_metric received ++ (channel_metric s table ++ (wires_metrics controlled common
+    ++ (left_metric s ++ keys_metric s.config))))

@@ -1,0 +1,124 @@
+-- What `show` prints of an endpoint.
+use Rattle.std.specs.Prelude.{ℕ, List, [], ◌∷◌, ◌++◌, length, map, codes, if◌then◌else◌, Option, Some, None}
+use Rattle.std.specs.Fmt.{decimal}
+use Rattle.std.specs.List.{concat}
+use Rattle.hex.specs.Hex.{encode_lower}
+use Rattle.macs_config.specs.Config.{Config}
+use Rattle.macs_config.specs.Identity.{Identity}
+use Rattle.macs_config.specs.declared.association.Protection.{Protection}
+use Rattle.macs_config.specs.declared.association.Protection.TheVariants.{Integrity, Confidentiality}
+use Rattle.macs_config.specs.declared.association.RxSa.{RxSa}
+use Rattle.macs_config.specs.declared.association.TxSa.{TxSa}
+use Rattle.macs_config.specs.declared.command.Replay.{Replay}
+use Rattle.macs_config.specs.declared.command.SciMode.{SciMode}
+use Rattle.macs_config.specs.declared.command.SciMode.TheVariants as mode
+use Rattle.macs_config.specs.declared.command.Validate.{Validate}
+use Rattle.macs_config.specs.declared.command.Validate.TheVariants as validate
+use Rattle.macs_fields.specs.Fields.{octets_of}
+use Rattle.macs_rxsc.specs.Receive.{Numbers}
+use Rattle.macs_endpoint.specs.State.{State}
+use Rattle.macs_texts.specs.Lines.{line}
+
+-- ---- single lines
+
+-- the SCI, in hex digits
+abbrev pub sci_line : Identity → List ℕ
+sci_line identity = line (codes "sci " ++ encode_lower identity.sci)
+
+-- how many packet numbers the blocks of either side have
+abbrev pub blocks_line : Identity → List ℕ
+blocks_line identity = line (codes "blocks tx " ++ (decimal identity.tx_block ++ (codes " rx " ++ decimal identity.rx_block)))
+
+-- how received frames are validated
+abbrev pub validate_word : Validate → List ℕ
+validate_word validate.Strict = codes "strict"
+validate_word validate.Check = codes "check"
+
+-- its line
+abbrev pub validate_line : Validate → List ℕ
+validate_line validate = line (codes "validate " ++ validate_word validate)
+
+-- replay protection and its window
+abbrev pub replay_line : Replay → List ℕ
+replay_line replay = line (codes "replay " ++ ((if replay.on then codes "on" else codes "off") ++ (codes " window " ++ decimal replay.window)))
+
+-- how the SecTAG names the channel
+abbrev pub mode_word : SciMode → List ℕ
+mode_word mode.Explicit = codes "explicit"
+mode_word mode.EndStation = codes "end-station"
+mode_word mode.Implicit = codes "implicit"
+
+-- its line
+abbrev pub mode_line : SciMode → List ℕ
+mode_line mode = line (codes "sci-mode " ++ mode_word mode)
+
+-- the association that frames go out under, if one is
+abbrev pub encoding_word : Option ℕ → List ℕ
+encoding_word None = codes "none"
+encoding_word (Some an) = decimal an
+
+-- its line
+abbrev pub encoding_line : Option ℕ → List ℕ
+encoding_line encoding = line (codes "encoding " ++ encoding_word encoding)
+
+-- what a transmit association does with User Data
+abbrev pub protection_words : Protection → List ℕ
+protection_words Integrity = codes "integrity"
+protection_words (Confidentiality offset) = codes "confidential offset " ++ decimal (octets_of offset)
+
+-- a transmit association and its next packet number
+abbrev pub tx_line : ℕ → TxSa → ℕ → List ℕ
+tx_line an sa next = line (codes "tx " ++ (decimal an ++ (codes " " ++ (protection_words sa.protection ++ (codes " next " ++ decimal next)))))
+
+-- a receive channel
+abbrev pub channel_line : List ℕ → List ℕ
+channel_line sci = line (codes "channel " ++ encode_lower sci)
+
+-- a receive association, its next and its lowest acceptable packet number
+abbrev pub rx_line : List ℕ → ℕ → RxSa → Numbers → List ℕ
+rx_line sci an sa numbers = line (codes "rx " ++ (encode_lower sci ++ (codes " " ++ (decimal an ++ (codes " offset " ++ (decimal (octets_of sa.offset)
+    ++ (codes " next " ++ (decimal numbers.next ++ (codes " lowest " ++ decimal numbers.lowest)))))))))
+
+-- how many keys are spent on either side
+abbrev pub spent_line : Config → List ℕ
+spent_line config = line (codes "spent tx " ++ (decimal (length config.spent_tx) ++ (codes " rx " ++ decimal (length config.spent_rx))))
+
+-- ---- associations and channels
+
+-- the association numbers, ascending
+abbrev pub association_numbers : List ℕ
+association_numbers = 0 ∷ 1 ∷ 2 ∷ 3 ∷ []
+
+-- the line of a transmit association and its next number, where they stand
+abbrev pub tx_text_of : ℕ → Option TxSa → Option ℕ → List ℕ
+tx_text_of an (Some sa) (Some next) = tx_line an sa next
+tx_text_of an sa next = []
+
+-- the same of the transmit association with this number
+abbrev pub tx_text : State → ℕ → List ℕ
+tx_text s an = tx_text_of an (s.config.tx an) (s.next an)
+
+-- the line of a receive association and its numbers, where they stand
+abbrev pub rx_text_of : List ℕ → ℕ → Option RxSa → Option Numbers → List ℕ
+rx_text_of sci an (Some sa) (Some numbers) = rx_line sci an sa numbers
+rx_text_of sci an sa numbers = []
+
+-- the same of the receive association with this number
+abbrev pub rx_text : State → List ℕ → ℕ → List ℕ
+rx_text s sci an = rx_text_of sci an (s.config.rx sci an) (s.numbers sci an)
+
+-- a channel, and its associations by their numbers
+abbrev pub channel_text : State → List ℕ → List ℕ
+channel_text s sci = channel_line sci ++ concat (map (rx_text s sci) association_numbers)
+
+-- ---- the whole
+
+-- the configuration, the associations and the channels, line by line
+abbrev pub show_text : State → List ℕ
+show_text s =
+    sci_line s.identity ++ (blocks_line s.identity
+    ++ (validate_line s.config.validate ++ (replay_line s.config.replay
+    ++ (mode_line s.config.mode ++ (encoding_line s.config.encoding
+    ++ (concat (map (tx_text s) association_numbers)
+    ++ (concat (map (channel_text s) s.config.channels)
+    ++ spent_line s.config)))))))

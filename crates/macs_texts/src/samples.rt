@@ -1,0 +1,72 @@
+//! Lines that a collector of metrics reads.
+
+ghost use Rattle.std.specs.Prelude.{◌≡◌, IfOk, string_bytes};
+ghost use Rattle.macs_texts.specs.Measuring.{help_line, label, metric_head, sample, sample_of};
+ghost use Rattle.macs_texts.specs.Measuring.{type_line};
+
+use crate::lines::{ended, joined};
+use std::alloc::{AllocError, Global};
+
+/// A label and its value, which has no quote and no backslash in it.
+pub fn label(alloc: Global, name: &str, value: &str) -> Result<String, AllocError>
+    ensures { IfOk result (λ text. string_bytes text ≡ label name.now value.now) }
+{
+    let text = format!(in alloc; "{name}=\"{value}\"")?;
+    Ok(text)
+}
+
+/// A number of a metric, under these labels.
+pub fn sample(alloc: Global, name: &str, labels: &str, number: u64) -> Result<String, AllocError>
+    ensures { IfOk result (λ text. string_bytes text ≡ sample name.now labels.now number) }
+{
+    ended(format!(in alloc; "{name}{{{labels}}} {number}")?)
+}
+
+/// The same under one label.
+pub fn labelled(
+    alloc: Global,
+    name: &str,
+    of: &str,
+    value: &str,
+    number: u64,
+) -> Result<String, AllocError>
+    ensures { IfOk result (λ text. string_bytes text
+        ≡ sample name.now (label of.now value.now) number) }
+{
+    let labels = label(alloc, of, value)?;
+    sample(alloc, name, labels.as_str(), number)
+}
+
+/// The same of a number that may be absent: no text where it is.
+pub fn sample_of(
+    alloc: Global,
+    name: &str,
+    labels: &str,
+    number: Option<u64>,
+) -> Result<String, AllocError>
+    ensures { IfOk result (λ text. string_bytes text ≡ sample_of name.now labels.now number) }
+{
+    match number {
+        Some(number) => sample(alloc, name, labels, number),
+        None => Ok(String::new(alloc)),
+    }
+}
+
+fn help_line(alloc: Global, name: &str, help: &str) -> Result<String, AllocError>
+    ensures { IfOk result (λ text. string_bytes text ≡ help_line name.now help.now) }
+{
+    ended(format!(in alloc; "# HELP {name} {help}")?)
+}
+
+fn type_line(alloc: Global, name: &str, kind: &str) -> Result<String, AllocError>
+    ensures { IfOk result (λ text. string_bytes text ≡ type_line name.now kind.now) }
+{
+    ended(format!(in alloc; "# TYPE {name} {kind}")?)
+}
+
+/// What a metric is, and of which kind: the lines before its numbers.
+pub fn metric_head(alloc: Global, name: &str, kind: &str, help: &str) -> Result<String, AllocError>
+    ensures { IfOk result (λ text. string_bytes text ≡ metric_head name.now kind.now help.now) }
+{
+    joined(help_line(alloc, name, help), type_line(alloc, name, kind))
+}

@@ -1,0 +1,121 @@
+//! Whether the commands of a file can be read.
+
+use super::captures::SENDER;
+use super::stories::Step::{Closing, Filled, Hex, Keeping, Run, Text};
+use super::stories::{Step, play};
+use super::{Outcome, expect};
+use std::fs;
+use std::test::Fail;
+
+const CHECKED: &[Step] = &[
+    Text("story-check/two", SENDER),
+    Keeping(
+        &["story-check/two"],
+        &["check", "story-check/two"],
+        Outcome::Done("2 commands\n"),
+    ),
+    Text("story-check/one", "[[command]]\ndo = 'tx-use'\nan = 0\n"),
+    Run(&["check", "story-check/one"], Outcome::Done("1 command\n")),
+    Text("story-check/none", ""),
+    Run(
+        &["check", "story-check/none"],
+        Outcome::Done("0 commands\n"),
+    ),
+    Filled("story-check/long", b' ', 1_048_576),
+    Run(
+        &["check", "story-check/long"],
+        Outcome::Done("0 commands\n"),
+    ),
+    Filled("story-check/long", b' ', 1_048_577),
+    Run(
+        &["check", "story-check/long"],
+        Outcome::Fault("macsecd: command file: more than 1048576 octets\n"),
+    ),
+    Hex("story-check/octets", "ff"),
+    Run(
+        &["check", "story-check/octets"],
+        Outcome::Fault("macsecd: command file: not UTF-8\n"),
+    ),
+    Run(
+        &["check", "story-check/missing"],
+        Outcome::Fault("macsecd: commands\n"),
+    ),
+    Closing(0, 0, &["check", "story-check/two"]),
+];
+
+#[test]
+fn commands_are_counted(rt: HostRuntime) -> Result<(), Fail> {
+    play(&rt, rt.alloc(), "story-check", CHECKED)
+}
+
+/// Command files with a fault, and the line that says where it is and why.
+const FAULTS: &[(&str, &str)] = &[
+    (
+        "[[command]]\ndo = 'tx-use'\nan = 0\n[[command]]\ndo = 'rx-add'\nsci = '12153524c0895e81'\n[[command]]\ndo = 'tx-install'\nan = 0\nkey = 'ad7a2bd03eac835a6f620fdcb506b34'\n",
+        "macsecd: command 3 key: not 32 or 64 hex digits\n",
+    ),
+    (
+        "[[command]]\ndo = 'tx-use'\nan = 4\n",
+        "macsecd: command 1 an: not 0 to 3\n",
+    ),
+    (
+        "[[command]]\ndo = 'rx-add'\n",
+        "macsecd: command 1 sci: not 16 hex digits\n",
+    ),
+    (
+        "[[command]]\ndo = 'set-validate'\nmode = 'explicit'\n",
+        "macsecd: command 1 mode: not a mode of this command\n",
+    ),
+    (
+        "[[command]]\ndo = 'set-replay'\non = 1\nwindow = 0\n",
+        "macsecd: command 1 on: not true or false\n",
+    ),
+    (
+        "[[command]]\ndo = 'set-replay'\non = true\nwindow = -1\n",
+        "macsecd: command 1 window: not 0 to 4294967295\n",
+    ),
+    (
+        "[[command]]\ndo = 'tx-install'\nan = 0\nkey = 'ad7a2bd03eac835a6f620fdcb506b345'\nstart = 4294967296\n",
+        "macsecd: command 1 start: not 1 to 4294967295\n",
+    ),
+    (
+        "[[command]]\ndo = 'tx-install'\nan = 0\nkey = 'ad7a2bd03eac835a6f620fdcb506b345'\nstart = 1\n",
+        "macsecd: command 1 confidential: not true or false\n",
+    ),
+    (
+        "[[command]]\ndo = 'tx-install'\nan = 0\nkey = 'ad7a2bd03eac835a6f620fdcb506b345'\nstart = 1\nconfidential = true\noffset = 256\n",
+        "macsecd: command 1 offset: not 0, 30 or 50\n",
+    ),
+    (
+        "[[command]]\ndo = 'tx-use'\nan = 0\n[[command]]\ndo = 'use-tx'\nan = 0\n",
+        "macsecd: command 2 do: not a command\n",
+    ),
+    (
+        "[[command]]\nan = 0\n",
+        "macsecd: command 1 do: not a command\n",
+    ),
+    (
+        "[[command]]\ndo = 'tx-use'\nan = 0\nkey = ''\n",
+        "macsecd: command 1: a key that it does not have\n",
+    ),
+    (
+        "sci = '12153524c0895e81'\n",
+        "macsecd: command file: not tables [[command]] alone\n",
+    ),
+    ("[[command]\n", "macsecd: command file: not TOML\n"),
+];
+
+#[test]
+fn the_first_fault_is_named(rt: HostRuntime) -> Result<(), Fail> {
+    for (text, line) in FAULTS {
+        fs::write(&rt, "fault.toml", text.as_bytes())?;
+        expect(
+            &rt,
+            rt.alloc(),
+            &["check", "fault.toml"],
+            "",
+            Outcome::Fault(*line),
+        );
+    }
+    Ok(())
+}

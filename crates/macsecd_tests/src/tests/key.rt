@@ -1,0 +1,90 @@
+//! Fresh keys.
+
+use super::status_of;
+use macs_program::run::report;
+use macs_program::{SystemOctets, WriterStream, print_key};
+use std::alloc::Global;
+use std::fs::File;
+use std::io;
+use std::net::Net;
+use std::process::Abort;
+use std::random::RandomSource;
+use std::rt::{Clock, Env, Files};
+
+/// A source that counts: 0, 1 and so on; or one that gives nothing.
+#[derive(Clone, Copy)]
+struct Counting {
+    is_broken: bool,
+}
+
+impl RandomSource for Counting {
+    fn fill_bytes(&self, buf: &mut [u8]) -> io::Result<()> {
+        if self.is_broken {
+            return Err(io::Error::from(io::ErrorKind::Other));
+        }
+        let mut next: u8 = 0;
+        for octet in buf.iter_mut() {
+            *octet = next;
+            next = next.wrapping_add(1);
+        }
+        Ok(())
+    }
+}
+
+/// Asserts what is printed of a key from a source that counts.
+fn expect_key(rt: &impl Abort, alloc: Global, is_long: bool, wanted: &str) {
+    let source = Counting { is_broken: false };
+    let mut octets = SystemOctets { rt: &source };
+    let mut out = Vec::new(alloc);
+    let done = print_key(&mut octets, is_long, &mut WriterStream::new(&mut out));
+    assert!(rt; done.is_ok());
+    assert_eq!(rt; out.as_slice(), wanted.as_bytes());
+}
+
+#[test]
+fn digits_are_those_of_the_octets(rt: HostRuntime) {
+    let short = "000102030405060708090a0b0c0d0e0f\n";
+    let long = "000102030405060708090a0b0c0d0e0f101112131415161718191a1b1c1d1e1f\n";
+    expect_key(&rt, rt.alloc(), false, short);
+    expect_key(&rt, rt.alloc(), true, long);
+}
+
+#[test]
+fn a_source_that_fails_is_said(rt: HostRuntime) {
+    let source = Counting { is_broken: true };
+    let mut octets = SystemOctets { rt: &source };
+    let mut out = Vec::new(rt.alloc());
+    let mut err = Vec::new(rt.alloc());
+    let done = print_key(&mut octets, true, &mut WriterStream::new(&mut out));
+    let Err(failure) = done else {
+        panic!(rt; "a key");
+    };
+    let status = report(&failure, &mut WriterStream::new(&mut err));
+    assert_eq!(rt; out.as_slice(), b"".as_slice());
+    assert_eq!(rt; err.as_slice(), b"macsecd: random source\n".as_slice());
+    assert_eq!(rt; status, 5);
+}
+
+/// What is printed of a key of the system.
+fn key_of_system(
+    rt: &(impl Abort + Files<File = File> + Net + Clock + Env + RandomSource),
+    alloc: Global,
+    words: &[&str],
+) -> Vec<u8> {
+    let mut out = Vec::new(alloc);
+    let mut err = Vec::new(alloc);
+    let status = status_of(rt, alloc, words, &mut b"".as_slice(), &mut out, &mut err);
+    assert_eq!(rt; status, 0);
+    out
+}
+
+/// Keys of the system have their length, and no two are the same.
+#[test]
+fn keys_are_fresh(rt: HostRuntime) {
+    let one = key_of_system(&rt, rt.alloc(), &["key"]);
+    let other = key_of_system(&rt, rt.alloc(), &["key"]);
+    let long = key_of_system(&rt, rt.alloc(), &["key", "--long"]);
+    assert_eq!(rt; one.len(), 33);
+    assert_eq!(rt; long.len(), 65);
+    assert!(rt; one.as_slice() != other.as_slice());
+}
