@@ -47,7 +47,8 @@ same_command a b is = let same : a ≡ b = cc in sym same
 
 -- ---- files
 
-none_by : (b : Bool) (commands : List Command) → cond {A = Result (List Command) ConfigFault} b (Ok []) (Err fault.Shape) ≡ Ok commands
+none_by : (b : Bool) (commands : List Command)
+    → cond {A = Result (List Command) ConfigFault} b (Ok []) (Err fault.Shape) ≡ Ok commands
     → commands ≡ []
 none_by true commands is = let same : [] ≡ commands = cc in sym same
 none_by false commands is = absurd (cc)
@@ -76,7 +77,8 @@ no_commands m commands none is =
 whole_file : (m : Members) (value : Data) (commands : List Command) → get_member (codes "command") m ≡ Some value
     → file_commands m ≡ Ok commands → (items : Items) × (value ≡ array items) × (table_commands 1 items ≡ Ok commands)
 whole_file m value commands some is =
-    let by : file_commands m ≡ cond (count m == 1) (array_commands value) (Err fault.Shape) = rw (some, file_commands) refl in
+    let by : file_commands m ≡ cond (count m == 1) (array_commands value) (Err fault.Shape) =
+    rw (some, file_commands) refl in
     in_array value commands (some_by (count m == 1) (array_commands value) commands (sym by ∙ is))
 
 both_of : (one : Result Command ConfigFault) (more : Result (List Command) ConfigFault) (commands : List Command)
@@ -101,7 +103,8 @@ one_table at (boolean b) items commands is = absurd (cc)
 one_table at (datetime dt) items commands is = absurd (cc)
 one_table at (array xs) items commands is = absurd (cc)
 
-says : (at : ℕ) (has_more : Bool) (line : Result Command KeyName) (command : Command) → told at has_more line ≡ Ok command
+says : (at : ℕ) (has_more : Bool) (line : Result Command KeyName) (command : Command)
+    → told at has_more line ≡ Ok command
     → (has_more ≡ false) × (line ≡ Ok command)
 says at has_more (Err name) command is = absurd (cc)
 says at true (Ok other) command is = absurd (cc)
@@ -114,7 +117,8 @@ in_table at m command is = elim (either_of (word_in m)) [
       let by : table_command at m ≡ Err (fault.Word at) = rw (none, table_command) refl in
       absurd (let wrong : Err (fault.Word at) ≡ Ok command = sym by ∙ is in cc)
   | inr (which, some) ↦
-      let by : table_command at m ≡ told at (nat_lt (keys_of which) (count m)) (command_of which m) = rw (some, table_command) refl in
+      let by : table_command at m ≡ told at (nat_lt (keys_of which) (count m)) (command_of which m) =
+      rw (some, table_command) refl in
       let (few, line) = says at (nat_lt (keys_of which) (count m)) (command_of which m) command (sym by ∙ is) in
       (which, some, ltb-false (keys_of which) (count m) few, line)
 ]
@@ -150,7 +154,8 @@ is_text text (datetime dt) same = absurd (cc)
 is_text text (array xs) same = absurd (cc)
 is_text text (table ms) same = absurd (cc)
 
-at_key : {Y : Type 0} (f : Data → Option Y) (key : List ℕ) (m : Members) (y : Y) → option_and_then f (get_member key m) ≡ Some y
+at_key : {Y : Type 0} (f : Data → Option Y) (key : List ℕ) (m : Members) (y : Y)
+    → option_and_then f (get_member key m) ≡ Some y
     → (value : Data) × (get_member key m ≡ Some value) × (f value ≡ Some y)
 at_key f key m y is = and_then f (get_member key m) y is
 
@@ -162,10 +167,12 @@ by_result : {E : Type 0} (r : Result (List ℕ) E) (octets : List ℕ)
 by_result (Ok found) octets is = let same : found ≡ octets = cc in ap Ok same
 by_result (Err cause) octets is = absurd (cc)
 
-are_octets : (count : ℕ) (text octets : List ℕ) → octets_of count text ≡ Some octets → decode_sized text count ≡ Ok octets
+are_octets : (count : ℕ) (text octets : List ℕ) → octets_of count text ≡ Some octets
+    → decode_sized text count ≡ Ok octets
 are_octets count text octets is = by_result (decode_sized text count) octets is
 
-is_long : (o : Option (List ℕ)) (key : Key) → option_map Long o ≡ Some key → (octets : List ℕ) × (o ≡ Some octets) × (key ≡ Long octets)
+is_long : (o : Option (List ℕ)) (key : Key) → option_map Long o ≡ Some key → (octets : List ℕ) × (o ≡ Some octets)
+    × (key ≡ Long octets)
 is_long None key is = absurd (cc)
 is_long (Some octets) key is = let same : Long octets ≡ key = cc in (octets, refl, sym same)
 
@@ -210,11 +217,16 @@ line-words = record {
       let (start, has_start, three) = bound Start (start_in m) _ command two in
       let (confidential, has_it, four) = bound Confidential (confidential_in m) _ command three in
       let (offset, has_offset, end) = bound Offset (offset_in m) _ command four in
-      (an, key, start, confidential, offset, has_an, has_key, has_start, has_it, has_offset, same_command _ command end);
-  tx_use = λ m command is. let (an, has, end) = bound An (an_in m) _ command is in (an, has, same_command _ command end);
-  tx_remove = λ m command is. let (an, has, end) = bound An (an_in m) _ command is in (an, has, same_command _ command end);
-  rx_add = λ m command is. let (sci, has, end) = bound Sci (sci_in m) _ command is in (sci, has, same_command _ command end);
-  rx_drop = λ m command is. let (sci, has, end) = bound Sci (sci_in m) _ command is in (sci, has, same_command _ command end);
+      let same = same_command _ command end in
+      (an, key, start, confidential, offset, has_an, has_key, has_start, has_it, has_offset, same);
+  tx_use = λ m command is. let (an, has, end) = bound An (an_in m) _ command is in
+      (an, has, same_command _ command end);
+  tx_remove = λ m command is. let (an, has, end) = bound An (an_in m) _ command is in
+      (an, has, same_command _ command end);
+  rx_add = λ m command is. let (sci, has, end) = bound Sci (sci_in m) _ command is in
+      (sci, has, same_command _ command end);
+  rx_drop = λ m command is. let (sci, has, end) = bound Sci (sci_in m) _ command is in
+      (sci, has, same_command _ command end);
   rx_install = λ m command is.
       let (sci, has_sci, one) = bound Sci (sci_in m) _ command is in
       let (an, has_an, two) = bound An (an_in m) _ command one in
@@ -232,7 +244,8 @@ pub value-words : ValueWords
 value-words = record {
   number = λ key most n m is. let (value, there, so) = at_key (number_to most) key m n is in
       let number = is_number most n value so in (there ∙ ap Some number.0, number.1);
-  flag = λ key is m same. let (value, there, so) = at_key as_bool key m is same in there ∙ ap Some (is_flag is value so);
+  flag = λ key is m same. let (value, there, so) = at_key as_bool key m is same in
+      there ∙ ap Some (is_flag is value so);
   text = text_is;
   octets = are_octets;
   key = is_key;

@@ -42,10 +42,10 @@ pub record FileWords : Type 0 where
       ∷ Some word.TxUse ∷ Some word.TxRemove ∷ Some word.RxAdd ∷ Some word.RxDrop ∷ Some word.RxInstall
       ∷ Some word.RxRemove ∷ []
 
--- A table says the command of its word with what is at its keys: an AN, 0 to 3, at `an`; an SCI at `sci`; a SAK at `key`;
--- a first packet number, 0 to 2^32 - 1, at `start`; whether User Data are encrypted at `confidential`, and from where on
--- at `offset`, 0 to 255; whether replay protection is on at `on`, and its window, 0 to 2^32 - 1, at `window`; and a mode
--- at `mode`.
+-- A table says the command of its word with what is at its keys: an AN, 0 to 3, at `an`; an SCI at `sci`; a SAK at
+-- `key`; a first packet number, 0 to 2^32 - 1, at `start`; whether User Data are encrypted at `confidential`, and from
+-- where on at `offset`, 0 to 255; whether replay protection is on at `on`, and its window, 0 to 2^32 - 1, at `window`;
+-- and a mode at `mode`.
 pub record LineWords : Type 0 where
   pub set_validate : (m : Members) (command : Command) → command_of word.SetValidate m ≡ Ok command
       → (mode : Validate) × (option_and_then validate_of (text_at (codes "mode") m) ≡ Some mode)
@@ -80,15 +80,16 @@ pub record LineWords : Type 0 where
       → (sci : List ℕ) × (an : ℕ) × (option_and_then (octets_of 8) (text_at (codes "sci") m) ≡ Some sci)
       × (number_at (codes "an") 3 m ≡ Some an) × (command ≡ RxRemove sci an)
 
--- A number is an integer at its key, from 0 to the greatest that is taken; a flag is a boolean, and a text a string. Octets
--- are a text of twice as many hex digits; a SAK is one of 16 octets, or of 32. Frames that do not verify are treated as
--- the word says, and so is the channel named.
+-- A number is an integer at its key, from 0 to the greatest that is taken; a flag is a boolean, and a text a string.
+-- Octets are a text of twice as many hex digits; a SAK is one of 16 octets, or of 32. Frames that do not verify are
+-- treated as the word says, and so is the channel named.
 pub record ValueWords : Type 0 where
   pub number : (key : List ℕ) (most n : ℕ) (m : Members) → number_at key most m ≡ Some n
       → (get_member key m ≡ Some (integer (pos n))) × (n ≤ most)
   pub flag : (key : List ℕ) (is : Bool) (m : Members) → flag_at key m ≡ Some is → get_member key m ≡ Some (boolean is)
   pub text : (key text : List ℕ) (m : Members) → text_at key m ≡ Some text → get_member key m ≡ Some (string text)
-  pub octets : (count : ℕ) (text octets : List ℕ) → octets_of count text ≡ Some octets → decode_sized text count ≡ Ok octets
+  pub octets : (count : ℕ) (text octets : List ℕ) → octets_of count text ≡ Some octets
+      → decode_sized text count ≡ Ok octets
   pub key : (text : List ℕ) (key : Key) → key_of text ≡ Some key
       → ((octets : List ℕ) × (octets_of 16 text ≡ Some octets) × (key ≡ Short octets))
       ⊎ ((octets : List ℕ) × (octets_of 32 text ≡ Some octets) × (key ≡ Long octets))

@@ -56,7 +56,8 @@ IsRead text (Some request) = text ≡ request_line request
 
 -- a report is said with the end of the answer; or memory is refused, and that is said
 abbrev pub Tells : Client → List ℕ → List Talk → Type 0
-Tells client text talk = (talk ≡ Said client text ∷ Said client (end_text 0) ∷ []) ⊎ (talk ≡ Said client (end_text 5) ∷ [])
+Tells client text talk = (talk ≡ Said client text ∷ Said client (end_text 0) ∷ [])
+    ⊎ (talk ≡ Said client (end_text 5) ∷ [])
 
 -- What a request is answered at once, and what is wanted then. A command is answered when it is done
 abbrev pub Answers : Reports → Client → Request → List Talk → Order → Type 0

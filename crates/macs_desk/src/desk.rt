@@ -20,8 +20,9 @@ use std::alloc::Global;
 /// A desk that serves clients. It listens to them after a quiet turn, before which it sleeps, and
 /// else at each 64th turn, and takes one line then; after a command it listens again before the
 /// next turn. `show` and `counters` are answered at once. A command is handed in, and its client is
-/// answered once it is done: `ok` after it is kept, and not before. Up to 16 commands are under way;
-/// while they are, no line is taken. `stop` ends the relay, and so does the wish to end the process.
+/// answered once it is done: `ok` after it is kept, and not before. Up to 16 commands are under
+/// way; while they are, no line is taken. `stop` ends the relay, and so does the wish to end the
+/// process.
 ///
 /// What clients do never holds a frame: no call waits for one of them. A client that goes away
 /// loses its answers, and none of its commands that were taken.
@@ -75,13 +76,15 @@ impl<D: SectorDisk, P: Wire + Counted, W: Wire + Counted, C: Clients, M: Metrics
     for ControlDesk<C, M> {
     fn next(&mut self, endpoint: &Endpoint<D>, controlled: &P, common: &W, was_quiet: bool) -> Order
         ensures talk { (talk : List Talk)
-            × LooksIf (is_time was_quiet self.old.turns_left) was_quiet (is_full (entries_of self.old.under_way))
+            × LooksIf (is_time was_quiet self.old.turns_left) was_quiet
+            (is_full (entries_of self.old.under_way))
             (reports_of endpoint.now (P.wire_counts controlled.now) (W.wire_counts common.now))
             self.old.asking talk result self.new.asking
             × (C.talk self.new.clients ≡ with_talk (C.talk self.old.clients) talk) }
         ensures notes { (notes : List Note)
             × MeasuresIf (is_time was_quiet self.old.turns_left)
-            (reports_of endpoint.now (P.wire_counts controlled.now) (W.wire_counts common.now)).measured notes
+            (reports_of endpoint.now (P.wire_counts controlled.now) (W.wire_counts common.now)).measured
+            notes
             × (M.notes self.new.metrics ≡ with_notes (M.notes self.old.metrics) notes) }
         ensures under_way { entries_of self.new.under_way ≡ entries_of self.old.under_way }
         ensures turns { self.new.turns_left
@@ -132,9 +135,11 @@ impl<D: SectorDisk, P: Wire + Counted, W: Wire + Counted, C: Clients, M: Metrics
 
     fn answered(&mut self, ticket: Ticket, end: CommandEnd)
         ensures talk { C.talk self.new.clients
-            ≡ with_talk (C.talk self.old.clients) (said_of_ending (entries_of self.old.under_way) ticket end) }
+            ≡ with_talk (C.talk self.old.clients)
+            (said_of_ending (entries_of self.old.under_way) ticket end) }
         ensures metrics { self.new.metrics ≡ self.old.metrics }
-        ensures under_way { entries_of self.new.under_way ≡ without (entries_of self.old.under_way) ticket }
+        ensures under_way { entries_of self.new.under_way
+            ≡ without (entries_of self.old.under_way) ticket }
     {
         match self.under_way.leave(ticket.get()) {
             Some(client) => self.clients.say(client, ended(end).as_slice()),

@@ -52,7 +52,8 @@ fn listen<D: SectorDisk, C: Clients>(
     asking: &mut Client,
 ) -> Order
     ensures { (talk : List Talk)
-        × Listens (reports_of endpoint.now controlled.now common.now) asking.old talk result asking.new
+        × Listens (reports_of endpoint.now controlled.now common.now)
+        asking.old talk result asking.new
         × (C.talk clients.new ≡ with_talk (C.talk clients.old) talk) }
 {
     match clients.hear() {
@@ -75,7 +76,8 @@ pub fn look<D: SectorDisk, C: Clients>(
     asking: &mut Client,
 ) -> Order
     ensures { (talk : List Talk)
-        × Looks is_full (reports_of endpoint.now controlled.now common.now) asking.old talk result asking.new
+        × Looks is_full (reports_of endpoint.now controlled.now common.now)
+        asking.old talk result asking.new
         × (C.talk clients.new ≡ with_talk (C.talk clients.old) talk) }
 {
     if clients.is_ended() {

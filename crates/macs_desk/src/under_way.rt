@@ -40,8 +40,7 @@ impl Queue {
         self.entries.is_full()
     }
 
-    /// Takes a command that was taken to wait. Where 16 are under way it is not kept: nobody is told
-    /// of it.
+    /// One command more. Where 16 are under way it is left out, and nobody is told of it.
     pub fn join(&mut self, entry: UnderWay)
         ensures { entries_of self.new ≡ joined (entries_of self.old) entry }
     {

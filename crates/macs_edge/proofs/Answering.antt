@@ -75,14 +75,16 @@ module _ {X Y : Type 0} where
     | inr later ↦ later-in (f first) (map f xs) (f x) (of-map f xs x later)
   ]
 
-  in-flat : (f : X → List Y) (xs : List X) (y : Y) → Contains (flat_map f xs) y → (x : X) × Contains xs x × Contains (f x) y
+  in-flat : (f : X → List Y) (xs : List X) (y : Y) → Contains (flat_map f xs) y → (x : X) × Contains xs x
+      × Contains (f x) y
   in-flat f [] y h = absurd (none-in y h)
   in-flat f (x ∷ xs) y h = elim (in-either (f x) (flat_map f xs) y h) [
     | inl here ↦ (x, first-in x xs, here)
     | inr later ↦ let (found, within, is) = in-flat f xs y later in (found, later-in x xs found within, is)
   ]
 
-  of-flat : (f : X → List Y) (xs : List X) (x : X) (y : Y) → Contains xs x → Contains (f x) y → Contains (flat_map f xs) y
+  of-flat : (f : X → List Y) (xs : List X) (x : X) (y : Y) → Contains xs x → Contains (f x) y
+      → Contains (flat_map f xs) y
   of-flat f [] x y within has = absurd (none-in x within)
   of-flat f (first ∷ xs) x y within has = elim (first-or-later first xs x within) [
     | inl same ↦ in-front (f first) (flat_map f xs) y (subst (λ (z : X). Contains (f z) y) same has)
@@ -96,7 +98,8 @@ is_done : (call : Call) (reply : Reply) (ticket : ℕ) (result : Result (Unit {0
     → (call ≡ Advances) × (reply ≡ Advanced (Ok (step.Done ticket result)))
 is_done Advances (Advanced (Ok (step.Done given what))) ticket result within =
     let same : record { ticket = ticket; end = end.Done result } ≡ record { ticket = given; end = end.Done what } =
-    only-in (record { ticket = given; end = end.Done what }) (record { ticket = ticket; end = end.Done result }) within in
+    only-in (record { ticket = given; end = end.Done what })
+    (record { ticket = ticket; end = end.Done result }) within in
     let one : ticket ≡ given = ap (λ (e : Ended). e.ticket) same in
     let ends : end.Done result ≡ end.Done what = ap (λ (e : Ended). e.end) same in
     let other : result ≡ what = cc in

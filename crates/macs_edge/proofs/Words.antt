@@ -46,16 +46,22 @@ none_by (Received (Ok (Delivered kind)) out) not_sent not_delivered = absurd (no
 none_by reply not_sent not_delivered = refl
 
 module _ {D : Type 0} where
-  given_so : (side : Side) (turn : Transition D) (turns : List (Transition D)) (call : Call) (reply : Reply) → turn.call ≡ call → turn.reply ≡ reply
+  given_so : (side : Side) (turn : Transition D) (turns : List (Transition D)) (call : Call) (reply : Reply)
+      → turn.call ≡ call → turn.reply ≡ reply
       → given side (turn ∷ turns) ≡ cond (is_on side call) (given_by reply) [] ++ given side turns
-  given_so side turn turns call reply called answered = (λ i. cond (is_on side (called i)) (given_by (answered i)) [] ++ given side turns)
+  given_so side turn turns call reply called answered =
+      (λ i. cond (is_on side (called i)) (given_by (answered i)) [] ++ given side turns)
 
-  not_of_side : (side : Side) (turn : Transition D) (turns : List (Transition D)) → ((frame : List ℕ) → turn.call ≢ call_on side frame)
+  not_of_side : (side : Side) (turn : Transition D) (turns : List (Transition D)) → ((frame : List ℕ)
+      → turn.call ≢ call_on side frame)
       → given side (turn ∷ turns) ≡ given side turns
-  not_of_side side turn turns other = (λ i. cond (not_on side turn.call other i) (given_by turn.reply) [] ++ given side turns)
+  not_of_side side turn turns other =
+      (λ i. cond (not_on side turn.call other i) (given_by turn.reply) [] ++ given side turns)
 
-  not_given : (side : Side) (turn : Transition D) (turns : List (Transition D)) → ((pn : ℕ) (out : List ℕ) → turn.reply ≢ Protected (Ok pn) out)
-      → ((kind : Kind) (out : List ℕ) → turn.reply ≢ Received (Ok (Delivered kind)) out) → given side (turn ∷ turns) ≡ given side turns
+  not_given : (side : Side) (turn : Transition D) (turns : List (Transition D)) → ((pn : ℕ) (out : List ℕ)
+      → turn.reply ≢ Protected (Ok pn) out)
+      → ((kind : Kind) (out : List ℕ) → turn.reply ≢ Received (Ok (Delivered kind)) out)
+      → given side (turn ∷ turns) ≡ given side turns
   not_given side turn turns not_sent not_delivered =
       (λ i. cond (is_on side turn.call) (none_by turn.reply not_sent not_delivered i) [] ++ given side turns)
       ∙ ap (λ (front : List (List ℕ)). front ++ given side turns) (same_both (is_on side turn.call))
@@ -74,7 +80,8 @@ flow-words disk_of = record {
   named = (refl, refl, refl);
   whole = λ old new summary f. (f.lives, f.out.took, f.out.sent, f.back.took, f.back.sent);
   none_given = λ side. refl;
-  protected = λ turn turns plain out pn called answered. given_so Controlled turn turns (Protects plain) (Protected (Ok pn) out) called answered;
+  protected = λ turn turns plain out pn called answered.
+      given_so Controlled turn turns (Protects plain) (Protected (Ok pn) out) called answered;
   delivered = λ turn turns frame out kind called answered.
       given_so Common turn turns (Receives frame) (Received (Ok (Delivered kind)) out) called answered;
   not_of_side = not_of_side;
@@ -97,15 +104,19 @@ gives_too_long (Some before) (Some after) frame waiting (long, first, more) is =
 gives_too_long (Some before) None frame waiting gives is = absurd gives
 gives_too_long None after frame waiting gives is = absurd (cc)
 
-gives_first : (before after : Option (List (List ℕ))) (frame : List ℕ) (waiting : List (List ℕ)) → Gives before after Frame frame → before ≡ Some waiting
+gives_first : (before after : Option (List (List ℕ))) (frame : List ℕ) (waiting : List (List ℕ))
+    → Gives before after Frame frame → before ≡ Some waiting
     → (left : List (List ℕ)) × (after ≡ Some left) × (waiting ≡ frame ∷ left)
-gives_first (Some before) (Some after) frame waiting gives is = let same : before ≡ waiting = cc in (after, refl, sym same ∙ gives)
+gives_first (Some before) (Some after) frame waiting gives is = let same : before ≡ waiting = cc in
+    (after, refl, sym same ∙ gives)
 gives_first (Some before) None frame waiting gives is = absurd gives
 gives_first None after frame waiting gives is = absurd (cc)
 
-left_too_long : (before after : Option (List (List ℕ))) (frame : List ℕ) (waiting : List (List ℕ)) → Gives before after TooLong frame → before ≡ Some waiting
+left_too_long : (before after : Option (List (List ℕ))) (frame : List ℕ) (waiting : List (List ℕ))
+    → Gives before after TooLong frame → before ≡ Some waiting
     → (long : List ℕ) × (left : List (List ℕ)) × (after ≡ Some left) × (waiting ≡ long ∷ left)
-left_too_long (Some before) (Some after) frame waiting (long, first, more) is = let same : before ≡ waiting = cc in (long, after, refl, sym same ∙ first)
+left_too_long (Some before) (Some after) frame waiting (long, first, more) is = let same : before ≡ waiting = cc in
+    (long, after, refl, sym same ∙ first)
 left_too_long (Some before) None frame waiting gives is = absurd gives
 left_too_long None after frame waiting gives is = absurd (cc)
 
@@ -113,7 +124,8 @@ pub wire-words : WireWords
 wire-words = record {
   frame = λ before after frame is. is.1;
   first = λ before after frame waiting is waits. gives_first before.waiting after.waiting frame waiting is.0 waits;
-  left_too_long = λ before after frame waiting is waits. left_too_long before.waiting after.waiting frame waiting is.0 waits;
+  left_too_long = λ before after frame waiting is waits.
+      left_too_long before.waiting after.waiting frame waiting is.0 waits;
   nothing = λ before after frame waiting is waits. (gives_nothing before.waiting after.waiting frame waiting is.0 waits, is.1);
   too_long = λ before after frame waiting is waits. (gives_too_long before.waiting after.waiting frame waiting is.0 waits, is.1);
   not_received = λ before after frame cause is. (is.0, is.1);

@@ -80,8 +80,8 @@ FlowsInTurns disk_of turns old result new = (flow : IsFlow disk_of old new (summ
     × OnOk result (steps_made flow.calls ≡ turns) × OnErr result (steps_made flow.calls ≤ turns)
 
 -- A turn is quiet where its step found no work, both slots are empty after it, and nothing was counted in it. A relay
--- that rests sleeps once after each quiet turn, and not after another. It takes all its turns so; or fewer, and then one
--- whose step is answered with the fault, with no sleep after it.
+-- that rests sleeps once after each quiet turn, and not after another. It takes all its turns so; or fewer, and then
+-- one whose step is answered with the fault, with no sleep after it.
 pub record RestWords {D : Type 0} (disk_of : D → Disk) : Type 0 where
   pub quiet : (progress : Progress) (old new : Relay D) → IsQuiet progress old new ↔ ((progress ≡ Idle)
       × (new.to_common.slot ≡ None)
@@ -150,7 +150,8 @@ pub record PassWords {D : Type 0} (disk_of : D → Disk) : Type 0 where
       × HasPassed disk_of side header.big between records passed new
       × HoldsOfLeft between.source.left new.source.left (λ left rest. rest ≡ [])
       × (s.passed ≡ length passed) × (s.passed + s.dropped ≡ length records)
-  pub ended : (side : Side) (big : Bool) (old new : Run D) (at : RunFault) → RunsRecords disk_of side big old (Err at) new
+  pub ended : (side : Side) (big : Bool) (old new : Run D) (at : RunFault)
+      → RunsRecords disk_of side big old (Err at) new
       → (records : List CaptureRecord) × (passed : List CaptureRecord) × (between : Run D)
       × HasPassed disk_of side big old records passed between
       × Stops disk_of side big (length records) between at new
@@ -261,7 +262,8 @@ pub record TurnWords {D : Type 0} (disk_of : D → Disk) : Type 0 where
       × (lane' ≡ filled answer frame lane)
   pub not_asked : (from from' : WireState) (lane lane' : LaneValue) (frame : List ℕ) → Fills from lane from' lane'
       → lane.slot ≡ Some frame → (from' ≡ from) × (lane' ≡ lane)
-  pub filled_with : (frame : List ℕ) (lane : LaneValue) → filled (Ok Frame) frame lane ≡ record lane { slot = Some frame }
+  pub filled_with : (frame : List ℕ) (lane : LaneValue)
+      → filled (Ok Frame) frame lane ≡ record lane { slot = Some frame }
   pub filled_none : (frame : List ℕ) (lane : LaneValue) → filled (Ok Nothing) frame lane ≡ lane
   pub filled_too_long : (frame : List ℕ) (lane : LaneValue)
       → filled (Ok TooLong) frame lane ≡ record lane { tally = one_dropped lane.tally }
@@ -315,7 +317,8 @@ pub record DeskWords {D : Type 0} (disk_of : D → Disk) : Type 0 where
   pub ends : (turns taken : ℕ) (quiet : Bool) (earlier events : List DeskEvent)
       → EndsAt turns taken quiet earlier events
       → ((taken ≡ turns) × (events ≡ earlier)) ⊎ ((taken < turns) × (events ≡ earlier ++ Wanted quiet End ∷ []))
-  pub taken : (turns : ℕ) (old new : Relay D) (events : List DeskEvent) → AttendsTurns disk_of turns old events (Ok tt) new
+  pub taken : (turns : ℕ) (old new : Relay D) (events : List DeskEvent)
+      → AttendsTurns disk_of turns old events (Ok tt) new
       → (taken : ℕ) × (earlier : List DeskEvent) × (quiet : Bool) × TakesAllAttended disk_of taken old earlier quiet new
       × EndsAt turns taken quiet earlier events
   pub failed : (turns : ℕ) (old : Relay D) (events : List DeskEvent) (at : RefillFault) (endpoint : EndpointValue D)

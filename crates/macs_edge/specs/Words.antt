@@ -39,9 +39,11 @@ use Rattle.macs_edge.specs.declared.wire.WireFault.TheVariants as fault
 -- Frames that are all but so many are those, in their order, without so many of them; where none is lost they are all. The frames that are taken off a wire are
 -- the first ones, and a wire gains what was sent; its failed receives and sends rise by what is missed and lost, as far as the numbers go. A summary counts what
 -- was sent each way and what was missed and lost; and what it has as dropped are the other frames that were taken. A relay takes all its turns, and answers what
--- its two lanes make; or fewer, and then one whose step is answered with the fault, which has the name of that step's. A run counts what passes, and the other records
--- that were taken. Of a flow: its calls link the endpoint of before to that of after; each way, what was taken came off the one wire, and what was sent on the
--- other is what the calls gave. They give each frame that `protect` answered with its number, and each that `receive` delivered, in order, and nothing else.
+-- its two lanes make; or fewer, and then one whose step is answered with the fault, which has the name of that step's.
+-- A run counts what passes, and the other records that were taken. Of a flow: its calls link the endpoint of before to
+-- that of after; each way, what was taken came off the one wire, and what was sent on the other is what the calls gave.
+-- They give each frame that `protect` answered with its number, and each that `receive` delivered, in order, and
+-- nothing else.
 pub record FlowWords {D : Type 0} (disk_of : D → Disk) : Type 0 where
   pub none_of : (frames : List (List ℕ)) (lost : ℕ) → AllBut lost [] frames → (frames ≡ []) × (lost ≡ 0)
   pub one_of : (lost : ℕ) (frame : List ℕ) (all frames : List (List ℕ)) → AllBut lost (frame ∷ all) frames
@@ -62,22 +64,29 @@ pub record FlowWords {D : Type 0} (disk_of : D → Disk) : Type 0 where
       × TakesTurn disk_of (Err step) between new
   pub passes : (records passed : List CaptureRecord) (s : Summary) → Counts records passed s → (s.passed ≡ length passed)
       × (s.passed + s.dropped ≡ length records)
-  pub named : (refill_fault_named step.Stopped ≡ refill.Stopped) × (refill_fault_named step.GenerationsSpent ≡ refill.GenerationsSpent)
+  pub named : (refill_fault_named step.Stopped ≡ refill.Stopped)
+      × (refill_fault_named step.GenerationsSpent ≡ refill.GenerationsSpent)
       × (refill_fault_named step.Disk ≡ refill.Disk)
-  pub whole : (old new : Relay D) (summary : RelaySummary) (f : IsFlow disk_of old new summary) → Lives disk_of old.endpoint f.calls new.endpoint
+  pub whole : (old new : Relay D) (summary : RelaySummary) (f : IsFlow disk_of old new summary)
+      → Lives disk_of old.endpoint f.calls new.endpoint
       × Took old.controlled new.controlled f.out.taken f.out.missed
       × Sent old.common new.common (given Controlled f.calls) f.out.frames f.out.lost
       × Took old.common new.common f.back.taken f.back.missed
       × Sent old.controlled new.controlled (given Common f.calls) f.back.frames f.back.lost
   pub none_given : (side : Side) → given {D = D} side [] ≡ []
-  pub protected : (turn : Transition D) (turns : List (Transition D)) (plain out : List ℕ) (pn : ℕ) → turn.call ≡ Protects plain
+  pub protected : (turn : Transition D) (turns : List (Transition D)) (plain out : List ℕ) (pn : ℕ)
+      → turn.call ≡ Protects plain
       → turn.reply ≡ Protected (Ok pn) out → given Controlled (turn ∷ turns) ≡ out ∷ given Controlled turns
-  pub delivered : (turn : Transition D) (turns : List (Transition D)) (frame out : List ℕ) (kind : Kind) → turn.call ≡ ReceivesFrame frame
+  pub delivered : (turn : Transition D) (turns : List (Transition D)) (frame out : List ℕ) (kind : Kind)
+      → turn.call ≡ ReceivesFrame frame
       → turn.reply ≡ Received (Ok (Delivered kind)) out → given Common (turn ∷ turns) ≡ out ∷ given Common turns
-  pub not_of_side : (side : Side) (turn : Transition D) (turns : List (Transition D)) → ((frame : List ℕ) → turn.call ≢ call_on side frame)
+  pub not_of_side : (side : Side) (turn : Transition D) (turns : List (Transition D)) → ((frame : List ℕ)
+      → turn.call ≢ call_on side frame)
       → given side (turn ∷ turns) ≡ given side turns
-  pub not_given : (side : Side) (turn : Transition D) (turns : List (Transition D)) → ((pn : ℕ) (out : List ℕ) → turn.reply ≢ Protected (Ok pn) out)
-      → ((kind : Kind) (out : List ℕ) → turn.reply ≢ Received (Ok (Delivered kind)) out) → given side (turn ∷ turns) ≡ given side turns
+  pub not_given : (side : Side) (turn : Transition D) (turns : List (Transition D)) → ((pn : ℕ) (out : List ℕ)
+      → turn.reply ≢ Protected (Ok pn) out)
+      → ((kind : Kind) (out : List ℕ) → turn.reply ≢ Received (Ok (Delivered kind)) out)
+      → given side (turn ∷ turns) ≡ given side turns
   pub counted : (old new : Relay D) (summary : RelaySummary) (f : IsFlow disk_of old new summary)
       → (summary.sent ≡ min (length f.out.frames) (2 ^ 64 - 1)) × (summary.delivered ≡ min (length f.back.frames) (2 ^ 64 - 1))
       × (summary.faults ≡ min (f.out.missed + f.out.lost + f.back.missed + f.back.lost) (2 ^ 64 - 1))
@@ -86,14 +95,18 @@ pub record FlowWords {D : Type 0} (disk_of : D → Disk) : Type 0 where
 
 -- ---- what a wire gives
 
--- A wire that tells its frames gives the first that waits, and has the others left; none only where none waits; one that is longer than 9,216 octets is taken and
--- not given; and no receive fails as a send, nor a send as a receive. Without a frame the buffer is empty.
+-- A wire that tells its frames gives the first that waits, and has the others left; none only where none waits; one
+-- that is longer than 9,216 octets is taken and not given; and no receive fails as a send, nor a send as a receive.
+-- Without a frame the buffer is empty.
 pub record WireWords : Type 0 where
   pub frame : (before after : WireState) (frame : List ℕ) → Receives before (Ok Frame) frame after → length frame ≤ 9216
-  pub first : (before after : WireState) (frame : List ℕ) (waiting : List (List ℕ)) → Receives before (Ok Frame) frame after
+  pub first : (before after : WireState) (frame : List ℕ) (waiting : List (List ℕ))
+      → Receives before (Ok Frame) frame after
       → before.waiting ≡ Some waiting → (left : List (List ℕ)) × (after.waiting ≡ Some left) × (waiting ≡ frame ∷ left)
-  pub left_too_long : (before after : WireState) (frame : List ℕ) (waiting : List (List ℕ)) → Receives before (Ok TooLong) frame after
-      → before.waiting ≡ Some waiting → (long : List ℕ) × (left : List (List ℕ)) × (after.waiting ≡ Some left) × (waiting ≡ long ∷ left)
+  pub left_too_long : (before after : WireState) (frame : List ℕ) (waiting : List (List ℕ))
+      → Receives before (Ok TooLong) frame after
+      → before.waiting ≡ Some waiting → (long : List ℕ) × (left : List (List ℕ)) × (after.waiting ≡ Some left)
+      × (waiting ≡ long ∷ left)
   pub nothing : (before after : WireState) (frame : List ℕ) (waiting : List (List ℕ)) → Receives before (Ok Nothing) frame after
       → before.waiting ≡ Some waiting → (waiting ≡ []) × (frame ≡ [])
   pub too_long : (before after : WireState) (frame : List ℕ) (waiting : List (List ℕ)) → Receives before (Ok TooLong) frame after

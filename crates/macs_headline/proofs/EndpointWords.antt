@@ -191,25 +191,34 @@ module _ {D : Type 0} (disk_of : D → Disk) where
 
   -- a refill that is done
   refilled : (old new : EndpointValue D) → IsCall disk_of old Refills (Refilled (Ok tt)) new → old.reserving ≡ None
-      → IsRefilled (tx_side (state_of old no_logs)) (rx_side (state_of old no_logs)) (standing_in old.store) (standing_in new.store) None
+      → IsRefilled (tx_side (state_of old no_logs)) (rx_side (state_of old no_logs)) (standing_in old.store)
+      (standing_in new.store) None
   refilled old new call none =
-      subst (λ (s : Standing). IsRefilled (tx_side (state_of old no_logs)) (rx_side (state_of old no_logs)) s (standing_in new.store) None)
+      subst (λ (s : Standing). IsRefilled (tx_side (state_of old no_logs)) (rx_side (state_of old no_logs)) s
+      (standing_in new.store) None)
       (reserved_none (standing_in old.store) old.reserving none) call.behaves.ceilings
 
-  refilled_behind : (old new : EndpointValue D) (raise : Raise) → IsCall disk_of old Refills (Refilled (Ok tt)) new → old.reserving ≡ Some raise
-      → IsRefilled (tx_side (state_of old no_logs)) (rx_side (state_of old no_logs)) (standing_with_raise (standing_in old.store) raise)
+  refilled_behind : (old new : EndpointValue D) (raise : Raise) → IsCall disk_of old Refills (Refilled (Ok tt)) new
+      → old.reserving ≡ Some raise
+      → IsRefilled (tx_side (state_of old no_logs)) (rx_side (state_of old no_logs))
+      (standing_with_raise (standing_in old.store) raise)
       (standing_in new.store) None
   refilled_behind old new raise call is =
-      subst (λ (s : Standing). IsRefilled (tx_side (state_of old no_logs)) (rx_side (state_of old no_logs)) s (standing_in new.store) None)
+      subst (λ (s : Standing). IsRefilled (tx_side (state_of old no_logs)) (rx_side (state_of old no_logs)) s
+      (standing_in new.store) None)
       (reserved_some (standing_in old.store) old.reserving raise is) call.behaves.ceilings
 
   spends_so : (old : EndpointValue D) (new : StoreValue D) → Spends disk_of old (Ok tt) new → old.reserving ≡ None
-      → (next : Option Raise) × IsRefilled (tx_side (state_of old no_logs)) (rx_side (state_of old no_logs)) (standing_in old.store) (standing_in new) next
+      → (next : Option Raise)
+      × IsRefilled (tx_side (state_of old no_logs)) (rx_side (state_of old no_logs)) (standing_in old.store)
+      (standing_in new) next
   spends_so old new (raises, has) none = (
     first_raise (standing_in new) (tx_side (state_of old no_logs)) (rx_side (state_of old no_logs)),
     record {
       raises = raises;
-      raised = subst (λ (s : Standing). Raises (tx_side (state_of old no_logs)) (rx_side (state_of old no_logs)) s raises (standing_in new))
+      raised =
+          subst (λ (s : Standing). Raises (tx_side (state_of old no_logs)) (rx_side (state_of old no_logs)) s raises
+          (standing_in new))
           (reserved_none (standing_in old.store) old.reserving none) has.raised;
       is_next = refl;
     },
@@ -301,7 +310,8 @@ module _ {D : Type 0} (disk_of : D → Disk) where
   halts_stopped reply tells = absurd tells
 
   halts_alone : (reply : Reply) → is_halt reply ≡ true → TellsFault reply ⊎ (TellsStopped reply
-      ⊎ (((out : List ℕ) × (reply ≡ Protected (Err protect.Stopped) out)) ⊎ ((stopped : Stopped) × (out : List ℕ) × (reply ≡ Received (Err stopped) out))))
+      ⊎ (((out : List ℕ) × (reply ≡ Protected (Err protect.Stopped) out)) ⊎ ((stopped : Stopped) × (out : List ℕ)
+      × (reply ≡ Received (Err stopped) out))))
   halts_alone (Ran (Err ran.Disk)) is = inl tt
   halts_alone (Refilled (Err refill.Disk)) is = inl tt
   halts_alone (Advanced (Err step.Disk)) is = inl tt

@@ -56,7 +56,8 @@ module _ (s : State) (plain : List ℕ) (o : Outgoing) (is : IsIdentity s.identi
   -- its tag names the channel by the mode
   pub frame-named : IsNamedIn s.config.mode s.identity.sci (name_of (frame_of (tx_side s) o plain))
   frame-named =
-      let read = protected_is_read o.sa.key s.identity.sci tag (octets_of (offset_of o.sa.protection)) plain written long fits in
+      let read =
+      protected_is_read o.sa.key s.identity.sci tag (octets_of (offset_of o.sa.protection)) plain written long fits in
       named_by s.config.mode s.identity.sci (name_of (frame_of (tx_side s) o plain)) (sym (ap (λ (t : SecTag). t.name) read.0.reading.tag))
 
   -- it has the AN, and E and C both set under confidentiality, else both clear
@@ -64,9 +65,13 @@ module _ (s : State) (plain : List ℕ) (o : Outgoing) (is : IsIdentity s.identi
       × (has_bit (slice_index (frame_of (tx_side s) o plain) 14) 0x08 ≡ is_confidential o.sa.protection)
       × (has_bit (slice_index (frame_of (tx_side s) o plain) 14) 0x04 ≡ is_confidential o.sa.protection)
   frame-bits =
-      let read = protected_is_read o.sa.key s.identity.sci tag (octets_of (offset_of o.sa.protection)) plain written long fits in
-      let is = read.0.reading.tag in
-      (sym (ap (λ (t : SecTag). t.an) is), sym (ap (λ (t : SecTag). t.encrypted) is), sym (ap (λ (t : SecTag). t.changed) is))
+      let read =
+      protected_is_read o.sa.key s.identity.sci tag (octets_of (offset_of o.sa.protection)) plain written long fits in
+      let is = read.0.reading.tag in (
+        sym (ap (λ (t : SecTag). t.an) is),
+        sym (ap (λ (t : SecTag). t.encrypted) is),
+        sym (ap (λ (t : SecTag). t.changed) is),
+      )
 
   -- and it verifies
   pub frame-read : Verified (frame_of (tx_side s) o plain) o.sa.key s.identity.sci (octets_of (offset_of o.sa.protection)) plain

@@ -101,3 +101,4 @@ pub mod ExampleBeginning
 mod OpeningWords
 mod DeedLives
 mod DiskFiles
+mod ExampleWords

@@ -308,7 +308,8 @@ module _ {D : Type 0} where
   used old command (Err ran.Busy) not_stopped not_busy = absurd (not_busy refl)
   used old command result not_stopped not_busy = refl
 
-  not_begun : (old : EndpointValue D) (command : Command) (fault : CommandFault) → (fault ≡ ran.Stopped) ⊎ (fault ≡ ran.Busy)
+  not_begun : (old : EndpointValue D) (command : Command) (fault : CommandFault) → (fault ≡ ran.Stopped)
+      ⊎ (fault ≡ ran.Busy)
       → turn_after old (Commands command) (Ran (Err fault)) ≡ old.turn
   not_begun old command fault (inl is) = ap (λ (f : CommandFault). turn_after old (Commands command) (Ran (Err f))) is
   not_begun old command fault (inr is) = ap (λ (f : CommandFault). turn_after old (Commands command) (Ran (Err f))) is
@@ -319,7 +320,8 @@ module _ {D : Type 0} where
   refilled old (Refilled result) none = ap (turn_after_refill old.turn) none
   refilled old reply none = refl
 
-  finished : (old : EndpointValue D) (raise : Raise) (result : Result (Unit {0}) RefillFault) → old.reserving ≡ Some raise
+  finished : (old : EndpointValue D) (raise : Raise) (result : Result (Unit {0}) RefillFault)
+      → old.reserving ≡ Some raise
       → result ≢ Err refill.Stopped → result ≢ Err refill.Busy → turn_after old Refills (Refilled result) ≡ CommandTurn
   finished old raise (Err refill.Stopped) is not_stopped not_busy = absurd (not_stopped refl)
   finished old raise (Err refill.Busy) is not_stopped not_busy = absurd (not_busy refl)

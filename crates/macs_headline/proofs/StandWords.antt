@@ -94,7 +94,8 @@ module _ {D : Type 0} (disk_of : D → Disk) where
     opening_spares = λ old first c is honest migrates. (is.device.migrated honest c migrates).0.others;
     refused_spares = λ old refused c s is honest migrates. (is.refused.migrated honest c s migrates).others;
     compaction_spares = λ old new records result is honest. is.others honest;
-    compaction_until = λ old new records result before opened is honest holds counted. is.until honest before holds opened counted;
+    compaction_until = λ old new records result before opened is honest holds counted.
+        is.until honest before holds opened counted;
     reserved = λ old new call. call.behaves.ceilings;
     command_failed = λ old new command call. call.behaves.ceilings;
     command_anew = command_anew;

@@ -83,7 +83,8 @@ abbrev pub ImagesAreWhole : Type 0
 ImagesAreWhole = (state : DiskState) (image : Image) → IsImage state image → (i : ℕ) → state.pending i ≡ true
     → (length (image i) ≡ 512) × ((k : ℕ) → get_or (image i) k 0 < 2 ^ 8)
 
--- And so is each image that has what is durable in the sectors that are not pending, and any 512 octets in those that are.
+-- And so is each image that has what is durable in the sectors that are not pending, and any 512 octets in those that
+-- are.
 abbrev pub TheseAreImages : Type 0
 TheseAreImages = (state : DiskState) (image : Image) → ((i : ℕ) → state.pending i ≡ false → image i ≡ state.durable i)
     → ((i : ℕ) → state.pending i ≡ true → length (image i) ≡ 512)

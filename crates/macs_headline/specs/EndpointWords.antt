@@ -75,10 +75,10 @@ pub record OpeningsCount {D : Type 0} (disk_of : D → Disk) : Type 0 where
 -- A ceiling that the transmit side needs comes first. A command that is kept leaves the turn to a reservation, and a refill that finished one to a command.
 -- After a refill nothing was raised where nothing is needed first, and else nothing, or that, and then the others so. A command that is answered as
 -- GenerationsSpent leaves what stands, with the reservation that was in hand; and a refill that is answered as Disk, where none was in hand, what was raised so.
--- One that is answered as Ok leaves what was raised so, the reservation in hand first, until none is needed; and its slots and device calls are those of ceilings
--- that were raised so.
--- A refill, and a command that is kept, of an endpoint with no work in hand, make four device calls at most for each slot that they use, where the journal does
--- not begin anew; and the command uses one.
+-- One that is answered as Ok leaves what was raised so, the reservation in hand first, until none is needed; and its
+-- slots and device calls are those of ceilings that were raised so. A refill, and a command that is kept, of an
+-- endpoint with no work in hand, make four device calls at most for each slot that they use, where the journal does not
+-- begin anew; and the command uses one.
 pub record CeilingsAreRaised {D : Type 0} (disk_of : D → Disk) : Type 0 where
   pub none : (t : TxSide) (r : RxSide) (old new : Standing) (next : Option Raise) → IsRefilled t r old new next → first_raise old t r ≡ None → new ≡ old
   pub one : (t : TxSide) (r : RxSide) (old new : Standing) (next : Option Raise) (raise : Raise) → IsRefilled t r old new next
@@ -97,12 +97,17 @@ pub record CeilingsAreRaised {D : Type 0} (disk_of : D → Disk) : Type 0 where
   pub fault : (old new : EndpointValue D) → IsCall disk_of old Refills (Refilled (Err refill.Disk)) new → old.reserving ≡ None
       → (raise : Raise) × IsRefilled (tx_side (state_of old no_logs)) (rx_side (state_of old no_logs)) (standing_in old.store) (standing_in new.store) (Some raise)
   pub refilled : (old new : EndpointValue D) → IsCall disk_of old Refills (Refilled (Ok tt)) new → old.reserving ≡ None
-      → IsRefilled (tx_side (state_of old no_logs)) (rx_side (state_of old no_logs)) (standing_in old.store) (standing_in new.store) None
-  pub refilled_behind : (old new : EndpointValue D) (raise : Raise) → IsCall disk_of old Refills (Refilled (Ok tt)) new → old.reserving ≡ Some raise
-      → IsRefilled (tx_side (state_of old no_logs)) (rx_side (state_of old no_logs)) (standing_with_raise (standing_in old.store) raise)
+      → IsRefilled (tx_side (state_of old no_logs)) (rx_side (state_of old no_logs)) (standing_in old.store)
+      (standing_in new.store) None
+  pub refilled_behind : (old new : EndpointValue D) (raise : Raise)
+      → IsCall disk_of old Refills (Refilled (Ok tt)) new → old.reserving ≡ Some raise
+      → IsRefilled (tx_side (state_of old no_logs)) (rx_side (state_of old no_logs))
+      (standing_with_raise (standing_in old.store) raise)
       (standing_in new.store) None
   pub spends : (old : EndpointValue D) (new : StoreValue D) → Spends disk_of old (Ok tt) new → old.reserving ≡ None
-      → (next : Option Raise) × IsRefilled (tx_side (state_of old no_logs)) (rx_side (state_of old no_logs)) (standing_in old.store) (standing_in new) next
+      → (next : Option Raise)
+      × IsRefilled (tx_side (state_of old no_logs)) (rx_side (state_of old no_logs)) (standing_in old.store)
+      (standing_in new) next
   pub refill : (old : EndpointValue D) (new : StoreValue D) → Spends disk_of old (Ok tt) new → IsIdle old.store → generation new ≡ generation old.store
       → (store.disk_in disk_of new).clock ≤ (disk_in disk_of old).clock + 4 * (used_slots new - used_slots old.store)
   pub command : (old new : EndpointValue D) (command : Command) → KeepsCommand disk_of old command (Ok tt) new → IsIdle old.store
@@ -124,9 +129,10 @@ pub record CallsAreCounted {D : Type 0} (disk_of : D → Disk) : Type 0 where
 -- Of events that are served: since the calls before it were answered, a power loss leaves at each moment an image that fits the state before one of the calls that
 -- are left, with its command in hand, or the one after the last. No more calls are made than turns were given, and as many where those are spent; Ended comes with
 -- a turn left, and no event. A source that tells its events gave those of the calls, in their order, and a sink that tells its answers took theirs. Halted is
--- the end where the last answer says that a device call failed, and no other one does. An operator's command is submitted, a frame from the controlled side is
--- protected, one from the common side is received, and where there is time for work a step is made; each answer has what the call was answered. A device call
--- failed, now or before, where an answer says Disk or Stopped, and where none does it did not.
+-- the end where the last answer says that a device call failed, and no other one does. An operator's command is
+-- submitted, a frame from the controlled side is protected, one from the common side is received, and where there is
+-- time for work a step is made; each answer has what the call was answered. A device call failed, now or before, where
+-- an answer says Disk or Stopped, and where none does it did not.
 pub record ServedWords {D : Type 0} (disk_of : D → Disk) : Type 0 where
   pub left : (final : Disk) (e : EndpointValue D) (turns : List (Transition D)) → LeavesLife disk_of final e turns
       → (image : Image) → LeftSince final (disk_in disk_of e).clock image → FitsLife final.sectors e turns image
@@ -152,14 +158,17 @@ pub record ServedWords {D : Type 0} (disk_of : D → Disk) : Type 0 where
   pub tagged : (frame : ArrayVec ℕ) → call_of (event.Common frame) ≡ Receives frame.items
   pub work : call_of event.Work ≡ Advances
   pub submitted : (result : Result ℕ SubmitFault) → reply_of (answer.Submitted result) ≡ Submitted result
-  pub protected : (result : Result ℕ ProtectFault) (out : ArrayVec ℕ) → reply_of (answer.Protected result out) ≡ Protected result out.items
-  pub received : (result : Result Verdict Stopped) (out : ArrayVec ℕ) → reply_of (answer.Received result out) ≡ Received result out.items
+  pub protected : (result : Result ℕ ProtectFault) (out : ArrayVec ℕ)
+      → reply_of (answer.Protected result out) ≡ Protected result out.items
+  pub received : (result : Result Verdict Stopped) (out : ArrayVec ℕ)
+      → reply_of (answer.Received result out) ≡ Received result out.items
   pub stepped : (result : Result Progress StepFault) → reply_of (answer.Stepped result) ≡ Advanced result
   pub ran : (result : Result (Unit {0}) CommandFault) → reply_of (answer.Ran result) ≡ Ran result
   pub refilled : (result : Result (Unit {0}) RefillFault) → reply_of (answer.Refilled result) ≡ Refilled result
   pub halts : (reply : Reply) → TellsFault reply → is_halt reply ≡ true
   pub halts_stopped : (reply : Reply) → TellsStopped reply → is_halt reply ≡ true
   pub halts_alone : (reply : Reply) → is_halt reply ≡ true → TellsFault reply ⊎ (TellsStopped reply
-      ⊎ (((out : List ℕ) × (reply ≡ Protected (Err protect.Stopped) out)) ⊎ ((stopped : Stopped) × (out : List ℕ) × (reply ≡ Received (Err stopped) out))))
+      ⊎ (((out : List ℕ) × (reply ≡ Protected (Err protect.Stopped) out)) ⊎ ((stopped : Stopped) × (out : List ℕ)
+      × (reply ≡ Received (Err stopped) out))))
   pub halted : (replies : List Reply) → EndsAs replies Halted → (before : List Reply) × (reply : Reply) × (before ++ reply ∷ [] ≡ replies)
       × (is_halt reply ≡ true)

@@ -34,14 +34,16 @@ iv_in sci frame = sci ++ to_be_bytes w32 (from_be_bytes w32 (slice_range frame 1
 
 -- A standard frame is under the association that frames go out under, with its next number, 1 to 2^32 - 1, which joins those that were used, and the next one is
 -- one more. SL is the number of octets of Secure Data where they are fewer than 48, else 0; in end station mode the SCI is the source address with port 00-01.
--- Where the identity is in its ranges, the tag names the channel as the mode says, octet 14 has the AN, and E and C both set where the association gives
--- confidentiality, else both clear; and the frame verifies as the plain one. A frame that is delivered as verified
--- verifies under the association that its tag names, gives its plain frame and no other, and where replay protection is on is not below the lowest acceptable
--- number there. What is another frame, or another delivery, than one of a
--- key has another number under that key, and SCI; and what is found after one is beyond its number. A frame that is given has octets below 256.
+-- Where the identity is in its ranges, the tag names the channel as the mode says, octet 14 has the AN, and E and C
+-- both set where the association gives confidentiality, else both clear; and the frame verifies as the plain one. A
+-- frame that is delivered as verified verifies under the association that its tag names, gives its plain frame and no
+-- other, and where replay protection is on is not below the lowest acceptable number there. What is another frame, or
+-- another delivery, than one of a key has another number under that key, and SCI; and what is found after one is beyond
+-- its number. A frame that is given has octets below 256.
 --
--- What verifies is sealed (IEEE Std 802.1AE-2018, clause 14): under the SCI and the PN, with all octets up to the end of the SecTAG, and those of Secure Data that
--- are in the clear, as what is authenticated alone. Where E is set those are as many as the offset says, and the others are the ciphertext; else all of them.
+-- What verifies is sealed (IEEE Std 802.1AE-2018, clause 14): under the SCI and the PN, with all octets up to the end of
+-- the SecTAG, and those of Secure Data that are in the clear, as what is authenticated alone. Where E is set those are
+-- as many as the offset says, and the others are the ciphertext; else all of them.
 pub record FrameWords (sectors : ℕ) : Type 0 where
   pub standard : (s new : State) (plain out : List ℕ) (pn : ℕ) (f : IsStandardFrame s plain pn out new)
       → (s.config.encoding ≡ Some f.an) × (s.config.tx f.an ≡ Some f.sa) × (s.next f.an ≡ Some pn) × (1 ≤ pn) × (pn < 2 ^ 32)
@@ -53,7 +55,8 @@ pub record FrameWords (sectors : ℕ) : Type 0 where
   pub named : (s new : State) (plain out : List ℕ) (pn : ℕ) → IsStandardFrame s plain pn out new → IsIdentity s.identity
       → (s.config.mode ≡ Explicit → name_of out ≡ NamesSci s.identity.sci) × (s.config.mode ≡ EndStation → name_of out ≡ NamesStation)
       × (s.config.mode ≡ Implicit → name_of out ≡ NamesNone)
-  pub bits : (s new : State) (plain out : List ℕ) (pn : ℕ) (f : IsStandardFrame s plain pn out new) → IsIdentity s.identity
+  pub bits : (s new : State) (plain out : List ℕ) (pn : ℕ) (f : IsStandardFrame s plain pn out new)
+      → IsIdentity s.identity
       → (slice_index out 14 % 4 ≡ f.an) × (has_bit (slice_index out 14) 0x08 ≡ is_confidential f.sa.protection)
       × (has_bit (slice_index out 14) 0x04 ≡ is_confidential f.sa.protection)
   pub read : (s new : State) (plain out : List ℕ) (pn : ℕ) (f : IsStandardFrame s plain pn out new) → IsIdentity s.identity

@@ -29,8 +29,9 @@ IsNamedIn Implicit sci name = name ≡ NamesNone
 -- A frame is the standard's (IEEE Std 802.1AE-2018, clauses 9 and 10): the protected frame of the plain one under the encoding association of that moment,
 -- with its mode and its next packet number, 1 to 2^32 - 1; the number joins those that were used, and the next one is one more. SL, octet 15, is the number of
 -- octets of Secure Data where they are fewer than 48, so that the plain frame has fewer than 60, else 0 (9.7). Where ES is set, the SCI is the source address
--- with port 00-01 (9.5). Where the identity is in its ranges, the tag is read as the mode says, octet 14 has the AN, and E and C both set under confidentiality,
--- else both clear (9.5 and 9.6); and the frame verifies as the plain one under the key, the SCI and the offset of the association.
+-- with port 00-01 (9.5). Where the identity is in its ranges, the tag is read as the mode says, octet 14 has the AN,
+-- and E and C both set under confidentiality, else both clear (9.5 and 9.6); and the frame verifies as the plain one
+-- under the key, the SCI and the offset of the association.
 pub record IsStandardFrame (s : State) (plain : List ℕ) (pn : ℕ) (out : List ℕ) (new : State) : Type 0 where
   pub an : ℕ
   pub sa : TxSa
@@ -53,7 +54,8 @@ pub record IsStandardFrame (s : State) (plain : List ℕ) (pn : ℕ) (out : List
   pub next : new.next an ≡ Some (pn + 1)
   pub own : s.config.mode ≡ EndStation → s.identity.sci ≡ slice_range plain 6 12 ++ 0 ∷ 1 ∷ []
   pub named : IsIdentity s.identity → IsNamedIn s.config.mode s.identity.sci (name_of out)
-  pub bits : IsIdentity s.identity → (slice_index out 14 % 4 ≡ an) × (has_bit (slice_index out 14) 0x08 ≡ is_confidential sa.protection)
+  pub bits : IsIdentity s.identity → (slice_index out 14 % 4 ≡ an)
+      × (has_bit (slice_index out 14) 0x08 ≡ is_confidential sa.protection)
       × (has_bit (slice_index out 14) 0x04 ≡ is_confidential sa.protection)
   pub read : IsIdentity s.identity → Verified out sa.key s.identity.sci (octets_of (offset_of sa.protection)) plain
 

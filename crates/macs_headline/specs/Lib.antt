@@ -55,3 +55,4 @@ pub mod ExampleDisk
 pub mod ExampleCuts
 pub mod ExampleLives
 pub mod ExampleMigration
+pub mod ExampleWords

@@ -44,6 +44,7 @@ ghost use Rattle.macs_headline.specs.Endings.{ReadsPassOn, SyncsPassOn, TheseAre
 ghost use Rattle.macs_headline.specs.Endings.{WritesBackAsSyncs, WrittenBackPassOn};
 ghost use Rattle.macs_headline.specs.ExampleLives.{IsWorkedHistory};
 ghost use Rattle.macs_headline.specs.ExampleMigration.{IsWorkedMigration};
+ghost use Rattle.macs_headline.specs.ExampleWords.{DaysAreCalls, ExampleWords};
 ghost use Rattle.macs_headline.specs.Fitting.{RestartsFit};
 ghost use Rattle.macs_headline.specs.FrameWords.{FrameWords};
 ghost use Rattle.macs_headline.specs.QueueWords.{QueueWords};
@@ -274,6 +275,8 @@ pub fn words()
     ensures logs { (sectors : ℕ) → LogWords sectors }
     ensures numbers { NumberWords }
     ensures lives { (sectors : ℕ) → LifeWords sectors }
+    // In which words the contracts of the examples end.
+    ensures examples { ExampleWords }
 {}
 
 /// What the endpoint's contracts promise of openings, ceilings and counters, and what its own laws on
@@ -297,6 +300,8 @@ pub fn endpoint_words<D: SectorDisk>()
     ensures served { ServedWords D.disk }
     // That they are calls, and that no answer before the last says that a device call failed.
     ensures ends { ServedEnds D.disk }
+    // Which calls an example's day is.
+    ensures days { DaysAreCalls D.disk }
     // One more step, reservation, command or frame is counted where a call or its answer says
     // so, and else none.
     ensures counted { TurnsAreCounted D }

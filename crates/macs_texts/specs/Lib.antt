@@ -2,4 +2,5 @@ pub mod Lines
 pub mod Refusals
 pub mod Showing
 pub mod Counting
+pub mod CounterWords
 pub mod Measuring

@@ -90,7 +90,8 @@ channel_name = codes "macsec_rx_channel_frames_total"
 
 -- the labels of a verdict on frames of a channel
 abbrev pub channel_labels : List ℕ → Verdict → List ℕ
-channel_labels sci verdict = label (codes "sci") (encode_lower sci) ++ (codes "," ++ label (codes "verdict") (verdict_words verdict))
+channel_labels sci verdict =
+    label (codes "sci") (encode_lower sci) ++ (codes "," ++ label (codes "verdict") (verdict_words verdict))
 
 -- how often a verdict was given on frames of a channel, where there is such a channel
 abbrev pub channel_sample : (List ℕ → Option ChannelCounters) → List ℕ → Verdict → List ℕ
@@ -140,7 +141,8 @@ left_name = codes "macsec_tx_numbers_left"
 
 -- how many there are, where there is such an association
 abbrev pub left_sample : State → ℕ → List ℕ
-left_sample s an = sample_of left_name (label (codes "an") (decimal an)) (option_map (λ next. 2 ^ 32 - next) (s.next an))
+left_sample s an =
+    sample_of left_name (label (codes "an") (decimal an)) (option_map (λ next. 2 ^ 32 - next) (s.next an))
 
 -- what comes before these
 abbrev pub left_head : List ℕ
@@ -157,7 +159,8 @@ keys_name = codes "macsec_keys_left"
 -- so many on either side
 abbrev pub key_numbers : ℕ → ℕ → List ℕ
 key_numbers tx rx = metric_head keys_name (codes "gauge") (codes "Keys that may still be installed.")
-    ++ sample keys_name (label (codes "side") (codes "tx")) tx ++ sample keys_name (label (codes "side") (codes "rx")) rx
+    ++ sample keys_name (label (codes "side") (codes "tx")) tx
+    ++ sample keys_name (label (codes "side") (codes "rx")) rx
 
 -- as many as are left
 abbrev pub keys_metric : Config → List ℕ

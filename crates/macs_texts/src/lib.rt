@@ -2,6 +2,7 @@
 #![tactic(auto)]
 
 mod counting;
+pub mod laws;
 mod lines;
 mod measuring;
 mod refusals;

@@ -8,10 +8,11 @@ ghost use Rattle.macs_endpoint.specs.Value.{state_of};
 ghost use Rattle.macs_rxsc.specs.Value as rxsc;
 ghost use Rattle.macs_txsc.specs.Value as txsc;
 ghost use Rattle.macs_texts.specs.Measuring.{channel_labels, channel_metric, channel_sample};
-ghost use Rattle.macs_texts.specs.Measuring.{channel_samples, key_numbers, keys_metric, left_metric, left_sample};
+ghost use Rattle.macs_texts.specs.Measuring.{channel_samples, key_numbers, keys_metric};
+ghost use Rattle.macs_texts.specs.Measuring.{left_metric, left_sample};
 ghost use Rattle.macs_texts.specs.Measuring.{metrics_text, protected_sample, rx_metric, rx_sample};
-ghost use Rattle.macs_texts.specs.Measuring.{tx_front, tx_metric, tx_sample, wire_metric, wire_numbers};
-ghost use Rattle.macs_texts.specs.Measuring.{wires_metrics};
+ghost use Rattle.macs_texts.specs.Measuring.{tx_front, tx_metric, tx_sample, wire_metric};
+ghost use Rattle.macs_texts.specs.Measuring.{wire_numbers, wires_metrics};
 
 use crate::counting::{CHANNEL_VERDICTS, RX_VERDICTS, TX_FAULTS, left_of};
 use crate::lines::joined;

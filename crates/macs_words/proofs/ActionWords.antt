@@ -52,6 +52,7 @@ action-words = record {
   busy = λ values turns is. is;
   waiting = λ values limit turns is. (is.0, is.1.0, is.1.1, is.2);
   endless = λ values limit is. (is.0, is.1.0, is.1.1, is.2);
+  any_wait = λ values limit has least most none. (has, (least, most), none);
   refused = refused_so;
 }
 

@@ -19,11 +19,12 @@ use Rattle.macs_words.specs.declared.pace.Pace.TheVariants.{Busy, Waiting}
 use Rattle.macs_words.specs.declared.pace.Running.{Running}
 
 -- Words without a subcommand, and `open`, name the opening of a frame. Each other subcommand names its own action, with
--- the texts that stand at its values: `format` writes over a file exactly where `--over` is used, and takes a block of the
--- device exactly where `--block` is. A number is its digits, in decimal. A relay that is given turns alone is busy; one that
--- is given a wait, 1 to 60,000 ms, waits so long at most. A running relay is asked one of four words, and of these `apply`
--- alone with a file. An option without a value is on exactly where it is used. Words that the program does not take are
--- refused, and so are a relay without turns and without a wait, and an `ask` of anything else; no others.
+-- the texts that stand at its values: `format` writes over a file exactly where `--over` is used, and takes a block of
+-- the device exactly where `--block` is. A number is its digits, in decimal. A relay that is given turns alone is busy;
+-- one that is given a wait, any of 1 to 60,000 ms, waits so long at most. A running relay is asked one of four words,
+-- and of these `apply` alone with a file. An option without a value is on exactly where it is used. Words that the
+-- program does not take are refused, and so are a relay without turns and without a wait, and an `ask` of anything else;
+-- no others.
 pub record ActionWords : Type 0 where
   pub none : (action : Action) → Names None action → action ≡ Open
   pub opening : (name : Text) (values : List Row) → Names (Some (name, values)) Open → name ≡ codes "open"
@@ -88,6 +89,8 @@ pub record ActionWords : Type 0 where
   pub endless : (values : List Row) (limit : Milliseconds) → HasPace values (Waiting limit None)
       → HasNumber values (codes "wait") limit.0 × (1 ≤ limit.0) × (limit.0 ≤ 60000)
       × (first_of (codes "turns") values ≡ None)
+  pub any_wait : (values : List Row) (limit : Milliseconds) → HasNumber values (codes "wait") limit.0
+      → 1 ≤ limit.0 → limit.0 ≤ 60000 → first_of (codes "turns") values ≡ None → HasPace values (Waiting limit None)
   pub refused : (words : List Text) → AreRefused words → (takes macsecd words ≢ true)
       ⊎ ((values : List Row) × (subcommand_of macsecd words ≡ Some (codes "relay", values))
       × (first_of (codes "turns") values ≡ None) × (first_of (codes "wait") values ≡ None))

@@ -9,6 +9,6 @@ returns-in-Some g c =
     let read = c.read.ensures in (
       Heard (Some heard) ∷ read.0,
       inr (heard, read.0, refl, refl, read.1),
-      gained-more (g.C.Clients.talk c.args.clients.now) (g.C.Clients.talk c.hear.new.self) (g.C.Clients.talk c.read.new.clients)
-          (Heard (Some heard) ∷ []) read.0 c.in-Some.ensures read.2,
+      gained-more (g.C.Clients.talk c.args.clients.now) (g.C.Clients.talk c.hear.new.self)
+          (g.C.Clients.talk c.read.new.clients) (Heard (Some heard) ∷ []) read.0 c.in-Some.ensures read.2,
     )

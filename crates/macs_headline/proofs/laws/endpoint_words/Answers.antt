@@ -1,3 +1,4 @@
+use Rattle.macs_headline.proofs.ExampleWords.{days-are-calls}
 use Rattle.macs_headline.proofs.EndpointWords.{calls-are-counted, ceilings-are-raised, openings-count, served-words}
 use Rattle.macs_headline.proofs.CountWords.{counts-are-named, counts-rise-alone}
 use Rattle.macs_headline.proofs.NeedWords.{needs-are-in-order, turns-are-used}
@@ -40,3 +41,6 @@ returns-clause-left g c = calls-leave g.D.SectorDisk.disk
 
 pub returns-clause-ends : goal.returns-clause-ends
 returns-clause-ends g c = served-ends g.D.SectorDisk.disk
+
+pub returns-clause-days : goal.returns-clause-days
+returns-clause-days g c = days-are-calls g.D.SectorDisk.disk

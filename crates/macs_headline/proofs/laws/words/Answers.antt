@@ -2,6 +2,7 @@ use Rattle.macs_headline.proofs.OpeningWords.{journal-words, opening-words, refu
 use Rattle.macs_headline.proofs.Drawn.{life-words, log-words, number-words}
 use Rattle.macs_headline.proofs.One.{one-change-comes, one-frame-comes, one-state-comes}
 use Rattle.macs_headline.proofs.Words.{call-words, command-words, edition-words, one-comes-of-it, reply-words}
+use Rattle.macs_headline.proofs.ExampleWords.{example-words}
 use Rattle.macs_headline.proofs.FrameWords.{frame-words}
 use Rattle.macs_headline.proofs.QueueWords.{queue-words}
 use Rattle.macs_headline.proofs.laws.words.Goals as goal
@@ -53,3 +54,6 @@ returns-clause-numbers c = number-words
 
 pub returns-clause-lives : goal.returns-clause-lives
 returns-clause-lives c = life-words
+
+pub returns-clause-examples : goal.returns-clause-examples
+returns-clause-examples c = example-words

@@ -1,29 +1,22 @@
-use Rattle.std.proofs.Common.{◌≡◌, ◌∙◌, true, ap, sym}
-use Rattle.macs_edge.specs.declared.counts.WireCounts.{WireCounts}
-use Rattle.macs_desk.specs.Listening.{Reports, is_time, reports_of}
+use Rattle.std.proofs.Common.{◌≡◌, ◌∙◌, true, sym}
+use Rattle.macs_desk.specs.Listening.{is_time}
 use Rattle.macs_desk.specs.UnderWay.{entries_of, is_full}
-use Rattle.macs_desk.proofs.Looking.{looks-in-time, measures-in-time}
+use Rattle.macs_desk.proofs.Looking.{looks-in-time, measures-in-time, same-reports}
 use Rattle.macs_desk.proofs.desk.ControlDeskDesk.next.Goals as goal
 
 pub returns-clause-talk : goal.returns-clause-talk
 returns-clause-talk g c =
     let time : is_time c.args.was_quiet c.args.self.now.turns_left ≡ true =
     sym c.is_time.ensures ∙ c.if-not-is_time.false in
-    let same : reports_of c.args.endpoint.now c.counts-controlled.result c.counts-common.result
-    ≡ reports_of c.args.endpoint.now (g.P.Counted.wire_counts c.args.controlled.now) (g.W.Counted.wire_counts c.args.common.now) =
-    ap (λ (w : WireCounts). reports_of c.args.endpoint.now w c.counts-common.result) c.counts-controlled.ensures
-    ∙ ap (λ (w : WireCounts). reports_of c.args.endpoint.now (g.P.Counted.wire_counts c.args.controlled.now) w) c.counts-common.ensures in
     looks-in-time _ c.args.was_quiet (is_full (entries_of c.args.self.now.under_way)) c.is_full.result _ _ _ _ _
-    (g.C.Clients.talk c.args.self.now.clients) (g.C.Clients.talk c.rest.new.clients) (g.C.Clients.talk c.look-order.new.clients)
-    time c.is_full.ensures.full same c.rest.ensures c.look-order.ensures
+    (g.C.Clients.talk c.args.self.now.clients) (g.C.Clients.talk c.rest.new.clients)
+    (g.C.Clients.talk c.look-order.new.clients) time c.is_full.ensures.full
+    (same-reports c.args.endpoint.now _ _ _ _ c.counts-controlled.ensures c.counts-common.ensures)
+    c.rest.ensures c.look-order.ensures
 
 pub returns-clause-notes : goal.returns-clause-notes
 returns-clause-notes g c =
     let time : is_time c.args.was_quiet c.args.self.now.turns_left ≡ true =
     sym c.is_time.ensures ∙ c.if-not-is_time.false in
-    let same : reports_of c.args.endpoint.now c.counts-controlled.result c.counts-common.result
-    ≡ reports_of c.args.endpoint.now (g.P.Counted.wire_counts c.args.controlled.now) (g.W.Counted.wire_counts c.args.common.now) =
-    ap (λ (w : WireCounts). reports_of c.args.endpoint.now w c.counts-common.result) c.counts-controlled.ensures
-    ∙ ap (λ (w : WireCounts). reports_of c.args.endpoint.now (g.P.Counted.wire_counts c.args.controlled.now) w) c.counts-common.ensures in
-    measures-in-time _ _ _ (g.M.Metrics.notes c.args.self.now.metrics) (g.M.Metrics.notes c.measure.new.metrics)
-    time same c.measure.ensures
+    measures-in-time _ _ _ (g.M.Metrics.notes c.args.self.now.metrics) (g.M.Metrics.notes c.measure.new.metrics) time
+    (same-reports c.args.endpoint.now _ _ _ _ c.counts-controlled.ensures c.counts-common.ensures) c.measure.ensures
