@@ -55,7 +55,7 @@ use Rattle.macs_program.specs.declared.request.InputFault.{InputFault}
 use Rattle.macs_program.specs.declared.request.InputFault.TheVariants as fault
 use Rattle.macs_program.specs.declared.request.Request.{Request}
 use Rattle.macs_words.specs.declared.action.Action.{Action}
-use Rattle.macs_words.specs.declared.action.Action.TheVariants.{Apply, Format, Open, Protect, Relay, Show, Validate}
+use Rattle.macs_words.specs.declared.action.Action.TheVariants.{Apply, Check, Format, Key, Open, Protect, Relay, Show, Validate}
 
 -- ---- one answer
 
@@ -346,9 +346,11 @@ nothing_printed : (action : Action) (before after : Option (List ℕ)) → HasPr
 nothing_printed Open before after printed is = printed
 nothing_printed (Format disk sci tx_block rx_block block is_over) before after printed is = printed
 nothing_printed (Show disk) before after printed is = printed
-nothing_printed (Protect disk from to) before after printed is = printed
-nothing_printed (Validate disk from to) before after printed is = printed
-nothing_printed (Relay disk controlled common pace) before after printed is = printed
+nothing_printed (Protect disk from to is_all) before after printed is = printed
+nothing_printed (Validate disk from to is_all) before after printed is = printed
+nothing_printed (Relay disk controlled common running) before after printed is = printed
+nothing_printed (Key is_long) before after printed is = printed
+nothing_printed (Check file) before after printed is = printed
 nothing_printed action before after printed is = absurd (cc)
 
 commands_printed : (action : Action) (before after : Option (List ℕ)) → HasPrinted action before after

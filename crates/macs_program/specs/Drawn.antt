@@ -67,7 +67,7 @@ use Rattle.macs_program.specs.declared.status.Status.{Status}
 use Rattle.macs_program.specs.declared.status.Status.TheVariants as ends
 use Rattle.macs_words.specs.declared.action.WireEnds.{WireEnds}
 use Rattle.macs_words.specs.declared.action.Action.{Action}
-use Rattle.macs_words.specs.declared.action.Action.TheVariants.{Apply, Format, Open, Protect, Relay, Show, Validate}
+use Rattle.macs_words.specs.declared.action.Action.TheVariants.{Apply, Check, Format, Key, Open, Protect, Relay, Show, Validate}
 
 -- ---- `open`
 
@@ -236,9 +236,11 @@ abbrev pub is_silent : Action → Bool
 is_silent Open = true
 is_silent (Format disk sci tx_block rx_block block is_over) = true
 is_silent (Show disk) = true
-is_silent (Protect disk from to) = true
-is_silent (Validate disk from to) = true
-is_silent (Relay disk controlled common pace) = true
+is_silent (Protect disk from to is_all) = true
+is_silent (Validate disk from to is_all) = true
+is_silent (Relay disk controlled common running) = true
+is_silent (Key is_long) = true
+is_silent (Check file) = true
 is_silent action = false
 
 -- `open` prints one line, that of its answer. It fails as `input` only where a read failed, or the input is not four
