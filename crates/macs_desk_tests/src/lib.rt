@@ -1,4 +1,4 @@
-//! Tests of a desk that serves clients, over clients and metrics that note what passes.
+//! Tests of a desk that serves clients, over clients and metrics that keep what they are given.
 #![tactic(auto)]
 
 #[cfg(test)]

@@ -1,4 +1,4 @@
-//! Clients and metrics of which it is known what passed: the clauses of a desk are met at them.
+//! A desk over clients and metrics that keep what they are given, against texts written by hand.
 
 mod clients;
 mod metrics;

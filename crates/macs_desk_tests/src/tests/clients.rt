@@ -1,58 +1,16 @@
 //! A client that asks, and keeps what it is told.
 
-ghost use Rattle.std.specs.Prelude.{◌≡◌, ◌++◌, List, [], ◌∷◌, Some};
-ghost use Rattle.macs_requests.specs.Talks.{Heard as WasHeard, Looked, Said, Slept, Talk};
-
 use macs_requests::{Client, Clients, Heard, Line};
 use std::alloc::Global;
 use std::process::Abort;
 
-/// What passed, for proofs alone.
-#[derive(Drop)]
-struct Log {
-    ghost talk: { List Talk },
-}
-
-impl Log {
-    fn new() -> Log
-        ensures { result.talk ≡ [] }
-    {
-        Log {}
-    }
-
-    fn heard(&self, line: &Option<Heard>) -> Log
-        ensures { result.talk ≡ self.now.talk ++ WasHeard line.now ∷ [] }
-    {
-        Log {}
-    }
-
-    fn said(&self, client: Client, text: &[u8]) -> Log
-        ensures { result.talk ≡ self.now.talk ++ Said client text.now ∷ [] }
-    {
-        Log {}
-    }
-
-    fn slept(&self) -> Log
-        ensures { result.talk ≡ self.now.talk ++ Slept ∷ [] }
-    {
-        Log {}
-    }
-
-    fn looked(&self, ended: bool) -> Log
-        ensures { result.talk ≡ self.now.talk ++ Looked ended ∷ [] }
-    {
-        Log {}
-    }
-}
-
-/// A client that sends one line, once.
+/// A client that sends one line, once, and keeps what it is told. It claims nothing.
 #[derive(Drop)]
 pub(super) struct Asker<'a, R: Abort> {
     rt: &'a R,
     line: &'static str,
     asks: u8,
     pub(super) told: String,
-    log: Log,
 }
 
 impl<'a, R: Abort> Asker<'a, R> {
@@ -62,7 +20,6 @@ impl<'a, R: Abort> Asker<'a, R> {
             line,
             asks: 1,
             told: String::new(alloc),
-            log: Log::new(),
         }
     }
 
@@ -77,31 +34,22 @@ impl<'a, R: Abort> Asker<'a, R> {
 }
 
 impl<R: Abort> Clients for Asker<'_, R> {
-    ghost talk = { λ it. Some it.log.talk };
-
     fn hear(&mut self) -> Option<Heard> {
-        let line = if self.asks == 0 {
-            None
-        } else {
-            Some(self.line())
-        };
+        if self.asks == 0 {
+            return None;
+        }
         self.asks = 0;
-        self.log = self.log.heard(&line);
-        line
+        Some(self.line())
     }
 
     fn say(&mut self, client: Client, text: &[u8]) {
         let words = str::from_utf8(text).unwrap_or("no text");
         write!(self.told, "{} {words}", client.0).expect(self.rt, "memory");
-        self.log = self.log.said(client, text);
     }
 
-    fn sleep(&mut self) {
-        self.log = self.log.slept();
-    }
+    fn sleep(&mut self) {}
 
     fn is_ended(&mut self) -> bool {
-        self.log = self.log.looked(false);
         false
     }
 }

@@ -1,64 +1,29 @@
 //! Metrics that are due each time, and keep what is written.
 
-ghost use Rattle.std.specs.Prelude.{◌≡◌, ◌++◌, List, [], ◌∷◌, Some};
-ghost use Rattle.macs_requests.specs.Talks.{Asked, Note, Put};
-
 use super::attended;
 use super::clients::Asker;
 use macs_desk::ControlDesk;
 use macs_requests::Metrics;
-use std::alloc::Global;
 use std::process::Abort;
 
-/// What was asked and written, for proofs alone.
-#[derive(Drop)]
-struct Log {
-    ghost notes: { List Note },
-}
-
-impl Log {
-    fn new() -> Log
-        ensures { result.notes ≡ [] }
-    {
-        Log {}
-    }
-
-    fn asked(&self, due: bool) -> Log
-        ensures { result.notes ≡ self.now.notes ++ Asked due ∷ [] }
-    {
-        Log {}
-    }
-
-    fn put(&self, text: &[u8]) -> Log
-        ensures { result.notes ≡ self.now.notes ++ Put text.now ∷ [] }
-    {
-        Log {}
-    }
-}
-
-/// What was written, with how often. It is due `left` times more.
+/// What was written. It is due `left` times more, and claims nothing.
 #[derive(Drop)]
 struct Written<'a, R: Abort> {
     rt: &'a R,
     left: u8,
     text: String,
-    log: Log,
 }
 
 impl<R: Abort> Metrics for Written<'_, R> {
-    ghost notes = { λ it. Some it.log.notes };
-
     fn is_due(&mut self) -> bool {
         let is_due = self.left > 0;
         self.left = self.left.saturating_sub(1);
-        self.log = self.log.asked(is_due);
         is_due
     }
 
     fn put(&mut self, text: &[u8]) {
         let words = str::from_utf8(text).unwrap_or("no text");
         self.text.push_str(words).expect(self.rt, "memory");
-        self.log = self.log.put(text);
     }
 }
 
@@ -127,7 +92,6 @@ fn metrics_are_written_where_they_are_due(rt: HostRuntime) {
         rt: &rt,
         left: 1,
         text: String::new(rt.alloc()),
-        log: Log::new(),
     };
     let mut desk = ControlDesk::new(rt.alloc(), Asker::new(&rt, rt.alloc(), "show"), metrics);
     attended(&rt, rt.alloc(), &mut desk, 4);
