@@ -55,6 +55,16 @@ fn packet_number(frame: &[u8]) -> Option<u32> {
     Some(u32::from_be_bytes([octets[0], octets[1], octets[2], octets[3]]))
 }
 
+/// The packet numbers of the frames that were sent rise.
+fn expect_rising<A: Allocator + Copy>(rt: &impl Abort, wire: &MemWire<A>) {
+    let mut last = 0;
+    for frame in wire.sent() {
+        let number = packet_number(frame).unwrap_or(0);
+        assert!(rt; last < number);
+        last = number;
+    }
+}
+
 /// Six frames to a wire in this heap: how many were sent. Each of the others is lost with its number, which
 /// stays used.
 fn sent_in(rt: &impl Abort, alloc: Global, heap: &LocalHeap) -> u64 {
@@ -66,12 +76,7 @@ fn sent_in(rt: &impl Abort, alloc: Global, heap: &LocalHeap) -> u64 {
     let sent = common.sent().len() as u64;
     assert!(rt; answer == counted(sent, 0, 0, 6_u64.saturating_sub(sent)));
     assert!(rt; endpoint.next_number(number_of(rt, 0)) == Some(7));
-    let mut last = 0;
-    for frame in common.sent() {
-        let number = packet_number(frame).unwrap_or(0);
-        assert!(rt; last < number);
-        last = number;
-    }
+    expect_rising(rt, &common);
     sent
 }
 

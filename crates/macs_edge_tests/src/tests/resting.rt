@@ -5,7 +5,7 @@ ghost use Rattle.std.specs.Prelude.{Some, length};
 use super::captures::{formatted, number_of, sending};
 use super::relaying::push_plain;
 use macs_config::Command;
-use macs_disk::SectorDisk;
+use macs_disk::{MemDisk, SectorDisk};
 use macs_edge::{
     CommandEnd, Desk, DeskEvent, Got, Idle, MemWire, Order, Wire, WireFault, attend, relay_resting,
 };
@@ -163,6 +163,15 @@ fn submit<D: SectorDisk>(rt: &impl Abort, endpoint: &mut Endpoint<D>, command: C
     assert!(rt; endpoint.submit(command).is_ok());
 }
 
+/// An endpoint with two commands that wait.
+fn with_two_commands(rt: &impl Abort, alloc: Global) -> Endpoint<MemDisk> {
+    let mut endpoint = sending(rt, formatted(rt, alloc, LEFT, 64));
+    let an = number_of(rt, 0);
+    submit(rt, &mut endpoint, Command::TxUse { an });
+    submit(rt, &mut endpoint, Command::TxUse { an });
+    endpoint
+}
+
 /// Of two commands the first is kept in four turns, and the second is under way at the end.
 #[test]
 fn a_desk_is_told_in_order(rt: HostRuntime) {
@@ -173,10 +182,7 @@ fn a_desk_is_told_in_order(rt: HostRuntime) {
     };
     let mut controlled = MemWire::new(rt.alloc());
     let mut common = MemWire::new(rt.alloc());
-    let mut endpoint = sending(&rt, formatted(&rt, rt.alloc(), LEFT, 64));
-    let an = number_of(&rt, 0);
-    submit(&rt, &mut endpoint, Command::TxUse { an });
-    submit(&rt, &mut endpoint, Command::TxUse { an });
+    let mut endpoint = with_two_commands(&rt, rt.alloc());
     let told = attend(&mut endpoint, &mut controlled, &mut common, &mut desk, 20);
     assert!(rt; told.is_ok());
     let text = letters(&rt, rt.alloc(), desk.events.as_slice());

@@ -93,8 +93,26 @@ fn noted(rt: &impl Abort, done: Result<(), WireFault>, taken: &mut FrameBuf, oct
     }
 }
 
+/// The wire gives the frames that were pushed, of these octets, and then no other.
+fn expect_given<A: Allocator + Copy>(rt: &impl Abort, wire: &mut MemWire<A>, pushed: &[u8]) {
+    let mut got = FrameBuf::new();
+    for &octet in pushed {
+        assert!(rt; receive(wire, &mut got) == Ok(Got::Frame));
+        assert!(rt; is_filled(&got, 40, octet));
+    }
+    assert!(rt; receive(wire, &mut got) == Ok(Got::Nothing));
+}
+
+/// The wire has the frames that were sent, of these octets, and no other.
+fn expect_sent<A: Allocator + Copy>(rt: &impl Abort, wire: &MemWire<A>, sent: &[u8]) {
+    assert!(rt; wire.sent().len() == sent.len());
+    for place in 0..sent.len() {
+        assert!(rt; was_sent(wire, place, 50, sent[place]));
+    }
+}
+
 /// Six frames pushed and six sent, by turns, on a wire in this heap: each that is not refused is given, or
-/// stands among those that were sent, and no other. The answer has a bit for each call that was refused.
+/// is among those that were sent, and no other. The answer has a bit for each call that was refused.
 fn refused(rt: &impl Abort, heap: &LocalHeap) -> u16 {
     let mut wire = MemWire::new(heap);
     let mut pushed = FrameBuf::new();
@@ -108,20 +126,11 @@ fn refused(rt: &impl Abort, heap: &LocalHeap) -> u16 {
         let bit = noted(rt, done, &mut sent, octet);
         refused = refused.wrapping_mul(2).wrapping_add(bit);
     }
-    let mut got = FrameBuf::new();
-    for &octet in pushed.as_slice() {
-        assert!(rt; receive(&mut wire, &mut got) == Ok(Got::Frame));
-        assert!(rt; is_filled(&got, 40, octet));
-    }
-    assert!(rt; receive(&mut wire, &mut got) == Ok(Got::Nothing));
-    assert!(rt; wire.sent().len() == sent.len());
-    for place in 0..sent.len() {
-        assert!(rt; was_sent(&wire, place, 50, sent[place]));
-    }
+    expect_given(rt, &mut wire, pushed.as_slice());
+    expect_sent(rt, &wire, sent.as_slice());
     if !pushed.is_empty() {
         assert!(rt; push(&mut wire, &[9; 40]) == Ok(()));
-        assert!(rt; receive(&mut wire, &mut got) == Ok(Got::Frame));
-        assert!(rt; is_filled(&got, 40, 9));
+        expect_given(rt, &mut wire, &[9]);
     }
     refused
 }

@@ -22,6 +22,22 @@ const RUNS: [([usize; 10], u64, u64); 6] = [
     ([60, 60, 60, 60, 13, 60, 0, 0, 0, 0], 5, 1),
 ];
 
+/// Appends a frame as an endpoint protects it, if it does.
+fn push_protected(
+    alloc: Global,
+    endpoint: &mut Endpoint<MemDisk>,
+    octets: &mut Vec<u8>,
+    place: u32,
+    size: usize,
+) -> Result<(), Fail> {
+    let mut out = FrameBuf::new();
+    let frame = plain(alloc, place, size)?;
+    if !protect(endpoint, frame.as_slice(), &mut out) {
+        return Ok(());
+    }
+    push_frame(octets, place, out.as_slice())
+}
+
 /// The capture of these frames as an endpoint protects them that never waits for a number, each with its
 /// record's stamp.
 pub(super) fn protected_capture(
@@ -31,22 +47,31 @@ pub(super) fn protected_capture(
 ) -> Result<Vec<u8>, Fail> {
     let mut endpoint = sending(rt, formatted(rt, alloc, OWN, 1_000));
     let mut octets = Vec::from_slice(alloc, &WRITTEN)?;
-    let mut out = FrameBuf::new();
     let mut place = 0_u32;
     for size in sizes {
         if size == 0 {
             break;
         }
-        if protect(
-            &mut endpoint,
-            plain(alloc, place, size)?.as_slice(),
-            &mut out,
-        ) {
-            push_frame(&mut octets, place, out.as_slice())?;
-        }
+        push_protected(alloc, &mut endpoint, &mut octets, place, size)?;
         place = place.wrapping_add(1);
     }
     Ok(octets)
+}
+
+/// A capture goes through a new endpoint: so many frames pass, as these octets, and so many are left out.
+fn expect_protected(
+    rt: &impl Abort,
+    alloc: Global,
+    octets: &[u8],
+    wanted: &[u8],
+    passed: u64,
+    dropped: u64,
+) {
+    let mut endpoint = sender(rt, alloc);
+    let (answer, written) = run_whole(alloc, &mut endpoint, Way::Protect, octets);
+    assert!(rt; answer == summary(passed, dropped));
+    assert!(rt; written.as_slice() == wanted);
+    assert!(rt; next_number(rt, &endpoint) == Some(passed.saturating_add(1)));
 }
 
 /// Frames that wait for a number go out all the same, and those with a fault of their own do not.
@@ -55,16 +80,7 @@ fn frames_are_protected(rt: HostRuntime) -> Result<(), Fail> {
     for (sizes, passed, dropped) in RUNS {
         let octets = plain_capture(rt.alloc(), sizes)?;
         let wanted = protected_capture(&rt, rt.alloc(), sizes)?;
-        let mut endpoint = sender(&rt, rt.alloc());
-        let (answer, written) = run_whole(
-            rt.alloc(),
-            &mut endpoint,
-            Way::Protect,
-            octets.as_slice(),
-        );
-        assert!(rt; answer == summary(passed, dropped));
-        assert!(rt; written.as_slice() == wanted.as_slice());
-        assert!(rt; next_number(&rt, &endpoint) == Some(passed.saturating_add(1)));
+        expect_protected(&rt, rt.alloc(), &octets, &wanted, passed, dropped);
     }
     Ok(())
 }
