@@ -25,3 +25,4 @@ pub mod TextLines
 pub mod Told
 mod WrittenOver
 mod Drawn
+mod RelayDrawn

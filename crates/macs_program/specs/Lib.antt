@@ -21,3 +21,4 @@ pub mod Inspecting
 pub mod Checking
 pub mod Run
 pub mod Drawn
+pub mod RelayDrawn

@@ -7,6 +7,7 @@ ghost use Rattle.macs_disk.specs.declared.layout.Layout.{Layout};
 ghost use Rattle.macs_program.specs.Contents.{ContentsAre, HasOpenGate, IsBlankFile};
 ghost use Rattle.macs_program.specs.Drawn.{AnswerWords, ApplyWords, CaptureWords, FileWords, LineWords, ValueWords};
 ghost use Rattle.macs_program.specs.NewDisks.{Formats, Permits};
+ghost use Rattle.macs_program.specs.RelayDrawn.{RelayWords};
 ghost use Rattle.macs_program.specs.declared.contents.Contents.{Contents};
 
 use macs_disk::{DiskFile, SectorDisk};
@@ -45,4 +46,10 @@ pub fn words<D: SectorDisk, F: DiskFile>()
     ensures lines { LineWords }
     // Which values words spell.
     ensures values { ValueWords }
+{}
+
+/// What is to be drawn of words on relays: how many turns one takes, whether a desk attends it, what it
+/// comes to, and how it ends.
+pub fn relays<F: DiskFile>()
+    ensures { RelayWords F.file }
 {}
