@@ -24,5 +24,6 @@ pub mod Spelling
 pub mod TextLines
 pub mod Told
 mod WrittenOver
+mod ContentDrawn
 mod Drawn
 mod RelayDrawn

@@ -7,6 +7,7 @@ pub mod Addresses
 pub mod Contents
 pub mod Failing
 pub mod NewDisks
+pub mod ContentWords
 pub mod Applying
 pub mod Summing
 pub mod CaptureFiles

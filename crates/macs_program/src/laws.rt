@@ -4,6 +4,8 @@ ghost use Rattle.std.specs.Prelude.{◌≡◌, ◌/◌, ℕ, Bool, true, false, 
 ghost use Rattle.macs_config.specs.Identity.{Identity};
 ghost use Rattle.macs_disk.specs.Files.{Behaves, FileState, Settles};
 ghost use Rattle.macs_disk.specs.declared.layout.Layout.{Layout};
+ghost use Rattle.macs_disk.specs.FileDisks.{file_given};
+ghost use Rattle.macs_program.specs.ContentWords.{BlankWords, InUseWords};
 ghost use Rattle.macs_program.specs.Contents.{ContentsAre, HasOpenGate, IsBlankFile};
 ghost use Rattle.macs_program.specs.Drawn.{AnswerWords, ApplyWords, CaptureWords, FileWords, LineWords, ValueWords};
 ghost use Rattle.macs_program.specs.NewDisks.{Formats, Permits};
@@ -29,6 +31,20 @@ pub fn written_over<F: DiskFile>()
         → Formats F.file is_over layout identity → (given : F) × (Behaves (F.file given)
         → (settled : FileState) × Settles (F.file given) settled
         × Permits is_over settled ((F.file given).size / 512) None) }
+    // And it is the file that the blank disk was made in which was formatted.
+    ensures given { (is_over : Bool) (layout : Layout) (identity : Identity)
+        (made : Formats F.file is_over layout identity) → Behaves (F.file (file_given made.blank))
+        → (settled : FileState) × Settles (F.file (file_given made.blank)) settled
+        × Permits is_over settled ((F.file (file_given made.blank)).size / 512) None }
+{}
+
+/// What is in a file before it is written over: an endpoint in use is one that the journal finds, and a
+/// file that is blank has zeros.
+pub fn contents()
+    // Where the journal reads an open head gate, and nowhere else, an endpoint is in use.
+    ensures in_use { InUseWords }
+    // A blank file has zeros but for what a `format` that was cut short leaves.
+    ensures blank { BlankWords }
 {}
 
 /// What is to be drawn of words in which the program's contracts end: to one input belongs one
