@@ -27,3 +27,4 @@ mod WrittenOver
 mod ContentDrawn
 mod Drawn
 mod RelayDrawn
+mod RunDrawn

@@ -23,3 +23,4 @@ pub mod Checking
 pub mod Run
 pub mod Drawn
 pub mod RelayDrawn
+pub mod RunWords

@@ -8,10 +8,13 @@ ghost use Rattle.macs_disk.specs.FileDisks.{file_given};
 ghost use Rattle.macs_program.specs.ContentWords.{BlankWords, InUseWords};
 ghost use Rattle.macs_program.specs.Contents.{ContentsAre, HasOpenGate, IsBlankFile};
 ghost use Rattle.macs_program.specs.Drawn.{AnswerWords, ApplyWords, CaptureWords, FileWords, LineWords, ValueWords};
+ghost use Rattle.macs_program.specs.Inputs.{read_of};
 ghost use Rattle.macs_program.specs.NewDisks.{Formats, Permits};
 ghost use Rattle.macs_program.specs.RelayDrawn.{RelayWords};
+ghost use Rattle.macs_program.specs.RunWords.{BeforeWords, FailWords, ReplyWords};
 ghost use Rattle.macs_program.specs.declared.contents.Contents.{Contents};
 
+use crate::input::Input;
 use macs_disk::{DiskFile, SectorDisk};
 
 /// A file is made the disk of a new endpoint only where it held nothing when it was settled, or where
@@ -68,4 +71,18 @@ pub fn words<D: SectorDisk, F: DiskFile>()
 /// comes to, and how it ends.
 pub fn relays<F: DiskFile>()
     ensures { RelayWords F.file }
+{}
+
+/// What is to be drawn of words on whole runs: what a run replies and each action does, how each fails,
+/// and what was printed before.
+pub fn runs<F: DiskFile, R: Input>()
+    // What a run replies, and what each action does.
+    ensures replies { ReplyWords F.file }
+    // How a run and each action fail.
+    ensures fails { FailWords F.file }
+    // What was printed before a failure, and which values are wrong.
+    ensures before { BeforeWords }
+    // What is said of an input: what was left of it before, and whether a read of it failed.
+    ensures read { (input left : R) → ((read_of R.remaining R.failed input left).octets ≡ R.remaining input)
+        × ((read_of R.remaining R.failed input left).has_failed ≡ R.failed left) }
 {}
