@@ -28,3 +28,4 @@ mod ContentDrawn
 mod Drawn
 mod RelayDrawn
 mod RunDrawn
+mod TextDrawn

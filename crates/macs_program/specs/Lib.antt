@@ -24,3 +24,6 @@ pub mod Run
 pub mod Drawn
 pub mod RelayDrawn
 pub mod RunWords
+pub mod TextWords
+pub mod ShowTexts
+pub mod CaptureOctets

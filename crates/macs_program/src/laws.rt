@@ -5,6 +5,7 @@ ghost use Rattle.macs_config.specs.Identity.{Identity};
 ghost use Rattle.macs_disk.specs.Files.{Behaves, FileState, Settles};
 ghost use Rattle.macs_disk.specs.declared.layout.Layout.{Layout};
 ghost use Rattle.macs_disk.specs.FileDisks.{file_given};
+ghost use Rattle.macs_program.specs.CaptureOctets.{CaptureOctets};
 ghost use Rattle.macs_program.specs.ContentWords.{BlankWords, InUseWords};
 ghost use Rattle.macs_program.specs.Contents.{ContentsAre, HasOpenGate, IsBlankFile};
 ghost use Rattle.macs_program.specs.Drawn.{AnswerWords, ApplyWords, CaptureWords, FileWords, LineWords, ValueWords};
@@ -12,6 +13,8 @@ ghost use Rattle.macs_program.specs.Inputs.{read_of};
 ghost use Rattle.macs_program.specs.NewDisks.{Formats, Permits};
 ghost use Rattle.macs_program.specs.RelayDrawn.{RelayWords};
 ghost use Rattle.macs_program.specs.RunWords.{BeforeWords, FailWords, ReplyWords};
+ghost use Rattle.macs_program.specs.ShowTexts.{ShowTexts};
+ghost use Rattle.macs_program.specs.TextWords.{CheckTexts, FailureTexts, FaultOrders, FrameTexts, LineTexts};
 ghost use Rattle.macs_program.specs.declared.contents.Contents.{Contents};
 
 use crate::input::Input;
@@ -85,4 +88,23 @@ pub fn runs<F: DiskFile, R: Input>()
     // What is said of an input: what was left of it before, and whether a read of it failed.
     ensures read { (input left : R) → ((read_of R.remaining R.failed input left).octets ≡ R.remaining input)
         × ((read_of R.remaining R.failed input left).has_failed ≡ R.failed left) }
+{}
+
+/// What is to be drawn of words on texts, to the letter: which line says what, which failure has which
+/// name and status, and in which order faults are looked for.
+pub fn texts()
+    // The lines of answers, commands, captures and relays.
+    ensures lines { LineTexts }
+    // The names of failures, and their statuses.
+    ensures failures { FailureTexts }
+    // The orders in which faults are looked for, and what each says.
+    ensures orders { FaultOrders }
+    // What `inspect` says of a frame.
+    ensures frames { FrameTexts }
+    // What `check` says of a file.
+    ensures checks { CheckTexts }
+    // What `show` prints of an endpoint.
+    ensures shown { ShowTexts }
+    // The octets of a capture, and the order of their faults.
+    ensures captures { CaptureOctets }
 {}
