@@ -214,16 +214,16 @@ at-begun j d records Empty task left = absurd task
 at-begun j d records (Append work) task left = absurd task
 at-begun j d records (Compact work) task left =
     (sym task, first work.stage (subst (λ (n : ℕ). compact_left n work.stage ≡ 519 + length records) (sym (ap (λ (h : Head). h.count) task)) left)) where
-  first : (stage : CompactStage) → compact_left (length records) stage ≡ 519 + length records
-      → AtStage d d (other_area j.place.area) (next_head j.place.head (length records)) records stage
-  first (ReadGate k) left = subst (λ (n : ℕ). AreGatesClosed d d (other_area j.place.area) n 0) (let first : 0 ≡ k = omega (arith, left) in first) (none-closed d (other_area j.place.area))
-  first (CloseGate k) left = absurd (omega (arith, left))
-  first GatesSync left = absurd (omega (arith, left))
-  first HeadBody left = absurd (omega (arith, left))
-  first (Body slot) left = absurd (omega (arith, left))
-  first BodiesSync left = absurd (omega (arith, left))
-  first HeadGate left = absurd (omega (arith, left))
-  first HeadSync left = absurd (omega (arith, left))
+      first : (stage : CompactStage) → compact_left (length records) stage ≡ 519 + length records
+          → AtStage d d (other_area j.place.area) (next_head j.place.head (length records)) records stage
+      first (ReadGate k) left = subst (λ (n : ℕ). AreGatesClosed d d (other_area j.place.area) n 0) (let first : 0 ≡ k = omega (arith, left) in first) (none-closed d (other_area j.place.area))
+      first (CloseGate k) left = absurd (omega (arith, left))
+      first GatesSync left = absurd (omega (arith, left))
+      first HeadBody left = absurd (omega (arith, left))
+      first (Body slot) left = absurd (omega (arith, left))
+      first BodiesSync left = absurd (omega (arith, left))
+      first HeadGate left = absurd (omega (arith, left))
+      first HeadSync left = absurd (omega (arith, left))
 
 -- ---- what the calls come to
 
@@ -286,9 +286,12 @@ module _ {D : Type 0} (disk_of : D → disk.Disk) (old new : JournalValue D) (re
         → IsHolding (disk_in disk_of new) (compacted_place old.place (length records)) Empty (compacted before records) (compacted before records)
     holds-new honest before holds = record {
       at = record { area = ap other_area holds.at.area; head = ap (λ (h : Head). next_head h (length records)) holds.at.head; free = refl };
-      holds = (way-ready (disk_in disk_of old) (disk_in disk_of new) area head records begun.few before
-          (idle-ready (disk_in disk_of old) old.place Empty before holds) (ap other_area holds.at.area)
-          (ap (λ (h : Head). next_head h (length records)) holds.at.head) (rewritten honest), refl);
+      holds = (
+        way-ready (disk_in disk_of old) (disk_in disk_of new) area head records begun.few before
+            (idle-ready (disk_in disk_of old) old.place Empty before holds) (ap other_area holds.at.area)
+            (ap (λ (h : Head). next_head h (length records)) holds.at.head) (rewritten honest),
+        refl,
+      );
     }
 
     pub done-compacts : Compacts disk_of (with_nothing old) records done new
