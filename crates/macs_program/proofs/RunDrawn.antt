@@ -1,5 +1,5 @@
 -- All that is to be drawn from words on whole runs.
-use Rattle.std.proofs.Common.{◌≡◌, ◌⊎◌, inl, inr, ℕ, Bool, List, Option, length, refl, subst, Ok, Err}
+use Rattle.std.proofs.Common.{◌≡◌, ◌⊎◌, inl, inr, ℕ, Bool, List, Option, length, refl, subst, Ok}
 use Rattle.std.specs.Prelude.{option_map, string_bytes}
 use Rattle.std.specs.Borrow.{Bor}
 use Rattle.std.specs.Io.KnownBytes.{Appends}
@@ -8,29 +8,28 @@ use Rattle.macs_config.specs.declared.command.Command.{Command}
 use Rattle.macs_disk.specs.Disk.{Disk}
 use Rattle.macs_disk.specs.FileDisks.{disk_in_file}
 use Rattle.macs_disk.specs.Files.{FileState}
+use Rattle.macs_disk.specs.declared.file.FileDisk.{FileDisk}
 use Rattle.macs_edge.specs.Passing.{run_of}
+use Rattle.macs_edge.specs.declared.passing.Summary.{Summary}
 use Rattle.macs_edge.specs.declared.settling.Side.{Side}
+use Rattle.macs_edge.specs.declared.settling.Side.TheVariants.{Common, Controlled}
 use Rattle.macs_endpoint.specs.Value.{EndpointValue}
 use Rattle.macs_journal.specs.declared.fault.JournalFault.TheVariants as journal
-use Rattle.macs_pcap.specs.Captures.{BeginsWithRecords}
-use Rattle.macs_pcap.specs.Reading.{HoldsOfLeft, ReadsHeader, ReadsRecord}
-use Rattle.macs_pcap.specs.Records.{CaptureRecord}
 use Rattle.macs_pcap.specs.States.{SinkState, SourceState}
-use Rattle.macs_pcap.specs.declared.fault.PcapFault.{PcapFault}
-use Rattle.macs_pcap.specs.declared.header.Header.{Header}
 use Rattle.macs_program.specs.Addresses.{AddressFaultHolds}
 use Rattle.macs_program.specs.Asking.{IsOfAsking}
 use Rattle.macs_program.specs.Applying.{SaysCommands}
 use Rattle.macs_program.specs.Checking.{CheckFails, IsSaidOfFile, PrintsCount, count_line}
-use Rattle.macs_program.specs.Capturing.{EndsPass}
-use Rattle.macs_program.specs.Endpoints.{PassEnds}
-use Rattle.macs_program.specs.Failing.{failure_of_capture}
-use Rattle.macs_program.specs.Inspecting.{AreLinesOf, StopsCapture}
+use Rattle.macs_program.specs.Capturing.{EndsPass, PassesCapture}
+use Rattle.macs_program.specs.Endpoints.{IsEndpointIn, PassEnds, PassesIn}
 use Rattle.macs_program.specs.Keys.{IsOfKey}
 use Rattle.macs_program.specs.Run.{WrongValues}
 use Rattle.macs_program.specs.RunWords.{BeforeWords, FailWords, ReplyWords}
+use Rattle.macs_program.specs.Summing.{pass_status, summary_line}
 use Rattle.macs_program.specs.Values.{ValueFaultHolds}
 use Rattle.macs_program.specs.declared.addresses.AddressFault.{AddressFault}
+use Rattle.macs_program.specs.declared.capturing.Direction.{Direction}
+use Rattle.macs_program.specs.declared.capturing.Direction.TheVariants as direction
 use Rattle.macs_program.specs.declared.failure.DiskFault.TheVariants as disk
 use Rattle.macs_program.specs.declared.failure.Failure.{Failure}
 use Rattle.macs_program.specs.declared.failure.Failure.TheVariants as failures
@@ -49,6 +48,27 @@ counted : (before after : Option (List ℕ)) (status : Status) → PrintsCount b
     × Appends before after (count_line (length commands)) × (status ≡ ends.Done)
 counted before after status ((octets, count, (commands, says, is), printed), done) =
     (octets, commands, says, subst (λ (n : ℕ). Appends before after (count_line n)) is printed, done)
+
+passed : {F : Type 0} (file : F → FileState) (side : Side) (way : Direction) (is_all : Bool) (before after : Option (List ℕ))
+    (status : Status) → (summary : Summary) × PassesIn file side summary × Appends before after (summary_line way summary)
+    × (status ≡ pass_status is_all summary)
+    → (summary : Summary) × (old : EndpointValue (FileDisk F)) × (new : EndpointValue (FileDisk F))
+    × IsEndpointIn file old × (source : SourceState) × (left : SourceState) × (sink : SinkState) × (sunk : SinkState)
+    × PassesCapture (disk_in_file file) side (run_of old source sink) (Ok summary) (run_of new left sunk)
+    × Appends before after (summary_line way summary) × (status ≡ pass_status is_all summary)
+passed file side way is_all before after status (summary, is, printed, ended) = (
+  summary,
+  is.old,
+  is.new,
+  is.endpoint,
+  is.passes.source,
+  is.passes.source_left,
+  is.passes.sink,
+  is.passes.sink_left,
+  is.passes.passes,
+  printed,
+  ended,
+)
 
 pub reply-words : {F : Type 0} (file : F → FileState) → ReplyWords file
 reply-words file = record {
@@ -80,32 +100,10 @@ reply-words file = record {
     is.applies.applies.status_is,
   );
   shown = λ path input before after status (is, done). (is.shown, is.endpoint, is.printed, done);
-  protected = λ path from to is_all input before after status (summary, is, printed, ended). (
-    summary,
-    is.old,
-    is.new,
-    is.endpoint,
-    is.passes.source,
-    is.passes.source_left,
-    is.passes.sink,
-    is.passes.sink_left,
-    is.passes.passes,
-    printed,
-    ended,
-  );
-  validated = λ path from to is_all input before after status (summary, is, printed, ended). (
-    summary,
-    is.old,
-    is.new,
-    is.endpoint,
-    is.passes.source,
-    is.passes.source_left,
-    is.passes.sink,
-    is.passes.sink_left,
-    is.passes.passes,
-    printed,
-    ended,
-  );
+  protected = λ path from to is_all input before after status is.
+      passed file Controlled direction.Protect is_all before after status is;
+  validated = λ path from to is_all input before after status is.
+      passed file Common direction.Validate is_all before after status is;
   relayed = λ path controlled common running input before after status is. is;
   asked_apply = λ path from input before after status is. is;
   asked_show = λ path input before after status is. is;
@@ -167,32 +165,6 @@ passing disk_of side old failure new (inl early) = inl early
 passing disk_of side old failure new (inr stops) =
     inr (stops.source, stops.source_left, stops.sink, stops.sink_left, stops.ends)
 
-inspecting : (old : SourceState) (before : Option (List ℕ)) (failure : Failure) (new : SourceState)
-    (after : Option (List ℕ)) → StopsCapture old before failure new after
-    → ((fault : PcapFault) × ReadsHeader old new (Err fault) × (failure ≡ failure_of_capture fault) × (after ≡ before))
-    ⊎ ((header : Header) × (behind : SourceState) × ReadsHeader old behind (Ok header)
-    × (records : List CaptureRecord) × (until : SourceState) × (between : Option (List ℕ))
-    × HoldsOfLeft behind.left until.left (λ left rest. BeginsWithRecords header.big left records rest)
-    × (text : List ℕ) × AreLinesOf 1 records text × Appends before between text
-    × (((fault : PcapFault) × (room : ℕ) × (frame : List ℕ)
-    × ReadsRecord header.big (length records) room until new frame (Err fault)
-    × (failure ≡ failure_of_capture fault) × (after ≡ between))
-    ⊎ ((failure ≡ failures.Memory) × (after ≡ between)) ⊎ (failure ≡ failures.Output)))
-inspecting old before failure new after (inl at_once) = inl at_once
-inspecting old before failure new after (inr (header, behind, begins, stops)) = inr (
-  header,
-  behind,
-  begins,
-  stops.records,
-  stops.until,
-  stops.between,
-  stops.inspected.taken,
-  stops.inspected.printed.0,
-  stops.inspected.printed.1,
-  stops.inspected.printed.2,
-  stops.stops,
-)
-
 pub fail-words : {F : Type 0} (file : F → FileState) → FailWords file
 fail-words file = record {
   failed = λ words input before after failure is. is;
@@ -207,7 +179,22 @@ fail-words file = record {
   of_ask = λ path asked input before after failure is. of_asking failure is;
   of_key = λ is_long input before after failure is. of_key failure is;
   of_inspect = λ from input before after failure is. is;
-  inspecting = inspecting;
+  inspecting = λ old before failure new after is. elim is [
+    | inl at_once ↦ inl at_once
+    | inr (header, behind, begins, stops) ↦ inr (
+      header,
+      behind,
+      begins,
+      stops.records,
+      stops.until,
+      stops.between,
+      stops.inspected.taken,
+      stops.inspected.printed.0,
+      stops.inspected.printed.1,
+      stops.inspected.printed.2,
+      stops.stops,
+    )
+  ];
   of_check = λ from input before after failure is. of_check failure is;
 }
 

@@ -72,9 +72,9 @@ use Rattle.macs_program.specs.declared.values.ValueFault.TheVariants as value
 -- ---- answers and outcomes
 
 -- The line of a command has its number and says `ok` where it is kept, and `refused` with the name of its refusal where
--- it is refused; the lines of commands go one behind another, numbered on. Of a valid frame `open` prints the AN in
+-- it is refused; the lines of commands follow each other, numbered on. Of a valid frame `open` prints the AN in
 -- decimal, the PN in eight hex digits and the plain frame, and ends with 0; of one that is refused it prints this name,
--- and ends with 3. Lines of captures and relays have these counts, each behind its own word; a run over a capture ends
+-- and ends with 3. Lines of captures and relays have these counts, each after its own word; a run over a capture ends
 -- with 3 where all frames were to pass and one did not, else with 0.
 pub record LineTexts : Type 0 where
   pub none : (at : ℕ) → outcome_lines at [] ≡ []
@@ -199,7 +199,7 @@ pub record FaultOrders : Type 0 where
 
 -- ---- `inspect` and `check`
 
--- The lines of records go one behind another, numbered on. One has its number and what is said of its frame: the name of
+-- The lines of records follow each other, numbered on. One has its number and what is said of its frame: the name of
 -- the first fault of its SecTAG, or the AN, the PN, the SL, the bits E and C, the SCI where it is spelled out, and how many
 -- octets the frame has.
 pub record FrameTexts : Type 0 where
