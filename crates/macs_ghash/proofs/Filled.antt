@@ -1,5 +1,5 @@
 -- Tables of four bits, from the octets of multiples by powers of x.
-use Rattle.std.proofs.Common.{◌≡◌, ℕ, zero, suc, ◌+◌, ◌-◌, ◌*◌, ◌/◌, ◌%◌, ◌^◌, ◌<◌, ◌≤◌, ◌∙◌, List, [], map, get_or, get_or-take, length, length-take-le, take, replicate, set, inl, inr, bit_and, bit_xor, ap, ap₂, sym, refl, arith, w8}
+use Rattle.std.proofs.Common.{◌≡◌, ℕ, zero, suc, ◌+◌, ◌-◌, ◌*◌, ◌/◌, ◌%◌, ◌^◌, ◌<◌, ◌≤◌, ◌∙◌, List, [], map, get_or, get_or-take, length, length-take-le, take, replicate, set, inl, inr, bit_or, bit_xor, cond, ap, ap₂, sym, subst, refl, arith, w8, T, ltb, ◌||◌}
 use Rattle.std.specs.Int.{bit_at}
 use Rattle.std.specs.List.{range_with_len}
 use Rattle.std.specs.Simd.Lanes.{Each1, digits_l, number_l, zip2}
@@ -8,14 +8,15 @@ use Rattle.std.proofs.lemmas.List.{get_or-set_other, get_or-set_same, length-set
 use Rattle.std.proofs.lemmas.List.FromFn.{get_or-map-range_with_len}
 use Rattle.std.proofs.lemmas.Nat.{and_mask, pow_pos, xor_mod, xor_shr}
 use Rattle.std.proofs.lemmas.Nat.Bits.{bit_at-lt}
-use Rattle.std.proofs.lemmas.Simd.{Each1-replicate, SwzOk, SwzOk-from_below, get_or-replicate, get_or-swz_l_below, get_or-zip2, get_or_narrower, length-replicate, length-swz_l, swz_l}
+use Rattle.std.proofs.lemmas.Simd.{Each1-from_get_or, SwzOk, SwzOk-from_Each1, get_or-replicate, get_or-swz_l, get_or-zip2, get_or_narrower, length-replicate, length-zip2, swz_l}
+use mir.Val.{zeroes}
 use native.Mathlib.Nat.{div-eq_of_lt, one-mul, zero-mul}
-use lib.Bits.{and_zero_r, xor_zero_l}
+use lib.Bits.{or_zero_r, xor_zero_l}
 use Rattle.macs_gf.specs.Gf128.{times_power, times_x}
 use Rattle.macs_gf.proofs.Xor.{digit_scaled}
 use Rattle.macs_ghash.specs.Tables.{nibble_product, octet_from_left, octets_in, sum_of}
 use Rattle.macs_lanes.proofs.Sixteen.{below_sixteen}
-use Rattle.macs_ghash.specs.declared.filling.TheConstants.{MASKS}
+use Rattle.macs_ghash.specs.declared.filling.TheConstants.{NOWHERE}
 
 -- ---- an octet of sums
 
@@ -89,56 +90,96 @@ octet_of_halves sixteens words g b v len fit h k ef es =
 
 -- ---- octets that are chosen
 
-masks_are : map (λ m. get_or (get_or MASKS (m / 32) []) (m % 32) 0) (range_with_len 0 128) ≡ map (λ m. bit_at (m % 32 % 16) (3 - m / 32) * 255) (range_with_len 0 128)
-masks_are = refl
+-- 128 where a bit is clear
+unfoldable pub nowhere : ℕ → ℕ
+nowhere zero = 128
+nowhere (suc d) = 0
 
-mask_at : (k g n : ℕ) → k < 4 → g < 2 → n < 16 → get_or (get_or MASKS k []) (16 * g + n) 0 ≡ bit_at n (3 - k) * 255
-mask_at k g n h l m =
+nowhere_are : map (λ m. get_or (get_or NOWHERE (m / 32) []) (m % 32) 0) (range_with_len 0 128) ≡ map (λ m. nowhere (bit_at (m % 32 % 16) (3 - m / 32))) (range_with_len 0 128)
+unfolding nowhere
+nowhere_are = refl
+
+nowhere_at : (k g n : ℕ) → k < 4 → g < 2 → n < 16 → get_or (get_or NOWHERE k []) (16 * g + n) 0 ≡ nowhere (bit_at n (3 - k))
+nowhere_at k g n h l m =
     let i : ℕ = 32 * k + (16 * g + n) in
     let q : i / 32 ≡ k = omega arith in
     let r : i % 32 ≡ 16 * g + n = omega arith in
     let s : i % 32 % 16 ≡ n = omega arith in
-    sym (ap₂ (λ (a b : ℕ). get_or (get_or MASKS a []) b 0) q r)
-    ∙ sym (get_or-map-range_with_len (λ m. get_or (get_or MASKS (m / 32) []) (m % 32) 0) 0 128 i i 0 (omega arith) (omega arith)) ∙ ap (λ xs. get_or xs i 0) masks_are
-    ∙ get_or-map-range_with_len (λ m. bit_at (m % 32 % 16) (3 - m / 32) * 255) 0 128 i i 0 (omega arith) (omega arith)
-    ∙ ap₂ (λ (a b : ℕ). bit_at a (3 - b) * 255) s q
+    sym (ap₂ (λ (a b : ℕ). get_or (get_or NOWHERE a []) b 0) q r)
+    ∙ sym (get_or-map-range_with_len (λ m. get_or (get_or NOWHERE (m / 32) []) (m % 32) 0) 0 128 i i 0 (omega arith) (omega arith)) ∙ ap (λ xs. get_or xs i 0) nowhere_are
+    ∙ get_or-map-range_with_len (λ m. nowhere (bit_at (m % 32 % 16) (3 - m / 32))) 0 128 i i 0 (omega arith) (omega arith)
+    ∙ ap₂ (λ (a b : ℕ). nowhere (bit_at a (3 - b))) s q
 
-masks_long : (k : ℕ) → k < 4 → length (get_or MASKS k []) ≡ 32
-masks_long zero h = refl
-masks_long (suc zero) h = refl
-masks_long (suc (suc zero)) h = refl
-masks_long (suc (suc (suc zero))) h = refl
-masks_long (suc (suc (suc (suc k)))) h = absurd (omega arith)
+nowhere_long : (k : ℕ) → k < 4 → length (get_or NOWHERE k []) ≡ 32
+nowhere_long zero h = refl
+nowhere_long (suc zero) h = refl
+nowhere_long (suc (suc zero)) h = refl
+nowhere_long (suc (suc (suc zero))) h = refl
+nowhere_long (suc (suc (suc (suc k)))) h = absurd (omega arith)
 
-masked : (d o : ℕ) → d < 2 → o < 256 → bit_and o (d * 255) ≡ d * o
-masked zero o h k = ap (bit_and o) (zero-mul 255) ∙ and_zero_r o ∙ sym (zero-mul o)
-masked (suc zero) o h k =
-    let whole : o % 2 ^ 8 ≡ o = omega arith in
-    ap (bit_and o) (one-mul 255) ∙ and_mask o 8 ∙ whole ∙ sym (one-mul o)
-masked (suc (suc d)) o h k = absurd (omega arith)
+-- where a shuffle looks
+abbrev pub places_of : ℕ → ℕ → ℕ → List ℕ
+places_of n place k = zip2 bit_or (replicate (16 * n) place) (take (16 * n) (get_or NOWHERE k []))
 
-pub place_fits : (sixteens octets place : ℕ) → octets ≡ sixteens * 16 → place < 16 → SwzOk w8 16 octets 0 (replicate octets place)
-place_fits sixteens octets place e h =
-    SwzOk-from_below w8 16 sixteens octets 0 (replicate octets place) e (omega (arith, length-replicate {A = ℕ} octets place)) (Each1-replicate (λ j. j < 16) octets place h)
+places_long : (n place k : ℕ) → n ≤ 2 → k < 4 → length (places_of n place k) ≡ 16 * n
+places_long n place k le h =
+    let rows : length (get_or NOWHERE k []) ≡ 32 = nowhere_long k h in
+    let width : length (take (16 * n) (get_or NOWHERE k [])) ≡ 16 * n = length-take-le (16 * n) (get_or NOWHERE k []) (omega arith) in
+    length-zip2 bit_or (replicate (16 * n) place) (take (16 * n) (get_or NOWHERE k [])) (length-replicate (16 * n) place ∙ sym width) ∙ length-replicate (16 * n) place
 
-pub chosen_at : (n : ℕ) (x : List ℕ) (place k g i : ℕ) → n ≤ 2 → place < 16 → k < 4 → g < n → i < 16 → octets_in x g place < 256
-    → octets_in (zip2 bit_and (swz_l w8 16 x 0 (replicate (16 * n) place)) (take (16 * n) (get_or MASKS k []))) g i ≡ bit_at i (3 - k) * octets_in x g place
-chosen_at n x place k g i le h l m o small =
+place_at : (n place k g i : ℕ) → n ≤ 2 → k < 4 → g < n → i < 16 → get_or (places_of n place k) (16 * g + i) 0 ≡ bit_or place (nowhere (bit_at i (3 - k)))
+place_at n place k g i le h l m =
     let at : ℕ = 16 * g + i in
-    let js : List ℕ = replicate (16 * n) place in
-    let ys : List ℕ = swz_l w8 16 x 0 js in
-    let mask : List ℕ = take (16 * n) (get_or MASKS k []) in
-    let long : length js ≡ 16 * n = length-replicate (16 * n) place in
-    let size : length ys ≡ 16 * n = length-swz_l w8 16 x 0 js ∙ long in
-    let rows : length (get_or MASKS k []) ≡ 32 = masks_long k l in
-    let width : length mask ≡ 16 * n = length-take-le (16 * n) (get_or MASKS k []) (omega arith) in
+    let rows : length (get_or NOWHERE k []) ≡ 32 = nowhere_long k h in
+    let width : length (take (16 * n) (get_or NOWHERE k [])) ≡ 16 * n = length-take-le (16 * n) (get_or NOWHERE k []) (omega arith) in
+    get_or-zip2 bit_or (replicate (16 * n) place) (take (16 * n) (get_or NOWHERE k [])) at 0 0 0 (omega (arith, length-replicate {A = ℕ} (16 * n) place)) (omega arith)
+    ∙ ap₂ bit_or (get_or-replicate (16 * n) at place 0 (omega arith)) (get_or-take (16 * n) (get_or NOWHERE k []) at 0 (omega arith) ∙ nowhere_at k g i h (omega arith) m)
+
+-- it looks at a place or at none
+place_or_none : (place d : ℕ) → place < 16 → d < 2 → T (zeroes 16 w8 (bit_or place (nowhere d)) || ltb (bit_or place (nowhere d)) 16)
+unfolding nowhere
+place_or_none place zero h l = below_sixteen (λ p. T (zeroes 16 w8 (bit_or p 128) || ltb (bit_or p 128) 16)) tt tt tt tt tt tt tt tt tt tt tt tt tt tt tt tt place h
+place_or_none place (suc zero) h l = below_sixteen (λ p. T (zeroes 16 w8 (bit_or p 0) || ltb (bit_or p 0) 16)) tt tt tt tt tt tt tt tt tt tt tt tt tt tt tt tt place h
+place_or_none place (suc (suc d)) h l = absurd (omega arith)
+
+pub places_fit : (sixteens octets place k : ℕ) → octets ≡ sixteens * 16 → sixteens ≤ 2 → place < 16 → k < 4 → SwzOk w8 16 octets 0 (places_of sixteens place k)
+places_fit sixteens octets place k e le h l =
+    let js : List ℕ = places_of sixteens place k in
+    let long : length js ≡ 16 * sixteens = places_long sixteens place k le l in
+    SwzOk-from_Each1 w8 16 sixteens octets 0 js e (omega arith)
+    (Each1-from_get_or (λ j. T (zeroes 16 w8 j || ltb j 16)) js 0
+    (λ m below.
+    let whole : 16 * (m / 16) + m % 16 ≡ m = omega arith in
+    let is : get_or js m 0 ≡ bit_or place (nowhere (bit_at (m % 16) (3 - k))) =
+    ap (λ (a : ℕ). get_or js a 0) (sym whole) ∙ place_at sixteens place k (m / 16) (m % 16) le l (omega arith) (omega arith) in
+    subst (λ (v : ℕ). T (zeroes 16 w8 v || ltb v 16)) (sym is) (place_or_none place (bit_at (m % 16) (3 - k)) h (bit_at-lt (m % 16) (3 - k)))))
+
+-- what it finds there
+found_or_none : (v place d : ℕ) → place < 16 → d < 2 → cond (zeroes 16 w8 (bit_or place (nowhere d))) 0 v ≡ d * v
+unfolding nowhere
+found_or_none v place zero h l = below_sixteen (λ p. cond (zeroes 16 w8 (bit_or p 128)) 0 v ≡ 0) refl refl refl refl refl refl refl refl refl refl refl refl refl refl refl refl place h ∙ sym (zero-mul v)
+found_or_none v place (suc zero) h l = below_sixteen (λ p. cond (zeroes 16 w8 (bit_or p 0)) 0 v ≡ v) refl refl refl refl refl refl refl refl refl refl refl refl refl refl refl refl place h ∙ sym (one-mul v)
+found_or_none v place (suc (suc d)) h l = absurd (omega arith)
+
+place_itself : (place d : ℕ) → d < 2 → (v : ℕ → ℕ) → d * v (bit_or place (nowhere d)) ≡ d * v place
+unfolding nowhere
+place_itself place zero h v = zero-mul (v (bit_or place 128)) ∙ sym (zero-mul (v place))
+place_itself place (suc zero) h v = ap (λ (p : ℕ). 1 * v p) (or_zero_r place)
+place_itself place (suc (suc d)) h v = absurd (omega arith)
+
+pub chosen_at : (n : ℕ) (x : List ℕ) (place k g i : ℕ) → n ≤ 2 → place < 16 → k < 4 → g < n → i < 16
+    → octets_in (swz_l w8 16 x 0 (places_of n place k)) g i ≡ bit_at i (3 - k) * octets_in x g place
+chosen_at n x place k g i le h l m o =
+    let at : ℕ = 16 * g + i in
+    let d : ℕ = bit_at i (3 - k) in
+    let js : List ℕ = places_of n place k in
+    let long : length js ≡ 16 * n = places_long n place k le l in
     let here : (0 + at) / 16 ≡ g = omega arith in
-    let there : get_or js at 0 ≡ place = get_or-replicate (16 * n) at place 0 (omega arith) in
-    let octet : get_or ys at 0 ≡ octets_in x g place =
-    get_or-swz_l_below w8 16 x 0 js at (omega arith) (omega arith) ∙ ap₂ (λ (q p : ℕ). get_or x (16 * q + p) 0) here there in
-    get_or-zip2 bit_and ys mask at 0 0 0 (omega arith) (omega arith)
-    ∙ ap₂ bit_and octet (get_or-take (16 * n) (get_or MASKS k []) at 0 (omega arith) ∙ mask_at k g i l (omega arith) o)
-    ∙ masked (bit_at i (3 - k)) (octets_in x g place) (bit_at-lt i (3 - k)) small
+    let there : get_or js at 0 ≡ bit_or place (nowhere d) = place_at n place k g i le l m o in
+    get_or-swz_l w8 16 x 0 js at (omega arith)
+    ∙ ap₂ (λ (q p : ℕ). cond (zeroes 16 w8 p) 0 (get_or x (16 * q + p) 0)) here there
+    ∙ found_or_none (get_or x (16 * g + bit_or place (nowhere d)) 0) place d h (bit_at-lt i (3 - k))
+    ∙ place_itself place d (bit_at-lt i (3 - k)) (λ p. get_or x (16 * g + p) 0)
 
 -- the powers of x of a block, one after another
 pub powers_on : (xs second third fourth : List ℕ) (l : ℕ) → get_or second l 0 ≡ times_x (get_or xs l 0) → get_or third l 0 ≡ times_x (get_or second l 0)

@@ -17,24 +17,24 @@ const REDUCTION: u128 = 0xE1 << 120;
 /// How many lanes of 64 bits a vector register has.
 const WORDS: usize = REGISTER_BITS / 64;
 
-/// In row k ones in each place whose number, in its sixteen, has bit k, counted from the highest of
-/// four.
-pub(crate) const MASKS: [[u8; 32]; 4] = [
+/// In row k zero in each place whose number, in its sixteen, has bit k, counted from the highest of
+/// four. In the others 128, where a shuffle finds zero.
+pub(crate) const NOWHERE: [[u8; 32]; 4] = [
     [
-        0, 0, 0, 0, 0, 0, 0, 0, 255, 255, 255, 255, 255, 255, 255, 255, 0, 0, 0, 0, 0, 0, 0, 0,
-        255, 255, 255, 255, 255, 255, 255, 255,
+        128, 128, 128, 128, 128, 128, 128, 128, 0, 0, 0, 0, 0, 0, 0, 0, 128, 128, 128, 128, 128,
+        128, 128, 128, 0, 0, 0, 0, 0, 0, 0, 0,
     ],
     [
-        0, 0, 0, 0, 255, 255, 255, 255, 0, 0, 0, 0, 255, 255, 255, 255, 0, 0, 0, 0, 255, 255, 255,
-        255, 0, 0, 0, 0, 255, 255, 255, 255,
+        128, 128, 128, 128, 0, 0, 0, 0, 128, 128, 128, 128, 0, 0, 0, 0, 128, 128, 128, 128, 0, 0,
+        0, 0, 128, 128, 128, 128, 0, 0, 0, 0,
     ],
     [
-        0, 0, 255, 255, 0, 0, 255, 255, 0, 0, 255, 255, 0, 0, 255, 255, 0, 0, 255, 255, 0, 0, 255,
-        255, 0, 0, 255, 255, 0, 0, 255, 255,
+        128, 128, 0, 0, 128, 128, 0, 0, 128, 128, 0, 0, 128, 128, 0, 0, 128, 128, 0, 0, 128, 128,
+        0, 0, 128, 128, 0, 0, 128, 128, 0, 0,
     ],
     [
-        0, 255, 0, 255, 0, 255, 0, 255, 0, 255, 0, 255, 0, 255, 0, 255, 0, 255, 0, 255, 0, 255, 0,
-        255, 0, 255, 0, 255, 0, 255, 0, 255,
+        128, 0, 128, 0, 128, 0, 128, 0, 128, 0, 128, 0, 128, 0, 128, 0, 128, 0, 128, 0, 128, 0,
+        128, 0, 128, 0, 128, 0, 128, 0, 128, 0,
     ],
 ];
 
@@ -120,8 +120,8 @@ fn chosen(x: Simd<u8, OCTETS>, place: u8, k: usize) -> Simd<u8, OCTETS>
     ensures { (g n : ℕ) → g < SIXTEENS → n < 16
         → octets_in result g n ≡ bit_at n (3 - k) * octets_in x g place }
 {
-    let everywhere = x.swizzle_dyn_within::<16>(Simd::splat(place));
-    everywhere & Simd::<u8, OCTETS>::from_slice(&MASKS[k])
+    let places = Simd::splat(place) | Simd::<u8, OCTETS>::from_slice(&NOWHERE[k]);
+    x.swizzle_dyn_within::<16>(places)
 }
 
 /// A row of tables: one octet of each multiple of each power, from the octets of the powers'

@@ -1,18 +1,19 @@
 -- Bit moves inside each lane: shifts, masks and xors, and the places that each bit comes from.
-use Rattle.std.proofs.Common.{◌≡◌, ℕ, zero, suc, ◌+◌, ◌-◌, ◌*◌, ◌/◌, ◌%◌, ◌^◌, ◌<◌, ◌≤◌, List, [], ◌∷◌, ◌++◌, map, get_or, length, replicate, bit_xor, bit_and, refl, ap, ap₂, sym, ◌∙◌, arith, add-zero, inl, inr}
+use Rattle.std.proofs.Common.{◌≡◌, ℕ, zero, suc, ◌+◌, ◌-◌, ◌*◌, ◌/◌, ◌%◌, ◌^◌, ◌<◌, ◌≤◌, List, [], ◌∷◌, ◌++◌, map, get_or, length, replicate, bit_xor, bit_and, cond, refl, ap, ap₂, sym, ◌∙◌, arith, add-zero, inl, inr, Bool, true, false}
 use Rattle.std.specs.Simd.Lanes.{zip2}
 use Rattle.std.specs.Int.{bit_at}
 use Rattle.std.specs.List.{range_with_len}
-use Rattle.std.proofs.lemmas.Bool.{cases_lt}
-use Rattle.std.proofs.lemmas.Nat.{div-add-mod', pow_pos, shr-shr}
+use Rattle.std.specs.Prelude.{◌&&◌, nat_eq}
+use Rattle.std.proofs.lemmas.Bool.{cases_lt, eqb-true}
+use Rattle.std.proofs.lemmas.Nat.{div-add-mod', pow_pos, shr-shr, xor_comm}
 use Rattle.std.proofs.lemmas.Nat.Bits.{bit_at-lt, bit_at-zero, bit_at_above, bit_at_cat_high, bit_at_cat_low}
 use Rattle.std.proofs.lemmas.List.FromFn.{get_or-map-range_with_len}
 use Rattle.std.proofs.lemmas.List.{length-replicate}
 use Rattle.std.proofs.lemmas.Simd.{get_or-replicate, get_or-zip2, length-zip2}
 use native.Mathlib.Nat.{add_comm}
-use lib.Bits.{xor_assoc, xor_zero_r}
+use lib.Bits.{xor_assoc, xor_self, xor_zero_l, xor_zero_r}
 use Rattle.macs_planes.specs.Blocks.{ArePlanes, bit_in, zeros}
-use Rattle.macs_planes.proofs.Circuit.{bit_in-and, bit_in-xor, lanes_of}
+use Rattle.macs_planes.proofs.Circuit.{bit_in-and, bit_in-xor, both, lanes_of}
 
 -- a bit of one of several vectors, by its lane's place
 pub data Place : Type 0 where
@@ -155,9 +156,48 @@ moved_bit lanes (Plus a b) x i j len h =
     bit_in-xor lanes (moved lanes a x) (moved lanes b x) i j (moved_lanes lanes a x len) (moved_lanes lanes b x len) h
     ∙ ap₂ bit_xor (moved_bit lanes a x i j len h) (moved_bit lanes b x i j len h) ∙ sym (sum_of-append (bit_from lanes x i) (sources a j) (sources b j))
 
+-- ---- a place twice gives nothing
+
+unfoldable pub is_same : Place → Place → Bool
+is_same (At n j) (At m k) = nat_eq n m && nat_eq j k
+
+is_same-true : (p q : Place) → is_same p q ≡ true → p ≡ q
+unfolding is_same
+is_same-true (At n j) (At m k) e = ap₂ (λ (a b : ℕ). At a b) (eqb-true n m (both _ _ e).0) (eqb-true j k (both _ _ e).1)
+
+-- one more place, or one less where it is among them
+unfoldable pub toggled : Place → List Place → List Place
+toggled p [] = p ∷ []
+toggled p (q ∷ s) = cond (is_same p q) s (q ∷ toggled p s)
+
+unfoldable pub lone : List Place → List Place
+lone [] = []
+lone (p ∷ s) = toggled p (lone s)
+
+xor_turned : (x y z : ℕ) → bit_xor y (bit_xor x z) ≡ bit_xor x (bit_xor y z)
+xor_turned x y z = sym (xor_assoc y x z) ∙ ap (λ (v : ℕ). bit_xor v z) (xor_comm y x) ∙ xor_assoc x y z
+
+toggled_by : (f : Place → ℕ) (p q : Place) (s t : List Place) (b : Bool) → is_same p q ≡ b → sum_of f t ≡ bit_xor (f p) (sum_of f s)
+    → sum_of f (cond b s (q ∷ t)) ≡ bit_xor (f p) (sum_of f (q ∷ s))
+unfolding sum_of
+toggled_by f p q s t true e h =
+    sym (ap (λ (v : ℕ). bit_xor (f p) (bit_xor v (sum_of f s))) (sym (ap f (is_same-true p q e)))
+    ∙ sym (xor_assoc (f p) (f p) (sum_of f s)) ∙ ap (λ (v : ℕ). bit_xor v (sum_of f s)) (xor_self (f p)) ∙ xor_zero_l (sum_of f s))
+toggled_by f p q s t false e h = ap (bit_xor (f q)) h ∙ xor_turned (f p) (f q) (sum_of f s)
+
+sum_of-toggled : (f : Place → ℕ) (p : Place) (s : List Place) → sum_of f (toggled p s) ≡ bit_xor (f p) (sum_of f s)
+unfolding sum_of toggled
+sum_of-toggled f p [] = refl
+sum_of-toggled f p (q ∷ s) = toggled_by f p q s (toggled p s) (is_same p q) refl (sum_of-toggled f p s)
+
+sum_of-lone : (f : Place → ℕ) (s : List Place) → sum_of f (lone s) ≡ sum_of f s
+unfolding sum_of lone
+sum_of-lone f [] = refl
+sum_of-lone f (p ∷ s) = sum_of-toggled f p (lone s) ∙ ap (bit_xor (f p)) (sum_of-lone f s)
+
 -- ---- where each bit comes from one place
 unfoldable pub from_places : Move → List (List Place)
-from_places m = map (sources m) (range_with_len 0 16)
+from_places m = map (λ j. lone (sources m j)) (range_with_len 0 16)
 
 unfoldable pub places : (ℕ → ℕ) → (ℕ → ℕ) → List (List Place)
 places g f = map (λ j. At (g j) (f j) ∷ []) (range_with_len 0 16)
@@ -167,7 +207,7 @@ pub moved_from : (lanes : ℕ) (m : Move) (g f : ℕ → ℕ) (x : List (List �
     → bit_in (moved lanes m x) i j ≡ bit_in (get_or x (g j) (zeros lanes)) i (f j)
 unfolding from_places places sum_of bit_from
 moved_from lanes m g f x i j e len h k =
-    let here : sources m j ≡ At (g j) (f j) ∷ [] =
-    sym (get_or-map-range_with_len (sources m) 0 16 j j [] k (omega arith)) ∙ ap (λ t. get_or t j []) e
+    let here : lone (sources m j) ≡ At (g j) (f j) ∷ [] =
+    sym (get_or-map-range_with_len (λ n. lone (sources m n)) 0 16 j j [] k (omega arith)) ∙ ap (λ t. get_or t j []) e
     ∙ get_or-map-range_with_len (λ n. At (g n) (f n) ∷ []) 0 16 j j [] k (omega arith) in
-    moved_bit lanes m x i j len h ∙ ap (sum_of (bit_from lanes x i)) here ∙ xor_zero_r (bit_in (get_or x (g j) (zeros lanes)) i (f j))
+    moved_bit lanes m x i j len h ∙ sym (sum_of-lone (bit_from lanes x i) (sources m j)) ∙ ap (sum_of (bit_from lanes x i)) here ∙ xor_zero_r (bit_in (get_or x (g j) (zeros lanes)) i (f j))

@@ -45,23 +45,19 @@ fn exchange_ones<const N: usize>(x: &Columns<N>) -> Columns<N>
     let q5 = Simd::from_array(x.q5);
     let q6 = Simd::from_array(x.q6);
     let q7 = Simd::from_array(x.q7);
-    let a0 = (q0 & Simd::splat(0x5555)) ^ ((q1 << 1) & Simd::splat(0xaaaa));
-    let a1 = ((q0 >> 1) & Simd::splat(0x5555)) ^ (q1 & Simd::splat(0xaaaa));
-    let a2 = (q2 & Simd::splat(0x5555)) ^ ((q3 << 1) & Simd::splat(0xaaaa));
-    let a3 = ((q2 >> 1) & Simd::splat(0x5555)) ^ (q3 & Simd::splat(0xaaaa));
-    let a4 = (q4 & Simd::splat(0x5555)) ^ ((q5 << 1) & Simd::splat(0xaaaa));
-    let a5 = ((q4 >> 1) & Simd::splat(0x5555)) ^ (q5 & Simd::splat(0xaaaa));
-    let a6 = (q6 & Simd::splat(0x5555)) ^ ((q7 << 1) & Simd::splat(0xaaaa));
-    let a7 = ((q6 >> 1) & Simd::splat(0x5555)) ^ (q7 & Simd::splat(0xaaaa));
+    let t0 = ((q0 >> 1) ^ q1) & Simd::splat(0x5555);
+    let t2 = ((q2 >> 1) ^ q3) & Simd::splat(0x5555);
+    let t4 = ((q4 >> 1) ^ q5) & Simd::splat(0x5555);
+    let t6 = ((q6 >> 1) ^ q7) & Simd::splat(0x5555);
     Columns {
-        q0: a0.to_array(),
-        q1: a1.to_array(),
-        q2: a2.to_array(),
-        q3: a3.to_array(),
-        q4: a4.to_array(),
-        q5: a5.to_array(),
-        q6: a6.to_array(),
-        q7: a7.to_array(),
+        q0: (q0 ^ (t0 << 1)).to_array(),
+        q1: (q1 ^ t0).to_array(),
+        q2: (q2 ^ (t2 << 1)).to_array(),
+        q3: (q3 ^ t2).to_array(),
+        q4: (q4 ^ (t4 << 1)).to_array(),
+        q5: (q5 ^ t4).to_array(),
+        q6: (q6 ^ (t6 << 1)).to_array(),
+        q7: (q7 ^ t6).to_array(),
     }
 }
 
@@ -88,23 +84,19 @@ fn exchange_twos<const N: usize>(x: &Columns<N>) -> Columns<N>
     let q5 = Simd::from_array(x.q5);
     let q6 = Simd::from_array(x.q6);
     let q7 = Simd::from_array(x.q7);
-    let a0 = (q0 & Simd::splat(0x3333)) ^ ((q2 << 2) & Simd::splat(0xcccc));
-    let a1 = (q1 & Simd::splat(0x3333)) ^ ((q3 << 2) & Simd::splat(0xcccc));
-    let a2 = ((q0 >> 2) & Simd::splat(0x3333)) ^ (q2 & Simd::splat(0xcccc));
-    let a3 = ((q1 >> 2) & Simd::splat(0x3333)) ^ (q3 & Simd::splat(0xcccc));
-    let a4 = (q4 & Simd::splat(0x3333)) ^ ((q6 << 2) & Simd::splat(0xcccc));
-    let a5 = (q5 & Simd::splat(0x3333)) ^ ((q7 << 2) & Simd::splat(0xcccc));
-    let a6 = ((q4 >> 2) & Simd::splat(0x3333)) ^ (q6 & Simd::splat(0xcccc));
-    let a7 = ((q5 >> 2) & Simd::splat(0x3333)) ^ (q7 & Simd::splat(0xcccc));
+    let t0 = ((q0 >> 2) ^ q2) & Simd::splat(0x3333);
+    let t1 = ((q1 >> 2) ^ q3) & Simd::splat(0x3333);
+    let t4 = ((q4 >> 2) ^ q6) & Simd::splat(0x3333);
+    let t5 = ((q5 >> 2) ^ q7) & Simd::splat(0x3333);
     Columns {
-        q0: a0.to_array(),
-        q1: a1.to_array(),
-        q2: a2.to_array(),
-        q3: a3.to_array(),
-        q4: a4.to_array(),
-        q5: a5.to_array(),
-        q6: a6.to_array(),
-        q7: a7.to_array(),
+        q0: (q0 ^ (t0 << 2)).to_array(),
+        q1: (q1 ^ (t1 << 2)).to_array(),
+        q2: (q2 ^ t0).to_array(),
+        q3: (q3 ^ t1).to_array(),
+        q4: (q4 ^ (t4 << 2)).to_array(),
+        q5: (q5 ^ (t5 << 2)).to_array(),
+        q6: (q6 ^ t4).to_array(),
+        q7: (q7 ^ t5).to_array(),
     }
 }
 
@@ -131,23 +123,19 @@ fn exchange_fours<const N: usize>(x: &Columns<N>) -> Columns<N>
     let q5 = Simd::from_array(x.q5);
     let q6 = Simd::from_array(x.q6);
     let q7 = Simd::from_array(x.q7);
-    let a0 = (q0 & Simd::splat(0x0f0f)) ^ ((q4 << 4) & Simd::splat(0xf0f0));
-    let a1 = (q1 & Simd::splat(0x0f0f)) ^ ((q5 << 4) & Simd::splat(0xf0f0));
-    let a2 = (q2 & Simd::splat(0x0f0f)) ^ ((q6 << 4) & Simd::splat(0xf0f0));
-    let a3 = (q3 & Simd::splat(0x0f0f)) ^ ((q7 << 4) & Simd::splat(0xf0f0));
-    let a4 = ((q0 >> 4) & Simd::splat(0x0f0f)) ^ (q4 & Simd::splat(0xf0f0));
-    let a5 = ((q1 >> 4) & Simd::splat(0x0f0f)) ^ (q5 & Simd::splat(0xf0f0));
-    let a6 = ((q2 >> 4) & Simd::splat(0x0f0f)) ^ (q6 & Simd::splat(0xf0f0));
-    let a7 = ((q3 >> 4) & Simd::splat(0x0f0f)) ^ (q7 & Simd::splat(0xf0f0));
+    let t0 = ((q0 >> 4) ^ q4) & Simd::splat(0x0f0f);
+    let t1 = ((q1 >> 4) ^ q5) & Simd::splat(0x0f0f);
+    let t2 = ((q2 >> 4) ^ q6) & Simd::splat(0x0f0f);
+    let t3 = ((q3 >> 4) ^ q7) & Simd::splat(0x0f0f);
     Columns {
-        q0: a0.to_array(),
-        q1: a1.to_array(),
-        q2: a2.to_array(),
-        q3: a3.to_array(),
-        q4: a4.to_array(),
-        q5: a5.to_array(),
-        q6: a6.to_array(),
-        q7: a7.to_array(),
+        q0: (q0 ^ (t0 << 4)).to_array(),
+        q1: (q1 ^ (t1 << 4)).to_array(),
+        q2: (q2 ^ (t2 << 4)).to_array(),
+        q3: (q3 ^ (t3 << 4)).to_array(),
+        q4: (q4 ^ t0).to_array(),
+        q5: (q5 ^ t1).to_array(),
+        q6: (q6 ^ t2).to_array(),
+        q7: (q7 ^ t3).to_array(),
     }
 }
 

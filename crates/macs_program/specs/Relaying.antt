@@ -61,6 +61,7 @@ IsRunBy false disk_of turns old result endpoint controlled common = IsRelayed di
 IsRunBy true disk_of turns old result endpoint controlled common =
     (events : List DeskEvent) × IsAttended disk_of turns old events result endpoint controlled common
 
+-- a relay is run as the words want it: with or without a desk, for so many turns, or until it ends
 abbrev pub IsRun : {D : Type 0} → (D → Disk) → Course → Relay D → Result RelaySummary RefillFault → EndpointValue D → WireState → WireState → Type 0
 IsRun disk_of course old result endpoint controlled common = IsRunBy course.attended disk_of course.turns old result endpoint controlled common
 
