@@ -72,6 +72,14 @@ fn line(rt: &(impl Abort + Net), alloc: Global, at: SocketAddr) -> Option<Ends> 
     Some(Ends { wire, at, peer })
 }
 
+/// The same on IPv4 loopback.
+fn local_line(rt: &(impl Abort + Net), alloc: Global) -> Ends {
+    match line(rt, alloc, loopback()) {
+        Some(line) => line,
+        None => panic!(rt; "no line"),
+    }
+}
+
 /// Sends a frame of so many octets each way. What came of it at the wire stands in the buffer.
 fn exchanged(
     rt: &impl Abort,
@@ -112,9 +120,7 @@ fn datagrams_are_frames(rt: HostRuntime) {
 /// Nothing waits behind a frame, and the buffer is emptied.
 #[test]
 fn nothing_is_told_at_once(rt: HostRuntime) {
-    let Some(mut line) = line(&rt, rt.alloc(), loopback()) else {
-        panic!(rt; "no line");
-    };
+    let mut line = local_line(&rt, rt.alloc());
     let mut into = FrameBuf::new();
     let answer = exchanged(&rt, rt.alloc(), &mut line, 60, &mut into);
     assert!(rt; answer == Ok(Got::Frame));
@@ -122,31 +128,38 @@ fn nothing_is_told_at_once(rt: HostRuntime) {
     assert!(rt; into.is_empty());
 }
 
-/// A datagram from another socket than the peer's, and one of the peer behind it.
-#[test]
-fn a_strangers_datagram_is_lost(rt: HostRuntime) {
-    let Some(mut line) = line(&rt, rt.alloc(), loopback()) else {
-        panic!(rt; "no line");
-    };
-    let Some(stranger) = socket(&rt, loopback()) else {
-        panic!(rt; "no socket");
-    };
+/// A datagram of another socket than the peer's does not come to the wire.
+fn expect_lost(rt: &impl Abort, line: &mut Ends, stranger: &UdpSocket) {
     let mut into = FrameBuf::new();
     assert!(rt; stranger.send_to(&[1; 60], line.at).is_ok());
     assert!(rt; got(&mut line.wire, &mut into) == Ok(Got::Nothing));
     assert!(rt; into.is_empty());
+}
+
+/// One of the peer does, and nothing behind it.
+fn expect_got(rt: &impl Abort, line: &mut Ends) {
+    let mut into = FrameBuf::new();
     assert!(rt; line.peer.send_to(&[2; 60], line.at).is_ok());
     assert!(rt; got(&mut line.wire, &mut into) == Ok(Got::Frame));
     assert!(rt; is_filled(&into, 60, 2));
     assert!(rt; got(&mut line.wire, &mut into) == Ok(Got::Nothing));
 }
 
+/// A datagram from another socket than the peer's, and one of the peer behind it.
+#[test]
+fn a_strangers_datagram_is_lost(rt: HostRuntime) {
+    let mut line = local_line(&rt, rt.alloc());
+    let Some(stranger) = socket(&rt, loopback()) else {
+        panic!(rt; "no socket");
+    };
+    expect_lost(&rt, &mut line, &stranger);
+    expect_got(&rt, &mut line);
+}
+
 /// A frame that is longer than any datagram: it is refused, and the next one is sent.
 #[test]
 fn a_send_that_fails_is_told(rt: HostRuntime) {
-    let Some(mut line) = line(&rt, rt.alloc(), loopback()) else {
-        panic!(rt; "no line");
-    };
+    let mut line = local_line(&rt, rt.alloc());
     let frame = filled(&rt, rt.alloc(), 70_000, 3);
     let mut room = [0; 64];
     assert!(rt; send(&mut line.wire, &frame) == Err(WireFault::Send));
@@ -157,9 +170,7 @@ fn a_send_that_fails_is_told(rt: HostRuntime) {
 
 #[test]
 fn an_address_is_bound_once(rt: HostRuntime) {
-    let Some(line) = line(&rt, rt.alloc(), loopback()) else {
-        panic!(rt; "no line");
-    };
+    let line = local_line(&rt, rt.alloc());
     let again = UdpWire::bind(&rt, rt.alloc(), line.at, loopback());
     assert!(rt; matches!(again, Err(BindFault::Bind)));
 }
@@ -206,9 +217,7 @@ fn expect_refused(
 /// first.
 #[test]
 fn a_bind_without_memory_is_refused(rt: HostRuntime) {
-    let Some(line) = line(&rt, rt.alloc(), loopback()) else {
-        panic!(rt; "no line");
-    };
+    let line = local_line(&rt, rt.alloc());
     let memory = [Some(BindFault::Memory); 2];
     expect_refused(&rt, rt.alloc(), 4_096, &line, memory);
     expect_refused(&rt, rt.alloc(), 9_216, &line, memory);

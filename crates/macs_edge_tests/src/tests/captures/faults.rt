@@ -119,19 +119,23 @@ fn expect_cut(
     assert!(rt; whole.starts_with(written.as_slice()));
 }
 
+/// Cuts a capture at this length.
+fn cut_at(rt: &impl Abort, alloc: Global, one: One, octets: &[u8], whole: &[u8], length: usize) {
+    assert!(rt; length <= octets.len());
+    let (front, _) = octets.split_at(length);
+    let cut = one.at_length(length as u64);
+    expect_cut(rt, alloc, one, front, whole, (0, 0), cut);
+}
+
 /// Cuts a capture at each length, its own included: so many runs.
 fn cut_each(rt: &impl Abort, alloc: Global, one: One) -> Result<u64, Fail> {
     let (octets, whole) = one.captures(alloc)?;
     let mut runs = 0_u64;
-    for length in 0..octets.len() {
-        let (front, _) = octets.as_slice().split_at(length);
-        let cut = one.at_length(length as u64);
-        expect_cut(rt, alloc, one, front, &whole, (0, 0), cut);
+    for length in 0..octets.len().saturating_add(1) {
+        cut_at(rt, alloc, one, &octets, &whole, length);
         runs = runs.saturating_add(1);
     }
-    let cut = one.at_length(octets.len() as u64);
-    expect_cut(rt, alloc, one, &octets, &whole, (0, 0), cut);
-    Ok(runs.saturating_add(1))
+    Ok(runs)
 }
 
 /// 95 captures that are protected, 127 that are validated.
