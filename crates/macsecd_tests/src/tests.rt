@@ -113,6 +113,14 @@ where
     run(system, alloc, words, &mut input, &mut out, &mut err)
 }
 
+/// Asserts a status, and what was printed on standard output and on standard error.
+fn expect_answer(rt: &impl Abort, status: u8, out: &[u8], err: &[u8], outcome: Outcome) {
+    let (wanted, printed, complained) = outcome.parts();
+    assert_eq!(rt; out, printed.as_bytes());
+    assert_eq!(rt; err, complained.as_bytes());
+    assert_eq!(rt; status, wanted);
+}
+
 /// Runs the words over a system on what a reader gives, and asserts the whole outcome.
 fn expect_over<T: Files + Net + Clock + Env + RandomSource, R: Read>(
     rt: &impl Abort,
@@ -128,10 +136,7 @@ where
     let mut out = Vec::new(alloc);
     let mut err = Vec::new(alloc);
     let status = status_of(system, alloc, words, input, &mut out, &mut err);
-    let (wanted, printed, complained) = outcome.parts();
-    assert_eq!(rt; out.as_slice(), printed.as_bytes());
-    assert_eq!(rt; err.as_slice(), complained.as_bytes());
-    assert_eq!(rt; status, wanted);
+    expect_answer(rt, status, out.as_slice(), err.as_slice(), outcome);
 }
 
 /// Runs the words on what a reader gives, and asserts the whole outcome.
@@ -156,6 +161,33 @@ fn expect(
     expect_of(rt, alloc, words, &mut input.as_bytes(), outcome);
 }
 
+/// Words, and what a run of them on no input comes to.
+type Row = (&'static [&'static str], Outcome);
+
+/// Runs the words of each row, and asserts the whole outcome.
+fn expect_each(
+    rt: &(impl Abort + Files<File = File> + Net + Clock + Env + RandomSource),
+    alloc: Global,
+    rows: &[Row],
+) {
+    for (words, outcome) in rows {
+        expect(rt, alloc, words, "", *outcome);
+    }
+}
+
+/// What is printed for words that are done.
+fn printed(
+    rt: &(impl Abort + Files<File = File> + Net + Clock + Env + RandomSource),
+    alloc: Global,
+    words: &[&str],
+) -> Vec<u8> {
+    let mut out = Vec::new(alloc);
+    let mut err = Vec::new(alloc);
+    let status = status_of(rt, alloc, words, &mut b"".as_slice(), &mut out, &mut err);
+    assert_eq!(rt; status, 0);
+    out
+}
+
 /// The texts, one behind the other.
 fn joined(alloc: Global, texts: &[&str]) -> Result<String, AllocError> {
     let mut whole = String::new(alloc);
@@ -177,13 +209,29 @@ fn expect_texts(
     Ok(())
 }
 
-/// Opens an input of a key, an SCI, an offset and a frame, each line with its end.
-fn expect_lines(
+/// A key, an SCI, an offset and a frame, and what opens them.
+type FourLines = ([&'static str; 4], Outcome);
+
+/// Opens an input of these four lines, each with its end, and of what is behind them.
+fn expect_lines_and(
     rt: &(impl Abort + Files<File = File> + Net + Clock + Env + RandomSource),
     alloc: Global,
     [key, sci, offset, frame]: [&str; 4],
+    more: &str,
     outcome: Outcome,
 ) -> Result<(), Fail> {
-    let texts = [key, "\n", sci, "\n", offset, "\n", frame, "\n"];
+    let texts = [key, "\n", sci, "\n", offset, "\n", frame, "\n", more];
     expect_texts(rt, alloc, &texts, outcome)
+}
+
+/// Opens an input of four lines for each row.
+fn expect_openings(
+    rt: &(impl Abort + Files<File = File> + Net + Clock + Env + RandomSource),
+    alloc: Global,
+    rows: &[FourLines],
+) -> Result<(), Fail> {
+    for (lines, outcome) in rows {
+        expect_lines_and(rt, alloc, *lines, "", *outcome)?;
+    }
+    Ok(())
 }

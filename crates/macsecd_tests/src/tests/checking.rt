@@ -4,7 +4,13 @@ use super::captures::SENDER;
 use super::stories::Step::{Closing, Filled, Hex, Keeping, Run, Text};
 use super::stories::{Step, play};
 use super::{Outcome, expect};
+use std::alloc::Global;
 use std::fs;
+use std::fs::File;
+use std::net::Net;
+use std::process::Abort;
+use std::random::RandomSource;
+use std::rt::{Clock, Env, Files};
 use std::test::Fail;
 
 const CHECKED: &[Step] = &[
@@ -105,17 +111,28 @@ const FAULTS: &[(&str, &str)] = &[
     ("[[command]\n", "macsecd: command file: not TOML\n"),
 ];
 
+/// Checks a file of this text, in which the first fault is that of a line.
+fn expect_fault(
+    rt: &(impl Abort + Files<File = File> + Net + Clock + Env + RandomSource),
+    alloc: Global,
+    text: &str,
+    line: &'static str,
+) -> Result<(), Fail> {
+    fs::write(rt, "fault.toml", text.as_bytes())?;
+    expect(
+        rt,
+        alloc,
+        &["check", "fault.toml"],
+        "",
+        Outcome::Fault(line),
+    );
+    Ok(())
+}
+
 #[test]
 fn the_first_fault_is_named(rt: HostRuntime) -> Result<(), Fail> {
     for (text, line) in FAULTS {
-        fs::write(&rt, "fault.toml", text.as_bytes())?;
-        expect(
-            &rt,
-            rt.alloc(),
-            &["check", "fault.toml"],
-            "",
-            Outcome::Fault(*line),
-        );
+        expect_fault(&rt, rt.alloc(), text, *line)?;
     }
     Ok(())
 }

@@ -1,7 +1,7 @@
 //! Disk files and values that do not serve, and an output that fails.
 
 use super::Outcome;
-use super::stories::Step::{Closing, Filled, Folder, HasOctets, IsMissing, Run, Spoil};
+use super::stories::Step::{Closing, Filled, Folder, HasOctets, IsMissing, Patch, Run};
 use super::stories::{Step, play};
 use std::test::Fail;
 
@@ -56,7 +56,7 @@ const DISKS: &[Step] = &[
     Run(SHOW, Outcome::Disk("macsecd: not formatted\n")),
     Run(FORMAT, FORMATTED),
     HasOctets("story-disks/disk", 526_848),
-    Spoil("story-disks/disk"),
+    Patch("story-disks/disk", 0, "ff"),
     Run(SHOW, Outcome::Disk("macsecd: bad journal\n")),
 ];
 

@@ -4,7 +4,7 @@ use super::help_text::{
     APPLY_TEXT, ASK_TEXT, CHECK_TEXT, FORMAT_TEXT, HELP_TEXT, INSPECT_TEXT, KEY_TEXT, OPEN_TEXT,
     PROTECT_TEXT, RELAY_TEXT, SHOW_TEXT, VALIDATE_TEXT,
 };
-use super::{INPUT, OPENED, Outcome, expect, status_of};
+use super::{INPUT, OPENED, Outcome, expect, printed};
 use std::alloc::Global;
 use std::fs::File;
 use std::net::Net;
@@ -77,6 +77,14 @@ fn prints_help_on_what_needs_no_disk(rt: HostRuntime) {
     expect_help(&rt, rt.alloc(), "check", CHECK_TEXT);
 }
 
+/// Asserts that a text has this part.
+fn expect_in(rt: &impl Abort, printed: &[u8], part: &str) {
+    let Ok(text) = str::from_utf8(printed) else {
+        panic!(rt; "no text");
+    };
+    assert!(rt; text.contains(part), "{part}");
+}
+
 /// Asserts that what is printed for these words has this part.
 fn expect_part(
     rt: &(impl Abort + Files<File = File> + Net + Clock + Env + RandomSource),
@@ -84,13 +92,8 @@ fn expect_part(
     words: &[&str],
     part: &str,
 ) {
-    let mut out = Vec::new(alloc);
-    let mut err = Vec::new(alloc);
-    status_of(rt, alloc, words, &mut b"".as_slice(), &mut out, &mut err);
-    let Ok(printed) = str::from_utf8(out.as_slice()) else {
-        panic!(rt; "no text");
-    };
-    assert!(rt; printed.contains(part), "{part}");
+    let text = printed(rt, alloc, words);
+    expect_in(rt, text.as_slice(), part);
 }
 
 /// The subcommands with their values, as the help lists them.

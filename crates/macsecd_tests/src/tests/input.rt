@@ -1,6 +1,9 @@
 //! Inputs: their lines, and each fault.
 
-use super::{INTEGRITY, KEY, OPENED, Outcome, SCI, expect, expect_lines, expect_texts, joined};
+use super::{
+    FourLines, INTEGRITY, KEY, OPENED, Outcome, SCI, expect, expect_lines_and, expect_openings,
+    expect_texts, joined,
+};
 use std::test::Fail;
 
 const INPUT_FAULT: Outcome = Outcome::Fault("macsecd: input\n");
@@ -49,7 +52,7 @@ fn reads_digits_of_either_case(rt: HostRuntime) {
 }
 
 /// Lines that are wrong in a single respect.
-const WRONG_LINES: &[([&str; 4], Outcome)] = &[
+const WRONG_LINES: &[FourLines] = &[
     // Each line of a key ends in a carriage return, which is dropped: of two the first stays.
     (["\r", SCI, "0", INTEGRITY], KEY_FAULT),
     (
@@ -120,14 +123,11 @@ const WRONG_LINES: &[([&str; 4], Outcome)] = &[
 
 #[test]
 fn refuses_each_wrong_line(rt: HostRuntime) -> Result<(), Fail> {
-    for (lines, outcome) in WRONG_LINES {
-        expect_lines(&rt, rt.alloc(), *lines, *outcome)?;
-    }
-    Ok(())
+    expect_openings(&rt, rt.alloc(), WRONG_LINES)
 }
 
 /// Every choice of wrong lines: of two and more faults the first is told.
-const SEVERAL_WRONG_LINES: &[([&str; 4], Outcome)] = &[
+const SEVERAL_WRONG_LINES: &[FourLines] = &[
     ([KEY, SCI, "0", "f"], FRAME_FAULT),
     ([KEY, SCI, "o", INTEGRITY], OFFSET_FAULT),
     ([KEY, SCI, "o", "f"], OFFSET_FAULT),
@@ -147,20 +147,16 @@ const SEVERAL_WRONG_LINES: &[([&str; 4], Outcome)] = &[
 
 #[test]
 fn tells_the_first_fault(rt: HostRuntime) -> Result<(), Fail> {
-    for (lines, outcome) in SEVERAL_WRONG_LINES {
-        expect_lines(&rt, rt.alloc(), *lines, *outcome)?;
-    }
-    Ok(())
+    expect_openings(&rt, rt.alloc(), SEVERAL_WRONG_LINES)
 }
 
 /// A fifth line goes before every other fault.
 #[test]
 fn counts_lines_first(rt: HostRuntime) -> Result<(), Fail> {
-    let longer = [KEY, "\n", SCI, "\n0\n", INTEGRITY, "\n\n"];
-    expect_texts(&rt, rt.alloc(), &longer, INPUT_FAULT)?;
-    for ([key, sci, offset, frame], _) in SEVERAL_WRONG_LINES {
-        let longer = [*key, "\n", *sci, "\n", *offset, "\n", *frame, "\n\n"];
-        expect_texts(&rt, rt.alloc(), &longer, INPUT_FAULT)?;
+    let right = [KEY, SCI, "0", INTEGRITY];
+    expect_lines_and(&rt, rt.alloc(), right, "\n", INPUT_FAULT)?;
+    for (lines, _) in SEVERAL_WRONG_LINES {
+        expect_lines_and(&rt, rt.alloc(), *lines, "\n", INPUT_FAULT)?;
     }
     Ok(())
 }

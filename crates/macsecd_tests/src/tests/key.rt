@@ -1,15 +1,12 @@
 //! Fresh keys.
 
-use super::status_of;
+use super::printed;
 use macs_program::run::report;
 use macs_program::{SystemOctets, WriterStream, print_key};
 use std::alloc::Global;
-use std::fs::File;
 use std::io;
-use std::net::Net;
 use std::process::Abort;
 use std::random::RandomSource;
-use std::rt::{Clock, Env, Files};
 
 /// A source that counts: 0, 1 and so on; or one that gives nothing.
 #[derive(Clone, Copy)]
@@ -65,25 +62,12 @@ fn a_source_that_fails_is_said(rt: HostRuntime) {
     assert_eq!(rt; status, 5);
 }
 
-/// What is printed of a key of the system.
-fn key_of_system(
-    rt: &(impl Abort + Files<File = File> + Net + Clock + Env + RandomSource),
-    alloc: Global,
-    words: &[&str],
-) -> Vec<u8> {
-    let mut out = Vec::new(alloc);
-    let mut err = Vec::new(alloc);
-    let status = status_of(rt, alloc, words, &mut b"".as_slice(), &mut out, &mut err);
-    assert_eq!(rt; status, 0);
-    out
-}
-
 /// Keys of the system have their length, and no two are the same.
 #[test]
 fn keys_are_fresh(rt: HostRuntime) {
-    let one = key_of_system(&rt, rt.alloc(), &["key"]);
-    let other = key_of_system(&rt, rt.alloc(), &["key"]);
-    let long = key_of_system(&rt, rt.alloc(), &["key", "--long"]);
+    let one = printed(&rt, rt.alloc(), &["key"]);
+    let other = printed(&rt, rt.alloc(), &["key"]);
+    let long = printed(&rt, rt.alloc(), &["key", "--long"]);
     assert_eq!(rt; one.len(), 33);
     assert_eq!(rt; long.len(), 65);
     assert!(rt; one.as_slice() != other.as_slice());

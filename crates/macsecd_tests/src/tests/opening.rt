@@ -1,8 +1,15 @@
 //! Frames that are opened, and each refusal.
 
 use super::{
-    INTEGRITY, INTEGRITY_LINE, KEY, OPENED, Outcome, SCI, expect_lines, expect_texts, joined,
+    FourLines, INTEGRITY, INTEGRITY_LINE, KEY, OPENED, Outcome, SCI, expect_lines_and,
+    expect_openings, joined,
 };
+use std::alloc::Global;
+use std::fs::File;
+use std::net::Net;
+use std::process::Abort;
+use std::random::RandomSource;
+use std::rt::{Clock, Env, Files};
 use std::test::Fail;
 
 /// A frame with offset 30.
@@ -14,7 +21,7 @@ const LONG: &str =
     "d609b1f056637a0d46df998d88e52e00b2c2846512153524c0895e8164fc41d9a019c6be9830655049b8cb68bb2b2eca5a62046baa3b83004291a14d473d13697e5a23825fce5b1617fb3e0797319f44036e3edf3765b0e7d23f7d3e";
 
 /// Key, SCI, offset and frame, and what they come to.
-const FRAMES: &[([&str; 4], Outcome)] = &[
+const FRAMES: &[FourLines] = &[
     ([KEY, SCI, "0", INTEGRITY], OPENED),
     (
         [
@@ -116,10 +123,7 @@ const FRAMES: &[([&str; 4], Outcome)] = &[
 
 #[test]
 fn answers_each_frame(rt: HostRuntime) -> Result<(), Fail> {
-    for (lines, outcome) in FRAMES {
-        expect_lines(&rt, rt.alloc(), *lines, *outcome)?;
-    }
-    Ok(())
+    expect_openings(&rt, rt.alloc(), FRAMES)
 }
 
 /// The longest frame that is looked at, and one octet more.
@@ -128,16 +132,24 @@ const LENGTHS: &[(u16, Outcome)] = &[
     (9_217, Outcome::Refused("oversize\n")),
 ];
 
+/// Opens a frame of so many zeros.
+fn expect_zeros(
+    rt: &(impl Abort + Files<File = File> + Net + Clock + Env + RandomSource),
+    alloc: Global,
+    octets: u16,
+    outcome: Outcome,
+) -> Result<(), Fail> {
+    let mut frame = joined(alloc, &[])?;
+    for _ in 0..octets {
+        frame.push_str("00")?;
+    }
+    expect_lines_and(rt, alloc, [KEY, SCI, "0", frame.as_str()], "", outcome)
+}
+
 #[test]
 fn refuses_a_frame_above_the_limit(rt: HostRuntime) -> Result<(), Fail> {
-    let alloc = rt.alloc();
     for (octets, outcome) in LENGTHS {
-        let mut frame = joined(alloc, &[])?;
-        for _ in 0..*octets {
-            frame.push_str("00")?;
-        }
-        let texts = [KEY, "\n", SCI, "\n0\n", frame.as_str(), "\n"];
-        expect_texts(&rt, alloc, &texts, *outcome)?;
+        expect_zeros(&rt, rt.alloc(), *octets, *outcome)?;
     }
     Ok(())
 }

@@ -17,9 +17,6 @@ fn at(octet: u8) -> SocketAddr {
     SocketAddr::from(([127, 0, 0, octet], 0))
 }
 
-/// How many datagrams of a stranger there are in front of a frame.
-const STRANGERS: u32 = 40;
-
 /// The peer of a wire, and the frame that it sends; it sends none where that has no octets.
 #[derive(Drop)]
 struct Peer {
@@ -57,29 +54,26 @@ pub struct Peers {
     second: Peer,
     /// Whether the first wire is bound.
     is_begun: Cell<bool>,
-    /// What sends datagrams in front of each frame, where there is one.
-    stranger: Option<UdpSocket>,
+    /// What sends datagrams in front of each frame, and how many.
+    stranger: UdpSocket,
+    strangers: u32,
 }
 
 impl Peers {
-    pub fn new(net: &impl Net, first: Vec<u8>, second: Vec<u8>) -> Result<Peers, Fail> {
+    /// Peers that send these frames, each behind so many datagrams of a stranger.
+    pub fn new(
+        net: &impl Net,
+        first: Vec<u8>,
+        second: Vec<u8>,
+        strangers: u32,
+    ) -> Result<Peers, Fail> {
         Ok(Peers {
             first: Peer::new(net, first)?,
             second: Peer::new(net, second)?,
             is_begun: Cell::new(false),
-            stranger: None,
+            stranger: UdpSocket::bind(net, at(1))?,
+            strangers,
         })
-    }
-
-    /// The same behind a stranger.
-    pub fn behind_a_stranger(
-        net: &impl Net,
-        first: Vec<u8>,
-        second: Vec<u8>,
-    ) -> Result<Peers, Fail> {
-        let mut peers = Peers::new(net, first, second)?;
-        peers.stranger = Some(UdpSocket::bind(net, at(1))?);
-        Ok(peers)
     }
 
     /// Sends what is to wait at the wire of a peer: the frame, behind what a stranger sends.
@@ -87,10 +81,8 @@ impl Peers {
         if peer.frame.is_empty() {
             return Ok(());
         }
-        if let Some(stranger) = &self.stranger {
-            for _ in 0..STRANGERS {
-                stranger.send_to(b"stranger", wire)?;
-            }
+        for _ in 0..self.strangers {
+            self.stranger.send_to(b"stranger", wire)?;
         }
         peer.socket.send_to(&peer.frame, wire)?;
         Ok(())

@@ -1,8 +1,10 @@
 //! Readers and writers that fail, and memory that is refused.
 
 use super::help_text::{HELP_TEXT, OPEN_TEXT};
+use super::stories::Closing;
 use super::{INPUT, INTEGRITY_LINE, KEY, OPENED, Outcome, expect_of, status_of};
 use linked_list_allocator::LocalHeap;
+use macs_fixtures::{Failure, NarrowWriter};
 use macs_program::run::line_of;
 use macs_program::{Answer, answer_of};
 use std::alloc::Global;
@@ -14,17 +16,29 @@ use std::random::RandomSource;
 use std::rt::{Clock, Env, Files};
 use std::test::Fail;
 
-/// A reader that gives some octets and then fails.
+/// A reader that gives some octets and then fails, and remembers whether it was asked.
 #[derive(Drop)]
-struct Broken<'a>(&'a [u8]);
+struct Broken<'a> {
+    rest: &'a [u8],
+    is_asked: bool,
+}
 
 impl Read for Broken<'_> {
     fn read(&mut self, buf: &mut [u8]) -> io::Result<usize> {
-        let count = self.0.read(buf)?;
+        self.is_asked = true;
+        let count = self.rest.read(buf)?;
         if count == 0 {
             return Err(io::Error::from(io::ErrorKind::Other));
         }
         Ok(count)
+    }
+}
+
+/// One that gives these octets.
+fn giving(octets: &[u8]) -> Broken<'_> {
+    Broken {
+        rest: octets,
+        is_asked: false,
     }
 }
 
@@ -50,29 +64,6 @@ impl Read for Slow<'_> {
             }
             [] => Ok(0),
         }
-    }
-}
-
-/// A writer that takes so many octets, one at a time, and then none.
-#[derive(Drop)]
-struct Narrow {
-    taken: Vec<u8>,
-    room: usize,
-}
-
-impl Write for Narrow {
-    fn write(&mut self, buf: &[u8]) -> io::Result<usize> {
-        match buf {
-            [first, ..] if self.taken.len() < self.room => {
-                self.taken.push(*first)?;
-                Ok(1)
-            }
-            _ => Ok(0),
-        }
-    }
-
-    fn flush(&mut self) -> io::Result<()> {
-        Ok(())
     }
 }
 
@@ -103,25 +94,6 @@ impl Write for Patient {
     }
 }
 
-/// A writer that fails, at a write or only at a flush.
-#[derive(Drop)]
-struct Failing {
-    is_written: bool,
-}
-
-impl Write for Failing {
-    fn write(&mut self, buf: &[u8]) -> io::Result<usize> {
-        if self.is_written {
-            return Ok(buf.len());
-        }
-        Err(io::Error::from(io::ErrorKind::BrokenPipe))
-    }
-
-    fn flush(&mut self) -> io::Result<()> {
-        Err(io::Error::from(io::ErrorKind::BrokenPipe))
-    }
-}
-
 /// A writer that keeps what it takes until it is flushed.
 #[derive(Drop)]
 struct Lazy {
@@ -138,19 +110,6 @@ impl Write for Lazy {
     fn flush(&mut self) -> io::Result<()> {
         self.waiting = 0;
         Ok(())
-    }
-}
-
-/// A reader that fails at its first read, and remembers that it was asked.
-#[derive(Drop)]
-struct Unread {
-    is_asked: bool,
-}
-
-impl Read for Unread {
-    fn read(&mut self, _buf: &mut [u8]) -> io::Result<usize> {
-        self.is_asked = true;
-        Err(io::Error::from(io::ErrorKind::Other))
     }
 }
 
@@ -173,7 +132,7 @@ const READINGS: &[(&[&str], Outcome, bool)] = &[
 #[test]
 fn reads_for_open_alone(rt: HostRuntime) {
     for (words, outcome, is_asked) in READINGS {
-        let mut reader = Unread { is_asked: false };
+        let mut reader = giving(b"");
         expect_of(&rt, rt.alloc(), words, &mut reader, *outcome);
         assert_eq!(rt; reader.is_asked, *is_asked);
     }
@@ -183,7 +142,7 @@ fn reads_for_open_alone(rt: HostRuntime) {
 #[test]
 fn a_failed_read_is_input(rt: HostRuntime) {
     for given in ["", KEY, INPUT] {
-        let mut reader = Broken(given.as_bytes());
+        let mut reader = giving(given.as_bytes());
         expect_of(&rt, rt.alloc(), &[], &mut reader, READ_FAULT);
     }
 }
@@ -197,6 +156,13 @@ fn a_slow_reader_is_read_whole(rt: HostRuntime) {
     expect_of(&rt, rt.alloc(), &[], &mut reader, OPENED);
 }
 
+/// The status and standard error of a run.
+fn expect_told(rt: &impl Abort, word: &str, found: (u8, &[u8]), status: u8, message: &str) {
+    let (answer, err) = found;
+    assert_eq!(rt; answer, status, "on {word}");
+    assert_eq!(rt; err, message.as_bytes(), "on {word}");
+}
+
 /// A word on the input over a writer ends with this status and this line on standard error.
 fn expect_written<W: Write>(
     rt: &(impl Abort + Files<File = File> + Net + Clock + Env + RandomSource),
@@ -208,34 +174,33 @@ fn expect_written<W: Write>(
 ) {
     let mut err = Vec::new(alloc);
     let answer = status_of(rt, alloc, &[word], &mut INPUT.as_bytes(), out, &mut err);
-    assert_eq!(rt; answer, status, "on {word}");
-    assert_eq!(rt; err.as_slice(), message.as_bytes(), "on {word}");
+    expect_told(rt, word, (answer, err.as_slice()), status, message);
 }
 
-/// The line goes out as far as there is room for it.
+/// The line goes out as far as there is room for it, an octet at a time; the call of this number takes none.
 fn expect_narrow(
     rt: &(impl Abort + Files<File = File> + Net + Clock + Env + RandomSource),
     alloc: Global,
-    room: usize,
+    stops_at: u64,
     status: u8,
     message: &str,
-) {
-    let mut out = Narrow {
-        taken: Vec::new(alloc),
-        room,
-    };
+) -> usize {
+    let mut out = NarrowWriter::new(alloc, stops_at, Failure::Nothing);
     expect_written(rt, alloc, "open", &mut out, status, message);
-    assert!(rt; INTEGRITY_LINE.as_bytes().starts_with(out.taken.as_slice()));
-    assert_eq!(rt; out.taken.len(), room);
+    assert!(rt; INTEGRITY_LINE.as_bytes().starts_with(out.octets()));
+    out.octets().len()
 }
 
+/// It stops at the first octet, the second, and the last, and where it does not the line is whole.
 #[test]
 fn a_writer_that_stops_is_output(rt: HostRuntime) {
     let whole = INTEGRITY_LINE.len();
     for room in [0, 1, whole - 1] {
-        expect_narrow(&rt, rt.alloc(), room, 5, "macsecd: output\n");
+        let stops_at = (room as u64).saturating_add(1);
+        let taken = expect_narrow(&rt, rt.alloc(), stops_at, 5, "macsecd: output\n");
+        assert_eq!(rt; taken, room);
     }
-    expect_narrow(&rt, rt.alloc(), whole, 0, "");
+    assert_eq!(rt; expect_narrow(&rt, rt.alloc(), 0, 0, ""), whole);
 }
 
 #[test]
@@ -250,51 +215,63 @@ fn an_interrupted_print_is_made_again(rt: HostRuntime) {
 
 #[test]
 fn a_writer_that_fails_is_output(rt: HostRuntime) {
-    for is_written in [false, true] {
+    for writes in [0, u32::MAX] {
         for word in ["open", "--help", "--version"] {
-            let mut out = Failing { is_written };
+            let mut out = Closing { writes, flushes: 0 };
             expect_written(&rt, rt.alloc(), word, &mut out, 5, "macsecd: output\n");
         }
     }
+}
+
+/// What a word on the input comes to over streams that keep what they take: its status, and how many octets wait in
+/// either.
+fn waiting(
+    rt: &(impl Abort + Files<File = File> + Net + Clock + Env + RandomSource),
+    alloc: Global,
+    word: &str,
+) -> (u8, usize, usize) {
+    let mut out = Lazy { waiting: 0 };
+    let mut err = Lazy { waiting: 0 };
+    let status = status_of(
+        rt,
+        alloc,
+        &[word],
+        &mut INPUT.as_bytes(),
+        &mut out,
+        &mut err,
+    );
+    (status, out.waiting, err.waiting)
 }
 
 /// Each text is flushed once it is written, on either stream: nothing waits at the end.
 #[test]
 fn nothing_that_is_printed_waits(rt: HostRuntime) {
     for (word, status) in [("open", 0), ("--help", 0), ("frobnicate", 2)] {
-        let mut out = Lazy { waiting: 0 };
-        let mut err = Lazy { waiting: 0 };
-        let answer = status_of(
-            &rt,
-            rt.alloc(),
-            &[word],
-            &mut INPUT.as_bytes(),
-            &mut out,
-            &mut err,
-        );
-        assert_eq!(rt; answer, status, "on {word}");
-        assert_eq!(rt; out.waiting, 0, "on {word}");
-        assert_eq!(rt; err.waiting, 0, "on {word}");
+        assert_eq!(rt; waiting(&rt, rt.alloc(), word), (status, 0, 0), "on {word}");
     }
+}
+
+/// The status of words over a standard error that fails. They print nothing.
+fn status_alone(
+    rt: &(impl Abort + Files<File = File> + Net + Clock + Env + RandomSource),
+    alloc: Global,
+    words: &[&str],
+) -> u8 {
+    let mut out = Vec::new(alloc);
+    let mut err = Closing {
+        writes: 0,
+        flushes: 0,
+    };
+    let status = status_of(rt, alloc, words, &mut b"".as_slice(), &mut out, &mut err);
+    assert!(rt; out.is_empty());
+    status
 }
 
 /// Where standard error fails too, the status still tells.
 #[test]
 fn the_status_tells_without_standard_error(rt: HostRuntime) {
-    for (words, status) in [(["frobnicate"].as_slice(), 2), ([].as_slice(), 5)] {
-        let mut out = Vec::new(rt.alloc());
-        let mut err = Failing { is_written: false };
-        let answer = status_of(
-            &rt,
-            rt.alloc(),
-            words,
-            &mut b"".as_slice(),
-            &mut out,
-            &mut err,
-        );
-        assert_eq!(rt; answer, status);
-        assert!(rt; out.is_empty());
-    }
+    assert_eq!(rt; status_alone(&rt, rt.alloc(), &["frobnicate"]), 2);
+    assert_eq!(rt; status_alone(&rt, rt.alloc(), &[]), 5);
 }
 
 /// Whether a heap of so many octets has room for the line, which is then whole.

@@ -2,8 +2,8 @@
 
 use super::Outcome::Done;
 use super::link_files::RIGHT;
-use super::stories::Step::{RelayWaiting, Run, Text};
-use super::stories::{Frames, Step, play};
+use super::stories::Step::{Relay, Run, Text};
+use super::stories::{Frames, Relayed, Step, play};
 use super::wires::FRAMES;
 use std::test::Fail;
 use std::time::{Duration, Instant};
@@ -70,18 +70,22 @@ const WAKES: &[Step] = &[
         &["apply", "story-wakes/disk", "story-wakes/right.toml"],
         Done("1 ok\n2 ok\n3 ok\n4 ok\n"),
     ),
-    RelayWaiting(
-        "story-wakes/disk",
-        PLAIN,
-        "41",
-        Done("sent 1 delivered 0 dropped 0 faults 0\n"),
-    ),
-    RelayWaiting(
-        "story-wakes/disk",
-        ARRIVED,
-        "46",
-        Done("sent 0 delivered 1 dropped 0 faults 0\n"),
-    ),
+    Relay(Relayed {
+        disk: "story-wakes/disk",
+        pace: "--wait=1000",
+        turns: "--turns=41",
+        frames: PLAIN,
+        strangers: 40,
+        outcome: Done("sent 1 delivered 0 dropped 0 faults 0\n"),
+    }),
+    Relay(Relayed {
+        disk: "story-wakes/disk",
+        pace: "--wait=1000",
+        turns: "--turns=46",
+        frames: ARRIVED,
+        strangers: 40,
+        outcome: Done("sent 0 delivered 1 dropped 0 faults 0\n"),
+    }),
 ];
 
 #[test]

@@ -3,7 +3,7 @@
 use super::Outcome;
 use super::link_files::RIGHT;
 use super::stories::Step::{Relay, Run, Text};
-use super::stories::{Frames, Step, play};
+use super::stories::{Frames, Relayed, Step, play};
 use std::test::Fail;
 
 /// The plain frame goes out under packet number 1,025; the other one is the first of the left end.
@@ -31,11 +31,14 @@ const RELAYED: &[Step] = &[
         &["apply", "story-wires/disk", "story-wires/right.toml"],
         Outcome::Done("1 ok\n2 ok\n3 ok\n4 ok\n"),
     ),
-    Relay(
-        "story-wires/disk",
-        FRAMES,
-        Outcome::Done("sent 1 delivered 1 dropped 0 faults 0\n"),
-    ),
+    Relay(Relayed {
+        disk: "story-wires/disk",
+        pace: "--turns",
+        turns: "1000",
+        frames: FRAMES,
+        strangers: 0,
+        outcome: Outcome::Done("sent 1 delivered 1 dropped 0 faults 0\n"),
+    }),
 ];
 
 #[test]

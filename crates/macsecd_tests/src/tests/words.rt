@@ -1,22 +1,35 @@
 //! Words: the action, and what is refused.
 
-use super::{INTEGRITY, KEY, OPENED, Outcome, SCI, expect, expect_lines, joined};
+use super::{INPUT, OPENED, Outcome, Row, expect, expect_each};
 use macs_words::{Action, Pace, Question, Running, action_of};
 use std::alloc::Global;
-use std::test::Fail;
+use std::fs::File;
+use std::net::Net;
+use std::process::Abort;
+use std::random::RandomSource;
+use std::rt::{Clock, Env, Files};
 
 /// `open` is also what no word asks for.
 #[test]
-fn opens_with_and_without_its_name(rt: HostRuntime) -> Result<(), Fail> {
-    let alloc = rt.alloc();
-    expect_lines(&rt, alloc, [KEY, SCI, "0", INTEGRITY], OPENED)?;
-    let input = joined(alloc, &[KEY, "\n", SCI, "\n0\n", INTEGRITY, "\n"])?;
-    expect(&rt, alloc, &[], input.as_str(), OPENED);
-    Ok(())
+fn opens_with_and_without_its_name(rt: HostRuntime) {
+    expect(&rt, rt.alloc(), &["open"], INPUT, OPENED);
+    expect(&rt, rt.alloc(), &[], INPUT, OPENED);
+}
+
+/// Runs each of these words, and asserts the same whole outcome.
+fn expect_all(
+    rt: &(impl Abort + Files<File = File> + Net + Clock + Env + RandomSource),
+    alloc: Global,
+    each: &[&[&str]],
+    outcome: Outcome,
+) {
+    for words in each {
+        expect(rt, alloc, words, "", outcome);
+    }
 }
 
 /// Words that are refused, and the line that says why.
-const OTHER_WORDS: &[(&[&str], Outcome)] = &[
+const OTHER_WORDS: &[Row] = &[
     (
         &["frobnicate"],
         Outcome::Usage("macsecd: unrecognized subcommand 'frobnicate'\n"),
@@ -78,9 +91,7 @@ const OTHER_WORDS: &[(&[&str], Outcome)] = &[
 /// The words come first: the input, which is wrong too, is not told.
 #[test]
 fn refuses_other_words(rt: HostRuntime) {
-    for (words, outcome) in OTHER_WORDS {
-        expect(&rt, rt.alloc(), words, "", *outcome);
-    }
+    expect_each(&rt, rt.alloc(), OTHER_WORDS);
 }
 
 /// Words with a value too few, and the line that says so.
@@ -122,17 +133,13 @@ const WORDS_OF_NO_QUESTION: &[&[&str]] = &[
 
 #[test]
 fn refuses_a_question_that_is_none(rt: HostRuntime) {
-    for words in WORDS_OF_NO_QUESTION {
-        expect(&rt, rt.alloc(), words, "", NO_QUESTION);
-    }
+    expect_all(&rt, rt.alloc(), WORDS_OF_NO_QUESTION, NO_QUESTION);
 }
 
 /// Each value is required.
 #[test]
 fn refuses_a_value_too_few(rt: HostRuntime) {
-    for words in WORDS_TOO_FEW {
-        expect(&rt, rt.alloc(), words, "", TOO_FEW);
-    }
+    expect_all(&rt, rt.alloc(), WORDS_TOO_FEW, TOO_FEW);
 }
 
 /// Words with one value too many.
@@ -172,13 +179,11 @@ const WORDS_TOO_MANY: &[&[&str]] = &[
 #[test]
 fn refuses_a_value_too_many(rt: HostRuntime) {
     let outcome = Outcome::Usage("macsecd: unexpected argument 'more' found\n");
-    for words in WORDS_TOO_MANY {
-        expect(&rt, rt.alloc(), words, "", outcome);
-    }
+    expect_all(&rt, rt.alloc(), WORDS_TOO_MANY, outcome);
 }
 
 /// Words with an option, and the line that says that there is none.
-const WORDS_WITH_OPTIONS: &[(&[&str], Outcome)] = &[
+const WORDS_WITH_OPTIONS: &[Row] = &[
     (
         &[
             "format",
@@ -297,80 +302,66 @@ const WORDS_WITH_OPTIONS: &[(&[&str], Outcome)] = &[
 /// alone.
 #[test]
 fn refuses_options(rt: HostRuntime) {
-    for (words, outcome) in WORDS_WITH_OPTIONS {
-        expect(&rt, rt.alloc(), words, "", *outcome);
-    }
+    expect_each(&rt, rt.alloc(), WORDS_WITH_OPTIONS);
 }
 
-/// A number of packet numbers that is none, and the line that says why.
-const NO_NUMBERS: &[(&str, Outcome)] = &[
+/// The numbers of `format` are in decimal digits, also those behind `--`, where a hyphen is taken.
+const NO_NUMBERS: &[Row] = &[
     (
-        "-1",
+        &["format", "d", "s", "-1", "16"],
         Outcome::Usage("macsecd: unexpected argument '-1' found\n"),
     ),
     (
-        "-0",
+        &["format", "d", "s", "-0", "16"],
         Outcome::Usage("macsecd: unexpected argument '-0' found\n"),
     ),
     (
-        "x",
+        &["format", "d", "s", "x", "16"],
         Outcome::Usage("macsecd: invalid value 'x' for '<TX>': invalid digit found in string\n"),
     ),
     (
-        "4294967296",
+        &["format", "d", "s", "4294967296", "16"],
         Outcome::Usage(
             "macsecd: invalid value '4294967296' for '<TX>': 4294967296 is not in 0..=4294967295\n",
         ),
     ),
     (
-        "18446744073709551616",
+        &["format", "d", "s", "18446744073709551616", "16"],
         Outcome::Usage(
             "macsecd: invalid value '18446744073709551616' for '<TX>': number too large to fit in target type\n",
         ),
     ),
     (
-        "0x10",
+        &["format", "d", "s", "0x10", "16"],
         Outcome::Usage("macsecd: invalid value '0x10' for '<TX>': invalid digit found in string\n"),
     ),
     (
-        " 1",
+        &["format", "d", "s", " 1", "16"],
         Outcome::Usage("macsecd: invalid value ' 1' for '<TX>': invalid digit found in string\n"),
     ),
     (
-        "",
+        &["format", "d", "s", "", "16"],
         Outcome::Usage(
             "macsecd: invalid value '' for '<TX>': cannot parse integer from empty string\n",
         ),
     ),
+    (
+        &["format", "d", "s", "1024", "many"],
+        Outcome::Usage("macsecd: invalid value 'many' for '<RX>': invalid digit found in string\n"),
+    ),
+    (
+        &["format", "d", "s", "--", "-0", "16"],
+        Outcome::Usage("macsecd: invalid value '-0' for '<TX>': invalid digit found in string\n"),
+    ),
 ];
 
-/// The numbers of `format` are in decimal digits.
 #[test]
 fn refuses_what_is_no_number(rt: HostRuntime) {
-    for (number, outcome) in NO_NUMBERS {
-        let words = ["format", "left.disk", "0200000000010001", *number, "16"];
-        expect(&rt, rt.alloc(), &words, "", *outcome);
-    }
-}
-
-/// A second number that is none.
-#[test]
-fn refuses_what_is_no_second_number(rt: HostRuntime) {
-    let words = ["format", "left.disk", "0200000000010001", "1024", "many"];
-    let line = "macsecd: invalid value 'many' for '<RX>': invalid digit found in string\n";
-    expect(&rt, rt.alloc(), &words, "", Outcome::Usage(line));
-}
-
-/// Behind `--` a hyphen is taken, but for a number.
-#[test]
-fn refuses_a_number_below_zero(rt: HostRuntime) {
-    let words = ["format", "left.disk", "0200000000010001", "--", "-0", "16"];
-    let line = "macsecd: invalid value '-0' for '<TX>': invalid digit found in string\n";
-    expect(&rt, rt.alloc(), &words, "", Outcome::Usage(line));
+    expect_each(&rt, rt.alloc(), NO_NUMBERS);
 }
 
 /// A file whose name begins with a hyphen.
-const HYPHENS: &[(&[&str], Outcome)] = &[
+const HYPHENS: &[Row] = &[
     (
         &["format", "-left.disk", "0200000000010001", "1024", "16"],
         Outcome::Usage("macsecd: unexpected argument '-l' found\n"),
@@ -399,9 +390,7 @@ const HYPHENS: &[(&[&str], Outcome)] = &[
 
 #[test]
 fn refuses_a_file_that_begins_with_a_hyphen(rt: HostRuntime) {
-    for (words, outcome) in HYPHENS {
-        expect(&rt, rt.alloc(), words, "", *outcome);
-    }
+    expect_each(&rt, rt.alloc(), HYPHENS);
 }
 
 /// An action in parts: its name, up to five texts and up to two numbers.
@@ -616,18 +605,16 @@ fn served_so<'a>(running: Running<'a>) -> Served<'a> {
     )
 }
 
+/// Asserts what a relay of these words serves.
+fn expect_served(rt: &impl Abort, alloc: Global, words: &[&str], wanted: Served<'static>) {
+    let found = named(alloc, words).and_then(served);
+    assert!(rt; found == Some(wanted));
+}
+
 #[test]
 fn takes_what_a_relay_serves(rt: HostRuntime) {
-    for (words, (control, metrics, buffer)) in SERVED {
-        let Some(action) = named(rt.alloc(), words) else {
-            panic!(rt; "{control}");
-        };
-        let Some((found_control, found_metrics, found_buffer)) = served(action) else {
-            panic!(rt; "{metrics}");
-        };
-        assert_eq!(rt; found_control, *control);
-        assert_eq!(rt; found_metrics, *metrics);
-        assert_eq!(rt; found_buffer, *buffer);
+    for (words, wanted) in SERVED {
+        expect_served(&rt, rt.alloc(), words, *wanted);
     }
 }
 
@@ -737,23 +724,23 @@ fn named<'a>(alloc: Global, words: &'a [&'a str]) -> Option<Action<'a>> {
     action_of(alloc, words).ok()
 }
 
+/// Asserts the action that the words name.
+fn expect_parts(rt: &impl Abort, alloc: Global, words: &[&str], wanted: Parts<'static>) {
+    let found = named(alloc, words).map(parts);
+    assert!(rt; found == Some(wanted), "{}", wanted.0);
+}
+
 /// Each word goes to its own place.
 #[test]
 fn takes_each_subcommand(rt: HostRuntime) {
-    for (words, (name, texts, numbers)) in TAKEN {
-        let Some(action) = named(rt.alloc(), words) else {
-            panic!(rt; "{name}");
-        };
-        let (found, found_texts, found_numbers) = parts(action);
-        assert_eq!(rt; found, *name);
-        assert_eq!(rt; found_texts, *texts);
-        assert_eq!(rt; found_numbers, *numbers);
+    for (words, wanted) in TAKEN {
+        expect_parts(&rt, rt.alloc(), words, *wanted);
     }
 }
 
 /// Words with characters that a terminal obeys, and the line that says why they are refused: it
 /// ends at a line feed of theirs, and has `?` in the place of each other one.
-const CONTROL_WORDS: &[(&[&str], Outcome)] = &[
+const CONTROL_WORDS: &[Row] = &[
     (
         &["\x1b[31mred"],
         Outcome::Usage("macsecd: unrecognized subcommand '?[31mred'\n"),
@@ -786,7 +773,5 @@ const CONTROL_WORDS: &[(&[&str], Outcome)] = &[
 
 #[test]
 fn says_nothing_that_a_terminal_obeys(rt: HostRuntime) {
-    for (words, outcome) in CONTROL_WORDS {
-        expect(&rt, rt.alloc(), words, "", *outcome);
-    }
+    expect_each(&rt, rt.alloc(), CONTROL_WORDS);
 }

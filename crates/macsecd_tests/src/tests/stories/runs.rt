@@ -1,0 +1,146 @@
+//! Runs over a file that fails or is claimed, over an output that fails, and beside files that stay as they are.
+
+use super::super::stand_in::{Broken, StandIn};
+use super::super::{Outcome, expect, expect_over, status_of};
+use super::files::{expect_octets, octets_in};
+use std::alloc::Global;
+use std::fs::{File, OpenOptions};
+use std::io;
+use std::io::{ErrorKind, Write};
+use std::net::Net;
+use std::process::Abort;
+use std::random::RandomSource;
+use std::rt::{Clock, Env, Files};
+use std::test::Fail;
+
+/// What each of these files holds.
+fn octets_in_each(
+    rt: &impl Files<File = File>,
+    alloc: Global,
+    paths: &[&str],
+) -> Result<Vec<Vec<u8>>, Fail> {
+    let mut each = Vec::new(alloc);
+    for path in paths {
+        each.push(octets_in(rt, alloc, path)?)?;
+    }
+    Ok(each)
+}
+
+/// Each of these files holds these octets.
+fn expect_octets_in_each(
+    rt: &(impl Abort + Files<File = File>),
+    alloc: Global,
+    paths: &[&str],
+    each: &[Vec<u8>],
+) -> Result<(), Fail> {
+    assert!(rt; paths.len() == each.len());
+    for i in 0..paths.len() {
+        expect_octets(rt, alloc, paths[i], each[i].as_slice())?;
+    }
+    Ok(())
+}
+
+/// Runs these words, and looks whether these files hold what they held before.
+pub fn expect_keeping(
+    rt: &(impl Abort + Files<File = File> + Net + Clock + Env + RandomSource),
+    alloc: Global,
+    paths: &[&str],
+    words: &[&str],
+    outcome: Outcome,
+) -> Result<(), Fail> {
+    let each = octets_in_each(rt, alloc, paths)?;
+    expect(rt, alloc, words, "", outcome);
+    expect_octets_in_each(rt, alloc, paths, each.as_slice())
+}
+
+/// Opens a file as one that claims it does.
+fn opened(rt: &impl Files<File = File>, path: &str) -> Result<File, Fail> {
+    let file = OpenOptions::new().read(true).write(true).open(rt, path)?;
+    Ok(file)
+}
+
+/// Runs these words while a file is claimed for itself alone: it is kept.
+pub fn expect_claimed(
+    rt: &(impl Abort + Files<File = File> + Net + Clock + Env + RandomSource),
+    alloc: Global,
+    path: &str,
+    words: &[&str],
+    outcome: Outcome,
+) -> Result<(), Fail> {
+    let file = opened(rt, path)?;
+    assert!(rt; file.try_lock().is_ok());
+    expect_keeping(rt, alloc, &[path], words, outcome)
+}
+
+/// The same while it is claimed beside other readers.
+pub fn expect_shared(
+    rt: &(impl Abort + Files<File = File> + Net + Clock + Env + RandomSource),
+    alloc: Global,
+    path: &str,
+    words: &[&str],
+    outcome: Outcome,
+) -> Result<(), Fail> {
+    let file = opened(rt, path)?;
+    assert!(rt; file.try_lock_shared().is_ok());
+    expect_keeping(rt, alloc, &[path], words, outcome)
+}
+
+/// Runs these words where the file of a path fails.
+pub fn expect_failing(
+    rt: &(impl Abort + Files<File = File> + Net + Clock + Env + RandomSource),
+    alloc: Global,
+    path: &'static str,
+    broken: Broken,
+    words: &[&str],
+    outcome: Outcome,
+) {
+    let system = StandIn {
+        system: rt,
+        path,
+        broken,
+        peers: None,
+    };
+    expect_over(rt, &system, alloc, words, &mut b"".as_slice(), outcome);
+}
+
+/// A writer that takes so many writes and so many flushes, and then fails.
+#[derive(Drop)]
+pub struct Closing {
+    pub writes: u32,
+    pub flushes: u32,
+}
+
+/// One call less, where there is one left.
+fn counted_down(left: &mut u32) -> io::Result<()> {
+    if *left == 0 {
+        return Err(io::Error::from(ErrorKind::BrokenPipe));
+    }
+    *left -= 1;
+    Ok(())
+}
+
+impl Write for Closing {
+    fn write(&mut self, from: &[u8]) -> io::Result<usize> {
+        counted_down(&mut self.writes)?;
+        Ok(from.len())
+    }
+
+    fn flush(&mut self) -> io::Result<()> {
+        counted_down(&mut self.flushes)
+    }
+}
+
+/// Words over a writer that fails end with status 5 and the line that says so.
+pub fn expect_output(
+    rt: &(impl Abort + Files<File = File> + Net + Clock + Env + RandomSource),
+    alloc: Global,
+    writes: u32,
+    flushes: u32,
+    words: &[&str],
+) {
+    let mut out = Closing { writes, flushes };
+    let mut err = Vec::new(alloc);
+    let status = status_of(rt, alloc, words, &mut b"".as_slice(), &mut out, &mut err);
+    assert_eq!(rt; err.as_slice(), b"macsecd: output\n".as_slice());
+    assert_eq!(rt; status, 5);
+}
