@@ -1,7 +1,7 @@
 //! Words: the action, and what is refused.
 
 use super::{INPUT, OPENED, Outcome, Row, expect, expect_each};
-use macs_words::{Action, Pace, Question, Running, action_of};
+use macs_words::{Action, Pace, Question, Running, WireEnds, action_of};
 use std::alloc::Global;
 use std::fs::File;
 use std::net::Net;
@@ -618,10 +618,15 @@ fn takes_what_a_relay_serves(rt: HostRuntime) {
     }
 }
 
-/// An action in its parts.
-fn parts<'a>(action: Action<'a>) -> Parts<'a> {
+/// Whether these are the parts that are wanted.
+fn is_named(wanted: &Parts<'_>, name: &str, words: [&str; 5], numbers: [u64; 2]) -> bool {
+    wanted.0 == name && wanted.1 == words && wanted.2 == numbers
+}
+
+/// Whether an action has the parts that are wanted.
+fn is_of(action: Action<'_>, wanted: &Parts<'_>) -> bool {
     match action {
-        Action::Open => ("open", ["", "", "", "", ""], [0, 0]),
+        Action::Open => is_named(wanted, "open", ["", "", "", "", ""], [0, 0]),
         Action::Format {
             disk,
             sci,
@@ -629,7 +634,8 @@ fn parts<'a>(action: Action<'a>) -> Parts<'a> {
             rx_block,
             block,
             is_over,
-        } => (
+        } => is_named(
+            wanted,
             "format",
             [
                 disk,
@@ -640,14 +646,29 @@ fn parts<'a>(action: Action<'a>) -> Parts<'a> {
             ],
             [u64::from(tx_block), u64::from(rx_block)],
         ),
-        Action::Apply { disk, file } => ("apply", [disk, file, "", "", ""], [0, 0]),
-        Action::Show { disk } => ("show", [disk, "", "", "", ""], [0, 0]),
+        Action::Relay {
+            disk,
+            controlled,
+            common,
+            running,
+        } => is_relay(disk, controlled, common, running.pace, wanted),
+        Action::Ask { path, question } => is_asked(path, question, wanted),
+        other => is_of_files(other, wanted),
+    }
+}
+
+/// The same of an action whose parts are names of files and flags.
+fn is_of_files(action: Action<'_>, wanted: &Parts<'_>) -> bool {
+    match action {
+        Action::Apply { disk, file } => is_named(wanted, "apply", [disk, file, "", "", ""], [0, 0]),
+        Action::Show { disk } => is_named(wanted, "show", [disk, "", "", "", ""], [0, 0]),
         Action::Protect {
             disk,
             input,
             output,
             is_all,
-        } => (
+        } => is_named(
+            wanted,
             "protect",
             [disk, input, output, if is_all { "all" } else { "" }, ""],
             [0, 0],
@@ -657,42 +678,51 @@ fn parts<'a>(action: Action<'a>) -> Parts<'a> {
             input,
             output,
             is_all,
-        } => (
+        } => is_named(
+            wanted,
             "validate",
             [disk, input, output, if is_all { "all" } else { "" }, ""],
             [0, 0],
         ),
-        Action::Relay {
-            disk,
-            controlled,
-            common,
-            running,
-        } => {
-            let (name, numbers) = pace_parts(running.pace);
-            (
-                name,
-                [
-                    disk,
-                    controlled.own,
-                    controlled.peer,
-                    common.own,
-                    common.peer,
-                ],
-                numbers,
-            )
-        }
-        Action::Ask { path, question } => {
-            let (name, file) = question_parts(question);
-            (name, [path, file, "", "", ""], [0, 0])
-        }
-        Action::Key { is_long } => (
+        Action::Key { is_long } => is_named(
+            wanted,
             "key",
             [if is_long { "long" } else { "" }, "", "", "", ""],
             [0, 0],
         ),
-        Action::Inspect { input } => ("inspect", [input, "", "", "", ""], [0, 0]),
-        Action::Check { file } => ("check", [file, "", "", "", ""], [0, 0]),
+        Action::Inspect { input } => is_named(wanted, "inspect", [input, "", "", "", ""], [0, 0]),
+        Action::Check { file } => is_named(wanted, "check", [file, "", "", "", ""], [0, 0]),
+        _ => false,
     }
+}
+
+/// The same of a relay.
+fn is_relay(
+    disk: &str,
+    controlled: WireEnds<'_>,
+    common: WireEnds<'_>,
+    pace: Pace,
+    wanted: &Parts<'_>,
+) -> bool {
+    let (name, numbers) = pace_parts(pace);
+    is_named(
+        wanted,
+        name,
+        [
+            disk,
+            controlled.own,
+            controlled.peer,
+            common.own,
+            common.peer,
+        ],
+        numbers,
+    )
+}
+
+/// The same of a question to a relay.
+fn is_asked(path: &str, question: Question<'_>, wanted: &Parts<'_>) -> bool {
+    let (name, file) = question_parts(question);
+    is_named(wanted, name, [path, file, "", "", ""], [0, 0])
 }
 
 /// What a relay is asked, and the file of its commands.
@@ -726,8 +756,11 @@ fn named<'a>(alloc: Global, words: &'a [&'a str]) -> Option<Action<'a>> {
 
 /// Asserts the action that the words name.
 fn expect_parts(rt: &impl Abort, alloc: Global, words: &[&str], wanted: Parts<'static>) {
-    let found = named(alloc, words).map(parts);
-    assert!(rt; found == Some(wanted), "{}", wanted.0);
+    let is_found = match named(alloc, words) {
+        Some(action) => is_of(action, &wanted),
+        None => false,
+    };
+    assert!(rt; is_found, "{}", wanted.0);
 }
 
 /// Each word goes to its own place.
