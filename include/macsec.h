@@ -23,7 +23,7 @@ extern "C" {
 #define MACS_MAX_FRAME 9216
 #define MACS_MAX_OVERHEAD 32
 
-/* Answers. Each refusal but MACS_OK leaves all that the call could write as it was. */
+/* Answers. Each answer but MACS_OK leaves all that the call could write as it was. */
 enum macs_answer {
     MACS_OK = 0,
     MACS_KEY = 1,       /* the key has neither 16 nor 32 octets */

@@ -1,5 +1,5 @@
 -- Why a frame is not sealed or not opened, and the codes of answers.
-use Rattle.std.specs.Prelude.{◌≡◌, ◌+◌, ◌<◌, ℕ, Bool, true, false, not, List, drop, take, [], ◌∷◌, Option, Some, None, length, nat_lt}
+use Rattle.std.specs.Prelude.{◌≡◌, ◌+◌, ◌<◌, ◌≤◌, ℕ, Bool, true, false, not, List, drop, take, [], ◌∷◌, Option, Some, None, length, nat_lt}
 use Rattle.macs_fields.specs.First.{IsFirst, first}
 use Rattle.macs_frame.specs.Opening.{OpenFaultHolds, Verified, open_faults}
 use Rattle.macs_frame.specs.Protection.{overhead, protected_frame}
@@ -69,6 +69,7 @@ OpenRefusal key sci frame offset room refusal = (is_key key ≡ true) × (is_off
 
 -- what is at the front of a room is the frame's plain frame, and what is said of the frame
 pub record IsOpened (frame key sci : List ℕ) (offset : ℕ) (old new : List ℕ) (opened : MacsOpened) : Type 0 where
+  pub within : opened.octets ≤ length old
   pub verified : Verified frame key sci offset (take opened.octets new)
   pub rest : drop opened.octets new ≡ drop opened.octets old
   pub pn : opened.pn ≡ (tag_of frame).pn

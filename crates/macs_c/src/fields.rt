@@ -2,7 +2,7 @@
 
 ghost use Rattle.std.specs.Prelude.{◌≡◌, ◌↔◌, IfSome, IsSome, true};
 ghost use Rattle.macs_fields.specs.Fields.{octets_of};
-ghost use Rattle.macs_c.specs.Fields.{is_in_range, name_of, sec_tag};
+ghost use Rattle.macs_c.specs.Fields.{is_in_range, is_offset, name_of, sec_tag};
 
 use macs_fields::{An, Offset, Pn, Sci};
 use macs_frame::{ScName, SecTag};
@@ -55,6 +55,14 @@ fn name_of(tag: &MacsTag) -> ScName
     }
 }
 
+/// The confidentiality offset, `None` for a number of octets that is none of 0, 30 and 50.
+pub(crate) fn offset_of(octets: u8) -> Option<Offset>
+    ensures some { IsSome result ↔ (is_offset octets ≡ true) }
+    ensures octets { IfSome result (λ found. octets_of found ≡ octets) }
+{
+    Offset::new(octets)
+}
+
 /// The SecTAG and the offset, `None` where a field is out of its range.
 pub(crate) fn fields_of(tag: &MacsTag) -> Option<(SecTag, Offset)>
     ensures some { IsSome result ↔ (is_in_range tag.now ≡ true) }
@@ -62,7 +70,7 @@ pub(crate) fn fields_of(tag: &MacsTag) -> Option<(SecTag, Offset)>
 {
     let an = An::new(tag.an)?;
     let pn = Pn::new(tag.pn)?;
-    let offset = Offset::new(tag.offset)?;
+    let offset = offset_of(tag.offset)?;
     if tag.name > 2 || tag.encrypted > 1 {
         return None;
     }

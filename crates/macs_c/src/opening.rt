@@ -8,7 +8,7 @@ ghost use Rattle.macs_c.specs.Keys.{is_key, key_octets};
 ghost use Rattle.macs_c.specs.Refusals.{FrameRefusal, IsOpened, OpenRefusal, IsFault};
 ghost use Rattle.macs_frame.specs.declared.opening.OpenFault.{OpenFault};
 
-use crate::fields::{MacsOpened, MacsSci};
+use crate::fields::{MacsOpened, MacsSci, offset_of};
 use crate::keys::{MacsKey, key_of};
 use crate::refusals::Refusal;
 use crate::sealing::put;
@@ -77,7 +77,7 @@ pub(crate) fn open_into(
     let Some(octets) = key_of(key) else {
         return Err(Refusal::Key);
     };
-    let Some(clear) = Offset::new(offset) else {
+    let Some(clear) = offset_of(offset) else {
         return Err(Refusal::Field);
     };
     open_under(&octets, Sci(sci.octets), clear, frame, out)
