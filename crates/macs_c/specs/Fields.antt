@@ -1,5 +1,5 @@
 -- What a program in C says of a frame that is sealed.
-use Rattle.std.specs.Prelude.{◌≡◌, ◌&&◌, ◌||◌, ◌==◌, ℕ, Bool, List, if◌then◌else◌, nat_lt}
+use Rattle.std.specs.Prelude.{◌&&◌, ◌||◌, ◌==◌, ℕ, Bool, if◌then◌else◌, nat_lt}
 use Rattle.macs_frame.specs.declared.tag.ScName.{ScName}
 use Rattle.macs_frame.specs.declared.tag.ScName.TheVariants.{Explicit, EndStation, Implicit}
 use Rattle.macs_frame.specs.declared.tag.SecTag.{SecTag}
