@@ -383,6 +383,46 @@ def a_relay_that_is_killed_with_sixteen_under_way():
             assert kept == wanted[:len(kept)] and told <= len(kept) <= told + 1, (answers, kept)
 
 
+# Mounts a small file system of its own, puts a copy of the left disk file on it, as sparse as can be, fills what is left but for one page, and
+# goes on with the words that follow. The name stays, so it is that of the copy.
+ON_A_FULL_DISK = """
+cp "$0" "$0.copy"
+mkdir "$0.room"
+mount -t tmpfs -o size=256k none "$0.room"
+cp --sparse=always "$0.copy" "$0.room/disk"
+dd if=/dev/zero of="$0.room/rest" bs=4096 2>/dev/null || true
+truncate -s -4096 "$0.room/rest"
+mount --bind "$0.room/disk" "$0"
+exec "$@"
+"""
+
+
+def can_mount():
+    return subprocess.run(["unshare", "-rm", "sh", "-c", "mount -t tmpfs none /mnt"], capture_output=True, check=False).returncode == 0
+
+
+@a_try
+def a_disk_that_is_full():
+    assert can_mount(), "this user may not mount in a namespace of its own"
+    with tempfile.TemporaryDirectory() as folder:
+        disk = os.path.join(folder, "left.disk")
+        it = Link(folder, before=["unshare", "-rm", "sh", "-c", ON_A_FULL_DISK, disk])
+        try:
+            it.passes()
+            client = it.connect()
+            # Each takes a sector or two, and a page of the file system has eight: soon one is wanted that is not there.
+            send_channels(client, sixteen(0x400))
+            answers = read_all(client)[0].decode().splitlines()
+            out, err = it.left.communicate(timeout=10)
+            assert (it.left.returncode, out, err) == (4, "", "macsecd: disk\n"), (it.left.returncode, out, err)
+            assert not os.path.exists(it.control), "the socket is left behind"
+            told, failed = answers.count("ok"), answers.count("end 4")
+            assert failed > 0 and told + failed == 16, answers
+            assert answers == ["ok", "end 0"] * told + ["end 4"] * failed, answers
+        finally:
+            it.close()
+
+
 @a_try
 def a_client_that_shuts_its_side():
     with link() as it:
@@ -575,15 +615,19 @@ def metrics_alone_and_where_they_cannot_be_written():
 @a_try
 def a_buffer_is_asked_for():
     with link(["--buffer", "300000"]) as it:
-        with open(f"/proc/{it.left.pid}/net/udp", encoding="ascii") as sockets:
-            sockets.read()
+        with open("/proc/sys/net/core/rmem_max", encoding="ascii") as most:
+            kept = 2 * min(300000, int(most.read()))
+        lines = it.ask("counters").stdout.splitlines()
+        assert [line for line in lines if " buffer " in line] == [f"wire {wire} buffer {kept}" for wire in (1, 2)], lines
         found = subprocess.run(["ss", "-uamnp"], capture_output=True, text=True, check=False).stdout if has("ss") else ""
         if found:
             pid = f"pid={it.left.pid},"
             lines = found.splitlines()
             rooms = [lines[i + 1] for i, line in enumerate(lines) if pid in line]
-            wanted = 2 * min(300000, int(open("/proc/sys/net/core/rmem_max", encoding="ascii").read()))
-            assert len(rooms) == 2 and all(f"rb{wanted}," in room for room in rooms), rooms
+            assert len(rooms) == 2 and all(f"rb{kept}," in room for room in rooms), rooms
+        it.stop()
+    with link() as it:
+        assert " buffer " not in it.ask("counters").stdout
         it.stop()
 
 

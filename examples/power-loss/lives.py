@@ -91,4 +91,5 @@ def main():
     print(f"kills {kills} power-losses {cuts}")
 
 
-main()
+if __name__ == "__main__":
+    main()

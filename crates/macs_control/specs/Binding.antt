@@ -42,6 +42,7 @@ abbrev pub CutCalls : List ℕ → List SocketCall → Type 0
 CutCalls path calls = (calls ≡ Makes false ∷ []) ⊎ (calls ≡ Makes true ∷ SetsMode 384 false ∷ [])
     ⊎ (calls ≡ Makes true ∷ SetsMode 384 true ∷ Binds path false ∷ [])
 
+-- no socket is named: these calls were made, and the last of them failed
 abbrev pub IsNotNamed : List ℕ → Option (List SocketCall) → Option (List SocketCall) → Type 0
 IsNotNamed path before after = (calls : List SocketCall) × CutCalls path calls × (after ≡ with_calls before calls)
 

@@ -1,3 +1,5 @@
 pub mod EndTexts
 pub mod Talking
 pub mod Looking
+pub mod Queued
+pub mod Served

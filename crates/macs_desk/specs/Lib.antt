@@ -1,3 +1,4 @@
 pub mod UnderWay
 pub mod Replies
 pub mod Listening
+pub mod Serving

@@ -123,6 +123,7 @@ impl<D: SectorDisk, P: Wire + Counted, W: Wire + Counted, C: Clients, M: Metrics
         ensures metrics { self.new.metrics ≡ self.old.metrics }
         ensures under_way { entries_of self.new.under_way
             ≡ under_way_after (entries_of self.old.under_way) self.old.asking answer }
+        ensures asking { self.new.asking ≡ self.old.asking }
     {
         match answer {
             Ok(ticket) => self.under_way.join(UnderWay {
@@ -140,6 +141,7 @@ impl<D: SectorDisk, P: Wire + Counted, W: Wire + Counted, C: Clients, M: Metrics
         ensures metrics { self.new.metrics ≡ self.old.metrics }
         ensures under_way { entries_of self.new.under_way
             ≡ without (entries_of self.old.under_way) ticket }
+        ensures asking { self.new.asking ≡ self.old.asking }
     {
         match self.under_way.leave(ticket.get()) {
             Some(client) => self.clients.say(client, ended(end).as_slice()),

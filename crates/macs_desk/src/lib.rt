@@ -3,6 +3,7 @@
 
 mod answering;
 mod desk;
+pub mod laws;
 mod listening;
 mod measuring;
 mod replies;

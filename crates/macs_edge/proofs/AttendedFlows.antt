@@ -27,12 +27,13 @@ use Rattle.macs_edge.proofs.Living.{lives-append}
 use Rattle.macs_edge.proofs.Matching.{Matches, ObeysWith, answered-append, failed-ended, failed-handed}
 use Rattle.macs_edge.proofs.Matching.{failed-tickets, failed-told, matches-append, matches-frames, matches-none}
 use Rattle.macs_edge.proofs.Matching.{matches-step, obeys-with, taken-append, told_of_step}
+use Rattle.macs_edge.proofs.Queueing.{step-waits}
 
 -- what goes each way, and that the calls match what the desk is told
-record Attended {D : Type 0} (disk_of : D → Disk) (old : Relay D) (events : List DeskEvent) (new : Relay D)
+pub record Attended {D : Type 0} (disk_of : D → Disk) (old : Relay D) (events : List DeskEvent) (new : Relay D)
     : Type 0 where
-  goes : Goes disk_of old new
-  matches : Matches old.endpoint events goes.calls new.endpoint
+  pub goes : Goes disk_of old new
+  pub matches : Matches old.endpoint events goes.calls new.endpoint
 
 module _ {D : Type 0} (disk_of : D → Disk) where
   given-none : (side : Side) (calls more : List (Transition D)) → given side more ≡ []
@@ -54,7 +55,7 @@ module _ {D : Type 0} (disk_of : D → Disk) where
     matches = matches-none old.endpoint;
   }
 
-  obeys : (old between : Relay D) (endpoint : EndpointValue D) (events more : List DeskEvent)
+  pub obeys : (old between : Relay D) (endpoint : EndpointValue D) (events more : List DeskEvent)
       → Attended disk_of old events between
       → ObeysWith disk_of between.endpoint more endpoint
       → Attended disk_of old (events ++ more) (record between { endpoint = endpoint })
@@ -96,6 +97,17 @@ module _ {D : Type 0} (disk_of : D → Disk) where
             (matches-step disk_of on.late new.endpoint answer on.step));
       }
 
+  -- of the commands that wait a turn is done with the first one, where its step is done with one
+  pub turn-queue : (old between new : Relay D) (events : List DeskEvent) (answer : Result Progress StepFault)
+      → Attended disk_of old events between → TakesTurn disk_of answer between new
+      → tickets_of between.endpoint.waiting
+      ≡ map (λ (e : Ended). e.ticket) (done_by Advances (Advanced answer)) ++ tickets_of new.endpoint.waiting
+  turn-queue old between new events answer so_far turn =
+      let on = turn-goes disk_of answer old between new so_far.goes turn in
+      let still = matches-frames disk_of on.frames between.endpoint on.late on.lives on.are_frames in
+      sym (append-nil (tickets_of between.endpoint.waiting)) ∙ still.queue
+      ∙ step-waits disk_of on.late new.endpoint answer on.step
+
   -- what is done before a turn, and the turn
   attended-turn : (old between new : Relay D) (endpoint : EndpointValue D) (events before : List DeskEvent)
       (quiet : Bool) (answer : Result Progress StepFault)
@@ -110,7 +122,7 @@ module _ {D : Type 0} (disk_of : D → Disk) where
 
   -- ---- turns
 
-  all-turns : (turns : ℕ) (old new : Relay D) (events : List DeskEvent) (quiet : Bool) → old.to_common ≡ empty_lane
+  pub all-turns : (turns : ℕ) (old new : Relay D) (events : List DeskEvent) (quiet : Bool) → old.to_common ≡ empty_lane
       → old.to_controlled ≡ empty_lane
       → TakesAllAttended disk_of turns old events quiet new → Attended disk_of old events new
   all-turns zero old new events quiet out back (none, is_quiet, same) =

@@ -295,6 +295,8 @@ count-words = record {
   failed = λ socket cause old new is. (is.taken, is.strangers, is.sent);
   sent = λ c. refl;
   not_sent = λ cause c. refl;
+  kept = λ socket answer old new is. is.buffer;
+  noted = λ octets c. refl;
 }
 
 -- ---- one turn

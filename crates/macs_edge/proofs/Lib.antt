@@ -9,11 +9,11 @@ pub mod Whole
 pub mod Flowing
 pub mod Relayed
 mod ByDatagrams
-mod Queueing
-mod Matching
+pub mod Queueing
+pub mod Matching
 mod Attended
 mod Rested
-mod AttendedFlows
+pub mod AttendedFlows
 mod Answering
 mod Words
 mod Drawn

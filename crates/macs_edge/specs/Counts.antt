@@ -10,7 +10,7 @@ use Rattle.macs_edge.specs.declared.wire.WireFault.{WireFault}
 
 -- before its first call
 abbrev pub no_counts : WireCounts
-no_counts = record { strangers = 0; taken = 0; sent = 0; failed_receives = 0; failed_sends = 0 }
+no_counts = record { strangers = 0; taken = 0; sent = 0; failed_receives = 0; failed_sends = 0; buffer = None }
 
 -- a frame is taken off a wire by this answer, also where it is too long
 abbrev pub takes_one : Result Got WireFault → Bool
@@ -34,12 +34,17 @@ CountsStrangers (Ok Nothing) None old new = (new ≡ old) ⊎ (new ≡ saturated
 CountsStrangers (Ok Nothing) (Some socket) old new = CountsWaiting socket.waiting old new
 CountsStrangers answer socket old new = new ≡ old
 
--- what a receive counts, beside its failure: a frame that is taken, or a stranger's datagram
+-- what a receive counts, beside its failure: a frame that is taken, or a stranger's datagram; what is kept stays
 pub record CountsReceive (socket : Option SocketState) (answer : Result Got WireFault) (old new : WireCounts) : Type 0
   where
     pub strangers : CountsStrangers answer socket old.strangers new.strangers
     pub taken : new.taken ≡ counted_if (takes_one answer) old.taken
     pub sent : new.sent ≡ old.sent
+    pub buffer : new.buffer ≡ old.buffer
+
+-- and once it is known how many octets of datagrams the system keeps for it
+abbrev pub with_buffer : ℕ → WireCounts → WireCounts
+with_buffer octets c = record c { buffer = Some octets }
 
 -- what a send counts: a frame that is sent, or a failure
 abbrev pub counts_after_send : Result (Unit {0}) WireFault → WireCounts → WireCounts

@@ -39,7 +39,7 @@ use Rattle.macs_endpoint.specs.declared.progress.Step.TheVariants as step
 use Rattle.macs_edge.specs.Attending.{AttendsTurns, Does, EndsAt, IsAttended, TakesAllAttended, TakesAttended}
 use Rattle.macs_edge.specs.Attending.{answers_of, failed_of}
 use Rattle.macs_edge.specs.Commanding.{IsAttendedFlow}
-use Rattle.macs_edge.specs.Counts.{CountsReceive, counts_after_send}
+use Rattle.macs_edge.specs.Counts.{CountsReceive, counts_after_send, with_buffer}
 use Rattle.macs_edge.specs.Datagrams.{Datagram, GivesDatagram, SocketState, TakesDatagram}
 use Rattle.macs_edge.specs.FaultWires.{CallsValue, FailsNext, FaultWireValue, asked_once_more, failed_among}
 use Rattle.macs_edge.specs.FaultWires.{fault_wire_state}
@@ -219,7 +219,8 @@ pub record SocketWords : Type 0 where
       → new ≡ Some (record old { failed_sends = old.failed_sends + 1 })
 
 -- What a wire over UDP counts of an answer: a frame that is taken, too long or not; a stranger's datagram, where
--- nothing is answered though one waits; a frame that is sent; and a send that failed. Nothing else.
+-- nothing is answered though one waits; a frame that is sent; and a send that failed. Nothing else. How much is kept for
+-- it stays, but where that is noted.
 pub record CountWords : Type 0 where
   pub frame : (socket : Option SocketState) (old new : WireCounts) → CountsReceive socket (Ok Frame) old new
       → (new.taken ≡ saturated (old.taken + 1)) × (new.strangers ≡ old.strangers) × (new.sent ≡ old.sent)
@@ -240,6 +241,9 @@ pub record CountWords : Type 0 where
   pub sent : (c : WireCounts) → counts_after_send (Ok tt) c ≡ record c { sent = saturated (c.sent + 1) }
   pub not_sent : (cause : WireFault) (c : WireCounts)
       → counts_after_send (Err cause) c ≡ record c { failed_sends = saturated (c.failed_sends + 1) }
+  pub kept : (socket : Option SocketState) (answer : Result Got WireFault) (old new : WireCounts)
+      → CountsReceive socket answer old new → new.buffer ≡ old.buffer
+  pub noted : (octets : ℕ) (c : WireCounts) → with_buffer octets c ≡ record c { buffer = Some octets }
 
 -- ---- one turn
 

@@ -4,6 +4,7 @@ pub mod Wires
 pub mod MemWires
 pub mod Datagrams
 pub mod WireDatagrams
+pub mod Sparing
 pub mod UdpWires
 pub mod FaultWires
 pub mod Relaying

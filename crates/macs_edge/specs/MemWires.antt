@@ -1,5 +1,5 @@
 -- A wire in memory.
-use Rattle.std.specs.Prelude.{ℕ, List, Some, Vec, map}
+use Rattle.std.specs.Prelude.{ℕ, List, Some, None, Vec, map}
 use Rattle.macs_edge.specs.Wires.{WireState}
 use Rattle.macs_edge.specs.declared.counts.WireCounts.{WireCounts}
 use Rattle.macs_edge.specs.declared.mem_wire.MemWire.{MemWire}
@@ -25,7 +25,7 @@ mem_wire_state wire = record {
   failed_sends = wire.failed_sends;
 }
 
--- what it counted: it has no strangers, and no receive of it fails
+-- what it counted: it has no strangers, no receive of it fails, and no system keeps anything for it
 abbrev pub mem_wire_counts : {A : Type 0} → MemWire A → WireCounts
 mem_wire_counts wire = record {
   strangers = 0;
@@ -33,4 +33,5 @@ mem_wire_counts wire = record {
   sent = wire.frames_sent;
   failed_receives = 0;
   failed_sends = wire.failed_sends;
+  buffer = None;
 }

@@ -25,4 +25,5 @@ counts_of wire = record {
   sent = wire.frames_sent;
   failed_receives = wire.failed_receives;
   failed_sends = wire.failed_sends;
+  buffer = wire.buffer;
 }

@@ -5,7 +5,7 @@ ghost use Rattle.macs_edge.specs.Counts.{takes_one};
 
 use crate::wire::{Got, WireFault};
 
-/// What a wire over UDP counted, each number up to 2^64 - 1.
+/// What a wire over UDP counted, each number up to 2^64 - 1, and what it has room for.
 #[derive(Clone, Copy, Debug, PartialEq, Eq)]
 pub struct WireCounts {
     /// Datagrams from another address than the peer's. They are dropped.
@@ -16,6 +16,8 @@ pub struct WireCounts {
     pub sent: u64,
     pub failed_receives: u64,
     pub failed_sends: u64,
+    /// How many octets of datagrams that wait the system keeps for it (`SO_RCVBUF`, socket(7)), where it was asked.
+    pub buffer: Option<u64>,
 }
 
 /// A wire that counts what passes over it.

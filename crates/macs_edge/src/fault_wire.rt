@@ -118,6 +118,7 @@ impl<W: Counted> Counted for FaultWire<W> {
                 .failed_receives
                 .saturating_add(self.receives.failed()),
             failed_sends: counts.failed_sends.saturating_add(self.sends.failed()),
+            buffer: counts.buffer,
         }
     }
 }

@@ -10,6 +10,7 @@ mod mem_wire;
 mod passing;
 mod relaying;
 mod settling;
+mod sparing;
 mod udp_wire;
 mod wire;
 
@@ -22,5 +23,6 @@ pub use mem_wire::MemWire;
 pub use passing::{RunFault, Summary, run_protect, run_validate};
 pub use relaying::{Idle, RelaySummary, relay, relay_resting};
 pub use settling::Side;
+pub use sparing::Sparing;
 pub use udp_wire::{BindFault, UdpWire};
 pub use wire::{Got, Wire, WireFault};

@@ -69,6 +69,7 @@ impl<A: Allocator + Copy> Counted for MemWire<A> {
             sent: self.frames_sent,
             failed_receives: 0,
             failed_sends: self.failed_sends,
+            buffer: None,
         }
     }
 }

@@ -7,6 +7,7 @@ ghost use Rattle.macs_edge.specs.Wires.{FillsBuffer, saturated};
 
 use crate::counts::{Counted, WireCounts, takes_one};
 use crate::datagrams::Datagrams;
+use crate::sparing::Sparing;
 use crate::wire::{Got, Wire, WireFault};
 use macs_frame::{FrameBuf, MAX_FRAME};
 use std::alloc::{AllocError, Allocator};
@@ -41,6 +42,7 @@ pub struct UdpWire<A: Allocator, S = UdpSocket> {
     frames_sent: u64,
     failed_receives: u64,
     failed_sends: u64,
+    buffer: Option<u64>,
     ghost sized: { length room.items ≡ 9217 },
 }
 
@@ -144,8 +146,9 @@ impl<A: Allocator> UdpWire<A, UdpSocket> {
 
 impl<A: Allocator, S: Datagrams> UdpWire<A, S> {
     ghost use Rattle.std.specs.Prelude.{◌≡◌, length, None, IfErr, IfOk};
-    ghost use Rattle.macs_edge.specs.Counts.{no_counts};
-    ghost use Rattle.macs_edge.specs.UdpWires.{counts_of, peer_of, socket_of};
+    ghost use Rattle.macs_edge.specs.Counts.{no_counts, with_buffer};
+    ghost use Rattle.macs_edge.specs.Sparing.{over_socket};
+    ghost use Rattle.macs_edge.specs.UdpWires.{counts_of, peer_of, socket_of, udp_wire_state};
     ghost use Rattle.macs_edge.specs.declared.udp_wire.BindFault.TheVariants.{Memory};
 
     /// A wire to the peer over a socket that is bound and does not wait. Refused as `Memory` alone, where there
@@ -182,6 +185,51 @@ impl<A: Allocator, S: Datagrams> UdpWire<A, S> {
             frames_sent: 0,
             failed_receives: 0,
             failed_sends: 0,
+            buffer: None,
+        }
+    }
+
+    /// Notes how many octets of datagrams that wait the system keeps for its socket. They are among what it counted
+    /// from then on.
+    pub fn note_buffer(&mut self, octets: u32)
+        ensures state { udp_wire_state self.new ≡ udp_wire_state self.old }
+        ensures peer { peer_of self.new ≡ peer_of self.old }
+        ensures socket { socket_of self.new ≡ socket_of self.old }
+        ensures counts { counts_of self.new ≡ with_buffer octets (counts_of self.old) }
+    {
+        self.buffer = Some(u64::from(octets));
+    }
+
+    /// The same wire over a socket that is asked less often where nothing comes: so many receives in a row are left
+    /// out at most (`Sparing`).
+    pub fn sparing(self, most: u8) -> UdpWire<A, Sparing<S>>
+        ensures state { udp_wire_state result ≡ udp_wire_state self }
+        ensures peer { peer_of result ≡ peer_of self }
+        ensures socket { socket_of result ≡ over_socket (socket_of self) most }
+        ensures counts { counts_of result ≡ counts_of self }
+    {
+        let UdpWire {
+            socket,
+            peer,
+            room,
+            strangers,
+            frames_taken,
+            frames_sent,
+            failed_receives,
+            failed_sends,
+            buffer,
+            ..
+        } = self;
+        UdpWire {
+            socket: Sparing::new(socket, most),
+            peer,
+            room,
+            strangers,
+            frames_taken,
+            frames_sent,
+            failed_receives,
+            failed_sends,
+            buffer,
         }
     }
 
@@ -195,6 +243,7 @@ impl<A: Allocator, S: Datagrams> UdpWire<A, S> {
             sent: self.frames_sent,
             failed_receives: self.failed_receives,
             failed_sends: self.failed_sends,
+            buffer: self.buffer,
         }
     }
 }

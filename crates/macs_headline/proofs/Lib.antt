@@ -102,3 +102,5 @@ mod OpeningWords
 mod DeedLives
 mod DiskFiles
 mod ExampleWords
+mod FileCallWords
+mod OctetWords

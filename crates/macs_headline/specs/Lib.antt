@@ -56,3 +56,5 @@ pub mod ExampleCuts
 pub mod ExampleLives
 pub mod ExampleMigration
 pub mod ExampleWords
+pub mod FileCallWords
+pub mod OctetWords

@@ -37,6 +37,8 @@ ghost use Rattle.macs_headline.specs.EndpointWords.{OpeningsCount, ServedWords};
 ghost use Rattle.macs_headline.specs.CountWords.{CountsAreNamed, CountsRiseAlone};
 ghost use Rattle.macs_headline.specs.NeedWords.{NeedsAreInOrder, TurnsAreUsed};
 ghost use Rattle.macs_headline.specs.FailureWords.{FailureWords};
+ghost use Rattle.macs_headline.specs.FileCallWords.{FileCallWords};
+ghost use Rattle.macs_headline.specs.OctetWords.{OctetWords};
 ghost use Rattle.macs_headline.specs.StandWords.{CallsLeave, ServedEnds};
 ghost use Rattle.macs_headline.specs.Endings.{DroppedPassOn, EndsAreEarlier, ImagesAreWhole, KillingsPassOn, LosesPower, LossesSettle};
 ghost use Rattle.macs_headline.specs.Endings.{PassedOnAgain, PowerLossesPassOn, TheseAreImages};
@@ -484,6 +486,17 @@ pub fn power_losses()
 /// Which calls of a file failed, where that is known, and which fault comes of them.
 pub fn failed_calls()
     ensures { FailureWords }
+{}
+
+/// What a sync, a write, a read and a reading anew of a file that behaves may leave: after a sync that
+/// failed the file is in doubt.
+pub fn file_calls()
+    ensures { FileCallWords }
+{}
+
+/// How a head, a gate and each kind of record are written on a disk, octet by octet.
+pub fn octets()
+    ensures { OctetWords }
 {}
 
 /// A disk in a file that behaves is one that histories are of, where the blocks of its device suit the layout.

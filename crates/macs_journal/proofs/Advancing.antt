@@ -2,12 +2,13 @@
 use Rattle.std.proofs.Common.{◌≡◌, ◌≢◌, ◌≤◌, ◌+◌, ℕ, refl, sym, ◌∙◌, ap, subst, arith, Bool, true, false, List, length, Option, Some, None, Result, Ok, Err}
 use Rattle.macs_disk.specs.Disk as disk
 use Rattle.macs_disk.specs.declared.disk.DeviceFault.{DeviceFault}
+use Rattle.macs_record.specs.Heads.{Head}
 use Rattle.macs_record.specs.declared.record.Record.{Record}
 use Rattle.macs_journal.specs.Appending.{calls_left}
 use Rattle.macs_journal.specs.Areas.{gate, other_area, slot_body}
 use Rattle.macs_journal.specs.Found.{Content}
 use Rattle.macs_journal.specs.Stages.{AtNextStage, AtStage, IsCompactNext, IsUnderWay, compact_left, compact_left_next}
-use Rattle.macs_journal.specs.Stepping.{Advances, AdvancesAppend, place_then}
+use Rattle.macs_journal.specs.Stepping.{Advances, AdvancesAppend, AdvancesCompact, AtNextCall, place_then}
 use Rattle.macs_journal.specs.Value.{AreLent, IsHolding, IsMadeOf, IsNoCompact, JournalValue, append_left, left_of}
 use Rattle.macs_journal.specs.Work.{IsSpared}
 use Rattle.macs_journal.specs.declared.appending.AppendStage.{AppendStage}
@@ -175,82 +176,115 @@ module _ {D : Type 0} (disk_of : D → disk.Disk) (device later : D) (place : Pl
     (area : ℕ) (area_is : area ≡ other_area place.area)
     (under_way : disk.IsHonest (disk_of later) → (began : disk.Disk) → AtStage began (disk_of device) area work.head records work.stage
     → IsUnderWay began (disk_of later) area work.head records) where
+  -- it is before its next call
+  at-stage : (began : disk.Disk) (head : Head) → AtNextCall began (disk_of device) (other_area place.area) head records (Compact work)
+      → AtStage began (disk_of device) area work.head records work.stage
+  at-stage began head at =
+      subst (λ (h : Head). AtStage began (disk_of device) area h records work.stage) (sym at.0)
+      (subst (λ (a : ℕ). AtStage began (disk_of device) a head records work.stage) (sym area_is) at.1)
+
+  -- whatever the call answered
+  way : disk.IsHonest (disk_of later) → (began : disk.Disk) (head : Head)
+      → AtNextCall began (disk_of device) (other_area place.area) head records (Compact work) → IsUnderWay began (disk_of later) (other_area place.area) head records
+  way honest began head at =
+      subst (λ (a : ℕ). IsUnderWay began (disk_of later) a head records) area_is
+      (subst (λ (h : Head). IsUnderWay began (disk_of later) area h records) at.0 (under_way honest began (at-stage began head at)))
+
   module _ (next : Option CompactStage) (call : disk.IsDeviceCall (disk_of device) (disk_of later) (then_comes next))
       (comes : disk.IsHonest (disk_of later) → (began : disk.Disk) → AtStage began (disk_of device) area work.head records work.stage
       → AtNextStage began (disk_of later) area work.head records next) where
+    next-is : (is : Option CompactStage) → next ≡ is → disk.IsHonest (disk_of later) → (began : disk.Disk) (head : Head)
+        → AtNextCall began (disk_of device) (other_area place.area) head records (Compact work) → AtNextStage began (disk_of later) (other_area place.area) head records is
+    next-is is ends honest began head at =
+        subst (λ (a : ℕ). AtNextStage began (disk_of later) a head records is) area_is
+        (subst (λ (h : Head). AtNextStage began (disk_of later) area h records is) at.0
+        (subst (λ (n : Option CompactStage). AtNextStage began (disk_of later) area work.head records n) ends (comes honest began (at-stage began head at))))
+
     -- another call comes next
     pub compact-goes_on : (stage : CompactStage) → next ≡ Some stage → length records ≡ work.head.count → IsCompactNext (length records) next
         → compact_left_next (length records) next + 1 ≤ compact_left (length records) work.stage
-        → Advances disk_of (journal_of device place (Compact work) false) records went (journal_of later place (Compact (record work { stage = stage })) false)
+        → AdvancesCompact disk_of (journal_of device place (Compact work) false) records went (journal_of later place (Compact (record work { stage = stage })) false)
     compact-goes_on stage is count room left = record {
-      names = tt;
-      work = record { works = call.work.works; fails = call.work.ok };
-      after = refl;
-      device = called _ _ (then_comes next) went refl call;
-      one = call.at_most_one;
-      call = done-call _ _ (then_comes next) call;
-      idle = tt;
-      left = subst (λ (n : ℕ). compact_left n stage + 1 ≤ compact_left n work.stage) count
-          (subst (λ (n : Option CompactStage). compact_left_next (length records) n + 1 ≤ compact_left (length records) work.stage) is left);
-      exact = λ none. absurd none;
-      place = λ busy. refl;
-      task = λ busy. refl;
-      moved = λ idle. absurd (let not : Compact (record work { stage = stage }) ≡ Empty = idle in cc);
-      at_fault = tt;
-      lent = λ others lent. lent;
-      made = λ before after made. made;
-      any_moment = λ honest before after holding.
-          anew-leaves (disk_of device) place (Compact work) work records before after refl holding area area_is (disk_of later) call.work.works (under_way honest);
-      next = λ honest before after holding.
-          anew-next (disk_of device) place (Compact work) work records before after refl holding area area_is (disk_of later) next (comes honest) stage is room;
+      advances = record {
+        names = tt;
+        work = record { works = call.work.works; fails = call.work.ok };
+        after = refl;
+        device = called _ _ (then_comes next) went refl call;
+        one = call.at_most_one;
+        call = done-call _ _ (then_comes next) call;
+        idle = tt;
+        left = subst (λ (n : ℕ). compact_left n stage + 1 ≤ compact_left n work.stage) count
+            (subst (λ (n : Option CompactStage). compact_left_next (length records) n + 1 ≤ compact_left (length records) work.stage) is left);
+        exact = λ none. absurd none;
+        place = λ busy. refl;
+        task = λ busy. refl;
+        moved = λ idle. absurd (let not : Compact (record work { stage = stage }) ≡ Empty = idle in cc);
+        at_fault = tt;
+        lent = λ others lent. lent;
+        made = λ before after made. made;
+        any_moment = λ honest before after holding.
+            anew-leaves (disk_of device) place (Compact work) work records before after refl holding area area_is (disk_of later) call.work.works (under_way honest);
+        next = λ honest before after holding.
+            anew-next (disk_of device) place (Compact work) work records before after refl holding area area_is (disk_of later) next (comes honest) stage is room;
+      };
+      under_way = way;
+      next = λ honest began head at. (at.0, next-is (Some stage) is honest began head at);
     }
 
     -- the records stand
     pub compact-ends : next ≡ None
-        → Advances disk_of (journal_of device place (Compact work) false) records went (journal_of later (new_place (other_area place.area) work) Empty false)
+        → AdvancesCompact disk_of (journal_of device place (Compact work) false) records went (journal_of later (new_place (other_area place.area) work) Empty false)
     compact-ends is = record {
-      names = tt;
-      work = record { works = call.work.works; fails = call.work.ok };
-      after = refl;
-      device = called _ _ (then_comes next) went refl call;
-      one = call.at_most_one;
-      call = done-call _ _ (then_comes next) call;
-      idle = tt;
-      left = (let some = some-left work.head.count work.stage in omega (arith, some));
-      exact = λ none. absurd none;
-      place = λ busy. absurd (busy refl);
-      task = λ busy. absurd (busy refl);
-      moved = λ idle. refl;
-      at_fault = tt;
-      lent = λ others lent. tt;
-      made = λ before after made. tt;
-      any_moment = λ honest before after holding.
-          anew-leaves (disk_of device) place (Compact work) work records before after refl holding area area_is (disk_of later) call.work.works (under_way honest);
-      next = λ honest before after holding.
-          subst (λ (a : ℕ). IsHolding (disk_of later) (new_place a work) Empty after after) area_is
-          (anew-done (disk_of device) place (Compact work) work records before after refl holding area area_is (disk_of later) next (comes honest) is);
+      advances = record {
+        names = tt;
+        work = record { works = call.work.works; fails = call.work.ok };
+        after = refl;
+        device = called _ _ (then_comes next) went refl call;
+        one = call.at_most_one;
+        call = done-call _ _ (then_comes next) call;
+        idle = tt;
+        left = (let some = some-left work.head.count work.stage in omega (arith, some));
+        exact = λ none. absurd none;
+        place = λ busy. absurd (busy refl);
+        task = λ busy. absurd (busy refl);
+        moved = λ idle. refl;
+        at_fault = tt;
+        lent = λ others lent. tt;
+        made = λ before after made. tt;
+        any_moment = λ honest before after holding.
+            anew-leaves (disk_of device) place (Compact work) work records before after refl holding area area_is (disk_of later) call.work.works (under_way honest);
+        next = λ honest before after holding.
+            subst (λ (a : ℕ). IsHolding (disk_of later) (new_place a work) Empty after after) area_is
+            (anew-done (disk_of device) place (Compact work) work records before after refl holding area area_is (disk_of later) next (comes honest) is);
+      };
+      under_way = way;
+      next = next-is None is;
     }
 
   -- the call failed
   pub compact-stops : (fault : DeviceFault) → disk.IsDeviceCall (disk_of device) (disk_of later) (faulty {Stage = CompactStage} fault)
-      → Advances disk_of (journal_of device place (Compact work) false) records broke (journal_of later place Empty true)
+      → AdvancesCompact disk_of (journal_of device place (Compact work) false) records broke (journal_of later place Empty true)
   compact-stops fault call = record {
-    names = refl;
-    work = record { works = call.work.works; fails = call.work.err };
-    after = refl;
-    device = called _ _ (faulty {Stage = CompactStage} fault) broke refl call;
-    one = call.at_most_one;
-    call = tt;
-    idle = refl;
-    left = tt;
-    exact = tt;
-    place = λ busy. absurd (busy refl);
-    task = λ busy. absurd (busy refl);
-    moved = tt;
-    at_fault = refl;
-    lent = λ others lent. tt;
-    made = λ before after made. tt;
-    any_moment = λ honest before after holding.
-        anew-leaves (disk_of device) place (Compact work) work records before after refl holding area area_is (disk_of later) call.work.works (under_way honest);
+    advances = record {
+      names = refl;
+      work = record { works = call.work.works; fails = call.work.err };
+      after = refl;
+      device = called _ _ (faulty {Stage = CompactStage} fault) broke refl call;
+      one = call.at_most_one;
+      call = tt;
+      idle = refl;
+      left = tt;
+      exact = tt;
+      place = λ busy. absurd (busy refl);
+      task = λ busy. absurd (busy refl);
+      moved = tt;
+      at_fault = refl;
+      lent = λ others lent. tt;
+      made = λ before after made. tt;
+      any_moment = λ honest before after holding.
+          anew-leaves (disk_of device) place (Compact work) work records before after refl holding area area_is (disk_of later) call.work.works (under_way honest);
+      next = tt;
+    };
+    under_way = way;
     next = tt;
   }

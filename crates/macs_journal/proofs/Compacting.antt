@@ -1,25 +1,32 @@
--- A compaction of a journal in memory.
-use Rattle.std.proofs.Common.{◌≡◌, ◌⊎◌, ◌↔◌, ◌+◌, ◌∙◌, ℕ, true, false, inl, inr, sym, ap, refl, subst, arith, List, length, Result, Err, IsErrOf}
+-- A journal that begins anew: what it is where that was not begun, and what its device calls come to.
+use Rattle.std.proofs.Common.{◌≡◌, ◌≤◌, ◌⊎◌, ◌↔◌, ◌+◌, ◌∙◌, ℕ, true, false, inl, inr, sym, ap, refl, subst, arith, List, length, Result, Ok, Err, IsErrOf}
 use Rattle.macs_disk.specs.Disk.{now}
 use Rattle.macs_disk.specs.Disk as disk
 use Rattle.macs_disk.specs.Runs.{Leaves}
-use Rattle.macs_disk.proofs.Moments.{Leaves-start, Leaves-weaker, Works-start}
+use Rattle.macs_disk.proofs.Moments.{FailsOnce-before, Leaves-start, Leaves-weaker, Works-start}
 use Rattle.macs_record.specs.Heads.{Head}
 use Rattle.macs_record.specs.declared.record.Record.{Record}
-use Rattle.macs_journal.specs.Appending.{HasEitherJournal, IsReady}
-use Rattle.macs_journal.specs.Areas.{gates, other_area}
-use Rattle.macs_journal.specs.Compacting.{CompactWrites, Compacts, FindsUntil, HasOpenGates, compacted, last_generation, next_head}
+use Rattle.macs_journal.specs.Appending.{HasEitherJournal}
+use Rattle.macs_journal.specs.Areas.{gates, other_area, slots}
+use Rattle.macs_journal.specs.Compacting.{Compacts, FindsUntil, HasOpenGates, IsBegun, compacted, compacted_place, last_generation, next_head, with_nothing}
 use Rattle.macs_journal.specs.Found.{Content, HasJournal}
-use Rattle.macs_journal.specs.Rewriting.{HasNewGates}
-use Rattle.macs_journal.specs.Value.{HoldsContent, IsHolding, JournalValue, disk_in, generation, is_stopped}
-use Rattle.macs_journal.specs.Work.{FailsWith, IsSpared}
+use Rattle.macs_journal.specs.Stages.{AreGatesClosed, AtStage, IsRewritten, IsUnderWay, compact_left}
+use Rattle.macs_journal.specs.Stepping.{AtNextCall, IsCompactHand, IsSameTask, IsTaskInHand, Renews, Starts, calls_of, place_then}
+use Rattle.macs_journal.specs.Value.{AreLent, HoldsContent, IsHolding, IsIdle, JournalValue, disk_in, generation, is_stopped, left_of}
+use Rattle.macs_journal.specs.Work.{FailsAs, IsWorkOf}
+use Rattle.macs_journal.specs.declared.compact_stage.CompactStage.{CompactStage}
+use Rattle.macs_journal.specs.declared.compact_stage.CompactStage.TheVariants.{ReadGate, CloseGate, GatesSync, HeadBody, Body, BodiesSync, HeadGate, HeadSync}
 use Rattle.macs_journal.specs.declared.fault.JournalFault.{JournalFault}
 use Rattle.macs_journal.specs.declared.fault.JournalFault.TheVariants.{Disk, GenerationsSpent, Stopped}
+use Rattle.macs_journal.specs.declared.hand.Compacting.{Compacting}
 use Rattle.macs_journal.specs.declared.hand.Hand.{Hand}
-use Rattle.macs_journal.specs.declared.hand.Hand.TheVariants.{Empty}
+use Rattle.macs_journal.specs.declared.hand.Hand.TheVariants.{Append, Compact, Empty}
 use Rattle.macs_journal.specs.declared.place.Place.{Place}
+use Rattle.macs_journal.proofs.GateCalls.{none-closed}
 use Rattle.macs_journal.proofs.Holding.{idle-ready, kept-image}
 use Rattle.macs_journal.proofs.Spared.{Spared-start}
+use Rattle.macs_journal.proofs.Stages.{some-left}
+use Rattle.macs_journal.proofs.UnderWay.{rewritten-way, way-calls, way-gates, way-leaves, way-ready, way-spares, way-until}
 
 -- no call was made
 module _ {D : Type 0} (disk_of : D → disk.Disk) (j : JournalValue D) (before : Content) (holds : HoldsContent disk_of j before) where
@@ -32,25 +39,45 @@ module _ {D : Type 0} (disk_of : D → disk.Disk) (j : JournalValue D) (before :
   still-leaves : (after : Content) → Leaves (disk_in disk_of j) (disk_in disk_of j) (HasEitherJournal before after)
   still-leaves after = Leaves-weaker _ _ (λ image. HasJournal image before) (HasEitherJournal before after) (λ image finds. inl finds) still
 
--- a refusal before the first call
+-- what is answered
 abbrev refused : JournalFault → Result (Unit {0}) JournalFault
 refused fault = Err fault
 
-module _ {D : Type 0} (disk_of : D → disk.Disk) (j : JournalValue D) (records : List Record) where
-  pub refused-compacts : (fault : JournalFault) → IsErrOf (refused fault) Stopped ↔ (is_stopped j ≡ true)
-      → IsErrOf (refused fault) GenerationsSpent ↔ ((is_stopped j ≡ false) × (generation j ≡ last_generation))
-      → IsErrOf (refused fault) Stopped ⊎ (IsErrOf (refused fault) GenerationsSpent ⊎ IsErrOf (refused fault) Disk)
-      → ¬ IsErrOf (refused fault) Disk → FailsWith (disk_in disk_of j) (disk_in disk_of j) fault → Compacts disk_of j records (refused fault) j
-  refused-compacts fault stopped spent names not_disk fails = record {
-    stopped = stopped;
-    spent = spent;
+abbrev done : Result (Unit {0}) JournalFault
+done = Ok tt
+
+-- it was refused before the first call
+module _ {D : Type 0} (disk_of : D → disk.Disk) (j : JournalValue D) (records : List Record) (fault : JournalFault)
+    (starts : Starts disk_of j (Renews records) (refused fault) j) where
+  no-device-fault : ¬ IsErrOf (refused fault) Disk
+  no-device-fault is = elim starts.names [
+    | inl stopped ↦ cc
+    | inr spent ↦ cc
+  ]
+
+  no-call : FailsAs (disk_in disk_of j) (disk_in disk_of j) (refused fault)
+  no-call = elim starts.names [
+    | inl stopped ↦ subst (λ (r : Result (Unit {0}) JournalFault). FailsAs (disk_in disk_of j) (disk_in disk_of j) r) (sym stopped) refl
+    | inr spent ↦ subst (λ (r : Result (Unit {0}) JournalFault). FailsAs (disk_in disk_of j) (disk_in disk_of j) r) (sym spent) refl
+  ]
+
+  names : IsErrOf (refused fault) Stopped ⊎ (IsErrOf (refused fault) GenerationsSpent ⊎ IsErrOf (refused fault) Disk)
+  names = elim starts.names [
+    | inl stopped ↦ inl stopped
+    | inr spent ↦ inr (inl spent)
+  ]
+
+  still-compacts : Compacts disk_of j records (refused fault) j
+  still-compacts = record {
+    stopped = starts.stopped;
+    spent = starts.spent;
     names = names;
     same = inr refl;
-    halted = λ is. absurd (not_disk is);
+    halted = λ is. absurd (no-device-fault is);
     at_fault = refl;
     running = tt;
     place = tt;
-    work = record { works = Works-start (disk_in disk_of j); fails = fails };
+    work = record { works = Works-start (disk_in disk_of j); fails = no-call };
     most = omega arith;
     calls = tt;
     until = λ honest before holds opened has. still-until disk_of j before holds _;
@@ -61,41 +88,231 @@ module _ {D : Type 0} (disk_of : D → disk.Disk) (j : JournalValue D) (records 
     others = λ honest i apart. Spared-start (disk_in disk_of j) i;
   }
 
--- the other area was written, under the next head
-module _ (old new : disk.Disk) (place : Place) (hand : Hand) (area : ℕ) (head : Head) (records : List Record) (area_is : area ≡ other_area place.area) where
-  pub compact-calls : ((opened : ℕ) → HasOpenGates (now old).seen area gates opened → new.clock ≡ old.clock + (262 + opened + length records))
-      → (opened : ℕ) → HasOpenGates (now old).seen (other_area place.area) gates opened → new.clock ≡ old.clock + (262 + opened + length records)
-  compact-calls promised opened has = promised opened (subst (λ (a : ℕ). HasOpenGates (now old).seen a gates opened) (sym area_is) has)
+pub unbegun-compacts : {D : Type 0} (disk_of : D → disk.Disk) (old new : JournalValue D) (records : List Record) (fault : JournalFault)
+    → Starts disk_of old (Renews records) (refused fault) new → Compacts disk_of old records (refused fault) new
+unbegun-compacts disk_of old new records fault starts =
+    subst (λ (j : JournalValue _). Compacts disk_of old records (refused fault) j) (sym starts.same)
+    (still-compacts disk_of old records fault (subst (λ (j : JournalValue _). Starts disk_of old (Renews records) (refused fault) j) starts.same starts))
 
-  pub compact-gates : HasNewGates (now old).seen (now new).seen area → HasNewGates (now old).seen (now new).seen (other_area place.area)
-  compact-gates promised = subst (λ (a : ℕ). HasNewGates (now old).seen (now new).seen a) area_is promised
+-- ---- it was begun
 
-  pub compact-others : ((i : ℕ) → (¬ CompactWrites (now old).seen area (length records) i) → IsSpared old new i)
-      → (i : ℕ) → (¬ CompactWrites (now old).seen (other_area place.area) (length records) i) → IsSpared old new i
-  compact-others promised i apart = promised i (subst (λ (a : ℕ). ¬ CompactWrites (now old).seen a (length records) i) (sym area_is) apart)
+module _ {D : Type 0} (disk_of : D → disk.Disk) (old mid : JournalValue D) (records : List Record) (idle : IsIdle old) (few : length records ≤ slots)
+    (starts : Starts disk_of old (Renews records) done mid) where
+  ran : is_stopped old ≡ false
+  ran = by_stopped (is_stopped old) refl where
+    by_stopped : (stopped : _) → is_stopped old ≡ stopped → is_stopped old ≡ false
+    by_stopped false is = is
+    by_stopped true is = absurd (let no = starts.stopped.1 is in cc)
 
-  module _ (before : Content) (holding : IsHolding old place hand before before) where
-    the-area : other_area before.area ≡ area
-    the-area = ap other_area holding.at.area ∙ sym area_is
+  -- with nothing in hand it is as before
+  as-before : with_nothing mid ≡ old
+  as-before = λ i. record {
+    disk = starts.device i;
+    place = starts.place i;
+    hand = sym idle i;
+    stopped = (starts.running ∙ sym ran) i;
+  }
 
-    pub compact-until : ((c : Content) → IsReady (now old) c → other_area c.area ≡ area → (opened : ℕ) → HasOpenGates (now old).seen area gates opened
-        → FindsUntil old new (old.clock + (261 + opened + length records)) c)
-        → (opened : ℕ) → HasOpenGates (now old).seen (other_area place.area) gates opened → FindsUntil old new (old.clock + (261 + opened + length records)) before
-    compact-until promised opened has =
-        promised before (idle-ready old place hand before holding) the-area opened (subst (λ (a : ℕ). HasOpenGates (now old).seen a gates opened) (sym area_is) has)
+  -- what is in hand is to be done from where it is
+  task-there : (hand : Hand) → IsTaskInHand old (Renews records) hand → IsTaskInHand mid (Renews records) hand
+  task-there Empty task = absurd task
+  task-there (Append work) task = absurd task
+  task-there (Compact work) task = ap (λ (p : Place). next_head p.head (length records)) starts.place ∙ task
 
-    module _ (head_is : head ≡ next_head place.head (length records)) where
-      the-head : next_head before.head (length records) ≡ head
-      the-head = ap (λ (h : Head). next_head h (length records)) holding.at.head ∙ sym head_is
+  -- another generation comes
+  more : ¬ (generation mid ≡ last_generation)
+  more last = let spent = starts.spent.1 (ran, sym (ap (λ (p : Place). p.head.generation) starts.place) ∙ last) in cc
 
-      pub compact-leaves : ((c : Content) → IsReady (now old) c → other_area c.area ≡ area → next_head c.head (length records) ≡ head
-          → Leaves old new (HasEitherJournal c (compacted c records)))
-          → Leaves old new (HasEitherJournal before (compacted before records))
-      compact-leaves promised = promised before (idle-ready old place hand before holding) the-area the-head
+  pub is-begun : IsBegun mid records
+  is-begun = record {
+    running = starts.running;
+    more = more;
+    few = few;
+    hand = task-there mid.hand starts.hand;
+    left = starts.left;
+  }
 
-      pub compact-holding : ((c : Content) → IsReady (now old) c → other_area c.area ≡ area → next_head c.head (length records) ≡ head → IsReady (now new) (compacted c records))
-          → IsHolding new (record { area = area; head = head; free = length records }) Empty (compacted before records) (compacted before records)
-      compact-holding promised = record {
-        at = record { area = the-area; head = the-head; free = refl };
-        holds = (promised before (idle-ready old place hand before holding) the-area the-head, refl);
-      }
+  pub begun-compacts : (result : Result (Unit {0}) JournalFault) (new : JournalValue D) → Compacts disk_of (with_nothing mid) records result new
+      → Compacts disk_of old records result new
+  begun-compacts result new compacts = subst (λ (j : JournalValue D). Compacts disk_of j records result new) as-before compacts
+
+-- ---- the work in hand
+
+-- nothing is in hand, or the journal begins anew under this head
+abbrev pub IsCompactOf : Head → Hand → Type 0
+IsCompactOf head Empty = Unit {0}
+IsCompactOf head (Append work) = ⊥
+IsCompactOf head (Compact work) = work.head ≡ head
+
+pub head-begun : {D : Type 0} (j : JournalValue D) (records : List Record) (hand : Hand) → IsTaskInHand j (Renews records) hand
+    → IsCompactOf (next_head j.place.head (length records)) hand
+head-begun j records Empty task = absurd task
+head-begun j records (Append work) task = absurd task
+head-begun j records (Compact work) task = sym task
+
+pub lent-begun : {D : Type 0} (j : JournalValue D) (records : List Record) (hand : Hand) → IsTaskInHand j (Renews records) hand → AreLent hand records
+lent-begun j records Empty task = absurd task
+lent-begun j records (Append work) task = absurd task
+lent-begun j records (Compact work) task = ap (λ (h : Head). h.count) task
+
+pub not-idle : (hand : Hand) → IsCompactHand hand → ¬ (hand ≡ Empty)
+not-idle Empty busy is = busy
+not-idle (Append work) busy is = busy
+not-idle (Compact work) busy is = cc
+
+pub idle-then : (head : Head) (hand : Hand) → IsCompactOf head hand → ¬ IsCompactHand hand → hand ≡ Empty
+idle-then head Empty of busy = refl
+idle-then head (Append work) of busy = absurd of
+idle-then head (Compact work) of busy = absurd (busy tt)
+
+pub not-begun : {D : Type 0} (j : JournalValue D) (records : List Record) (hand : Hand) → IsTaskInHand j (Renews records) hand → ¬ (hand ≡ Empty)
+not-begun j records Empty task is = task
+not-begun j records (Append work) task is = task
+not-begun j records (Compact work) task is = cc
+
+-- a call is left
+pub some-left-compact : (hand : Hand) → IsCompactHand hand → 1 ≤ left_of hand
+some-left-compact Empty busy = absurd busy
+some-left-compact (Append work) busy = absurd busy
+some-left-compact (Compact work) busy = some-left work.head.count work.stage
+
+-- and fails
+pub fails-later : (old mid new : disk.Disk) (result : Result (Unit {0}) JournalFault) → result ≡ Err Disk → mid.failures ≡ old.failures → FailsAs mid new result
+    → FailsAs old new result
+fails-later old mid new result is steady fails =
+    subst (λ (r : Result (Unit {0}) JournalFault). FailsAs old new r) (sym is)
+    (FailsOnce-before old mid new steady (subst (λ (r : Result (Unit {0}) JournalFault). FailsAs mid new r) is fails))
+
+-- one call more
+pub head-next : (head : Head) (old new : Hand) → IsCompactHand old → IsCompactOf head old → ((¬ (new ≡ Empty)) → IsSameTask old new) → IsCompactOf head new
+head-next head old Empty busy of same = tt
+head-next head Empty (Append later) busy of same = absurd busy
+head-next head (Append work) (Append later) busy of same = absurd busy
+head-next head (Compact work) (Append later) busy of same = same (λ is. cc)
+head-next head Empty (Compact later) busy of same = absurd busy
+head-next head (Append work) (Compact later) busy of same = absurd busy
+head-next head (Compact work) (Compact later) busy of same = same (λ is. cc) ∙ of
+
+-- where it goes on then
+abbrev place-under : Head → Place → Place
+place-under head place = record { area = other_area place.area; head = head; free = head.count }
+
+place-then : (place : Place) (head : Head) (hand : Hand) → IsCompactHand hand → IsCompactOf head hand → place_then place hand ≡ place-under head place
+place-then place head Empty busy of = absurd busy
+place-then place head (Append work) busy of = absurd busy
+place-then place head (Compact work) busy of = ap (λ (h : Head). place-under h place) of
+
+pub place-moved : (start mid : Place) (records : List Record) (hand : Hand) → IsCompactHand hand → IsCompactOf (next_head start.head (length records)) hand
+    → mid ≡ start → place_then mid hand ≡ compacted_place start (length records)
+place-moved start mid records hand busy of same =
+    place-then mid (next_head start.head (length records)) hand busy of ∙ ap (place-under (next_head start.head (length records))) same
+
+-- before its first call
+pub at-begun : {D : Type 0} (j : JournalValue D) (d : disk.Disk) (records : List Record) (hand : Hand) → IsTaskInHand j (Renews records) hand
+    → left_of hand ≡ calls_of (Renews records) → AtNextCall d d (other_area j.place.area) (next_head j.place.head (length records)) records hand
+at-begun j d records Empty task left = absurd task
+at-begun j d records (Append work) task left = absurd task
+at-begun j d records (Compact work) task left =
+    (sym task, first work.stage (subst (λ (n : ℕ). compact_left n work.stage ≡ 519 + length records) (sym (ap (λ (h : Head). h.count) task)) left)) where
+      first : (stage : CompactStage) → compact_left (length records) stage ≡ 519 + length records
+          → AtStage d d (other_area j.place.area) (next_head j.place.head (length records)) records stage
+      first (ReadGate k) left = subst (λ (n : ℕ). AreGatesClosed d d (other_area j.place.area) n 0) (let first : 0 ≡ k = omega (arith, left) in first) (none-closed d (other_area j.place.area))
+      first (CloseGate k) left = absurd (omega (arith, left))
+      first GatesSync left = absurd (omega (arith, left))
+      first HeadBody left = absurd (omega (arith, left))
+      first (Body slot) left = absurd (omega (arith, left))
+      first BodiesSync left = absurd (omega (arith, left))
+      first HeadGate left = absurd (omega (arith, left))
+      first HeadSync left = absurd (omega (arith, left))
+
+-- ---- what the calls come to
+
+-- calls were made since it was begun
+module _ {D : Type 0} (disk_of : D → disk.Disk) (old new : JournalValue D) (records : List Record) (begun : IsBegun old records)
+    (few : (disk_in disk_of new).clock ≤ (disk_in disk_of old).clock + (519 + length records)) where
+  abbrev pub area : ℕ
+  area = other_area old.place.area
+
+  abbrev pub head : Head
+  head = next_head old.place.head (length records)
+
+  module _ (under_way : disk.IsHonest (disk_in disk_of new) → IsUnderWay (disk_in disk_of old) (disk_in disk_of new) area head records) where
+    finds-until : disk.IsHonest (disk_in disk_of new) → (before : Content) → HoldsContent disk_of (with_nothing old) before → (opened : ℕ)
+        → HasOpenGates (now (disk_in disk_of old)).seen area gates opened
+        → FindsUntil (disk_in disk_of old) (disk_in disk_of new) ((disk_in disk_of old).clock + (261 + opened + length records)) before
+    finds-until honest before holds =
+        way-until (disk_in disk_of old) (disk_in disk_of new) area head records begun.few before (idle-ready (disk_in disk_of old) old.place Empty before holds)
+        (ap other_area holds.at.area) (under_way honest)
+
+    leaves-either : disk.IsHonest (disk_in disk_of new) → (before : Content) → HoldsContent disk_of (with_nothing old) before
+        → Leaves (disk_in disk_of old) (disk_in disk_of new) (HasEitherJournal before (compacted before records))
+    leaves-either honest before holds =
+        way-leaves (disk_in disk_of old) (disk_in disk_of new) area head records begun.few before (idle-ready (disk_in disk_of old) old.place Empty before holds)
+        (ap other_area holds.at.area) (ap (λ (h : Head). next_head h (length records)) holds.at.head) (under_way honest)
+
+  -- one of them failed
+  pub broken-compacts : (fault : JournalFault) → IsErrOf (refused fault) Disk → is_stopped new ≡ true → IsIdle new → new.place ≡ old.place
+      → IsWorkOf (disk_in disk_of old) (disk_in disk_of new) (refused fault)
+      → (disk.IsHonest (disk_in disk_of new) → IsUnderWay (disk_in disk_of old) (disk_in disk_of new) area head records)
+      → Compacts disk_of (with_nothing old) records (refused fault) new
+  broken-compacts fault is stops idle place work under_way = record {
+    stopped = ((λ stopped. absurd (let disk_fault = is in cc)), λ stopped. absurd (let runs = begun.running in cc));
+    spent = ((λ spent. absurd (let disk_fault = is in cc)), λ spent. absurd (begun.more spent.1));
+    names = inr (inr is);
+    same = inl is;
+    halted = λ failed. (stops, idle);
+    at_fault = place;
+    running = tt;
+    place = tt;
+    work = work;
+    most = few;
+    calls = tt;
+    until = finds-until under_way;
+    any_moment = leaves-either under_way;
+    done = tt;
+    kept = tt;
+    gates = tt;
+    others = λ honest. way-spares (disk_in disk_of old) (disk_in disk_of new) area head records begun.few (under_way honest);
+  }
+
+  -- all were made
+  module _ (runs : is_stopped new ≡ false) (idle : IsIdle new) (place : new.place ≡ compacted_place old.place (length records))
+      (work : IsWorkOf (disk_in disk_of old) (disk_in disk_of new) done)
+      (rewritten : disk.IsHonest (disk_in disk_of new) → IsRewritten (disk_in disk_of old) (disk_in disk_of new) area head records) where
+    under_way-to-end : disk.IsHonest (disk_in disk_of new) → IsUnderWay (disk_in disk_of old) (disk_in disk_of new) area head records
+    under_way-to-end honest = rewritten-way (disk_in disk_of old) (disk_in disk_of new) area head records begun.few (rewritten honest)
+
+    holds-new : disk.IsHonest (disk_in disk_of new) → (before : Content) → HoldsContent disk_of (with_nothing old) before
+        → IsHolding (disk_in disk_of new) (compacted_place old.place (length records)) Empty (compacted before records) (compacted before records)
+    holds-new honest before holds = record {
+      at = record { area = ap other_area holds.at.area; head = ap (λ (h : Head). next_head h (length records)) holds.at.head; free = refl };
+      holds = (
+        way-ready (disk_in disk_of old) (disk_in disk_of new) area head records begun.few before
+            (idle-ready (disk_in disk_of old) old.place Empty before holds) (ap other_area holds.at.area)
+            (ap (λ (h : Head). next_head h (length records)) holds.at.head) (rewritten honest),
+        refl,
+      );
+    }
+
+    pub done-compacts : Compacts disk_of (with_nothing old) records done new
+    done-compacts = record {
+      stopped = ((λ stopped. absurd (let no = stopped in cc)), λ stopped. absurd (let running = begun.running in cc));
+      spent = ((λ spent. absurd (let no = spent in cc)), λ spent. absurd (begun.more spent.1));
+      names = tt;
+      same = tt;
+      halted = λ failed. absurd (let no = failed in cc);
+      at_fault = tt;
+      running = (runs, idle);
+      place = place;
+      work = work;
+      most = few;
+      calls = λ honest. way-calls (disk_in disk_of old) (disk_in disk_of new) area head records begun.few (rewritten honest);
+      until = finds-until under_way-to-end;
+      any_moment = leaves-either under_way-to-end;
+      done = λ honest before holds.
+          subst (λ (h : Hand). IsHolding (disk_in disk_of new) new.place h (compacted before records) (compacted before records)) (sym idle)
+          (subst (λ (p : Place). IsHolding (disk_in disk_of new) p Empty (compacted before records) (compacted before records)) (sym place) (holds-new honest before holds));
+      kept = λ honest before holds. kept-image (disk_in disk_of new) (compacted_place old.place (length records)) Empty (compacted before records) (holds-new honest before holds);
+      gates = λ honest. way-gates (disk_in disk_of old) (disk_in disk_of new) area head records begun.few (rewritten honest);
+      others = λ honest. way-spares (disk_in disk_of old) (disk_in disk_of new) area head records begun.few (under_way-to-end honest);
+    }

@@ -164,13 +164,3 @@ module _ (began d : Disk) (area : ℕ) (head : Head) (records : List Record) (fe
       let filled = at.opening.filled.calls in
       let last = at.calls in
       omega (arith, cleared, filled, last)
-
--- ---- what a power loss leaves of one call
-
-pub call-leaves : (began old new : Disk) (area : ℕ) (head : Head) (records : List Record) (few : length records ≤ slots) (before : Content) → IsReady (now began) before
-    → other_area before.area ≡ area → next_head before.head (length records) ≡ head → (stage : CompactStage) → IsCompactStage (length records) stage
-    → AtStage began old area head records stage → Works old new → IsUnderWay began new area head records → Leaves old new (HasEitherJournal before (compacted before records))
-call-leaves began old new area head records few before ready area_is head_is stage fits at works way =
-    let was = way-leaves began old area head records few before ready area_is head_is (at-under_way began old area head records stage fits at) in
-    let is = way-leaves began new area head records few before ready area_is head_is way in
-    record { works = works; each = λ image left. is.each image (Left-earlier new began.clock old.clock image was.works.later left) }

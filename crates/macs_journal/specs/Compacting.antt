@@ -6,13 +6,15 @@ use Rattle.macs_disk.specs.Disk as disk
 use Rattle.macs_disk.specs.Runs.{Leaves}
 use Rattle.macs_record.specs.declared.record.Record.{Record}
 use Rattle.macs_journal.specs.Appending.{HasEitherJournal}
-use Rattle.macs_journal.specs.Areas.{gates, other_area}
+use Rattle.macs_journal.specs.Areas.{gates, other_area, slots}
 use Rattle.macs_journal.specs.Found.{Content, HasJournal}
 use Rattle.macs_journal.specs.Rewriting.{HasNewGates}
-use Rattle.macs_journal.specs.Value.{HoldsContent, IsIdle, JournalValue, disk_in, generation, is_stopped}
+use Rattle.macs_journal.specs.Stepping.{IsTaskInHand, Renews, calls_of}
+use Rattle.macs_journal.specs.Value.{HoldsContent, IsIdle, JournalValue, disk_in, generation, is_stopped, left_of}
 use Rattle.macs_journal.specs.Work.{IsSpared, IsWorkOf}
 use Rattle.macs_journal.specs.declared.fault.JournalFault.{JournalFault}
 use Rattle.macs_journal.specs.declared.fault.JournalFault.TheVariants.{Disk, GenerationsSpent, Stopped}
+use Rattle.macs_journal.specs.declared.hand.Hand.TheVariants.{Empty}
 use Rattle.macs_journal.specs.declared.place.Place.{Place}
 pub use Rattle.macs_journal.specs.Renewal.{CompactWrites, FindsUntil, compacted, last_generation, next_head}
 unfoldable pub use Rattle.macs_journal.specs.Renewal.{HasOpenGates}
@@ -20,6 +22,18 @@ unfoldable pub use Rattle.macs_journal.specs.Renewal.{HasOpenGates}
 -- the place where it goes on, behind so many records
 abbrev pub compacted_place : Place → ℕ → Place
 compacted_place place count = record { area = other_area place.area; head = next_head place.head count; free = count }
+
+-- it runs, and it is in hand that it begins anew with these records, of which no device call was made
+pub record IsBegun {D : Type 0} (j : JournalValue D) (records : List Record) : Type 0 where
+  pub running : is_stopped j ≡ false
+  pub more : ¬ (generation j ≡ last_generation)
+  pub few : length records ≤ slots
+  pub hand : IsTaskInHand j (Renews records) j.hand
+  pub left : left_of j.hand ≡ calls_of (Renews records)
+
+-- the journal with nothing in hand
+abbrev pub with_nothing : {D : Type 0} → JournalValue D → JournalValue D
+with_nothing j = record j { hand = Empty }
 
 -- A journal begins anew with these records in its other area. Refused as Stopped where a device call failed before, then as
 -- GenerationsSpent where its generation is the last one, and changes nothing then; as Disk where a device call failed, which stops it.

@@ -6,11 +6,13 @@ use Rattle.macs_disk.specs.Disk as disk
 use Rattle.macs_disk.specs.Runs.{Leaves}
 use Rattle.macs_record.specs.Decoding.{IsSectorOf}
 use Rattle.macs_record.specs.Gates.{open_gate}
+use Rattle.macs_record.specs.Heads.{Head}
 use Rattle.macs_record.specs.declared.record.Record.{Record}
 use Rattle.macs_journal.specs.Appending.{HasEitherJournal}
 use Rattle.macs_journal.specs.Areas.{gate, other_area, slot_body, slots}
 use Rattle.macs_journal.specs.Found.{Content, HasJournal, content_with_record}
 use Rattle.macs_journal.specs.Renewal.{compacted, last_generation, next_head}
+use Rattle.macs_journal.specs.Stages.{AtStage, IsRewritten, IsUnderWay}
 use Rattle.macs_journal.specs.Value.{AreLent, ComesTo, HoldsContent, HoldsWith, IsHolding, IsIdle, IsMadeOf, IsNoCompact, JournalValue, append_left, device_in, disk_in, generation, is_stopped, left_of}
 use Rattle.macs_journal.specs.Work.{IsSpared, IsWorkOf}
 use Rattle.macs_journal.specs.declared.fault.JournalFault.{JournalFault}
@@ -159,6 +161,23 @@ pub record Advances {D : Type 0} (disk_of : D → disk.Disk) (old : JournalValue
       → Leaves (disk_in disk_of old) (disk_in disk_of new) (HasEitherJournal before after)
   pub next : OnOk result (IsHonest (disk_in disk_of new) → (before after : Content) → HoldsWith (disk_in disk_of old) old.place old.hand snapshot before after
       → ComesTo (disk_in disk_of new) new.place new.hand before after)
+
+-- before the device call that comes next of a compaction in hand under this head, or after its last one
+abbrev pub AtNextCall : (began d : disk.Disk) → ℕ → Head → List Record → Hand → Type 0
+AtNextCall began d area head records hand.Empty = IsRewritten began d area head records
+AtNextCall began d area head records (hand.Append work) = ⊥
+AtNextCall began d area head records (hand.Compact work) = (work.head ≡ head) × AtStage began d area head records work.stage
+
+-- One device call of the compaction in hand, of these records, which goes on from where it is. Whatever the call answers, the compaction is
+-- under way; after Ok it is before its next call, or done.
+pub record AdvancesCompact {D : Type 0} (disk_of : D → disk.Disk) (old : JournalValue D) (records : List Record) (result : Result (Unit {0}) JournalFault) (new : JournalValue D) : Type 0 where
+  pub advances : Advances disk_of old records result new
+  pub under_way : IsHonest (disk_in disk_of new) → (began : disk.Disk) (head : Head)
+      → AtNextCall began (disk_in disk_of old) (other_area old.place.area) head records old.hand
+      → IsUnderWay began (disk_in disk_of new) (other_area old.place.area) head records
+  pub next : OnOk result (IsHonest (disk_in disk_of new) → (began : disk.Disk) (head : Head)
+      → AtNextCall began (disk_in disk_of old) (other_area old.place.area) head records old.hand
+      → AtNextCall began (disk_in disk_of new) (other_area old.place.area) head records new.hand)
 
 -- A step of a journal: one device call of the work in hand. Stopped exactly where a device call failed before, else Idle exactly where
 -- nothing is in hand: then no call is made and nothing changes. Disk exactly where the call failed, which stops the journal and leaves

@@ -1,12 +1,8 @@
 //! A compaction cut at its device calls.
 
-ghost use Rattle.std.specs.Prelude.{◌≡◌, ◌≤◌, ◌+◌, IfOk, None, OnOk, length};
+ghost use Rattle.std.specs.Prelude.{◌≡◌, ◌≤◌, ◌+◌, IfOk, OnOk, length};
 ghost use Rattle.macs_disk.specs.Disk.{Disk, IsDeviceCall, IsHonest, now};
-ghost use Rattle.macs_disk.specs.Runs.{Leaves};
-ghost use Rattle.macs_journal.specs.Appending.{HasEitherJournal, IsReady};
-ghost use Rattle.macs_journal.specs.Areas.{least_sectors, other_area, slots};
-ghost use Rattle.macs_journal.specs.Found.{Content};
-ghost use Rattle.macs_journal.specs.Renewal.{compacted, next_head};
+ghost use Rattle.macs_journal.specs.Areas.{least_sectors, slots};
 ghost use Rattle.macs_journal.specs.Stages.{AtNextStage, AtStage, Does, IsCompactNext, IsCompactStage, IsUnderWay, compact_left, compact_left_next};
 
 use crate::area::Area;
@@ -35,12 +31,6 @@ pub(crate) fn perform<D: SectorDisk, R: RecordSource>(
     ensures left { IfOk result (λ next. compact_left_next (length (R.listed records.now)) next + 1 ≤ compact_left (length (R.listed records.now)) stage) }
     ensures under_way { IsHonest (D.disk disk.new) → (began : Disk) → AtStage began (D.disk disk.old) area head.now (R.listed records.now) stage
         → IsUnderWay began (D.disk disk.new) area head.now (R.listed records.now) }
-    ensures images { IsHonest (D.disk disk.new) → (began : Disk) (before : Content) → AtStage began (D.disk disk.old) area head.now (R.listed records.now) stage
-        → IsReady (now began) before → other_area before.area ≡ area → next_head before.head (length (R.listed records.now)) ≡ head.now
-        → Leaves (D.disk disk.old) (D.disk disk.new) (HasEitherJournal before (compacted before (R.listed records.now))) }
-    ensures done { IfOk result (λ next. next ≡ None → IsHonest (D.disk disk.new) → (began : Disk) (before : Content)
-        → AtStage began (D.disk disk.old) area head.now (R.listed records.now) stage → IsReady (now began) before → other_area before.area ≡ area
-        → next_head before.head (length (R.listed records.now)) ≡ head.now → IsReady (now (D.disk disk.new)) (compacted before (R.listed records.now))) }
     ensures next { IfOk result (λ next. IsHonest (D.disk disk.new) → (began : Disk) → AtStage began (D.disk disk.old) area head.now (R.listed records.now) stage
         → AtNextStage began (D.disk disk.new) area head.now (R.listed records.now) next) }
 {

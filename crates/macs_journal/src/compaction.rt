@@ -1,25 +1,16 @@
 //! A journal that begins anew in its other area.
 
-ghost use Rattle.std.specs.Prelude.{◌≡◌, ◌≤◌, ◌+◌, ◌↔◌, ℕ, None, IfSome, length, OnOk};
-ghost use Rattle.macs_disk.specs.Disk.{IsHonest, IsWork, now};
-ghost use Rattle.macs_disk.specs.Runs.{Leaves};
-ghost use Rattle.macs_journal.specs.Appending.{HasEitherJournal, IsReady};
-ghost use Rattle.macs_journal.specs.Areas.{gates, least_sectors, other_area, slots};
-ghost use Rattle.macs_journal.specs.Compacting.{CompactWrites, Compacts, FindsUntil, HasOpenGates, compacted, last_generation, next_head};
-ghost use Rattle.macs_journal.specs.Found.{Content};
-ghost use Rattle.macs_journal.specs.Rewriting.{HasNewGates};
+ghost use Rattle.std.specs.Prelude.{◌≡◌, ◌≤◌, ◌↔◌, None, IfSome, IsTrue, length};
+ghost use Rattle.macs_journal.specs.Areas.{slots};
+ghost use Rattle.macs_journal.specs.Compacting.{Compacts, IsBegun, last_generation, next_head, with_nothing};
+ghost use Rattle.macs_journal.specs.Stepping.{IsCompactHand};
 ghost use Rattle.macs_journal.specs.Value.{IsIdle};
-ghost use Rattle.macs_journal.specs.Work.{IsSpared};
 
-use crate::area::Area;
-use crate::compact_calls::perform;
-use crate::compact_stage::CompactStage;
 use crate::fault::JournalFault;
 use crate::hand::Hand;
 use crate::journal::Journal;
-use crate::place::Place;
 use crate::record_source::RecordSource;
-use macs_disk::{DeviceFault, SectorDisk};
+use macs_disk::SectorDisk;
 use macs_record::{Format, Head, Record};
 
 impl<D: SectorDisk> Journal<D> {
@@ -44,29 +35,29 @@ impl<D: SectorDisk> Journal<D> {
         requires some { (1 ≤ length (R.listed records.now)) × (length (R.listed records.now) ≤ slots) }
         ensures { Compacts D.disk self.old (R.listed records.now) result self.new }
     {
-        if self.stopped {
-            return Err(JournalFault::Stopped);
+        self.start_compact(records)?;
+        self.finish_compact(records)
+    }
+
+    /// Makes the device calls of the compaction in hand, of these records, up to its end: what it comes to is what a
+    /// journal with nothing in hand comes to that begins anew with them.
+    fn finish_compact<R: RecordSource>(&mut self, records: &R) -> Result<(), JournalFault>
+        requires { IsBegun self.old (R.listed records.now) }
+        ensures { Compacts D.disk (with_nothing self.old) (R.listed records.now) result self.new }
+    {
+        while self.is_compacting() {
+            self.step_compact(records)?;
         }
-        let Place { area, head, .. } = self.place;
-        let count = records.count();
-        let Some(next) = next_head(&head, count as u32) else {
-            return Err(JournalFault::GenerationsSpent);
-        };
-        let other = area.other();
-        self.hand = Hand::Empty;
-        match rewrite(&mut self.disk, other, &next, records) {
-            Ok(()) => {
-                self.place = Place {
-                    area: other,
-                    head: next,
-                    free: count as u64,
-                };
-                Ok(())
-            }
-            Err(_) => {
-                self.stopped = true; // The next recovery finds the records of before or these.
-                Err(JournalFault::Disk)
-            }
+        Ok(())
+    }
+
+    /// Whether a compaction is in hand.
+    fn is_compacting(&self) -> bool
+        ensures { IsTrue result ↔ IsCompactHand self.now.hand }
+    {
+        match &self.hand {
+            Hand::Compact(_) => true,
+            _ => false,
         }
     }
 }
@@ -79,39 +70,4 @@ pub(crate) fn next_head(head: &Head, count: u32) -> Option<Head>
 {
     let generation = head.generation().checked_add(1)?;
     Head::new(Format::Two, generation, count, head.identity())
-}
-
-/// Writes the records of a source into an area under this head, which counts them, while the other area is current.
-fn rewrite<D: SectorDisk, R: RecordSource>(
-    disk: &mut D,
-    area: Area,
-    head: &Head,
-    records: &R,
-) -> Result<(), DeviceFault>
-    requires counts { head.now.count ≡ length (R.listed records.now) }
-    requires few { length (R.listed records.now) ≤ slots }
-    requires size { least_sectors ≤ (D.disk disk.old).sectors }
-    ensures work { IsWork (D.disk disk.old) (D.disk disk.new) result }
-    ensures most { (D.disk disk.new).clock ≤ (D.disk disk.old).clock + (519 + length (R.listed records.now)) }
-    ensures calls { OnOk result (IsHonest (D.disk disk.new) → (opened : ℕ) → HasOpenGates (now (D.disk disk.old)).seen area gates opened
-        → (D.disk disk.new).clock ≡ (D.disk disk.old).clock + (262 + opened + length (R.listed records.now))) }
-    ensures until { IsHonest (D.disk disk.new) → (before : Content) → IsReady (now (D.disk disk.old)) before → other_area before.area ≡ area
-        → (opened : ℕ) → HasOpenGates (now (D.disk disk.old)).seen area gates opened
-        → FindsUntil (D.disk disk.old) (D.disk disk.new) ((D.disk disk.old).clock + (261 + opened + length (R.listed records.now))) before }
-    ensures images { IsHonest (D.disk disk.new) → (before : Content) → IsReady (now (D.disk disk.old)) before
-        → other_area before.area ≡ area → next_head before.head (length (R.listed records.now)) ≡ head.now
-        → Leaves (D.disk disk.old) (D.disk disk.new) (HasEitherJournal before (compacted before (R.listed records.now))) }
-    ensures done { OnOk result (IsHonest (D.disk disk.new) → (before : Content) → IsReady (now (D.disk disk.old)) before
-        → other_area before.area ≡ area → next_head before.head (length (R.listed records.now)) ≡ head.now
-        → IsReady (now (D.disk disk.new)) (compacted before (R.listed records.now))) }
-    ensures gates { OnOk result (IsHonest (D.disk disk.new) → HasNewGates (now (D.disk disk.old)).seen (now (D.disk disk.new)).seen area) }
-    ensures others { IsHonest (D.disk disk.new) → (i : ℕ)
-        → ¬ CompactWrites (now (D.disk disk.old)).seen area (length (R.listed records.now)) i
-        → IsSpared (D.disk disk.old) (D.disk disk.new) i }
-{
-    let mut next = Some(CompactStage::ReadGate(0));
-    while let Some(stage) = next {
-        next = perform(disk, area, head, records, stage)?;
-    }
-    Ok(())
 }

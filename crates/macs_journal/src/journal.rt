@@ -15,14 +15,13 @@ ghost use Rattle.macs_journal.specs.Work.{IsSpared, IsWorkOf};
 ghost use Rattle.macs_journal.specs.declared.fault.JournalFault.TheVariants.{Disk, Stopped};
 ghost use Rattle.macs_journal.specs.declared.hand.Hand.TheVariants.{Empty};
 
-use crate::appending::{AppendStage, perform};
+use crate::appending::perform;
 use crate::area::SLOTS;
 use crate::fault::JournalFault;
-use crate::hand::{Appending, Hand};
+use crate::hand::Hand;
 use crate::place::Place;
 use macs_disk::SectorDisk;
-use macs_record::laws::record_in_range;
-use macs_record::{Record, encode};
+use macs_record::Record;
 use std::marker::Model;
 
 /// A journal on a disk. After a device fault it answers `Stopped` until the disk is recovered again.
@@ -123,19 +122,12 @@ impl<D: SectorDisk> Journal<D> {
             → i ≢ gate self.old.place.area (self.old.place.free + 1)
             → IsSpared (disk_in D.disk self.old) (disk_in D.disk self.new) i }
     {
-        if self.stopped {
-            return Err(JournalFault::Stopped);
-        }
-        record_in_range(value);
-        self.hand = Hand::Append(Appending {
-            sector: encode(value),
-            stage: AppendStage::Body,
-        });
-        self.finish()
+        self.start_append(value)?;
+        self.finish_append()
     }
 
     /// Makes the calls of the append in hand up to its end.
-    fn finish(&mut self) -> Result<(), JournalFault>
+    fn finish_append(&mut self) -> Result<(), JournalFault>
         requires no_compact { IsNoCompact self.old.hand }
         requires running { is_stopped self.old ≡ false }
         ensures names { OnErr result (IsErrOf result Disk) }

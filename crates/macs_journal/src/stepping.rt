@@ -2,7 +2,7 @@
 
 ghost use Rattle.std.specs.Prelude.{◌≡◌, ◌<◌, ◌≤◌, ◌↔◌, false, length, IsTrue};
 ghost use Rattle.macs_journal.specs.Areas.{other_area, slots};
-ghost use Rattle.macs_journal.specs.Stepping.{Advances, Appends, FitsWork, IsCompactHand, Renews};
+ghost use Rattle.macs_journal.specs.Stepping.{Advances, AdvancesCompact, Appends, FitsWork, IsCompactHand, Renews};
 ghost use Rattle.macs_journal.specs.Stepping.{Starts, Steps, step_of, task_of};
 ghost use Rattle.macs_journal.specs.Value.{AreLent, IsIdle, is_stopped, used_slots};
 ghost use Rattle.macs_journal.specs.declared.hand.Compacting.{Compacting};
@@ -146,11 +146,11 @@ impl<D: SectorDisk> Journal<D> {
     }
 
     /// One device call of the compaction in hand, of these records. After a device fault nothing is in hand.
-    fn step_compact<R: RecordSource>(&mut self, snapshot: &R) -> Result<(), JournalFault>
+    pub(crate) fn step_compact<R: RecordSource>(&mut self, snapshot: &R) -> Result<(), JournalFault>
         requires busy { IsCompactHand self.old.hand }
         requires running { is_stopped self.old ≡ false }
         requires lent { AreLent self.old.hand (R.listed snapshot.now) }
-        ensures { Advances D.disk self.old (R.listed snapshot.now) result self.new }
+        ensures { AdvancesCompact D.disk self.old (R.listed snapshot.now) result self.new }
     {
         let Place { area, .. } = self.place;
         let other = area.other();

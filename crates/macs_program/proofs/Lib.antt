@@ -24,4 +24,8 @@ pub mod Spelling
 pub mod TextLines
 pub mod Told
 mod WrittenOver
+mod ContentDrawn
 mod Drawn
+mod RelayDrawn
+mod RunDrawn
+mod TextDrawn

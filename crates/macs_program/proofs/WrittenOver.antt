@@ -34,3 +34,8 @@ pub made-free : {F : Type 0} (file : F → FileState) (is_over : Bool) (layout :
     → (given : F) × (Behaves (file given) → (settled : FileState) × Settles (file given) settled × Permits is_over settled ((file given).size / 512) None)
 made-free file is_over layout identity f =
     (file_given f.blank, λ behaves. let free = f.free behaves in (free.settled, free.settles, free.permits))
+
+pub given-free : {F : Type 0} (file : F → FileState) (is_over : Bool) (layout : Layout) (identity : Identity) (made : Formats file is_over layout identity)
+    → Behaves (file (file_given made.blank))
+    → (settled : FileState) × Settles (file (file_given made.blank)) settled × Permits is_over settled ((file (file_given made.blank)).size / 512) None
+given-free file is_over layout identity made behaves = let free = made.free behaves in (free.settled, free.settles, free.permits)

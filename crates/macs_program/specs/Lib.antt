@@ -7,6 +7,7 @@ pub mod Addresses
 pub mod Contents
 pub mod Failing
 pub mod NewDisks
+pub mod ContentWords
 pub mod Applying
 pub mod Summing
 pub mod CaptureFiles
@@ -21,3 +22,8 @@ pub mod Inspecting
 pub mod Checking
 pub mod Run
 pub mod Drawn
+pub mod RelayDrawn
+pub mod RunWords
+pub mod TextWords
+pub mod ShowTexts
+pub mod CaptureOctets

@@ -29,6 +29,11 @@ turns_of (Busy turns) = turns
 turns_of (Waiting limit None) = 2 ^ 64 - 1
 turns_of (Waiting limit (Some turns)) = turns
 
+-- how many receives in a row a wire of it leaves out at most, where it gives nothing: none where the relay does not sleep
+abbrev pub left_out : Pace → ℕ
+left_out (Busy turns) = 0
+left_out (Waiting limit turns) = 7
+
 -- what a relay is to be: whether a desk attends it, and how many turns it takes at most
 pub record Course : Type 0 where
   pub attended : Bool
@@ -56,6 +61,7 @@ IsRunBy false disk_of turns old result endpoint controlled common = IsRelayed di
 IsRunBy true disk_of turns old result endpoint controlled common =
     (events : List DeskEvent) × IsAttended disk_of turns old events result endpoint controlled common
 
+-- a relay is run as the words want it: with or without a desk, for so many turns, or until it ends
 abbrev pub IsRun : {D : Type 0} → (D → Disk) → Course → Relay D → Result RelaySummary RefillFault → EndpointValue D → WireState → WireState → Type 0
 IsRun disk_of course old result endpoint controlled common = IsRunBy course.attended disk_of course.turns old result endpoint controlled common
 

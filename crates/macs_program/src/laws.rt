@@ -4,11 +4,20 @@ ghost use Rattle.std.specs.Prelude.{◌≡◌, ◌/◌, ℕ, Bool, true, false, 
 ghost use Rattle.macs_config.specs.Identity.{Identity};
 ghost use Rattle.macs_disk.specs.Files.{Behaves, FileState, Settles};
 ghost use Rattle.macs_disk.specs.declared.layout.Layout.{Layout};
+ghost use Rattle.macs_disk.specs.FileDisks.{file_given};
+ghost use Rattle.macs_program.specs.CaptureOctets.{CaptureOctets};
+ghost use Rattle.macs_program.specs.ContentWords.{BlankWords, InUseWords};
 ghost use Rattle.macs_program.specs.Contents.{ContentsAre, HasOpenGate, IsBlankFile};
 ghost use Rattle.macs_program.specs.Drawn.{AnswerWords, ApplyWords, CaptureWords, FileWords, LineWords, ValueWords};
+ghost use Rattle.macs_program.specs.Inputs.{read_of};
 ghost use Rattle.macs_program.specs.NewDisks.{Formats, Permits};
+ghost use Rattle.macs_program.specs.RelayDrawn.{RelayWords};
+ghost use Rattle.macs_program.specs.RunWords.{BeforeWords, FailWords, ReplyWords};
+ghost use Rattle.macs_program.specs.ShowTexts.{ShowTexts};
+ghost use Rattle.macs_program.specs.TextWords.{CheckTexts, FailureTexts, FaultOrders, FrameTexts, LineTexts};
 ghost use Rattle.macs_program.specs.declared.contents.Contents.{Contents};
 
+use crate::input::Input;
 use macs_disk::{DiskFile, SectorDisk};
 
 /// A file is made the disk of a new endpoint only where it held nothing when it was settled, or where
@@ -28,6 +37,20 @@ pub fn written_over<F: DiskFile>()
         → Formats F.file is_over layout identity → (given : F) × (Behaves (F.file given)
         → (settled : FileState) × Settles (F.file given) settled
         × Permits is_over settled ((F.file given).size / 512) None) }
+    // And it is the file that the blank disk was made in which was formatted.
+    ensures given { (is_over : Bool) (layout : Layout) (identity : Identity)
+        (made : Formats F.file is_over layout identity) → Behaves (F.file (file_given made.blank))
+        → (settled : FileState) × Settles (F.file (file_given made.blank)) settled
+        × Permits is_over settled ((F.file (file_given made.blank)).size / 512) None }
+{}
+
+/// What is in a file before it is written over: an endpoint in use is one that the journal finds, and a
+/// file that is blank has zeros.
+pub fn contents()
+    // Where the journal reads an open head gate, and nowhere else, an endpoint is in use.
+    ensures in_use { InUseWords }
+    // A blank file has zeros but for what a `format` that was cut short leaves.
+    ensures blank { BlankWords }
 {}
 
 /// What is to be drawn of words in which the program's contracts end: to one input belongs one
@@ -45,4 +68,43 @@ pub fn words<D: SectorDisk, F: DiskFile>()
     ensures lines { LineWords }
     // Which values words spell.
     ensures values { ValueWords }
+{}
+
+/// What is to be drawn of words on relays: how many turns one takes, whether a desk attends it, what it
+/// comes to, and how it ends.
+pub fn relays<F: DiskFile>()
+    ensures { RelayWords F.file }
+{}
+
+/// What is to be drawn of words on whole runs: what a run replies and each action does, how each fails,
+/// and what was printed before.
+pub fn runs<F: DiskFile, R: Input>()
+    // What a run replies, and what each action does.
+    ensures replies { ReplyWords F.file }
+    // How a run and each action fail.
+    ensures fails { FailWords F.file }
+    // What was printed before a failure, and which values are wrong.
+    ensures before { BeforeWords }
+    // What is said of an input: what was left of it before, and whether a read of it failed.
+    ensures read { (input left : R) → ((read_of R.remaining R.failed input left).octets ≡ R.remaining input)
+        × ((read_of R.remaining R.failed input left).has_failed ≡ R.failed left) }
+{}
+
+/// What is to be drawn of words on texts, to the letter: which line says what, which failure has which
+/// name and status, and in which order faults are looked for.
+pub fn texts()
+    // The lines of answers, commands, captures and relays.
+    ensures lines { LineTexts }
+    // The names of failures, and their statuses.
+    ensures failures { FailureTexts }
+    // The orders in which faults are looked for, and what each says.
+    ensures orders { FaultOrders }
+    // What `inspect` says of a frame.
+    ensures frames { FrameTexts }
+    // What `check` says of a file.
+    ensures checks { CheckTexts }
+    // What `show` prints of an endpoint.
+    ensures shown { ShowTexts }
+    // The octets of a capture, and the order of their faults.
+    ensures captures { CaptureOctets }
 {}

@@ -22,7 +22,7 @@ ghost use Rattle.macs_program.specs.Endpoints.{AppliesIn, BreaksOffIn, IsDiskIn,
 ghost use Rattle.macs_program.specs.Endpoints.{PassEndsIn, PassesIn, ShowsIn};
 ghost use Rattle.macs_program.specs.Failing.{failure_status};
 ghost use Rattle.macs_program.specs.NewDisks.{FormatFails, Formats, MakesDisk};
-ghost use Rattle.macs_program.specs.Relaying.{ComesTo, IsOfRelay, RelayEndsIn, course_of, is_attended, new_wire, turns_of};
+ghost use Rattle.macs_program.specs.Relaying.{ComesTo, IsOfRelay, RelayEndsIn, course_of, is_attended, left_out, new_wire, turns_of};
 ghost use Rattle.macs_program.specs.Summing.{pass_status, relay_line, summary_line};
 ghost use Rattle.macs_program.specs.Tasks.{DoesApply, DoesPass, DoesRelay, DoesShow, Doing, IsRunIn};
 ghost use Rattle.macs_program.specs.Values.{SpellsIdentity, SpellsLayout, ValueFaultHolds, value_faults};
@@ -30,7 +30,7 @@ ghost use Rattle.macs_program.specs.declared.addresses.AddressFault.{AddressFaul
 ghost use Rattle.macs_program.specs.declared.values.ValueFault.{ValueFault};
 ghost use Rattle.macs_texts.specs.Lines.{line};
 
-use crate::addresses::{Addresses, addresses_of};
+use crate::addresses::{Addresses, WireAddresses, addresses_of};
 use crate::applying::apply_commands;
 use crate::attended::{desk_for, leave};
 use crate::capture_file::CaptureFile;
@@ -370,17 +370,68 @@ struct Wires {
     common: UdpWire<Global>,
 }
 
+/// The same wire, once the system was asked to keep so many octets of the datagrams that wait at it: how many it keeps is
+/// noted.
+fn with_buffer<N: Net>(net: &N, mut wire: UdpWire<Global>, octets: u32) -> UdpWire<Global>
+    ensures state { ⟦<UdpWire<Global, UdpSocket> as Wire>⟧.state result
+        ≡ ⟦<UdpWire<Global, UdpSocket> as Wire>⟧.state wire }
+    ensures peer { peer_of result ≡ peer_of wire }
+{
+    match ask_for_buffer(net, wire.as_raw_fd(), octets) {
+        Some(kept) => wire.note_buffer(kept),
+        None => {}
+    }
+    wire
+}
+
+/// Binds a wire, and asks for its buffer where one is wanted. It fails as `bind` does.
+fn bind_wire<N: Net>(
+    net: &N,
+    alloc: Global,
+    addresses: WireAddresses,
+    buffer: Option<u32>,
+) -> Result<UdpWire<Global>, Failure>
+    ensures fresh { IfOk result (λ bound. ⟦<UdpWire<Global, UdpSocket> as Wire>⟧.state bound ≡ new_wire) }
+    ensures peer { IfOk result (λ bound. peer_of bound ≡ addresses.peer) }
+    ensures failed { IfErr result (λ failure. (failure ≡ Failure.Memory) ⊎ (failure ≡ Failure.Wire)) }
+{
+    let wire = bind(net, alloc, addresses)?;
+    match buffer {
+        Some(octets) => Ok(with_buffer(net, wire, octets)),
+        None => Ok(wire),
+    }
+}
+
 /// Binds the wires of a relay, from left to right. It fails as `bind` does.
-fn bind_wires<N: Net>(net: &N, alloc: Global, addresses: Addresses) -> Result<Wires, Failure>
+fn bind_wires<N: Net>(
+    net: &N,
+    alloc: Global,
+    addresses: Addresses,
+    buffer: Option<u32>,
+) -> Result<Wires, Failure>
     ensures fresh { IfOk result (λ wires. (⟦<UdpWire<Global, UdpSocket> as Wire>⟧.state wires.controlled ≡ new_wire)
         × (⟦<UdpWire<Global, UdpSocket> as Wire>⟧.state wires.common ≡ new_wire)) }
     ensures peers { IfOk result (λ wires. (peer_of wires.controlled ≡ addresses.controlled.peer)
         × (peer_of wires.common ≡ addresses.common.peer)) }
     ensures failed { IfErr result (λ failure. (failure ≡ Failure.Memory) ⊎ (failure ≡ Failure.Wire)) }
 {
-    let controlled = bind(net, alloc, addresses.controlled)?;
-    let common = bind(net, alloc, addresses.common)?;
+    let controlled = bind_wire(net, alloc, addresses.controlled, buffer)?;
+    let common = bind_wire(net, alloc, addresses.common, buffer)?;
     Ok(Wires { controlled, common })
+}
+
+/// How many receives in a row a wire of a relay that sleeps leaves out at most, where it gives nothing and the other wire
+/// gives frames.
+const LEFT_OUT: u8 = 7;
+
+/// How many a wire of a relay with this pace leaves out: none where the relay does not sleep.
+fn left_out(pace: Pace) -> u8
+    ensures { result ≡ left_out pace }
+{
+    match pace {
+        Pace::Busy { .. } => 0,
+        Pace::Waiting { .. } => LEFT_OUT,
+    }
 }
 
 impl Wires {
@@ -431,31 +482,34 @@ impl Wires {
 
     /// Relays frames between them in turns of which each that brought nothing is followed by a sleep.
     fn relay_resting<D: SectorDisk, W: Stream>(
-        &mut self,
+        self,
         endpoint: &mut Endpoint<D>,
         limit: Milliseconds,
         turns: u64,
         out: &mut W,
     ) -> Result<Status, Failure>
-        requires controlled { ⟦<UdpWire<Global, UdpSocket> as Wire>⟧.state self.old.controlled ≡ new_wire }
-        requires common { ⟦<UdpWire<Global, UdpSocket> as Wire>⟧.state self.old.common ≡ new_wire }
+        requires controlled { ⟦<UdpWire<Global, UdpSocket> as Wire>⟧.state self.controlled ≡ new_wire }
+        requires common { ⟦<UdpWire<Global, UdpSocket> as Wire>⟧.state self.common ≡ new_wire }
         ensures { DoesRelay D.disk W.contents W.failed (unattended turns) endpoint.old out.old result endpoint.new out.new }
     {
         let mut watch = self.watch(limit);
         let Wires { controlled, common } = self;
-        relay_frames_resting(endpoint, controlled, common, &mut watch, turns, out)
-    }
-
-    /// Asks the system to keep so many octets of the datagrams that wait at each.
-    fn ask_for_buffers<N: Net>(&self, net: &N, octets: u32) {
-        ask_for_buffer(net, self.controlled.as_raw_fd(), octets);
-        ask_for_buffer(net, self.common.as_raw_fd(), octets);
+        let mut controlled = controlled.sparing(LEFT_OUT);
+        let mut common = common.sparing(LEFT_OUT);
+        relay_frames_resting(
+            endpoint,
+            &mut controlled,
+            &mut common,
+            &mut watch,
+            turns,
+            out,
+        )
     }
 
     /// Relays frames between them, attended: whoever started the program is told that it serves, once all is bound,
     /// and that it ends.
     fn attend<T: Files + Net + Clock + Env, D: SectorDisk, W: Stream>(
-        &mut self,
+        self,
         rt: &T,
         alloc: Global,
         endpoint: &mut Endpoint<D>,
@@ -463,15 +517,25 @@ impl Wires {
         turns: u64,
         out: &mut W,
     ) -> Result<Status, Failure>
-        requires controlled { ⟦<UdpWire<Global, UdpSocket> as Wire>⟧.state self.old.controlled ≡ new_wire }
-        requires common { ⟦<UdpWire<Global, UdpSocket> as Wire>⟧.state self.old.common ≡ new_wire }
+        requires controlled { ⟦<UdpWire<Global, UdpSocket> as Wire>⟧.state self.controlled ≡ new_wire }
+        requires common { ⟦<UdpWire<Global, UdpSocket> as Wire>⟧.state self.common ≡ new_wire }
         ensures { DoesRelay D.disk W.contents W.failed (attended turns) endpoint.old out.old result endpoint.new out.new }
     {
         let mut desk = desk_for(rt, alloc, &running, self.sockets())?;
         let notifier = Notifier::of_environment(rt, alloc);
         notifier.ready();
         let Wires { controlled, common } = self;
-        let result = relay_frames_attended(endpoint, controlled, common, &mut desk, turns, out);
+        let most = left_out(running.pace);
+        let mut controlled = controlled.sparing(most);
+        let mut common = common.sparing(most);
+        let result = relay_frames_attended(
+            endpoint,
+            &mut controlled,
+            &mut common,
+            &mut desk,
+            turns,
+            out,
+        );
         notifier.stopping();
         leave(rt, &running);
         result
@@ -513,10 +577,7 @@ impl<T: Files + Net + Clock + Env, D: SectorDisk, W: Stream> Task<D, W> for Rela
 
     #[inline(never)]
     fn run(&self, endpoint: &mut Endpoint<D>, out: &mut W) -> Result<Status, Failure> {
-        let mut wires = bind_wires(self.rt, self.alloc, self.addresses)?;
-        if let Some(octets) = self.running.buffer {
-            wires.ask_for_buffers(self.rt, octets);
-        }
+        let mut wires = bind_wires(self.rt, self.alloc, self.addresses, self.running.buffer)?;
         let turns = turns_of(self.running.pace);
         if is_attended(&self.running) {
             return wires.attend(self.rt, self.alloc, endpoint, self.running, turns, out);

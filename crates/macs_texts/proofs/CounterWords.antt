@@ -21,6 +21,8 @@ counter-words = record {
   channel = λ table sci c v is. ap (λ (o : Option ChannelCounters).
       count_line_of (codes "channel " ++ encode_lower sci) (verdict_words v) (option_map (channel_count_of v) o)) is;
   wire = λ side c. refl;
+  buffer = λ side octets. refl;
+  no_buffer = λ side. refl;
   left = λ s an next is. ap (λ (o : Option ℕ).
       count_line_of (codes "left tx") (decimal an) (option_map (λ (n : ℕ). 2 ^ 32 - n) o)) is;
   none_left = λ s an is. ap (λ (o : Option ℕ).

@@ -17,10 +17,11 @@ use Rattle.macs_endpoint.specs.State.{State}
 use Rattle.macs_edge.specs.declared.counts.WireCounts.{WireCounts}
 use Rattle.macs_texts.specs.Counting.{channel_line, counters_text, fault_words, keys_text, left_line, rx_text, tx_text}
 use Rattle.macs_texts.specs.Counting.{channel_text, left_text, rx_line, verdict_words, wire_text}
-use Rattle.macs_texts.specs.Lines.{count_line}
+use Rattle.macs_texts.specs.Lines.{count_line, count_line_of}
 
 -- A line says of what it is, which count, and the number, in decimal. Each fault and each verdict has its own word, and
--- its own number on the line of that word; a wire, what it took, sent, took from strangers, and how often it failed.
+-- its own number on the line of that word; a wire, what it took, sent, took from strangers, how often it failed, and
+-- what is kept for it, where that is known.
 -- What is left are the packet numbers below 2^32 of each association that has a next one, and the keys of each side.
 -- Frames that were sent come first, then those received, by channels next, then the wires, and last what is left.
 pub record CounterWords : Type 0 where
@@ -55,7 +56,10 @@ pub record CounterWords : Type 0 where
   pub wire : (side : List ℕ) (c : WireCounts) → wire_text side c ≡ count_line side (codes "taken") c.taken
       ++ (count_line side (codes "sent") c.sent ++ (count_line side (codes "strangers") c.strangers
       ++ (count_line side (codes "failed-receives") c.failed_receives
-      ++ count_line side (codes "failed-sends") c.failed_sends)))
+      ++ (count_line side (codes "failed-sends") c.failed_sends ++ count_line_of side (codes "buffer") c.buffer))))
+  pub buffer : (side : List ℕ) (octets : ℕ) → count_line_of side (codes "buffer") (Some octets)
+      ≡ count_line side (codes "buffer") octets
+  pub no_buffer : (side : List ℕ) → count_line_of side (codes "buffer") None ≡ []
   pub left : (s : State) (an next : ℕ) → s.next an ≡ Some next
       → left_line s an ≡ count_line (codes "left tx") (decimal an) (2 ^ 32 - next)
   pub none_left : (s : State) (an : ℕ) → s.next an ≡ None → left_line s an ≡ []

@@ -98,14 +98,15 @@ channel_text table sci = concat (map (channel_line table sci) channel_verdicts)
 
 -- ---- wires
 
--- what a wire counted, by its number
+-- what a wire counted, by its number, and how many octets of datagrams are kept for it, where that is known
 abbrev pub wire_text : List ℕ → WireCounts → List ℕ
 wire_text side c =
     count_line side (codes "taken") c.taken
     ++ (count_line side (codes "sent") c.sent
     ++ (count_line side (codes "strangers") c.strangers
     ++ (count_line side (codes "failed-receives") c.failed_receives
-    ++ count_line side (codes "failed-sends") c.failed_sends)))
+    ++ (count_line side (codes "failed-sends") c.failed_sends
+    ++ count_line_of side (codes "buffer") c.buffer))))
 
 -- ---- what is left
 

@@ -121,7 +121,21 @@ wire_numbers name controlled common =
 abbrev pub wire_metric : List ℕ → List ℕ → ℕ → ℕ → List ℕ
 wire_metric name help controlled common = metric_head name (codes "counter") help ++ wire_numbers name controlled common
 
--- what they counted
+-- what is kept for a wire
+abbrev pub buffer_name : List ℕ
+buffer_name = codes "macsec_wire_buffer_octets"
+
+-- so many octets, where that is known
+abbrev pub buffer_sample : List ℕ → Option ℕ → List ℕ
+buffer_sample wire octets = sample_of buffer_name (label (codes "wire") wire) octets
+
+-- and for either
+abbrev pub buffer_metric : Option ℕ → Option ℕ → List ℕ
+buffer_metric controlled common =
+    metric_head buffer_name (codes "gauge") (codes "Octets of waiting datagrams that the system keeps for a wire.")
+    ++ (buffer_sample (codes "1") controlled ++ buffer_sample (codes "2") common)
+
+-- what they counted, and what is kept for them
 abbrev pub wires_metrics : WireCounts → WireCounts → List ℕ
 wires_metrics controlled common =
     wire_metric (codes "macsec_wire_taken_total") (codes "Frames taken off a wire.") controlled.taken common.taken
@@ -130,8 +144,9 @@ wires_metrics controlled common =
     controlled.strangers common.strangers
     ++ (wire_metric (codes "macsec_wire_failed_receives_total") (codes "Receives that failed.")
     controlled.failed_receives common.failed_receives
-    ++ wire_metric (codes "macsec_wire_failed_sends_total") (codes "Sends that failed.")
-    controlled.failed_sends common.failed_sends)))
+    ++ (wire_metric (codes "macsec_wire_failed_sends_total") (codes "Sends that failed.")
+    controlled.failed_sends common.failed_sends
+    ++ buffer_metric controlled.buffer common.buffer))))
 
 -- ---- what is left
 

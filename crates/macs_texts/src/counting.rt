@@ -167,7 +167,9 @@ fn channels_lines<D: SectorDisk>(
 fn wire_lines(alloc: Global, side: &str, counts: &WireCounts) -> Result<String, AllocError>
     ensures { IfOk result (λ text. string_bytes text ≡ wire_text side.now counts.now) }
 {
-    let text = count_line(alloc, side, "failed-sends", counts.failed_sends);
+    let text = count_line_of(alloc, side, "buffer", counts.buffer);
+    let sends = count_line(alloc, side, "failed-sends", counts.failed_sends);
+    let text = joined(sends, text);
     let receives = count_line(alloc, side, "failed-receives", counts.failed_receives);
     let text = joined(receives, text);
     let text = joined(count_line(alloc, side, "strangers", counts.strangers), text);

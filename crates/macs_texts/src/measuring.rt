@@ -7,6 +7,7 @@ ghost use Rattle.macs_endpoint.specs.State.{no_logs};
 ghost use Rattle.macs_endpoint.specs.Value.{state_of};
 ghost use Rattle.macs_rxsc.specs.Value as rxsc;
 ghost use Rattle.macs_txsc.specs.Value as txsc;
+ghost use Rattle.macs_texts.specs.Measuring.{buffer_metric, buffer_sample};
 ghost use Rattle.macs_texts.specs.Measuring.{channel_labels, channel_metric, channel_sample};
 ghost use Rattle.macs_texts.specs.Measuring.{channel_samples, key_numbers, keys_metric};
 ghost use Rattle.macs_texts.specs.Measuring.{left_metric, left_sample};
@@ -226,7 +227,36 @@ fn wire_metric(
     )
 }
 
-/// What the wires counted.
+/// How many octets are kept for a wire, where that is known.
+fn buffer_sample(alloc: Global, wire: &str, octets: Option<u64>) -> Result<String, AllocError>
+    ensures { IfOk result (λ text. string_bytes text ≡ buffer_sample wire.now octets) }
+{
+    let labels = label(alloc, "wire", wire)?;
+    sample_of(alloc, "macsec_wire_buffer_octets", labels.as_str(), octets)
+}
+
+/// How many octets are kept for either wire.
+fn buffer_metric(
+    alloc: Global,
+    controlled: Option<u64>,
+    common: Option<u64>,
+) -> Result<String, AllocError>
+    ensures { IfOk result (λ text. string_bytes text ≡ buffer_metric controlled common) }
+{
+    let head = metric_head(
+        alloc,
+        "macsec_wire_buffer_octets",
+        "gauge",
+        "Octets of waiting datagrams that the system keeps for a wire.",
+    );
+    let text = joined(
+        buffer_sample(alloc, "1", controlled),
+        buffer_sample(alloc, "2", common),
+    );
+    joined(head, text)
+}
+
+/// What the wires counted, and what is kept for them.
 fn wires_metrics(
     alloc: Global,
     controlled: &WireCounts,
@@ -234,13 +264,15 @@ fn wires_metrics(
 ) -> Result<String, AllocError>
     ensures { IfOk result (λ text. string_bytes text ≡ wires_metrics controlled.now common.now) }
 {
-    let text = wire_metric(
+    let text = buffer_metric(alloc, controlled.buffer, common.buffer);
+    let more = wire_metric(
         alloc,
         "macsec_wire_failed_sends_total",
         "Sends that failed.",
         controlled.failed_sends,
         common.failed_sends,
     );
+    let text = joined(more, text);
     let more = wire_metric(
         alloc,
         "macsec_wire_failed_receives_total",

@@ -77,6 +77,8 @@ macsec_wire_failed_receives_total{wire=\"2\"} 0
 # TYPE macsec_wire_failed_sends_total counter
 macsec_wire_failed_sends_total{wire=\"1\"} 0
 macsec_wire_failed_sends_total{wire=\"2\"} 0
+# HELP macsec_wire_buffer_octets Octets of waiting datagrams that the system keeps for a wire.
+# TYPE macsec_wire_buffer_octets gauge
 # HELP macsec_tx_numbers_left Packet numbers left under a transmit key.
 # TYPE macsec_tx_numbers_left gauge
 # HELP macsec_keys_left Keys that may still be installed.

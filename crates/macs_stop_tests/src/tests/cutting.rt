@@ -5,7 +5,7 @@ use super::known::Known;
 use super::life::play;
 use super::{BLOCK, OWN};
 use macs_config::Identity;
-use macs_disk::{Fuse, MemDisk};
+use macs_disk::{Fuse, MemDisk, SectorDisk};
 use macs_endpoint::{Endpoint, OpenRefused, format};
 use macs_journal::JournalFault;
 use std::alloc::Global;
@@ -56,6 +56,26 @@ pub(super) fn format_again(rt: &impl Abort, disk: &mut MemDisk) -> Result<(), Jo
     format(disk, &identity(rt))
 }
 
+/// Opens a disk of which a device call may fail: the endpoint, or the disk where one did.
+pub(super) fn opening<D: SectorDisk + Drop>(rt: &impl Abort, disk: D) -> Result<Endpoint<D>, D> {
+    match Endpoint::open(disk) {
+        Ok(endpoint) => Ok(endpoint),
+        Err(refused) => {
+            let OpenRefused { disk, fault } = refused;
+            assert!(rt; fault == JournalFault::Disk);
+            Err(disk)
+        }
+    }
+}
+
+/// Opens a disk that no call of fails.
+pub(super) fn opened(rt: &impl Abort, disk: MemDisk) -> Endpoint<MemDisk> {
+    match opening(rt, disk) {
+        Ok(endpoint) => endpoint,
+        Err(_) => panic!(rt; "not opened"),
+    }
+}
+
 /// Plays the script from a blank disk on, to a stop or to its end: whether there was a stop, and what is left.
 pub(super) fn play_to(rt: &impl Abort, alloc: Global, stop: Stop) -> (bool, Cut) {
     let identity = identity(rt);
@@ -72,19 +92,15 @@ pub(super) fn play_to(rt: &impl Abort, alloc: Global, stop: Stop) -> (bool, Cut)
         );
     }
     known.is_formatted = true;
-    match Endpoint::open(disk) {
+    match opening(rt, disk) {
         Ok(endpoint) => live(rt, endpoint, known),
-        Err(refused) => {
-            let OpenRefused { disk, fault } = refused;
-            assert!(rt; fault == JournalFault::Disk);
-            (
-                true,
-                Cut {
-                    disk: disk.into_inner(),
-                    known,
-                },
-            )
-        }
+        Err(disk) => (
+            true,
+            Cut {
+                disk: disk.into_inner(),
+                known,
+            },
+        ),
     }
 }
 

@@ -1,7 +1,7 @@
 //! Each sync of a file fails in turn, and the program goes on as its operator does: it opens the disk again, and plays
 //! on. Then memory is short, the power is lost, and what an opening finds is judged.
 
-use super::cutting::identity;
+use super::cutting::{identity, opening};
 use super::judging::judge;
 use super::kernel_files::{
     Disk, Going, Ground, Kernel, fail_sync, file, go_on, kernel, make_disk, open_disk,
@@ -9,7 +9,7 @@ use super::kernel_files::{
 use super::known::Known;
 use super::life::{command, protect, step, take};
 use super::script::{Asked, Part, command_of};
-use macs_endpoint::{Endpoint, OpenRefused, format};
+use macs_endpoint::{Endpoint, format};
 use macs_journal::JournalFault;
 use macs_mem_file::Left;
 use std::alloc::Global;
@@ -94,16 +94,13 @@ fn opened<'a>(
     disk: Disk<'a>,
     going: Going,
 ) -> Endpoint<Disk<'a>> {
-    match Endpoint::open(disk) {
+    let disk = match opening(rt, disk) {
+        Ok(endpoint) => return endpoint,
+        Err(disk) => disk,
+    };
+    match opening(rt, go_on(rt, kernel, disk, going)) {
         Ok(endpoint) => endpoint,
-        Err(refused) => {
-            let OpenRefused { disk, fault } = refused;
-            assert!(rt; fault == JournalFault::Disk);
-            match Endpoint::open(go_on(rt, kernel, disk, going)) {
-                Ok(endpoint) => endpoint,
-                Err(_) => panic!(rt; "no endpoint"),
-            }
-        }
+        Err(_) => panic!(rt; "no endpoint"),
     }
 }
 

@@ -1,12 +1,12 @@
 //! What is found after a power loss, judged by what was known before.
 
-use super::cutting::{Cut, format_again};
+use super::cutting::{Cut, format_again, opened, opening};
 use super::disks::copy;
 use super::known::{Known, Passed};
 use super::life::{protect, receive};
 use super::tearing::{Pending, pending};
 use macs_disk::{Fuse, MemDisk, SectorDisk};
-use macs_endpoint::{Endpoint, OpenRefused};
+use macs_endpoint::Endpoint;
 use macs_journal::JournalFault;
 use std::alloc::Global;
 use std::process::Abort;
@@ -56,26 +56,18 @@ fn open_behind(rt: &impl Abort, disk: MemDisk, calls: u64) -> (MemDisk, bool) {
 
 /// The opening of a disk behind a fuse: the disk, and whether it was opened.
 pub(super) fn open_fused(rt: &impl Abort, disk: Fuse<MemDisk>) -> (MemDisk, bool) {
-    match Endpoint::open(disk) {
+    match opening(rt, disk) {
         Ok(endpoint) => (endpoint.into_disk().into_inner(), true),
-        Err(refused) => {
-            let OpenRefused { disk, fault } = refused;
-            assert!(rt; fault == JournalFault::Disk);
-            (disk.into_inner(), false)
-        }
+        Err(disk) => (disk.into_inner(), false),
     }
 }
 
 /// An opening that is not stopped: what it finds is what was known.
 fn open_whole(rt: &impl Abort, disk: MemDisk, known: &Known) -> MemDisk {
-    match Endpoint::open(disk) {
-        Ok(endpoint) => {
-            assert!(rt; known.allows(endpoint.config()));
-            assert!(rt; known.passed.is_behind(rt, &endpoint));
-            endpoint.into_disk()
-        }
-        Err(_) => panic!(rt; "not opened"),
-    }
+    let endpoint = opened(rt, disk);
+    assert!(rt; known.allows(endpoint.config()));
+    assert!(rt; known.passed.is_behind(rt, &endpoint));
+    endpoint.into_disk()
 }
 
 /// The opening is stopped at each of its device calls, twice in a row, and is whole then. How many stops

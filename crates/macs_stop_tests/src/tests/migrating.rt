@@ -1,7 +1,7 @@
 //! Disks of format one: an opening begins the journal anew, in format two, and is stopped at each of its device calls.
 
 use super::SECTORS;
-use super::cutting::{Cut, Kind, Stop, format_again, fused, identity};
+use super::cutting::{Cut, Kind, Stop, format_again, fused, identity, opened};
 use super::disks::{blank, copy, durable};
 use super::judging::{judge, open_fused};
 use super::known::Known;
@@ -99,6 +99,16 @@ fn play_rest<D: SectorDisk>(rt: &impl Abort, endpoint: &mut Endpoint<D>, known: 
     }
 }
 
+/// The disk of an endpoint has heads as an older program writes them.
+fn older_disk(rt: &impl Abort, disk: MemDisk, old: Old) -> MemDisk {
+    let mut disk = disk;
+    make_older(rt, &mut disk, 0);
+    if let Old::Grown = old {
+        make_older(rt, &mut disk, SECOND_HEAD);
+    }
+    disk
+}
+
 /// An older program's disk, and what was known at its end.
 fn older(rt: &impl Abort, alloc: Global, old: Old) -> Cut {
     let mut disk = blank(rt, alloc);
@@ -106,22 +116,14 @@ fn older(rt: &impl Abort, alloc: Global, old: Old) -> Cut {
     assert!(rt; format_again(rt, &mut disk).is_ok());
     let mut known = Known::new(&identity(rt));
     known.is_formatted = true;
-    match Endpoint::open(disk) {
-        Ok(mut endpoint) => {
-            let end = match old {
-                Old::Young => PARTS,
-                Old::Grown => SCRIPT.len(),
-            };
-            play_older(rt, &mut endpoint, &mut known, end);
-            let mut disk = endpoint.into_disk();
-            make_older(rt, &mut disk, 0);
-            if let Old::Grown = old {
-                make_older(rt, &mut disk, SECOND_HEAD);
-            }
-            Cut { disk, known }
-        }
-        Err(_) => panic!(rt; "not opened"),
-    }
+    let mut endpoint = opened(rt, disk);
+    let end = match old {
+        Old::Young => PARTS,
+        Old::Grown => SCRIPT.len(),
+    };
+    play_older(rt, &mut endpoint, &mut known, end);
+    let disk = older_disk(rt, endpoint.into_disk(), old);
+    Cut { disk, known }
 }
 
 /// Its opening is stopped at each of these calls, in both ways, each on a copy of the disk; then the power goes.
@@ -181,17 +183,13 @@ fn a_migration_has_so_many_device_calls(rt: HostRuntime) {
 #[test]
 fn the_script_goes_on_behind_a_migration(rt: HostRuntime) {
     let Cut { disk, mut known } = older(&rt, rt.alloc(), Old::Young);
-    match Endpoint::open(disk) {
-        Ok(mut endpoint) => {
-            known.catch_up(&rt, &endpoint);
-            play_rest(&rt, &mut endpoint, &mut known);
-            assert!(rt; take(&rt, &mut endpoint, &mut known, Part::Windows(AREA)).is_ok());
-            let mut disk = endpoint.into_disk();
-            disk.crash();
-            judge(&rt, disk, &known);
-        }
-        Err(_) => panic!(rt; "not opened"),
-    }
+    let mut endpoint = opened(&rt, disk);
+    known.catch_up(&rt, &endpoint);
+    play_rest(&rt, &mut endpoint, &mut known);
+    assert!(rt; take(&rt, &mut endpoint, &mut known, Part::Windows(AREA)).is_ok());
+    let mut disk = endpoint.into_disk();
+    disk.crash();
+    judge(&rt, disk, &known);
 }
 
 /// Nothing is pending while the disk is read.

@@ -1,4 +1,4 @@
-use Rattle.std.proofs.Common.{◌≡◌, ◌∙◌, string_bytes}
+use Rattle.std.proofs.Common.{◌∙◌}
 use Rattle.macs_desk.proofs.EndTexts.{end-0, end-5}
 use Rattle.macs_desk.proofs.Talking.{reported, unreported}
 use Rattle.macs_desk.proofs.answering.tell.Goals as goal

@@ -1,10 +1,9 @@
-use Rattle.std.proofs.Common.{◌≡◌, ℕ, sym, ◌∙◌, ap, subst, length, Option, List}
+use Rattle.std.proofs.Common.{◌≡◌, ℕ, sym, ◌∙◌, ap, subst, length, List}
 use Rattle.macs_record.specs.declared.record.Record.{Record}
-use Rattle.macs_journal.specs.Stages.{AtNextStage, IsCompactStage, next_stage}
-use Rattle.macs_journal.specs.declared.compact_stage.CompactStage.{CompactStage}
+use Rattle.macs_journal.specs.Stages.{IsCompactStage, next_stage}
 use Rattle.macs_disk.specs.Disk.{IsHonest}
 use Rattle.macs_journal.proofs.Stages.{next-fits, next-left}
-use Rattle.macs_journal.proofs.UnderWay.{call-leaves, call-next, call-under_way, way-ready}
+use Rattle.macs_journal.proofs.UnderWay.{call-next, call-under_way}
 use Rattle.macs_journal.proofs.Working.{done-call}
 use Rattle.macs_journal.proofs.compact_calls.perform.Given.{Over}
 use Rattle.macs_journal.proofs.compact_calls.perform.Goals.{After-call, After-next-next}
@@ -60,22 +59,3 @@ returns-clause-next g c honest began at =
     rw (next-is g ways) (call-next began _ _ c.args.area c.args.head.now (listed g c.args.records.now) c.call.new.gate
     (g.met.D.SectorDisk.sound c.args.disk.now (honest-before g path honest))
     c.args.stage c.is_open.result _ c.is_open.ensures at c.in_ok-call.ensures.call (done-call _ _ _ c.in_ok-call.ensures.call) (c.in_ok-call.ensures.does honest))
-
-pub returns-in_err-call-clause-images : goal.returns-in_err-call-clause-images
-returns-in_err-call-clause-images g c honest began before at ready area_is head_is =
-    call-leaves began _ _ c.args.area c.args.head.now (listed g c.args.records.now) c.requires.few before ready area_is head_is c.args.stage
-    c.requires.room at c.call.ensures.call.work.works
-    (returns-in_err-call-clause-under_way g c honest began at)
-
-pub returns-clause-images : goal.returns-clause-images
-returns-clause-images g c honest began before at ready area_is head_is =
-    call-leaves began _ _ c.args.area c.args.head.now (listed g c.args.records.now) c.requires.few before ready area_is head_is c.args.stage
-    c.requires.room at c.call.ensures.call.work.works
-    (returns-clause-under_way g c honest began at)
-
-pub returns-clause-done : goal.returns-clause-done
-returns-clause-done g c ends honest began before at ready area_is head_is =
-    way-ready began _ c.args.area c.args.head.now (listed g c.args.records.now) c.requires.few before ready area_is head_is
-    (subst (λ (n : Option CompactStage). AtNextStage began (g.D.SectorDisk.disk c.call.new.disk) c.args.area c.args.head.now
-    (listed g c.args.records.now) n) ends
-    (returns-clause-next g c honest began at))

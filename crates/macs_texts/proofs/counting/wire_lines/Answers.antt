@@ -2,7 +2,8 @@ use Rattle.macs_texts.proofs.counting.wire_lines.Goals as goal
 
 pub returns : goal.returns
 returns c =
-    let failed = c.joined-text.ensures _ _ c.count_line-receives.ensures c.count_line-text.ensures in
-    let with_strangers = c.joined-text-2.ensures _ _ c.count_line.ensures failed in
-    let with_sent = c.joined-text-3.ensures _ _ c.count_line-2.ensures with_strangers in
+    let with_sends = c.joined-text.ensures _ _ c.count_line-sends.ensures c.count_line_of-text.ensures in
+    let with_failed = c.joined-text-2.ensures _ _ c.count_line-receives.ensures with_sends in
+    let with_strangers = c.joined-text-3.ensures _ _ c.count_line.ensures with_failed in
+    let with_sent = c.joined-text-4.ensures _ _ c.count_line-2.ensures with_strangers in
     c.joined.ensures _ _ c.count_line-3.ensures with_sent

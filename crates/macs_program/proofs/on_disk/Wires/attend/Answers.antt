@@ -1,3 +1,4 @@
+use Rattle.std.proofs.Common.{◌∙◌}
 use Rattle.std.proofs.lemmas.Result.{err_from_is_err_and}
 use Rattle.macs_program.proofs.Relayed.{frames-attended, no-wire, of-desk}
 use Rattle.macs_program.proofs.on_disk.Wires.attend.Goals as goal
@@ -10,4 +11,6 @@ returns-in_err-desk g c =
 pub returns : goal.returns
 returns g c =
     let said = c.relay_frames_attended-result.ensures in
-    frames-attended _ _ _ _ _ _ _ _ _ _ _ _ c.relay_frames_attended-result.result c.requires.controlled c.requires.common said.printed said.ended said.silent said.broken
+    frames-attended _ _ _ _ _ _ _ _ _ _ _ _ c.relay_frames_attended-result.result
+    (c.sparing-controlled.ensures.state ∙ c.requires.controlled) (c.sparing-common.ensures.state ∙ c.requires.common)
+    said.printed said.ended said.silent said.broken

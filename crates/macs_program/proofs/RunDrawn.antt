@@ -1,0 +1,228 @@
+-- All that is to be drawn from words on whole runs.
+use Rattle.std.proofs.Common.{◌≡◌, ◌⊎◌, inl, inr, ℕ, Bool, List, Option, length, refl, subst, Ok}
+use Rattle.std.specs.Prelude.{option_map, string_bytes}
+use Rattle.std.specs.Borrow.{Bor}
+use Rattle.std.specs.Io.KnownBytes.{Appends}
+use Rattle.clap.specs.Words.{Text}
+use Rattle.macs_config.specs.declared.command.Command.{Command}
+use Rattle.macs_disk.specs.Disk.{Disk}
+use Rattle.macs_disk.specs.FileDisks.{disk_in_file}
+use Rattle.macs_disk.specs.Files.{FileState}
+use Rattle.macs_disk.specs.declared.file.FileDisk.{FileDisk}
+use Rattle.macs_edge.specs.Passing.{run_of}
+use Rattle.macs_edge.specs.declared.passing.Summary.{Summary}
+use Rattle.macs_edge.specs.declared.settling.Side.{Side}
+use Rattle.macs_edge.specs.declared.settling.Side.TheVariants.{Common, Controlled}
+use Rattle.macs_endpoint.specs.Value.{EndpointValue}
+use Rattle.macs_journal.specs.declared.fault.JournalFault.TheVariants as journal
+use Rattle.macs_pcap.specs.States.{SinkState, SourceState}
+use Rattle.macs_program.specs.Addresses.{AddressFaultHolds}
+use Rattle.macs_program.specs.Asking.{IsOfAsking}
+use Rattle.macs_program.specs.Applying.{SaysCommands}
+use Rattle.macs_program.specs.Checking.{CheckFails, IsSaidOfFile, PrintsCount, count_line}
+use Rattle.macs_program.specs.Capturing.{EndsPass, PassesCapture}
+use Rattle.macs_program.specs.Endpoints.{IsEndpointIn, PassEnds, PassesIn}
+use Rattle.macs_program.specs.Keys.{IsOfKey}
+use Rattle.macs_program.specs.Run.{WrongValues}
+use Rattle.macs_program.specs.RunWords.{BeforeWords, FailWords, ReplyWords}
+use Rattle.macs_program.specs.Summing.{pass_status, summary_line}
+use Rattle.macs_program.specs.Values.{ValueFaultHolds}
+use Rattle.macs_program.specs.declared.addresses.AddressFault.{AddressFault}
+use Rattle.macs_program.specs.declared.capturing.Direction.{Direction}
+use Rattle.macs_program.specs.declared.capturing.Direction.TheVariants as direction
+use Rattle.macs_program.specs.declared.failure.DiskFault.TheVariants as disk
+use Rattle.macs_program.specs.declared.failure.Failure.{Failure}
+use Rattle.macs_program.specs.declared.failure.Failure.TheVariants as failures
+use Rattle.macs_program.specs.declared.status.Status.{Status}
+use Rattle.macs_program.specs.declared.status.Status.TheVariants as ends
+use Rattle.macs_program.specs.declared.values.ValueFault.{ValueFault}
+use Rattle.macs_words.specs.declared.action.Action.{Action}
+use Rattle.macs_words.specs.declared.action.Action.TheVariants.{Format, Relay}
+use Rattle.macs_words.specs.declared.action.WireEnds.{WireEnds}
+use Rattle.macs_words.specs.declared.pace.Running.{Running}
+
+-- ---- what is done
+
+counted : (before after : Option (List ℕ)) (status : Status) → PrintsCount before after × (status ≡ ends.Done)
+    → (octets : List ℕ) × (commands : List Command) × SaysCommands octets commands
+    × Appends before after (count_line (length commands)) × (status ≡ ends.Done)
+counted before after status ((octets, count, (commands, says, is), printed), done) =
+    (octets, commands, says, subst (λ (n : ℕ). Appends before after (count_line n)) is printed, done)
+
+passed : {F : Type 0} (file : F → FileState) (side : Side) (way : Direction) (is_all : Bool) (before after : Option (List ℕ))
+    (status : Status) → (summary : Summary) × PassesIn file side summary × Appends before after (summary_line way summary)
+    × (status ≡ pass_status is_all summary)
+    → (summary : Summary) × (old : EndpointValue (FileDisk F)) × (new : EndpointValue (FileDisk F))
+    × IsEndpointIn file old × (source : SourceState) × (left : SourceState) × (sink : SinkState) × (sunk : SinkState)
+    × PassesCapture (disk_in_file file) side (run_of old source sink) (Ok summary) (run_of new left sunk)
+    × Appends before after (summary_line way summary) × (status ≡ pass_status is_all summary)
+passed file side way is_all before after status (summary, is, printed, ended) = (
+  summary,
+  is.old,
+  is.new,
+  is.endpoint,
+  is.passes.source,
+  is.passes.source_left,
+  is.passes.sink,
+  is.passes.sink_left,
+  is.passes.passes,
+  printed,
+  ended,
+)
+
+pub reply-words : {F : Type 0} (file : F → FileState) → ReplyWords file
+reply-words file = record {
+  replied = λ words input before after status is. is;
+  opened = λ input before after status is. is;
+  formatted = λ path sci tx_block rx_block block is_over input before after status
+      (identity, spells, layout, laid, f, printed, done). (
+        identity,
+        spells,
+        layout,
+        laid,
+        f.blank,
+        f.new,
+        (λ behaves. let free = f.free behaves in (free.settled, free.settles, free.permits, f.made behaves)),
+        f.formats,
+        printed,
+        done,
+      );
+  applied = λ path from input before after status is. (
+    is.old,
+    is.new,
+    is.endpoint,
+    is.applies.octets,
+    is.applies.commands,
+    is.applies.says,
+    is.applies.applies.outcomes,
+    is.applies.applies.applied,
+    is.applies.applies.printed,
+    is.applies.applies.status_is,
+  );
+  shown = λ path input before after status (is, done). (is.shown, is.endpoint, is.printed, done);
+  protected = λ path from to is_all input before after status is.
+      passed file Controlled direction.Protect is_all before after status is;
+  validated = λ path from to is_all input before after status is.
+      passed file Common direction.Validate is_all before after status is;
+  relayed = λ path controlled common running input before after status is. is;
+  asked_apply = λ path from input before after status is. is;
+  asked_show = λ path input before after status is. is;
+  asked_counters = λ path input before after status is. is;
+  asked_stop = λ path input before after status is. is;
+  key = λ input before after status ((octets, is), done). (octets, is.count, is.printed, done);
+  long_key = λ input before after status ((octets, is), done). (octets, is.count, is.printed, done);
+  inspected = λ from input before after status ((old, new, is), done). (
+    old,
+    new,
+    is.header,
+    is.behind,
+    is.begins,
+    is.records.records,
+    is.records.until,
+    is.records.inspected.taken,
+    is.records.inspected.printed.0,
+    is.records.inspected.printed.1,
+    is.records.inspected.printed.2,
+    is.records.room,
+    is.records.frame,
+    is.records.ended,
+    done,
+  );
+  checked = λ from input before after status is. counted before after status is;
+}
+
+-- ---- how it fails
+
+of_asking : (failure : Failure) → IsOfAsking failure
+    → (failure ≡ failures.Disk (disk.Journal journal.Stopped)) ⊎ (failure ≡ failures.Control)
+    ⊎ (failure ≡ failures.Commands) ⊎ (failure ≡ failures.Memory) ⊎ (failure ≡ failures.Output)
+of_asking (failures.Disk (disk.Journal journal.Stopped)) is = inl refl
+of_asking failures.Control is = inr (inl refl)
+of_asking failures.Commands is = inr (inr (inl refl))
+of_asking failures.Memory is = inr (inr (inr (inl refl)))
+of_asking failures.Output is = inr (inr (inr (inr refl)))
+of_asking other is = absurd is
+
+of_key : (failure : Failure) → IsOfKey failure → (failure ≡ failures.Random) ⊎ (failure ≡ failures.Output)
+of_key failures.Random is = inl refl
+of_key failures.Output is = inr refl
+of_key other is = absurd is
+
+of_check : (failure : Failure) → CheckFails failure
+    → (failure ≡ failures.Commands) ⊎ (failure ≡ failures.Output) ⊎ (failure ≡ failures.Memory)
+    ⊎ ((octets : List ℕ) × (said : _) × (failure ≡ failures.CommandFile said) × IsSaidOfFile octets (string_bytes said))
+of_check failure (inl unread) = inl unread
+of_check failure (inr (inl unprinted)) = inr (inl unprinted)
+of_check failure (inr (inr (octets, inl memory))) = inr (inr (inl memory))
+of_check failure (inr (inr (octets, inr (said, is, holds)))) = inr (inr (inr (octets, said, is, holds)))
+
+passing : {D : Type 0} (disk_of : D → Disk) (side : Side) (old : EndpointValue D) (failure : Failure) (new : EndpointValue D)
+    → PassEnds disk_of side old failure new
+    → (((failure ≡ failures.Memory) ⊎ (failure ≡ failures.Capture)) × (new ≡ old))
+    ⊎ ((source : SourceState) × (left : SourceState) × (sink : SinkState) × (sunk : SinkState)
+    × EndsPass disk_of side (run_of old source sink) failure (run_of new left sunk))
+passing disk_of side old failure new (inl early) = inl early
+passing disk_of side old failure new (inr stops) =
+    inr (stops.source, stops.source_left, stops.sink, stops.sink_left, stops.ends)
+
+pub fail-words : {F : Type 0} (file : F → FileState) → FailWords file
+fail-words file = record {
+  failed = λ words input before after failure is. is;
+  of_open = λ input before after failure is. is;
+  of_format = λ path sci tx_block rx_block block is_over input before after failure is. is;
+  of_apply = λ path from input before after failure is. is;
+  of_show = λ path input before after failure is. is;
+  of_protect = λ path from to is_all input before after failure is. is;
+  of_validate = λ path from to is_all input before after failure is. is;
+  passing = λ side failure is. (is.old, is.new, is.endpoint, passing (disk_in_file file) side is.old failure is.new is.ends);
+  of_relay = λ path controlled common running input before after failure is. is;
+  of_ask = λ path asked input before after failure is. of_asking failure is;
+  of_key = λ is_long input before after failure is. of_key failure is;
+  of_inspect = λ from input before after failure is. is;
+  inspecting = λ old before failure new after is. elim is [
+    | inl at_once ↦ inl at_once
+    | inr (header, behind, begins, stops) ↦ inr (
+      header,
+      behind,
+      begins,
+      stops.records,
+      stops.until,
+      stops.between,
+      stops.inspected.taken,
+      stops.inspected.printed.0,
+      stops.inspected.printed.1,
+      stops.inspected.printed.2,
+      stops.stops,
+    )
+  ];
+  of_check = λ from input before after failure is. of_check failure is;
+}
+
+-- ---- what was printed, and wrong values
+
+wrong : (action : Action) → WrongValues action
+    → ((path : Bor Text) × (sci : Bor Text) × (tx_block : ℕ) × (rx_block : ℕ) × (block : Option (Bor Text))
+    × (is_over : Bool) × (action ≡ Format path sci tx_block rx_block block is_over)
+    × (fault : ValueFault) × ValueFaultHolds sci.now tx_block rx_block (option_map (λ text. text.now) block) fault)
+    ⊎ ((path : Bor Text) × (controlled : WireEnds) × (common : WireEnds) × (running : Running)
+    × (action ≡ Relay path controlled common running)
+    × (fault : AddressFault) × AddressFaultHolds controlled common fault)
+wrong (Format path sci tx_block rx_block block is_over) (fault, holds) =
+    inl (path, sci, tx_block, rx_block, block, is_over, refl, fault, holds)
+wrong (Relay path controlled common running) (fault, holds) =
+    inr (path, controlled, common, running, refl, fault, holds)
+wrong action is = absurd is
+
+pub before-words : BeforeWords
+before-words = record {
+  before = λ words before after is. is;
+  asked_apply = λ path from before after is. is;
+  asked = λ path before after is. elim is [
+    | inl shown ↦ shown
+    | inr (inl counted) ↦ counted
+    | inr (inr stopped) ↦ stopped
+  ];
+  inspected = λ from before after (records, (text, lines, printed)). (records, text, lines, printed);
+  wrong_words = λ words is. is;
+  wrong = wrong;
+}

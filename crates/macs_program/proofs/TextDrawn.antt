@@ -1,0 +1,207 @@
+-- All that is to be drawn from words on texts.
+use Rattle.std.proofs.Common.{◌≡◌, ◌<◌, ◌+◌, ◌++◌, ◌∷◌, [], ◌∙◌, ℕ, Bool, true, false, List, Option, Some, None, refl, sym, ap, append_assoc}
+use Rattle.std.specs.Prelude.{◌==◌, codes, drop, if◌then◌else◌, nat_lt}
+use Rattle.std.proofs.lemmas.Bool.{lt-ltb, ne_eqb}
+use Rattle.std.proofs.Common.{arith}
+use Rattle.std.proofs.lemmas.List.{append-nil}
+use Rattle.std.specs.Fmt.{decimal}
+use Rattle.macs_edge.specs.declared.passing.Summary.{Summary}
+use Rattle.macs_config.specs.declared.refusal.Refusal.{Refusal}
+use Rattle.macs_texts.specs.Refusals.{refusal_name}
+use Rattle.macs_texts.specs.Showing.{replay_line, rx_text_of, tx_text_of}
+use Rattle.macs_rxsc.specs.Receive.{Numbers}
+use Rattle.macs_config.specs.declared.association.RxSa.{RxSa}
+use Rattle.macs_config.specs.declared.association.TxSa.{TxSa}
+use Rattle.macs_config.specs.declared.command.Replay.{Replay}
+use Rattle.byteorder.specs.Endian.{big_bytes, big_number, little_bytes, little_number}
+use Rattle.macs_pcap.specs.Numbers.{number_at, octets_of}
+use Rattle.macs_program.specs.CaptureOctets.{CaptureOctets}
+use Rattle.macs_program.specs.ShowTexts.{ShowTexts}
+use Rattle.macs_program.specs.Applying.{outcome_line, outcome_lines}
+use Rattle.macs_program.specs.Checking.{count_line}
+use Rattle.macs_program.specs.Summing.{pass_status}
+use Rattle.macs_program.specs.TextWords.{CheckTexts, FailureTexts, FaultOrders, FrameTexts, LineTexts}
+use Rattle.macs_program.specs.declared.status.Status.TheVariants as ends
+
+-- ---- lines
+
+kept : (at : ℕ) → outcome_lines at (None ∷ []) ≡ decimal at ++ (codes " ok" ++ 10 ∷ [])
+kept at = append-nil _ ∙ append_assoc (decimal at) (codes " ok") (10 ∷ [])
+
+refused : (at : ℕ) (r : Refusal)
+    → outcome_lines at (Some r ∷ []) ≡ decimal at ++ (codes " refused " ++ (refusal_name r ++ 10 ∷ []))
+refused at r =
+    append-nil _ ∙ append_assoc (decimal at) (codes " refused " ++ refusal_name r) (10 ∷ [])
+    ∙ ap (λ (l : List ℕ). decimal at ++ l) (append_assoc (codes " refused ") (refusal_name r) (10 ∷ []))
+
+all_passed : (s : Summary) → s.dropped ≡ 0 → pass_status true s ≡ ends.Done
+all_passed s none = ap (λ (n : ℕ). if nat_lt 0 n then ends.Refused else ends.Done) none
+
+not_all : (s : Summary) → 0 < s.dropped → pass_status true s ≡ ends.Refused
+not_all s some = ap (λ (b : Bool). if b then ends.Refused else ends.Done) (lt-ltb 0 s.dropped some)
+
+pub line-texts : LineTexts
+line-texts = record {
+  none = λ at. refl;
+  kept = kept;
+  refused = refused;
+  names = refl;
+  more = λ at outcome outcomes. ap (λ (l : List ℕ). l ++ outcome_lines (at + 1) outcomes) (sym (append-nil (outcome_line at outcome)));
+  valid = λ an pn plain. refl;
+  answers = λ an pn plain fault. (refl, refl, refl, refl);
+  refusals = refl;
+  protected = λ s. refl;
+  validated = λ s. refl;
+  relayed = λ s. refl;
+  some = λ s. refl;
+  all = all_passed;
+  not_all = not_all;
+}
+
+-- ---- failures
+
+pub failure-texts : FailureTexts
+failure-texts = record {
+  values = refl;
+  addresses = refl;
+  disks = refl;
+  inputs = refl;
+  others = refl;
+  of_value = λ fault. (refl, refl);
+  of_address = λ fault. (refl, refl);
+  of_disk = λ fault. (refl, refl);
+  of_input = λ fault. (refl, refl);
+  of_usage = λ cause. (refl, refl);
+  of_file = λ cause. (refl, refl);
+  new_statuses = (refl, refl);
+  files = refl;
+  journals = λ fault. refl;
+  captures = refl;
+  runs = refl;
+  wires = (refl, refl, refl, refl, refl, refl);
+  answers = (refl, refl, refl, refl);
+}
+
+pub fault-orders : FaultOrders
+fault-orders = record {
+  values = refl;
+  sci = λ sci tx rx block holds. holds;
+  tx_block = λ sci tx rx block holds. holds;
+  rx_block = λ sci tx rx block holds. holds;
+  device_block = λ sci tx rx block holds. holds;
+  addresses = refl;
+  wire_ends = λ controlled common. (λ holds. holds, λ holds. holds, λ holds. holds, λ holds. holds);
+  inputs = refl;
+  lines = λ all. (λ holds. holds, λ holds. holds, λ holds. holds, λ holds. holds, λ holds. holds);
+  tags = refl;
+  opens = refl;
+  longest = refl;
+}
+
+-- ---- `inspect` and `check`
+
+pub frame-texts : FrameTexts
+frame-texts = record {
+  none = λ at text is. is;
+  more = λ at taken records text is. is;
+  one = λ at frame text is. is;
+  said = λ frame text is. is;
+  whole = λ t short octets. refl;
+  numbers = λ t short. refl;
+  bits = λ t. refl;
+  bit = (refl, refl);
+  names = λ sci. (refl, refl, refl);
+}
+
+several : (n : ℕ) → count_line (n + 2) ≡ (decimal (n + 2) ++ codes " commands") ++ 10 ∷ []
+several n =
+    let other : (n + 2 == 1) ≡ false = ne_eqb (n + 2) 1 (λ one. omega (arith, one)) in
+    ap (λ (b : Bool). (decimal (n + 2) ++ (if b then codes " command" else codes " commands")) ++ 10 ∷ []) other
+
+pub check-texts : CheckTexts
+check-texts = record {
+  one = refl;
+  none = refl;
+  several = several;
+  said = λ octets said is. is;
+  shape = refl;
+  word = λ at. refl;
+  of_key = λ at name. refl;
+  extra = λ at. refl;
+  keys = refl;
+  reasons = refl;
+}
+
+-- ---- `show`
+
+replay_as : (replay : Replay) (is_on : Bool) → replay.on ≡ is_on
+    → replay_line replay ≡ (codes "replay " ++ ((if is_on then codes "on" else codes "off")
+    ++ (codes " window " ++ decimal replay.window))) ++ 10 ∷ []
+replay_as replay is_on is =
+    ap (λ (b : Bool). (codes "replay " ++ ((if b then codes "on" else codes "off")
+    ++ (codes " window " ++ decimal replay.window))) ++ 10 ∷ []) is
+
+tx_at : (an : ℕ) (sa found : Option TxSa) (next told : Option ℕ) → found ≡ sa → told ≡ next
+    → tx_text_of an found told ≡ tx_text_of an sa next
+tx_at an sa found next told is same = λ i. tx_text_of an (is i) (same i)
+
+no_tx : (an : ℕ) (found : Option TxSa) (next : Option ℕ) → found ≡ None → tx_text_of an found next ≡ []
+no_tx an found next is = ap (λ (f : Option TxSa). tx_text_of an f next) is
+
+rx_at : (sci : List ℕ) (an : ℕ) (sa found : Option RxSa) (numbers told : Option Numbers) → found ≡ sa
+    → told ≡ numbers → rx_text_of sci an found told ≡ rx_text_of sci an sa numbers
+rx_at sci an sa found numbers told is same = λ i. rx_text_of sci an (is i) (same i)
+
+no_rx : (sci : List ℕ) (an : ℕ) (found : Option RxSa) (numbers : Option Numbers) → found ≡ None
+    → rx_text_of sci an found numbers ≡ []
+no_rx sci an found numbers is = ap (λ (f : Option RxSa). rx_text_of sci an f numbers) is
+
+pub show-texts : ShowTexts
+show-texts = record {
+  order = λ s. refl;
+  sci = λ identity. refl;
+  blocks = λ identity. refl;
+  validates = (refl, refl);
+  replay_on = λ replay is. replay_as replay true is;
+  replay_off = λ replay is. replay_as replay false is;
+  modes = (refl, refl, refl);
+  encoding = (refl, λ an. refl);
+  protection = λ offset. (refl, refl);
+  tx = λ s an sa next is same. tx_at an (Some sa) (s.config.tx an) (Some next) (s.next an) is same;
+  no_tx = λ s an is. no_tx an (s.config.tx an) (s.next an) is;
+  channel = λ s sci. refl;
+  rx = λ s sci an sa numbers is same. rx_at sci an (Some sa) (s.config.rx sci an) (Some numbers) (s.numbers sci an) is same;
+  no_rx = λ s sci an is. no_rx sci an (s.config.rx sci an) (s.numbers sci an) is;
+  spent = λ config. refl;
+}
+
+-- ---- captures
+
+numbers : (n place value : ℕ) (octets : List ℕ) → (octets_of true n value ≡ big_bytes n value)
+    × (octets_of false n value ≡ little_bytes n value)
+    × (number_at true n place octets ≡ big_number n (drop place octets))
+    × (number_at false n place octets ≡ little_number n (drop place octets))
+unfolding number_at
+numbers n place value octets = (refl, refl, refl, refl)
+
+pub capture-octets : CaptureOctets
+capture-octets = record {
+  number = numbers;
+  limits = (refl, refl);
+  magics = (refl, refl);
+  header = λ it. refl;
+  read_header = λ octets. (refl, refl, refl, refl);
+  order = λ octets. refl;
+  record_header = λ big stamp size. refl;
+  whole_record = λ big stamp frame. refl;
+  read_record = λ big header. (refl, refl, refl, refl);
+  begins = λ left it rest is. (is.says, is.octets);
+  one = λ big left taken rest is.
+      (is.header.octets, is.header.short, is.header.uncut, is.stamp, is.kept, is.octets);
+  several = λ big left taken more rest is. is;
+  header_faults = λ left. refl;
+  field_faults = λ octets. refl;
+  record_header_faults = λ big count header. refl;
+  record_faults = λ big count left. refl;
+  frame_faults = λ kept octets. refl;
+}

@@ -1,0 +1,15 @@
+use Rattle.std.proofs.Common.{refl}
+use Rattle.macs_program.proofs.RunDrawn.{before-words, fail-words, reply-words}
+use Rattle.macs_program.proofs.laws.runs.Goals as goal
+
+pub returns-clause-replies : goal.returns-clause-replies
+returns-clause-replies g c = reply-words g.F.DiskFile.file
+
+pub returns-clause-fails : goal.returns-clause-fails
+returns-clause-fails g c = fail-words g.F.DiskFile.file
+
+pub returns-clause-before : goal.returns-clause-before
+returns-clause-before g c = before-words
+
+pub returns-clause-read : goal.returns-clause-read
+returns-clause-read g c = λ input left. (refl, refl)

@@ -1,0 +1,71 @@
+-- What is to be drawn from words on relays of the program: how many turns one takes, who attends it, what it comes to
+-- and how it ends, of words that macs_edge has laws of.
+use Rattle.std.specs.Prelude.{◌≡◌, ◌⊎◌, ◌-◌, ◌^◌, ℕ, true, false, List, None, Some, Result, Ok, Err}
+use Rattle.macs_disk.specs.FileDisks.{disk_in_file}
+use Rattle.macs_disk.specs.Files.{FileState}
+use Rattle.macs_disk.specs.declared.file.FileDisk.{FileDisk}
+use Rattle.macs_edge.specs.Attending.{IsAttended}
+use Rattle.macs_edge.specs.Relaying.{IsRelayed, empty_lane, relay_of}
+use Rattle.macs_edge.specs.Wires.{WireState}
+use Rattle.macs_edge.specs.declared.attending.DeskEvent.{DeskEvent}
+use Rattle.macs_edge.specs.declared.relaying.RelaySummary.{RelaySummary}
+use Rattle.macs_endpoint.specs.Value.{EndpointValue}
+use Rattle.macs_endpoint.specs.declared.fault.RefillFault.{RefillFault}
+use Rattle.macs_endpoint.specs.declared.fault.RefillFault.TheVariants as refill
+use Rattle.macs_journal.specs.declared.fault.JournalFault.TheVariants as journal
+use Rattle.macs_words.specs.declared.pace.Milliseconds.{Milliseconds}
+use Rattle.macs_words.specs.declared.pace.Running.{Running}
+use Rattle.macs_words.specs.declared.pace.Pace.TheVariants.{Busy, Waiting}
+use Rattle.macs_program.specs.Endpoints.{IsEndpointIn}
+use Rattle.macs_program.specs.Failing.{failure_of_refill}
+use Rattle.macs_program.specs.Relaying.{ComesTo, Course, RelayEndsIn, course_of, turns_of}
+use Rattle.macs_program.specs.declared.failure.DiskFault.TheVariants as disk
+use Rattle.macs_program.specs.declared.failure.Failure.{Failure}
+use Rattle.macs_program.specs.declared.failure.Failure.TheVariants as failures
+
+-- a wire of which nothing is known, and of which no call failed
+abbrev pub fresh_wire : WireState
+fresh_wire = record { waiting = None; sent = None; failed_receives = 0; failed_sends = 0 }
+
+-- A relay of so many turns begins with empty slots between two such wires, without a desk or with one
+abbrev pub RunsAs : {F : Type 0} → (F → FileState) → Course → EndpointValue (FileDisk F)
+    → Result RelaySummary RefillFault
+    → EndpointValue (FileDisk F) → WireState → WireState → Type 0
+RunsAs file course old result new controlled common =
+    ((course.attended ≡ false)
+    × IsRelayed (disk_in_file file) course.turns (relay_of old fresh_wire fresh_wire empty_lane empty_lane) result new
+    controlled common)
+    ⊎ ((course.attended ≡ true) × (events : List DeskEvent)
+    × IsAttended (disk_in_file file) course.turns (relay_of old fresh_wire fresh_wire empty_lane empty_lane) events
+    result new controlled common)
+
+-- It takes the turns that are given, and where it waits and none are, 2^64 - 1. Nobody attends it exactly where it has
+-- neither a control socket nor a file of counters. What it comes to, an endpoint that was opened on a disk in a file
+-- came to, in such a relay. Where it ends otherwise, nothing was done with the endpoint, since a wire or a socket is
+-- not bound, or there is no memory; or a step was answered with a fault, which has its name; or it came to its summary,
+-- and that is not written.
+pub record RelayWords {F : Type 0} (file : F → FileState) : Type 0 where
+  pub busy : (turns : ℕ) → turns_of (Busy turns) ≡ turns
+  pub waiting : (limit : Milliseconds) (turns : ℕ) → turns_of (Waiting limit (Some turns)) ≡ turns
+  pub unended : (limit : Milliseconds) → turns_of (Waiting limit None) ≡ 2 ^ 64 - 1
+  pub turns : (running : Running) → (course_of running).turns ≡ turns_of running.pace
+  pub unattended : (running : Running) → (course_of running).attended ≡ false → (running.control ≡ None)
+      × (running.metrics ≡ None)
+  pub by_nobody : (running : Running) → running.control ≡ None → running.metrics ≡ None
+      → (course_of running).attended ≡ false
+  pub comes : (course : Course) (summary : RelaySummary) → ComesTo file course summary
+      → (old : EndpointValue (FileDisk F))
+      × (new : EndpointValue (FileDisk F)) × (controlled : WireState) × (common : WireState) × IsEndpointIn file old
+      × RunsAs file course old (Ok summary) new controlled common
+  pub ends : (course : Course) (failure : Failure) → RelayEndsIn file course failure
+      → (old : EndpointValue (FileDisk F))
+      × (new : EndpointValue (FileDisk F)) × IsEndpointIn file old
+      × ((((failure ≡ failures.Memory) ⊎ (failure ≡ failures.Wire) ⊎ (failure ≡ failures.Control)) × (new ≡ old))
+      ⊎ ((controlled : WireState) × (common : WireState) × (fault : RefillFault) × (failure ≡ failure_of_refill fault)
+      × RunsAs file course old (Err fault) new controlled common)
+      ⊎ ((controlled : WireState) × (common : WireState) × (summary : RelaySummary) × (failure ≡ failures.Output)
+      × RunsAs file course old (Ok summary) new controlled common))
+  pub stopped : failure_of_refill refill.Stopped ≡ failures.Disk (disk.Journal journal.Stopped)
+  pub busy_still : failure_of_refill refill.Busy ≡ failures.Disk disk.Busy
+  pub spent : failure_of_refill refill.GenerationsSpent ≡ failures.Disk (disk.Journal journal.GenerationsSpent)
+  pub device : failure_of_refill refill.Disk ≡ failures.Disk (disk.Journal journal.Disk)

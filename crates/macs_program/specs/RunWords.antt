@@ -1,0 +1,258 @@
+-- What is to be drawn from words on whole runs: what a run replies, what each action does and how it fails, and what was
+-- printed before.
+use Rattle.std.specs.Prelude.{◌≡◌, ◌⊎◌, ◌/◌, ◌++◌, ◌∷◌, [], true, false, ℕ, Bool, List, length, take, codes}
+use Rattle.std.specs.Prelude.{string_bytes, Option, option_map, None, IfSome, Ok, Err}
+use Rattle.std.specs.Borrow.{Bor}
+use Rattle.std.specs.Io.KnownBytes.{Appends}
+use Rattle.clap.specs.Words.{Text, subcommand_of, takes}
+use Rattle.hex.specs.Hex.{encode_lower}
+use Rattle.macs_config.specs.Identity.{Identity}
+use Rattle.macs_config.specs.declared.command.Command.{Command}
+use Rattle.macs_config.specs.declared.refusal.Refusal.{Refusal}
+use Rattle.macs_disk.specs.FileDisks.{IsBlank, disk_in_file, file_given, file_left}
+use Rattle.macs_disk.specs.Files.{Behaves, FileState, Settles}
+use Rattle.macs_disk.specs.declared.file.FileDisk.{FileDisk}
+use Rattle.macs_disk.specs.declared.layout.Layout.{Layout}
+use Rattle.macs_edge.specs.Passing.{run_of}
+use Rattle.macs_edge.specs.declared.passing.Summary.{Summary}
+use Rattle.macs_edge.specs.declared.relaying.RelaySummary.{RelaySummary}
+use Rattle.macs_edge.specs.declared.settling.Side.{Side}
+use Rattle.macs_edge.specs.declared.settling.Side.TheVariants.{Common, Controlled}
+use Rattle.macs_endpoint.specs.Formatting.{IsFormat}
+use Rattle.macs_endpoint.specs.State.{no_logs}
+use Rattle.macs_endpoint.specs.Value.{EndpointValue, state_of}
+use Rattle.macs_fields.specs.First.{IsFirst}
+use Rattle.macs_journal.specs.declared.fault.JournalFault.TheVariants as journal
+use Rattle.macs_pcap.specs.Captures.{BeginsWithRecords}
+use Rattle.macs_pcap.specs.Reading.{HoldsOfLeft, ReadsHeader, ReadsRecord}
+use Rattle.macs_pcap.specs.Records.{CaptureRecord}
+use Rattle.macs_pcap.specs.States.{SinkState, SourceState}
+use Rattle.macs_pcap.specs.declared.fault.PcapFault.{PcapFault}
+use Rattle.macs_pcap.specs.declared.header.Header.{Header}
+use Rattle.macs_texts.specs.Showing.{show_text}
+use Rattle.macs_words.specs.Help.{topic_text}
+use Rattle.macs_words.specs.Words.{AsksFor, Names, macsecd}
+use Rattle.macs_words.specs.declared.action.Action.{Action}
+use Rattle.macs_words.specs.declared.action.Action.TheVariants.{Apply, Ask, Check, Format, Inspect, Key, Open, Protect}
+use Rattle.macs_words.specs.declared.action.Action.TheVariants.{Relay, Show, Validate}
+use Rattle.macs_words.specs.declared.action.Question.{Question}
+use Rattle.macs_words.specs.declared.action.Question.TheVariants as question
+use Rattle.macs_words.specs.declared.action.UsageFault.{UsageFault}
+use Rattle.macs_words.specs.declared.action.WireEnds.{WireEnds}
+use Rattle.macs_words.specs.declared.help.Topic.{Topic}
+use Rattle.macs_words.specs.declared.pace.Running.{Running}
+use Rattle.macs_program.specs.Addresses.{AddressFaultHolds, SpellsBoth, address_faults}
+use Rattle.macs_program.specs.Answer.{Answers, answer_status, answer_text}
+use Rattle.macs_program.specs.Applying.{Applies, SaysCommands, outcome_lines, outcomes_status}
+use Rattle.macs_program.specs.Capturing.{EndsPass, PassesCapture}
+use Rattle.macs_program.specs.Checking.{IsSaidOfFile, count_line}
+use Rattle.macs_program.specs.Endpoints.{BreaksOffIn, IsEndpointIn, OpeningFails, PassEndsIn}
+use Rattle.macs_program.specs.Failing.{failure_of_capture, failure_of_words}
+use Rattle.macs_program.specs.Inputs.{InputRead}
+use Rattle.macs_program.specs.Inspecting.{AreLinesOf, StopsCapture}
+use Rattle.macs_program.specs.NewDisks.{FormatFails, Permits}
+use Rattle.macs_program.specs.Relaying.{ComesTo, RelayEndsIn, course_of}
+use Rattle.macs_program.specs.Request.{InputFaultHolds, input_faults}
+use Rattle.macs_program.specs.Run.{Does, FailsAs, FailsFor, HasPrinted, HasWrongValues, PrintedBefore, Replies}
+use Rattle.macs_program.specs.Run.{WrongValues}
+use Rattle.macs_program.specs.Summing.{pass_status, relay_line, summary_line}
+use Rattle.macs_program.specs.Values.{SpellsIdentity, SpellsLayout, ValueFaultHolds, value_faults}
+use Rattle.macs_program.specs.declared.addresses.AddressFault.{AddressFault}
+use Rattle.macs_program.specs.declared.answer.Answer.{Answer}
+use Rattle.macs_program.specs.declared.capturing.Direction.TheVariants as direction
+use Rattle.macs_program.specs.declared.failure.DiskFault.TheVariants as disk
+use Rattle.macs_program.specs.declared.failure.Failure.{Failure}
+use Rattle.macs_program.specs.declared.failure.Failure.TheVariants as failures
+use Rattle.macs_program.specs.declared.request.InputFault.{InputFault}
+use Rattle.macs_program.specs.declared.request.InputFault.TheVariants as request_faults
+use Rattle.macs_program.specs.declared.status.Status.{Status}
+use Rattle.macs_program.specs.declared.status.Status.TheVariants as ends
+use Rattle.macs_program.specs.declared.values.ValueFault.{ValueFault}
+
+-- A run that replies was asked for help and prints it, or its words are taken and name the action that it does. Each
+-- action does this: `open` prints the answer to its input; `format` makes a file a disk that, when it was settled, was
+-- one that may be written over, blanks it in the layout of its words and formats it with the identity of its words;
+-- `apply` gives the commands of a file to an endpoint in a file, and prints a line for each; `show` prints its text, as
+-- it was opened; `protect` and `validate` take a capture through it, each from its own side; `relay` prints what it came
+-- to; `ask` prints lines of outcomes, or a text; `key` prints as many octets as it is to, in hex; `inspect` prints a line
+-- for each record of a capture, up to its end; `check` prints how many commands some octets say.
+pub record ReplyWords {F : Type 0} (file : F → FileState) : Type 0 where
+  pub replied : (words : List Text) (input : InputRead) (before after : Option (List ℕ)) (status : Status)
+      → Replies file words input before after status
+      → ((topic : Topic) × AsksFor words topic × Appends before after (topic_text topic) × (status ≡ ends.Done))
+      ⊎ ((takes macsecd words ≡ true) × (action : Action) × Names (subcommand_of macsecd words) action
+      × Does file action input before after status)
+  pub opened : (input : InputRead) (before after : Option (List ℕ)) (status : Status)
+      → Does file Open input before after status → IfSome input.octets (λ octets. (answer : Answer)
+      × Answers octets answer × Appends before after (answer_text answer ++ 10 ∷ [])
+      × (status ≡ answer_status answer))
+  pub formatted : (path sci : Bor Text) (tx_block rx_block : ℕ) (block : Option (Bor Text)) (is_over : Bool)
+      (input : InputRead) (before after : Option (List ℕ)) (status : Status)
+      → Does file (Format path sci tx_block rx_block block is_over) input before after status
+      → (identity : Identity) × SpellsIdentity sci.now tx_block rx_block identity
+      × (layout : Layout) × SpellsLayout (option_map (λ text. text.now) block) layout
+      × (blank : FileDisk F) × (new : FileDisk F)
+      × (Behaves (file (file_given blank)) → (settled : FileState) × Settles (file (file_given blank)) settled
+      × Permits is_over settled ((file (file_given blank)).size / 512) None
+      × IsBlank (file (file_given blank)) (file (file_left blank)) layout (disk_in_file file blank))
+      × IsFormat (disk_in_file file) blank identity (Ok tt) new
+      × Appends before after (codes "formatted" ++ 10 ∷ []) × (status ≡ ends.Done)
+  pub applied : (path from : Bor Text) (input : InputRead) (before after : Option (List ℕ)) (status : Status)
+      → Does file (Apply path from) input before after status
+      → (old : EndpointValue (FileDisk F)) × (new : EndpointValue (FileDisk F)) × IsEndpointIn file old
+      × (octets : List ℕ) × (commands : List Command) × SaysCommands octets commands
+      × (outcomes : List (Option Refusal)) × Applies (disk_in_file file) old commands outcomes new
+      × Appends before after (outcome_lines 1 outcomes) × (status ≡ outcomes_status outcomes)
+  pub shown : (path : Bor Text) (input : InputRead) (before after : Option (List ℕ)) (status : Status)
+      → Does file (Show path) input before after status → (shown : EndpointValue (FileDisk F))
+      × IsEndpointIn file shown × Appends before after (show_text (state_of shown no_logs)) × (status ≡ ends.Done)
+  pub protected : (path from to : Bor Text) (is_all : Bool) (input : InputRead) (before after : Option (List ℕ))
+      (status : Status) → Does file (Protect path from to is_all) input before after status
+      → (summary : Summary) × (old : EndpointValue (FileDisk F)) × (new : EndpointValue (FileDisk F))
+      × IsEndpointIn file old × (source : SourceState) × (left : SourceState) × (sink : SinkState)
+      × (sunk : SinkState)
+      × PassesCapture (disk_in_file file) Controlled (run_of old source sink) (Ok summary) (run_of new left sunk)
+      × Appends before after (summary_line direction.Protect summary) × (status ≡ pass_status is_all summary)
+  pub validated : (path from to : Bor Text) (is_all : Bool) (input : InputRead) (before after : Option (List ℕ))
+      (status : Status) → Does file (Validate path from to is_all) input before after status
+      → (summary : Summary) × (old : EndpointValue (FileDisk F)) × (new : EndpointValue (FileDisk F))
+      × IsEndpointIn file old × (source : SourceState) × (left : SourceState) × (sink : SinkState)
+      × (sunk : SinkState)
+      × PassesCapture (disk_in_file file) Common (run_of old source sink) (Ok summary) (run_of new left sunk)
+      × Appends before after (summary_line direction.Validate summary) × (status ≡ pass_status is_all summary)
+  pub relayed : (path : Bor Text) (controlled common : WireEnds) (running : Running) (input : InputRead)
+      (before after : Option (List ℕ)) (status : Status)
+      → Does file (Relay path controlled common running) input before after status
+      → (summary : RelaySummary) × ComesTo file (course_of running) summary × SpellsBoth controlled common
+      × Appends before after (relay_line summary) × (status ≡ ends.Done)
+  pub asked_apply : (path from : Bor Text) (input : InputRead) (before after : Option (List ℕ)) (status : Status)
+      → Does file (Ask path (question.Apply from)) input before after status → (outcomes : List (Option Refusal))
+      × Appends before after (outcome_lines 1 outcomes) × (status ≡ outcomes_status outcomes)
+  pub asked_show : (path : Bor Text) (input : InputRead) (before after : Option (List ℕ)) (status : Status)
+      → Does file (Ask path question.Show) input before after status
+      → (text : List ℕ) × Appends before after text × (status ≡ ends.Done)
+  pub asked_counters : (path : Bor Text) (input : InputRead) (before after : Option (List ℕ)) (status : Status)
+      → Does file (Ask path question.Counters) input before after status
+      → (text : List ℕ) × Appends before after text × (status ≡ ends.Done)
+  pub asked_stop : (path : Bor Text) (input : InputRead) (before after : Option (List ℕ)) (status : Status)
+      → Does file (Ask path question.Stop) input before after status
+      → (text : List ℕ) × Appends before after text × (status ≡ ends.Done)
+  pub key : (input : InputRead) (before after : Option (List ℕ)) (status : Status)
+      → Does file (Key false) input before after status → (octets : List ℕ) × (length octets ≡ 16)
+      × Appends before after (encode_lower octets ++ 10 ∷ []) × (status ≡ ends.Done)
+  pub long_key : (input : InputRead) (before after : Option (List ℕ)) (status : Status)
+      → Does file (Key true) input before after status → (octets : List ℕ) × (length octets ≡ 32)
+      × Appends before after (encode_lower octets ++ 10 ∷ []) × (status ≡ ends.Done)
+  pub inspected : (from : Bor Text) (input : InputRead) (before after : Option (List ℕ)) (status : Status)
+      → Does file (Inspect from) input before after status
+      → (old : SourceState) × (new : SourceState) × (header : Header) × (behind : SourceState)
+      × ReadsHeader old behind (Ok header) × (records : List CaptureRecord) × (until : SourceState)
+      × HoldsOfLeft behind.left until.left (λ left rest. BeginsWithRecords header.big left records rest)
+      × (text : List ℕ) × AreLinesOf 1 records text × Appends before after text
+      × (room : ℕ) × (frame : List ℕ) × ReadsRecord header.big (length records) room until new frame (Ok None)
+      × (status ≡ ends.Done)
+  pub checked : (from : Bor Text) (input : InputRead) (before after : Option (List ℕ)) (status : Status)
+      → Does file (Check from) input before after status → (octets : List ℕ) × (commands : List Command)
+      × SaysCommands octets commands × Appends before after (count_line (length commands)) × (status ≡ ends.Done)
+
+-- A run that fails has words that are refused, or cannot print help, or the words name the action that fails so. Each
+-- action fails for this: `open` for a read that failed, for the first fault of its input, for memory or its output;
+-- `format` for the first fault of its values, for the file, or for its output; those with an endpoint for its opening, or
+-- as what is done with it ends; `relay` also for the first fault of its addresses; `ask`, `key`, `inspect` and `check`
+-- for what is named here, and for nothing else.
+pub record FailWords {F : Type 0} (file : F → FileState) : Type 0 where
+  pub failed : (words : List Text) (input : InputRead) (before after : Option (List ℕ)) (failure : Failure)
+      → FailsFor file words input before after failure
+      → ((fault : UsageFault) × (failure ≡ failure_of_words fault))
+      ⊎ ((topic : Topic) × AsksFor words topic × (failure ≡ failures.Output))
+      ⊎ ((action : Action) × Names (subcommand_of macsecd words) action
+      × FailsAs file action input before after failure)
+  pub of_open : (input : InputRead) (before after : Option (List ℕ)) (failure : Failure)
+      → FailsAs file Open input before after failure
+      → ((failure ≡ failures.Input request_faults.Input) × (input.has_failed ≡ true))
+      ⊎ ((fault : InputFault) × (failure ≡ failures.Input fault)
+      × IfSome input.octets (λ all. IsFirst (InputFaultHolds (take 20001 all)) input_faults fault))
+      ⊎ (failure ≡ failures.Memory) ⊎ (failure ≡ failures.Output)
+  pub of_format : (path sci : Bor Text) (tx_block rx_block : ℕ) (block : Option (Bor Text)) (is_over : Bool)
+      (input : InputRead) (before after : Option (List ℕ)) (failure : Failure)
+      → FailsAs file (Format path sci tx_block rx_block block is_over) input before after failure
+      → ((fault : ValueFault) × (failure ≡ failures.Value fault)
+      × IsFirst (ValueFaultHolds sci.now tx_block rx_block (option_map (λ text. text.now) block)) value_faults fault)
+      ⊎ ((identity : Identity) × SpellsIdentity sci.now tx_block rx_block identity
+      × FormatFails file is_over identity failure) ⊎ (failure ≡ failures.Output)
+  pub of_apply : (path from : Bor Text) (input : InputRead) (before after : Option (List ℕ)) (failure : Failure)
+      → FailsAs file (Apply path from) input before after failure
+      → OpeningFails file failure ⊎ BreaksOffIn file before after failure
+  pub of_show : (path : Bor Text) (input : InputRead) (before after : Option (List ℕ)) (failure : Failure)
+      → FailsAs file (Show path) input before after failure
+      → OpeningFails file failure ⊎ (failure ≡ failures.Memory) ⊎ (failure ≡ failures.Output)
+  pub of_protect : (path from to : Bor Text) (is_all : Bool) (input : InputRead) (before after : Option (List ℕ))
+      (failure : Failure) → FailsAs file (Protect path from to is_all) input before after failure
+      → OpeningFails file failure ⊎ PassEndsIn file Controlled failure
+  pub of_validate : (path from to : Bor Text) (is_all : Bool) (input : InputRead) (before after : Option (List ℕ))
+      (failure : Failure) → FailsAs file (Validate path from to is_all) input before after failure
+      → OpeningFails file failure ⊎ PassEndsIn file Common failure
+  pub passing : (side : Side) (failure : Failure) → PassEndsIn file side failure
+      → (old : EndpointValue (FileDisk F)) × (new : EndpointValue (FileDisk F)) × IsEndpointIn file old
+      × ((((failure ≡ failures.Memory) ⊎ (failure ≡ failures.Capture)) × (new ≡ old))
+      ⊎ ((source : SourceState) × (left : SourceState) × (sink : SinkState) × (sunk : SinkState)
+      × EndsPass (disk_in_file file) side (run_of old source sink) failure (run_of new left sunk)))
+  pub of_relay : (path : Bor Text) (controlled common : WireEnds) (running : Running) (input : InputRead)
+      (before after : Option (List ℕ)) (failure : Failure)
+      → FailsAs file (Relay path controlled common running) input before after failure
+      → ((fault : AddressFault) × (failure ≡ failures.Address fault)
+      × IsFirst (AddressFaultHolds controlled common) address_faults fault)
+      ⊎ OpeningFails file failure ⊎ RelayEndsIn file (course_of running) failure
+  pub of_ask : (path : Bor Text) (asked : Question) (input : InputRead) (before after : Option (List ℕ))
+      (failure : Failure) → FailsAs file (Ask path asked) input before after failure
+      → (failure ≡ failures.Disk (disk.Journal journal.Stopped)) ⊎ (failure ≡ failures.Control)
+      ⊎ (failure ≡ failures.Commands) ⊎ (failure ≡ failures.Memory) ⊎ (failure ≡ failures.Output)
+  pub of_key : (is_long : Bool) (input : InputRead) (before after : Option (List ℕ)) (failure : Failure)
+      → FailsAs file (Key is_long) input before after failure
+      → (failure ≡ failures.Random) ⊎ (failure ≡ failures.Output)
+  pub of_inspect : (from : Bor Text) (input : InputRead) (before after : Option (List ℕ)) (failure : Failure)
+      → FailsAs file (Inspect from) input before after failure
+      → (((failure ≡ failures.Memory) ⊎ (failure ≡ failures.Capture)) × (after ≡ before))
+      ⊎ ((old : SourceState) × (new : SourceState) × StopsCapture old before failure new after)
+  pub inspecting : (old : SourceState) (before : Option (List ℕ)) (failure : Failure) (new : SourceState)
+      (after : Option (List ℕ)) → StopsCapture old before failure new after
+      → ((fault : PcapFault) × ReadsHeader old new (Err fault) × (failure ≡ failure_of_capture fault)
+      × (after ≡ before))
+      ⊎ ((header : Header) × (behind : SourceState) × ReadsHeader old behind (Ok header)
+      × (records : List CaptureRecord) × (until : SourceState) × (between : Option (List ℕ))
+      × HoldsOfLeft behind.left until.left (λ left rest. BeginsWithRecords header.big left records rest)
+      × (text : List ℕ) × AreLinesOf 1 records text × Appends before between text
+      × (((fault : PcapFault) × (room : ℕ) × (frame : List ℕ)
+      × ReadsRecord header.big (length records) room until new frame (Err fault)
+      × (failure ≡ failure_of_capture fault) × (after ≡ between))
+      ⊎ ((failure ≡ failures.Memory) × (after ≡ between)) ⊎ (failure ≡ failures.Output)))
+  pub of_check : (from : Bor Text) (input : InputRead) (before after : Option (List ℕ)) (failure : Failure)
+      → FailsAs file (Check from) input before after failure
+      → (failure ≡ failures.Commands) ⊎ (failure ≡ failures.Output) ⊎ (failure ≡ failures.Memory)
+      ⊎ ((octets : List ℕ) × (said : _) × (failure ≡ failures.CommandFile said)
+      × IsSaidOfFile octets (string_bytes said))
+
+-- Before a failure nothing was printed, or what the action that the words name had printed: `ask PATH apply` lines of
+-- outcomes, from the first one on, and another `ask` nothing; `inspect` the lines of some records. Wrong values are those
+-- of a `format` or of a `relay` that the words name, and a fault of them holds.
+pub record BeforeWords : Type 0 where
+  pub before : (words : List Text) (before after : Option (List ℕ)) → PrintedBefore words before after
+      → (after ≡ before)
+      ⊎ ((action : Action) × Names (subcommand_of macsecd words) action × HasPrinted action before after)
+  pub asked_apply : (path from : Bor Text) (before after : Option (List ℕ))
+      → HasPrinted (Ask path (question.Apply from)) before after
+      → (outcomes : List (Option Refusal)) × Appends before after (outcome_lines 1 outcomes)
+  pub asked : (path : Bor Text) (before after : Option (List ℕ))
+      → HasPrinted (Ask path question.Show) before after ⊎ HasPrinted (Ask path question.Counters) before after
+      ⊎ HasPrinted (Ask path question.Stop) before after → after ≡ before
+  pub inspected : (from : Bor Text) (before after : Option (List ℕ)) → HasPrinted (Inspect from) before after
+      → (records : List CaptureRecord) × (text : List ℕ) × AreLinesOf 1 records text × Appends before after text
+  pub wrong_words : (words : List Text) → HasWrongValues words
+      → (action : Action) × Names (subcommand_of macsecd words) action × WrongValues action
+  pub wrong : (action : Action) → WrongValues action
+      → ((path : Bor Text) × (sci : Bor Text) × (tx_block : ℕ) × (rx_block : ℕ) × (block : Option (Bor Text))
+      × (is_over : Bool) × (action ≡ Format path sci tx_block rx_block block is_over)
+      × (fault : ValueFault) × ValueFaultHolds sci.now tx_block rx_block (option_map (λ text. text.now) block) fault)
+      ⊎ ((path : Bor Text) × (controlled : WireEnds) × (common : WireEnds) × (running : Running)
+      × (action ≡ Relay path controlled common running)
+      × (fault : AddressFault) × AddressFaultHolds controlled common fault)
