@@ -39,6 +39,7 @@ seal_refusals key tag plain room =
     (Key, not (is_key key)) ∷ (Field, not (is_in_range tag)) ∷ (Runt, nat_lt (length plain) 14) ∷ (Oversize, nat_lt 9216 (length plain + overhead (name_of tag)))
     ∷ (Room, nat_lt room (length (sealed_frame key tag plain))) ∷ []
 
+-- the first of them, if there is one
 abbrev pub seal_refusal : MacsKey → MacsTag → List ℕ → ℕ → Option Refusal
 seal_refusal key tag plain room = first (seal_refusals key tag plain room)
 
