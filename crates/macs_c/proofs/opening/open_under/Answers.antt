@@ -1,0 +1,11 @@
+use Rattle.std.proofs.Common.{refl, length, subst}
+use Rattle.macs_aes.specs.Keys.{octets_of_key}
+use Rattle.macs_fields.specs.Fields.{octets_of}
+use Rattle.macs_c.specs.Refusals.{IsFault}
+use Rattle.macs_c.proofs.opening.open_under.Goals as goal
+
+pub returns-in-Err-clause-refused : goal.returns-in-Err-clause-refused
+returns-in-Err-clause-refused c =
+    let why = (c.in-Err.ensures.fault c.in-Err.fault).0 refl in
+    c.refusal_of.ensures c.args.frame.now (octets_of_key c.args.key.now) c.args.sci (octets_of c.args.offset) (length c.args.out.now)
+    (subst (λ k. IsFault c.args.frame.now k c.args.sci (octets_of c.args.offset) c.in-Err.fault) c.new.ensures why)

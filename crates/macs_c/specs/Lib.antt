@@ -1,0 +1,3 @@
+pub mod Keys
+pub mod Fields
+pub mod Refusals

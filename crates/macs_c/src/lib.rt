@@ -1,0 +1,14 @@
+//! Frames protected and opened for programs in C (`include/macsec.h`): IEEE Std 802.1AE-2018, 10.5, 10.6, 14.5 and
+//! 14.6. It takes no memory but its caller's, and keeps nothing between two calls.
+#![tactic(auto)]
+
+mod exports;
+mod fields;
+mod keys;
+mod opening;
+mod refusals;
+mod sealing;
+
+pub use exports::{macs_key_new, macs_open_frame, macs_seal_frame};
+pub use fields::{MacsOpened, MacsSci, MacsTag};
+pub use keys::MacsKey;

@@ -1,0 +1,48 @@
+//! Why a frame is not sealed or not opened, and the codes that a program in C is answered.
+
+ghost use Rattle.std.specs.Prelude.{◌≡◌, Err, Ok, Option, Some, None};
+ghost use Rattle.macs_c.specs.Refusals.{code_of};
+
+/// Why not.
+#[derive(Clone, Copy)]
+pub(crate) enum Refusal {
+    /// The key was not made by `macs_key_new`.
+    Key,
+    /// A field is out of its range.
+    Field,
+    /// The frame has fewer than 14 octets.
+    Runt,
+    /// The frame has more than 9,216 octets, or would have.
+    Oversize,
+    /// There is too little room for the frame that is made.
+    Room,
+    /// The EtherType is not 88-E5.
+    NoTag,
+    /// The SecTAG breaks a rule of 9.12, or has SCB set.
+    BadTag,
+    /// E is set and C clear: the frame is for the key agreement entity (9.5).
+    ForKay,
+    /// The SecTAG names another SCI.
+    OtherSci,
+    /// The ICV is not that of the frame under this key, SCI and offset.
+    NotValid,
+}
+
+/// The code of an answer.
+pub(crate) fn code_of(refusal: Option<Refusal>) -> u32
+    ensures { result ≡ code_of refusal }
+{
+    match refusal {
+        None => 0,
+        Some(Refusal::Key) => 1,
+        Some(Refusal::Field) => 2,
+        Some(Refusal::Runt) => 3,
+        Some(Refusal::Oversize) => 4,
+        Some(Refusal::Room) => 5,
+        Some(Refusal::NoTag) => 6,
+        Some(Refusal::BadTag) => 7,
+        Some(Refusal::ForKay) => 8,
+        Some(Refusal::OtherSci) => 9,
+        Some(Refusal::NotValid) => 10,
+    }
+}
