@@ -93,6 +93,9 @@ module _ (sectors : ℕ) where
     written = λ lives logs u w. (written_logged lives logs u w, w.plain, w.out, w.answered, w.frame, w.key);
     delivered = λ lives logs d w.
         (delivered_logged lives logs d w, w.is_verified, w.frame, w.out, w.answered, w.delivery, w.sci, w.key, w.number);
+    each_written = λ lives logs u are among. let w = are.written u among in (w.plain, w.out, w.answered, w.frame, w.key);
+    each_delivered = λ lives logs d are among.
+        let w = are.delivered d among in (w.is_verified, w.frame, w.out, w.answered, w.delivery, w.sci, w.key, w.number);
     answered = λ lives e logs was. (was.there, was.step, was.held, was.among);
   }
 
@@ -232,6 +235,7 @@ life-words sectors = record {
   handed_in = handed_in;
   begun = begun;
   made = λ identity old new edition image exchanges cut rest makes. makes;
+  made_of_first = λ lives found is. is.made;
   made_by_none = λ identity old new makes. makes;
   made_by_others = others sectors;
   kept = λ edition image exchanges cut kept are. (

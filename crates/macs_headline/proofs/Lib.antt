@@ -81,6 +81,7 @@ mod FailureWords
 mod StandWords
 mod FrameWords
 mod QueueWords
+mod EndWords
 pub mod RefusedDays
 pub mod ServedDays
 pub mod Ours

@@ -108,5 +108,6 @@ commands-wait sectors = record {
   ticket = ticket_is;
   idle = idle;
   done = λ s new c is. is;
+  done_later = λ s new ticket is. (is.0, is.1, is.2, sym is.3, is.4, is.5);
   taken = λ s new c ticket is. is;
 }

@@ -136,6 +136,16 @@ pub call-words : CallWords
 call-words = record {
   goes_out = goes_out;
   comes_in = comes_in;
+  moves_next = λ s new call reply an moves other. elim (moves.transmit an) [
+    | inl same ↦ absurd (other same)
+    | inr (inl out) ↦ inl (goes_out s call reply an out)
+    | inr (inr set) ↦ inr set
+  ];
+  moves_numbers = λ s new call reply sci an moves other. elim (moves.receive sci an) [
+    | inl same ↦ absurd (other same)
+    | inr (inl came) ↦ inl (comes_in s call reply sci an came)
+    | inr (inr set) ↦ inr set
+  ];
   seen = λ numbers sci an pn n there is. (n, there, is);
   may_begin = may_begin;
   faultless = λ s new plain out pn is. is;

@@ -1,7 +1,7 @@
 -- The headline on words that stand in what its clauses conclude: what is to be drawn from each of them.
 use Rattle.std.specs.Prelude.{◌≡◌, ◌≢◌, ◌⊎◌, ◌↔◌, ◌≤◌, ◌+◌, ◌++◌, ◌-◌, ◌^◌, ℕ, true, false, List, [], ◌∷◌, length, map, Contains, Option, Some, None, Ok}
 use Rattle.std.specs.List.{range_with_len}
-use Rattle.macs_config.specs.Config.{Config, Edition, this_edition}
+use Rattle.macs_config.specs.Config.{Config, Edition, default, this_edition}
 use Rattle.macs_config.specs.Identity.{Identity}
 use Rattle.macs_config.specs.declared.command.Command.{Command}
 use Rattle.macs_disk.specs.Disk.{Disk}
@@ -28,7 +28,7 @@ use Rattle.macs_headline.specs.Deliveries.{IsOtherDelivery, IsVerifiedDelivery, 
 use Rattle.macs_headline.specs.Formats.{AreUnformatted}
 use Rattle.macs_headline.specs.Frames.{IsOtherFrame, IsStandardFrame, writing}
 use Rattle.macs_headline.specs.History.{FitsPast, Formats, Life, Past, Refuses, Serves, logs_of, state_at_end}
-use Rattle.macs_headline.specs.Logged.{WasDelivered, WasWritten}
+use Rattle.macs_headline.specs.Logged.{AreAnswers, WasDelivered, WasWritten}
 use Rattle.macs_headline.specs.Moments.{Moment}
 use Rattle.macs_headline.specs.Numbers.{AreHeldIn, HasNoneTwice, IsMoved}
 use Rattle.macs_headline.specs.Openings.{AreAsBefore}
@@ -40,7 +40,8 @@ use Rattle.macs_headline.specs.Windows.{IsWithinWindow}
 -- Logs that are held in later ones: these are what came since, and then they, in their order, so that each entry is there. Where none comes twice, no place of
 -- a list has what another one has. A frame that was written, and one that was delivered as verified, whatever is said of its key and number beside that, is in
 -- the logs, with its key and its number, and its kind; and so is one that an entry of the logs stands for, which is an answer of these lives: the standard's
--- frame at that moment, or one that verified then, under that key and SCI and with that number. An answer is one of a life of these, after the lives and the
+-- frame at that moment, or one that verified then, under that key and SCI and with that number. Where logs are answers of lives each of their entries is one
+-- so. An answer is one of a life of these, after the lives and the
 -- answers before it, and was a step of the endpoint then; what was used and delivered by then is held.
 pub record LogWords (sectors : ℕ) : Type 0 where
   pub held : (old new : Logs) → AreHeldIn old new → ((u : Use) → Contains old.used u → Contains new.used u)
@@ -57,6 +58,12 @@ pub record LogWords (sectors : ℕ) : Type 0 where
       × (f : IsStandardFrame was.at plain u.pn out was.after) × (f.sa.key ≡ u.key)
   pub delivered : (lives : List Life) (logs : Logs) (d : Delivery) → WasDelivered sectors lives logs d → Contains logs.given d
       × IsVerifiedKind d.kind × (frame : List ℕ) × (out : List ℕ) × (was : WasAnswered sectors lives (delivering frame d.kind out) logs)
+      × (v : IsVerifiedDelivery was.at frame d.kind out was.after) × (v.sci ≡ d.sci) × (v.sa.key ≡ d.key) × ((tag_of frame).pn ≡ d.pn)
+  pub each_written : (lives : List Life) (logs : Logs) (u : Use) → AreAnswers sectors lives logs → Contains logs.used u
+      → (plain : List ℕ) × (out : List ℕ) × (was : WasAnswered sectors lives (writing plain u.pn out) logs)
+      × (f : IsStandardFrame was.at plain u.pn out was.after) × (f.sa.key ≡ u.key)
+  pub each_delivered : (lives : List Life) (logs : Logs) (d : Delivery) → AreAnswers sectors lives logs → Contains logs.given d
+      → IsVerifiedKind d.kind × (frame : List ℕ) × (out : List ℕ) × (was : WasAnswered sectors lives (delivering frame d.kind out) logs)
       × (v : IsVerifiedDelivery was.at frame d.kind out was.after) × (v.sci ≡ d.sci) × (v.sa.key ≡ d.key) × ((tag_of frame).pn ≡ d.pn)
   pub answered : (lives : List Life) (e : Exchange) (logs : Logs) (was : WasAnswered sectors lives e logs)
       → (was.moment.lives ++ Serves was.moment.edition was.moment.image (was.moment.exchanges ++ e ∷ was.rest) was.cut ∷ was.later ≡ lives)
@@ -76,7 +83,8 @@ pub record NumberWords : Type 0 where
 
 -- A restart begins with the logs as they were, runs, and has nothing in hand, no command that waits and no ticket given. What is in hand was given to a call of
 -- its life, and is accepted. Of each life in which an endpoint served, first or later, the commands that are kept make the next configuration, from which the
--- other lives go on, and it opened what stands for the one before; no other life makes anything. Those commands are a prefix of those that were accepted which
+-- other lives go on, and it opened what stands for the one before; no other life makes anything. So what is found is made of the first configuration, under
+-- the identity that is found. Those commands are a prefix of those that were accepted which
 -- holds every acknowledged one; the one in hand is that at the end of such a life, with these answers, was begun and was given to a call of it. Lives that left a disk unformatted are formats that did not answer Ok, and openings that were refused. A past that is as
 -- before admits the same images, either way, and has the same logs. A journal that is to begin anew is not in generation 2^64 - 1. What the two sides of an
 -- endpoint have is its configuration, with its numbers.
@@ -93,6 +101,8 @@ pub record LifeWords (sectors : ℕ) : Type 0 where
       → ((found : Standing) × StandingIs edition sectors image (Ok found) × (found.config ≡ old))
       × (kept : List Command) × AreKept sectors edition image exchanges cut kept
       × (mid : Config) × CommandsMake edition identity old kept mid × LivesMake sectors identity mid rest new
+  pub made_of_first : (lives : List Life) (found : Standing) → IsMadeByLives sectors lives found
+      → LivesMake sectors found.identity default lives found.config
   pub made_by_none : (identity : Identity) (old new : Config) → LivesMake sectors identity old [] new → new ≡ old
   pub made_by_others : (identity : Identity) (old new : Config) (life : Life) (rest : List Life)
       → ((edition : Edition) (image : Image) (exchanges : List Exchange) (cut : Option Call) → life ≢ Serves edition image exchanges cut)

@@ -44,6 +44,7 @@ pub mod Words
 pub mod One
 pub mod FrameWords
 pub mod QueueWords
+pub mod EndWords
 pub mod Beyond
 pub mod Days
 pub mod Nights

@@ -1,5 +1,5 @@
 -- The headline on words of its own clauses that say what may be, what a clause leaves open, or one side of an 'or': they say this and no more.
-use Rattle.std.specs.Prelude.{◌≡◌, ◌⊎◌, ◌<◌, ◌+◌, ◌^◌, false, ℕ, Bool, List, [], Option, Some, None, Result, Ok}
+use Rattle.std.specs.Prelude.{◌≡◌, ◌≢◌, ◌⊎◌, ◌<◌, ◌+◌, ◌^◌, false, ℕ, Bool, List, [], Option, Some, None, Result, Ok}
 use Rattle.macs_aes.specs.declared.keys.Key.{Key}
 use Rattle.macs_frame.specs.Tag.{tag_of}
 use Rattle.macs_config.specs.Apply.{apply}
@@ -33,7 +33,7 @@ use Rattle.macs_headline.specs.Binding.{CountsOneFailure, IsBegunAnew}
 use Rattle.macs_headline.specs.Changing.{IsOnChannel, IsOnEncoding, IsOnMode, IsOnReplay, IsOnRx, IsOnTx, IsOnValidate}
 use Rattle.macs_headline.specs.Editions.{content_in, with_edition}
 use Rattle.macs_headline.specs.History.{formatted_state}
-use Rattle.macs_headline.specs.Moving.{ComesInUnder, GoesOutUnder, SetsNext, SetsNumbers}
+use Rattle.macs_headline.specs.Moving.{ComesInUnder, GoesOutUnder, MovesOnlyThese, SetsNext, SetsNumbers, TakesEffect}
 use Rattle.macs_headline.specs.Received.{IsVerdictOf, WasSeen}
 use Rattle.macs_headline.specs.Refused.{IsExact, IsFaultOf, fault_at}
 use Rattle.macs_headline.specs.Steps.{IsReplyOf}
@@ -72,7 +72,8 @@ pub record CommandWords : Type 0 where
   pub rx_start : (sci : List ℕ) (an : ℕ) (key : Key) (start offset : ℕ) → IsInRange (Commands (RxInstall sci an key start offset)) → start < 2 ^ 32
 
 -- A frame goes out under an association where `protect` answered its number, and it is the one in use; one comes in under an association where `receive` was
--- given a frame that names it, by channel and AN, of an endpoint that runs. A number was seen where it stands as the greatest that was. Work on a command may
+-- given a frame that names it, by channel and AN, of an endpoint that runs. A packet number that is another one after a call is that of an association under
+-- which a frame went out, or came in so, or one that a command sets which takes effect. A number was seen where it stands as the greatest that was. Work on a command may
 -- begin in a step, on the first that waits, and in `command`, on its own, where none waits. A plain frame that goes out has no fault; and one that has none but
 -- that there is no number, is under an association in use with a next number.
 pub record CallWords : Type 0 where
@@ -81,6 +82,14 @@ pub record CallWords : Type 0 where
   pub comes_in : (s : State) (call : Call) (reply : Reply) (sci : List ℕ) (an : ℕ) → ComesInUnder s call reply sci an
       → (frame : List ℕ) × (out : List ℕ) × (verdict : Verdict) × (call ≡ Receives frame) × (reply ≡ Received (Ok verdict) out)
       × (channel_of (rx_side s) frame ≡ Some sci) × ((tag_of frame).an ≡ an)
+  pub moves_next : (s new : State) (call : Call) (reply : Reply) (an : ℕ) → MovesOnlyThese s call reply new → new.next an ≢ s.next an
+      → ((plain : List ℕ) × (out : List ℕ) × (pn : ℕ) × (call ≡ Protects plain) × (reply ≡ Protected (Ok pn) out) × (s.config.encoding ≡ Some an))
+      ⊎ ((c : Command) × TakesEffect s call reply c × SetsNext c an (new.next an))
+  pub moves_numbers : (s new : State) (call : Call) (reply : Reply) (sci : List ℕ) (an : ℕ) → MovesOnlyThese s call reply new
+      → new.numbers sci an ≢ s.numbers sci an
+      → ((frame : List ℕ) × (out : List ℕ) × (verdict : Verdict) × (call ≡ Receives frame) × (reply ≡ Received (Ok verdict) out)
+      × (channel_of (rx_side s) frame ≡ Some sci) × ((tag_of frame).an ≡ an))
+      ⊎ ((c : Command) × TakesEffect s call reply c × SetsNumbers c sci an (s.numbers sci an) (new.numbers sci an))
   pub seen : (numbers : List ℕ → ℕ → Option Numbers) (sci : List ℕ) (an pn : ℕ) (n : Numbers) → numbers sci an ≡ Some n → n.seen ≡ Some pn
       → WasSeen numbers sci an pn
   pub may_begin : (cut : Option Call) (waiting : List Waiting) (command : Command) → MayBegin cut waiting command

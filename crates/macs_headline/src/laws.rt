@@ -46,10 +46,11 @@ ghost use Rattle.macs_headline.specs.Endings.{ReadsPassOn, SyncsPassOn, TheseAre
 ghost use Rattle.macs_headline.specs.Endings.{WritesBackAsSyncs, WrittenBackPassOn};
 ghost use Rattle.macs_headline.specs.ExampleLives.{IsWorkedHistory};
 ghost use Rattle.macs_headline.specs.ExampleMigration.{IsWorkedMigration};
-ghost use Rattle.macs_headline.specs.ExampleWords.{DaysAreCalls, ExampleWords};
+ghost use Rattle.macs_headline.specs.ExampleWords.{DaysAreCalls, ExampleWords, NightWords, WatchWords};
 ghost use Rattle.macs_headline.specs.Fitting.{RestartsFit};
 ghost use Rattle.macs_headline.specs.FrameWords.{FrameWords};
 ghost use Rattle.macs_headline.specs.QueueWords.{QueueWords};
+ghost use Rattle.macs_headline.specs.EndWords.{EndWords};
 ghost use Rattle.macs_headline.specs.Formats.{FormatsOnce, RefusedByHistory};
 ghost use Rattle.macs_headline.specs.Frames.{FramesAreStandard, WrittenBelow, WrittenOnce};
 ghost use Rattle.macs_headline.specs.GoingOn.{LivesGoOn};
@@ -302,8 +303,13 @@ pub fn endpoint_words<D: SectorDisk>()
     ensures served { ServedWords D.disk }
     // That they are calls, and that no answer before the last says that a device call failed.
     ensures ends { ServedEnds D.disk }
+    // In which state a life ends, by the call that was cut short.
+    ensures cut { EndWords D }
     // Which calls an example's day is.
     ensures days { DaysAreCalls D.disk }
+    // In which words the contracts of an example's night and watch end.
+    ensures nights { NightWords D }
+    ensures watches { WatchWords D }
     // One more step, reservation, command or frame is counted where a call or its answer says
     // so, and else none.
     ensures counted { TurnsAreCounted D }

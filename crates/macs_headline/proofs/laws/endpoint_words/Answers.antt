@@ -1,4 +1,5 @@
-use Rattle.macs_headline.proofs.ExampleWords.{days-are-calls}
+use Rattle.macs_headline.proofs.ExampleWords.{days-are-calls, night-words, watch-words}
+use Rattle.macs_headline.proofs.EndWords.{end-words}
 use Rattle.macs_headline.proofs.EndpointWords.{calls-are-counted, ceilings-are-raised, openings-count, served-words}
 use Rattle.macs_headline.proofs.CountWords.{counts-are-named, counts-rise-alone}
 use Rattle.macs_headline.proofs.NeedWords.{needs-are-in-order, turns-are-used}
@@ -44,3 +45,12 @@ returns-clause-ends g c = served-ends g.D.SectorDisk.disk
 
 pub returns-clause-days : goal.returns-clause-days
 returns-clause-days g c = days-are-calls g.D.SectorDisk.disk
+
+pub returns-clause-cut : goal.returns-clause-cut
+returns-clause-cut g c = end-words
+
+pub returns-clause-nights : goal.returns-clause-nights
+returns-clause-nights g c = night-words
+
+pub returns-clause-watches : goal.returns-clause-watches
+returns-clause-watches g c = watch-words
