@@ -70,6 +70,7 @@ counts-are-named = record {
   delivered = λ c. (refl, refl, refl, refl, refl, refl);
   discarded = λ c. (refl, refl, refl, refl, refl, refl, refl, refl, refl);
   of_channel = λ c. (refl, refl, refl, refl, refl, refl, refl);
+  counted_by_channel = refl;
   none_sent = (refl, no_fault);
   none_received = no_verdict;
   one = λ count. refl;

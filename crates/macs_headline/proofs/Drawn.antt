@@ -1,8 +1,8 @@
 -- What is to be drawn from words that stand in conclusions.
-use Rattle.std.proofs.Common.{◌≡◌, ◌≢◌, ◌⊎◌, ◌+◌, ◌++◌, inl, inr, ℕ, suc, ◌==◌, Bool, true, false, cond, List, [], ◌∷◌, length, Ok, refl, sym, ◌∙◌, ap, subst, arith}
-use Rattle.std.specs.Prelude.{AllPairs, Contains, Option, Some, None}
+use Rattle.std.proofs.Common.{◌≡◌, ◌≢◌, ◌⊎◌, ◌+◌, ◌-◌, ◌++◌, inl, inr, ℕ, suc, ◌==◌, Bool, true, false, cond, List, [], ◌∷◌, length, Ok, refl, sym, ◌∙◌, ap, subst, arith}
+use Rattle.std.specs.Prelude.{AllPairs, max, Contains, Option, Some, None}
 use Rattle.std.specs.List.{range_with_len}
-use Rattle.std.specs.Option.{option_and_then}
+use Rattle.std.specs.Option.{option_and_then, option_map}
 use Rattle.macs_config.specs.Config.{Config, Edition}
 use Rattle.macs_config.specs.Identity.{Identity}
 use Rattle.macs_config.specs.declared.command.Command.{Command}
@@ -134,6 +134,9 @@ number-words = record {
   moved = moved_to;
   window = λ n is. let low = is.0 in let high = is.1 in omega (arith, low, high);
   windows = λ window n is. is;
+  widened = λ window n. refl;
+  replayed = λ old new on window sci an n set is.
+      set sci an ∙ ap (λ (o : Option Numbers). option_map (λ (m : Numbers). record m { lowest = max m.lowest (m.next - window) }) o) is;
   seen = seen_by;
 }
 

@@ -1,12 +1,17 @@
 -- All that is to be drawn of the words in which the contracts of the example programs end.
-use Rattle.std.proofs.Common.{◌≡◌, ◌⊎◌, inl, inr, List, ℕ, Result, Ok, refl, sym, subst}
-use Rattle.macs_disk.specs.Disk.{Disk}
+use Rattle.std.proofs.Common.{◌≡◌, ◌⊎◌, inl, inr, List, [], ◌∷◌, ℕ, is_ok, Result, Ok, refl, sym, subst}
+use Rattle.std.specs.Prelude.{None}
+use Rattle.macs_config.specs.Config.{this_edition}
+use Rattle.macs_disk.specs.Disk.{Disk, now}
 use Rattle.macs_rxsc.specs.declared.verdict.Kind.{Kind}
 use Rattle.macs_rxsc.specs.declared.verdict.Verdict.{Verdict}
 use Rattle.macs_rxsc.specs.declared.verdict.Verdict.TheVariants.{Delivered}
 use Rattle.macs_endpoint.specs.declared.fault.Stopped.{Stopped}
+use Rattle.macs_endpoint.specs.Step.{Exchange}
+use Rattle.macs_headline.specs.Binding.{HasHistory}
 use Rattle.macs_headline.specs.Deliveries.{IsVerifiedAnswer, IsVerifiedKind}
 use Rattle.macs_headline.specs.ExampleWords.{DaysAreCalls, ExampleWords, IsGiven, NightWords, WatchWords}
+use Rattle.macs_headline.specs.History.{Formats, Serves}
 use Rattle.macs_headline.specs.Watches.{IsWatchFrame}
 
 pub example-words : ExampleWords
@@ -16,7 +21,13 @@ example-words = record {
 }
 
 pub days-are-calls : {D : Type 0} (disk_of : D → Disk) → DaysAreCalls disk_of
-days-are-calls disk_of = λ old identity install select plain out day i. (i.called, i.chain)
+days-are-calls disk_of = λ old identity install select plain out day i. (
+  i.called,
+  i.chain,
+  subst (λ (exchanges : List Exchange). HasHistory this_edition (disk_of day.disk)
+      (Formats this_edition identity (is_ok day.formatted) ∷ Serves this_edition (now (disk_of i.between)).seen exchanges None ∷ [])) (sym i.called)
+      i.history,
+)
 
 pub night-words : {D : Type 0} → NightWords D
 night-words = record {

@@ -1,15 +1,20 @@
 -- All that is to be drawn from words that say what a frame is.
-use Rattle.std.proofs.Common.{◌≡◌, ◌≢◌, ◌+◌, ◌++◌, ℕ, Bool, true, false, List, [], ◌∷◌, sym, ◌∙◌, ap, subst}
-use Rattle.std.specs.Prelude.{slice_index, slice_range, take}
+use Rattle.std.proofs.Common.{◌≡◌, ◌≢◌, ◌⊎◌, ◌↔◌, ◌≤◌, ◌<◌, ◌+◌, ◌++◌, inl, inr, ℕ, Bool, true, false, List, [], ◌∷◌, refl, sym, ◌∙◌, ap, subst, arith}
+use Rattle.std.specs.Prelude.{slice_index, slice_range, take, Some, None}
 use Rattle.macs_gcm.specs.Gcm.{seal}
-use Rattle.macs_frame.specs.Opening.{Verified, clear_of, hidden_of, iv_of}
-use Rattle.macs_frame.specs.Tag.{has_bit, name_of, pn_of}
+use Rattle.macs_frame.specs.Opening.{Verified, clear_of, hidden_of, iv_of, named_sci}
+use Rattle.macs_frame.specs.Tag.{IsForKay, Tag, has_bit, name_of, pn_of, tag_of}
 use Rattle.macs_frame.specs.declared.tag.SecTag.{SecTag}
+use Rattle.macs_frame.specs.declared.tag.Parts.{Parts}
 use Rattle.macs_config.specs.Identity.{IsIdentity}
 use Rattle.macs_config.specs.declared.command.SciMode.{SciMode}
+use Rattle.macs_rxsc.specs.declared.verdict.Kind.{Kind}
+use Rattle.macs_rxsc.specs.declared.verdict.Kind.TheVariants.{Delayed, Ok as AsOk}
 use Rattle.macs_endpoint.specs.State.{State}
+use Rattle.macs_headline.specs.Deliveries.{IsInTime, numbers_moved}
 use Rattle.macs_headline.specs.FrameWords.{FrameWords}
 use Rattle.macs_headline.specs.Frames.{IsNamedIn, IsStandardFrame}
+use Rattle.macs_headline.specs.Received.{IsOfChannel}
 use Rattle.macs_headline.specs.Verdicts.{behind_data, behind_tag}
 
 -- ---- what is sealed
@@ -42,6 +47,48 @@ named_as : (s new : State) (plain out : List ℕ) (pn : ℕ) → IsStandardFrame
     → IsNamedIn mode s.identity.sci (name_of out)
 named_as s new plain out pn f identity mode is = subst (λ (m : SciMode). IsNamedIn m s.identity.sci (name_of out)) is (f.named identity)
 
+-- ---- the other way
+
+module _ (frame key sci plain : List ℕ) (offset : ℕ) (parts : Parts) (tag : Tag frame parts) (ours : ¬ IsForKay frame) where
+  verified : (e : Bool) → has_bit (slice_index frame 14) 0x08 ≡ e
+      → IsSealed frame key sci plain offset (behind_tag frame) (behind_data frame) (pn_of frame) e → Verified frame key sci offset plain
+  verified e is sealed =
+      let read = tag.reading in
+      let number : ℕ = parts.tag.pn in
+      let set : Bool = parts.tag.encrypted in
+      let by_bit : IsSealed frame key sci plain offset (behind_tag frame) (behind_data frame) (pn_of frame) set =
+      subst (λ (b : Bool). IsSealed frame key sci plain offset (behind_tag frame) (behind_data frame) (pn_of frame) b)
+      (sym (ap (λ (t : SecTag). t.encrypted) read.tag ∙ is)) sealed in
+      let by_number : IsSealed frame key sci plain offset (behind_tag frame) (behind_data frame) number set =
+      subst (λ (n : ℕ). IsSealed frame key sci plain offset (behind_tag frame) (behind_data frame) n set)
+      (sym (ap (λ (t : SecTag). t.pn) read.tag)) by_bit in
+      let by_end : IsSealed frame key sci plain offset (behind_tag frame) parts.end number set =
+      subst (λ (n : ℕ). IsSealed frame key sci plain offset (behind_tag frame) n number set) (sym read.end) by_number in
+      let by_start : IsSealed frame key sci plain offset parts.start parts.end number set =
+      subst (λ (n : ℕ). IsSealed frame key sci plain offset n parts.end number set) (sym read.start) by_end in
+      record {
+        parts = parts;
+        tag = tag;
+        not_for_kay = ours;
+        opens = record { plaintext = by_start.0; sealed = by_start.2; plain_is = by_start.1 };
+      }
+
+-- ---- deliveries
+
+when_delayed : (lowest pn : ℕ) (kind : Kind) → IsInTime lowest pn kind → ((kind ≡ Delayed) ↔ (pn < lowest)) × ((kind ≡ AsOk) ↔ (lowest ≤ pn))
+when_delayed lowest pn kind (inl (below, is)) = (
+  (λ late. below, λ under. is),
+  (λ ok. let both : Delayed ≡ AsOk = sym is ∙ ok in absurd (cc), λ above. absurd (omega (arith, below, above))),
+)
+when_delayed lowest pn kind (inr (above, is)) = (
+  (λ late. let both : AsOk ≡ Delayed = sym is ∙ late in absurd (cc), λ below. absurd (omega (arith, below, above))),
+  (λ ok. above, λ over. is),
+)
+
+unnamed : (s : State) (frame sci : List ℕ) → IsOfChannel s frame sci → named_sci frame (name_of frame) ≡ None → s.config.channels ≡ sci ∷ []
+unnamed s frame sci (among, inl named) none = let both : None ≡ Some sci = sym none ∙ named in absurd (cc)
+unnamed s frame sci (among, inr (also, alone)) none = alone
+
 pub frame-words : (sectors : ℕ) → FrameWords sectors
 frame-words sectors = record {
   standard = λ s new plain out pn f. (f.encoding, f.association, f.number, f.least, f.most, f.next, f.logged);
@@ -55,6 +102,11 @@ frame-words sectors = record {
   bits = λ s new plain out pn f identity. f.bits identity;
   read = λ s new plain out pn f identity. f.read identity;
   delivered = λ s new frame out kind d. (d.named, d.association, d.are_numbers, d.guarded, d.verified, d.only, d.logged);
+  in_time = λ s new frame out kind d. when_delayed d.numbers.lowest (tag_of frame).pn kind d.in_time;
+  moved = λ s new frame out kind d. (numbers_moved s.config.replay.window d.numbers (tag_of frame).pn, d.moved, refl, refl, refl);
+  greatest = λ seen pn. (refl, refl);
+  held = λ s new frame a. (a.named, a.association, a.are_numbers, a.ahead, a.verified);
+  unnamed = unnamed;
   other_frame = λ lives logs plain out key pn number o. o.other;
   other_delivery = λ lives logs frame out sci key kind pn o. o.other;
   beyond_frame = λ lives logs plain out pn found b. b.beyond;
@@ -63,4 +115,8 @@ frame-words sectors = record {
   received_octets = λ frame is. is;
   encrypted = λ frame key sci plain offset v is. sealed frame key sci plain offset true v is;
   clear = λ frame key sci plain offset v is. sealed frame key sci plain offset false v is;
+  encrypted_so = λ frame key sci plain text offset parts tag ours is plain_is seals.
+      verified frame key sci plain offset parts tag ours true is (text, plain_is, seals);
+  clear_so = λ frame key sci plain text offset parts tag ours is plain_is seals.
+      verified frame key sci plain offset parts tag ours false is (text, plain_is, seals);
 }

@@ -103,5 +103,8 @@ mod OpeningWords
 mod DeedLives
 mod DiskFiles
 mod ExampleWords
+mod WorkedWords
+mod OnceWords
+mod RefusedWords
 mod FileCallWords
 mod OctetWords

@@ -1,6 +1,6 @@
 -- The headline on counters: which count is of which answer, that an answer adds to its own count alone, and what is
 -- counted of each channel.
-use Rattle.std.specs.Prelude.{◌≡◌, ◌≢◌, ◌+◌, ◌-◌, ◌^◌, min, ℕ, Bool, true, false, List, Option, Some, None, Result, Ok}
+use Rattle.std.specs.Prelude.{◌≡◌, ◌≢◌, ◌+◌, ◌-◌, ◌^◌, min, ℕ, Bool, true, false, List, [], ◌∷◌, map, replicate, Option, Some, None, Result, Ok}
 use Rattle.std.specs.Prelude.{Err}
 use Rattle.macs_config.specs.Config.{is_among}
 use Rattle.macs_config.specs.Numbers.{one_more}
@@ -41,7 +41,8 @@ is_counted_by_channel (Discarded reason.Late) = true
 is_counted_by_channel (Discarded reason.NotValid) = true
 is_counted_by_channel verdict = false
 
--- The count of a fault, of a verdict, and of a verdict on frames that name one channel, is the counter of its name.
+-- The count of a fault, of a verdict, and of a verdict on frames that name one channel, is the counter of its name. Each
+-- verdict with a counter of a channel is counted there.
 -- Before the first call, and of a channel that was just added, each is 0. A count rises to 2^64 - 1 and stays there.
 pub record CountsAreNamed : Type 0 where
   pub faults : (c : TxCounters) → (fault_count fault.Runt c ≡ c.runt) × (fault_count fault.TooLong c ≡ c.too_long)
@@ -64,6 +65,9 @@ pub record CountsAreNamed : Type 0 where
       × (channel_count_of (Discarded reason.NotUsingSa) c ≡ c.not_using_sa)
       × (channel_count_of (Discarded reason.Late) c ≡ c.late)
       × (channel_count_of (Discarded reason.NotValid) c ≡ c.not_valid)
+  pub counted_by_channel : map is_counted_by_channel (Delivered kind.Ok ∷ Delivered kind.Delayed ∷ Delivered kind.Invalid
+      ∷ Delivered kind.UnusedSa ∷ Discarded reason.NotUsingSa ∷ Discarded reason.Late ∷ Discarded reason.NotValid ∷ [])
+      ≡ replicate 7 true
   pub none_sent : (no_tx_counts.protected ≡ 0) × ((at : TxFault) → fault_count at no_tx_counts ≡ 0)
   pub none_received : (verdict : Verdict) → (count_of verdict no_rx_counts ≡ 0)
       × (channel_count_of verdict no_channel_counts ≡ 0)

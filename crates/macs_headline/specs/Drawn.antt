@@ -1,15 +1,16 @@
 -- The headline on words that stand in what its clauses conclude: what is to be drawn from each of them.
-use Rattle.std.specs.Prelude.{◌≡◌, ◌≢◌, ◌⊎◌, ◌↔◌, ◌≤◌, ◌+◌, ◌++◌, ◌-◌, ◌^◌, ℕ, true, false, List, [], ◌∷◌, length, map, Contains, Option, Some, None, Ok}
+use Rattle.std.specs.Prelude.{◌≡◌, ◌≢◌, ◌⊎◌, ◌↔◌, ◌≤◌, ◌+◌, ◌++◌, ◌-◌, ◌^◌, ℕ, true, false, List, [], ◌∷◌, length, map, max, Bool, Contains, Option, Some, None, Ok}
 use Rattle.std.specs.List.{range_with_len}
 use Rattle.macs_config.specs.Config.{Config, Edition, default, this_edition}
 use Rattle.macs_config.specs.Identity.{Identity}
 use Rattle.macs_config.specs.declared.command.Command.{Command}
+use Rattle.macs_config.specs.declared.command.Command.TheVariants.{SetReplay}
 use Rattle.macs_disk.specs.Disk.{Disk}
 use Rattle.macs_disk.specs.States.{Image}
 use Rattle.macs_frame.specs.Tag.{tag_of}
 use Rattle.macs_journal.specs.Found.{Content}
 use Rattle.macs_journal.specs.declared.fault.JournalFault.{JournalFault}
-use Rattle.macs_rxsc.specs.Receive.{NotVerified, Numbers, RxStepHolds, channel_of}
+use Rattle.macs_rxsc.specs.Receive.{NotVerified, Numbers, RxStepHolds, channel_of, numbers_under_window}
 use Rattle.macs_rxsc.specs.declared.verdict.Kind.{Kind}
 use Rattle.macs_store.specs.Found.{IsToMigrate, StandingIs}
 use Rattle.macs_store.specs.Standing.{Standing}
@@ -30,6 +31,7 @@ use Rattle.macs_headline.specs.Frames.{IsOtherFrame, IsStandardFrame, writing}
 use Rattle.macs_headline.specs.History.{FitsPast, Formats, Life, Past, Refuses, Serves, logs_of, state_at_end}
 use Rattle.macs_headline.specs.Logged.{AreAnswers, WasDelivered, WasWritten}
 use Rattle.macs_headline.specs.Moments.{Moment}
+use Rattle.macs_headline.specs.Moving.{AreSet}
 use Rattle.macs_headline.specs.Numbers.{AreHeldIn, HasNoneTwice, IsMoved}
 use Rattle.macs_headline.specs.Openings.{AreAsBefore}
 use Rattle.macs_headline.specs.Received.{IsSeenBy}
@@ -70,13 +72,18 @@ pub record LogWords (sectors : ℕ) : Type 0 where
       × Step was.at e.call e.reply was.after × AreHeldIn was.after.logs logs × Contains (exchanges_of_lives lives) e
 
 -- Tickets in order are 1, 2, and so on. A restart makes one number of next and lowest. Within a window the lowest acceptable number is not above the next one,
--- and no further below it than the window is wide; within one of 0 it is the next one. A number that was seen is that of a frame which the call was given, and
--- which is not one that does not verify.
+-- and no further below it than the window is wide; within one of 0 it is the next one. A command on replay protection moves it up into the window, and no other
+-- number. A number that was seen is that of a frame which the call was given, and which is not one that does not verify.
 pub record NumberWords : Type 0 where
   pub tickets : (tickets : List ℕ) → AreInOrder 0 tickets → tickets ≡ range_with_len 1 (length tickets)
   pub moved : (block : ℕ) (old new : Numbers) → IsMoved block old new → new ≡ record { next = new.next; lowest = new.next; seen = None }
   pub window : (n : Numbers) → IsWithinWindow 0 n → n.lowest ≡ n.next
   pub windows : (window : ℕ) (n : Numbers) → IsWithinWindow window n → (n.lowest ≤ n.next) × (n.next ≤ n.lowest + window)
+  pub widened : (window : ℕ) (n : Numbers)
+      → numbers_under_window window n ≡ record { next = n.next; lowest = max n.lowest (n.next - window); seen = n.seen }
+  pub replayed : (old new : State) (on : Bool) (window : ℕ) (sci : List ℕ) (an : ℕ) (n : Numbers) → AreSet old (SetReplay on window) new
+      → old.numbers sci an ≡ Some n
+      → new.numbers sci an ≡ Some (record { next = n.next; lowest = max n.lowest (n.next - window); seen = n.seen })
   pub seen : (s : State) (call : Call) (sci : List ℕ) (an pn : ℕ) → IsSeenBy s call sci an pn
       → (frame : List ℕ) × (call ≡ Receives frame) × (channel_of (rx_side s) frame ≡ Some sci) × ((tag_of frame).an ≡ an) × ((tag_of frame).pn ≡ pn)
       × (¬ RxStepHolds (rx_side s) frame NotVerified)

@@ -1,12 +1,13 @@
 -- The headline on the words in which the contracts of its example programs end.
-use Rattle.std.specs.Prelude.{◌≡◌, ◌≢◌, ◌⊎◌, ◌<◌, ◌≤◌, ◌^◌, ℕ, true, List, [], ◌∷◌, map, None, Result, Ok}
+use Rattle.std.specs.Prelude.{◌≡◌, ◌≢◌, ◌⊎◌, ◌<◌, ◌≤◌, ◌^◌, ℕ, true, is_ok, List, [], ◌∷◌, map, None, Result, Ok}
 use Rattle.macs_frame.specs.Opening.{Verified}
 use Rattle.macs_frame.specs.Protection.{protected_frame}
 use Rattle.macs_frame.specs.Tag.{tag_of}
 use Rattle.macs_frame.specs.declared.tag.ScName.TheVariants.{Explicit}
+use Rattle.macs_config.specs.Config.{this_edition}
 use Rattle.macs_config.specs.Identity.{Identity}
 use Rattle.macs_config.specs.declared.command.Command.{Command}
-use Rattle.macs_disk.specs.Disk.{Disk, MayLeave}
+use Rattle.macs_disk.specs.Disk.{Disk, MayLeave, now}
 use Rattle.macs_disk.specs.States.{IsSector}
 use Rattle.macs_rxsc.specs.declared.verdict.Kind.{Kind}
 use Rattle.macs_rxsc.specs.declared.verdict.Kind.TheVariants.{Ok as AsOk}
@@ -15,11 +16,13 @@ use Rattle.macs_rxsc.specs.declared.verdict.Verdict.TheVariants.{Delivered}
 use Rattle.macs_endpoint.specs.Lives.{exchange_of}
 use Rattle.macs_endpoint.specs.State.{Advanced, Advances, Commands, Protected, Protects, Ran, Submits, Submitted}
 use Rattle.macs_endpoint.specs.declared.fault.Stopped.{Stopped}
+use Rattle.macs_headline.specs.Binding.{HasHistory}
 use Rattle.macs_headline.specs.Days.{IsDay, exchange_with, link_of}
 use Rattle.macs_headline.specs.Deeds.{Chain, Formatting, Living}
 use Rattle.macs_headline.specs.Deliveries.{IsVerifiedKind}
 use Rattle.macs_headline.specs.ExampleCuts.{compacting_disk, torn_image}
 use Rattle.macs_headline.specs.ExampleLives.{IsWorkedHistory}
+use Rattle.macs_headline.specs.History.{Formats, Serves}
 use Rattle.macs_headline.specs.Nights.{IsNight, IsNightFrame}
 use Rattle.macs_headline.specs.Watches.{IsWatch}
 use Rattle.macs_headline.specs.declared.day.Day.{Day}
@@ -79,7 +82,7 @@ pub record WatchWords (D : Type 0) : Type 0 where
       → watch.morning.received ≡ Ok (Delivered other) → (tag_of evening).pn ≢ (tag_of morning).pn
 
 -- The calls of a day are a command, one that waits, and a plain frame between two steps, each answered as the day says;
--- the disk was formatted before them, and given back after.
+-- the disk was formatted before them, and given back after, and that is its history.
 abbrev pub DaysAreCalls : {D : Type 0} → (D → Disk) → Type 0
 DaysAreCalls {D} disk_of = (old : D) (identity : Identity) (install select : Command) (plain out : List ℕ)
     (day : Day D) (i : IsDay disk_of old identity install select plain out day)
@@ -88,3 +91,5 @@ DaysAreCalls {D} disk_of = (old : D) (identity : Identity) (install select : Com
     ∷ exchange_with (Protects plain) (Protected day.sent out) ∷ exchange_with Advances (Advanced day.went_on) ∷ [])
     × Chain disk_of old (link_of (Formatting identity day.formatted) i.between
     ∷ link_of (Living i.first i.turns i.last None) day.disk ∷ []) day.disk
+    × HasHistory this_edition (disk_of day.disk) (Formats this_edition identity (is_ok day.formatted)
+    ∷ Serves this_edition (now (disk_of i.between)).seen (map exchange_of i.turns) None ∷ [])

@@ -57,5 +57,8 @@ pub mod ExampleCuts
 pub mod ExampleLives
 pub mod ExampleMigration
 pub mod ExampleWords
+pub mod WorkedWords
+pub mod OnceWords
+pub mod RefusedWords
 pub mod FileCallWords
 pub mod OctetWords

@@ -47,6 +47,9 @@ ghost use Rattle.macs_headline.specs.Endings.{WritesBackAsSyncs, WrittenBackPass
 ghost use Rattle.macs_headline.specs.ExampleLives.{IsWorkedHistory};
 ghost use Rattle.macs_headline.specs.ExampleMigration.{IsWorkedMigration};
 ghost use Rattle.macs_headline.specs.ExampleWords.{DaysAreCalls, ExampleWords, NightWords, WatchWords};
+ghost use Rattle.macs_headline.specs.WorkedWords.{MigrationWords, WorkedWords};
+ghost use Rattle.macs_headline.specs.OnceWords.{OnceWords};
+ghost use Rattle.macs_headline.specs.RefusedWords.{RefusedWords};
 ghost use Rattle.macs_headline.specs.Fitting.{RestartsFit};
 ghost use Rattle.macs_headline.specs.FrameWords.{FrameWords};
 ghost use Rattle.macs_headline.specs.QueueWords.{QueueWords};
@@ -280,6 +283,9 @@ pub fn words()
     ensures lives { (sectors : ℕ) → LifeWords sectors }
     // In which words the contracts of the examples end.
     ensures examples { ExampleWords }
+    // What the worked history and the worked migration are.
+    ensures worked { WorkedWords }
+    ensures migration { MigrationWords }
 {}
 
 /// What the endpoint's contracts promise of openings, ceilings and counters, and what its own laws on
@@ -310,6 +316,10 @@ pub fn endpoint_words<D: SectorDisk>()
     // In which words the contracts of an example's night and watch end.
     ensures nights { NightWords D }
     ensures watches { WatchWords D }
+    // And in which where an opening is refused.
+    ensures refused { RefusedWords D.disk }
+    // What is drawn of frames that are written or delivered once.
+    ensures once { OnceWords D }
     // One more step, reservation, command or frame is counted where a call or its answer says
     // so, and else none.
     ensures counted { TurnsAreCounted D }

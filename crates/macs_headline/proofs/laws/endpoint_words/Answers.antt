@@ -1,5 +1,7 @@
 use Rattle.macs_headline.proofs.ExampleWords.{days-are-calls, night-words, watch-words}
 use Rattle.macs_headline.proofs.EndWords.{end-words}
+use Rattle.macs_headline.proofs.OnceWords.{once-words}
+use Rattle.macs_headline.proofs.RefusedWords.{refused-words}
 use Rattle.macs_headline.proofs.EndpointWords.{calls-are-counted, ceilings-are-raised, openings-count, served-words}
 use Rattle.macs_headline.proofs.CountWords.{counts-are-named, counts-rise-alone}
 use Rattle.macs_headline.proofs.NeedWords.{needs-are-in-order, turns-are-used}
@@ -54,3 +56,9 @@ returns-clause-nights g c = night-words
 
 pub returns-clause-watches : goal.returns-clause-watches
 returns-clause-watches g c = watch-words
+
+pub returns-clause-refused : goal.returns-clause-refused
+returns-clause-refused g c = refused-words g.D.SectorDisk.disk
+
+pub returns-clause-once : goal.returns-clause-once
+returns-clause-once g c = once-words

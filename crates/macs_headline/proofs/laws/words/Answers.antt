@@ -5,6 +5,7 @@ use Rattle.macs_headline.proofs.Words.{call-words, command-words, edition-words,
 use Rattle.macs_headline.proofs.ExampleWords.{example-words}
 use Rattle.macs_headline.proofs.FrameWords.{frame-words}
 use Rattle.macs_headline.proofs.QueueWords.{queue-words}
+use Rattle.macs_headline.proofs.WorkedWords.{migration-words, worked-words}
 use Rattle.macs_headline.proofs.laws.words.Goals as goal
 
 pub returns-clause-editions : goal.returns-clause-editions
@@ -57,3 +58,9 @@ returns-clause-lives c = life-words
 
 pub returns-clause-examples : goal.returns-clause-examples
 returns-clause-examples c = example-words
+
+pub returns-clause-worked : goal.returns-clause-worked
+returns-clause-worked c = worked-words
+
+pub returns-clause-migration : goal.returns-clause-migration
+returns-clause-migration c = migration-words

@@ -1,0 +1,18 @@
+-- What is to be drawn of frames that are written or delivered once.
+use Rattle.std.proofs.Common.{List, refl, subst}
+use Rattle.macs_endpoint.specs.State.{Use}
+use Rattle.macs_headline.specs.Numbers.{HasNoneTwice}
+use Rattle.macs_headline.specs.OnceWords.{OnceWords}
+use Rattle.macs_headline.proofs.Drawn.{log-words}
+
+pub once-words : {D : Type 0} → OnceWords D
+once-words = record {
+  used = λ sectors lives image turns first last after plain out pn w front between behind u is.
+      let words = log-words sectors in words.twice front between behind u (subst (λ (entries : List Use). HasNoneTwice entries) is w.once);
+  written = λ sectors lives image turns first last after plain out pn w earlier given number among.
+      let o = w.others earlier number given among in (o.answered, o.frame, o.other);
+  delivered = λ sectors lives image turns first last after frame out kind d on narrow earlier given old verified among.
+      let o = d.once on narrow earlier given old verified among in (o.answered, o.delivery, o.other);
+  as_ok = λ sectors lives image turns first last after frame out d earlier given old verified among.
+      let o = d.never_ok_again refl earlier given old verified among in (o.answered, o.delivery, o.other);
+}

@@ -1,0 +1,11 @@
+-- What the contracts of the example programs say where an opening is refused.
+use Rattle.macs_disk.specs.Disk.{Disk}
+use Rattle.macs_headline.specs.RefusedWords.{RefusedWords}
+
+pub refused-words : {D : Type 0} (disk_of : D → Disk) → RefusedWords disk_of
+refused-words disk_of = record {
+  day = λ old identity refused i. (i.chain, i.history);
+  evening = λ old identity refused e. (e.day, e.failed);
+  morning = λ old identity an key evening out refused i. (i.for_disk, i.called, i.loses, i.chain);
+  watch = λ old identity sci an key frame out refused i. (i.for_disk, i.served, i.loses, i.chain);
+}
