@@ -1,20 +1,27 @@
 -- All that is to be drawn of the words on command files.
-use Rattle.std.proofs.Common.{◌≡◌, ◌≤◌, ◌⊎◌, inl, inr, ◌+◌, ◌==◌, ℕ, Bool, true, false, cond, List, [], ◌∷◌, Option, Some, None}
+use Rattle.std.proofs.Common.{◌≡◌, ◌≢◌, ◌<◌, ◌≤◌, ◌⊎◌, inl, inr, ◌+◌, ◌==◌, ℕ, Bool, true, false, cond, List, [], ◌∷◌, Option, Some, None}
 use Rattle.std.proofs.Common.{Result, Ok, Err, refl, sym, ◌∙◌, ap}
-use Rattle.std.specs.Prelude.{ℤ, pos, codes, nat_le, nat_lt, option_and_then}
+use Rattle.std.specs.Prelude.{pos, codes, nat_le, nat_lt, option_and_then}
 use Rattle.std.specs.Option.{option_map}
-use Rattle.std.proofs.lemmas.Bool.{leb-true, ltb-false}
+use Rattle.std.specs.Str.{bytes_eq}
+use Rattle.std.proofs.lemmas.Bool.{le-leb, le-ltb, leb-true, lt-ltb, ltb-false, ne_eqb}
 use Rattle.hex.specs.Hex.{decode_sized}
 use Rattle.toml.specs.Data.{Data, Items, Members, array, as_bool, as_str, boolean, datetime, float, get_member, integer}
 use Rattle.toml.specs.Data.{item, string, table}
 use Rattle.macs_aes.specs.declared.keys.Key.{Key}
 use Rattle.macs_aes.specs.declared.keys.Key.TheVariants.{Long, Short}
+use Rattle.macs_config.proofs.Channels.{same_octets}
 use Rattle.macs_config.specs.declared.command.Command.{Command}
+use Rattle.macs_config.specs.declared.command.SciMode.{SciMode}
+use Rattle.macs_config.specs.declared.command.SciMode.TheVariants.{Explicit, EndStation, Implicit}
+use Rattle.macs_config.specs.declared.command.Validate.{Validate}
+use Rattle.macs_config.specs.declared.command.Validate.TheVariants.{Strict, Check}
 use Rattle.macs_commands.specs.CommandFiles.{are_tables, array_commands, before, count, file_commands, table_command}
 use Rattle.macs_commands.specs.CommandFiles.{table_commands, told}
 use Rattle.macs_commands.specs.CommandWords.{FileWords, LineWords, ValueWords}
 use Rattle.macs_commands.specs.Fields.{an_in, confidential_in, key_in, key_of, number_to, octets_of, offset_in, on_in}
-use Rattle.macs_commands.specs.Fields.{sci_in, sci_mode_in, start_in, text_at, validate_in, window_in}
+use Rattle.macs_commands.specs.Fields.{number_at, sci_in, sci_mode_in, sci_mode_of, start_in, text_at, validate_in}
+use Rattle.macs_commands.specs.Fields.{validate_of, window_in}
 use Rattle.macs_commands.specs.Lines.{◌>>=◌, command_of, keys_of, required, word_in, word_of}
 use Rattle.macs_commands.specs.declared.config_fault.ConfigFault.{ConfigFault}
 use Rattle.macs_commands.specs.declared.config_fault.ConfigFault.TheVariants as fault
@@ -189,16 +196,128 @@ is_key text key is = elim (either_of (octets_of 16 text)) [
       inl (octets, some, sym same)
 ]
 
+-- ---- files and tables that are taken, and their faults
+
+no_table : (m : Members) → get_member (codes "command") m ≡ None
+    → file_commands m ≡ cond {A = Result (List Command) ConfigFault} (count m == 0) (Ok []) (Err fault.Shape)
+no_table m none = rw (none, file_commands) refl
+
+empty : (m : Members) → get_member (codes "command") m ≡ None → count m ≡ 0 → file_commands m ≡ Ok []
+empty m none nothing = no_table m none
+    ∙ ap (λ (n : ℕ). cond {A = Result (List Command) ConfigFault} (n == 0) (Ok []) (Err fault.Shape)) nothing
+
+other_keys : (m : Members) → get_member (codes "command") m ≡ None → count m ≢ 0 → file_commands m ≡ Err fault.Shape
+other_keys m none some = no_table m none
+    ∙ ap (λ (b : Bool). cond {A = Result (List Command) ConfigFault} b (Ok []) (Err fault.Shape))
+    (ne_eqb (count m) 0 some)
+
+listed : (m : Members) (items : Items) → get_member (codes "command") m ≡ Some (array items) → count m ≡ 1
+    → are_tables items ≡ true → file_commands m ≡ table_commands 1 items
+listed m items there alone tables =
+    let by : file_commands m ≡ cond (count m == 1) (array_commands (array items)) (Err fault.Shape) =
+    rw (there, file_commands) refl in
+    by ∙ ap (λ (n : ℕ). cond (n == 1) (array_commands (array items)) (Err fault.Shape)) alone
+    ∙ ap (λ (b : Bool). cond b (table_commands 1 items) (Err fault.Shape)) tables
+
+by_word : (at : ℕ) (m : Members) (which : Word) → word_in m ≡ Some which
+    → table_command at m ≡ told at (nat_lt (keys_of which) (count m)) (command_of which m)
+by_word at m which some = rw (some, table_command) refl
+
+taken : (at : ℕ) (m : Members) (which : Word) (command : Command) → word_in m ≡ Some which
+    → command_of which m ≡ Ok command → count m ≤ keys_of which → table_command at m ≡ Ok command
+taken at m which command some is few = by_word at m which some
+    ∙ ap (λ (r : Result Command KeyName). told at (nat_lt (keys_of which) (count m)) r) is
+    ∙ ap (λ (b : Bool). told at b (Ok command)) (le-ltb (keys_of which) (count m) few)
+
+wrong_key : (at : ℕ) (m : Members) (which : Word) (wrong : KeyName) → word_in m ≡ Some which
+    → command_of which m ≡ Err wrong → table_command at m ≡ Err (fault.Key at wrong)
+wrong_key at m which wrong some is = by_word at m which some
+    ∙ ap (λ (r : Result Command KeyName). told at (nat_lt (keys_of which) (count m)) r) is
+
+one_more : (at : ℕ) (m : Members) (which : Word) (command : Command) → word_in m ≡ Some which
+    → command_of which m ≡ Ok command → keys_of which < count m → table_command at m ≡ Err (fault.Extra at)
+one_more at m which command some is more = by_word at m which some
+    ∙ ap (λ (r : Result Command KeyName). told at (nat_lt (keys_of which) (count m)) r) is
+    ∙ ap (λ (b : Bool). told at b (Ok command)) (lt-ltb (keys_of which) (count m) more)
+
+-- ---- values that are taken
+
+numbers : (key : List ℕ) (most n : ℕ) (m : Members) → get_member key m ≡ Some (integer (pos n)) → n ≤ most
+    → number_at key most m ≡ Some n
+numbers key most n m there few = ap (λ (o : Option Data). option_and_then (number_to most) o) there
+    ∙ ap (λ (b : Bool). cond {A = Option ℕ} b (Some n) None) (le-leb n most few)
+
+digits : {E : Type 0} (r : Result (List ℕ) E) (octets : List ℕ) → r ≡ Ok octets
+    → elim r [ Ok found ↦ Some found | Err cause ↦ None ] ≡ Some octets
+digits (Ok found) octets is = let same : found ≡ octets = cc in ap Some same
+digits (Err cause) octets is = absurd (cc)
+
+short_key : (text octets : List ℕ) → octets_of 16 text ≡ Some octets → key_of text ≡ Some (Short octets)
+short_key text octets some = rw (some, key_of) refl
+
+long_key : (text octets : List ℕ) → octets_of 16 text ≡ None → octets_of 32 text ≡ Some octets
+    → key_of text ≡ Some (Long octets)
+long_key text octets none some =
+    let by : key_of text ≡ option_map Long (octets_of 32 text) = rw (none, key_of) refl in
+    by ∙ ap (λ (o : Option (List ℕ)). option_map Long o) some
+
+-- ---- words of modes
+
+validate_by : (a b : Bool) (mode : Validate)
+    → cond {A = Option Validate} a (Some Strict) (cond {A = Option Validate} b (Some Check) None) ≡ Some mode
+    → (a ≡ true) ⊎ (b ≡ true)
+validate_by true b mode is = inl refl
+validate_by false true mode is = inr refl
+validate_by false false mode is = absurd (cc)
+
+validate_only : (text : List ℕ) (mode : Validate) → validate_of text ≡ Some mode
+    → (text ≡ codes "strict") ⊎ (text ≡ codes "check")
+validate_only text mode is =
+    elim (validate_by (bytes_eq text (codes "strict")) (bytes_eq text (codes "check")) mode is) [
+      | inl strict ↦ inl (same_octets text (codes "strict") strict)
+      | inr check ↦ inr (same_octets text (codes "check") check)
+    ]
+
+name_by : (a b c : Bool) (mode : SciMode)
+    → cond {A = Option SciMode} a (Some Explicit) (cond {A = Option SciMode} b (Some EndStation)
+    (cond {A = Option SciMode} c (Some Implicit) None)) ≡ Some mode → (a ≡ true) ⊎ (b ≡ true) ⊎ (c ≡ true)
+name_by true b c mode is = inl refl
+name_by false true c mode is = inr (inl refl)
+name_by false false true mode is = inr (inr refl)
+name_by false false false mode is = absurd (cc)
+
+name_only : (text : List ℕ) (mode : SciMode) → sci_mode_of text ≡ Some mode
+    → (text ≡ codes "explicit") ⊎ (text ≡ codes "end-station") ⊎ (text ≡ codes "implicit")
+name_only text mode is = elim (name_by (bytes_eq text (codes "explicit")) (bytes_eq text (codes "end-station"))
+    (bytes_eq text (codes "implicit")) mode is) [
+      | inl explicit ↦ inl (same_octets text (codes "explicit") explicit)
+      | inr (inl station) ↦ inr (inl (same_octets text (codes "end-station") station))
+      | inr (inr implicit) ↦ inr (inr (same_octets text (codes "implicit") implicit))
+    ]
+
 pub file-words : FileWords
 file-words = record {
   none = no_commands;
   file = whole_file;
   last = λ at commands is. (let same : [] ≡ commands = cc in sym same);
   one = one_table;
+  empty = empty;
+  other_keys = other_keys;
+  listed = listed;
+  ended = λ at. refl;
+  next = λ at m items first rest here later. λ i. before (here i) (later i);
+  first_fault = λ at m items cause is.
+      ap (λ (r : Result Command ConfigFault). before r (table_commands (at + 1) items)) is;
+  later_fault = λ at m items first cause here later. λ i. before (here i) (later i);
   table = in_table;
   word_at = λ m which is. let (text, there, so) = and_then word_of (text_at (codes "do") m) which is in
       (text, text_is (codes "do") text m there, so);
   words = refl;
+  keys = refl;
+  taken = taken;
+  no_word = λ at m none. rw (none, table_command) refl;
+  wrong_key = wrong_key;
+  one_more = one_more;
 }
 
 pub line-words : LineWords
@@ -251,4 +370,12 @@ value-words = record {
   key = is_key;
   validates = refl;
   names = refl;
+  validate_only = validate_only;
+  name_only = name_only;
+  numbers = numbers;
+  flags = λ key is m there. ap (λ (o : Option Data). option_and_then as_bool o) there;
+  texts = λ key text m there. ap (λ (o : Option Data). option_and_then as_str o) there;
+  digits = λ count text octets is. digits (decode_sized text count) octets is;
+  short_key = short_key;
+  long_key = long_key;
 }

@@ -1,3 +1,4 @@
 mod Counted
 mod Reading
 mod CommandWords
+mod TakenWords

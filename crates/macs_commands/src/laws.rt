@@ -1,6 +1,6 @@
 //! Laws of the definitions: which commands a file says, in its own terms.
 
-ghost use Rattle.macs_commands.specs.CommandWords.{FileWords, LineWords, ValueWords};
+ghost use Rattle.macs_commands.specs.CommandWords.{FileWords, LineWords, TakenWords, ValueWords};
 
 /// The words of `commands_of` say this: which commands a file says, in which order, and with which
 /// values.
@@ -9,6 +9,8 @@ pub fn words()
     ensures files { FileWords }
     // What each command has from the keys of its table.
     ensures lines { LineWords }
+    // Which tables are taken, and which key is blamed.
+    ensures taken { TakenWords }
     // What a value at a key is.
     ensures values { ValueWords }
 {}

@@ -8,3 +8,5 @@ pub mod Seconds
 pub mod MetricsFiles
 pub mod Buffers
 pub mod Asking
+pub mod SocketWords
+pub mod SystemWords

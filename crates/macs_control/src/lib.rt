@@ -6,6 +6,7 @@ mod binding;
 mod buffers;
 mod connection;
 mod control_socket;
+pub mod laws;
 mod metrics_file;
 mod notifier;
 mod patient;

@@ -5,3 +5,4 @@ pub mod WrittenNumbers
 pub mod WrittenRecord
 pub mod WrittenHeader
 mod LetGo
+mod ReadingWords

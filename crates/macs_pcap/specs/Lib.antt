@@ -7,3 +7,4 @@ pub mod States
 pub mod Reading
 pub mod Writing
 pub mod Value
+pub mod ReadingWords

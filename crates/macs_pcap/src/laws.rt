@@ -1,9 +1,10 @@
-//! Laws of the definitions, for the layers above: what is written is read.
+//! Laws of the definitions, for the layers above: what is written is read, and what is read.
 
 ghost use Rattle.std.specs.Prelude.{◌≡◌, ◌<◌, ◌++◌, ℕ, Bool, List, None, All};
 ghost use Rattle.macs_pcap.specs.Captures.{BeginsWithRecords, IsCaptureRecord, IsHeader, records_text};
 ghost use Rattle.macs_pcap.specs.Faults.{header_fault, max_records, record_fault};
 ghost use Rattle.macs_pcap.specs.Header.{BeginsWithHeader, header_text};
+ghost use Rattle.macs_pcap.specs.ReadingWords.{HeaderWords, ReadWords};
 ghost use Rattle.macs_pcap.specs.Records.{BeginsWithRecord, CaptureRecord, record_text};
 ghost use Rattle.macs_pcap.specs.declared.header.Header.{Header};
 
@@ -31,4 +32,13 @@ pub fn standing_records_have_no_fault()
 pub fn written_captures_are_read()
     ensures { (big : Bool) (records : List CaptureRecord) (rest : List ℕ) → All IsCaptureRecord records
         → BeginsWithRecords big (records_text big records ++ rest) records rest }
+{}
+
+/// The words of the calls that read say this: which headers and which capture records are taken, which
+/// fault is answered, and what is left then.
+pub fn words()
+    // Which headers are sound.
+    ensures headers { HeaderWords }
+    // What is read, or which fault is answered.
+    ensures reads { ReadWords }
 {}

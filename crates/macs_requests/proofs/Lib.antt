@@ -4,3 +4,4 @@ mod Told
 mod Whole
 mod Lengths
 mod Feeds
+mod RequestWords

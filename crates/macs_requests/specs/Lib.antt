@@ -5,3 +5,4 @@ pub mod Kinds
 pub mod Requests
 pub mod Inboxes
 pub mod Talks
+pub mod RequestWords
