@@ -36,6 +36,10 @@ is_stopped j = j.stopped
 abbrev pub used_slots : {D : Type 0} → JournalValue D → ℕ
 used_slots j = j.place.free
 
+-- which of the two areas is current
+abbrev pub current_area : {D : Type 0} → JournalValue D → ℕ
+current_area j = j.place.area
+
 -- the generation of its current area
 abbrev pub generation : {D : Type 0} → JournalValue D → ℕ
 generation j = j.place.head.generation

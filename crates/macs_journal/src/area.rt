@@ -46,6 +46,14 @@ impl Area {
         Area(1)
     }
 
+    /// Its number, 0 or 1.
+    pub(crate) fn number(self) -> u64
+        ensures { result ≡ self }
+    {
+        let Area(number) = self;
+        number
+    }
+
     /// The area that this one is not.
     pub(crate) fn other(self) -> Area
         ensures { result ≡ other_area self }

@@ -10,7 +10,7 @@ ghost use Rattle.macs_journal.specs.Areas.{gate, least_sectors, slot_body, slots
 ghost use Rattle.macs_journal.specs.Found.{Content, HasJournal, content_with_record};
 ghost use Rattle.macs_journal.specs.Appending.{HasEitherJournal};
 ghost use Rattle.macs_journal.specs.Stepping.{AdvancesAppend};
-ghost use Rattle.macs_journal.specs.Value.{FitsHand, HoldsContent, IsHolding, IsIdle, IsNoCompact, JournalValue, append_left, device_in, disk_in, is_stopped, used_slots};
+ghost use Rattle.macs_journal.specs.Value.{FitsHand, HoldsContent, IsHolding, IsIdle, IsNoCompact, JournalValue, append_left, current_area, device_in, disk_in, generation, is_stopped, used_slots};
 ghost use Rattle.macs_journal.specs.Work.{IsSpared, IsWorkOf};
 ghost use Rattle.macs_journal.specs.declared.fault.JournalFault.TheVariants.{Disk, Stopped};
 ghost use Rattle.macs_journal.specs.declared.hand.Hand.TheVariants.{Empty};
@@ -63,6 +63,29 @@ impl<D: SectorDisk> Journal<D> {
         ensures room { result ≡ false → used_slots self.now < slots }
     {
         self.place.free == SLOTS
+    }
+
+    /// The number of the current area, 0 or 1.
+    pub fn area(&self) -> u64
+        ensures { result ≡ current_area self.now }
+    {
+        self.place.area.number()
+    }
+
+    /// The generation of the current area: 1 when the disk is formatted, and one more each time that the journal begins
+    /// anew.
+    pub fn generation(&self) -> u64
+        ensures { result ≡ generation self.now }
+    {
+        self.place.head.generation()
+    }
+
+    /// How many slots of the current area are used, at most 256.
+    pub fn used(&self) -> u64
+        ensures { result ≡ used_slots self.now }
+    {
+        let Place { free, .. } = self.place;
+        free
     }
 
     /// Whether a device call failed: the disk is to be recovered again.
