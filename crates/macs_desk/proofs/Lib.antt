@@ -3,3 +3,4 @@ pub mod Talking
 pub mod Looking
 pub mod Queued
 pub mod Served
+mod DeskWords

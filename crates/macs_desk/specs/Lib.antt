@@ -2,3 +2,4 @@ pub mod UnderWay
 pub mod Replies
 pub mod Listening
 pub mod Serving
+pub mod DeskWords

@@ -33,7 +33,7 @@ use Rattle.macs_endpoint.specs.declared.fault.RefillFault.{RefillFault}
 use Rattle.macs_endpoint.specs.declared.fault.Stopped.{Stopped}
 use Rattle.macs_endpoint.proofs.Rooms.{below-delivered, room-numbered, room-refilled}
 use Rattle.macs_endpoint.proofs.Seen.{below-again}
-use Rattle.macs_edge.specs.Settling.{HandsInAgain, IsSettled, Means, Settles, Waits, call_on, ending_of, is_passed}
+use Rattle.macs_edge.specs.Settling.{HandsInAgain, IsJudged, Means, Settles, Waits, call_on, ending_of, is_passed, verdict_of}
 use Rattle.macs_edge.specs.declared.settling.Outcome.{Outcome}
 use Rattle.macs_edge.specs.declared.settling.Outcome.TheVariants as outcome
 use Rattle.macs_edge.specs.declared.settling.Side.{Side}
@@ -41,18 +41,20 @@ use Rattle.macs_edge.specs.declared.settling.Side.TheVariants.{Controlled, Commo
 
 -- ---- what an answer means
 
-module _ {D : Type 0} (disk_of : D → Disk) (old new : EndpointValue D) (frame out : List ℕ) where
+module _ {D : Type 0} (disk_of : D → Disk) (old new : EndpointValue D) (frame out : List ℕ) (verdict : Option Verdict) where
   abbrev Answers : Side → Outcome → Type 0
   Answers side what = (reply : Reply) × IsCall disk_of old (call_on side frame) reply new × Means (call_on side frame) reply out what
+      × (verdict ≡ verdict_of reply)
 
   pub controlled : (side : Side) (what : Outcome) (reply : Reply) → side ≡ Controlled → IsCall disk_of old (Protects frame) reply new
-      → Means (Protects frame) reply out what → Answers side what
-  controlled side what reply is call means = subst (λ (s : Side). Answers s what) (sym is) (reply, call, means)
+      → Means (Protects frame) reply out what → verdict ≡ verdict_of reply → Answers side what
+  controlled side what reply is call means noted = subst (λ (s : Side). Answers s what) (sym is) (reply, call, means, noted)
 
   pub common : (side : Side) (what : Outcome) (reply : Reply) → side ≡ Common → IsCall disk_of old (Receives frame) reply new
-      → Means (Receives frame) reply out what → Answers side what
-  common side what reply is call means = subst (λ (s : Side). Answers s what) (sym is) (reply, call, means)
+      → Means (Receives frame) reply out what → verdict ≡ verdict_of reply → Answers side what
+  common side what reply is call means noted = subst (λ (s : Side). Answers s what) (sym is) (reply, call, means, noted)
 
+module _ {D : Type 0} (disk_of : D → Disk) (old new : EndpointValue D) (frame out : List ℕ) where
   pub protect_stopped : IsCall disk_of old (Protects frame) (Protected (Err protect.Stopped) out) new
       → IsStopped (Protects frame) (Protected (Err protect.Stopped) out)
   protect_stopped call = elim (call.behaves.step no_logs).1 [
@@ -256,16 +258,19 @@ encodes_at side ceilings (Some an) at = (an, refl, stands (side.tx an) (side.nex
 
 module _ {D : Type 0} (disk_of : D → Disk) where
   -- one call settles the frame
-  pub at_once : (old new : EndpointValue D) (call : Call) (reply : Reply) (passed : Option (List ℕ)) → IsSoundEndpoint old → IsCall disk_of old call reply new
-      → Settles reply passed → IsSettled disk_of old call passed new
-  at_once old new call reply passed sound is settles = record {
-    turns = record { call = call; reply = reply; after = new } ∷ [];
-    lives = (sound, is, refl);
-    reply = reply;
-    handed = (refl, refl);
-    settles = settles;
-    step = is.behaves.step;
-  }
+  pub at_once : (old new : EndpointValue D) (call : Call) (reply : Reply) (passed : Option (List ℕ)) (verdict : Option Verdict) → IsSoundEndpoint old
+      → IsCall disk_of old call reply new → Settles reply passed → verdict ≡ verdict_of reply → IsJudged disk_of old call passed verdict new
+  at_once old new call reply passed verdict sound is settles noted = (
+    record {
+      turns = record { call = call; reply = reply; after = new } ∷ [];
+      lives = (sound, is, refl);
+      reply = reply;
+      handed = (refl, refl);
+      settles = settles;
+      step = is.behaves.step;
+    },
+    noted,
+  )
 
   module _ (old waiting filled new : EndpointValue D) (sound_old : IsSoundEndpoint old) (sound_waiting : IsSoundEndpoint waiting)
       (sound_filled : IsSoundEndpoint filled) (refills : IsCall disk_of waiting Refills (Refilled (Ok tt)) filled) where
@@ -374,19 +379,22 @@ module _ {D : Type 0} (disk_of : D → Disk) where
     ]
 
     -- the second call settles the frame
-    pub settled_again : (side : Side) (frame : List ℕ) (first reply : Reply) (passed : Option (List ℕ)) → Waits first
+    pub settled_again : (side : Side) (frame : List ℕ) (first reply : Reply) (passed : Option (List ℕ)) (verdict : Option Verdict) → Waits first
         → IsCall disk_of old (call_on side frame) first waiting → IsCall disk_of filled (call_on side frame) reply new → Settles reply passed
-        → IsSettled disk_of old (call_on side frame) passed new
-    settled_again side frame first reply passed waits one two settles = record {
-      turns = record { call = call_on side frame; reply = first; after = waiting }
-          ∷ record { call = Refills; reply = Refilled (Ok tt); after = filled }
-          ∷ record { call = call_on side frame; reply = reply; after = new } ∷ [];
-      lives = (sound_old, one, (sound_waiting, refills, (sound_filled, two, refl)));
-      reply = reply;
-      handed = (refl, waits, refl, refl, refl, refl);
-      settles = settles;
-      step = settled_step side frame first reply passed waits one two settles;
-    }
+        → verdict ≡ verdict_of reply → IsJudged disk_of old (call_on side frame) passed verdict new
+    settled_again side frame first reply passed verdict waits one two settles noted = (
+      record {
+        turns = record { call = call_on side frame; reply = first; after = waiting }
+            ∷ record { call = Refills; reply = Refilled (Ok tt); after = filled }
+            ∷ record { call = call_on side frame; reply = reply; after = new } ∷ [];
+        lives = (sound_old, one, (sound_waiting, refills, (sound_filled, two, refl)));
+        reply = reply;
+        handed = (refl, waits, refl, refl, refl, refl);
+        settles = settles;
+        step = settled_step side frame first reply passed waits one two settles;
+      },
+      noted,
+    )
 
     -- it does not wait again
     waits_once : (side : Side) (frame : List ℕ) (first reply : Reply) → Waits first → Waits reply
@@ -448,49 +456,55 @@ module _ {D : Type 0} (disk_of : D → Disk) where
       never (AdvancedLong ticket) s run = s
 
     -- so where nothing passes now the frame is left out
-    pub dropped_again : (side : Side) (frame : List ℕ) (first : Reply) (out : List ℕ) (what : Outcome) → Waits first
+    pub dropped_again : (side : Side) (frame : List ℕ) (first : Reply) (out : List ℕ) (what : Outcome) (verdict : Option Verdict) → Waits first
         → IsCall disk_of old (call_on side frame) first waiting
         → (reply : Reply) × IsCall disk_of filled (call_on side frame) reply new × Means (call_on side frame) reply out what
+        × (verdict ≡ verdict_of reply)
         → (what ≡ outcome.Dropped) ⊎ (what ≡ outcome.Waiting) ⊎ (what ≡ outcome.Stopped)
-        → IsSettled disk_of old (call_on side frame) None new
-    dropped_again side frame first out what waits one (reply, two, means) (inl is) =
-        settled_again side frame first reply None waits one two (subst (λ (w : Outcome). Means (call_on side frame) reply out w) is means)
-    dropped_again side frame first out what waits one (reply, two, means) (inr (inl is)) =
+        → IsJudged disk_of old (call_on side frame) None verdict new
+    dropped_again side frame first out what verdict waits one (reply, two, means, noted) (inl is) =
+        settled_again side frame first reply None verdict waits one two (subst (λ (w : Outcome). Means (call_on side frame) reply out w) is means) noted
+    dropped_again side frame first out what verdict waits one (reply, two, means, noted) (inr (inl is)) =
         absurd (waits_once side frame first reply waits (subst (λ (w : Outcome). Means (call_on side frame) reply out w) is means) one two)
-    dropped_again side frame first out what waits one (reply, two, means) (inr (inr is)) =
+    dropped_again side frame first out what verdict waits one (reply, two, means, noted) (inr (inr is)) =
         absurd (not_stopped side frame reply (subst (λ (w : Outcome). Means (call_on side frame) reply out w) is means) two)
 
 -- an answer settles the frame, unless it waits
-pub ended : {D : Type 0} (disk_of : D → Disk) (old new : EndpointValue D) (call : Call) (out : List ℕ) (what : Outcome) → what ≢ outcome.Waiting → IsSoundEndpoint old
-    → (reply : Reply) × IsCall disk_of old call reply new × Means call reply out what
-    → IfOk (ending_of what) (λ passes. IsSettled disk_of old call (cond passes (Some out) None) new)
-ended disk_of old new call out outcome.Passed moves sound (reply, is, settles) = at_once disk_of old new call reply (Some out) sound is settles
-ended disk_of old new call out outcome.Dropped moves sound (reply, is, settles) = at_once disk_of old new call reply None sound is settles
-ended disk_of old new call out outcome.Waiting moves sound answered = absurd (moves refl)
-ended disk_of old new call out outcome.Stopped moves sound answered = tt
+pub ended : {D : Type 0} (disk_of : D → Disk) (old new : EndpointValue D) (call : Call) (out : List ℕ) (what : Outcome) (verdict : Option Verdict)
+    → what ≢ outcome.Waiting → IsSoundEndpoint old
+    → (reply : Reply) × IsCall disk_of old call reply new × Means call reply out what × (verdict ≡ verdict_of reply)
+    → IfOk (ending_of what) (λ passes. IsJudged disk_of old call (cond passes (Some out) None) verdict new)
+ended disk_of old new call out outcome.Passed verdict moves sound (reply, is, settles, noted) =
+    at_once disk_of old new call reply (Some out) verdict sound is settles noted
+ended disk_of old new call out outcome.Dropped verdict moves sound (reply, is, settles, noted) =
+    at_once disk_of old new call reply None verdict sound is settles noted
+ended disk_of old new call out outcome.Waiting verdict moves sound answered = absurd (moves refl)
+ended disk_of old new call out outcome.Stopped verdict moves sound answered = tt
 
 -- what is handed in again is settled
-settled-behind : {D : Type 0} (disk_of : D → Disk) (old waiting filled new : EndpointValue D) (side : Side) (frame out : List ℕ) (first reply : Reply) (what : Outcome)
-    → IsSoundEndpoint old → IsCall disk_of old (call_on side frame) first waiting → Waits first
+settled-behind : {D : Type 0} (disk_of : D → Disk) (old waiting filled new : EndpointValue D) (side : Side) (frame out : List ℕ) (verdict : Option Verdict)
+    (first reply : Reply) (what : Outcome) → IsSoundEndpoint old → IsCall disk_of old (call_on side frame) first waiting → Waits first
     → IsSoundEndpoint waiting → IsCall disk_of waiting Refills (Refilled (Ok tt)) filled
     → IsSoundEndpoint filled → IsCall disk_of filled (call_on side frame) reply new → Means (call_on side frame) reply out what
-    → IsSettled disk_of old (call_on side frame) (cond (is_passed what) (Some out) None) new
-settled-behind disk_of old waiting filled new side frame out first reply outcome.Passed sound one waits sound_waiting refills sound_filled two settles =
-    settled_again disk_of old waiting filled new sound sound_waiting sound_filled refills side frame first reply (Some out) waits one two settles
-settled-behind disk_of old waiting filled new side frame out first reply outcome.Dropped sound one waits sound_waiting refills sound_filled two means =
-    dropped_again disk_of old waiting filled new sound sound_waiting sound_filled refills side frame first out outcome.Dropped waits one (reply, two, means) (inl refl)
-settled-behind disk_of old waiting filled new side frame out first reply outcome.Waiting sound one waits sound_waiting refills sound_filled two means =
-    dropped_again disk_of old waiting filled new sound sound_waiting sound_filled refills side frame first out outcome.Waiting waits one (reply, two, means)
-    (inr (inl refl))
-settled-behind disk_of old waiting filled new side frame out first reply outcome.Stopped sound one waits sound_waiting refills sound_filled two means =
-    dropped_again disk_of old waiting filled new sound sound_waiting sound_filled refills side frame first out outcome.Stopped waits one (reply, two, means)
-    (inr (inr refl))
+    → verdict ≡ verdict_of reply → IsJudged disk_of old (call_on side frame) (cond (is_passed what) (Some out) None) verdict new
+settled-behind disk_of old waiting filled new side frame out verdict first reply outcome.Passed sound one waits sound_waiting refills sound_filled two settles noted =
+    settled_again disk_of old waiting filled new sound sound_waiting sound_filled refills side frame first reply (Some out) verdict waits one two settles noted
+settled-behind disk_of old waiting filled new side frame out verdict first reply outcome.Dropped sound one waits sound_waiting refills sound_filled two means noted =
+    dropped_again disk_of old waiting filled new sound sound_waiting sound_filled refills side frame first out outcome.Dropped verdict waits one
+    (reply, two, means, noted) (inl refl)
+settled-behind disk_of old waiting filled new side frame out verdict first reply outcome.Waiting sound one waits sound_waiting refills sound_filled two means noted =
+    dropped_again disk_of old waiting filled new sound sound_waiting sound_filled refills side frame first out outcome.Waiting verdict waits one
+    (reply, two, means, noted) (inr (inl refl))
+settled-behind disk_of old waiting filled new side frame out verdict first reply outcome.Stopped sound one waits sound_waiting refills sound_filled two means noted =
+    dropped_again disk_of old waiting filled new sound sound_waiting sound_filled refills side frame first out outcome.Stopped verdict waits one
+    (reply, two, means, noted) (inr (inr refl))
 
 -- and so where the refill was made
-pub settled-at_last : {D : Type 0} (disk_of : D → Disk) (old waiting new : EndpointValue D) (side : Side) (frame out : List ℕ) (first : Reply) (result : Result Bool RefillFault)
-    → IsSoundEndpoint old → IsCall disk_of old (call_on side frame) first waiting → Waits first
-    → HandsInAgain disk_of waiting (call_on side frame) result out new
-    → IfOk result (λ passes. IsSettled disk_of old (call_on side frame) (cond passes (Some out) None) new)
-settled-at_last disk_of old waiting new side frame out first (Err fault) sound one waits again = tt
-settled-at_last disk_of old waiting new side frame out first (Ok passes) sound one waits (what, filled, reply, is, sound_waiting, refills, sound_filled, two, means) =
-    rw is (settled-behind disk_of old waiting filled new side frame out first reply what sound one waits sound_waiting refills sound_filled two means)
+pub settled-at_last : {D : Type 0} (disk_of : D → Disk) (old waiting new : EndpointValue D) (side : Side) (frame out : List ℕ) (verdict : Option Verdict)
+    (first : Reply) (result : Result Bool RefillFault) → IsSoundEndpoint old → IsCall disk_of old (call_on side frame) first waiting → Waits first
+    → HandsInAgain disk_of waiting (call_on side frame) result out verdict new
+    → IfOk result (λ passes. IsJudged disk_of old (call_on side frame) (cond passes (Some out) None) verdict new)
+settled-at_last disk_of old waiting new side frame out verdict first (Err fault) sound one waits again = tt
+settled-at_last disk_of old waiting new side frame out verdict first (Ok passes) sound one waits
+    (what, filled, reply, is, sound_waiting, refills, sound_filled, two, means, noted) =
+    rw is (settled-behind disk_of old waiting filled new side frame out verdict first reply what sound one waits sound_waiting refills sound_filled two means noted)

@@ -3,6 +3,7 @@ use Rattle.std.proofs.Common.{◌≡◌, ◌+◌, ◌<◌, ◌++◌, ℕ, Bool, 
 use Rattle.std.specs.Io.KnownBytes.{Appends}
 use Rattle.std.proofs.KnownBytes.{Appends-nil, Appends-trans}
 use Rattle.macs_disk.specs.Disk.{Disk}
+use Rattle.macs_rxsc.specs.declared.verdict.Verdict.{Verdict}
 use Rattle.macs_pcap.specs.Captures.{BeginsWithRecords, records_text}
 use Rattle.macs_pcap.specs.Faults.{max_records}
 use Rattle.macs_pcap.specs.Reading.{HoldsOfLeft, ReadsRecord, Takes}
@@ -13,8 +14,9 @@ use Rattle.macs_endpoint.specs.Lives.{Lives, Transition}
 use Rattle.macs_endpoint.specs.State.{Reply, State}
 use Rattle.macs_endpoint.specs.Step.{Step}
 use Rattle.macs_endpoint.specs.Value.{EndpointValue, state_of}
-use Rattle.macs_edge.specs.Settling.{HandsIn, IsSettled, Settles, call_on}
-use Rattle.macs_edge.specs.Passing.{Counts, HandsAllIn, HasPassed, Passes, Run, RunsRecords, Stops, TakesNext, TakesRecord, one_more, passed_record}
+use Rattle.macs_edge.specs.Settling.{HandsIn, IsJudged, Settles, call_on, verdict_of}
+use Rattle.macs_edge.specs.Passing.{Counts, HandsAllIn, HasPassed, Passes, Run, Stops, TakesNext, TakesRecord, one_more, passed_record}
+use Rattle.macs_edge.specs.Telling.{HasJudged, Judges, Telling, Tells, TellsAll, TellsRecords, listed}
 use Rattle.macs_edge.specs.declared.passing.RunFault.{RunFault}
 use Rattle.macs_edge.specs.declared.passing.Summary.{Summary}
 use Rattle.macs_edge.specs.declared.settling.Side.{Side}
@@ -46,6 +48,40 @@ passes-more side old between new (one ∷ more) taken passed reply frame passes 
       ap (λ (l : List CaptureRecord). l ++ passed_record taken.stamp frame) is ∙ append_assoc (passed_record one.stamp out) rest (passed_record taken.stamp frame),
       passes-more side next between new more taken rest reply frame later step settles,
     )
+
+judges-more : (side : Side) (old between new : State) (records : List CaptureRecord) (taken : CaptureRecord)
+    (verdicts : List Verdict) (reply : Reply) (frame : Option (List ℕ)) → Judges side old records verdicts between
+    → Step between (call_on side taken.frame) reply new → Settles reply frame
+    → Judges side old (records ++ taken ∷ []) (verdicts ++ listed (verdict_of reply)) new
+judges-more side old between new [] taken verdicts reply frame judges step settles = (
+  reply,
+  frame,
+  new,
+  [],
+  subst (λ (s : State). Step s (call_on side taken.frame) reply new) judges.1 step,
+  settles,
+  ap (λ (l : List Verdict). l ++ listed (verdict_of reply)) judges.0 ∙ sym (append-nil (listed (verdict_of reply))),
+  (refl, refl),
+)
+judges-more side old between new (one ∷ more) taken verdicts reply frame judges step settles =
+    let (answer, out, next, rest, one_step, one_settles, is, later) = judges in (
+      answer,
+      out,
+      next,
+      rest ++ listed (verdict_of reply),
+      one_step,
+      one_settles,
+      ap (λ (l : List Verdict). l ++ listed (verdict_of reply)) is
+          ∙ append_assoc (listed (verdict_of answer)) rest (listed (verdict_of reply)),
+      judges-more side next between new more taken rest reply frame later step settles,
+    )
+
+-- what is told in two parts is told
+pub tells-more : {V T : Type 0} (tells : Tells V T) (a b d : Telling V T) (verdicts more : List Verdict)
+    → TellsAll tells a verdicts b → TellsAll tells b more d → TellsAll tells a (verdicts ++ more) d
+tells-more tells a b d [] more first second = subst (λ (t : Telling _ _). TellsAll tells t more d) first second
+tells-more tells a b d (one ∷ others) more first second =
+    (first.0, first.1, tells-more tells first.0 b d others more first.2 second)
 
 hands-more : {D : Type 0} (side : Side) (records : List CaptureRecord) (taken : CaptureRecord) (turns more : List (Transition D)) (reply : Reply)
     → HandsAllIn side records turns → HandsIn (call_on side taken.frame) more reply → HandsAllIn side (records ++ taken ∷ []) (turns ++ more)
@@ -158,76 +194,167 @@ module _ {D : Type 0} (disk_of : D → Disk) (side : Side) (big : Bool) where
 
   -- ---- what is taken next
 
-  -- a record is read and its frame settled
-  pub took : (count room : ℕ) (old new : Run D) (o : Option Stamp) (stamp : Stamp) (frame lent out : List ℕ) (passes b : Bool) → o ≡ Some stamp
-      → lent ≡ frame → passes ≡ b → ReadsRecord big count room old.source new.source frame (Ok o)
-      → IsSettled disk_of old.endpoint (call_on side lent) (cond passes (Some out) None) new.endpoint
-      → TakesRecord disk_of side big count old (record { stamp = stamp; frame = frame }) (cond b (Some out) None) new
-  took count room old new o stamp frame lent out passes b read lends is reads settled = record {
-    room = room;
-    reads = read_as big count room old.source new.source frame o stamp read reads;
-    settled = subst (λ (f : List ℕ). IsSettled disk_of old.endpoint (call_on side f) (cond b (Some out) None) new.endpoint) lends
-        (subst (λ (x : Bool). IsSettled disk_of old.endpoint (call_on side lent) (cond x (Some out) None) new.endpoint) is settled);
+  -- a record is read and its frame settled, with this verdict
+  pub took : (count room : ℕ) (old new : Run D) (o : Option Stamp) (stamp : Stamp) (frame lent out : List ℕ) (passes b : Bool)
+      (verdict : Option Verdict) → o ≡ Some stamp → lent ≡ frame → passes ≡ b
+      → ReadsRecord big count room old.source new.source frame (Ok o)
+      → IsJudged disk_of old.endpoint (call_on side lent) (cond passes (Some out) None) verdict new.endpoint
+      → (takes : TakesRecord disk_of side big count old (record { stamp = stamp; frame = frame }) (cond b (Some out) None) new)
+      × (verdict ≡ verdict_of takes.settled.reply)
+  took count room old new o stamp frame lent out passes b verdict read lends is reads judged =
+      let (settled, noted) = subst (λ (f : List ℕ). IsJudged disk_of old.endpoint (call_on side f) (cond b (Some out) None) verdict new.endpoint)
+      lends (subst (λ (x : Bool). IsJudged disk_of old.endpoint (call_on side lent) (cond x (Some out) None) verdict new.endpoint) is judged) in (
+        record {
+          room = room;
+          reads = read_as big count room old.source new.source frame o stamp read reads;
+          settled = settled;
+        },
+        noted,
+      )
+
+  pub next-passed : (count : ℕ) (old new : Run D) (taken : CaptureRecord) (frame : List ℕ) (passes : Bool) (verdict : Option Verdict)
+      → passes ≡ true
+      → (takes : TakesRecord disk_of side big count old taken (Some frame) new) × (verdict ≡ verdict_of takes.settled.reply)
+      → Appends old.sink.held new.sink.held (record_text big taken.stamp frame)
+      → new.sink.failed ≡ old.sink.failed → TakesNext disk_of side big count old (Ok (Some passes)) verdict new
+  next-passed count old new taken frame passes verdict is (takes, noted) sent writes =
+      subst (λ (b : Bool). TakesNext disk_of side big count old (Ok (Some b)) verdict new) (sym is) (
+        taken,
+        frame,
+        takes,
+        subst (λ (l : List ℕ). Appends old.sink.held new.sink.held l) (sym (append-nil (record_text big taken.stamp frame))) sent,
+        writes,
+        noted,
+      )
+
+  pub next-dropped : (count : ℕ) (old new : Run D) (taken : CaptureRecord) (passes : Bool) (verdict : Option Verdict) → passes ≡ false
+      → (takes : TakesRecord disk_of side big count old taken None new) × (verdict ≡ verdict_of takes.settled.reply)
+      → new.sink ≡ old.sink → TakesNext disk_of side big count old (Ok (Some passes)) verdict new
+  next-dropped count old new taken passes verdict is (takes, noted) sink =
+      subst (λ (b : Bool). TakesNext disk_of side big count old (Ok (Some b)) verdict new) (sym is) (
+        taken,
+        [],
+        takes,
+        subst (λ (s : SinkState). Appends old.sink.held s.held []) (sym sink) (Appends-nil old.sink.held),
+        ap (λ (s : SinkState). s.failed) sink,
+        noted,
+      )
+
+-- ---- what was taken so far, and told
+
+count_more : (records passed : List CaptureRecord) (taken : CaptureRecord) (frame : List ℕ) (s : Summary) (passes : Bool) → Counts records passed s
+    → Counts (records ++ taken ∷ []) (passed ++ passed_record taken.stamp (cond passes (Some frame) None)) (one_more passes s)
+count_more records passed taken frame s true counts =
+    (omega (arith, counts.0, longer passed (record { stamp = taken.stamp; frame = frame })), omega (arith, counts.1, longer records taken))
+count_more records passed taken frame s false counts =
+    (counts.0 ∙ ap length (sym (append-nil passed)), omega (arith, counts.1, longer records taken))
+
+module _ {D V T : Type 0} (disk_of : D → Disk) (tells : Tells V T) (side : Side) (big : Bool) where
+  one-judged : (count : ℕ) (old between new : Run D) (records passed : List CaptureRecord) (verdicts : List Verdict)
+      (taken : CaptureRecord) (frame : Option (List ℕ)) (verdict : Option Verdict) → length records ≡ count
+      → HasJudged disk_of side big old records passed verdicts between
+      → (takes : TakesRecord disk_of side big count between taken frame new) → verdict ≡ verdict_of takes.settled.reply
+      → Appends between.sink.held new.sink.held (records_text big (passed_record taken.stamp frame))
+      → new.sink.failed ≡ between.sink.failed
+      → HasJudged disk_of side big old (records ++ taken ∷ []) (passed ++ passed_record taken.stamp frame)
+      (verdicts ++ listed verdict) new
+  one-judged count old between new records passed verdicts taken frame verdict size has takes noted sent writes = record {
+    has = one-passed disk_of side big count old between new records passed taken frame size has.has takes sent writes;
+    judged = λ logs.
+        let first = has.judged logs in
+        let second = takes.settled.step first.0 in (
+          second.0,
+          subst (λ (v : Option Verdict). Judges side (state_of old.endpoint logs) (records ++ taken ∷ [])
+              (verdicts ++ listed v) (state_of new.endpoint second.0)) (sym noted)
+              (judges-more side (state_of old.endpoint logs) (state_of between.endpoint first.0)
+              (state_of new.endpoint second.0) records taken verdicts takes.settled.reply frame first.1 second.1
+              takes.settled.settles),
+        );
   }
 
-  pub next-passed : (count : ℕ) (old new : Run D) (taken : CaptureRecord) (frame : List ℕ) (passes : Bool) → passes ≡ true
-      → TakesRecord disk_of side big count old taken (Some frame) new → Appends old.sink.held new.sink.held (record_text big taken.stamp frame)
-      → new.sink.failed ≡ old.sink.failed → TakesNext disk_of side big count old (Ok (Some passes)) new
-  next-passed count old new taken frame passes is takes sent writes =
-      subst (λ (b : Bool). TakesNext disk_of side big count old (Ok (Some b)) new) (sym is)
-      (taken, frame, takes, subst (λ (l : List ℕ). Appends old.sink.held new.sink.held l) (sym (append-nil (record_text big taken.stamp frame))) sent, writes)
-
-  pub next-dropped : (count : ℕ) (old new : Run D) (taken : CaptureRecord) (passes : Bool) → passes ≡ false
-      → TakesRecord disk_of side big count old taken None new → new.sink ≡ old.sink → TakesNext disk_of side big count old (Ok (Some passes)) new
-  next-dropped count old new taken passes is takes sink =
-      subst (λ (b : Bool). TakesNext disk_of side big count old (Ok (Some b)) new) (sym is)
-      (taken, [], takes, subst (λ (s : SinkState). Appends old.sink.held s.held []) (sym sink) (Appends-nil old.sink.held), ap (λ (s : SinkState). s.failed) sink)
-
-  -- ---- what was taken so far
-
-  -- so many records were taken
-  abbrev pub HasTaken : Run D → ℕ → Summary → Run D → Type 0
-  HasTaken old count s between = (records : List CaptureRecord) × (passed : List CaptureRecord) × HasPassed disk_of side big old records passed between
+  -- so many records were taken, and the verdict on each was told
+  abbrev pub HasTaken : Run D → Telling V T → ℕ → Summary → Run D → Telling V T → Type 0
+  HasTaken old before count s between told =
+      (records : List CaptureRecord) × (passed : List CaptureRecord) × (verdicts : List Verdict)
+      × HasJudged disk_of side big old records passed verdicts between × TellsAll tells before verdicts told
       × (length records ≡ count) × Counts records passed s
 
-  count_more : (records passed : List CaptureRecord) (taken : CaptureRecord) (frame : List ℕ) (s : Summary) (passes : Bool) → Counts records passed s
-      → Counts (records ++ taken ∷ []) (passed ++ passed_record taken.stamp (cond passes (Some frame) None)) (one_more passes s)
-  count_more records passed taken frame s true counts =
-      (omega (arith, counts.0, longer passed (record { stamp = taken.stamp; frame = frame })), omega (arith, counts.1, longer records taken))
-  count_more records passed taken frame s false counts =
-      (counts.0 ∙ ap length (sym (append-nil passed)), omega (arith, counts.1, longer records taken))
+  pub none-taken : (run : Run D) (telling : Telling V T) (s : Summary) → s.passed ≡ 0 → s.dropped ≡ 0
+      → HasTaken run telling 0 s run telling
+  none-taken run telling s none no_other = (
+    [],
+    [],
+    [],
+    record { has = none-passed disk_of side big run; judged = λ logs. (logs, (refl, refl)) },
+    refl,
+    refl,
+    (none, omega (arith, none, no_other)),
+  )
 
-  pub taken-more : (old between new : Run D) (count : ℕ) (s : Summary) (o : Option Bool) (passes : Bool) → HasTaken old count s between → o ≡ Some passes
-      → TakesNext disk_of side big count between (Ok o) new → HasTaken old (count + 1) (one_more passes s) new
-  taken-more old between new count s o passes (records, passed, has, size, counts) is next =
-      let (taken, frame, takes, sent, writes) = subst (λ (x : Option Bool). TakesNext disk_of side big count between (Ok x) new) is next in (
+  pub taken-more : (old between new : Run D) (before told after : Telling V T) (count : ℕ) (s : Summary) (o : Option Bool)
+      (passes : Bool) (verdict : Option Verdict) → HasTaken old before count s between told → o ≡ Some passes
+      → TakesNext disk_of side big count between (Ok o) verdict new → TellsAll tells told (listed verdict) after
+      → HasTaken old before (count + 1) (one_more passes s) new after
+  taken-more old between new before told after count s o passes verdict
+      (records, passed, verdicts, has, telling, size, counts) is next more =
+      let (taken, frame, takes, sent, writes, noted) =
+      subst (λ (x : Option Bool). TakesNext disk_of side big count between (Ok x) verdict new) is next in (
         records ++ taken ∷ [],
         passed ++ passed_record taken.stamp (cond passes (Some frame) None),
-        one-passed count old between new records passed taken (cond passes (Some frame) None) size has takes sent writes,
+        verdicts ++ listed verdict,
+        one-judged count old between new records passed verdicts taken (cond passes (Some frame) None) verdict size has
+            takes noted sent writes,
+        tells-more tells before told after verdicts (listed verdict) telling more,
         longer records taken ∙ ap (λ (n : ℕ). n + 1) size,
         count_more records passed taken frame s passes counts,
       )
 
-  pub taken-room : (between new : Run D) (count : ℕ) (o : Option Bool) (passes : Bool) → o ≡ Some passes
-      → TakesNext disk_of side big count between (Ok o) new → count < max_records
-  taken-room between new count o passes is next =
-      (subst (λ (x : Option Bool). TakesNext disk_of side big count between (Ok x) new) is next).2.reads.few
+  pub taken-room : (between new : Run D) (count : ℕ) (o : Option Bool) (passes : Bool) (verdict : Option Verdict)
+      → o ≡ Some passes → TakesNext disk_of side big count between (Ok o) verdict new → count < max_records
+  taken-room between new count o passes verdict is next =
+      (subst (λ (x : Option Bool). TakesNext disk_of side big count between (Ok x) verdict new) is next).2.reads.few
 
-  pub taken-few : (old between : Run D) (count : ℕ) (s : Summary) → HasTaken old count s between → s.passed + s.dropped ≡ count
-  taken-few old between count s (records, passed, has, size, counts) = counts.1 ∙ size
+  pub taken-few : (old between : Run D) (before told : Telling V T) (count : ℕ) (s : Summary)
+      → HasTaken old before count s between told → s.passed + s.dropped ≡ count
+  taken-few old between before told count s (records, passed, verdicts, has, telling, size, counts) = counts.1 ∙ size
 
-  pub taken-stops : (old between new : Run D) (count : ℕ) (s : Summary) (fault : RunFault) → HasTaken old count s between
-      → Stops disk_of side big count between fault new → RunsRecords disk_of side big old (Err fault) new
-  taken-stops old between new count s fault (records, passed, has, size, counts) stops =
-      (records, passed, between, has, subst (λ (n : ℕ). Stops disk_of side big n between fault new) (sym size) stops)
+  pub taken-stops : (old between new : Run D) (before told : Telling V T) (count : ℕ) (s : Summary) (fault : RunFault)
+      → HasTaken old before count s between told → Stops disk_of side big count between fault new
+      → TellsRecords disk_of tells side big old before (Err fault) new told
+  taken-stops old between new before told count s fault (records, passed, verdicts, has, telling, size, counts) stops = (
+    verdicts,
+    (records, passed, between, has, subst (λ (n : ℕ). Stops disk_of side big n between fault new) (sym size) stops),
+    telling,
+  )
 
-  pub taken-all : (old between new : Run D) (count : ℕ) (s : Summary) (o : Option Bool) → HasTaken old count s between → o ≡ None
-      → TakesNext disk_of side big count between (Ok o) new → RunsRecords disk_of side big old (Ok s) new
-  taken-all old between new count s o (records, passed, has, size, counts) is next =
-      let (room, reads, endpoint, sink) = subst (λ (x : Option Bool). TakesNext disk_of side big count between (Ok x) new) is next in (
-        records,
-        passed,
-        ended count room old between new records passed has reads endpoint sink,
-        left-none old.source.left between.source.left new.source.left big records has.taken reads.taken,
-        counts,
+  ended-judged : (count room : ℕ) (old between new : Run D) (records passed : List CaptureRecord) (verdicts : List Verdict)
+      → HasJudged disk_of side big old records passed verdicts between
+      → ReadsRecord big count room between.source new.source [] (Ok None) → new.endpoint ≡ between.endpoint
+      → new.sink ≡ between.sink → HasJudged disk_of side big old records passed verdicts new
+  ended-judged count room old between new records passed verdicts has reads endpoint sink = record {
+    has = ended disk_of side big count room old between new records passed has.has reads endpoint sink;
+    judged = λ logs.
+        let first = has.judged logs in (
+          first.0,
+          subst (λ (e : EndpointValue D). Judges side (state_of old.endpoint logs) records verdicts (state_of e first.0))
+              (sym endpoint) first.1,
+        );
+  }
+
+  pub taken-all : (old between new : Run D) (before told : Telling V T) (count : ℕ) (s : Summary) (o : Option Bool)
+      (verdict : Option Verdict) → HasTaken old before count s between told → o ≡ None
+      → TakesNext disk_of side big count between (Ok o) verdict new
+      → TellsRecords disk_of tells side big old before (Ok s) new told
+  taken-all old between new before told count s o verdict (records, passed, verdicts, has, telling, size, counts) is next =
+      let (room, reads, endpoint, sink) =
+      subst (λ (x : Option Bool). TakesNext disk_of side big count between (Ok x) verdict new) is next in (
+        verdicts,
+        (
+          records,
+          passed,
+          ended-judged count room old between new records passed verdicts has reads endpoint sink,
+          left-none old.source.left between.source.left new.source.left big records has.has.taken reads.taken,
+          counts,
+        ),
+        telling,
       )

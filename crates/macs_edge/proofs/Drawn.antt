@@ -2,7 +2,8 @@
 use Rattle.std.proofs.Common.{◌≡◌, ◌≢◌, ◌<◌, ◌≤◌, ◌⊎◌, ◌↔◌, inl, inr, ◌+◌, ◌++◌, ◌&&◌, ℕ, zero, suc, Bool, true, false}
 use Rattle.std.proofs.Common.{cond, List, [], ◌∷◌, length, take, Option, Some, None, Result, Ok, Err, OnErr, OnOk, refl}
 use Rattle.std.proofs.Common.{sym, ◌∙◌, ap, subst, arith}
-use Rattle.std.specs.Prelude.{IsTrue, nat_le, nat_lt}
+use Rattle.std.specs.Prelude.{IfSome, IsTrue, nat_le, nat_lt}
+use Rattle.std.specs.Io.KnownBytes.{Appends}
 use Rattle.std.proofs.Math.Bool.{and-false}
 use Rattle.std.proofs.lemmas.Bool.{and_from, le-leb, le-ltb, lt-leb, lt-ltb}
 use Rattle.std.specs.declared.io.ErrorKind.{ErrorKind}
@@ -12,6 +13,7 @@ use Rattle.macs_pcap.specs.Header.{header_text}
 use Rattle.macs_pcap.specs.Reading.{HoldsOfLeft, ReadsHeader}
 use Rattle.macs_pcap.specs.Records.{CaptureRecord}
 use Rattle.macs_pcap.specs.Writing.{WritesText}
+use Rattle.macs_pcap.specs.declared.fault.PcapFault.{PcapFault}
 use Rattle.macs_pcap.specs.declared.fault.PcapFault.TheVariants.{Write}
 use Rattle.macs_pcap.specs.declared.header.Header.{Header}
 use Rattle.macs_txsc.specs.declared.fault.TxFault.{TxFault}
@@ -21,6 +23,7 @@ use Rattle.macs_endpoint.specs.Lasting.{steps_in_call, steps_made}
 use Rattle.macs_endpoint.specs.Lives.{Transition}
 use Rattle.macs_endpoint.specs.State.{Call, Protected, Protects, Receives, Reply, State, Advances}
 use Rattle.macs_endpoint.specs.Step.{Step}
+use Rattle.macs_endpoint.specs.Value.{state_of}
 use Rattle.macs_endpoint.specs.declared.fault.ProtectFault.TheVariants.{Tx}
 use Rattle.macs_endpoint.specs.declared.fault.RefillFault.{RefillFault}
 use Rattle.macs_endpoint.specs.declared.progress.Step.{Step as Progress}
@@ -31,7 +34,7 @@ use Rattle.macs_edge.specs.Datagrams.{Datagram, SocketState}
 use Rattle.macs_edge.specs.Drawn.{CountWords, DeskWords, FaultWords, FlowsInTurns, PassWords, RestWords, SocketWords}
 use Rattle.macs_edge.specs.Drawn.{TurnWords}
 use Rattle.macs_edge.specs.FaultWires.{CallsValue, failed_among}
-use Rattle.macs_edge.specs.Passing.{HasPassed, Passes, Run, RunsOver, passed_record}
+use Rattle.macs_edge.specs.Passing.{BecomesCapture, HasPassed, Passes, Run, RunsOver, RunsRecords, passed_record}
 use Rattle.macs_edge.specs.Relaying.{FillsSlot, HandsSlot, LaneValue, Relay, Relays, TakesTurn, TakesTurns, Way, empty_lane, summary_of}
 use Rattle.macs_edge.specs.Resting.{IsQuiet, TakesTurnsResting, one_if}
 use Rattle.macs_edge.specs.Settling.{Settles, call_on}
@@ -40,6 +43,7 @@ use Rattle.macs_edge.specs.Wires.{WireState}
 use Rattle.macs_edge.specs.declared.attending.DeskEvent.{DeskEvent}
 use Rattle.macs_edge.specs.declared.attending.Order.{Order}
 use Rattle.macs_edge.specs.declared.attending.Order.TheVariants.{End, Go, Submit}
+use Rattle.macs_edge.specs.declared.passing.RunFault.{RunFault}
 use Rattle.macs_edge.specs.declared.passing.RunFault.TheVariants.{Pcap}
 use Rattle.macs_edge.specs.declared.passing.Summary.{Summary}
 use Rattle.macs_edge.specs.declared.relaying.RelaySummary.{RelaySummary}
@@ -168,6 +172,18 @@ refused_by NoEncodingSa out passed settles = (λ is. absurd cc, settles)
 refused_by Exhausted out passed settles = (λ is. absurd cc, settles)
 refused_by NoNumber out passed settles = absurd settles
 
+-- a run that ends with a fault ends with no other one
+abbrev EndsIn : Result Summary RunFault → RunFault → Type 0
+EndsIn answer at = answer ≡ Err at
+
+same_end : (at other : RunFault) → EndsIn (Err at) other → at ≡ other
+same_end at other is = cc
+
+-- what holds of an input, where that is known
+at_input : (P : List ℕ → Type 0) (known : Option (List ℕ)) (input : List ℕ) → known ≡ Some input → IfSome known P
+    → P input
+at_input P known input is holds = subst (λ (o : Option (List ℕ)). IfSome o P) is holds
+
 module _ {D : Type 0} (disk_of : D → Disk) where
   run_over : (side : Side) (old new : Run D) (s : Summary) → RunsOver disk_of side old (Ok s) new
       → (header : Header) × (between : Run D) × ReadsHeader old.source between.source (Ok header)
@@ -185,6 +201,21 @@ module _ {D : Type 0} (disk_of : D → Disk) where
       let (records, passed, has, all, counts) = runs in
       (header, between, reads, writes, same, records, passed, has, all, counts.0, counts.1)
 
+  run_not_over : (side : Side) (old new : Run D) (at : RunFault) → RunsOver disk_of side old (Err at) new
+      → ((cause : PcapFault) × (at ≡ Pcap cause) × ReadsHeader old.source new.source (Err cause)
+      × (new.endpoint ≡ old.endpoint) × (new.sink ≡ old.sink))
+      ⊎ ((header : Header) × ReadsHeader old.source new.source (Ok header) × (at ≡ Pcap Write)
+      × WritesText {T = Unit {0}} old.sink new.sink (header_text header) (Err Write)
+      × (new.endpoint ≡ old.endpoint))
+      ⊎ ((header : Header) × (between : Run D) × ReadsHeader old.source between.source (Ok header)
+      × WritesText {T = Unit {0}} old.sink between.sink (header_text header) (Ok tt)
+      × (between.endpoint ≡ old.endpoint) × RunsRecords disk_of side header.big between (Err at) new)
+  run_not_over side old new at (inl (cause, ends, read, same, sink)) =
+      inl (cause, same_end at (Pcap cause) ends, read, same, sink)
+  run_not_over side old new at (inr (inl (header, read, ends, writes, same))) =
+      inr (inl (header, read, same_end at (Pcap Write) ends, writes, same))
+  run_not_over side old new at (inr (inr both)) = inr (inr both)
+
 pub pass-words : {D : Type 0} (disk_of : D → Disk) → PassWords disk_of
 pass-words disk_of = record {
   none = λ side old new passed is. is;
@@ -200,6 +231,14 @@ pass-words disk_of = record {
   none_in = λ side turns is. is;
   all_in = λ side taken more turns is. is;
   over = run_over disk_of;
+  not_over = run_not_over disk_of;
+  written = λ side old new s input text logs w known becomes. at_input
+      (λ (i : List ℕ). BecomesCapture side (state_of old.endpoint logs) i text
+      → Appends old.sink.held new.sink.held text) old.source.left input known (w.whole logs text) becomes;
+  written_front = λ side old new at input text logs w known becomes. at_input
+      (λ (i : List ℕ). BecomesCapture side (state_of old.endpoint logs) i text
+      → (front : List ℕ) × (rest : List ℕ) × (text ≡ front ++ rest) × Appends old.sink.held new.sink.held front)
+      old.source.left input known (w.front logs text) becomes;
   ended = λ side big old new at is. is;
   halted = λ side big count old new at is. is;
   broken = λ side big count old new at is. is;
@@ -401,6 +440,7 @@ desk-words disk_of = record {
   noted = λ old new events summary a. answered-by disk_of old new events summary a;
   handed = λ old new events summary a. submitted-by disk_of old new events summary a;
   each = λ old new events summary a. each-answered disk_of old new events summary a;
+  once = λ old new events summary a. a.once;
   answered = λ turns old events summary endpoint controlled common (
     to_common,
     to_controlled,

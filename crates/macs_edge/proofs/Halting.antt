@@ -1,6 +1,7 @@
 -- A frame that is handed in and not settled.
-use Rattle.std.proofs.Common.{Bool, List, ℕ, [], ◌∷◌, Result, Ok, Err, IfErr, refl}
+use Rattle.std.proofs.Common.{Bool, List, ℕ, [], ◌∷◌, Option, Result, Ok, Err, IfErr, refl}
 use Rattle.macs_disk.specs.Disk.{Disk}
+use Rattle.macs_rxsc.specs.declared.verdict.Verdict.{Verdict}
 use Rattle.macs_endpoint.specs.Calls.{IsCall}
 use Rattle.macs_endpoint.specs.State.{Call, Refilled, Refills, Reply}
 use Rattle.macs_endpoint.specs.Step.{IsStopped}
@@ -39,8 +40,9 @@ module _ {D : Type 0} (disk_of : D → Disk) (old : EndpointValue D) (call : Cal
   halts-at_once new out outcome.Stopped (reply, is, stopped) = halts-stopped disk_of old call reply sound new is stopped
 
   -- and of those that wait the refill that is refused
-  pub halts-behind : (waiting new : EndpointValue D) (out : List ℕ) (first : Reply) (result : Result Bool RefillFault) → IsCall disk_of old call first waiting → Waits first
-      → HandsInAgain disk_of waiting call result out new → IfErr result (λ fault. Halts disk_of old call fault new)
-  halts-behind waiting new out first (Ok passes) one waits again = tt
-  halts-behind waiting new out first (Err fault) one waits (sound_waiting, refused) =
+  pub halts-behind : (waiting new : EndpointValue D) (out : List ℕ) (verdict : Option Verdict) (first : Reply)
+      (result : Result Bool RefillFault) → IsCall disk_of old call first waiting → Waits first
+      → HandsInAgain disk_of waiting call result out verdict new → IfErr result (λ fault. Halts disk_of old call fault new)
+  halts-behind waiting new out verdict first (Ok passes) one waits again = tt
+  halts-behind waiting new out verdict first (Err fault) one waits (sound_waiting, refused) =
       halts-refused disk_of old call first sound waiting new fault sound_waiting one waits refused

@@ -3,6 +3,7 @@ mod Halting
 pub mod Living
 mod Lived
 pub mod Behind
+pub mod Told
 pub mod Once
 pub mod AllRecords
 pub mod Whole
@@ -17,3 +18,4 @@ pub mod AttendedFlows
 mod Answering
 mod Words
 mod Drawn
+pub mod Judged

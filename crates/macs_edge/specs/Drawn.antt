@@ -1,7 +1,8 @@
 -- What is to be drawn from words on turns and steps, on records that pass, on sleeps, and on sockets of which the
 -- datagrams are known.
 use Rattle.std.specs.Prelude.{◌≡◌, ◌≢◌, ◌<◌, ◌≤◌, ◌⊎◌, ◌↔◌, ◌+◌, ◌-◌, ◌^◌, ◌++◌, ℕ, suc, Bool, true, false, IsTrue}
-use Rattle.std.specs.Prelude.{List, [], ◌∷◌, length, take, Contains, Option, Some, None, Result, Ok, Err, OnErr, OnOk}
+use Rattle.std.specs.Prelude.{List, [], ◌∷◌, flat_map, length, map, take, Contains, Option, Some, None, Result, Ok, Err}
+use Rattle.std.specs.Prelude.{OnErr, OnOk}
 use Rattle.std.specs.Io.KnownBytes.{Appends}
 use Rattle.std.specs.declared.io.ErrorKind.{ErrorKind}
 use Rattle.std.specs.declared.io.ErrorKind.TheVariants.{WouldBlock}
@@ -19,6 +20,7 @@ use Rattle.macs_pcap.specs.Reading.{HoldsOfLeft, ReadsHeader, ReadsRecord}
 use Rattle.macs_pcap.specs.Records.{CaptureRecord, record_text}
 use Rattle.macs_pcap.specs.Writing.{WritesText}
 use Rattle.macs_pcap.specs.declared.fault.PcapFault.{PcapFault}
+use Rattle.macs_pcap.specs.declared.fault.PcapFault.TheVariants.{Write}
 use Rattle.macs_pcap.specs.declared.header.Header.{Header}
 use Rattle.macs_endpoint.specs.Calls.{IsCall}
 use Rattle.macs_endpoint.specs.Lasting.{steps_made}
@@ -36,15 +38,17 @@ use Rattle.macs_endpoint.specs.declared.fault.SubmitFault.{SubmitFault}
 use Rattle.macs_endpoint.specs.declared.progress.Step.{Step as Progress}
 use Rattle.macs_endpoint.specs.declared.progress.Step.TheVariants.{Idle}
 use Rattle.macs_endpoint.specs.declared.progress.Step.TheVariants as step
+use Rattle.macs_endpoint.specs.declared.queue.Waiting.{Waiting}
 use Rattle.macs_edge.specs.Attending.{AttendsTurns, Does, EndsAt, IsAttended, TakesAllAttended, TakesAttended}
 use Rattle.macs_edge.specs.Attending.{answers_of, failed_of}
-use Rattle.macs_edge.specs.Commanding.{IsAttendedFlow}
+use Rattle.macs_edge.specs.Commanding.{Ended, IsAttendedFlow, ended_by, ticket_in, told_by}
 use Rattle.macs_edge.specs.Counts.{CountsReceive, counts_after_send, with_buffer}
 use Rattle.macs_edge.specs.Datagrams.{Datagram, GivesDatagram, SocketState, TakesDatagram}
 use Rattle.macs_edge.specs.FaultWires.{CallsValue, FailsNext, FaultWireValue, asked_once_more, failed_among}
 use Rattle.macs_edge.specs.FaultWires.{fault_wire_state}
 use Rattle.macs_edge.specs.Flows.{IsFlow}
-use Rattle.macs_edge.specs.Passing.{HandsAllIn, HasPassed, Passes, Run, RunsOver, RunsRecords, Stops, TakesRecord}
+use Rattle.macs_edge.specs.Passing.{BecomesCapture, HandsAllIn, HasPassed, Passes, Run, RunsOver, RunsRecords, Stops}
+use Rattle.macs_edge.specs.Passing.{TakesRecord, WritesCapture}
 use Rattle.macs_edge.specs.Relaying.{Carries, Fills, Forwards, HandsOver, LaneValue, Relay, Relays, TakesTurn, Way}
 use Rattle.macs_edge.specs.Relaying.{filled, one_dropped, one_fault, relay_of, summary_of, way_of}
 use Rattle.macs_edge.specs.Resting.{IsQuiet, RelaysResting, TakesTurnsResting}
@@ -107,11 +111,12 @@ pub record RestWords {D : Type 0} (disk_of : D → Disk) : Type 0 where
 -- what passes of the others; or it is left out. A frame is answered by `protect` with its number, and by `receive` as
 -- delivered; it is left out for a fault but that there is no number, or discarded. Of a run: no more records are taken
 -- than a capture may have, by calls of the endpoint one after another, each handed in so; they are the first of those
--- that were left, and what passes is written. What passes is what passes of each record as though none had
--- waited. A run that is answered Ok read a header and wrote it, and took every record that was left, to the end; it
--- counts those that passed and the others. One that ends in a fault of the device took one record more, and its frame
--- found the endpoint stopped, or waited for a refill that is answered so; in one of the captures, the next record was
--- not read, or what passed of it was not written whole.
+-- that were left, and what passes is written. What passes is what passes of each record as though none had waited. A
+-- run that is answered Ok read a header and wrote it, and took every record that was left, to the end; it counts those
+-- that passed and the others. One that ends in a fault of the device took one record more, and its frame found the
+-- endpoint stopped, or waited for a refill that is answered so; in one of the captures, the next record was not read,
+-- or what passed of it was not written whole. One whose header is not read, or not written, leaves the endpoint as it
+-- was. What is written is the capture that the input becomes, or a front of it where the run ends with a fault.
 pub record PassWords {D : Type 0} (disk_of : D → Disk) : Type 0 where
   pub none : (side : Side) (old new : State) (passed : List CaptureRecord) → Passes side old [] passed new
       → (passed ≡ []) × (new ≡ old)
@@ -150,6 +155,22 @@ pub record PassWords {D : Type 0} (disk_of : D → Disk) : Type 0 where
       × HasPassed disk_of side header.big between records passed new
       × HoldsOfLeft between.source.left new.source.left (λ left rest. rest ≡ [])
       × (s.passed ≡ length passed) × (s.passed + s.dropped ≡ length records)
+  pub not_over : (side : Side) (old new : Run D) (at : RunFault) → RunsOver disk_of side old (Err at) new
+      → ((cause : PcapFault) × (at ≡ Pcap cause) × ReadsHeader old.source new.source (Err cause)
+      × (new.endpoint ≡ old.endpoint) × (new.sink ≡ old.sink))
+      ⊎ ((header : Header) × ReadsHeader old.source new.source (Ok header) × (at ≡ Pcap Write)
+      × WritesText {T = Unit {0}} old.sink new.sink (header_text header) (Err Write)
+      × (new.endpoint ≡ old.endpoint))
+      ⊎ ((header : Header) × (between : Run D) × ReadsHeader old.source between.source (Ok header)
+      × WritesText {T = Unit {0}} old.sink between.sink (header_text header) (Ok tt)
+      × (between.endpoint ≡ old.endpoint) × RunsRecords disk_of side header.big between (Err at) new)
+  pub written : (side : Side) (old new : Run D) (s : Summary) (input text : List ℕ) (logs : Logs)
+      → WritesCapture side old (Ok s) new → old.source.left ≡ Some input
+      → BecomesCapture side (state_of old.endpoint logs) input text → Appends old.sink.held new.sink.held text
+  pub written_front : (side : Side) (old new : Run D) (at : RunFault) (input text : List ℕ) (logs : Logs)
+      → WritesCapture side old (Err at) new → old.source.left ≡ Some input
+      → BecomesCapture side (state_of old.endpoint logs) input text
+      → (front : List ℕ) × (rest : List ℕ) × (text ≡ front ++ rest) × Appends old.sink.held new.sink.held front
   pub ended : (side : Side) (big : Bool) (old new : Run D) (at : RunFault)
       → RunsRecords disk_of side big old (Err at) new
       → (records : List CaptureRecord) × (passed : List CaptureRecord) × (between : Run D)
@@ -294,7 +315,7 @@ pub record TurnWords {D : Type 0} (disk_of : D → Disk) : Type 0 where
 -- are, or fewer, and the end was wanted; what still waits has failed. A relay that ends in a fault has the name of the
 -- fault of its last turn's step. Over a whole relay: a command is answered as kept, or as refused, only where a step is
 -- done with its ticket so; what is noted of a command that was handed in is what `submit` answered; each that is wanted
--- is submitted; and each that was taken is answered.
+-- is submitted; and each that was taken is answered: once, in the order of tickets, after those that waited before.
 pub record DeskWords {D : Type 0} (disk_of : D → Disk) : Type 0 where
   pub none : (old new : Relay D) (events : List DeskEvent) (quiet : Bool)
       → TakesAllAttended disk_of 0 old events quiet new
@@ -355,6 +376,10 @@ pub record DeskWords {D : Type 0} (disk_of : D → Disk) : Type 0 where
   pub each : (old new : Relay D) (events : List DeskEvent) (summary : RelaySummary)
       (a : IsAttendedFlow disk_of old events new summary) (ticket : ℕ)
       → Contains events (Took (Ok ticket)) → (what : CommandEnd) × Contains events (Answered ticket what)
+  pub once : (old new : Relay D) (events : List DeskEvent) (summary : RelaySummary)
+      → IsAttendedFlow disk_of old events new summary
+      → map (λ (e : Ended). e.ticket) (flat_map ended_by events)
+      ≡ map (λ (w : Waiting). w.ticket) old.endpoint.waiting ++ flat_map ticket_in (flat_map told_by events)
   pub answered : (turns : ℕ) (old : Relay D) (events : List DeskEvent) (summary : RelaySummary)
       (endpoint : EndpointValue D) (controlled common : WireState)
       → IsAttended disk_of turns old events (Ok summary) endpoint controlled common → (to_common : LaneValue)

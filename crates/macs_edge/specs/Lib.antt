@@ -1,5 +1,6 @@
 pub mod Settling
 pub mod Passing
+pub mod Telling
 pub mod Wires
 pub mod MemWires
 pub mod Datagrams
@@ -15,3 +16,4 @@ pub mod Commanding
 pub mod Counts
 pub mod Words
 pub mod Drawn
+pub mod VerdictWords

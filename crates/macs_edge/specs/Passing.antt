@@ -17,7 +17,8 @@ use Rattle.macs_pcap.specs.declared.fault.PcapFault.{PcapFault}
 use Rattle.macs_pcap.specs.declared.fault.PcapFault.TheVariants.{Write}
 use Rattle.macs_pcap.specs.declared.header.Header.{Header}
 use Rattle.macs_pcap.specs.declared.header.Stamp.{Stamp}
-use Rattle.macs_edge.specs.Settling.{Halts, HandsIn, IsSettled, Settles, call_on}
+use Rattle.macs_rxsc.specs.declared.verdict.Verdict.{Verdict}
+use Rattle.macs_edge.specs.Settling.{Halts, HandsIn, IsSettled, Settles, call_on, verdict_of}
 use Rattle.macs_edge.specs.declared.passing.RunFault.{RunFault}
 use Rattle.macs_edge.specs.declared.passing.RunFault.TheVariants.{Pcap, Device}
 use Rattle.macs_edge.specs.declared.passing.Summary.{Summary}
@@ -109,17 +110,18 @@ Stops disk_of side big count old (Pcap fault) new =
     ⊎ ((taken : CaptureRecord) × (frame : List ℕ) × TakesRecord disk_of side big count old taken (Some frame) new
     × WritesText {T = Unit {0}} old.sink new.sink (record_text big taken.stamp frame) (Err fault))
 
--- What becomes of the next record, behind so many others: there is none, at the end; it passes, or is left out; or the run ends
-abbrev pub TakesNext : {D : Type 0} → (D → Disk) → Side → Bool → ℕ → Run D → Result (Option Bool) RunFault → Run D → Type 0
-TakesNext disk_of side big count old (Ok None) new =
+-- What becomes of the next record, behind so many others: there is none, at the end; it passes, or is left out, with this verdict, if there is
+-- one; or the run ends
+abbrev pub TakesNext : {D : Type 0} → (D → Disk) → Side → Bool → ℕ → Run D → Result (Option Bool) RunFault → Option Verdict → Run D → Type 0
+TakesNext disk_of side big count old (Ok None) verdict new =
     (room : ℕ) × ReadsRecord big count room old.source new.source [] (Ok None)
     × (new.endpoint ≡ old.endpoint) × (new.sink ≡ old.sink)
-TakesNext disk_of side big count old (Ok (Some passes)) new =
+TakesNext disk_of side big count old (Ok (Some passes)) verdict new =
     (taken : CaptureRecord) × (frame : List ℕ)
-    × TakesRecord disk_of side big count old taken (if passes then Some frame else None) new
+    × (takes : TakesRecord disk_of side big count old taken (if passes then Some frame else None) new)
     × Appends old.sink.held new.sink.held (records_text big (passed_record taken.stamp (if passes then Some frame else None)))
-    × (new.sink.failed ≡ old.sink.failed)
-TakesNext disk_of side big count old (Err fault) new = Stops disk_of side big count old fault new
+    × (new.sink.failed ≡ old.sink.failed) × (verdict ≡ verdict_of takes.settled.reply)
+TakesNext disk_of side big count old (Err fault) verdict new = Stops disk_of side big count old fault new
 
 -- so many records were taken of which a frame passed, and so many that were left out
 abbrev pub Counts : List CaptureRecord → List CaptureRecord → Summary → Type 0

@@ -2,6 +2,7 @@
 use Rattle.std.specs.Prelude.{◌≡◌, ℕ, Bool, true, false, List, [], ◌∷◌, Option, Some, None, Result, Ok, Err, ⊤}
 use Rattle.macs_disk.specs.Disk.{Disk}
 use Rattle.macs_txsc.specs.declared.fault.TxFault.TheVariants.{NoNumber}
+use Rattle.macs_rxsc.specs.declared.verdict.Verdict.{Verdict}
 use Rattle.macs_rxsc.specs.declared.verdict.Verdict.TheVariants.{Delivered, Discarded, HeldBack}
 use Rattle.macs_endpoint.specs.Calls.{IsCall}
 use Rattle.macs_endpoint.specs.Lives.{Lives, Transition}
@@ -30,6 +31,11 @@ Settles (Protected (Err (protect.Tx fault)) out) passed = passed ≡ None
 Settles (Received (Ok (Delivered kind)) out) passed = passed ≡ Some out
 Settles (Received (Ok (Discarded reason)) out) passed = passed ≡ None
 Settles reply passed = ⊥
+
+-- the verdict that an answer says, if it says one
+abbrev pub verdict_of : Reply → Option Verdict
+verdict_of (Received (Ok verdict) out) = Some verdict
+verdict_of reply = None
 
 -- the frame waits for a refill
 abbrev pub Waits : Reply → Type 0
@@ -63,6 +69,11 @@ pub record IsSettled {D : Type 0} (disk_of : D → Disk) (old : EndpointValue D)
   pub settles : Settles reply passed
   pub step : (logs : Logs) → (after : Logs) × Step (state_of old logs) call reply (state_of new after)
 
+-- it is settled so, and this is the verdict of the answer that settles it, if it has one
+abbrev pub IsJudged : {D : Type 0} → (D → Disk) → EndpointValue D → Call → Option (List ℕ) → Option Verdict → EndpointValue D → Type 0
+IsJudged disk_of old call passed verdict new =
+    (settled : IsSettled disk_of old call passed new) × (verdict ≡ verdict_of settled.reply)
+
 -- A frame is handed in by these calls and not settled: the one call finds the endpoint stopped; or the frame waits, and the refill behind it
 -- is answered with this fault
 abbrev pub HaltsIn : {D : Type 0} → Call → List (Transition D) → RefillFault → Type 0
@@ -93,10 +104,12 @@ ending_of outcome.Dropped = Ok false
 ending_of outcome.Waiting = Ok false
 ending_of outcome.Stopped = Err refill.Stopped
 
--- A refill is made, and behind it the frame is handed in again, and whether it passes is answered; or the refill is refused
-abbrev pub HandsInAgain : {D : Type 0} → (D → Disk) → EndpointValue D → Call → Result Bool RefillFault → List ℕ → EndpointValue D → Type 0
-HandsInAgain {D} disk_of old call (Ok passes) out new =
+-- A refill is made, and behind it the frame is handed in again, and whether it passes is answered, with the verdict, if there is one; or the
+-- refill is refused
+abbrev pub HandsInAgain : {D : Type 0} → (D → Disk) → EndpointValue D → Call → Result Bool RefillFault → List ℕ → Option Verdict
+    → EndpointValue D → Type 0
+HandsInAgain {D} disk_of old call (Ok passes) out verdict new =
     (what : Outcome) × (filled : EndpointValue D) × (reply : Reply) × (passes ≡ is_passed what)
     × IsSoundEndpoint old × IsCall disk_of old Refills (Refilled (Ok tt)) filled
-    × IsSoundEndpoint filled × IsCall disk_of filled call reply new × Means call reply out what
-HandsInAgain disk_of old call (Err fault) out new = IsSoundEndpoint old × IsCall disk_of old Refills (Refilled (Err fault)) new
+    × IsSoundEndpoint filled × IsCall disk_of filled call reply new × Means call reply out what × (verdict ≡ verdict_of reply)
+HandsInAgain disk_of old call (Err fault) out verdict new = IsSoundEndpoint old × IsCall disk_of old Refills (Refilled (Err fault)) new

@@ -11,11 +11,13 @@ ghost use Rattle.macs_edge.specs.Drawn.{SocketWords, TurnWords};
 ghost use Rattle.macs_edge.specs.Flows.{IsFlow};
 ghost use Rattle.macs_edge.specs.Passing.{BecomesCapture, Passes};
 ghost use Rattle.macs_edge.specs.Relaying.{Relay, Relays, empty_lane, summary_of};
+ghost use Rattle.macs_edge.specs.VerdictWords.{VerdictWords};
 ghost use Rattle.macs_edge.specs.declared.attending.DeskEvent.{DeskEvent};
 ghost use Rattle.macs_edge.specs.Words.{FlowWords, SettlingWords, TheseBecomeCaptures, WireWords};
 ghost use Rattle.macs_edge.specs.declared.relaying.RelaySummary.{RelaySummary};
 ghost use Rattle.macs_edge.specs.declared.settling.Side.{Side};
 
+use crate::telling::Verdicts;
 use macs_disk::SectorDisk;
 
 /// Records pass in one way only: what passes, and the state after, is settled by the records and the state
@@ -92,4 +94,9 @@ pub fn drawn<D: SectorDisk>()
     ensures desk { DeskWords D.disk }
     // Which calls of a wire fail that is made to.
     ensures faults { FaultWords }
+{}
+
+/// What is to be drawn of verdicts that are told: which they are, of which frames, in which order, and how many.
+pub fn judged<D: SectorDisk, T, V: Verdicts<T>>()
+    ensures { VerdictWords D.disk V.tells }
 {}

@@ -2,13 +2,16 @@
 
 ghost use Rattle.std.specs.Prelude.{◌≡◌, ◌+◌, ◌<◌, ◌^◌, ◌-◌};
 ghost use Rattle.macs_endpoint.specs.Lives.{LivesOn};
-ghost use Rattle.macs_edge.specs.Passing.{RunsOver, RunsRecords, TakesNext, WritesCapture, one_more, run_of};
+ghost use Rattle.macs_edge.specs.Passing.{RunsOver, TakesNext, WritesCapture, one_more, run_of};
+ghost use Rattle.macs_edge.specs.Telling.{TellsRecords, TellsRun, telling_of};
 
 use crate::settling::{Side, settle};
+use crate::telling::{Nobody, Verdicts, tell};
 use macs_disk::SectorDisk;
 use macs_endpoint::{Endpoint, RefillFault};
 use macs_frame::FrameBuf;
 use macs_pcap::{PcapFault, Sink, Source, read_header, read_record, write_header, write_record};
+use macs_rxsc::Verdict;
 use std::alloc::Allocator;
 
 /// How many records of a capture were taken. Together they are at most 2^32 - 1.
@@ -52,7 +55,8 @@ impl From<RefillFault> for RunFault {
 }
 
 /// Takes the next record, behind so many others, and says whether a frame passed; at the end there is
-/// none. The frame of the record stands in `frame` then, and the one that passes in `out`.
+/// none. The frame of the record stands in `frame` then, the one that passes in `out`, and the verdict in
+/// `verdict`, if there is one.
 fn take_next<D: SectorDisk, R: Source, W: Sink, A: Allocator>(
     endpoint: &mut Endpoint<D>,
     side: Side,
@@ -62,15 +66,16 @@ fn take_next<D: SectorDisk, R: Source, W: Sink, A: Allocator>(
     count: u32,
     frame: &mut Vec<u8, A>,
     out: &mut FrameBuf,
+    verdict: &mut Option<Verdict>,
 ) -> Result<Option<bool>, RunFault>
     ensures { TakesNext D.disk side big count
-        (run_of endpoint.old (R.state source.old) (W.state sink.old)) result
+        (run_of endpoint.old (R.state source.old) (W.state sink.old)) result verdict.new
         (run_of endpoint.new (R.state source.new) (W.state sink.new)) }
 {
     let Some(stamp) = read_record(source, big, count, frame)? else {
         return Ok(None);
     };
-    let passes = settle(endpoint, side, frame, out)?;
+    let passes = settle(endpoint, side, frame, out, verdict)?;
     if passes {
         write_record(sink, big, stamp, out.as_slice())?;
     }
@@ -95,48 +100,86 @@ fn counted(summary: Summary, passes: bool) -> Summary
     }
 }
 
-/// Takes the records up to the end, or up to a fault.
-fn run_records<D: SectorDisk, R: Source, W: Sink, A: Allocator>(
+/// Takes the records up to the end, or up to a fault, and tells the verdict on each.
+fn run_records<D: SectorDisk, R: Source, W: Sink, A: Allocator, T, V: Verdicts<T>>(
     endpoint: &mut Endpoint<D>,
     side: Side,
     source: &mut R,
     sink: &mut W,
     big: bool,
     frame: &mut Vec<u8, A>,
+    told: &mut V,
+    to: &mut T,
 ) -> Result<Summary, RunFault>
-    ensures { RunsRecords D.disk side big
-        (run_of endpoint.old (R.state source.old) (W.state sink.old)) result
-        (run_of endpoint.new (R.state source.new) (W.state sink.new)) }
+    ensures { TellsRecords D.disk V.tells side big
+        (run_of endpoint.old (R.state source.old) (W.state sink.old)) (telling_of told.old to.old) result
+        (run_of endpoint.new (R.state source.new) (W.state sink.new)) (telling_of told.new to.new) }
 {
     let mut out = FrameBuf::new();
+    let mut verdict = None;
     let mut count: u32 = 0;
     let mut summary = Summary {
         passed: 0,
         dropped: 0,
     };
-    while let Some(passes) = take_next(endpoint, side, source, sink, big, count, frame, &mut out)? {
+    while let Some(passes) = take_next(
+        endpoint,
+        side,
+        source,
+        sink,
+        big,
+        count,
+        frame,
+        &mut out,
+        &mut verdict,
+    )? {
+        tell(told, to, verdict);
         summary = counted(summary, passes);
         count += 1;
     }
     Ok(summary)
 }
 
-/// Takes a whole capture.
-fn run<D: SectorDisk, R: Source, W: Sink, A: Allocator>(
+/// Takes a whole capture, and tells the verdict on each frame.
+fn run_telling<D: SectorDisk, R: Source, W: Sink, A: Allocator, T, V: Verdicts<T>>(
     alloc: A,
     endpoint: &mut Endpoint<D>,
     side: Side,
     source: &mut R,
     sink: &mut W,
+    told: &mut V,
+    to: &mut T,
 ) -> Result<Summary, RunFault>
-    ensures { RunsOver D.disk side
-        (run_of endpoint.old (R.state source.old) (W.state sink.old)) result
-        (run_of endpoint.new (R.state source.new) (W.state sink.new)) }
+    ensures { TellsRun D.disk V.tells side
+        (run_of endpoint.old (R.state source.old) (W.state sink.old)) (telling_of told.old to.old) result
+        (run_of endpoint.new (R.state source.new) (W.state sink.new)) (telling_of told.new to.new) }
 {
     let header = read_header(source)?;
     write_header(sink, &header)?;
     let mut frame = Vec::new(alloc);
-    run_records(endpoint, side, source, sink, header.big, &mut frame)
+    run_records(
+        endpoint, side, source, sink, header.big, &mut frame, told, to,
+    )
+}
+
+/// Takes a whole capture so: it is a run over it.
+fn run<D: SectorDisk, R: Source, W: Sink, A: Allocator, T, V: Verdicts<T>>(
+    alloc: A,
+    endpoint: &mut Endpoint<D>,
+    side: Side,
+    source: &mut R,
+    sink: &mut W,
+    told: &mut V,
+    to: &mut T,
+) -> Result<Summary, RunFault>
+    ensures runs { RunsOver D.disk side
+        (run_of endpoint.old (R.state source.old) (W.state sink.old)) result
+        (run_of endpoint.new (R.state source.new) (W.state sink.new)) }
+    ensures tells { TellsRun D.disk V.tells side
+        (run_of endpoint.old (R.state source.old) (W.state sink.old)) (telling_of told.old to.old) result
+        (run_of endpoint.new (R.state source.new) (W.state sink.new)) (telling_of told.new to.new) }
+{
+    run_telling(alloc, endpoint, side, source, sink, told, to)
 }
 
 /// Protects the frame of each record of a capture, one after another, and writes the capture of the frames
@@ -164,7 +207,15 @@ pub fn run_protect<D: SectorDisk, R: Source, W: Sink, A: Allocator>(
         (run_of endpoint.new (R.state source.new) (W.state sink.new)) }
     ensures lives { LivesOn D.disk endpoint.old endpoint.new }
 {
-    run(alloc, endpoint, Side::Controlled, source, sink)
+    run(
+        alloc,
+        endpoint,
+        Side::Controlled,
+        source,
+        sink,
+        &mut Nobody,
+        &mut Nobody,
+    )
 }
 
 /// Receives the frame of each record of a capture, one after another, and writes the capture of the frames
@@ -187,5 +238,37 @@ pub fn run_validate<D: SectorDisk, R: Source, W: Sink, A: Allocator>(
         (run_of endpoint.new (R.state source.new) (W.state sink.new)) }
     ensures lives { LivesOn D.disk endpoint.old endpoint.new }
 {
-    run(alloc, endpoint, Side::Common, source, sink)
+    run(
+        alloc,
+        endpoint,
+        Side::Common,
+        source,
+        sink,
+        &mut Nobody,
+        &mut Nobody,
+    )
+}
+
+/// Does what `run_validate` does, and tells the verdict on each frame, in order, once what passes of it is
+/// written. A frame at which the run ends has none. No verdict is kept.
+pub fn run_validate_each<D: SectorDisk, R: Source, W: Sink, A: Allocator, T, V: Verdicts<T>>(
+    alloc: A,
+    endpoint: &mut Endpoint<D>,
+    source: &mut R,
+    sink: &mut W,
+    told: &mut V,
+    to: &mut T,
+) -> Result<Summary, RunFault>
+    ensures runs { RunsOver D.disk Side.Common
+        (run_of endpoint.old (R.state source.old) (W.state sink.old)) result
+        (run_of endpoint.new (R.state source.new) (W.state sink.new)) }
+    ensures tells { TellsRun D.disk V.tells Side.Common
+        (run_of endpoint.old (R.state source.old) (W.state sink.old)) (telling_of told.old to.old) result
+        (run_of endpoint.new (R.state source.new) (W.state sink.new)) (telling_of told.new to.new) }
+    ensures writes { WritesCapture Side.Common
+        (run_of endpoint.old (R.state source.old) (W.state sink.old)) result
+        (run_of endpoint.new (R.state source.new) (W.state sink.new)) }
+    ensures lives { LivesOn D.disk endpoint.old endpoint.new }
+{
+    run(alloc, endpoint, Side::Common, source, sink, told, to)
 }

@@ -3,7 +3,8 @@
 ghost use Rattle.std.specs.Prelude.{◌≡◌, ◌<◌, ◌^◌, Bool, true, false, if◌then◌else◌, Some, None, IfOk, IfErr};
 ghost use Rattle.macs_endpoint.specs.Calls.{IsCall};
 ghost use Rattle.macs_endpoint.specs.State.{Reply};
-ghost use Rattle.macs_edge.specs.Settling.{Halts, HandsInAgain, IsSettled, Means, call_on, ending_of, is_passed};
+ghost use Rattle.macs_edge.specs.Settling.{Halts, HandsInAgain, IsJudged, Means, call_on, ending_of, is_passed};
+ghost use Rattle.macs_edge.specs.Settling.{verdict_of};
 
 use macs_disk::SectorDisk;
 use macs_endpoint::{Endpoint, ProtectFault, RefillFault};
@@ -33,6 +34,43 @@ pub(crate) enum Outcome {
     Stopped,
 }
 
+/// Hands a frame in once, and notes the verdict, if there is one.
+fn hand_in_noting<D: SectorDisk>(
+    endpoint: &mut Endpoint<D>,
+    side: Side,
+    frame: &[u8],
+    out: &mut FrameBuf,
+    verdict: &mut Option<Verdict>,
+) -> Outcome
+    ensures { (reply : Reply) × IsCall D.disk endpoint.old (call_on side frame.now) reply endpoint.new
+        × Means (call_on side frame.now) reply out.new.items result × (verdict.new ≡ verdict_of reply) }
+{
+    *verdict = None;
+    match side {
+        Side::Controlled => match endpoint.protect(frame, out) {
+            Ok(_) => Outcome::Passed,
+            Err(ProtectFault::Stopped) => Outcome::Stopped,
+            Err(ProtectFault::Tx(TxFault::NoNumber)) => Outcome::Waiting,
+            Err(ProtectFault::Tx(_)) => Outcome::Dropped,
+        },
+        Side::Common => match endpoint.receive(frame, out) {
+            Ok(Verdict::Delivered(kind)) => {
+                *verdict = Some(Verdict::Delivered(kind));
+                Outcome::Passed
+            }
+            Ok(Verdict::Discarded(reason)) => {
+                *verdict = Some(Verdict::Discarded(reason));
+                Outcome::Dropped
+            }
+            Ok(Verdict::HeldBack) => {
+                *verdict = Some(Verdict::HeldBack);
+                Outcome::Waiting
+            }
+            Err(_) => Outcome::Stopped,
+        },
+    }
+}
+
 /// Hands a frame in once.
 pub(crate) fn hand_in<D: SectorDisk>(
     endpoint: &mut Endpoint<D>,
@@ -43,20 +81,8 @@ pub(crate) fn hand_in<D: SectorDisk>(
     ensures { (reply : Reply) × IsCall D.disk endpoint.old (call_on side frame.now) reply endpoint.new
         × Means (call_on side frame.now) reply out.new.items result }
 {
-    match side {
-        Side::Controlled => match endpoint.protect(frame, out) {
-            Ok(_) => Outcome::Passed,
-            Err(ProtectFault::Stopped) => Outcome::Stopped,
-            Err(ProtectFault::Tx(TxFault::NoNumber)) => Outcome::Waiting,
-            Err(ProtectFault::Tx(_)) => Outcome::Dropped,
-        },
-        Side::Common => match endpoint.receive(frame, out) {
-            Ok(Verdict::Delivered(_)) => Outcome::Passed,
-            Ok(Verdict::Discarded(_)) => Outcome::Dropped,
-            Ok(Verdict::HeldBack) => Outcome::Waiting,
-            Err(_) => Outcome::Stopped,
-        },
-    }
+    let mut verdict = None;
+    hand_in_noting(endpoint, side, frame, out, &mut verdict)
 }
 
 /// Whether the frame passes by this answer.
@@ -78,42 +104,47 @@ fn ending_of(outcome: Outcome) -> Result<bool, RefillFault>
     }
 }
 
-/// Reserves the packet numbers that a frame waits for, hands it in again, and says whether it passes. It
-/// does not wait again.
+/// Reserves the packet numbers that a frame waits for, hands it in again, and says whether it passes; the
+/// verdict is noted, if there is one. It does not wait again.
 fn hand_in_again<D: SectorDisk>(
     endpoint: &mut Endpoint<D>,
     side: Side,
     frame: &[u8],
     out: &mut FrameBuf,
+    verdict: &mut Option<Verdict>,
 ) -> Result<bool, RefillFault>
-    ensures { HandsInAgain D.disk endpoint.old (call_on side frame.now) result out.new.items endpoint.new }
+    ensures { HandsInAgain D.disk endpoint.old (call_on side frame.now) result out.new.items verdict.new
+        endpoint.new }
 {
     endpoint.facts();
     match endpoint.refill() {
         Ok(()) => {
             endpoint.facts();
-            Ok(passes(hand_in(endpoint, side, frame, out)))
+            let again = hand_in_noting(endpoint, side, frame, out, verdict);
+            Ok(passes(again))
         }
         Err(fault) => Err(fault),
     }
 }
 
-/// Hands a frame in, and once more after a refill where it waits; and says whether a frame passes.
+/// Hands a frame in, and once more after a refill where it waits; and says whether a frame passes. The verdict
+/// that settles it is noted, if there is one.
 pub(crate) fn settle<D: SectorDisk>(
     endpoint: &mut Endpoint<D>,
     side: Side,
     frame: &[u8],
     out: &mut FrameBuf,
+    verdict: &mut Option<Verdict>,
 ) -> Result<bool, RefillFault>
-    ensures settled { IfOk result (λ passes. IsSettled D.disk endpoint.old (call_on side frame.now)
-        (if passes then Some out.new.items else None) endpoint.new) }
+    ensures settled { IfOk result (λ passes. IsJudged D.disk endpoint.old (call_on side frame.now)
+        (if passes then Some out.new.items else None) verdict.new endpoint.new) }
     ensures fault { IfErr result (λ fault.
         Halts D.disk endpoint.old (call_on side frame.now) fault endpoint.new) }
 {
     endpoint.facts();
-    let first = hand_in(endpoint, side, frame, out);
+    let first = hand_in_noting(endpoint, side, frame, out, verdict);
     match first {
-        Outcome::Waiting => hand_in_again(endpoint, side, frame, out),
+        Outcome::Waiting => hand_in_again(endpoint, side, frame, out, verdict),
         _ => ending_of(first),
     }
 }

@@ -20,6 +20,7 @@ counter-words = record {
   verdict = λ c v. refl;
   channel = λ table sci c v is. ap (λ (o : Option ChannelCounters).
       count_line_of (codes "channel " ++ encode_lower sci) (verdict_words v) (option_map (channel_count_of v) o)) is;
+  channels = λ table sci. refl;
   wire = λ side c. refl;
   buffer = λ side octets. refl;
   no_buffer = λ side. refl;
@@ -27,6 +28,7 @@ counter-words = record {
       count_line_of (codes "left tx") (decimal an) (option_map (λ (n : ℕ). 2 ^ 32 - n) o)) is;
   none_left = λ s an is. ap (λ (o : Option ℕ).
       count_line_of (codes "left tx") (decimal an) (option_map (λ (n : ℕ). 2 ^ 32 - n) o)) is;
+  each_left = λ s. refl;
   keys = λ config. refl;
   order = λ s sent received table controlled common. refl;
 }

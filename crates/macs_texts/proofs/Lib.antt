@@ -1,2 +1,3 @@
 pub mod Shown
 mod CounterWords
+mod MetricWords

@@ -20,8 +20,8 @@ use Rattle.macs_texts.specs.Counting.{channel_text, left_text, rx_line, verdict_
 use Rattle.macs_texts.specs.Lines.{count_line, count_line_of}
 
 -- A line says of what it is, which count, and the number, in decimal. Each fault and each verdict has its own word, and
--- its own number on the line of that word; a wire, what it took, sent, took from strangers, how often it failed, and
--- what is kept for it, where that is known.
+-- its own number on the line of that word, of each channel for those that name it; a wire, what it took, sent, took from
+-- strangers, how often it failed, and what is kept for it, where that is known.
 -- What is left are the packet numbers below 2^32 of each association that has a next one, and the keys of each side.
 -- Frames that were sent come first, then those received, by channels next, then the wires, and last what is left.
 pub record CounterWords : Type 0 where
@@ -53,6 +53,10 @@ pub record CounterWords : Type 0 where
   pub channel : (table : List ℕ → Option ChannelCounters) (sci : List ℕ) (c : ChannelCounters) (v : Verdict)
       → table sci ≡ Some c → channel_line table sci v
       ≡ count_line (codes "channel " ++ encode_lower sci) (verdict_words v) (channel_count_of v c)
+  pub channels : (table : List ℕ → Option ChannelCounters) (sci : List ℕ)
+      → channel_text table sci ≡ concat (map (channel_line table sci) (Delivered kind.Ok ∷ Delivered kind.Delayed
+      ∷ Delivered kind.Invalid ∷ Delivered kind.UnusedSa ∷ Discarded reason.NotUsingSa ∷ Discarded reason.Late
+      ∷ Discarded reason.NotValid ∷ []))
   pub wire : (side : List ℕ) (c : WireCounts) → wire_text side c ≡ count_line side (codes "taken") c.taken
       ++ (count_line side (codes "sent") c.sent ++ (count_line side (codes "strangers") c.strangers
       ++ (count_line side (codes "failed-receives") c.failed_receives
@@ -63,6 +67,7 @@ pub record CounterWords : Type 0 where
   pub left : (s : State) (an next : ℕ) → s.next an ≡ Some next
       → left_line s an ≡ count_line (codes "left tx") (decimal an) (2 ^ 32 - next)
   pub none_left : (s : State) (an : ℕ) → s.next an ≡ None → left_line s an ≡ []
+  pub each_left : (s : State) → left_text s ≡ concat (map (left_line s) (0 ∷ 1 ∷ 2 ∷ 3 ∷ []))
   pub keys : (config : Config) → keys_text config
       ≡ count_line (codes "left keys") (codes "tx") (512 - length config.spent_tx)
       ++ count_line (codes "left keys") (codes "rx") (512 - length config.spent_rx)

@@ -4,3 +4,4 @@ pub mod Showing
 pub mod Counting
 pub mod CounterWords
 pub mod Measuring
+pub mod MetricWords

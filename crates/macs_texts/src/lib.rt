@@ -14,3 +14,4 @@ pub use counting::counter_lines;
 pub use measuring::metric_lines;
 pub use refusals::refusal_name;
 pub use showing::show_lines;
+pub use words::verdict_words;

@@ -1,25 +1,11 @@
-use Rattle.std.proofs.Common.{Err, inl, inr, refl, subst}
-use Rattle.std.proofs.lemmas.Result.{err_from_is_err_and}
-use Rattle.macs_pcap.specs.Header.{header_text}
-use Rattle.macs_pcap.specs.Writing.{WritesText}
-use Rattle.macs_pcap.specs.declared.fault.PcapFault.{PcapFault}
 use Rattle.macs_edge.specs.Passing.{run_of}
+use Rattle.macs_edge.proofs.Told.{judged-run}
 use Rattle.macs_edge.proofs.passing.run.Goals as goal
 
-pub returns-in_err-header : goal.returns-in_err-header
-returns-in_err-header g c =
-    let risen = err_from_is_err_and c.from_residual.result c.from_residual.ensures.1 in
-    inl (c.in_err-header.field-0.0, rw (risen.1, risen.2) refl, c.in_err-header.ensures, refl {a = c.args.endpoint.now}, refl {a = g.W.Sink.state c.args.sink.now})
-
-pub returns-in_err-write_header : goal.returns-in_err-write_header
-returns-in_err-write_header g c =
-    let risen = err_from_is_err_and c.from_residual-in_err-write_header.result c.from_residual-in_err-write_header.ensures.1 in
-    let is = c.in_err-write_header.ensures.write.names in
-    let writes = subst (λ (f : PcapFault). WritesText {T = Unit {0}} (g.W.Sink.state c.args.sink.now) (g.W.Sink.state c.write_header.new.sink)
-    (header_text c.in_ok-header.header) (Err f)) is c.in_err-write_header.ensures in
-    inr (inl (c.in_ok-header.header, c.in_ok-header.ensures, rw (risen.1, risen.2, is) refl, writes, refl {a = c.args.endpoint.now}))
-
-pub returns : goal.returns
-returns g c =
-    let between = run_of c.args.endpoint.now (g.R.Source.state c.read_header.new.source) (g.W.Sink.state c.write_header.new.sink) in
-    inr (inr (c.in_ok-header.header, between, c.in_ok-header.ensures, c.in_ok-write_header.ensures, refl {a = c.args.endpoint.now}, c.run_records.ensures))
+pub returns-clause-runs : goal.returns-clause-runs
+returns-clause-runs g c =
+    let (verdicts, judges, telling) = c.run_telling.ensures in
+    judged-run g.D.SectorDisk.disk c.args.side
+    (run_of c.args.endpoint.now (g.R.Source.state c.args.source.now) (g.W.Sink.state c.args.sink.now))
+    (run_of c.run_telling.new.endpoint (g.R.Source.state c.run_telling.new.source) (g.W.Sink.state c.run_telling.new.sink))
+    verdicts c.run_telling.result judges

@@ -26,9 +26,9 @@ returns-in_err-write_record g c =
     let takes = took g.D.SectorDisk.disk c.args.side c.args.big c.args.count _
     (run_of c.args.endpoint.now (g.R.Source.state c.args.source.now) (g.W.Sink.state c.args.sink.now))
     (run_of c.settle.new.endpoint (g.R.Source.state c.read_record.new.source) (g.W.Sink.state c.write_record.new.sink))
-    c.in_ok-stamp.field-0 c.in-Some.stamp c.read_record.new.into.items c.deref.result.now c.settle.new.out.items c.in_ok-passes.passes true
+    c.in_ok-stamp.field-0 c.in-Some.stamp c.read_record.new.into.items c.deref.result.now c.settle.new.out.items c.in_ok-passes.passes true c.settle.new.verdict
     c.in-Some.is c.deref.ensures.value c.if-passes.true c.in_ok-stamp.ensures c.in_ok-passes.ensures.settled in
-    rw (risen.1, risen.2) (inr (taken, c.settle.new.out.items, takes, writes))
+    rw (risen.1, risen.2) (inr (taken, c.settle.new.out.items, takes.0, writes))
 
 pub returns-in_ok-write_record : goal.returns-in_ok-write_record
 returns-in_ok-write_record g c =
@@ -37,12 +37,13 @@ returns-in_ok-write_record g c =
     let takes = took g.D.SectorDisk.disk c.args.side c.args.big c.args.count _
     (run_of c.args.endpoint.now (g.R.Source.state c.args.source.now) (g.W.Sink.state c.args.sink.now))
     (run_of c.settle.new.endpoint (g.R.Source.state c.read_record.new.source) (g.W.Sink.state c.write_record.new.sink))
-    c.in_ok-stamp.field-0 c.in-Some.stamp c.read_record.new.into.items c.deref.result.now c.settle.new.out.items c.in_ok-passes.passes true
+    c.in_ok-stamp.field-0 c.in-Some.stamp c.read_record.new.into.items c.deref.result.now c.settle.new.out.items c.in_ok-passes.passes true c.settle.new.verdict
     c.in-Some.is c.deref.ensures.value c.if-passes.true c.in_ok-stamp.ensures c.in_ok-passes.ensures.settled in
     next-passed g.D.SectorDisk.disk c.args.side c.args.big c.args.count
     (run_of c.args.endpoint.now (g.R.Source.state c.args.source.now) (g.W.Sink.state c.args.sink.now))
     (run_of c.settle.new.endpoint (g.R.Source.state c.read_record.new.source) (g.W.Sink.state c.write_record.new.sink))
-    (record { stamp = c.in-Some.stamp; frame = c.read_record.new.into.items }) c.settle.new.out.items c.in_ok-passes.passes c.if-passes.true takes
+    (record { stamp = c.in-Some.stamp; frame = c.read_record.new.into.items }) c.settle.new.out.items c.in_ok-passes.passes c.settle.new.verdict
+    c.if-passes.true takes
     writes.whole writes.write.done
 
 pub returns-else-passes : goal.returns-else-passes
@@ -50,10 +51,10 @@ returns-else-passes g c =
     let takes = took g.D.SectorDisk.disk c.args.side c.args.big c.args.count _
     (run_of c.args.endpoint.now (g.R.Source.state c.args.source.now) (g.W.Sink.state c.args.sink.now))
     (run_of c.settle.new.endpoint (g.R.Source.state c.read_record.new.source) (g.W.Sink.state c.args.sink.now))
-    c.in_ok-stamp.field-0 c.in-Some.stamp c.read_record.new.into.items c.deref.result.now c.settle.new.out.items c.in_ok-passes.passes false
+    c.in_ok-stamp.field-0 c.in-Some.stamp c.read_record.new.into.items c.deref.result.now c.settle.new.out.items c.in_ok-passes.passes false c.settle.new.verdict
     c.in-Some.is c.deref.ensures.value c.if-passes.false c.in_ok-stamp.ensures c.in_ok-passes.ensures.settled in
     next-dropped g.D.SectorDisk.disk c.args.side c.args.big c.args.count
     (run_of c.args.endpoint.now (g.R.Source.state c.args.source.now) (g.W.Sink.state c.args.sink.now))
     (run_of c.settle.new.endpoint (g.R.Source.state c.read_record.new.source) (g.W.Sink.state c.args.sink.now))
-    (record { stamp = c.in-Some.stamp; frame = c.read_record.new.into.items }) c.in_ok-passes.passes c.if-passes.false takes
+    (record { stamp = c.in-Some.stamp; frame = c.read_record.new.into.items }) c.in_ok-passes.passes c.settle.new.verdict c.if-passes.false takes
     (refl {a = g.W.Sink.state c.args.sink.now})

@@ -1,0 +1,50 @@
+-- What is to be drawn of the words on verdicts that are told.
+use Rattle.std.specs.Prelude.{◌≡◌, ◌≢◌, ◌⊎◌, ◌+◌, ℕ, Bool, List, [], ◌∷◌, length, Ok, Err}
+use Rattle.macs_disk.specs.Disk.{Disk}
+use Rattle.macs_rxsc.specs.declared.verdict.Verdict.{Verdict}
+use Rattle.macs_rxsc.specs.declared.verdict.Verdict.TheVariants.{HeldBack}
+use Rattle.macs_endpoint.specs.State.{Logs, Received, Receives, State}
+use Rattle.macs_endpoint.specs.Step.{Step}
+use Rattle.macs_endpoint.specs.Value.{state_of}
+use Rattle.macs_pcap.specs.Reading.{HoldsOfLeft}
+use Rattle.macs_pcap.specs.Records.{CaptureRecord}
+use Rattle.macs_edge.specs.Passing.{HasPassed, Run, Stops}
+use Rattle.macs_edge.specs.Telling.{Judges, JudgesRun, Telling, Tells, TellsAll}
+use Rattle.macs_edge.specs.declared.passing.RunFault.{RunFault}
+use Rattle.macs_edge.specs.declared.passing.Summary.{Summary}
+use Rattle.macs_edge.specs.declared.settling.Side.TheVariants.{Common}
+
+-- Where no record is taken there is no verdict. Else the first is that with which `receive` answers the frame of the
+-- first record, never that it is held back, and the others are those of the others: as many as there are records. Each
+-- is told once, in their order. A run that is answered Ok took all records up to the end, and has a verdict on each, as
+-- many as it counts. One that ends in a fault has those on the records before it.
+pub record VerdictWords {D V T : Type 0} (disk_of : D → Disk) (tells : Tells V T) : Type 0 where
+  pub none : (old new : State) (verdicts : List Verdict) → Judges Common old [] verdicts new
+      → (verdicts ≡ []) × (new ≡ old)
+  pub one : (old new : State) (taken : CaptureRecord) (more : List CaptureRecord) (verdicts : List Verdict)
+      → Judges Common old (taken ∷ more) verdicts new
+      → (verdict : Verdict) × (out : List ℕ) × (between : State) × (rest : List Verdict)
+      × Step old (Receives taken.frame) (Received (Ok verdict) out) between × (verdict ≢ HeldBack)
+      × (verdicts ≡ verdict ∷ rest) × Judges Common between more rest new
+  pub each : (old new : State) (records : List CaptureRecord) (verdicts : List Verdict)
+      → Judges Common old records verdicts new → length verdicts ≡ length records
+  pub none_told : (old new : Telling V T) → TellsAll tells old [] new → new ≡ old
+  pub one_told : (old new : Telling V T) (verdict : Verdict) (more : List Verdict)
+      → TellsAll tells old (verdict ∷ more) new
+      → (between : Telling V T) × tells old.teller old.to verdict between.teller between.to
+      × TellsAll tells between more new
+  pub run : (old new : Run D) (s : Summary) (verdicts : List Verdict) → JudgesRun disk_of Common old (Ok s) verdicts new
+      → (big : Bool) × (between : Run D) × (records : List CaptureRecord) × (passed : List CaptureRecord)
+      × (between.endpoint ≡ old.endpoint) × HasPassed disk_of Common big between records passed new
+      × HoldsOfLeft between.source.left new.source.left (λ left rest. rest ≡ [])
+      × ((logs : Logs) → (after : Logs)
+      × Judges Common (state_of between.endpoint logs) records verdicts (state_of new.endpoint after))
+      × (length verdicts ≡ s.passed + s.dropped)
+  pub failed : (old new : Run D) (fault : RunFault) (verdicts : List Verdict)
+      → JudgesRun disk_of Common old (Err fault) verdicts new → (verdicts ≡ [])
+      ⊎ ((big : Bool) × (between : Run D) × (records : List CaptureRecord) × (passed : List CaptureRecord)
+      × (until : Run D) × (between.endpoint ≡ old.endpoint)
+      × HasPassed disk_of Common big between records passed until
+      × ((logs : Logs) → (after : Logs)
+      × Judges Common (state_of between.endpoint logs) records verdicts (state_of until.endpoint after))
+      × Stops disk_of Common big (length records) until fault new)

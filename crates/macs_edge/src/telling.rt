@@ -1,0 +1,39 @@
+//! The verdicts of a run over a capture, told one by one.
+
+ghost use Rattle.macs_edge.specs.Telling.{TellsAll, listed, telling_of};
+
+use macs_rxsc::Verdict;
+
+/// Who is told the verdict on each frame of a run, with what it is told to.
+pub trait Verdicts<T> {
+    ghost use Rattle.macs_edge.specs.Telling.{Tells};
+
+    /// What it does with a verdict: what becomes of itself and of what it is told to.
+    ghost tells: { Tells Self T };
+
+    /// Is told the verdict on the next frame.
+    fn tell(&mut self, to: &mut T, verdict: Verdict)
+        ensures { tells self.old to.old verdict self.new to.new };
+}
+
+/// Nobody, who is told nothing that matters.
+#[derive(Drop)]
+pub(crate) struct Nobody;
+
+impl Verdicts<Nobody> for Nobody {
+    ghost use Rattle.std.specs.Prelude.{⊤};
+
+    ghost tells = { λ _ _ _ _ _. ⊤ };
+
+    fn tell(&mut self, _to: &mut Nobody, _verdict: Verdict) {}
+}
+
+/// Tells a verdict, if there is one.
+pub(crate) fn tell<T, V: Verdicts<T>>(told: &mut V, to: &mut T, verdict: Option<Verdict>)
+    ensures { TellsAll V.tells (telling_of told.old to.old) (listed verdict) (telling_of told.new to.new) }
+{
+    match verdict {
+        Some(verdict) => told.tell(to, verdict),
+        None => {}
+    }
+}
