@@ -18,7 +18,7 @@ use Rattle.macs_record.specs.Heads.{Head, IsHeadOf, head_mark}
 use Rattle.macs_record.specs.Sectors.{Begins}
 use Rattle.macs_program.specs.ContentWords.{BlankWords, InUseWords}
 use Rattle.macs_program.specs.Contents.{HasFront, HasHeadMark, HasOpenGate, IsBlankFile}
-use Rattle.macs_program.specs.Contents.{IsPartOf, leftover, number_of, sector_in}
+use Rattle.macs_program.specs.Contents.{IsPartOf, IsUnused, leftover, number_of, sector_in}
 use Rattle.macs_program.specs.NewDisks.{Permits}
 use Rattle.macs_program.specs.declared.contents.Contents.TheVariants as contents
 use Rattle.macs_program.proofs.WrittenOver.{blank-permitted, closed-permitted}
@@ -182,6 +182,20 @@ module _ (file : FileState) (sectors : ℕ) (none : (p : ℕ) → p < 512 * sect
     refl,
   )
 
+-- ---- a `format` that was cut short
+
+unused : (file : FileState) (number : ℕ)
+    → ((number ≡ 0) × (head : Head) × IsHeadOf head (values_from file.seen 0 512))
+    ⊎ ((k : ℕ) → k < 512 → (file.seen (512 * number + k) ≡ 0)
+    ⊎ (file.seen (512 * number + k) ≡ get_or (leftover number) k 0))
+    → IsUnused number (sector_in file number)
+unused file number (inl (first, head, is)) =
+    inl (first, head, subst (λ (n : ℕ). IsHeadOf head (sector_in file n)) (sym first) is)
+unused file number (inr part) = inr (λ k lt. elim (part k lt) [
+  | inl none ↦ inl (octet-in file number k lt ∙ none)
+  | inr same ↦ inr (octet-in file number k lt ∙ same)
+])
+
 pub blank-words : BlankWords
 blank-words = record {
   zeros = λ file sectors number k permits. zeros file sectors number k (blank-permitted file sectors permits).0;
@@ -189,4 +203,6 @@ blank-words = record {
   left_over = (refl, refl, refl, refl, refl);
   front = λ file sectors permits. front file sectors (blank-permitted file sectors permits).0;
   empty = empty;
+  cut_short = λ file sectors shut each.
+      (contents.Blank, (shut, λ number within. unused file number (each number within)), refl);
 }

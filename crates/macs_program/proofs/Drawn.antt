@@ -10,7 +10,7 @@ use Rattle.macs_config.specs.Config.{Config}
 use Rattle.macs_config.specs.declared.command.Command.{Command}
 use Rattle.macs_config.specs.declared.refusal.Refusal.{Refusal}
 use Rattle.macs_disk.specs.Disk.{Disk}
-use Rattle.std.specs.Io.KnownBytes.{Appends}
+use Rattle.std.specs.Io.KnownBytes.{Appends, Keeps}
 use Rattle.macs_disk.specs.Files.{FileState}
 use Rattle.macs_disk.specs.declared.layout.Layout.{Layout}
 use Rattle.macs_disk.specs.declared.layout.Layout.TheVariants.{Packed, Spaced}
@@ -37,7 +37,7 @@ use Rattle.macs_program.specs.Applying.{Applies, EndsRun, SaysCommands, answer_o
 use Rattle.macs_program.specs.Capturing.{EndsWith, IsFlushed}
 use Rattle.macs_program.specs.Contents.{HasOpenGate, IsBlankFile}
 use Rattle.macs_program.specs.Drawn.{AnswerWords, ApplyWords, CaptureWords, FileWords, LineWords, ValueWords, is_apply}
-use Rattle.macs_program.specs.Drawn.{is_silent}
+use Rattle.macs_program.specs.Drawn.{TextLineWords, is_silent}
 use Rattle.macs_program.specs.Failing.{failure_of_run}
 use Rattle.macs_program.specs.NewDisks.{Permits}
 use Rattle.macs_program.specs.Inputs.{InputRead}
@@ -54,6 +54,7 @@ use Rattle.macs_program.specs.declared.failure.Failure.TheVariants as failures
 use Rattle.macs_program.specs.declared.request.InputFault.{InputFault}
 use Rattle.macs_program.specs.declared.request.InputFault.TheVariants as fault
 use Rattle.macs_program.specs.declared.request.Request.{Request}
+use Rattle.macs_program.proofs.TextLines.{lines-ended, lines-last, lines-nil, trimmed-other, trimmed-return}
 use Rattle.macs_words.specs.declared.action.Action.{Action}
 use Rattle.macs_words.specs.declared.action.Action.TheVariants.{Apply, Check, Format, Key, Open, Protect, Relay, Show, Validate}
 
@@ -132,6 +133,25 @@ answer-words = record {
   one = answer_once;
   spelled = λ input answer a. a.spelled;
   four = λ input r s. (s.four.0, s.four.1, s.key.1, s.sci.1, s.sci.0, s.offset, s.frame);
+  taken = λ input r short four key size sci eight offset frame.
+      record { four = (short, four); key = (size, key); sci = (eight, sci); offset = offset; frame = frame };
+  four_lines = λ input short four. (short, four);
+  keys = λ line key is size. (size, is);
+  scis = λ line sci is eight. (eight, is);
+  offsets = refl;
+  valid = λ input an pn plain a. answered a.request (Valid an pn plain) a.answered;
+  refused = λ input at a. answered a.request (Refused at) a.answered;
+}
+
+pub text-line-words : TextLineWords
+text-line-words = record {
+  empty = lines-nil;
+  ended = lines-ended;
+  last = lines-last;
+  returned = trimmed-return;
+  whole = trimmed-other;
+  blank = refl;
+  at = λ text i. refl;
 }
 
 -- ---- one outcome for each command
@@ -290,12 +310,13 @@ apply-words disk_of = record {
 
 ends_by : (answer : Result Summary RunFault) (failure : Failure) (before after : SinkState)
     → EndsWith answer failure before after
-    → ((summary : Summary) × (answer ≡ Ok summary) × (failure ≡ failures.Capture) × (after.failed ≡ true))
+    → ((summary : Summary) × (answer ≡ Ok summary) × (failure ≡ failures.Capture) × (after.failed ≡ true)
+    × Keeps before.held after.held)
     ⊎ ((fault : RunFault) × (answer ≡ Err fault) × (failure ≡ failure_of_run fault) × (IsFlushed before after
-    ⊎ (after.failed ≡ true)))
-ends_by (Ok summary) failure before after (is, fails) = inl (summary, refl, is, fails.fails)
+    ⊎ ((after.failed ≡ true) × Keeps before.held after.held)))
+ends_by (Ok summary) failure before after (is, fails) = inl (summary, refl, is, fails.fails, fails.held)
 ends_by (Err fault) failure before after (is, inl flushed) = inr (fault, refl, is, inl flushed)
-ends_by (Err fault) failure before after (is, inr fails) = inr (fault, refl, is, inr fails.fails)
+ends_by (Err fault) failure before after (is, inr fails) = inr (fault, refl, is, inr (fails.fails, fails.held))
 
 pub capture-words : {D : Type 0} (disk_of : D → Disk) → CaptureWords disk_of
 capture-words disk_of = record {
@@ -347,7 +368,7 @@ nothing_printed Open before after printed is = printed
 nothing_printed (Format disk sci tx_block rx_block block is_over) before after printed is = printed
 nothing_printed (Show disk) before after printed is = printed
 nothing_printed (Protect disk from to is_all) before after printed is = printed
-nothing_printed (Validate disk from to is_all) before after printed is = printed
+nothing_printed (Validate disk from to is_all false) before after printed is = printed
 nothing_printed (Relay disk controlled common running) before after printed is = printed
 nothing_printed (Key is_long) before after printed is = printed
 nothing_printed (Check file) before after printed is = printed
@@ -395,6 +416,8 @@ line-words = record {
   no_input = no_input;
   nothing = nothing_printed;
   commands = commands_printed;
+  silent = λ path sci from to tx_block rx_block block is controlled common running. refl;
+  prints_lines = λ path from. refl;
   complained = λ before after failed text is. is;
   complaint = λ failure. refl;
   status_codes = (refl, refl, refl, refl, refl);
@@ -413,8 +436,14 @@ layout_named text Spaced is = inr (refl, is)
 pub value-words : ValueWords
 value-words = record {
   identity = λ sci tx_block rx_block identity s. (s.sci_is.1, s.sci_is.0, s.tx_is, s.rx_is, s.tx_fits, s.rx_fits);
+  named = λ sci tx_block rx_block identity is eight tx rx tx_fits rx_fits.
+      record { sci_is = (eight, is); tx_is = tx; rx_is = rx; tx_fits = tx_fits; rx_fits = rx_fits };
   packed = λ layout is. is;
+  layouts = (refl, refl, refl);
   block = layout_named;
   wires = λ controlled common (first, second, one, two).
       (first, second, one.own_is, one.peer_is, two.own_is, two.peer_is);
+  addressed = λ controlled common first second own1 peer1 own2 peer2.
+      (first, second, record { own_is = own1; peer_is = peer1 }, record { own_is = own2; peer_is = peer2 });
+  none = λ text none. none;
 }

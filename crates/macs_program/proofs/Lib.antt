@@ -7,11 +7,13 @@ pub mod Checked
 pub mod Codes
 pub mod Commanded
 pub mod Complaining
+pub mod EachLine
 pub mod Failed
 pub mod Failures
 pub mod FirstFault
 pub mod HexDigits
 pub mod InFiles
+pub mod JudgedFiles
 pub mod Inspected
 pub mod Looks
 pub mod Made

@@ -1,5 +1,5 @@
 -- What each subcommand comes to, as the doing of an action.
-use Rattle.std.proofs.Common.{Bor, ◌≡◌, ◌≢◌, ◌⊎◌, inl, inr, ℕ, List, Bool, true, false, if◌then◌else◌, Option, IfSome, Result, IfErr, IfOk, refl, sym, ◌∙◌, ap}
+use Rattle.std.proofs.Common.{Bor, ◌≡◌, ◌≢◌, ◌⊎◌, inl, inr, ℕ, List, Bool, true, false, if◌then◌else◌, Option, IfSome, Result, IfErr, IfOk, refl, sym, subst, ◌∙◌, ap}
 use Rattle.std.specs.Io.KnownBytes.{Appends}
 use Rattle.std.specs.List.{list_any}
 use Rattle.std.specs.Prelude.{◌&&◌, is_some, nat_lt}
@@ -12,6 +12,7 @@ use Rattle.macs_program.specs.Failing.{failure_status}
 use Rattle.macs_program.specs.Checking.{CheckFails, PrintsCount}
 use Rattle.macs_program.specs.Inputs.{InputRead}
 use Rattle.macs_program.specs.Inspecting.{InspectFails, Inspects, IsOfInspecting, PrintsFrames}
+use Rattle.macs_program.specs.Judging.{PrintsVerdicts}
 use Rattle.macs_program.specs.Keys.{GivesKey, IsOfKey}
 use Rattle.macs_program.specs.Run.{Does, FailsAs, Performs, Prints, WrongValues}
 use Rattle.macs_edge.specs.declared.passing.Summary.{Summary}
@@ -196,18 +197,39 @@ module _ {F W : Type 0} (state_of : F → FileState) (contents : W → Option (L
     broken = broken;
   }
 
-  pub validates : (disk from to : Bor (List ℕ)) (is_all : Bool) → IfOk result (Does state_of (Validate disk from to is_all) input (contents old) (contents new)) → NoUsage → Silent
-      → IfErr result (FailsAs state_of (Validate disk from to is_all) input (contents old) (contents new)) → Broken
-      → Performs state_of contents failed (Validate disk from to is_all) input old result new
+  pub validates : (disk from to : Bor (List ℕ)) (is_all : Bool) → IfOk result (Does state_of (Validate disk from to is_all false) input (contents old) (contents new)) → NoUsage → Silent
+      → IfErr result (FailsAs state_of (Validate disk from to is_all false) input (contents old) (contents new)) → Broken
+      → Performs state_of contents failed (Validate disk from to is_all false) input old result new
   validates disk from to is_all done other silent fails broken = record {
     does = done;
     status = IfOk-weaker result _ _ (λ status all. let (summary, passes, printed, is) = all in pass-ends is_all summary status is) done;
-    usage = no-usage (Validate disk from to is_all) other;
+    usage = no-usage (Validate disk from to is_all false) other;
     disk = IfErr-weaker result _ _ (λ failure same disk. ((λ is. absurd cc), same disk)) (kept silent);
     before = before silent;
     fails = fails;
     broken = broken;
   }
+
+  pub judges : (disk from to : Bor (List ℕ)) (is_all : Bool) → IfOk result (Does state_of (Validate disk from to is_all true) input (contents old) (contents new))
+      → NoUsage → IfErr result (λ failure. failure ≢ Output → PrintsVerdicts (contents old) (contents new))
+      → IfErr result (FailsAs state_of (Validate disk from to is_all true) input (contents old) (contents new)) → Broken
+      → Performs state_of contents failed (Validate disk from to is_all true) input old result new
+  judges disk from to is_all done other front fails broken = record {
+    does = done;
+    status = IfOk-weaker result _ _ (λ status all. let (summary, verdicts, passes, printed, is) = all in pass-ends is_all summary status is) done;
+    usage = no-usage (Validate disk from to is_all true) other;
+    disk = IfErr-weaker result _ _ (λ failure printed disk. ((λ is. absurd cc), printed (of-disk failure disk))) front;
+    before = front;
+    fails = fails;
+    broken = broken;
+  }
+
+  -- which of the two, as its flag says
+  pub validates-so : (disk from to : Bor (List ℕ)) (is_all is_each b : Bool) → is_each ≡ b
+      → Performs state_of contents failed (Validate disk from to is_all b) input old result new
+      → Performs state_of contents failed (Validate disk from to is_all is_each) input old result new
+  validates-so disk from to is_all is_each b is performs =
+      subst (λ (x : Bool). Performs state_of contents failed (Validate disk from to is_all x) input old result new) (sym is) performs
 
   pub relays : (disk : Bor (List ℕ)) (controlled common : WireEnds) (running : Running)
       → IfOk result (Does state_of (Relay disk controlled common running) input (contents old) (contents new))

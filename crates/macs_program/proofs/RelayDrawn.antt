@@ -80,4 +80,5 @@ module _ {F : Type 0} (file : F → FileState) where
     busy_still = refl;
     spent = refl;
     device = refl;
+    asked = λ socket. refl;
   }

@@ -1,5 +1,5 @@
 -- All that is to be drawn from words on whole runs.
-use Rattle.std.proofs.Common.{◌≡◌, ◌⊎◌, inl, inr, ℕ, Bool, List, Option, length, refl, subst, Ok}
+use Rattle.std.proofs.Common.{◌≡◌, ◌⊎◌, ◌++◌, inl, inr, ℕ, Bool, List, Option, None, length, refl, subst, Ok}
 use Rattle.std.specs.Prelude.{option_map, string_bytes}
 use Rattle.std.specs.Borrow.{Bor}
 use Rattle.std.specs.Io.KnownBytes.{Appends}
@@ -15,13 +15,20 @@ use Rattle.macs_edge.specs.declared.settling.Side.{Side}
 use Rattle.macs_edge.specs.declared.settling.Side.TheVariants.{Common, Controlled}
 use Rattle.macs_endpoint.specs.Value.{EndpointValue}
 use Rattle.macs_journal.specs.declared.fault.JournalFault.TheVariants as journal
+use Rattle.macs_pcap.specs.Captures.{BeginsWithRecords}
+use Rattle.macs_pcap.specs.Reading.{HoldsOfLeft, ReadsHeader, ReadsRecord}
+use Rattle.macs_pcap.specs.Records.{CaptureRecord}
 use Rattle.macs_pcap.specs.States.{SinkState, SourceState}
+use Rattle.macs_pcap.specs.declared.header.Header.{Header}
+use Rattle.macs_rxsc.specs.declared.verdict.Verdict.{Verdict}
 use Rattle.macs_program.specs.Addresses.{AddressFaultHolds}
 use Rattle.macs_program.specs.Asking.{IsOfAsking}
 use Rattle.macs_program.specs.Applying.{SaysCommands}
 use Rattle.macs_program.specs.Checking.{CheckFails, IsSaidOfFile, PrintsCount, count_line}
 use Rattle.macs_program.specs.Capturing.{EndsPass, PassesCapture}
 use Rattle.macs_program.specs.Endpoints.{IsEndpointIn, PassEnds, PassesIn}
+use Rattle.macs_program.specs.Inspecting.{AreLinesOf, InspectsCapture}
+use Rattle.macs_program.specs.Judging.{EndsEach, JudgesCapture, JudgesIn, JudgingEnds, verdict_lines}
 use Rattle.macs_program.specs.Keys.{IsOfKey}
 use Rattle.macs_program.specs.Run.{WrongValues}
 use Rattle.macs_program.specs.RunWords.{BeforeWords, FailWords, ReplyWords}
@@ -70,6 +77,52 @@ passed file side way is_all before after status (summary, is, printed, ended) = 
   ended,
 )
 
+inspects : (old new : SourceState) (before after : Option (List ℕ)) → InspectsCapture old before new after
+    → (header : Header) × (behind : SourceState) × ReadsHeader old behind (Ok header)
+    × (records : List CaptureRecord) × (until : SourceState)
+    × HoldsOfLeft behind.left until.left (λ left rest. BeginsWithRecords header.big left records rest)
+    × (text : List ℕ) × AreLinesOf 1 records text × Appends before after text
+    × (room : ℕ) × (frame : List ℕ) × ReadsRecord header.big (length records) room until new frame (Ok None)
+inspects old new before after is = (
+  is.header,
+  is.behind,
+  is.begins,
+  is.records.records,
+  is.records.until,
+  is.records.inspected.taken,
+  is.records.inspected.printed.0,
+  is.records.inspected.printed.1,
+  is.records.inspected.printed.2,
+  is.records.room,
+  is.records.frame,
+  is.records.ended,
+)
+
+judged : {F : Type 0} (file : F → FileState) (is_all : Bool) (before after : Option (List ℕ)) (status : Status)
+    → (summary : Summary) × (verdicts : List Verdict) × JudgesIn file summary verdicts
+    × Appends before after (verdict_lines 1 verdicts ++ summary_line direction.Validate summary)
+    × (status ≡ pass_status is_all summary)
+    → (summary : Summary) × (verdicts : List Verdict) × (old : EndpointValue (FileDisk F))
+    × (new : EndpointValue (FileDisk F)) × IsEndpointIn file old × (source : SourceState) × (left : SourceState)
+    × (sink : SinkState) × (sunk : SinkState)
+    × JudgesCapture (disk_in_file file) (run_of old source sink) (Ok summary) verdicts (run_of new left sunk)
+    × Appends before after (verdict_lines 1 verdicts ++ summary_line direction.Validate summary)
+    × (status ≡ pass_status is_all summary)
+judged file is_all before after status (summary, verdicts, is, printed, ended) = (
+  summary,
+  verdicts,
+  is.old,
+  is.new,
+  is.endpoint,
+  is.judges.source,
+  is.judges.source_left,
+  is.judges.sink,
+  is.judges.sink_left,
+  is.judges.judges,
+  printed,
+  ended,
+)
+
 pub reply-words : {F : Type 0} (file : F → FileState) → ReplyWords file
 reply-words file = record {
   replied = λ words input before after status is. is;
@@ -104,6 +157,7 @@ reply-words file = record {
       passed file Controlled direction.Protect is_all before after status is;
   validated = λ path from to is_all input before after status is.
       passed file Common direction.Validate is_all before after status is;
+  judged = λ path from to is_all input before after status is. judged file is_all before after status is;
   relayed = λ path controlled common running input before after status is. is;
   asked_apply = λ path from input before after status is. is;
   asked_show = λ path input before after status is. is;
@@ -129,6 +183,12 @@ reply-words file = record {
     done,
   );
   checked = λ from input before after status is. counted before after status is;
+  prints = λ is_long octets before after is. (is.count, is.printed);
+  lengths = (refl, refl);
+  inspects = λ old new before after is. inspects old new before after is;
+  runs = λ old new before after status is. is.done;
+  stops = λ old new before after failure is. is.stopped;
+  counts = λ octets count is. is;
 }
 
 -- ---- how it fails
@@ -165,6 +225,15 @@ passing disk_of side old failure new (inl early) = inl early
 passing disk_of side old failure new (inr stops) =
     inr (stops.source, stops.source_left, stops.sink, stops.sink_left, stops.ends)
 
+judging : {D : Type 0} (disk_of : D → Disk) (old : EndpointValue D) (failure : Failure) (new : EndpointValue D)
+    → JudgingEnds disk_of old failure new
+    → (((failure ≡ failures.Memory) ⊎ (failure ≡ failures.Capture)) × (new ≡ old))
+    ⊎ ((source : SourceState) × (left : SourceState) × (sink : SinkState) × (sunk : SinkState)
+    × EndsEach disk_of (run_of old source sink) failure (run_of new left sunk))
+judging disk_of old failure new (inl early) = inl early
+judging disk_of old failure new (inr stops) =
+    inr (stops.source, stops.source_left, stops.sink, stops.sink_left, stops.ends)
+
 pub fail-words : {F : Type 0} (file : F → FileState) → FailWords file
 fail-words file = record {
   failed = λ words input before after failure is. is;
@@ -174,6 +243,8 @@ fail-words file = record {
   of_show = λ path input before after failure is. is;
   of_protect = λ path from to is_all input before after failure is. is;
   of_validate = λ path from to is_all input before after failure is. is;
+  of_judging = λ path from to is_all input before after failure is. is;
+  judging = λ failure is. (is.old, is.new, is.endpoint, judging (disk_in_file file) is.old failure is.new is.ends);
   passing = λ side failure is. (is.old, is.new, is.endpoint, passing (disk_in_file file) side is.old failure is.new is.ends);
   of_relay = λ path controlled common running input before after failure is. is;
   of_ask = λ path asked input before after failure is. of_asking failure is;
@@ -223,6 +294,7 @@ before-words = record {
     | inr (inr stopped) ↦ stopped
   ];
   inspected = λ from before after (records, (text, lines, printed)). (records, text, lines, printed);
+  judged = λ path from to is_all before after is. is;
   wrong_words = λ words is. is;
   wrong = wrong;
 }

@@ -1,5 +1,5 @@
 -- All that is to be drawn from words on texts.
-use Rattle.std.proofs.Common.{◌≡◌, ◌<◌, ◌+◌, ◌++◌, ◌∷◌, [], ◌∙◌, ℕ, Bool, true, false, List, Option, Some, None, refl, sym, ap, append_assoc}
+use Rattle.std.proofs.Common.{◌≡◌, ◌≢◌, ◌<◌, ◌+◌, ◌++◌, ◌∷◌, [], ◌∙◌, ℕ, Bool, true, false, List, Option, Some, None, refl, sym, ap, append_assoc}
 use Rattle.std.specs.Prelude.{◌==◌, codes, drop, if◌then◌else◌, nat_lt}
 use Rattle.std.proofs.lemmas.Bool.{lt-ltb, ne_eqb}
 use Rattle.std.proofs.Common.{arith}
@@ -17,10 +17,14 @@ use Rattle.byteorder.specs.Endian.{big_bytes, big_number, little_bytes, little_n
 use Rattle.macs_pcap.specs.Numbers.{number_at, octets_of}
 use Rattle.macs_program.specs.CaptureOctets.{CaptureOctets}
 use Rattle.macs_program.specs.ShowTexts.{ShowTexts}
+use Rattle.macs_journal.specs.declared.fault.JournalFault.TheVariants as journal
 use Rattle.macs_program.specs.Applying.{outcome_line, outcome_lines}
+use Rattle.macs_program.specs.Asking.{failure_in}
 use Rattle.macs_program.specs.Checking.{count_line}
 use Rattle.macs_program.specs.Summing.{pass_status}
 use Rattle.macs_program.specs.TextWords.{CheckTexts, FailureTexts, FaultOrders, FrameTexts, LineTexts}
+use Rattle.macs_program.specs.declared.failure.DiskFault.TheVariants as disk
+use Rattle.macs_program.specs.declared.failure.Failure.TheVariants as failures
 use Rattle.macs_program.specs.declared.status.Status.TheVariants as ends
 
 -- ---- lines
@@ -52,6 +56,7 @@ line-texts = record {
   refusals = refl;
   protected = λ s. refl;
   validated = λ s. refl;
+  judged = λ at verdict more. (refl, refl);
   relayed = λ s. refl;
   some = λ s. refl;
   all = all_passed;
@@ -59,6 +64,14 @@ line-texts = record {
 }
 
 -- ---- failures
+
+no_answers : (status : ℕ) → status ≢ 4 → status ≢ 5 → failure_in status ≡ failures.Control
+no_answers status not_4 not_5 =
+    let four : (status == 4) ≡ false = ne_eqb status 4 not_4 in
+    let five : (status == 5) ≡ false = ne_eqb status 5 not_5 in
+    ap (λ (b : Bool). if b then failures.Disk (disk.Journal journal.Stopped)
+    else (if status == 5 then failures.Memory else failures.Control)) four
+    ∙ ap (λ (b : Bool). if b then failures.Memory else failures.Control) five
 
 pub failure-texts : FailureTexts
 failure-texts = record {
@@ -78,8 +91,12 @@ failure-texts = record {
   journals = λ fault. refl;
   captures = refl;
   runs = refl;
+  run_devices = refl;
+  of_words = λ cause. (refl, refl);
+  of_commands = λ at name. refl;
   wires = (refl, refl, refl, refl, refl, refl);
   answers = (refl, refl, refl, refl);
+  no_answers = no_answers;
 }
 
 pub fault-orders : FaultOrders
@@ -128,6 +145,7 @@ check-texts = record {
   word = λ at. refl;
   of_key = λ at name. refl;
   extra = λ at. refl;
+  memory = refl;
   keys = refl;
   reasons = refl;
 }
@@ -148,6 +166,10 @@ tx_at an sa found next told is same = λ i. tx_text_of an (is i) (same i)
 no_tx : (an : ℕ) (found : Option TxSa) (next : Option ℕ) → found ≡ None → tx_text_of an found next ≡ []
 no_tx an found next is = ap (λ (f : Option TxSa). tx_text_of an f next) is
 
+unnumbered_tx : (an : ℕ) (found : Option TxSa) (next : Option ℕ) → next ≡ None → tx_text_of an found next ≡ []
+unnumbered_tx an None next is = refl
+unnumbered_tx an (Some sa) next is = ap (λ (n : Option ℕ). tx_text_of an (Some sa) n) is
+
 rx_at : (sci : List ℕ) (an : ℕ) (sa found : Option RxSa) (numbers told : Option Numbers) → found ≡ sa
     → told ≡ numbers → rx_text_of sci an found told ≡ rx_text_of sci an sa numbers
 rx_at sci an sa found numbers told is same = λ i. rx_text_of sci an (is i) (same i)
@@ -155,6 +177,11 @@ rx_at sci an sa found numbers told is same = λ i. rx_text_of sci an (is i) (sam
 no_rx : (sci : List ℕ) (an : ℕ) (found : Option RxSa) (numbers : Option Numbers) → found ≡ None
     → rx_text_of sci an found numbers ≡ []
 no_rx sci an found numbers is = ap (λ (f : Option RxSa). rx_text_of sci an f numbers) is
+
+unnumbered_rx : (sci : List ℕ) (an : ℕ) (found : Option RxSa) (numbers : Option Numbers) → numbers ≡ None
+    → rx_text_of sci an found numbers ≡ []
+unnumbered_rx sci an None numbers is = refl
+unnumbered_rx sci an (Some sa) numbers is = ap (λ (n : Option Numbers). rx_text_of sci an (Some sa) n) is
 
 pub show-texts : ShowTexts
 show-texts = record {
@@ -169,9 +196,11 @@ show-texts = record {
   protection = λ offset. (refl, refl);
   tx = λ s an sa next is same. tx_at an (Some sa) (s.config.tx an) (Some next) (s.next an) is same;
   no_tx = λ s an is. no_tx an (s.config.tx an) (s.next an) is;
+  unnumbered_tx = λ s an is. unnumbered_tx an (s.config.tx an) (s.next an) is;
   channel = λ s sci. refl;
   rx = λ s sci an sa numbers is same. rx_at sci an (Some sa) (s.config.rx sci an) (Some numbers) (s.numbers sci an) is same;
   no_rx = λ s sci an is. no_rx sci an (s.config.rx sci an) (s.numbers sci an) is;
+  unnumbered_rx = λ s sci an is. unnumbered_rx sci an (s.config.rx sci an) (s.numbers sci an) is;
   spent = λ config. refl;
 }
 

@@ -35,6 +35,11 @@ abbrev pub EndsWith : Result Summary RunFault → Failure → SinkState → Sink
 EndsWith (Err fault) failure before after = (failure ≡ failure_of_run fault) × (IsFlushed before after ⊎ FailsToFlush before after)
 EndsWith (Ok summary) failure before after = (failure ≡ failures.Capture) × FailsToFlush before after
 
+-- what was written in a run with this answer is handed on, after a fault too
+abbrev pub EndsFlushed : Result Summary RunFault → Result Summary Failure → SinkState → SinkState → Type 0
+EndsFlushed answer (Ok summary) before after = (answer ≡ Ok summary) × IsFlushed before after
+EndsFlushed answer (Err failure) before after = EndsWith answer failure before after
+
 -- The run goes over the capture, and then all that was written is handed on, after a fault too. A fault of the run is the failure; without
 -- one it is a flush that failed
 abbrev pub PassesCapture : {D : Type 0} → (D → Disk) → Side → Run D → Result Summary Failure → Run D → Type 0

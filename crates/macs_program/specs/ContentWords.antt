@@ -38,7 +38,8 @@ pub record InUseWords : Type 0 where
       → HasHeadMark file sectors ⊎ HasOpenGate file sectors
 
 -- A file that is written over without leave to do so has zeros everywhere but where a `format` that was cut short may
--- have written: there it has zeros or octets of these, each in its place. And a file of zeros may be.
+-- have written: there it has zeros or octets of these, each in its place. And each such file may be, where no gate is
+-- open: one of zeros, and one that a `format` left which was cut short.
 pub record BlankWords : Type 0 where
   pub zeros : (file : FileState) (sectors number k : ℕ) → Permits false file sectors None → number < sectors → k < 512
       → number ≢ 0 → number ≢ 1 → number ≢ 2 → number ≢ 8 → number ≢ 16 → number ≢ 8224
@@ -51,4 +52,10 @@ pub record BlankWords : Type 0 where
   pub front : (file : FileState) (sectors : ℕ) → Permits false file sectors None → 0 < sectors
       → ((head : Head) × IsHeadOf head (values_from file.seen 0 512)) ⊎ ((k : ℕ) → k < 512 → file.seen k ≡ 0)
   pub empty : (file : FileState) (sectors : ℕ) → ((p : ℕ) → p < 512 * sectors → file.seen p ≡ 0)
+      → Permits false file sectors None
+  pub cut_short : (file : FileState) (sectors : ℕ) → ¬ HasOpenGate file sectors
+      → ((number : ℕ) → number < sectors
+      → ((number ≡ 0) × (head : Head) × IsHeadOf head (values_from file.seen 0 512))
+      ⊎ ((k : ℕ) → k < 512 → (file.seen (512 * number + k) ≡ 0)
+      ⊎ (file.seen (512 * number + k) ≡ get_or (leftover number) k 0)))
       → Permits false file sectors None

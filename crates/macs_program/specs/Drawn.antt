@@ -1,10 +1,13 @@
 -- What is to be drawn from words of the program's contracts: of answers, of commands that are given, of new disks, of
 -- captures and of lines.
 use Rattle.std.specs.Prelude.{◌≡◌, ◌≢◌, ◌≤◌, ◌⊎◌, ◌↔◌, ◌+◌, ◌/◌, ◌++◌, true, false, ℕ, Bool, List, [], ◌∷◌, length}
-use Rattle.std.specs.Prelude.{codes, take, Option, Some, None, IfSome, Result, Ok, Err}
+use Rattle.std.specs.Prelude.{codes, map, replicate, slice_index_or, take, Contains, Option, Some, None, IfSome, Result, Ok, Err}
+use Rattle.std.specs.Borrow.{Bor}
 use Rattle.std.specs.Io.KnownBytes.{Appends, Keeps}
 use Rattle.std.specs.Net.Grammar.{IsSocketText}
 use Rattle.std.specs.Str.{IsUtf8}
+use Rattle.std.specs.declared.net.SocketAddr.{SocketAddr}
+use Rattle.clap.specs.Words.{Text}
 use Rattle.hex.specs.Hex.{decode_of}
 use Rattle.toml.specs.Data.{Members}
 use Rattle.toml.specs.Parse.{parse_document}
@@ -32,12 +35,15 @@ use Rattle.macs_endpoint.specs.Value.{EndpointValue}
 use Rattle.macs_endpoint.specs.declared.fault.CommandFault.{CommandFault}
 use Rattle.macs_endpoint.specs.declared.fault.CommandFault.TheVariants as ran
 use Rattle.macs_fields.specs.Fields.{octets_of}
-use Rattle.macs_frame.specs.Opening.{Verified}
+use Rattle.macs_fields.specs.First.{IsFirst, NoneHolds}
+use Rattle.macs_fields.specs.declared.fields.Offset.TheVariants.{Zero, Thirty, Fifty}
+use Rattle.macs_frame.specs.Opening.{OpenFaultHolds, Verified, open_faults}
 use Rattle.macs_frame.specs.Tag.{tag_of}
+use Rattle.macs_frame.specs.declared.opening.OpenFault.{OpenFault}
 use Rattle.macs_journal.specs.declared.fault.JournalFault.{JournalFault}
 use Rattle.macs_journal.specs.declared.fault.JournalFault.TheVariants as journal
 use Rattle.macs_pcap.specs.States.{SinkState, SourceState}
-use Rattle.macs_program.specs.Addresses.{SpellsBoth}
+use Rattle.macs_program.specs.Addresses.{SpellsBoth, SpellsNone}
 use Rattle.macs_program.specs.Answer.{Answers, answer_status, answer_text}
 use Rattle.macs_program.specs.Applying.{Applies, AppliesAll, AppliesSome, EndsRun, SaysCommands, commit_fault}
 use Rattle.macs_program.specs.Applying.{outcome_lines, outcomes_status}
@@ -49,13 +55,14 @@ use Rattle.macs_program.specs.Endpoints.{IsRefusedIn, OpeningFails, PassesIn, Sh
 use Rattle.macs_program.specs.Failing.{failure_of_file, failure_of_journal, failure_of_run, failure_status}
 use Rattle.macs_program.specs.Failing.{failure_text}
 use Rattle.macs_program.specs.Inputs.{InputRead}
-use Rattle.macs_program.specs.Lines.{line_at, lines}
+use Rattle.macs_program.specs.Lines.{line_at, lines, trimmed_line}
 use Rattle.macs_program.specs.NewDisks.{BlankFails, FormatFails, Formats, IsTaken, Permits}
-use Rattle.macs_program.specs.Request.{IsFourLines, Spells, offset_text}
+use Rattle.macs_program.specs.Request.{IsFourLines, Spells, SpellsKey, SpellsSci, offset_text}
 use Rattle.macs_program.specs.Run.{HasPrinted, OpenFails, Prints, PrintsUnlessFailed, code_of, complaint}
 use Rattle.macs_program.specs.Values.{SpellsIdentity, SpellsLayout}
 use Rattle.macs_program.specs.declared.addresses.WireAddresses.{WireAddresses}
 use Rattle.macs_program.specs.declared.answer.Answer.{Answer}
+use Rattle.macs_program.specs.declared.answer.Answer.TheVariants.{Refused, Valid}
 use Rattle.macs_program.specs.declared.failure.DiskFault.{DiskFault}
 use Rattle.macs_program.specs.declared.failure.DiskFault.TheVariants as disk
 use Rattle.macs_program.specs.declared.failure.Failure.{Failure}
@@ -67,12 +74,15 @@ use Rattle.macs_program.specs.declared.status.Status.{Status}
 use Rattle.macs_program.specs.declared.status.Status.TheVariants as ends
 use Rattle.macs_words.specs.declared.action.WireEnds.{WireEnds}
 use Rattle.macs_words.specs.declared.action.Action.{Action}
-use Rattle.macs_words.specs.declared.action.Action.TheVariants.{Apply, Check, Format, Key, Open, Protect, Relay, Show, Validate}
+use Rattle.macs_words.specs.declared.action.Action.TheVariants.{Apply, Check, Format, Key, Open, Protect, Relay, Show}
+use Rattle.macs_words.specs.declared.action.Action.TheVariants.{Validate}
+use Rattle.macs_words.specs.declared.pace.Running.{Running}
 
 -- ---- `open`
 
 -- To one input belongs one line, and one status. The four lines are a key, an SCI, an offset and a frame, in at most
--- 20,000 octets.
+-- 20,000 octets, and four such lines are taken. The answer is that of the frame under this key, SCI and offset: verified
+-- as this plain frame, with the AN and the PN of its SecTAG, where no fault holds, or refused for the first one.
 pub record AnswerWords : Type 0 where
   pub one : (input : List ℕ) (a b : Answer) → Answers input a → Answers input b → (answer_text a ≡ answer_text b)
       × (answer_status a ≡ answer_status b)
@@ -81,6 +91,36 @@ pub record AnswerWords : Type 0 where
       × (decode_of (line_at input 0) ≡ Ok (octets_of_key r.key)) × (decode_of (line_at input 1) ≡ Ok r.sci)
       × (length r.sci ≡ 8)
       × (line_at input 2 ≡ offset_text r.offset) × (decode_of (line_at input 3) ≡ Ok r.frame.items)
+  pub taken : (input : List ℕ) (r : Request) → length input ≤ 20000 → length (lines input) ≡ 4
+      → decode_of (line_at input 0) ≡ Ok (octets_of_key r.key)
+      → (length (octets_of_key r.key) ≡ 16) ⊎ (length (octets_of_key r.key) ≡ 32)
+      → decode_of (line_at input 1) ≡ Ok r.sci → length r.sci ≡ 8 → line_at input 2 ≡ offset_text r.offset
+      → decode_of (line_at input 3) ≡ Ok r.frame.items → Spells input r
+  pub four_lines : (input : List ℕ) → length input ≤ 20000 → length (lines input) ≡ 4 → IsFourLines input
+  pub keys : (line key : List ℕ) → decode_of line ≡ Ok key → (length key ≡ 16) ⊎ (length key ≡ 32)
+      → SpellsKey line key
+  pub scis : (line sci : List ℕ) → decode_of line ≡ Ok sci → length sci ≡ 8 → SpellsSci line sci
+  pub offsets : map offset_text (Zero ∷ Thirty ∷ Fifty ∷ []) ≡ codes "0" ∷ codes "30" ∷ codes "50" ∷ []
+  pub valid : (input : List ℕ) (an pn : ℕ) (plain : _) (a : Answers input (Valid an pn plain))
+      → NoneHolds (OpenFaultHolds a.request.frame.items (octets_of_key a.request.key) a.request.sci
+      (octets_of a.request.offset)) open_faults
+      × Verified a.request.frame.items (octets_of_key a.request.key) a.request.sci (octets_of a.request.offset)
+      plain.items
+      × (an ≡ (tag_of a.request.frame.items).an) × (pn ≡ (tag_of a.request.frame.items).pn)
+  pub refused : (input : List ℕ) (at : OpenFault) (a : Answers input (Refused at))
+      → IsFirst (OpenFaultHolds a.request.frame.items (octets_of_key a.request.key) a.request.sci
+      (octets_of a.request.offset)) open_faults at
+
+-- A text without octets has no lines. A line feed, 10, ends each line, and may be absent at the end of the text. One
+-- carriage return, 13, at the end of a line is no part of it, and nothing else is cut off. Lines are counted from 0.
+pub record TextLineWords : Type 0 where
+  pub empty : lines [] ≡ []
+  pub ended : (line rest : List ℕ) → ¬ Contains line 10 → lines (line ++ 10 ∷ rest) ≡ line ∷ lines rest
+  pub last : (line : List ℕ) → line ≢ [] → ¬ Contains line 10 → lines line ≡ line ∷ []
+  pub returned : (line : List ℕ) → trimmed_line (line ++ 13 ∷ []) ≡ line
+  pub whole : (line : List ℕ) (octet : ℕ) → octet ≢ 13 → trimmed_line (line ++ octet ∷ []) ≡ line ++ octet ∷ []
+  pub blank : trimmed_line [] ≡ []
+  pub at : (text : List ℕ) (i : ℕ) → line_at text i ≡ trimmed_line (slice_index_or (lines text) i [])
 
 -- ---- `apply`
 
@@ -141,8 +181,8 @@ pub record ApplyWords {D : Type 0} (disk_of : D → Disk) : Type 0 where
 -- ---- captures
 
 -- A run asks for its INPUT, then for its OUTPUT, and for no other; where it fails, for as much as it came to. All that
--- a sink took is handed on at the end, or a flush failed; a run that went to its end fails for that alone, and one that
--- did not with its own fault.
+-- a sink took is handed on at the end, or a flush failed, and it keeps what it took; a run that went to its end fails
+-- for that alone, and one that did not with its own fault.
 pub record CaptureWords {D : Type 0} (disk_of : D → Disk) : Type 0 where
   pub asks : (before : List Asked) (after : Option (List Asked)) (more : List Asked) → Asks (Some before) after more
       ↔ (after ≡ Some (before ++ more))
@@ -165,9 +205,10 @@ pub record CaptureWords {D : Type 0} (disk_of : D → Disk) : Type 0 where
       → PassesCapture disk_of side (run_of old source sink) (Err failure) (run_of new left after)
       → (between : SinkState) × (answer : Result Summary RunFault)
       × RunsOver disk_of side (run_of old source sink) answer (run_of new left between)
-      × (((summary : Summary) × (answer ≡ Ok summary) × (failure ≡ failures.Capture) × (after.failed ≡ true))
+      × (((summary : Summary) × (answer ≡ Ok summary) × (failure ≡ failures.Capture) × (after.failed ≡ true)
+      × Keeps between.held after.held)
       ⊎ ((fault : RunFault) × (answer ≡ Err fault) × (failure ≡ failure_of_run fault) × (IsFlushed between after
-      ⊎ (after.failed ≡ true))))
+      ⊎ ((after.failed ≡ true) × Keeps between.held after.held))))
   pub ends : (side : Side) (old new : EndpointValue D) (source left : SourceState) (sink after : SinkState)
       (failure : Failure)
       → EndsPass disk_of side (run_of old source sink) failure (run_of new left after)
@@ -237,7 +278,7 @@ is_silent Open = true
 is_silent (Format disk sci tx_block rx_block block is_over) = true
 is_silent (Show disk) = true
 is_silent (Protect disk from to is_all) = true
-is_silent (Validate disk from to is_all) = true
+is_silent (Validate disk from to is_all false) = true
 is_silent (Relay disk controlled common running) = true
 is_silent (Key is_long) = true
 is_silent (Check file) = true
@@ -259,6 +300,12 @@ pub record LineWords : Type 0 where
   pub commands : (action : Action) (before after : Option (List ℕ)) → HasPrinted action before after
       → is_apply action ≡ true
       → (outcomes : List (Option Refusal)) × Appends before after (outcome_lines 1 outcomes)
+  pub silent : (path sci from to : Bor Text) (tx_block rx_block : ℕ) (block : Option (Bor Text)) (is : Bool)
+      (controlled common : WireEnds) (running : Running)
+      → map is_silent (Open ∷ Format path sci tx_block rx_block block is ∷ Show path ∷ Protect path from to is
+      ∷ Validate path from to is false ∷ Relay path controlled common running ∷ Key is ∷ Check from
+      ∷ []) ≡ replicate 8 true
+  pub prints_lines : (path from : Bor Text) → is_apply (Apply path from) ≡ true
   pub complained : (before after : Option (List ℕ)) (failed : Bool) (text : List ℕ)
       → PrintsUnlessFailed before after failed text
       → Appends before after text ⊎ (failed ≡ true)
@@ -274,18 +321,28 @@ pub record LineWords : Type 0 where
 -- ---- values
 
 -- The identity of a `format` has the SCI of its word, of 8 octets in hex, and the blocks of its words, each in range.
--- The layout is that of the word: of 512 where none is given; and there is one. The ends of both wires of a `relay` are
--- those of its words.
+-- What is so is taken. The layout is that of the word: of 512 where none is given; and there is one. The ends of both
+-- wires of a `relay` are those of its words, which are taken where they are addresses with a port, of IPv4 or of IPv6.
 pub record ValueWords : Type 0 where
   pub identity : (sci : List ℕ) (tx_block rx_block : ℕ) (identity : Identity)
       → SpellsIdentity sci tx_block rx_block identity
       → (decode_of sci ≡ Ok identity.sci) × (length identity.sci ≡ 8) × (identity.tx_block ≡ tx_block)
       × (identity.rx_block ≡ rx_block)
       × IsBlock tx_block × IsBlock rx_block
+  pub named : (sci : List ℕ) (tx_block rx_block : ℕ) (identity : Identity) → decode_of sci ≡ Ok identity.sci
+      → length identity.sci ≡ 8 → identity.tx_block ≡ tx_block → identity.rx_block ≡ rx_block → IsBlock tx_block
+      → IsBlock rx_block → SpellsIdentity sci tx_block rx_block identity
   pub packed : (layout : Layout) → SpellsLayout None layout → layout ≡ Packed
+  pub layouts : SpellsLayout None Packed × SpellsLayout (Some (codes "512")) Packed
+      × SpellsLayout (Some (codes "4096")) Spaced
   pub block : (text : List ℕ) (layout : Layout) → SpellsLayout (Some text) layout
       → ((layout ≡ Packed) × (text ≡ codes "512")) ⊎ ((layout ≡ Spaced) × (text ≡ codes "4096"))
   pub wires : (controlled common : WireEnds) → SpellsBoth controlled common → (first : WireAddresses)
       × (second : WireAddresses)
       × IsSocketText controlled.own.now first.own × IsSocketText controlled.peer.now first.peer
       × IsSocketText common.own.now second.own × IsSocketText common.peer.now second.peer
+  pub addressed : (controlled common : WireEnds) (first second : WireAddresses)
+      → IsSocketText controlled.own.now first.own → IsSocketText controlled.peer.now first.peer
+      → IsSocketText common.own.now second.own → IsSocketText common.peer.now second.peer
+      → SpellsBoth controlled common
+  pub none : (text : List ℕ) → SpellsNone text → (address : SocketAddr) → ¬ IsSocketText text address

@@ -13,6 +13,7 @@ pub mod Summing
 pub mod CaptureFiles
 pub mod Capturing
 pub mod Endpoints
+pub mod Judging
 pub mod Relaying
 pub mod Watching
 pub mod Tasks

@@ -1,6 +1,6 @@
 -- What is to be drawn from words on relays of the program: how many turns one takes, who attends it, what it comes to
 -- and how it ends, of words that macs_edge has laws of.
-use Rattle.std.specs.Prelude.{◌≡◌, ◌⊎◌, ◌-◌, ◌^◌, ℕ, true, false, List, None, Some, Result, Ok, Err}
+use Rattle.std.specs.Prelude.{◌≡◌, ◌⊎◌, ◌-◌, ◌^◌, ℕ, ℤ, pos, true, false, List, None, Some, Result, Ok, Err}
 use Rattle.macs_disk.specs.FileDisks.{disk_in_file}
 use Rattle.macs_disk.specs.Files.{FileState}
 use Rattle.macs_disk.specs.declared.file.FileDisk.{FileDisk}
@@ -19,6 +19,7 @@ use Rattle.macs_words.specs.declared.pace.Pace.TheVariants.{Busy, Waiting}
 use Rattle.macs_program.specs.Endpoints.{IsEndpointIn}
 use Rattle.macs_program.specs.Failing.{failure_of_refill}
 use Rattle.macs_program.specs.Relaying.{ComesTo, Course, RelayEndsIn, course_of, turns_of}
+use Rattle.macs_program.specs.Watching.{asks}
 use Rattle.macs_program.specs.declared.failure.DiskFault.TheVariants as disk
 use Rattle.macs_program.specs.declared.failure.Failure.{Failure}
 use Rattle.macs_program.specs.declared.failure.Failure.TheVariants as failures
@@ -41,9 +42,9 @@ RunsAs file course old result new controlled common =
 
 -- It takes the turns that are given, and where it waits and none are, 2^64 - 1. Nobody attends it exactly where it has
 -- neither a control socket nor a file of counters. What it comes to, an endpoint that was opened on a disk in a file
--- came to, in such a relay. Where it ends otherwise, nothing was done with the endpoint, since a wire or a socket is
--- not bound, or there is no memory; or a step was answered with a fault, which has its name; or it came to its summary,
--- and that is not written.
+-- came to, in such a relay. While it waits the system is asked whether a wire can be read (POLLIN is 1). Where it ends
+-- otherwise, nothing was done with the endpoint, since a wire or a socket is not bound, or there is no memory; or a step
+-- was answered with a fault, which has its name; or it came to its summary, and that is not written.
 pub record RelayWords {F : Type 0} (file : F → FileState) : Type 0 where
   pub busy : (turns : ℕ) → turns_of (Busy turns) ≡ turns
   pub waiting : (limit : Milliseconds) (turns : ℕ) → turns_of (Waiting limit (Some turns)) ≡ turns
@@ -69,3 +70,4 @@ pub record RelayWords {F : Type 0} (file : F → FileState) : Type 0 where
   pub busy_still : failure_of_refill refill.Busy ≡ failures.Disk disk.Busy
   pub spent : failure_of_refill refill.GenerationsSpent ≡ failures.Disk (disk.Journal journal.GenerationsSpent)
   pub device : failure_of_refill refill.Disk ≡ failures.Disk (disk.Journal journal.Disk)
+  pub asked : (socket : ℤ) → asks socket ≡ record { fd = socket; events = pos 1; revents = pos 0 }

@@ -7,6 +7,7 @@ use Rattle.macs_config.specs.declared.refusal.Refusal.{Refusal}
 use Rattle.macs_disk.specs.Files.{FileState}
 use Rattle.macs_disk.specs.declared.layout.Layout.{Layout}
 use Rattle.macs_edge.specs.declared.passing.Summary.{Summary}
+use Rattle.macs_rxsc.specs.declared.verdict.Verdict.{Verdict}
 use Rattle.macs_edge.specs.declared.relaying.RelaySummary.{RelaySummary}
 use Rattle.macs_edge.specs.declared.settling.Side.TheVariants.{Common, Controlled}
 use Rattle.macs_program.specs.Addresses.{AddressFaultHolds, SpellsBoth, address_faults}
@@ -18,6 +19,7 @@ use Rattle.macs_fields.specs.First.{IsFirst}
 use Rattle.macs_program.specs.Endpoints.{AppliesIn, BreaksOffIn, OpeningFails, PassEndsIn, PassesIn, ShowsIn}
 use Rattle.macs_program.specs.Failing.{failure_of_words, failure_status, failure_text}
 use Rattle.macs_program.specs.Inspecting.{InspectFails, Inspects, PrintsFrames}
+use Rattle.macs_program.specs.Judging.{JudgesIn, JudgingEndsIn, PrintsVerdicts, verdict_lines}
 use Rattle.macs_program.specs.Keys.{GivesKey, IsOfKey}
 use Rattle.macs_words.specs.Help.{topic_text}
 use Rattle.macs_program.specs.Inputs.{InputRead, read_of}
@@ -62,9 +64,12 @@ Does state_of (Show disk) input before after status = ShowsIn state_of before af
 Does state_of (Protect disk from to is_all) input before after status =
     (summary : Summary) × PassesIn state_of Controlled summary
     × Appends before after (summary_line direction.Protect summary) × (status ≡ pass_status is_all summary)
-Does state_of (Validate disk from to is_all) input before after status =
+Does state_of (Validate disk from to is_all false) input before after status =
     (summary : Summary) × PassesIn state_of Common summary
     × Appends before after (summary_line direction.Validate summary) × (status ≡ pass_status is_all summary)
+Does state_of (Validate disk from to is_all true) input before after status =
+    (summary : Summary) × (verdicts : List Verdict) × JudgesIn state_of summary verdicts
+    × Appends before after (verdict_lines 1 verdicts ++ summary_line direction.Validate summary) × (status ≡ pass_status is_all summary)
 Does state_of (Relay disk controlled common running) input before after status =
     (summary : RelaySummary) × ComesTo state_of (course_of running) summary × SpellsBoth controlled common
     × Appends before after (relay_line summary) × (status ≡ ends.Done)
@@ -81,9 +86,10 @@ Replies state_of words input before after status =
     × (action : Action) × Names (subcommand_of macsecd words) action × Does state_of action input before after status)
 
 -- What was printed before a failure: of `apply` and of `ask PATH apply` the lines of the commands before it, of `inspect` those of the frames
--- before it, else nothing
+-- before it, of `validate --each` those of the verdicts before it, else nothing
 abbrev pub HasPrinted : Action → Option (List ℕ) → Option (List ℕ) → Type 0
 HasPrinted (Apply disk file) before after = (outcomes : List (Option Refusal)) × Appends before after (outcome_lines 1 outcomes)
+HasPrinted (Validate disk from to is_all true) before after = PrintsVerdicts before after
 HasPrinted (Ask path asked) before after = PrintsFront asked before after
 HasPrinted (Inspect from) before after = PrintsFrames before after
 HasPrinted action before after = after ≡ before
@@ -115,7 +121,8 @@ FailsAs state_of (Format disk sci tx_block rx_block block is_over) octets before
 FailsAs state_of (Apply disk file) octets before after failure = OpeningFails state_of failure ⊎ BreaksOffIn state_of before after failure
 FailsAs state_of (Show disk) octets before after failure = OpeningFails state_of failure ⊎ (failure ≡ Memory) ⊎ (failure ≡ Output)
 FailsAs state_of (Protect disk from to is_all) octets before after failure = OpeningFails state_of failure ⊎ PassEndsIn state_of Controlled failure
-FailsAs state_of (Validate disk from to is_all) octets before after failure = OpeningFails state_of failure ⊎ PassEndsIn state_of Common failure
+FailsAs state_of (Validate disk from to is_all false) octets before after failure = OpeningFails state_of failure ⊎ PassEndsIn state_of Common failure
+FailsAs state_of (Validate disk from to is_all true) octets before after failure = OpeningFails state_of failure ⊎ JudgingEndsIn state_of failure
 FailsAs state_of (Relay disk controlled common running) octets before after failure =
     ((fault : AddressFault) × (failure ≡ Address fault) × IsFirst (AddressFaultHolds controlled common) address_faults fault)
     ⊎ OpeningFails state_of failure ⊎ RelayEndsIn state_of (course_of running) failure
@@ -127,7 +134,7 @@ FailsAs state_of (Check file) octets before after failure = CheckFails failure
 -- it is one that hands frames to an endpoint
 abbrev pub is_on_frames : Action → Bool
 is_on_frames (Protect disk from to is_all) = true
-is_on_frames (Validate disk from to is_all) = true
+is_on_frames (Validate disk from to is_all is_each) = true
 is_on_frames (Relay disk controlled common running) = true
 is_on_frames action = false
 

@@ -29,6 +29,7 @@ use Rattle.macs_pcap.specs.Records.{CaptureRecord}
 use Rattle.macs_pcap.specs.States.{SinkState, SourceState}
 use Rattle.macs_pcap.specs.declared.fault.PcapFault.{PcapFault}
 use Rattle.macs_pcap.specs.declared.header.Header.{Header}
+use Rattle.macs_rxsc.specs.declared.verdict.Verdict.{Verdict}
 use Rattle.macs_texts.specs.Showing.{show_text}
 use Rattle.macs_words.specs.Help.{topic_text}
 use Rattle.macs_words.specs.Words.{AsksFor, Names, macsecd}
@@ -45,11 +46,13 @@ use Rattle.macs_program.specs.Addresses.{AddressFaultHolds, SpellsBoth, address_
 use Rattle.macs_program.specs.Answer.{Answers, answer_status, answer_text}
 use Rattle.macs_program.specs.Applying.{Applies, SaysCommands, outcome_lines, outcomes_status}
 use Rattle.macs_program.specs.Capturing.{EndsPass, PassesCapture}
-use Rattle.macs_program.specs.Checking.{IsSaidOfFile, count_line}
+use Rattle.macs_program.specs.Checking.{CountsCommands, IsSaidOfFile, count_line}
 use Rattle.macs_program.specs.Endpoints.{BreaksOffIn, IsEndpointIn, OpeningFails, PassEndsIn}
 use Rattle.macs_program.specs.Failing.{failure_of_capture, failure_of_words}
 use Rattle.macs_program.specs.Inputs.{InputRead}
-use Rattle.macs_program.specs.Inspecting.{AreLinesOf, StopsCapture}
+use Rattle.macs_program.specs.Inspecting.{AreLinesOf, InspectsCapture, RunsCapture, StopsCapture}
+use Rattle.macs_program.specs.Judging.{EndsEach, JudgesCapture, JudgingEndsIn, verdict_lines}
+use Rattle.macs_program.specs.Keys.{PrintsKey, key_octets}
 use Rattle.macs_program.specs.NewDisks.{FormatFails, Permits}
 use Rattle.macs_program.specs.Relaying.{ComesTo, RelayEndsIn, course_of}
 use Rattle.macs_program.specs.Request.{InputFaultHolds, input_faults}
@@ -73,9 +76,10 @@ use Rattle.macs_program.specs.declared.values.ValueFault.{ValueFault}
 -- action does this: `open` prints the answer to its input; `format` makes a file a disk that, when it was settled, was
 -- one that may be written over, blanks it in the layout of its words and formats it with the identity of its words;
 -- `apply` gives the commands of a file to an endpoint in a file, and prints a line for each; `show` prints its text, as
--- it was opened; `protect` and `validate` take a capture through it, each from its own side; `relay` prints what it came
--- to; `ask` prints lines of outcomes, or a text; `key` prints as many octets as it is to, in hex; `inspect` prints a line
--- for each record of a capture, up to its end; `check` prints how many commands some octets say.
+-- it was opened; `protect` and `validate` take a capture through it, each from its own side, and `validate --each` prints
+-- the line of each verdict before its own; `relay` prints what it came to; `ask` prints lines of outcomes, or a text; `key` prints as many octets as it is to, in hex; `inspect` prints a line
+-- for each record of a capture, up to its end; `check` prints how many commands some octets say. Of a capture that is
+-- given, octets that are given, and a key that is given, it is this one.
 pub record ReplyWords {F : Type 0} (file : F → FileState) : Type 0 where
   pub replied : (words : List Text) (input : InputRead) (before after : Option (List ℕ)) (status : Status)
       → Replies file words input before after status
@@ -114,12 +118,21 @@ pub record ReplyWords {F : Type 0} (file : F → FileState) : Type 0 where
       × PassesCapture (disk_in_file file) Controlled (run_of old source sink) (Ok summary) (run_of new left sunk)
       × Appends before after (summary_line direction.Protect summary) × (status ≡ pass_status is_all summary)
   pub validated : (path from to : Bor Text) (is_all : Bool) (input : InputRead) (before after : Option (List ℕ))
-      (status : Status) → Does file (Validate path from to is_all) input before after status
+      (status : Status) → Does file (Validate path from to is_all false) input before after status
       → (summary : Summary) × (old : EndpointValue (FileDisk F)) × (new : EndpointValue (FileDisk F))
       × IsEndpointIn file old × (source : SourceState) × (left : SourceState) × (sink : SinkState)
       × (sunk : SinkState)
       × PassesCapture (disk_in_file file) Common (run_of old source sink) (Ok summary) (run_of new left sunk)
       × Appends before after (summary_line direction.Validate summary) × (status ≡ pass_status is_all summary)
+  pub judged : (path from to : Bor Text) (is_all : Bool) (input : InputRead) (before after : Option (List ℕ))
+      (status : Status) → Does file (Validate path from to is_all true) input before after status
+      → (summary : Summary) × (verdicts : List Verdict) × (old : EndpointValue (FileDisk F))
+      × (new : EndpointValue (FileDisk F))
+      × IsEndpointIn file old × (source : SourceState) × (left : SourceState) × (sink : SinkState)
+      × (sunk : SinkState)
+      × JudgesCapture (disk_in_file file) (run_of old source sink) (Ok summary) verdicts (run_of new left sunk)
+      × Appends before after (verdict_lines 1 verdicts ++ summary_line direction.Validate summary)
+      × (status ≡ pass_status is_all summary)
   pub relayed : (path : Bor Text) (controlled common : WireEnds) (running : Running) (input : InputRead)
       (before after : Option (List ℕ)) (status : Status)
       → Does file (Relay path controlled common running) input before after status
@@ -154,6 +167,22 @@ pub record ReplyWords {F : Type 0} (file : F → FileState) : Type 0 where
   pub checked : (from : Bor Text) (input : InputRead) (before after : Option (List ℕ)) (status : Status)
       → Does file (Check from) input before after status → (octets : List ℕ) × (commands : List Command)
       × SaysCommands octets commands × Appends before after (count_line (length commands)) × (status ≡ ends.Done)
+  pub prints : (is_long : Bool) (octets : List ℕ) (before after : Option (List ℕ))
+      → PrintsKey is_long octets before after
+      → (length octets ≡ key_octets is_long) × Appends before after (encode_lower octets ++ 10 ∷ [])
+  pub lengths : (key_octets false ≡ 16) × (key_octets true ≡ 32)
+  pub inspects : (old new : SourceState) (before after : Option (List ℕ)) → InspectsCapture old before new after
+      → (header : Header) × (behind : SourceState) × ReadsHeader old behind (Ok header)
+      × (records : List CaptureRecord) × (until : SourceState)
+      × HoldsOfLeft behind.left until.left (λ left rest. BeginsWithRecords header.big left records rest)
+      × (text : List ℕ) × AreLinesOf 1 records text × Appends before after text
+      × (room : ℕ) × (frame : List ℕ) × ReadsRecord header.big (length records) room until new frame (Ok None)
+  pub runs : (old new : SourceState) (before after : Option (List ℕ)) (status : Status)
+      → RunsCapture old before (Ok status) new after → InspectsCapture old before new after × (status ≡ ends.Done)
+  pub stops : (old new : SourceState) (before after : Option (List ℕ)) (failure : Failure)
+      → RunsCapture old before (Err failure) new after → StopsCapture old before failure new after
+  pub counts : (octets : List ℕ) (count : ℕ) → CountsCommands octets count
+      → (commands : List Command) × SaysCommands octets commands × (count ≡ length commands)
 
 -- A run that fails has words that are refused, or cannot print help, or the words name the action that fails so. Each
 -- action fails for this: `open` for a read that failed, for the first fault of its input, for memory or its output;
@@ -190,8 +219,16 @@ pub record FailWords {F : Type 0} (file : F → FileState) : Type 0 where
       (failure : Failure) → FailsAs file (Protect path from to is_all) input before after failure
       → OpeningFails file failure ⊎ PassEndsIn file Controlled failure
   pub of_validate : (path from to : Bor Text) (is_all : Bool) (input : InputRead) (before after : Option (List ℕ))
-      (failure : Failure) → FailsAs file (Validate path from to is_all) input before after failure
+      (failure : Failure) → FailsAs file (Validate path from to is_all false) input before after failure
       → OpeningFails file failure ⊎ PassEndsIn file Common failure
+  pub of_judging : (path from to : Bor Text) (is_all : Bool) (input : InputRead) (before after : Option (List ℕ))
+      (failure : Failure) → FailsAs file (Validate path from to is_all true) input before after failure
+      → OpeningFails file failure ⊎ JudgingEndsIn file failure
+  pub judging : (failure : Failure) → JudgingEndsIn file failure
+      → (old : EndpointValue (FileDisk F)) × (new : EndpointValue (FileDisk F)) × IsEndpointIn file old
+      × ((((failure ≡ failures.Memory) ⊎ (failure ≡ failures.Capture)) × (new ≡ old))
+      ⊎ ((source : SourceState) × (left : SourceState) × (sink : SinkState) × (sunk : SinkState)
+      × EndsEach (disk_in_file file) (run_of old source sink) failure (run_of new left sunk)))
   pub passing : (side : Side) (failure : Failure) → PassEndsIn file side failure
       → (old : EndpointValue (FileDisk F)) × (new : EndpointValue (FileDisk F)) × IsEndpointIn file old
       × ((((failure ≡ failures.Memory) ⊎ (failure ≡ failures.Capture)) × (new ≡ old))
@@ -233,8 +270,8 @@ pub record FailWords {F : Type 0} (file : F → FileState) : Type 0 where
       × IsSaidOfFile octets (string_bytes said))
 
 -- Before a failure nothing was printed, or what the action that the words name had printed: `ask PATH apply` lines of
--- outcomes, from the first one on, and another `ask` nothing; `inspect` the lines of some records. Wrong values are those
--- of a `format` or of a `relay` that the words name, and a fault of them holds.
+-- outcomes, from the first one on, and another `ask` nothing; `inspect` the lines of some records; `validate --each` those
+-- of some verdicts. Wrong values are those of a `format` or of a `relay` that the words name, and a fault of them holds.
 pub record BeforeWords : Type 0 where
   pub before : (words : List Text) (before after : Option (List ℕ)) → PrintedBefore words before after
       → (after ≡ before)
@@ -247,6 +284,9 @@ pub record BeforeWords : Type 0 where
       ⊎ HasPrinted (Ask path question.Stop) before after → after ≡ before
   pub inspected : (from : Bor Text) (before after : Option (List ℕ)) → HasPrinted (Inspect from) before after
       → (records : List CaptureRecord) × (text : List ℕ) × AreLinesOf 1 records text × Appends before after text
+  pub judged : (path from to : Bor Text) (is_all : Bool) (before after : Option (List ℕ))
+      → HasPrinted (Validate path from to is_all true) before after
+      → (verdicts : List Verdict) × Appends before after (verdict_lines 1 verdicts)
   pub wrong_words : (words : List Text) → HasWrongValues words
       → (action : Action) × Names (subcommand_of macsecd words) action × WrongValues action
   pub wrong : (action : Action) → WrongValues action

@@ -48,6 +48,7 @@ pub record ShowTexts : Type 0 where
       → tx_text s an ≡ (codes "tx " ++ (decimal an ++ (codes " " ++ (protection_words sa.protection
       ++ (codes " next " ++ decimal next))))) ++ 10 ∷ []
   pub no_tx : (s : State) (an : ℕ) → s.config.tx an ≡ None → tx_text s an ≡ []
+  pub unnumbered_tx : (s : State) (an : ℕ) → s.next an ≡ None → tx_text s an ≡ []
   pub channel : (s : State) (sci : List ℕ) → channel_text s sci
       ≡ ((codes "channel " ++ encode_lower sci) ++ 10 ∷ []) ++ concat (map (rx_text s sci) (0 ∷ 1 ∷ 2 ∷ 3 ∷ []))
   pub rx : (s : State) (sci : List ℕ) (an : ℕ) (sa : RxSa) (numbers : Numbers) → s.config.rx sci an ≡ Some sa
@@ -55,5 +56,6 @@ pub record ShowTexts : Type 0 where
       ++ (decimal an ++ (codes " offset " ++ (decimal (octets_of sa.offset) ++ (codes " next " ++ (decimal numbers.next
       ++ (codes " lowest " ++ decimal numbers.lowest))))))))) ++ 10 ∷ []
   pub no_rx : (s : State) (sci : List ℕ) (an : ℕ) → s.config.rx sci an ≡ None → rx_text s sci an ≡ []
+  pub unnumbered_rx : (s : State) (sci : List ℕ) (an : ℕ) → s.numbers sci an ≡ None → rx_text s sci an ≡ []
   pub spent : (config : Config) → spent_line config ≡ (codes "spent tx " ++ (decimal (length config.spent_tx)
       ++ (codes " rx " ++ decimal (length config.spent_rx)))) ++ 10 ∷ []

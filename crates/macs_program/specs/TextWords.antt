@@ -1,6 +1,6 @@
 -- What is to be drawn from words on texts, in the order in which an operator meets them: the lines of answers and
 -- outcomes, the names of failures and their statuses, and what `inspect` and `check` say.
-use Rattle.std.specs.Prelude.{◌≡◌, ◌⊎◌, ◌<◌, ◌≤◌, ◌+◌, ◌++◌, ◌∷◌, [], true, false, ℕ, List, length, map, codes, replicate, string_bytes}
+use Rattle.std.specs.Prelude.{◌≡◌, ◌≢◌, ◌⊎◌, ◌<◌, ◌≤◌, ◌+◌, ◌++◌, ◌∷◌, [], true, false, ℕ, List, length, map, codes, replicate, string_bytes}
 use Rattle.std.specs.Prelude.{Option, Some, None, Err}
 use Rattle.std.specs.Fmt.{decimal}
 use Rattle.std.specs.Int.{w32, to_be_bytes}
@@ -18,6 +18,7 @@ use Rattle.macs_config.specs.declared.refusal.Refusal.{Refusal}
 use Rattle.macs_config.specs.declared.refusal.Refusal.TheVariants as refusal
 use Rattle.macs_control.specs.declared.asking.AskFault.TheVariants as asking
 use Rattle.macs_control.specs.declared.control_socket.ControlFault.TheVariants as control
+use Rattle.macs_endpoint.specs.declared.fault.RefillFault.TheVariants as refill
 use Rattle.macs_disk.specs.declared.file_fault.FileFault.TheVariants as file
 use Rattle.macs_disk.specs.declared.layout.Layout.{Layout}
 use Rattle.macs_edge.specs.declared.passing.RunFault.TheVariants as run
@@ -39,7 +40,10 @@ use Rattle.macs_journal.specs.declared.fault.JournalFault.{JournalFault}
 use Rattle.macs_journal.specs.declared.fault.JournalFault.TheVariants as journal
 use Rattle.macs_pcap.specs.Records.{CaptureRecord}
 use Rattle.macs_pcap.specs.declared.fault.PcapFault.TheVariants as pcap
+use Rattle.macs_rxsc.specs.declared.verdict.Verdict.{Verdict}
+use Rattle.macs_texts.specs.Counting.{verdict_words}
 use Rattle.macs_texts.specs.Refusals.{refusal_name}
+use Rattle.macs_words.specs.declared.action.UsageFault.TheVariants as usage
 use Rattle.macs_words.specs.declared.action.WireEnds.{WireEnds}
 use Rattle.macs_program.specs.Addresses.{AddressFaultHolds, SpellsNone, address_faults}
 use Rattle.macs_program.specs.Answer.{answer_status, answer_text, refusal_text, valid_text}
@@ -47,10 +51,11 @@ use Rattle.macs_program.specs.Applying.{longest_file, outcome_lines}
 use Rattle.macs_program.specs.Asking.{failure_in}
 use Rattle.macs_program.specs.Checking.{IsSaidOfFile, count_line, fault_text, key_reason, key_word}
 use Rattle.macs_program.specs.Failing.{address_fault_text, disk_fault_text, failure_of_asking, failure_of_bind}
-use Rattle.macs_program.specs.Failing.{failure_of_capture, failure_of_control, failure_of_file, failure_of_journal}
-use Rattle.macs_program.specs.Failing.{failure_of_run, failure_status, failure_text, input_fault_text, value_fault_text}
+use Rattle.macs_program.specs.Failing.{failure_of_capture, failure_of_commands, failure_of_control, failure_of_file}
+use Rattle.macs_program.specs.Failing.{failure_of_journal, failure_of_run, failure_of_words, failure_status, failure_text, input_fault_text, value_fault_text}
 use Rattle.macs_program.specs.Inspecting.{AreLinesOf, IsLineOf, IsSaidOf, bit_text, bits_text, name_text}
 use Rattle.macs_program.specs.Inspecting.{numbers_text, tag_text}
+use Rattle.macs_program.specs.Judging.{verdict_lines}
 use Rattle.macs_program.specs.Request.{InputFaultHolds, IsFourLines, SpellsKey, SpellsOctets, SpellsOffset, SpellsSci}
 use Rattle.macs_program.specs.Request.{input_faults}
 use Rattle.macs_program.specs.Lines.{line_at}
@@ -104,6 +109,9 @@ pub record LineTexts : Type 0 where
       ≡ (codes "protected " ++ (decimal s.passed ++ (codes " dropped " ++ decimal s.dropped))) ++ 10 ∷ []
   pub validated : (s : Summary) → summary_line direction.Validate s
       ≡ (codes "delivered " ++ (decimal s.passed ++ (codes " discarded " ++ decimal s.dropped))) ++ 10 ∷ []
+  pub judged : (at : ℕ) (verdict : Verdict) (more : List Verdict) → (verdict_lines at [] ≡ [])
+      × (verdict_lines at (verdict ∷ more)
+      ≡ ((decimal at ++ (codes " " ++ verdict_words verdict)) ++ 10 ∷ []) ++ verdict_lines (at + 1) more)
   pub relayed : (s : RelaySummary) → relay_line s ≡ (codes "sent " ++ (decimal s.sent
       ++ (codes " delivered " ++ (decimal s.delivered ++ (codes " dropped " ++ (decimal s.dropped
       ++ (codes " faults " ++ decimal s.faults))))))) ++ 10 ∷ []
@@ -114,8 +122,9 @@ pub record LineTexts : Type 0 where
 -- ---- failures
 
 -- Each failure has its own text, and its status: 2 for words, values and addresses, 4 for the disk, 5 for all others.
--- What fails below is the failure that has its name: a fault of a file, of the journal, of a capture or a run, of a wire,
--- a control socket or an asking; and what a relay answers with 4 that it ended, with 5 that it had no memory.
+-- What fails below is the failure that has its name: wrong usage, a fault of a file, of the journal, of a capture or a
+-- run, of its disk, of a command file, of a wire, a control socket or an asking; and what a relay answers with 4 that it
+-- ended, with 5 that it had no memory, with any other number that it gave no answer.
 pub record FailureTexts : Type 0 where
   pub values : map value_fault_text (value.Sci ∷ value.TxBlock ∷ value.RxBlock ∷ value.DeviceBlock ∷ [])
       ≡ codes "SCI is not 16 hex digits" ∷ codes "TX is not 1 to 65536" ∷ codes "RX is not 1 to 65536"
@@ -159,11 +168,21 @@ pub record FailureTexts : Type 0 where
       ∷ run.Pcap pcap.BadVersion ∷ run.Pcap pcap.NotEthernet ∷ run.Pcap pcap.CutFile ∷ run.Pcap pcap.CutRecord
       ∷ run.Pcap pcap.RecordTooLong ∷ run.Pcap pcap.Write ∷ run.Pcap pcap.TooManyRecords ∷ [])
       ≡ failures.Memory ∷ replicate 9 failures.Capture
+  pub run_devices : map failure_of_run (run.Device refill.Stopped ∷ run.Device refill.Busy
+      ∷ run.Device refill.GenerationsSpent ∷ run.Device refill.Disk ∷ [])
+      ≡ failures.Disk (disk.Journal journal.Stopped) ∷ failures.Disk disk.Busy
+      ∷ failures.Disk (disk.Journal journal.GenerationsSpent) ∷ failures.Disk (disk.Journal journal.Disk) ∷ []
+  pub of_words : (cause : _) → (failure_of_words (usage.Usage cause) ≡ failures.Usage cause)
+      × (failure_of_words usage.Memory ≡ failures.Memory)
+  pub of_commands : (at : ℕ) (name : KeyName) → map failure_of_commands (config.Shape ∷ config.Word at
+      ∷ config.Key at name ∷ config.Extra at ∷ config.Memory ∷ [])
+      ≡ failures.Commands ∷ failures.Commands ∷ failures.Commands ∷ failures.Commands ∷ failures.Memory ∷ []
   pub wires : (failure_of_bind bind.Memory ≡ failures.Memory) × (failure_of_bind bind.Bind ≡ failures.Wire)
       × (failure_of_control control.Memory ≡ failures.Memory) × (failure_of_control control.Bind ≡ failures.Control)
       × (failure_of_asking asking.Memory ≡ failures.Memory) × (failure_of_asking asking.Gone ≡ failures.Control)
   pub answers : (failure_in 4 ≡ failures.Disk (disk.Journal journal.Stopped)) × (failure_in 5 ≡ failures.Memory)
       × (failure_in 2 ≡ failures.Control) × (failure_in 3 ≡ failures.Control)
+  pub no_answers : (status : ℕ) → status ≢ 4 → status ≢ 5 → failure_in status ≡ failures.Control
 
 -- ---- orders of faults
 
@@ -243,6 +262,7 @@ pub record CheckTexts : Type 0 where
       ≡ codes "command " ++ (decimal at ++ (codes " " ++ (key_word name ++ (codes ": " ++ key_reason name))))
   pub extra : (at : ℕ) → fault_text (config.Extra at)
       ≡ codes "command " ++ (decimal at ++ codes ": a key that it does not have")
+  pub memory : fault_text config.Memory ≡ codes "memory"
   pub keys : map key_word (key.Mode ∷ key.On ∷ key.Window ∷ key.An ∷ key.Key ∷ key.Start ∷ key.Confidential
       ∷ key.Offset ∷ key.Sci ∷ [])
       ≡ codes "mode" ∷ codes "on" ∷ codes "window" ∷ codes "an" ∷ codes "key" ∷ codes "start"

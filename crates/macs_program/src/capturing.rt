@@ -5,7 +5,7 @@ ghost use Rattle.std.specs.Io.KnownBytes.{Appends};
 ghost use Rattle.macs_edge.specs.Passing.{RunsOver, run_of};
 ghost use Rattle.macs_edge.specs.declared.passing.RunFault.{RunFault};
 ghost use Rattle.macs_edge.specs.declared.passing.Summary.{Summary};
-ghost use Rattle.macs_program.specs.Capturing.{EndsPass, PassesCapture, side_of};
+ghost use Rattle.macs_program.specs.Capturing.{EndsFlushed, EndsPass, PassesCapture, side_of};
 ghost use Rattle.macs_program.specs.Failing.{failure_of_run, failure_status};
 ghost use Rattle.macs_program.specs.Summing.{pass_status, summary_line};
 
@@ -29,7 +29,7 @@ pub enum Direction {
 }
 
 /// The line that a run ends with.
-fn summary_line(direction: Direction, summary: Summary) -> Line
+pub(crate) fn summary_line(direction: Direction, summary: Summary) -> Line
     ensures { result.items ≡ summary_line direction summary }
 {
     let mut line = Line::new();
@@ -48,7 +48,7 @@ fn summary_line(direction: Direction, summary: Summary) -> Line
 }
 
 /// How a run over a capture ends: refused where all frames were to pass and one did not.
-fn pass_status(is_all: bool, summary: Summary) -> Status
+pub(crate) fn pass_status(is_all: bool, summary: Summary) -> Status
     ensures { result ≡ pass_status is_all summary }
 {
     if is_all && summary.dropped > 0 {
@@ -76,6 +76,23 @@ fn run_side<D: SectorDisk, R: Source, W: Sink>(
     }
 }
 
+/// Hands on all that was written in a run with this answer, where a fault ended it too.
+pub(crate) fn handed_on<W: Sink>(
+    answer: Result<Summary, RunFault>,
+    sink: &mut W,
+) -> Result<Summary, Failure>
+    ensures ended { EndsFlushed answer result (W.state sink.old) (W.state sink.new) }
+    ensures failed { IfErr result (λ failure. ((fault : RunFault) × (failure ≡ failure_of_run fault))
+        ⊎ (failure ≡ Failure.Capture)) }
+{
+    let flushed = sink.flush();
+    let summary = answer?;
+    match flushed {
+        Ok(()) => Ok(summary),
+        Err(_) => Err(Failure::Capture),
+    }
+}
+
 /// Takes a whole capture through an endpoint, and hands on all that was written, where a fault ended
 /// the run too.
 fn run_capture<D: SectorDisk, R: Source, W: Sink>(
@@ -92,12 +109,7 @@ fn run_capture<D: SectorDisk, R: Source, W: Sink>(
         ⊎ (failure ≡ Failure.Capture)) }
 {
     let answer = run_side(alloc, endpoint, direction, source, sink);
-    let flushed = sink.flush();
-    let summary = answer?;
-    match flushed {
-        Ok(()) => Ok(summary),
-        Err(_) => Err(Failure::Capture),
-    }
+    handed_on(answer, sink)
 }
 
 /// Takes a whole capture through an endpoint, hands on all that was written, and prints what became of its

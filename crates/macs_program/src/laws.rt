@@ -8,7 +8,8 @@ ghost use Rattle.macs_disk.specs.FileDisks.{file_given};
 ghost use Rattle.macs_program.specs.CaptureOctets.{CaptureOctets};
 ghost use Rattle.macs_program.specs.ContentWords.{BlankWords, InUseWords};
 ghost use Rattle.macs_program.specs.Contents.{ContentsAre, HasOpenGate, IsBlankFile};
-ghost use Rattle.macs_program.specs.Drawn.{AnswerWords, ApplyWords, CaptureWords, FileWords, LineWords, ValueWords};
+ghost use Rattle.macs_program.specs.Drawn.{AnswerWords, ApplyWords, CaptureWords, FileWords, LineWords, TextLineWords};
+ghost use Rattle.macs_program.specs.Drawn.{ValueWords};
 ghost use Rattle.macs_program.specs.Inputs.{read_of};
 ghost use Rattle.macs_program.specs.NewDisks.{Formats, Permits};
 ghost use Rattle.macs_program.specs.RelayDrawn.{RelayWords};
@@ -58,6 +59,8 @@ pub fn contents()
 pub fn words<D: SectorDisk, F: DiskFile>()
     // What `open` answers.
     ensures answers { AnswerWords }
+    // Which lines an input has.
+    ensures text_lines { TextLineWords }
     // What `apply` does, line by line.
     ensures applies { ApplyWords D.disk }
     // What a run over captures asks for, and how it ends.

@@ -16,6 +16,7 @@ mod files;
 mod hex_text;
 mod input;
 mod inspect;
+mod judging;
 mod key;
 pub mod laws;
 mod lines;

@@ -5,7 +5,7 @@
 //! it to the task. So the stack holds it once while the disk is read. None of these is inlined, nor what a task does: else
 //! the compiler has a second place for it there.
 
-ghost use Rattle.std.specs.Prelude.{◌≡◌, ◌≢◌, ◌⊎◌, ◌↔◌, List, Option, [], ◌∷◌, codes, option_map, Err, false, true, IfErr, IfOk, OnErr, OnOk};
+ghost use Rattle.std.specs.Prelude.{◌≡◌, ◌≢◌, ◌⊎◌, ◌↔◌, ◌++◌, List, Option, [], ◌∷◌, codes, option_map, Err, false, true, IfErr, IfOk, OnErr, OnOk};
 ghost use Rattle.std.specs.Io.KnownBytes.{Appends};
 ghost use Rattle.macs_config.specs.Identity.{Identity};
 ghost use Rattle.macs_disk.specs.declared.layout.Layout.{Layout};
@@ -21,13 +21,16 @@ ghost use Rattle.macs_program.specs.Capturing.{side_of};
 ghost use Rattle.macs_program.specs.Endpoints.{AppliesIn, BreaksOffIn, IsDiskIn, IsOpeningIn, OpeningFails};
 ghost use Rattle.macs_program.specs.Endpoints.{PassEndsIn, PassesIn, ShowsIn};
 ghost use Rattle.macs_program.specs.Failing.{failure_status};
+ghost use Rattle.macs_program.specs.Judging.{DoesJudge, JudgesIn, JudgingEndsIn, PrintsVerdicts, verdict_lines};
 ghost use Rattle.macs_program.specs.NewDisks.{FormatFails, Formats, MakesDisk};
 ghost use Rattle.macs_program.specs.Relaying.{ComesTo, IsOfRelay, RelayEndsIn, course_of, is_attended, left_out, new_wire, turns_of};
 ghost use Rattle.macs_program.specs.Summing.{pass_status, relay_line, summary_line};
 ghost use Rattle.macs_program.specs.Tasks.{DoesApply, DoesPass, DoesRelay, DoesShow, Doing, IsRunIn};
 ghost use Rattle.macs_program.specs.Values.{SpellsIdentity, SpellsLayout, ValueFaultHolds, value_faults};
 ghost use Rattle.macs_program.specs.declared.addresses.AddressFault.{AddressFault};
+ghost use Rattle.macs_program.specs.declared.capturing.Direction.TheVariants as ways;
 ghost use Rattle.macs_program.specs.declared.values.ValueFault.{ValueFault};
+ghost use Rattle.macs_rxsc.specs.declared.verdict.Verdict.{Verdict};
 ghost use Rattle.macs_texts.specs.Lines.{line};
 
 use crate::addresses::{Addresses, WireAddresses, addresses_of};
@@ -38,6 +41,7 @@ use crate::captures::{Captures, SystemCaptures};
 use crate::capturing::{Direction, pass_frames};
 use crate::failure::Failure;
 use crate::files::{commands_of_file, open_disk};
+use crate::judging::judge_frames;
 use crate::new_disk::{NewFile, format_disk};
 use crate::output::print;
 use crate::relaying::{bind, relay_frames, relay_frames_attended, relay_frames_resting};
@@ -356,6 +360,86 @@ where
         rt,
         alloc,
         direction,
+        is_all,
+        from,
+        to,
+    };
+    with_file(rt, disk, &task, out)
+}
+
+/// Validates a capture by an endpoint into another one, with a line for each verdict.
+fn judge_between<C: Captures, D: SectorDisk, W: Stream>(
+    captures: &mut C,
+    alloc: Global,
+    endpoint: &mut Endpoint<D>,
+    is_all: bool,
+    from: &str,
+    to: &str,
+    out: &mut W,
+) -> Result<Status, Failure>
+    ensures asks { AsksInOrder from.now to.now (C.asked captures.old) (C.asked captures.new) result }
+    ensures judges { DoesJudge D.disk W.contents W.failed is_all endpoint.old out.old result endpoint.new out.new }
+{
+    let (mut input, mut output) = open_both(captures, from, to)?;
+    judge_frames(alloc, endpoint, is_all, &mut input, &mut output, out)
+}
+
+/// Validates a capture in a file by an endpoint into another file, with a line for each verdict.
+#[derive(Drop)]
+struct JudgeFile<'a, T> {
+    rt: &'a T,
+    alloc: Global,
+    is_all: bool,
+    from: &'a str,
+    to: &'a str,
+}
+
+impl<T: Files, D: SectorDisk, W: Stream> Task<D, W> for JudgeFile<'_, T>
+where
+    T::File: CaptureFile,
+{
+    ghost does = { λ task. DoesJudge D.disk W.contents W.failed task.is_all };
+
+    #[inline(never)]
+    fn run(&self, endpoint: &mut Endpoint<D>, out: &mut W) -> Result<Status, Failure> {
+        let is_all = self.is_all;
+        let mut files = SystemCaptures {
+            rt: self.rt,
+            alloc: self.alloc,
+        };
+        judge_between(
+            &mut files, self.alloc, endpoint, is_all, self.from, self.to, out,
+        )
+    }
+}
+
+/// `validate --each`: validates a capture, with a line for each verdict.
+#[inline(never)]
+pub fn judge<'a, T: Files, W: Stream>(
+    rt: &'a T,
+    alloc: Global,
+    is_all: bool,
+    disk: &str,
+    from: &'a str,
+    to: &'a str,
+    out: &mut W,
+) -> Result<Status, Failure>
+where
+    T::File: CaptureFile,
+    ensures printed { IfOk result (λ status. (summary : Summary) × (verdicts : List Verdict)
+        × JudgesIn T.File.file summary verdicts
+        × Appends (W.contents out.old) (W.contents out.new)
+        (verdict_lines 1 verdicts ++ summary_line ways.Validate summary)
+        × (status ≡ pass_status is_all summary)) }
+    ensures ended { IfErr result (λ failure. OpeningFails T.File.file failure ⊎ JudgingEndsIn T.File.file failure) }
+    ensures failed { IfErr result (λ failure. failure_status failure ≢ Status.Usage) }
+    ensures front { IfErr result (λ failure. failure ≢ Failure.Output
+        → PrintsVerdicts (W.contents out.old) (W.contents out.new)) }
+    ensures broken { IfErr result (λ failure. failure ≡ Failure.Output → W.failed out.new ≡ true) }
+{
+    let task = JudgeFile {
+        rt,
+        alloc,
         is_all,
         from,
         to,

@@ -27,6 +27,15 @@ pub fn append_count(line: &mut Line, name: &str, count: u64)
         .unwrap();
 }
 
+/// Appends a text.
+pub fn append_text(line: &mut Line, text: &str)
+    requires { length line.old.items + length text.now ≤ MAX_LINE }
+    ensures appended { line.new.items ≡ line.old.items ++ text.now }
+    ensures fits { length line.new.items ≤ length line.old.items + length text.now }
+{
+    line.try_extend_from_slice(text.as_bytes()).unwrap();
+}
+
 /// Prints octets on standard output, whole, and hands them on. It fails as `Output`, and exactly where the
 /// stream does.
 pub fn print_octets<W: Stream>(out: &mut W, octets: &[u8]) -> Result<(), Failure>

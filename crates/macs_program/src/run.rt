@@ -22,7 +22,7 @@ use crate::failure::Failure;
 use crate::input::{Input, InputText};
 use crate::inspect::inspect;
 use crate::key::key;
-use crate::on_disk::{apply, format, pass, relay, show};
+use crate::on_disk::{apply, format, judge, pass, relay, show};
 use crate::output::print;
 use crate::request::InputFault;
 use crate::status::Status;
@@ -136,7 +136,14 @@ where
             input: from,
             output: to,
             is_all,
-        } => pass(rt, alloc, Direction::Validate, is_all, disk, from, to, out),
+            is_each,
+        } => {
+            if is_each {
+                judge(rt, alloc, is_all, disk, from, to, out)
+            } else {
+                pass(rt, alloc, Direction::Validate, is_all, disk, from, to, out)
+            }
+        }
         Action::Relay {
             disk,
             controlled,

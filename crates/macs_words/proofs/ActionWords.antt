@@ -35,7 +35,7 @@ action-words = record {
   apply = λ name values disk file is. is;
   show = λ name values disk is. is;
   protect = λ name values disk input output is_all is. is;
-  validate = λ name values disk input output is_all is. is;
+  validate = λ name values disk input output is_all is_each is. is;
   relay = λ name values disk controlled common running is.
       (is.0, is.1, is.2, is.3, is.4, is.5, is.6, is.7, sym is.8, sym is.9);
   buffer = λ values octets is. (is.0, is.1.0, is.1.1);
@@ -62,4 +62,5 @@ help-words = record {
   help_on = λ name word which. (λ is. is, λ is. is);
   version = λ word. (λ is. is, λ is. is);
   names = refl;
+  topics = refl;
 }

@@ -5,3 +5,4 @@ pub mod Questions
 pub mod Subcommands
 pub mod Taken
 mod ActionWords
+mod TakenWords

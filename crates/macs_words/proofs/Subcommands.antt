@@ -81,7 +81,7 @@ blocks rows (Format disk sci tx_block rx_block block is_over) named fits = (tx_b
 blocks rows (Apply disk file) named fits = absurd (omega (arith, ap (λ (t : Text). slice_index t 0) named.0))
 blocks rows (Show disk) named fits = absurd (omega (arith, ap (λ (t : Text). slice_index t 0) named.0))
 blocks rows (Protect disk input output is_all) named fits = absurd (omega (arith, ap (λ (t : Text). slice_index t 0) named.0))
-blocks rows (Validate disk input output is_all) named fits = absurd (omega (arith, ap (λ (t : Text). slice_index t 0) named.0))
+blocks rows (Validate disk input output is_all is_each) named fits = absurd (omega (arith, ap (λ (t : Text). slice_index t 0) named.0))
 blocks rows (Relay disk controlled common running) named fits = absurd (omega (arith, ap (λ (t : Text). slice_index t 0) named.0))
 blocks rows (Ask path asked) named fits = absurd (omega (arith, ap (λ (t : Text). slice_index t 0) named.0))
 blocks rows (Key is_long) named fits = absurd (omega (arith, ap (λ (t : Text). slice_index t 0) named.0))
@@ -98,7 +98,7 @@ pace_of rows (Format disk sci tx_block rx_block block is_over) named fits = absu
 pace_of rows (Apply disk file) named fits = absurd (omega (arith, ap (λ (t : Text). slice_index t 0) named.0))
 pace_of rows (Show disk) named fits = absurd (omega (arith, ap (λ (t : Text). slice_index t 0) named.0))
 pace_of rows (Protect disk input output is_all) named fits = absurd (omega (arith, ap (λ (t : Text). slice_index t 0) named.0))
-pace_of rows (Validate disk input output is_all) named fits = absurd (omega (arith, ap (λ (t : Text). slice_index t 0) named.0))
+pace_of rows (Validate disk input output is_all is_each) named fits = absurd (omega (arith, ap (λ (t : Text). slice_index t 0) named.0))
 pace_of rows (Relay disk controlled common running) named fits = (running.pace, running.buffer, named.6, fits, named.7)
 pace_of rows (Ask path asked) named fits = absurd (omega (arith, ap (λ (t : Text). slice_index t 0) named.0))
 pace_of rows (Key is_long) named fits = absurd (omega (arith, ap (λ (t : Text). slice_index t 0) named.0))
@@ -114,7 +114,7 @@ question_of rows (Format disk sci tx_block rx_block block is_over) named = absur
 question_of rows (Apply disk file) named = absurd (omega (arith, ap (λ (t : Text). slice_index t 1) named.0))
 question_of rows (Show disk) named = absurd (omega (arith, ap (λ (t : Text). slice_index t 0) named.0))
 question_of rows (Protect disk input output is_all) named = absurd (omega (arith, ap (λ (t : Text). slice_index t 0) named.0))
-question_of rows (Validate disk input output is_all) named = absurd (omega (arith, ap (λ (t : Text). slice_index t 0) named.0))
+question_of rows (Validate disk input output is_all is_each) named = absurd (omega (arith, ap (λ (t : Text). slice_index t 0) named.0))
 question_of rows (Relay disk controlled common running) named = absurd (omega (arith, ap (λ (t : Text). slice_index t 0) named.0))
 question_of rows (Ask path asked) named = (asked, named.2)
 question_of rows (Key is_long) named = absurd (omega (arith, ap (λ (t : Text). slice_index t 0) named.0))
@@ -277,14 +277,18 @@ validate-named : IsNamed (shape_at 5)
 unfolding clap_on_literals
 validate-named words passes =
     let rules : AreValueRules (shape_at 5).rules = record {
-      each = (value-is 1 (codes "DISK"), (value-is 2 (codes "INPUT"), (value-is 3 (codes "OUTPUT"), (flag-is (codes "all"), tt))));
-      own = (refl, (refl, (refl, (refl, tt))));
+      each = (value-is 1 (codes "DISK"), (value-is 2 (codes "INPUT"), (value-is 3 (codes "OUTPUT"), (flag-is (codes "all"), (flag-is (codes "each"), tt)))));
+      own = (refl, (refl, (refl, (refl, (refl, tt)))));
     } in
     let disk = given (shape_at 5) words (with_index 1 (filled (value_rule (codes "DISK")))) rules refl passes refl refl in
     let input = given (shape_at 5) words (with_index 2 (filled (value_rule (codes "INPUT")))) rules refl passes refl refl in
     let output = given (shape_at 5) words (with_index 3 (filled (value_rule (codes "OUTPUT")))) rules refl passes refl refl in
     let rows = rows_after (shape_at 5).rules [] words in
-    inr (Validate (text_of disk.0) (text_of input.0) (text_of output.0) (is_flagged rows (codes "all")), (refl, disk.1, input.1, output.1, flagged rows (codes "all")), tt)
+    inr (
+      Validate (text_of disk.0) (text_of input.0) (text_of output.0) (is_flagged rows (codes "all")) (is_flagged rows (codes "each")),
+      (refl, disk.1, input.1, output.1, flagged rows (codes "all"), flagged rows (codes "each")),
+      tt,
+    )
 
 -- where they are given, turns and a wait are numbers: so they are a pace, or neither is given
 paced : (rows : List Row) → ((text : Text) → first_of (codes "turns") rows ≡ Some text → IsUnsignedIn 0 (2 ^ 64 - 1) text)

@@ -4,6 +4,7 @@ use Rattle.std.specs.Str.Parse.{IsNumeral, digits_value, without_leading_plus}
 use Rattle.std.specs.Borrow.{Bor}
 use Rattle.clap.specs.Words.{Row, Text, first_of, subcommand_of, takes}
 use Rattle.macs_words.specs.Words.{AreRefused, AsksFor, HasNumber, HasPace, HasQuestion, MayHaveRoom, Names, macsecd, name_of}
+use Rattle.macs_words.specs.Help.{topic_text}
 use Rattle.macs_words.specs.declared.action.Action.{Action}
 use Rattle.macs_words.specs.declared.action.Action.TheVariants.{Open, Format, Apply, Show, Protect, Validate, Relay, Ask}
 use Rattle.macs_words.specs.declared.action.Action.TheVariants.{Key, Inspect, Check}
@@ -13,6 +14,8 @@ use Rattle.macs_words.specs.declared.action.WireEnds.{WireEnds}
 use Rattle.macs_words.specs.declared.help.Subcommand.{Subcommand}
 use Rattle.macs_words.specs.declared.help.Subcommand.TheVariants as subcommand
 use Rattle.macs_words.specs.declared.help.Topic.TheVariants.{Help, HelpOn, Version}
+use Rattle.macs_words.specs.declared.help_texts.TheConstants.{APPLY, ASK, CHECK, FORMAT, HELP, INSPECT, KEY, OPEN, PROTECT}
+use Rattle.macs_words.specs.declared.help_texts.TheConstants.{RELAY, SHOW, VALIDATE, VERSION}
 use Rattle.macs_words.specs.declared.pace.Milliseconds.{Milliseconds}
 use Rattle.macs_words.specs.declared.pace.Pace.{Pace}
 use Rattle.macs_words.specs.declared.pace.Pace.TheVariants.{Busy, Waiting}
@@ -44,11 +47,12 @@ pub record ActionWords : Type 0 where
       → (name ≡ codes "protect") × (first_of (codes "DISK") values ≡ Some disk.now)
       × (first_of (codes "INPUT") values ≡ Some input.now) × (first_of (codes "OUTPUT") values ≡ Some output.now)
       × ((is_all ≡ true) ↔ (first_of (codes "all") values ≡ Some (codes "true")))
-  pub validate : (name : Text) (values : List Row) (disk input output : Bor Text) (is_all : Bool)
-      → Names (Some (name, values)) (Validate disk input output is_all)
+  pub validate : (name : Text) (values : List Row) (disk input output : Bor Text) (is_all is_each : Bool)
+      → Names (Some (name, values)) (Validate disk input output is_all is_each)
       → (name ≡ codes "validate") × (first_of (codes "DISK") values ≡ Some disk.now)
       × (first_of (codes "INPUT") values ≡ Some input.now) × (first_of (codes "OUTPUT") values ≡ Some output.now)
       × ((is_all ≡ true) ↔ (first_of (codes "all") values ≡ Some (codes "true")))
+      × ((is_each ≡ true) ↔ (first_of (codes "each") values ≡ Some (codes "true")))
   pub relay : (name : Text) (values : List Row) (disk : Bor Text) (controlled common : WireEnds) (running : Running)
       → Names (Some (name, values)) (Relay disk controlled common running)
       → (name ≡ codes "relay") × (first_of (codes "DISK") values ≡ Some disk.now)
@@ -98,7 +102,7 @@ pub record ActionWords : Type 0 where
       × ((asked : Question) → ¬ HasQuestion values asked))
 
 -- `--help` and `-h` ask for help, alone, and after the name of a subcommand for help on it; `--version` alone asks which
--- program it is.
+-- program it is. Each is answered with its own text.
 pub record HelpWords : Type 0 where
   pub help : (word : Text) → AsksFor (word ∷ []) Help ↔ ((word ≡ codes "--help") ⊎ (word ≡ codes "-h"))
   pub help_on : (name word : Text) (which : Subcommand) → AsksFor (name ∷ word ∷ []) (HelpOn which)
@@ -109,3 +113,9 @@ pub record HelpWords : Type 0 where
       ∷ subcommand.Inspect ∷ subcommand.Check ∷ [])
       ≡ codes "open" ∷ codes "format" ∷ codes "apply" ∷ codes "show" ∷ codes "protect" ∷ codes "validate"
       ∷ codes "relay" ∷ codes "ask" ∷ codes "key" ∷ codes "inspect" ∷ codes "check" ∷ []
+  pub topics : map topic_text (Help ∷ Version ∷ HelpOn subcommand.Open ∷ HelpOn subcommand.Format
+      ∷ HelpOn subcommand.Apply ∷ HelpOn subcommand.Show ∷ HelpOn subcommand.Protect ∷ HelpOn subcommand.Validate
+      ∷ HelpOn subcommand.Relay ∷ HelpOn subcommand.Ask ∷ HelpOn subcommand.Key ∷ HelpOn subcommand.Inspect
+      ∷ HelpOn subcommand.Check ∷ [])
+      ≡ HELP.now ∷ VERSION.now ∷ OPEN.now ∷ FORMAT.now ∷ APPLY.now ∷ SHOW.now ∷ PROTECT.now ∷ VALIDATE.now
+      ∷ RELAY.now ∷ ASK.now ∷ KEY.now ∷ INSPECT.now ∷ CHECK.now ∷ []

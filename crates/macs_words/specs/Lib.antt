@@ -3,3 +3,4 @@ pub mod Waits
 pub mod Words
 pub mod Help
 pub mod ActionWords
+pub mod TakenWords

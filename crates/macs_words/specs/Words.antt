@@ -83,7 +83,7 @@ frame_subcommands =
     subcommand_with (codes "protect") (value_rule (codes "DISK") ∷ value_rule (codes "INPUT") ∷ value_rule (codes "OUTPUT")
     ∷ flag_rule (codes "all") ∷ [])
     ∷ subcommand_with (codes "validate") (value_rule (codes "DISK") ∷ value_rule (codes "INPUT") ∷ value_rule (codes "OUTPUT")
-    ∷ flag_rule (codes "all") ∷ [])
+    ∷ flag_rule (codes "all") ∷ flag_rule (codes "each") ∷ [])
     ∷ subcommand_with (codes "relay") (value_rule (codes "DISK") ∷ value_rule (codes "OWN1") ∷ value_rule (codes "PEER1")
     ∷ value_rule (codes "OWN2") ∷ value_rule (codes "PEER2") ∷ count_rule (codes "turns") ∷ wait_rule (codes "wait")
     ∷ room_rule (codes "buffer") ∷ option_rule (codes "control") ∷ option_rule (codes "metrics") ∷ [])
@@ -181,10 +181,10 @@ Names (Some found) (Protect disk input output is_all) =
     (found.0 ≡ codes "protect") × HasText found.1 (codes "DISK") disk.now
     × HasText found.1 (codes "INPUT") input.now × HasText found.1 (codes "OUTPUT") output.now
     × IsFlagged found.1 (codes "all") is_all
-Names (Some found) (Validate disk input output is_all) =
+Names (Some found) (Validate disk input output is_all is_each) =
     (found.0 ≡ codes "validate") × HasText found.1 (codes "DISK") disk.now
     × HasText found.1 (codes "INPUT") input.now × HasText found.1 (codes "OUTPUT") output.now
-    × IsFlagged found.1 (codes "all") is_all
+    × IsFlagged found.1 (codes "all") is_all × IsFlagged found.1 (codes "each") is_each
 Names (Some found) (Relay disk controlled common running) =
     (found.0 ≡ codes "relay") × HasText found.1 (codes "DISK") disk.now
     × HasText found.1 (codes "OWN1") controlled.own.now × HasText found.1 (codes "PEER1") controlled.peer.now

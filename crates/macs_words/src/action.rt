@@ -52,13 +52,16 @@ pub enum Action<'a> {
         /// Whether a frame that is dropped is said by the status.
         is_all: bool,
     },
-    /// Validates the frames of a capture: `validate DISK INPUT OUTPUT`, and `--all` where it is given.
+    /// Validates the frames of a capture: `validate DISK INPUT OUTPUT`, and `--all` and `--each` where they are
+    /// given.
     Validate {
         disk: &'a str,
         input: &'a str,
         output: &'a str,
         /// Whether a frame that is discarded is said by the status.
         is_all: bool,
+        /// Whether the verdict on each frame is printed.
+        is_each: bool,
     },
     /// Relays frames between two wires: `relay DISK OWN1 PEER1 OWN2 PEER2` with `--turns n`, `--wait MS` or
     /// both, and with `--control PATH`, `--metrics FILE` and `--buffer OCTETS` where they are given.
@@ -225,6 +228,15 @@ fn capture_words<'a>(alloc: Global, name: &'a str) -> Result<Command<'a>, AllocE
     with_value(words, flag(alloc, "all"))
 }
 
+/// The words of `validate`.
+fn validate_words<'a>(alloc: Global) -> Result<Command<'a>, AllocError>
+    ensures { IfOk result (λ command. IsClapCommand command (with_rule (with_rule (with_rule (with_rule (with_rule
+        (new_app (codes "validate")) (value_rule (codes "DISK"))) (value_rule (codes "INPUT")))
+        (value_rule (codes "OUTPUT"))) (flag_rule (codes "all"))) (flag_rule (codes "each")))) }
+{
+    with_value(capture_words(alloc, "validate"), flag(alloc, "each"))
+}
+
 /// A number of 64 bits that may be given behind its name.
 fn count<'a>(alloc: Global, name: &'a str) -> Arg<'a>
     ensures rule { rule_of result ≡ count_rule name.entry.now }
@@ -347,7 +359,7 @@ fn known_words<'a>(alloc: Global) -> Result<Command<'a>, AllocError>
     let words = with_words(words, apply_words(alloc));
     let words = with_words(words, show_words(alloc));
     let words = with_words(words, capture_words(alloc, "protect"));
-    let words = with_words(words, capture_words(alloc, "validate"));
+    let words = with_words(words, validate_words(alloc));
     let words = with_words(words, relay_words(alloc));
     let words = with_words(words, ask_words(alloc));
     let words = with_words(words, key_words(alloc));
@@ -534,6 +546,7 @@ fn validate_in<'a>(values: &ArgMatches<'a>) -> Option<Action<'a>>
         input,
         output,
         is_all: is_flagged(values, "all"),
+        is_each: is_flagged(values, "each"),
     })
 }
 

@@ -1,8 +1,12 @@
-use Rattle.macs_program.proofs.Drawn.{answer-words, apply-words, capture-words, file-words, line-words, value-words}
+use Rattle.macs_program.proofs.Drawn.{answer-words, apply-words, capture-words, file-words, line-words, text-line-words}
+use Rattle.macs_program.proofs.Drawn.{value-words}
 use Rattle.macs_program.proofs.laws.words.Goals as goal
 
 pub returns-clause-answers : goal.returns-clause-answers
 returns-clause-answers g c = answer-words
+
+pub returns-clause-text_lines : goal.returns-clause-text_lines
+returns-clause-text_lines g c = text-line-words
 
 pub returns-clause-applies : goal.returns-clause-applies
 returns-clause-applies g c = apply-words g.D.SectorDisk.disk

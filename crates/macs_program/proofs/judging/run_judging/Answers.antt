@@ -1,0 +1,15 @@
+use Rattle.macs_edge.specs.Passing.{run_of}
+use Rattle.macs_program.proofs.Captured.{judged}
+use Rattle.macs_program.proofs.judging.run_judging.Goals as goal
+
+pub returns-clause-judged : goal.returns-clause-judged
+returns-clause-judged g c =
+    let (verdicts, judges, telling) = c.run_validate_each-answer.ensures.tells in (
+      verdicts,
+      judged g.D.SectorDisk.disk
+          (run_of c.args.endpoint.now (g.R.Source.state c.args.source.now) (g.S.Sink.state c.args.sink.now))
+          c.run_validate_each-answer.new.endpoint (g.R.Source.state c.run_validate_each-answer.new.source)
+          (g.S.Sink.state c.run_validate_each-answer.new.sink) (g.S.Sink.state c.handed_on.new.sink)
+          c.run_validate_each-answer.result verdicts c.handed_on.result judges c.handed_on.ensures.ended,
+      telling,
+    )

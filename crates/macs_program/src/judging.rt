@@ -1,0 +1,132 @@
+//! `validate --each`: a capture through an endpoint, with a line for the verdict on each frame.
+
+ghost use Rattle.std.specs.Prelude.{◌≡◌, ◌≤◌, length, IfErr, List};
+ghost use Rattle.macs_edge.specs.Passing.{run_of};
+ghost use Rattle.macs_edge.specs.Telling.{TellsAll, telling_of};
+ghost use Rattle.macs_program.specs.Judging.{IsOfRun, JudgesCapture, PrintsEach, TellsLine, ValidatesEach, verdict_line};
+ghost use Rattle.macs_rxsc.specs.declared.verdict.Verdict.{Verdict};
+ghost use Rattle.macs_texts.specs.Counting.{verdict_words};
+
+use crate::capturing::{Direction, handed_on, pass_status, summary_line};
+use crate::failure::Failure;
+use crate::output::{Line, append_count, append_text, print_octets};
+use crate::status::Status;
+use crate::stream::Stream;
+use macs_disk::SectorDisk;
+use macs_edge::{Summary, Verdicts, run_validate_each};
+use macs_endpoint::Endpoint;
+use macs_pcap::{Sink, Source};
+use macs_rxsc::Verdict;
+use macs_texts::verdict_words;
+use std::alloc::Global;
+
+/// The word of a verdict.
+fn word_of(verdict: Verdict) -> &'static str
+    ensures word { result.now ≡ verdict_words verdict }
+    ensures short { length result.now ≤ 12 }
+{
+    verdict_words(verdict)
+}
+
+/// The line of a verdict by its number.
+fn verdict_line(at: u64, verdict: Verdict) -> Line
+    ensures { result.items ≡ verdict_line at verdict }
+{
+    let mut line = Line::new();
+    append_count(&mut line, "", at);
+    append_text(&mut line, " ");
+    append_text(&mut line, word_of(verdict));
+    line.push(b'\n');
+    line
+}
+
+/// The lines of verdicts: how many were printed, and whether one could not be. After that none is printed.
+#[derive(Clone, Copy)]
+pub(crate) struct VerdictLines {
+    pub count: u64,
+    pub has_failed: bool,
+}
+
+impl<W: Stream> Verdicts<W> for VerdictLines {
+    ghost use Rattle.macs_program.specs.Judging.{TellsLine};
+
+    ghost tells = { TellsLine W.contents W.failed };
+
+    fn tell(&mut self, to: &mut W, verdict: Verdict) {
+        if self.has_failed {
+            return;
+        }
+        self.count = self.count.saturating_add(1);
+        match print_octets(to, verdict_line(self.count, verdict).as_slice()) {
+            Ok(()) => {}
+            Err(_) => self.has_failed = true,
+        }
+    }
+}
+
+/// Validates a whole capture, prints the line of each verdict, and hands on all that was written, where a fault
+/// ended the run too.
+fn run_judging<D: SectorDisk, R: Source, S: Sink, W: Stream>(
+    alloc: Global,
+    endpoint: &mut Endpoint<D>,
+    source: &mut R,
+    sink: &mut S,
+    lines: &mut VerdictLines,
+    out: &mut W,
+) -> Result<Summary, Failure>
+    ensures judged { (verdicts : List Verdict) × JudgesCapture D.disk
+        (run_of endpoint.old (R.state source.old) (S.state sink.old)) result verdicts
+        (run_of endpoint.new (R.state source.new) (S.state sink.new))
+        × TellsAll (TellsLine W.contents W.failed) (telling_of lines.old out.old) verdicts
+        (telling_of lines.new out.new) }
+    ensures failed { IfErr result IsOfRun }
+{
+    let answer = run_validate_each(alloc, endpoint, source, sink, lines, out);
+    handed_on(answer, sink)
+}
+
+/// The same, where a line that could not be printed is the failure.
+fn print_each<D: SectorDisk, R: Source, S: Sink, W: Stream>(
+    alloc: Global,
+    endpoint: &mut Endpoint<D>,
+    source: &mut R,
+    sink: &mut S,
+    out: &mut W,
+) -> Result<Summary, Failure>
+    ensures { PrintsEach D.disk W.contents W.failed
+        (run_of endpoint.old (R.state source.old) (S.state sink.old)) out.old result
+        (run_of endpoint.new (R.state source.new) (S.state sink.new)) out.new }
+{
+    let mut lines = VerdictLines {
+        count: 0,
+        has_failed: false,
+    };
+    let answer = run_judging(alloc, endpoint, source, sink, &mut lines, out);
+    let has_failed = lines.has_failed;
+    if has_failed {
+        return Err(Failure::Output);
+    }
+    answer
+}
+
+/// Validates a whole capture, prints the line of each verdict, as the frames are validated, hands on all that was
+/// written, and prints what became of the frames. A line that cannot be printed does not end the run, which fails
+/// as `Output` then. Else it fails with the first fault of the run: as `Capture` or `Memory` at the header or a record,
+/// as `Disk` at a reservation; without one, as `Capture` where what was written cannot be handed on. The lines of all
+/// verdicts before were printed then.
+pub fn judge_frames<D: SectorDisk, R: Source, S: Sink, W: Stream>(
+    alloc: Global,
+    endpoint: &mut Endpoint<D>,
+    is_all: bool,
+    source: &mut R,
+    sink: &mut S,
+    out: &mut W,
+) -> Result<Status, Failure>
+    ensures { ValidatesEach D.disk W.contents W.failed is_all
+        (run_of endpoint.old (R.state source.old) (S.state sink.old)) out.old result
+        (run_of endpoint.new (R.state source.new) (S.state sink.new)) out.new }
+{
+    let summary = print_each(alloc, endpoint, source, sink, out)?;
+    print_octets(out, summary_line(Direction::Validate, summary).as_slice())?;
+    Ok(pass_status(is_all, summary))
+}
