@@ -257,15 +257,25 @@ spent tx 1 rx 0
 ",
 );
 
-/// Each line is written and flushed behind its command, and the first that cannot be ends the run.
-const LINES: &[Step] = &[
-    Text("story-lines/file", SENDER),
+/// Each line is flushed after its command, and the first that cannot be ends the run.
+const FLUSHED: &[Step] = &[
+    Text("story-flushed/file", SENDER),
     Run(
-        &["format", "story-lines/a", "12153524c0895e81", "4", "4"],
+        &["format", "story-flushed/a", "12153524c0895e81", "4", "4"],
         FORMATTED,
     ),
-    Closing(9, 0, &["apply", "story-lines/a", "story-lines/file"]),
-    Run(&["show", "story-lines/a"], FIRST_APPLIED),
+    Closing(9, 0, &["apply", "story-flushed/a", "story-flushed/file"]),
+    Run(&["show", "story-flushed/a"], FIRST_APPLIED),
+];
+
+#[test]
+fn a_line_that_is_not_flushed_ends_the_run(rt: HostRuntime) -> Result<(), Fail> {
+    play(&rt, rt.alloc(), "story-flushed", FLUSHED)
+}
+
+/// Each line is written after its command, and the first that cannot be ends the run.
+const LINES: &[Step] = &[
+    Text("story-lines/file", SENDER),
     Run(
         &["format", "story-lines/b", "12153524c0895e81", "4", "4"],
         FORMATTED,

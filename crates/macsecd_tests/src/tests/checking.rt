@@ -80,6 +80,10 @@ const FAULTS: &[(&str, &str)] = &[
         "[[command]]\ndo = 'set-replay'\non = true\nwindow = -1\n",
         "macsecd: command 1 window: not 0 to 4294967295\n",
     ),
+];
+
+/// The same of further keys, and of files that are none of commands.
+const FURTHER_FAULTS: &[(&str, &str)] = &[
     (
         "[[command]]\ndo = 'tx-install'\nan = 0\nkey = 'ad7a2bd03eac835a6f620fdcb506b345'\nstart = 4294967296\n",
         "macsecd: command 1 start: not 1 to 4294967295\n",
@@ -129,10 +133,20 @@ fn expect_fault(
     Ok(())
 }
 
-#[test]
-fn the_first_fault_is_named(rt: HostRuntime) -> Result<(), Fail> {
-    for (text, line) in FAULTS {
-        expect_fault(&rt, rt.alloc(), text, *line)?;
+/// Checks a file of each text.
+fn expect_each(
+    rt: &(impl Abort + Files<File = File> + Net + Clock + Env + RandomSource),
+    alloc: Global,
+    faults: &[(&str, &'static str)],
+) -> Result<(), Fail> {
+    for (text, line) in faults {
+        expect_fault(rt, alloc, text, *line)?;
     }
     Ok(())
+}
+
+#[test]
+fn the_first_fault_is_named(rt: HostRuntime) -> Result<(), Fail> {
+    expect_each(&rt, rt.alloc(), FAULTS)?;
+    expect_each(&rt, rt.alloc(), FURTHER_FAULTS)
 }

@@ -103,7 +103,7 @@ example: macsecd protect left.disk examples/plain.pcap protected.pcap
 status: 0 done, 2 usage, 3 a frame dropped, 4 disk, 5 capture, output or memory
 ";
 
-pub const VALIDATE_TEXT: &str = "usage: macsecd validate DISK INPUT OUTPUT [--all]
+pub const VALIDATE_TEXT: &str = "usage: macsecd validate DISK INPUT OUTPUT [--all] [--each]
 
 Validates the frames of a capture, writes the capture of the frames that are
 delivered, and prints 'delivered 3 discarded 1'.
@@ -111,6 +111,8 @@ delivered, and prints 'delivered 3 discarded 1'.
   INPUT    a classic capture (pcap) of Ethernet frames, whole and without FCS
   OUTPUT   the capture that is made; a file of that name is written over
   --all    ends with status 3 where a frame was discarded
+  --each   before that prints a line for each frame, as it is validated: '1 ok',
+           '2 late' and so on, in the words of the counters
 DISK, INPUT and OUTPUT are three files, and no disk file is taken for OUTPUT.
 
 example: macsecd validate right.disk protected.pcap plain.pcap

@@ -58,7 +58,7 @@ pub enum Step {
     IsMissing(&'static str),
 }
 
-/// Takes one step: a run, or one on files.
+/// Takes one step: a run over what is there, or another.
 fn take(
     rt: &(impl Abort + Files<File = File> + Net + Clock + Env + RandomSource),
     alloc: Global,
@@ -78,6 +78,17 @@ fn take(
             Ok(())
         }
         Step::Relay(relayed) => relays::relay(rt, alloc, relayed),
+        _ => take_beside(rt, alloc, step),
+    }
+}
+
+/// Takes a run beside another open of a file, or a step on files.
+fn take_beside(
+    rt: &(impl Abort + Files<File = File> + Net + Clock + Env + RandomSource),
+    alloc: Global,
+    step: Step,
+) -> Result<(), Fail> {
+    match step {
         Step::Claimed(path, words, outcome) => {
             runs::expect_claimed(rt, alloc, path, words, outcome)
         }

@@ -281,6 +281,18 @@ const WORDS_WITH_OPTIONS: &[Row] = &[
         Outcome::Usage("macsecd: the argument '--all' cannot be used multiple times\n"),
     ),
     (
+        &["validate", "d", "i", "o", "--each=1"],
+        Outcome::Usage("macsecd: unexpected value '1' for '--each' found; no more were expected\n"),
+    ),
+    (
+        &["validate", "--each", "d", "i", "o", "--each"],
+        Outcome::Usage("macsecd: the argument '--each' cannot be used multiple times\n"),
+    ),
+    (
+        &["protect", "d", "i", "o", "--each"],
+        Outcome::Usage("macsecd: unexpected argument '--each' found\n"),
+    ),
+    (
         &["key", "--long=1"],
         Outcome::Usage("macsecd: unexpected value '1' for '--long' found; no more were expected\n"),
     ),
@@ -528,6 +540,14 @@ const TAKEN: &[(&[&str], Parts<'static>)] = &[
         &["validate", "d", "--all", "--", "--all", "o"],
         ("validate", ["d", "--all", "o", "all", ""], [0, 0]),
     ),
+    (
+        &["validate", "d", "--each", "i", "o"],
+        ("validate", ["d", "i", "o", "", "each"], [0, 0]),
+    ),
+    (
+        &["validate", "--each", "d", "i", "--all", "o"],
+        ("validate", ["d", "i", "o", "all", "each"], [0, 0]),
+    ),
     (&["key"], ("key", ["", "", "", "", ""], [0, 0])),
     (
         &["key", "--long"],
@@ -678,10 +698,17 @@ fn is_of_files(action: Action<'_>, wanted: &Parts<'_>) -> bool {
             input,
             output,
             is_all,
+            is_each,
         } => is_named(
             wanted,
             "validate",
-            [disk, input, output, if is_all { "all" } else { "" }, ""],
+            [
+                disk,
+                input,
+                output,
+                if is_all { "all" } else { "" },
+                if is_each { "each" } else { "" },
+            ],
             [0, 0],
         ),
         Action::Key { is_long } => is_named(
