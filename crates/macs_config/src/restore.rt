@@ -37,14 +37,14 @@ pub(crate) fn restore<P: PartSource>(
         ≡ (if result then Some (config_in contents.new) else None) }
 {
     contents.reset();
-    if !settle(contents, parts.part(0)) {
+    if !take_settings(contents, parts.part(0)) {
         return false;
     }
     add_all(identity, contents, parts) && is_whole(identity, contents)
 }
 
 /// Takes the settings of a first part, and answers whether it has settings.
-fn settle(contents: &mut Contents, first: Option<Part>) -> bool
+fn take_settings(contents: &mut Contents, first: Option<Part>) -> bool
     ensures test { result ≡ option_map_or (λ part. nat_le (place_of part) 1) first false }
     ensures settled { result ≡ true → IfSome first (λ part. config_in contents.new ≡ config_with_part (config_in contents.old) part) }
 {

@@ -8,8 +8,8 @@ use Rattle.macs_control.specs.declared.asking.Asker.{Asker}
 use Rattle.macs_control.specs.declared.seat.Seat.{Seat}
 
 -- who is asked
-abbrev pub relay_of : {S : Type 0} → Asker S → Seat S
-relay_of asker = asker.relay
+abbrev pub seat_of : {S : Type 0} → Asker S → Seat S
+seat_of asker = asker.relay
 
 -- the octets that a relay said and that were not read, where it is known what comes over its connection
 abbrev pub unread : List ℕ → Option Link → Option (List ℕ)

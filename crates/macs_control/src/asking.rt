@@ -67,14 +67,14 @@ fn put_line(text: &mut Vec<u8>, line: &Line) -> Result<(), AllocError>
 
 impl<S: Connection> Asker<S> {
     ghost use Rattle.std.specs.Prelude.{◌≡◌, ◌++◌, ◌∷◌, [], IfOk, IfSome, true};
-    ghost use Rattle.macs_control.specs.Asking.{BeginsWithAnswer, BeginsWithLine, relay_of, unread};
+    ghost use Rattle.macs_control.specs.Asking.{BeginsWithAnswer, BeginsWithLine, seat_of, unread};
     ghost use Rattle.macs_control.specs.Links.{GivesOctets};
     ghost use Rattle.macs_control.specs.Seats.{connection_of, held_by};
 
     /// Over a connection of which nothing was heard yet.
     pub fn over(connection: S) -> Asker<S>
-        ensures connection { connection_of (relay_of result) ≡ connection }
-        ensures held { held_by (relay_of result) ≡ [] }
+        ensures connection { connection_of (seat_of result) ≡ connection }
+        ensures held { held_by (seat_of result) ≡ [] }
     {
         Asker {
             relay: Seat::new(Client(1), connection),
@@ -83,9 +83,9 @@ impl<S: Connection> Asker<S> {
 
     /// Sends a line, to which its end is added.
     pub fn send(&mut self, alloc: Global, line: &str) -> Result<(), AskFault>
-        ensures sent { IfOk result (λ done. GivesOctets (S.link (connection_of (relay_of self.old)))
-            (S.link (connection_of (relay_of self.new))) (line.now ++ 10 ∷ []) true) }
-        ensures held { held_by (relay_of self.new) ≡ held_by (relay_of self.old) }
+        ensures sent { IfOk result (λ done. GivesOctets (S.link (connection_of (seat_of self.old)))
+            (S.link (connection_of (seat_of self.new))) (line.now ++ 10 ∷ []) true) }
+        ensures held { held_by (seat_of self.new) ≡ held_by (seat_of self.old) }
     {
         let text = format!(in alloc; "{line}\n")?;
         if self.relay.give(text.as_str().as_bytes()) {
@@ -98,9 +98,9 @@ impl<S: Connection> Asker<S> {
     /// least, or was interrupted.
     fn next_line(&mut self) -> Option<Line>
         ensures { IfSome result (λ line. BeginsWithLine
-            (unread (held_by (relay_of self.old)) (S.link (connection_of (relay_of self.old))))
+            (unread (held_by (seat_of self.old)) (S.link (connection_of (seat_of self.old))))
             line.items
-            (unread (held_by (relay_of self.new)) (S.link (connection_of (relay_of self.new))))) }
+            (unread (held_by (seat_of self.new)) (S.link (connection_of (seat_of self.new))))) }
     {
         for _look in 0..=MAX_LINE {
             match self.relay.hear() {
@@ -115,9 +115,9 @@ impl<S: Connection> Asker<S> {
     /// The next line, which has to come.
     fn line(&mut self) -> Result<Line, AskFault>
         ensures { IfOk result (λ line. BeginsWithLine
-            (unread (held_by (relay_of self.old)) (S.link (connection_of (relay_of self.old))))
+            (unread (held_by (seat_of self.old)) (S.link (connection_of (seat_of self.old))))
             line.items
-            (unread (held_by (relay_of self.new)) (S.link (connection_of (relay_of self.new))))) }
+            (unread (held_by (seat_of self.new)) (S.link (connection_of (seat_of self.new))))) }
     {
         match self.next_line() {
             Some(line) => Ok(line),
@@ -138,9 +138,9 @@ impl<S: Connection> Asker<S> {
     /// Reads an answer up to its end.
     pub fn answer(&mut self, alloc: Global) -> Result<Answer, AskFault>
         ensures { IfOk result (λ answer. BeginsWithAnswer
-            (unread (held_by (relay_of self.old)) (S.link (connection_of (relay_of self.old))))
+            (unread (held_by (seat_of self.old)) (S.link (connection_of (seat_of self.old))))
             answer.text.items answer.status
-            (unread (held_by (relay_of self.new)) (S.link (connection_of (relay_of self.new))))) }
+            (unread (held_by (seat_of self.new)) (S.link (connection_of (seat_of self.new))))) }
     {
         let mut text = Vec::new(alloc);
         for _line in 0..MAX_LINES {

@@ -8,7 +8,7 @@ ghost use Rattle.macs_desk.specs.Listening.{under_way_after};
 ghost use Rattle.macs_desk.specs.UnderWay.{entries_of, is_full, without};
 
 use crate::listening::{TURNS_BETWEEN, is_time, look, rest, turns_between};
-use crate::measuring::measure;
+use crate::metrics::measure;
 use crate::replies::{ended, not_taken};
 use crate::under_way::{Queue, UnderWay};
 use macs_disk::SectorDisk;

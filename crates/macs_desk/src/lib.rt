@@ -5,7 +5,7 @@ mod answering;
 mod desk;
 pub mod laws;
 mod listening;
-mod measuring;
+mod metrics;
 mod replies;
 mod under_way;
 

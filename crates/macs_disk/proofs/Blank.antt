@@ -4,9 +4,9 @@ use Rattle.std.specs.Prelude.{None, Option}
 use Rattle.std.proofs.lemmas.Bool.{cases_lt}
 use Rattle.std.proofs.lemmas.List.{length-replicate, get_or-replicate, get_or_past}
 use Rattle.macs_disk.specs.States.{IsSector, settled_state, zero_sector}
-use Rattle.macs_disk.specs.Recorded.{sectors_in, choice_at, disk_of_record}
+use Rattle.macs_disk.specs.CallLists.{sectors_in, choice_at, disk_of_calls}
 use Rattle.macs_disk.specs.Memory.{blank_memory}
-use Rattle.macs_disk.specs.declared.record.Entry.{Entry}
+use Rattle.macs_disk.specs.declared.call_list.Entry.{Entry}
 
 -- the same everywhere, behind the end too
 pub get_or-same : {X : Type 0} (n i : ℕ) (x : X) → get_or (replicate n x) i x ≡ x
@@ -27,7 +27,7 @@ held-zeros n i = subst IsSector (sym (get_or-same n i zero_sector)) zero-sector
 
 pub blank-memory : (n : ℕ) (first seen : List (List ℕ)) (choices : List (Option (List ℕ))) (es : List Entry) (c f : ℕ) → first ≡ replicate n zero_sector → seen ≡ replicate n zero_sector
     → choices ≡ replicate n None → es ≡ [] → c ≡ 0 → f ≡ 0
-    → record { disk = disk_of_record (length seen) (settled_state (sectors_in first)) es c f; chosen = choice_at choices } ≡ blank_memory n
+    → record { disk = disk_of_calls (length seen) (settled_state (sectors_in first)) es c f; chosen = choice_at choices } ≡ blank_memory n
 blank-memory n first seen choices es c f is_first is_seen is_choices empty is_clock is_failures =
     let size : length seen ≡ n = ap length is_seen ∙ length-replicate n zero_sector in
     rw (empty, is_clock, is_failures) (λ j. record {

@@ -1,6 +1,6 @@
 -- The write that is made in the place of the one that a fuse fails.
 use Rattle.std.proofs.Common.{◌≡◌, ◌+◌, ℕ, Bool, refl, sym, subst, arith, List, Some, Result, if◌then◌else◌, is_ok}
-use Rattle.macs_disk.specs.Fused.{AreCounted, FuseValue, fuse_after_blown_write}
+use Rattle.macs_disk.specs.Fuses.{AreCounted, FuseValue, fuse_after_blown_write}
 use Rattle.macs_disk.specs.declared.disk.DeviceFault.{DeviceFault}
 use Rattle.macs_disk.specs.declared.fuse.Blow.{Blow}
 use Rattle.macs_disk.specs.declared.fuse.Blow.TheVariants.{OneCall, NoCall}

@@ -13,7 +13,7 @@ use Rattle.macs_disk.specs.declared.disk.DeviceFault.{DeviceFault}
 use Rattle.macs_disk.specs.declared.file.FileDisk.{FileDisk}
 use Rattle.macs_disk.specs.declared.layout.Layout.{Layout}
 use Rattle.macs_disk.proofs.FileWrites.{get_or-front, get_or-behind}
-use Rattle.macs_disk.proofs.RecordedCalls.{test_full}
+use Rattle.macs_disk.proofs.ListedCalls.{test_full}
 
 abbrev most : ℕ
 most = 2 ^ 64 - 1

@@ -8,11 +8,11 @@ use Rattle.std.proofs.lemmas.List.Elements.{recursion_from_All}
 use Rattle.std.specs.Prelude.{Option, Some, None, unwrap_or}
 use Rattle.std.specs.List.{All, AllByRecursion}
 use Rattle.macs_disk.specs.States.{IsSector, DiskState, IsImage, put_sector, settled_state, zero_sector}
-use Rattle.macs_disk.specs.Recorded.{sectors_in, flag_at, choice_at, state_after_call, state_at, disk_of_record, IsSoundMemory, AreChosen}
+use Rattle.macs_disk.specs.CallLists.{sectors_in, flag_at, choice_at, state_after_call, state_at, disk_of_calls, IsSoundMemory, AreChosen}
 use Rattle.macs_disk.specs.Memory.{memory_after_loss}
 use Rattle.macs_disk.proofs.Images.{State-ext, put-same, put-other}
-use Rattle.macs_disk.specs.declared.record.Entry.{Entry}
-use Rattle.macs_disk.specs.declared.record.Call.TheVariants.{Write, Sync}
+use Rattle.macs_disk.specs.declared.call_list.Entry.{Entry}
+use Rattle.macs_disk.specs.declared.call_list.Call.TheVariants.{Write, Sync}
 
 pub same-sectors : (xs ys zs : List (List ℕ)) → xs ≡ ys → ys ≡ zs → xs ≡ zs
 same-sectors xs ys zs first second = first ∙ second
@@ -185,8 +185,8 @@ module _ (first seen durable torn : List (List ℕ)) (pending : List Bool) (choi
 
   -- the disk after it
   pub crash-memory : (later : List (List ℕ)) (gone : List (Option (List ℕ))) (es : List Entry) (c f failures : ℕ) → later ≡ torn → ((i : ℕ) → choice_at gone i ≡ None) → es ≡ [] → c ≡ clock → f ≡ failures
-      → record { disk = disk_of_record (length torn) (settled_state (sectors_in later)) es c f; chosen = choice_at gone }
-      ≡ memory_after_loss (record { disk = disk_of_record (length seen) (settled_state (sectors_in first)) calls clock failures; chosen = choice_at choices })
+      → record { disk = disk_of_calls (length torn) (settled_state (sectors_in later)) es c f; chosen = choice_at gone }
+      ≡ memory_after_loss (record { disk = disk_of_calls (length seen) (settled_state (sectors_in first)) calls clock failures; chosen = choice_at choices })
   crash-memory later gone es c f failures is_after none empty is_clock is_failures =
       let left_by : (i : ℕ) → sectors_in later i ≡ unwrap_or (choice_at choices i) ((state_at (settled_state (sectors_in first)) calls clock).seen i) =
       λ i. ap (λ (xs : List (List ℕ)). sectors_in xs i) is_after ∙ crash-left i ∙ ap (λ (s : DiskState). unwrap_or (choice_at choices i) (s.seen i)) (sym kept.is_now) in

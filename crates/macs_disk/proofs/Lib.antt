@@ -4,7 +4,7 @@ pub mod Calls
 mod BlownWrites
 mod MissedCalls
 mod Kept
-mod RecordedCalls
+mod ListedCalls
 mod Blank
 mod Walks
 pub mod FileWrites

@@ -3,10 +3,10 @@ use Rattle.std.proofs.Common.{◌≡◌, ◌≢◌, ◌≤◌, ◌<◌, ◌+◌,
 use Rattle.std.proofs.lemmas.Bool.{cases_eq, eq-eqb}
 use Rattle.macs_disk.specs.Disk.{Disk, IsDeviceCall, Writes, now}
 use Rattle.macs_disk.specs.Evidence.{fused-now}
-use Rattle.macs_disk.specs.Fused.{AreCounted, FuseValue, IsCounted, disk_of_fuse, fuse_after_blown_call, fuse_after_stopped_call, fused_disk}
+use Rattle.macs_disk.specs.Fuses.{AreCounted, FuseValue, IsCounted, disk_of_fuse, fuse_after_blown_call, fuse_after_stopped_call, fused_disk}
 use Rattle.macs_disk.specs.declared.fuse.Blow.{Blow}
 use Rattle.macs_disk.specs.declared.fuse.Blow.TheVariants.{EachCall, OneCall, NoCall}
-use Rattle.macs_disk.proofs.RecordedCalls.{test_fresh, test_full}
+use Rattle.macs_disk.proofs.ListedCalls.{test_fresh, test_full}
 
 abbrev most : ℕ
 most = 2 ^ 64 - 1

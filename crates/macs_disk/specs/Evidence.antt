@@ -5,9 +5,9 @@ use Rattle.std.proofs.lemmas.Bool.{cases_eq}
 use Rattle.std.proofs.lemmas.Bool.Decides.{nat_tests}
 use Rattle.macs_disk.specs.States.{IsSound, settled_state}
 use Rattle.macs_disk.specs.Disk.{Disk, now}
-use Rattle.macs_disk.specs.Fused.{FuseValue, disk_of_fuse, fused_disk}
-use Rattle.macs_disk.specs.Recorded.{IsSoundMemory, state_at, sectors_in}
-use Rattle.macs_disk.specs.declared.record.Entry.{Entry}
+use Rattle.macs_disk.specs.Fuses.{FuseValue, disk_of_fuse, fused_disk}
+use Rattle.macs_disk.specs.CallLists.{IsSoundMemory, state_at, sectors_in}
+use Rattle.macs_disk.specs.declared.call_list.Entry.{Entry}
 
 -- ---- a disk behind a fuse
 

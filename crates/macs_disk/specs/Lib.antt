@@ -1,8 +1,8 @@
 pub mod States
 pub mod Disk
 pub mod Runs
-pub mod Fused
-pub mod Recorded
+pub mod Fuses
+pub mod CallLists
 pub mod Memory
 pub mod MemDisks
 pub mod Files

@@ -2,13 +2,13 @@
 use Rattle.std.specs.Prelude.{length}
 use Rattle.macs_disk.specs.States.{settled_state}
 use Rattle.macs_disk.specs.Disk.{Disk}
-use Rattle.macs_disk.specs.Recorded.{sectors_in, choice_at, disk_of_record}
+use Rattle.macs_disk.specs.CallLists.{sectors_in, choice_at, disk_of_calls}
 use Rattle.macs_disk.specs.Memory.{Memory}
 use Rattle.macs_disk.specs.declared.memory.MemDisk.{MemDisk}
 
--- a disk in memory through time, as its record of calls gives it
+-- a disk in memory through time, as its list of calls gives it
 abbrev pub disk_of : {A : Type 0} → MemDisk A → Disk
-disk_of m = disk_of_record (length m.seen.items) (settled_state (sectors_in m.first.items)) m.calls.entries.items m.calls.clock m.calls.failures
+disk_of m = disk_of_calls (length m.seen.items) (settled_state (sectors_in m.first.items)) m.calls.entries.items m.calls.clock m.calls.failures
 
 -- the same, with what was chosen that a power loss leaves in its sectors
 abbrev pub memory_of : {A : Type 0} → MemDisk A → Memory

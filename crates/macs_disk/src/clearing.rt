@@ -11,7 +11,7 @@ use crate::file_calls::{write_all, write_zeros};
 use crate::file_fault::FileFault;
 use crate::layout::{BLOCK_OCTETS, Layout, MARK_PLACE, SECTOR_OCTETS, SPACED_SECTORS, spaced_mark};
 
-// Writes zeros in the place of the mark of a spaced file, where a file of so many octets reaches there.
+/// Writes zeros in the place of the mark of a spaced file, where a file of so many octets reaches there.
 fn erase_mark<F: DiskFile>(file: &mut F, octets: u64) -> Result<(), FileFault>
     ensures steady { (F.file file.new).behaves ≡ (F.file file.old).behaves }
     ensures marked { Behaves (F.file file.old) → IsSure (F.file file.old) → octets ≡ (F.file file.old).size
@@ -30,7 +30,7 @@ fn erase_mark<F: DiskFile>(file: &mut F, octets: u64) -> Result<(), FileFault>
     Ok(())
 }
 
-// Writes the block with the mark of a spaced file.
+/// Writes the block with the mark of a spaced file.
 fn put_mark<F: DiskFile>(file: &mut F) -> Result<(), FileFault>
     ensures steady { (F.file file.new).behaves ≡ (F.file file.old).behaves }
     ensures marked { Behaves (F.file file.old) → IsSure (F.file file.old)
@@ -47,7 +47,7 @@ fn put_mark<F: DiskFile>(file: &mut F) -> Result<(), FileFault>
     Ok(())
 }
 
-// Sees to it that a file of so many octets is found to be of this layout.
+/// Sees to it that a file of so many octets is found to be of this layout.
 fn mark_as<F: DiskFile>(file: &mut F, octets: u64, layout: Layout) -> Result<(), FileFault>
     ensures steady { (F.file file.new).behaves ≡ (F.file file.old).behaves }
     ensures marked { Behaves (F.file file.old) → IsSure (F.file file.old) → octets ≡ (F.file file.old).size

@@ -14,7 +14,7 @@ use std::io;
 /// How many zeros are written at a time.
 const ZEROS: usize = 4_096;
 
-// Reads 512 octets.
+/// Reads 512 octets.
 fn read_whole<F: DiskFile>(file: &mut F, from: u64, into: &mut [u8; 512]) -> io::Result<()>
     requires { from + 512 < 2 ^ 64 }
     ensures steady { (F.file file.new).behaves ≡ (F.file file.old).behaves }

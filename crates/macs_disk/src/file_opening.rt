@@ -17,7 +17,7 @@ use std::{fs, io};
 /// A new file is for its owner alone to read and write, since a disk holds keys.
 const OWNER_ALONE: u32 = 0o600;
 
-// How a file is opened: to read and write it. What it holds stays.
+/// How a file is opened: to read and write it. What it holds stays.
 fn how_to_open(is_made: bool) -> OpenOptions
     ensures keeps { result.truncate ≡ false }
     ensures made { result.create ≡ is_made }
@@ -41,7 +41,7 @@ pub fn make_file<R: Files, P: AsPath>(rt: &R, path: P) -> io::Result<R::File> {
     how_to_open(true).open(rt, path)
 }
 
-// The folder of a path, by its text alone.
+/// The folder of a path, by its text alone.
 fn folder_of(path: &str) -> &str {
     match Path::new(path).parent() {
         Some(folder) if !folder.as_str().is_empty() => folder.as_str(),

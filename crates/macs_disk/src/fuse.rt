@@ -3,8 +3,8 @@
 ghost use Rattle.std.specs.Prelude.{◌≡◌, ◌≢◌, ◌≤◌, ◌<◌, ◌+◌, ◌^◌, ℕ, List, Option, Some, IsErr, OnOk, OnErr, IfSome};
 ghost use Rattle.macs_disk.specs.States.{IsSector};
 ghost use Rattle.macs_disk.specs.Disk.{IsDeviceCall, IsHonest, Reads, Syncs, Writes, now};
-ghost use Rattle.macs_disk.specs.Fused.{AreCounted, BlowsWrite, FuseValue, IsCounted, IsPassing, disk_of_fuse};
-ghost use Rattle.macs_disk.specs.Fused.{fuse_after_blown_call, fuse_after_passed_call, fuse_after_stopped_call};
+ghost use Rattle.macs_disk.specs.Fuses.{AreCounted, BlowsWrite, FuseValue, IsCounted, IsPassing, disk_of_fuse};
+ghost use Rattle.macs_disk.specs.Fuses.{fuse_after_blown_call, fuse_after_passed_call, fuse_after_stopped_call};
 ghost use Rattle.macs_disk.specs.declared.fuse.Blow.TheVariants.{EachCall, OneCall, NoCall};
 
 use crate::disk::{DeviceFault, SectorDisk};

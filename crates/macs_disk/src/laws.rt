@@ -6,7 +6,7 @@ ghost use Rattle.macs_disk.specs.States.{Image, IsImage, IsSector, IsSound, Disk
 ghost use Rattle.macs_disk.specs.Disk.{Disk, FailsOnce, IsDeviceCall, IsHonest, IsWork, LeftSince, MayLeave, Reads, Syncs};
 ghost use Rattle.macs_disk.specs.Disk.{Works, Writes, now};
 ghost use Rattle.macs_disk.specs.Runs.{Leaves, LeavesNothingNew};
-ghost use Rattle.macs_disk.specs.Fused.{FuseValue, disk_of_fuse};
+ghost use Rattle.macs_disk.specs.Fuses.{FuseValue, disk_of_fuse};
 ghost use Rattle.macs_disk.specs.MemDisks.{disk_of};
 ghost use Rattle.macs_disk.specs.declared.memory.MemDisk.{MemDisk};
 ghost use Rattle.macs_disk.specs.Files.{Behaves, FileState, HasNothingNew, IsFileImage, Settles, WritesSome, file_in_doubt};

@@ -1,6 +1,7 @@
 //! Disks of sectors, and what a power loss at any moment may leave on them.
 #![tactic(auto)]
 
+mod call_list;
 mod clearing;
 mod disk;
 mod disk_file;
@@ -13,7 +14,6 @@ pub mod laws;
 mod layout;
 mod log;
 mod memory;
-mod record;
 mod settled_file;
 
 pub use disk::{DeviceFault, SectorDisk};

@@ -2,11 +2,11 @@
 
 ghost use Rattle.std.specs.Prelude.{◌≡◌, ◌<◌, ℕ, false, length, IfOk, replicate, slice_index_or, unwrap_or, None};
 ghost use Rattle.macs_disk.specs.States.{zero_sector};
-ghost use Rattle.macs_disk.specs.Recorded.{AreChosen, IsSoundMemory, choice_at, flag_at, sectors_in};
+ghost use Rattle.macs_disk.specs.CallLists.{AreChosen, IsSoundMemory, choice_at, flag_at, sectors_in};
 ghost use Rattle.macs_disk.specs.declared.memory.MemFault.TheVariants.{Memory as OutOfMemory};
 
+use crate::call_list::{Call, CallList};
 use crate::disk::{DeviceFault, SectorDisk};
-use crate::record::{Call, CallRecord};
 use std::alloc::{AllocError, Allocator, Global};
 
 /// The most sectors of a disk in memory.
@@ -29,12 +29,12 @@ impl From<AllocError> for MemFault {
     }
 }
 
-/// A disk in memory. It keeps a record of its writes and syncs since it was made or since its last
-/// power loss, so that its state at each moment is known. A call of the device fails where the record cannot
+/// A disk in memory. It keeps a list of its writes and syncs since it was made or since its last
+/// power loss, so that its state at each moment is known. A call of the device fails where the list cannot
 /// grow, which a read does not ask for, and where the disk is worn.
 #[derive(Drop)]
 pub struct MemDisk<A: Allocator = Global> {
-    calls: CallRecord<A>,
+    calls: CallList<A>,
     first: Vec<[u8; 512], A>,
     seen: Vec<[u8; 512], A>,
     durable: Vec<[u8; 512], A>,
@@ -44,9 +44,9 @@ pub struct MemDisk<A: Allocator = Global> {
     ghost chosen: { AreChosen seen.items pending.items choices.items },
 }
 
-// Makes every sector durable as reads give it: nothing is pending, and no choice stands. The pending sectors
-// alone are copied, since all others are durable as reads give them.
-fn settle<A: Allocator>(
+/// Makes every sector durable as reads give it: nothing is pending, and no choice stands. The pending sectors
+/// alone are copied, since all others are durable as reads give them.
+fn make_durable<A: Allocator>(
     seen: &[[u8; 512]],
     durable: &mut Vec<[u8; 512], A>,
     pending: &mut Vec<bool, A>,
@@ -72,7 +72,7 @@ fn settle<A: Allocator>(
     }
 }
 
-// Each sector as it is chosen, or else as it was.
+/// Each sector as it is chosen, or else as it was.
 fn choose<A: Allocator>(sectors: &mut Vec<[u8; 512], A>, choices: &[Option<[u8; 512]>])
     requires { length choices.now ≡ length sectors.old.items }
     ensures length { length sectors.new.items ≡ length sectors.old.items }
@@ -86,7 +86,7 @@ fn choose<A: Allocator>(sectors: &mut Vec<[u8; 512], A>, choices: &[Option<[u8; 
     }
 }
 
-// So many sectors of zeros.
+/// So many sectors of zeros.
 fn zeros<A: Allocator>(alloc: A, count: usize) -> Result<Vec<[u8; 512], A>, AllocError>
     ensures { IfOk result (λ sectors. sectors.items ≡ replicate count zero_sector) }
 {
@@ -97,7 +97,7 @@ fn zeros<A: Allocator>(alloc: A, count: usize) -> Result<Vec<[u8; 512], A>, Allo
     Ok(sectors)
 }
 
-// No choice, for so many sectors.
+/// No choice, for so many sectors.
 fn nones<A: Allocator>(alloc: A, count: usize) -> Result<Vec<Option<[u8; 512]>, A>, AllocError>
     ensures { IfOk result (λ choices. choices.items ≡ replicate count None) }
 {
@@ -137,7 +137,7 @@ impl<A: Allocator> SectorDisk for MemDisk<A> {
         Ok(())
     }
 
-    #[tactic(auto, using(crate::proofs::RecordedCalls::failed_call))]
+    #[tactic(auto, using(crate::proofs::ListedCalls::failed_call))]
     fn write(&mut self, at: u64, from: &[u8; 512]) -> Result<(), DeviceFault>
         requires { at < (disk_of self.old).sectors }
         ensures call { IsDeviceCall (disk_of self.old) (disk_of self.new) result }
@@ -152,7 +152,7 @@ impl<A: Allocator> SectorDisk for MemDisk<A> {
         Ok(())
     }
 
-    #[tactic(auto, using(crate::proofs::RecordedCalls::failed_call))]
+    #[tactic(auto, using(crate::proofs::ListedCalls::failed_call))]
     fn sync(&mut self) -> Result<(), DeviceFault>
         ensures call { IsDeviceCall (disk_of self.old) (disk_of self.new) result }
         ensures effect { IsHonest (disk_of self.new)
@@ -161,7 +161,7 @@ impl<A: Allocator> SectorDisk for MemDisk<A> {
         ensures err { OnErr result ((memory_of self.new).chosen ≡ (memory_of self.old).chosen) }
     {
         self.calls.keep(Call::Sync)?;
-        settle(
+        make_durable(
             &self.seen,
             &mut self.durable,
             &mut self.pending,
@@ -186,7 +186,7 @@ impl<A: Allocator + Copy> MemDisk<A> {
         }
         let count = sectors as usize;
         Ok(MemDisk {
-            calls: CallRecord::new(alloc),
+            calls: CallList::new(alloc),
             first: zeros(alloc, count)?,
             seen: zeros(alloc, count)?,
             durable: zeros(alloc, count)?,
@@ -237,14 +237,14 @@ impl<A: Allocator> MemDisk<A> {
 
     /// A power loss: in each pending sector the octets that were chosen, or the last write where none
     /// were, become durable, and they are what reads give from then on. Nothing is pending then. It
-    /// is no call of the device: clock and failures stand. The record is emptied, so that at each
+    /// is no call of the device: clock and failures stand. The list is emptied, so that at each
     /// moment up to the clock the disk's state is now this one.
     pub fn crash(&mut self)
         ensures crashed { memory_of self.new ≡ memory_after_loss (memory_of self.old) }
         ensures image { MayLeave (disk_of self.old) (now (disk_of self.new)).seen }
     {
         choose(&mut self.seen, &self.choices);
-        settle(
+        make_durable(
             &self.seen,
             &mut self.durable,
             &mut self.pending,

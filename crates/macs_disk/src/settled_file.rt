@@ -39,7 +39,7 @@ struct Extent {
     sectors: u64,
 }
 
-// Claims a file, and answers how many octets it has, where they are whole sectors.
+/// Claims a file, and answers how many octets it has, where they are whole sectors.
 fn measure<F: DiskFile>(file: &mut F) -> Result<u64, FileFault>
     ensures steady { (F.file file.new).behaves ≡ (F.file file.old).behaves }
     ensures claimed { Behaves (F.file file.old) → OnOk result (F.file file.new ≡ file_claimed (F.file file.old)) }
@@ -58,7 +58,7 @@ fn measure<F: DiskFile>(file: &mut F) -> Result<u64, FileFault>
     Ok(octets)
 }
 
-// Finds the layout of a settled file of so many octets.
+/// Finds the layout of a settled file of so many octets.
 fn find_layout<F: DiskFile>(file: &mut F, octets: u64) -> Result<Layout, DeviceFault>
     ensures steady { (F.file file.new).behaves ≡ (F.file file.old).behaves }
     ensures same { Behaves (F.file file.old) → F.file file.new ≡ F.file file.old }
@@ -81,7 +81,7 @@ fn find_layout<F: DiskFile>(file: &mut F, octets: u64) -> Result<Layout, DeviceF
     Ok(Layout::Packed)
 }
 
-// Makes a packed file of so many octets one of so many sectors, with zeros, durably.
+/// Makes a packed file of so many octets one of so many sectors, with zeros, durably.
 fn lengthen<F: DiskFile>(file: &mut F, octets: u64, sectors: u64) -> Result<(), FileFault>
     requires { octets ≤ 512 * sectors }
     ensures steady { (F.file file.new).behaves ≡ (F.file file.old).behaves }
@@ -104,7 +104,7 @@ fn lengthen<F: DiskFile>(file: &mut F, octets: u64, sectors: u64) -> Result<(), 
     Ok(())
 }
 
-// Finds the layout of a settled file of so many octets, and sees to it that it has at least so many sectors.
+/// Finds the layout of a settled file of so many octets, and sees to it that it has at least so many sectors.
 fn prepare<F: DiskFile>(file: &mut F, octets: u64, least: u64) -> Result<Extent, FileFault>
     ensures steady { (F.file file.new).behaves ≡ (F.file file.old).behaves }
     ensures fits { IfOk result (λ extent. place extent.layout extent.sectors < 2 ^ 64) }

@@ -19,7 +19,7 @@ use Rattle.macs_pcap.specs.declared.header.Header.{Header}
 use Rattle.macs_txsc.specs.declared.fault.TxFault.{TxFault}
 use Rattle.macs_txsc.specs.declared.fault.TxFault.TheVariants.{Runt, TooLong, ForeignSource, NoEncodingSa, Exhausted}
 use Rattle.macs_txsc.specs.declared.fault.TxFault.TheVariants.{NoNumber}
-use Rattle.macs_endpoint.specs.Lasting.{steps_in_call, steps_made}
+use Rattle.macs_endpoint.specs.WorkThroughCalls.{steps_in_call, steps_made}
 use Rattle.macs_endpoint.specs.Lives.{Transition}
 use Rattle.macs_endpoint.specs.State.{Call, Protected, Protects, Receives, Reply, State, Advances}
 use Rattle.macs_endpoint.specs.Step.{Step}
@@ -35,7 +35,7 @@ use Rattle.macs_edge.specs.Drawn.{CountWords, DeskWords, FaultWords, FlowsInTurn
 use Rattle.macs_edge.specs.Drawn.{TurnWords}
 use Rattle.macs_edge.specs.FaultWires.{CallsValue, failed_among}
 use Rattle.macs_edge.specs.Passing.{BecomesCapture, HasPassed, Passes, Run, RunsOver, RunsRecords, passed_record}
-use Rattle.macs_edge.specs.Relaying.{FillsSlot, HandsSlot, LaneValue, Relay, Relays, TakesTurn, TakesTurns, Way, empty_lane, summary_of}
+use Rattle.macs_edge.specs.Relaying.{FillsWaiting, HandsWaiting, LaneValue, Relay, Relays, TakesTurn, TakesTurns, Way, empty_lane, summary_of}
 use Rattle.macs_edge.specs.Resting.{IsQuiet, TakesTurnsResting, one_if}
 use Rattle.macs_edge.specs.Settling.{Settles, call_on}
 use Rattle.macs_edge.specs.WireDatagrams.{IsGiven, ReceivesDatagram}
@@ -120,8 +120,8 @@ module _ {D : Type 0} (disk_of : D → Disk) where
   -- ---- sleeps
 
   quiet : (progress : Progress) (old new : Relay D) → IsQuiet progress old new ↔ ((progress ≡ Idle)
-      × (new.to_common.slot ≡ None)
-      × (new.to_controlled.slot ≡ None) × (new.to_common.tally ≡ old.to_common.tally)
+      × (new.to_common.waiting ≡ None)
+      × (new.to_controlled.waiting ≡ None) × (new.to_common.tally ≡ old.to_common.tally)
       × (new.to_controlled.tally ≡ old.to_controlled.tally))
   quiet Idle old new = (λ is. (refl, is.0.0, is.1.0, is.0.1, is.1.1), λ is. ((is.1, is.3), (is.2, is.4)))
   quiet progress old new = (λ is. absurd is, λ is. absurd (let same = is.0 in cc))
@@ -341,40 +341,44 @@ count-words = record {
 -- ---- one turn
 
 module _ {D : Type 0} (disk_of : D → Disk) where
-  empty : (side : Side) (slot : Option (List ℕ)) (old new : Way D) → HandsSlot disk_of side slot old new → slot ≡ None
+  empty : (side : Side) (waiting : Option (List ℕ)) (old new : Way D) → HandsWaiting disk_of side waiting old new
+      → waiting ≡ None
       → new ≡ old
   empty side None old new hands is = hands
   empty side (Some frame) old new hands is = absurd (cc)
 
-  full : (side : Side) (slot : Option (List ℕ)) (old new : Way D) (frame : List ℕ) → HandsSlot disk_of side slot old new
-      → slot ≡ Some frame
-      → HandsSlot disk_of side (Some frame) old new
-  full side slot old new frame hands is = subst (λ (s : Option (List ℕ)). HandsSlot disk_of side s old new) is hands
+  full : (side : Side) (waiting : Option (List ℕ)) (old new : Way D) (frame : List ℕ)
+      → HandsWaiting disk_of side waiting old new
+      → waiting ≡ Some frame
+      → HandsWaiting disk_of side (Some frame) old new
+  full side waiting old new frame hands is =
+      subst (λ (s : Option (List ℕ)). HandsWaiting disk_of side s old new) is hands
 
-  asked : (slot : Option (List ℕ)) (from from' : WireState) (lane lane' : LaneValue)
-      → FillsSlot slot from lane from' lane' → slot ≡ None → FillsSlot None from lane from' lane'
-  asked slot from from' lane lane' fills is =
-      subst (λ (s : Option (List ℕ)). FillsSlot s from lane from' lane') is fills
+  asked : (waiting : Option (List ℕ)) (from from' : WireState) (lane lane' : LaneValue)
+      → FillsWaiting waiting from lane from' lane' → waiting ≡ None → FillsWaiting None from lane from' lane'
+  asked waiting from from' lane lane' fills is =
+      subst (λ (s : Option (List ℕ)). FillsWaiting s from lane from' lane') is fills
 
-  not_asked : (slot : Option (List ℕ)) (from from' : WireState) (lane lane' : LaneValue) (frame : List ℕ)
-      → FillsSlot slot from lane from' lane' → slot ≡ Some frame → FillsSlot (Some frame) from lane from' lane'
-  not_asked slot from from' lane lane' frame fills is =
-      subst (λ (s : Option (List ℕ)). FillsSlot s from lane from' lane') is fills
+  not_asked : (waiting : Option (List ℕ)) (from from' : WireState) (lane lane' : LaneValue) (frame : List ℕ)
+      → FillsWaiting waiting from lane from' lane' → waiting ≡ Some frame
+      → FillsWaiting (Some frame) from lane from' lane'
+  not_asked waiting from from' lane lane' frame fills is =
+      subst (λ (s : Option (List ℕ)). FillsWaiting s from lane from' lane') is fills
 
   pub turn-words : TurnWords disk_of
   turn-words = record {
     turn = λ answer old new (late, (middle, controlled, common, out, back), sound, call).
         (late, middle, controlled, common, out, back, call);
-    fills = λ from from' lane lane' fills is. asked lane.slot from from' lane lane' fills is;
-    not_asked = λ from from' lane lane' frame fills is. not_asked lane.slot from from' lane lane' frame fills is;
+    fills = λ from from' lane lane' fills is. asked lane.waiting from from' lane lane' fills is;
+    not_asked = λ from from' lane lane' frame fills is. not_asked lane.waiting from from' lane lane' frame fills is;
     filled_with = λ frame lane. refl;
     filled_none = λ frame lane. refl;
     filled_too_long = λ frame lane. refl;
     filled_failed = λ frame lane cause. refl;
     carries = λ side old new is. is;
-    empty = λ side old new hands is. empty side old.lane.slot old new hands is;
+    empty = λ side old new hands is. empty side old.lane.waiting old new hands is;
     full = λ side old new frame hands is.
-        let (reply, sound, call, from, becomes) = full side old.lane.slot old new frame hands is in
+        let (reply, sound, call, from, becomes) = full side old.lane.waiting old new frame hands is in
         (reply, call, from, becomes);
   }
 

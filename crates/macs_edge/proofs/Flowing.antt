@@ -16,7 +16,7 @@ use Rattle.macs_endpoint.specs.declared.fault.RefillFault.{RefillFault}
 use Rattle.macs_endpoint.specs.declared.fault.StepFault.{StepFault}
 use Rattle.macs_endpoint.specs.declared.progress.Step.{Step as Progress}
 use Rattle.macs_edge.specs.Flows.{AllBut, Became, Flow, IsFlow, Sent, TakenOff, given, given_at, given_by}
-use Rattle.macs_edge.specs.Relaying.{Becomes, Carries, FillsSlot, Forwards, HandsSlot, LaneValue, Relay, Relays, TakesTurn, TakesTurns, Way, empty_lane, one_dropped, one_left, summary_of, way_of}
+use Rattle.macs_edge.specs.Relaying.{Becomes, Carries, FillsWaiting, Forwards, HandsWaiting, LaneValue, Relay, Relays, TakesTurn, TakesTurns, Way, empty_lane, one_dropped, one_left, summary_of, way_of}
 use Rattle.macs_edge.specs.Settling.{Settles, Waits, call_on}
 use Rattle.macs_edge.specs.Wires.{Gives, WireState, saturated}
 use Rattle.macs_edge.specs.declared.relaying.Tally.{Tally}
@@ -214,9 +214,9 @@ flow-aside from from1 from2 to to1 to2 all all2 lane lane2 flow waiting receives
   became = subst (λ (l : LaneValue). Became flow.taken flow.missed (length flow.frames) flow.lost flow.left_out l) (sym same) flow.became;
 }
 
--- an empty slot is filled
-flow-fills : (from from1 from2 to to1 : WireState) (all : List (List ℕ)) (lane lane2 : LaneValue) (slot : Option (List ℕ)) → lane.slot ≡ slot
-    → Flow from from1 to to1 all lane → FillsSlot slot from1 lane from2 lane2 → Flow from from2 to to1 all lane2
+-- an empty lane is filled
+flow-fills : (from from1 from2 to to1 : WireState) (all : List (List ℕ)) (lane lane2 : LaneValue) (waiting : Option (List ℕ)) → lane.waiting ≡ waiting
+    → Flow from from1 to to1 all lane → FillsWaiting waiting from1 lane from2 lane2 → Flow from from2 to to1 all lane2
 flow-fills from from1 from2 to to1 all lane lane2 (Some frame) is flow (same_from, same) =
     flow-aside from from1 from2 to to1 to1 all all lane lane2 flow (ap (λ (w : WireState). w.waiting) same_from)
     (ap (λ (w : WireState). w.failed_receives) same_from) refl refl refl same
@@ -257,7 +257,7 @@ flow-fills from from1 from2 to to1 all lane lane2 None is flow (Ok Nothing, fram
     }
 flow-fills from from1 from2 to to1 all lane lane2 None is flow (Ok TooLong, frame, gives, same) =
     let became : Became flow.taken flow.missed (length flow.frames) flow.lost flow.left_out lane = flow.became in
-    let balance : flow.taken ≡ length flow.frames + flow.lost + flow.left_out + one_left lane.slot = became.all in
+    let balance : flow.taken ≡ length flow.frames + flow.lost + flow.left_out + one_left lane.waiting = became.all in
     subst (λ (l : LaneValue). Flow from from2 to to1 all l) (sym same) (record {
       taken = flow.taken + 1;
       missed = flow.missed;
@@ -299,19 +299,19 @@ flow-fills from from1 from2 to to1 all lane lane2 None is flow (Err fault, frame
     })
 
 -- a wire is asked for frames: what it sent stays
-fills-sent : (slot : Option (List ℕ)) (from : WireState) (lane : LaneValue) (from2 : WireState) (lane2 : LaneValue) → FillsSlot slot from lane from2 lane2
+fills-sent : (waiting : Option (List ℕ)) (from : WireState) (lane : LaneValue) (from2 : WireState) (lane2 : LaneValue) → FillsWaiting waiting from lane from2 lane2
     → (from2.sent ≡ from.sent) × (from2.failed_sends ≡ from.failed_sends)
 fills-sent (Some frame) from lane from2 lane2 fills = (ap (λ (w : WireState). w.sent) fills.0, ap (λ (w : WireState). w.failed_sends) fills.0)
 fills-sent None from lane from2 lane2 (Ok got, frame, gives, same) = (gives.2, gives.4)
 fills-sent None from lane from2 lane2 (Err fault, frame, gives, same) = (gives.3, gives.5)
 
 -- a frame passes: it is sent, or lost
-flow-forwards : (from from1 to to1 to2 : WireState) (all : List (List ℕ)) (lane lane2 : LaneValue) (frame passed : List ℕ) → lane.slot ≡ Some frame
-    → Flow from from1 to to1 all lane → lane2.slot ≡ None → Forwards to1 passed lane.tally to2 lane2.tally → Flow from from1 to to2 (all ++ passed ∷ []) lane2
+flow-forwards : (from from1 to to1 to2 : WireState) (all : List (List ℕ)) (lane lane2 : LaneValue) (frame passed : List ℕ) → lane.waiting ≡ Some frame
+    → Flow from from1 to to1 all lane → lane2.waiting ≡ None → Forwards to1 passed lane.tally to2 lane2.tally → Flow from from1 to to2 (all ++ passed ∷ []) lane2
 flow-forwards from from1 to to1 to2 all lane lane2 frame passed is flow none (Ok done, sends, same) =
     let balance : flow.taken ≡ length flow.frames + flow.lost + flow.left_out + 1 = flow.became.all ∙ ap (λ (s : Option (List ℕ)). length flow.frames + flow.lost + flow.left_out + one_left s) is in
     let longer : length (flow.frames ++ passed ∷ []) ≡ length flow.frames + 1 = length-append flow.frames (passed ∷ []) in
-    let left : one_left lane2.slot ≡ 0 = ap one_left none in
+    let left : one_left lane2.waiting ≡ 0 = ap one_left none in
     let was : lane.tally.passed ≡ saturated (length flow.frames) = flow.became.passed in
     let now : lane2.tally.passed ≡ saturated (lane.tally.passed + 1) = ap (λ (t : Tally). t.passed) same in
     record {
@@ -335,7 +335,7 @@ flow-forwards from from1 to to1 to2 all lane lane2 frame passed is flow none (Ok
     }
 flow-forwards from from1 to to1 to2 all lane lane2 frame passed is flow none (Err fault, sends, same) =
     let balance : flow.taken ≡ length flow.frames + flow.lost + flow.left_out + 1 = flow.became.all ∙ ap (λ (s : Option (List ℕ)). length flow.frames + flow.lost + flow.left_out + one_left s) is in
-    let left : one_left lane2.slot ≡ 0 = ap one_left none in
+    let left : one_left lane2.waiting ≡ 0 = ap one_left none in
     let was : lane.tally.faults ≡ saturated (flow.missed + flow.lost) = flow.became.faults in
     let now : lane2.tally.faults ≡ saturated (lane.tally.faults + 1) = ap (λ (t : Tally). t.faults) same in
     record {
@@ -359,11 +359,11 @@ flow-forwards from from1 to to1 to2 all lane lane2 frame passed is flow none (Er
     }
 
 -- a frame is left out
-flow-drops : (from from1 to to1 to2 : WireState) (all : List (List ℕ)) (lane lane2 : LaneValue) (frame : List ℕ) → lane.slot ≡ Some frame
-    → Flow from from1 to to1 all lane → lane2.slot ≡ None → lane2.tally ≡ one_dropped lane.tally → to2 ≡ to1 → Flow from from1 to to2 all lane2
+flow-drops : (from from1 to to1 to2 : WireState) (all : List (List ℕ)) (lane lane2 : LaneValue) (frame : List ℕ) → lane.waiting ≡ Some frame
+    → Flow from from1 to to1 all lane → lane2.waiting ≡ None → lane2.tally ≡ one_dropped lane.tally → to2 ≡ to1 → Flow from from1 to to2 all lane2
 flow-drops from from1 to to1 to2 all lane lane2 frame is flow none same same_to =
     let balance : flow.taken ≡ length flow.frames + flow.lost + flow.left_out + 1 = flow.became.all ∙ ap (λ (s : Option (List ℕ)). length flow.frames + flow.lost + flow.left_out + one_left s) is in
-    let left : one_left lane2.slot ≡ 0 = ap one_left none in
+    let left : one_left lane2.waiting ≡ 0 = ap one_left none in
     record {
       taken = flow.taken;
       missed = flow.missed;
@@ -429,8 +429,8 @@ given-stays : (side : Side) (frame : List ℕ) (reply : Reply) → Waits reply �
 given-stays side frame reply (inl waits) = given-waits reply waits
 given-stays side frame reply (inr stopped) = given-stopped side frame reply stopped
 
--- the frame of a full slot is handed in
-flow-becomes : {D : Type 0} (side : Side) (frame : List ℕ) (reply : Reply) (old new : Way D) → old.lane.slot ≡ Some frame → Becomes side frame reply old new
+-- the frame of a full lane is handed in
+flow-becomes : {D : Type 0} (side : Side) (frame : List ℕ) (reply : Reply) (old new : Way D) → old.lane.waiting ≡ Some frame → Becomes side frame reply old new
     → new.from ≡ old.from → (from to : WireState) (all more : List (List ℕ)) → more ≡ given_by reply → Flow from old.from to old.to all old.lane
     → Flow from new.from to new.to (all ++ more) new.lane
 flow-becomes side frame reply old new is (inl (passed, settles, none, sends)) same_from from to all more gives flow =
@@ -448,7 +448,7 @@ flow-becomes side frame reply old new is (inr (inr (stays, same, same_to))) same
     (ap (λ (l : List (List ℕ)). all ++ l) (gives ∙ given-stays side frame reply stays) ∙ append-nil all) same
 
 module _ {D : Type 0} (disk_of : D → Disk) (side : Side) where
-  hands-moves : (slot : Option (List ℕ)) (old new : Way D) → old.lane.slot ≡ slot → HandsSlot disk_of side slot old new → Moves disk_of side old new
+  hands-moves : (waiting : Option (List ℕ)) (old new : Way D) → old.lane.waiting ≡ waiting → HandsWaiting disk_of side waiting old new → Moves disk_of side old new
   hands-moves None old new is same = record {
     calls = [];
     frames = tt;
@@ -475,13 +475,13 @@ module _ {D : Type 0} (disk_of : D → Disk) (side : Side) where
 
   carries-moves : (old new : Way D) → Carries disk_of side old new → Moves disk_of side old new
   carries-moves old new (from, lane, fills, hands) =
-      let moves = hands-moves lane.slot (way_of old.endpoint from old.to lane) new refl hands in
-      let sent = fills-sent old.lane.slot old.from old.lane from lane fills in
+      let moves = hands-moves lane.waiting (way_of old.endpoint from old.to lane) new refl hands in
+      let sent = fills-sent old.lane.waiting old.from old.lane from lane fills in
       record {
         calls = moves.calls;
         frames = moves.frames;
         lives = moves.lives;
-        here = λ from0 to0 all flow. moves.here from0 to0 all (flow-fills from0 old.from from to0 old.to all old.lane lane old.lane.slot refl flow fills);
+        here = λ from0 to0 all flow. moves.here from0 to0 all (flow-fills from0 old.from from to0 old.to all old.lane lane old.lane.waiting refl flow fills);
         there = moves.there;
         from_sent = moves.from_sent ∙ sent.0;
         from_sends = moves.from_sends ∙ sent.1;
@@ -603,8 +603,8 @@ module _ {D : Type 0} (disk_of : D → Disk) where
   goes-flows old new goes =
       let one = goes.out in
       let two = goes.back in
-      let all_one : one.taken ≡ length one.frames + one.lost + one.left_out + one_left new.to_common.slot = one.became.all in
-      let all_two : two.taken ≡ length two.frames + two.lost + two.left_out + one_left new.to_controlled.slot = two.became.all in
+      let all_one : one.taken ≡ length one.frames + one.lost + one.left_out + one_left new.to_common.waiting = one.became.all in
+      let all_two : two.taken ≡ length two.frames + two.lost + two.left_out + one_left new.to_controlled.waiting = two.became.all in
       let faults_one : new.to_common.tally.faults ≡ saturated (one.missed + one.lost) = one.became.faults in
       let faults_two : new.to_controlled.tally.faults ≡ saturated (two.missed + two.lost) = two.became.faults in
       let dropped_one : new.to_common.tally.dropped ≡ saturated one.left_out = one.became.dropped in
@@ -617,7 +617,7 @@ module _ {D : Type 0} (disk_of : D → Disk) where
           sent = one.became.passed;
           delivered = two.became.passed;
           faults = omega (arith, faults_one, faults_two);
-          others = one.left_out + two.left_out + one_left new.to_common.slot + one_left new.to_controlled.slot;
+          others = one.left_out + two.left_out + one_left new.to_common.waiting + one_left new.to_controlled.waiting;
           dropped = omega (arith, dropped_one, dropped_two);
           all = omega (arith, all_one, all_two);
         },

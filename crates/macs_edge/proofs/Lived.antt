@@ -12,7 +12,8 @@ use Rattle.macs_edge.specs.Attending.{Attends, AttendsTurns, Does, IsAttended, O
 use Rattle.macs_edge.specs.declared.attending.DeskEvent.{DeskEvent}
 use Rattle.macs_edge.specs.Settling.{call_on}
 use Rattle.macs_edge.specs.Passing.{Run, RunsOver, RunsRecords, Stops}
-use Rattle.macs_edge.specs.Relaying.{Carries, HandsSlot, IsRelayed, Relay, Relays, TakesTurn, TakesTurns, Way, way_of}
+use Rattle.macs_edge.specs.Relaying.{Carries, HandsWaiting, IsRelayed, Relay, Relays, TakesTurn, TakesTurns, Way}
+use Rattle.macs_edge.specs.Relaying.{way_of}
 use Rattle.macs_edge.specs.Wires.{WireState}
 use Rattle.macs_edge.specs.declared.passing.RunFault.{RunFault}
 use Rattle.macs_edge.specs.declared.passing.RunFault.TheVariants.{Device, Pcap}
@@ -52,13 +53,13 @@ module _ {D : Type 0} (disk_of : D → Disk) where
 
   -- ---- relays
 
-  lives-hands : (side : Side) (slot : Option (List ℕ)) (old new : Way D) → HandsSlot disk_of side slot old new → LivesOn disk_of old.endpoint new.endpoint
+  lives-hands : (side : Side) (waiting : Option (List ℕ)) (old new : Way D) → HandsWaiting disk_of side waiting old new → LivesOn disk_of old.endpoint new.endpoint
   lives-hands side None old new is = ([], ap (λ (w : Way D). w.endpoint) is)
   lives-hands side (Some frame) old new (reply, sound, call, from, becomes) =
       (record { call = call_on side frame; reply = reply; after = new.endpoint } ∷ [], (sound, call, refl))
 
   lives-carries : (side : Side) (old new : Way D) → Carries disk_of side old new → LivesOn disk_of old.endpoint new.endpoint
-  lives-carries side old new (from, lane, fills, hands) = lives-hands side lane.slot (way_of old.endpoint from old.to lane) new hands
+  lives-carries side old new (from, lane, fills, hands) = lives-hands side lane.waiting (way_of old.endpoint from old.to lane) new hands
 
   lives-turn : (answer : Result Progress StepFault) (old new : Relay D) → TakesTurn disk_of answer old new → LivesOn disk_of old.endpoint new.endpoint
   lives-turn answer old new (endpoint, (mid, controlled, common, one, two), sound, call) =

@@ -23,7 +23,7 @@ use Rattle.macs_pcap.specs.declared.fault.PcapFault.{PcapFault}
 use Rattle.macs_pcap.specs.declared.fault.PcapFault.TheVariants.{Write}
 use Rattle.macs_pcap.specs.declared.header.Header.{Header}
 use Rattle.macs_endpoint.specs.Calls.{IsCall}
-use Rattle.macs_endpoint.specs.Lasting.{steps_made}
+use Rattle.macs_endpoint.specs.WorkThroughCalls.{steps_made}
 use Rattle.macs_endpoint.specs.Faults.{refill_fault_named}
 use Rattle.macs_endpoint.specs.Lives.{Lives, Transition}
 use Rattle.macs_endpoint.specs.State.{Advanced, Advances, Logs, Protected, Protects, Received, Receives, Reply, State}
@@ -77,19 +77,19 @@ use Rattle.macs_edge.specs.declared.wire.WireFault.TheVariants as fault
 
 -- ---- turns
 
--- A relay from empty slots comes to a flow in which it makes one step a turn: as many as it has turns where it is
+-- A relay from empty lanes comes to a flow in which it makes one step a turn: as many as it has turns where it is
 -- answered Ok, and where a step is answered with a fault at most as many.
 abbrev pub FlowsInTurns : {D : Type 0} → (D → Disk) → ℕ → Relay D → Result RelaySummary RefillFault → Relay D → Type 0
 FlowsInTurns disk_of turns old result new = (flow : IsFlow disk_of old new (summary_of new.to_common new.to_controlled))
     × OnOk result (steps_made flow.calls ≡ turns) × OnErr result (steps_made flow.calls ≤ turns)
 
--- A turn is quiet where its step found no work, both slots are empty after it, and nothing was counted in it. A relay
+-- A turn is quiet where its step found no work, both lanes are empty after it, and nothing was counted in it. A relay
 -- that rests sleeps once after each quiet turn, and not after another. It takes all its turns so; or fewer, and then
 -- one whose step is answered with the fault, with no sleep after it.
 pub record RestWords {D : Type 0} (disk_of : D → Disk) : Type 0 where
   pub quiet : (progress : Progress) (old new : Relay D) → IsQuiet progress old new ↔ ((progress ≡ Idle)
-      × (new.to_common.slot ≡ None)
-      × (new.to_controlled.slot ≡ None) × (new.to_common.tally ≡ old.to_common.tally)
+      × (new.to_common.waiting ≡ None)
+      × (new.to_controlled.waiting ≡ None) × (new.to_common.tally ≡ old.to_common.tally)
       × (new.to_controlled.tally ≡ old.to_controlled.tally))
   pub none : (old new : Relay D) (slept : ℕ) → TakesTurnsResting disk_of 0 old slept new → (new ≡ old) × (slept ≡ 0)
   pub rested : (turns slept : ℕ) (old new : Relay D) (summary : RelaySummary)
@@ -269,9 +269,9 @@ pub record CountWords : Type 0 where
 -- ---- one turn
 
 -- In a turn plain frames are carried first, and then frames from the common side; a step of the endpoint ends it. An
--- empty slot takes the frame that its wire gives, if it gives one; one that is too long is counted as dropped, and a
--- failed receive as a fault; a wire is not asked where the slot is full. A
--- full slot is handed in: its frame passes and is sent once, or is left out and counted so, and the slot is empty; or
+-- empty lane takes the frame that its wire gives, if it gives one; one that is too long is counted as dropped, and a
+-- failed receive as a fault; a wire is not asked where the lane is full. A
+-- full lane is handed in: its frame passes and is sent once, or is left out and counted so, and the lane is empty; or
 -- it waits, or finds the endpoint stopped, and stays.
 pub record TurnWords {D : Type 0} (disk_of : D → Disk) : Type 0 where
   pub turn : (answer : Result Progress StepFault) (old new : Relay D) → TakesTurn disk_of answer old new
@@ -282,13 +282,13 @@ pub record TurnWords {D : Type 0} (disk_of : D → Disk) : Type 0 where
       × Carries disk_of Common (way_of middle common controlled old.to_controlled)
       (way_of late new.common new.controlled new.to_controlled)
       × IsCall disk_of late Advances (Advanced answer) new.endpoint
-  pub fills : (from from' : WireState) (lane lane' : LaneValue) → Fills from lane from' lane' → lane.slot ≡ None
+  pub fills : (from from' : WireState) (lane lane' : LaneValue) → Fills from lane from' lane' → lane.waiting ≡ None
       → (answer : Result Got WireFault) × (frame : List ℕ) × wires.Receives from answer frame from'
       × (lane' ≡ filled answer frame lane)
   pub not_asked : (from from' : WireState) (lane lane' : LaneValue) (frame : List ℕ) → Fills from lane from' lane'
-      → lane.slot ≡ Some frame → (from' ≡ from) × (lane' ≡ lane)
+      → lane.waiting ≡ Some frame → (from' ≡ from) × (lane' ≡ lane)
   pub filled_with : (frame : List ℕ) (lane : LaneValue)
-      → filled (Ok Frame) frame lane ≡ record lane { slot = Some frame }
+      → filled (Ok Frame) frame lane ≡ record lane { waiting = Some frame }
   pub filled_none : (frame : List ℕ) (lane : LaneValue) → filled (Ok Nothing) frame lane ≡ lane
   pub filled_too_long : (frame : List ℕ) (lane : LaneValue)
       → filled (Ok TooLong) frame lane ≡ record lane { tally = one_dropped lane.tally }
@@ -297,13 +297,13 @@ pub record TurnWords {D : Type 0} (disk_of : D → Disk) : Type 0 where
   pub carries : (side : Side) (old new : Way D) → Carries disk_of side old new → (from : WireState) × (lane : LaneValue)
       × Fills old.from old.lane from lane
       × HandsOver disk_of side (way_of old.endpoint from old.to lane) new
-  pub empty : (side : Side) (old new : Way D) → HandsOver disk_of side old new → old.lane.slot ≡ None → new ≡ old
+  pub empty : (side : Side) (old new : Way D) → HandsOver disk_of side old new → old.lane.waiting ≡ None → new ≡ old
   pub full : (side : Side) (old new : Way D) (frame : List ℕ) → HandsOver disk_of side old new
-      → old.lane.slot ≡ Some frame → (reply : Reply)
+      → old.lane.waiting ≡ Some frame → (reply : Reply)
       × IsCall disk_of old.endpoint (call_on side frame) reply new.endpoint × (new.from ≡ old.from)
-      × (((passed : List ℕ) × Settles reply (Some passed) × (new.lane.slot ≡ None)
+      × (((passed : List ℕ) × Settles reply (Some passed) × (new.lane.waiting ≡ None)
       × Forwards old.to passed old.lane.tally new.to new.lane.tally)
-      ⊎ (Settles reply None × (new.lane.slot ≡ None) × (new.lane.tally ≡ one_dropped old.lane.tally)
+      ⊎ (Settles reply None × (new.lane.waiting ≡ None) × (new.lane.tally ≡ one_dropped old.lane.tally)
       × (new.to ≡ old.to))
       ⊎ ((Waits reply ⊎ IsStopped (call_on side frame) reply) × (new.lane ≡ old.lane) × (new.to ≡ old.to)))
 

@@ -56,10 +56,10 @@ pub record Sent (old new : WireState) (all frames : List (List ℕ)) (lost : ℕ
   pub all_but : AllBut lost all frames
   pub failed : saturated new.failed_sends ≡ saturated (old.failed_sends + lost)
 
--- What became of the frames that were taken one way: they were sent, lost or left out, or the last one is still in the slot. What is
+-- What became of the frames that were taken one way: they were sent, lost or left out, or the last one is still in the lane. What is
 -- counted is that, up to the greatest number
 pub record Became (taken missed sent lost left_out : ℕ) (lane : LaneValue) : Type 0 where
-  pub all : taken ≡ sent + lost + left_out + one_left lane.slot
+  pub all : taken ≡ sent + lost + left_out + one_left lane.waiting
   pub passed : lane.tally.passed ≡ saturated sent
   pub dropped : lane.tally.dropped ≡ saturated left_out
   pub faults : lane.tally.faults ≡ saturated (missed + lost)

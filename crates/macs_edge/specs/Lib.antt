@@ -5,7 +5,7 @@ pub mod Wires
 pub mod MemWires
 pub mod Datagrams
 pub mod WireDatagrams
-pub mod Sparing
+pub mod SparedSockets
 pub mod UdpWires
 pub mod FaultWires
 pub mod Relaying

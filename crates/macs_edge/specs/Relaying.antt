@@ -36,35 +36,35 @@ one_fault tally = record tally { faults = saturated (tally.faults + 1) }
 
 -- ---- one way
 
--- the slot of one way, and what became of the frames before the one in it
+-- the frame that waits on one way, and what became of those before it
 pub record LaneValue : Type 0 where
-  pub slot : Option (List ℕ)
+  pub waiting : Option (List ℕ)
   pub tally : Tally
 
 -- what a way holds: a frame where it is full
 abbrev pub lane_value : Lane → LaneValue
-lane_value lane = record { slot = if lane.is_full then Some lane.frame.items else None; tally = lane.tally }
+lane_value lane = record { waiting = if lane.is_full then Some lane.frame.items else None; tally = lane.tally }
 
 -- a way on which no frame was taken
 abbrev pub empty_lane : LaneValue
-empty_lane = record { slot = None; tally = record { passed = 0; dropped = 0; faults = 0 } }
+empty_lane = record { waiting = None; tally = record { passed = 0; dropped = 0; faults = 0 } }
 
--- what a wire's answer does to an empty slot
+-- what a wire's answer does to an empty lane
 abbrev pub filled : Result Got WireFault → List ℕ → LaneValue → LaneValue
-filled (Ok Frame) frame lane = record lane { slot = Some frame }
+filled (Ok Frame) frame lane = record lane { waiting = Some frame }
 filled (Ok Nothing) frame lane = lane
 filled (Ok TooLong) frame lane = record lane { tally = one_dropped lane.tally }
 filled (Err fault) frame lane = record lane { tally = one_fault lane.tally }
 
--- the first frame of a wire is taken where the slot is empty; a wire is not asked where it is full
-abbrev pub FillsSlot : Option (List ℕ) → WireState → LaneValue → WireState → LaneValue → Type 0
-FillsSlot (Some frame) from lane from' lane' = (from' ≡ from) × (lane' ≡ lane)
-FillsSlot None from lane from' lane' =
+-- the first frame of a wire is taken where the lane is empty; a wire is not asked where it is full
+abbrev pub FillsWaiting : Option (List ℕ) → WireState → LaneValue → WireState → LaneValue → Type 0
+FillsWaiting (Some frame) from lane from' lane' = (from' ≡ from) × (lane' ≡ lane)
+FillsWaiting None from lane from' lane' =
     (answer : Result Got WireFault) × (frame : List ℕ) × Receives from answer frame from' × (lane' ≡ filled answer frame lane)
 
--- the same of the slot of a way
+-- the same of the lane of a way
 abbrev pub Fills : WireState → LaneValue → WireState → LaneValue → Type 0
-Fills from lane from' lane' = FillsSlot lane.slot from lane from' lane'
+Fills from lane from' lane' = FillsWaiting lane.waiting from lane from' lane'
 
 -- what a wire's answer to a frame that passes counts as
 abbrev pub forwarded : Result (Unit {0}) WireFault → Tally → Tally
@@ -87,26 +87,27 @@ pub record Way (D : Type 0) : Type 0 where
 abbrev pub way_of : {D : Type 0} → EndpointValue D → WireState → WireState → LaneValue → Way D
 way_of endpoint from to lane = record { endpoint = endpoint; from = from; to = to; lane = lane }
 
--- What becomes of a frame that was handed in: it passes and is sent; it is left out; or it stays in the slot, since it waits for packet
+-- What becomes of a frame that was handed in: it passes and is sent; it is left out; or it stays in the lane, since it waits for packet
 -- numbers or the endpoint is stopped
 abbrev pub Becomes : {D : Type 0} → Side → List ℕ → Reply → Way D → Way D → Type 0
 Becomes side frame reply old new =
-    ((passed : List ℕ) × Settles reply (Some passed) × (new.lane.slot ≡ None) × Forwards old.to passed old.lane.tally new.to new.lane.tally)
-    ⊎ (Settles reply None × (new.lane.slot ≡ None) × (new.lane.tally ≡ one_dropped old.lane.tally) × (new.to ≡ old.to))
+    ((passed : List ℕ) × Settles reply (Some passed) × (new.lane.waiting ≡ None) × Forwards old.to passed old.lane.tally new.to new.lane.tally)
+    ⊎ (Settles reply None × (new.lane.waiting ≡ None) × (new.lane.tally ≡ one_dropped old.lane.tally)
+    × (new.to ≡ old.to))
     ⊎ ((Waits reply ⊎ IsStopped (call_on side frame) reply) × (new.lane ≡ old.lane) × (new.to ≡ old.to))
 
--- the frame of a full slot is handed in
-abbrev pub HandsSlot : {D : Type 0} → (D → Disk) → Side → Option (List ℕ) → Way D → Way D → Type 0
-HandsSlot disk_of side None old new = new ≡ old
-HandsSlot disk_of side (Some frame) old new =
+-- the frame of a full lane is handed in
+abbrev pub HandsWaiting : {D : Type 0} → (D → Disk) → Side → Option (List ℕ) → Way D → Way D → Type 0
+HandsWaiting disk_of side None old new = new ≡ old
+HandsWaiting disk_of side (Some frame) old new =
     (reply : Reply) × IsSoundEndpoint old.endpoint × IsCall disk_of old.endpoint (call_on side frame) reply new.endpoint
     × (new.from ≡ old.from) × Becomes side frame reply old new
 
--- the same of the slot of a way
+-- the same of the lane of a way
 abbrev pub HandsOver : {D : Type 0} → (D → Disk) → Side → Way D → Way D → Type 0
-HandsOver disk_of side old new = HandsSlot disk_of side old.lane.slot old new
+HandsOver disk_of side old new = HandsWaiting disk_of side old.lane.waiting old new
 
--- One way in one turn: an empty slot is filled, where the wire has a frame; then the frame of a full one is handed in
+-- One way in one turn: an empty lane is filled, where the wire has a frame; then the frame of a full one is handed in
 abbrev pub Carries : {D : Type 0} → (D → Disk) → Side → Way D → Way D → Type 0
 Carries disk_of side old new = (from : WireState) × (lane : LaneValue)
     × Fills old.from old.lane from lane × HandsOver disk_of side (way_of old.endpoint from old.to lane) new
@@ -146,17 +147,17 @@ TakesTurns {D} disk_of (suc turns) old new = (between : Relay D) × (progress : 
 
 -- ---- a run
 
--- how many frames are left in a slot
+-- how many frames are left in a lane
 abbrev pub one_left : Option (List ℕ) → ℕ
 one_left None = 0
 one_left (Some frame) = 1
 
--- what became of the frames of both ways: a frame that is left in a slot is dropped
+-- what became of the frames of both ways: a frame that is left in a lane is dropped
 abbrev pub summary_of : LaneValue → LaneValue → RelaySummary
 summary_of to_common to_controlled = record {
   sent = to_common.tally.passed;
   delivered = to_controlled.tally.passed;
-  dropped = saturated (to_common.tally.dropped + to_controlled.tally.dropped + one_left to_common.slot + one_left to_controlled.slot);
+  dropped = saturated (to_common.tally.dropped + to_controlled.tally.dropped + one_left to_common.waiting + one_left to_controlled.waiting);
   faults = saturated (to_common.tally.faults + to_controlled.tally.faults);
 }
 

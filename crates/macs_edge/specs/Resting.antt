@@ -14,16 +14,16 @@ use Rattle.macs_edge.specs.Wires.{WireState}
 use Rattle.macs_edge.specs.declared.relaying.RelaySummary.{RelaySummary}
 use Rattle.macs_edge.specs.declared.relaying.Tally.{Tally}
 
--- a way rests: its slot is empty, and nothing was counted since
+-- a way rests: its lane is empty, and nothing was counted since
 abbrev pub WayRests : Tally → LaneValue → Type 0
-WayRests before lane = (lane.slot ≡ None) × (lane.tally ≡ before)
+WayRests before lane = (lane.waiting ≡ None) × (lane.tally ≡ before)
 
 -- a step found no work, and both ways rest
 abbrev pub AllRest : Progress → Tally → Tally → LaneValue → LaneValue → Type 0
 AllRest Idle out_before back_before out back = WayRests out_before out × WayRests back_before back
 AllRest progress out_before back_before out back = ⊥
 
--- A turn with this step is quiet: it found no work, both slots are empty after it, and neither a frame nor a failed
+-- A turn with this step is quiet: it found no work, both lanes are empty after it, and neither a frame nor a failed
 -- call of a wire was counted
 -- in it
 abbrev pub IsQuiet : {D : Type 0} → Progress → Relay D → Relay D → Type 0

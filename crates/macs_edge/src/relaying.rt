@@ -35,7 +35,7 @@ pub(crate) struct Tally {
     pub faults: u64,
 }
 
-/// One way through an endpoint: the slot for the frame that is handed in next, and what became of those
+/// One way through an endpoint: the frame that is handed in next, and what became of those
 /// before it.
 #[derive(Drop)]
 pub(crate) struct Lane {
@@ -65,7 +65,7 @@ impl Lane {
         }
     }
 
-    /// Whether the slot is empty, and nothing was counted since.
+    /// Whether the lane is empty, and nothing was counted since.
     fn rests(&self, before: Tally) -> bool
         ensures { IsTrue result ↔ WayRests before (lane_value self.now) }
     {
@@ -94,7 +94,7 @@ impl Idle for Awake {
     fn idle(&mut self) {}
 }
 
-/// Takes a frame from a wire into an empty slot.
+/// Takes a frame from a wire into an empty lane.
 fn fill<F: Wire>(from: &mut F, lane: &mut Lane)
     ensures { Fills (F.state from.old) (lane_value lane.old) (F.state from.new) (lane_value lane.new) }
 {
@@ -120,7 +120,7 @@ fn forward<T: Wire>(to: &mut T, frame: &[u8], tally: &mut Tally)
     }
 }
 
-/// Hands in the frame of a full slot. It stays there where it waits for packet numbers, and where the
+/// Hands in the frame of a full lane. It stays there where it waits for packet numbers, and where the
 /// endpoint is stopped.
 fn hand_over<D: SectorDisk, T: Wire>(
     endpoint: &mut Endpoint<D>,
@@ -167,14 +167,14 @@ fn carry<D: SectorDisk, F: Wire, T: Wire>(
     hand_over(endpoint, side, to, lane, out);
 }
 
-/// How many frames are left in a slot.
+/// How many frames are left in a lane.
 fn left(lane: &Lane) -> u64
-    ensures { result ≡ one_left (lane_value lane.now).slot }
+    ensures { result ≡ one_left (lane_value lane.now).waiting }
 {
     u64::from(lane.is_full)
 }
 
-/// What became of the frames of both ways. A frame that is left in a slot is dropped.
+/// What became of the frames of both ways. A frame that is left in a lane is dropped.
 pub(crate) fn summed(to_common: &Lane, to_controlled: &Lane) -> RelaySummary
     ensures { result ≡ summary_of (lane_value to_common.now) (lane_value to_controlled.now) }
 {
@@ -229,7 +229,7 @@ pub(crate) fn turn<D: SectorDisk, P: Wire, C: Wire>(
     endpoint.step()
 }
 
-/// Whether a turn was quiet: its step found no work, both slots are empty after it, and neither a
+/// Whether a turn was quiet: its step found no work, both lanes are empty after it, and neither a
 /// frame nor a failed call of a wire was counted in it.
 pub(crate) fn was_quiet(
     step: &Step,
@@ -260,7 +260,7 @@ fn rest<I: Idle>(idle: &mut I, is_quiet: bool)
 /// controlled wire, protected, and sent on the common wire; then a frame is taken from the common wire, and
 /// sent on the controlled wire if it is delivered; then the work on the disk goes on by one `step`, where
 /// there is any: at most one device call stands between two frames. A frame that waits for packet numbers
-/// stays in its slot for the next turn, and no other is taken on its side. No frame is sent twice, not
+/// stays in its lane for the next turn, and no other is taken on its side. No frame is sent twice, not
 /// even after a failed send.
 ///
 /// Ends with the first turn whose step is refused, with the fault of the same name: the frames of that turn
@@ -282,7 +282,7 @@ pub fn relay<D: SectorDisk, P: Wire, C: Wire>(
 }
 
 /// Relays frames as `relay` does. It sleeps once after each quiet turn, and after no other: one
-/// whose step found no work, which leaves both slots empty, and in which neither a frame nor a
+/// whose step found no work, which leaves both lanes empty, and in which neither a frame nor a
 /// failed call of a wire was counted. A sleep touches neither the endpoint nor the wires. There is
 /// none after a turn whose step is refused.
 pub fn relay_resting<D: SectorDisk, P: Wire, C: Wire, I: Idle>(

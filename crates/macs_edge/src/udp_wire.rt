@@ -7,7 +7,7 @@ ghost use Rattle.macs_edge.specs.Wires.{FillsBuffer, saturated};
 
 use crate::counts::{Counted, WireCounts, takes_one};
 use crate::datagrams::Datagrams;
-use crate::sparing::Sparing;
+use crate::spared_sockets::SparedSocket;
 use crate::wire::{Got, Wire, WireFault};
 use macs_frame::{FrameBuf, MAX_FRAME};
 use std::alloc::{AllocError, Allocator};
@@ -147,7 +147,7 @@ impl<A: Allocator> UdpWire<A, UdpSocket> {
 impl<A: Allocator, S: Datagrams> UdpWire<A, S> {
     ghost use Rattle.std.specs.Prelude.{◌≡◌, length, None, IfErr, IfOk};
     ghost use Rattle.macs_edge.specs.Counts.{no_counts, with_buffer};
-    ghost use Rattle.macs_edge.specs.Sparing.{over_socket};
+    ghost use Rattle.macs_edge.specs.SparedSockets.{over_socket};
     ghost use Rattle.macs_edge.specs.UdpWires.{counts_of, peer_of, socket_of, udp_wire_state};
     ghost use Rattle.macs_edge.specs.declared.udp_wire.BindFault.TheVariants.{Memory};
 
@@ -201,8 +201,8 @@ impl<A: Allocator, S: Datagrams> UdpWire<A, S> {
     }
 
     /// The same wire over a socket that is asked less often where nothing comes: so many receives in a row are left
-    /// out at most (`Sparing`).
-    pub fn sparing(self, most: u8) -> UdpWire<A, Sparing<S>>
+    /// out at most (`SparedSocket`).
+    pub fn sparing(self, most: u8) -> UdpWire<A, SparedSocket<S>>
         ensures state { udp_wire_state result ≡ udp_wire_state self }
         ensures peer { peer_of result ≡ peer_of self }
         ensures socket { socket_of result ≡ over_socket (socket_of self) most }
@@ -221,7 +221,7 @@ impl<A: Allocator, S: Datagrams> UdpWire<A, S> {
             ..
         } = self;
         UdpWire {
-            socket: Sparing::new(socket, most),
+            socket: SparedSocket::new(socket, most),
             peer,
             room,
             strangers,

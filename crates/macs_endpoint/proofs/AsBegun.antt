@@ -7,7 +7,7 @@ use Rattle.macs_store.specs.Value.{IsIdle, StoreValue, standing_in, standing_the
 use Rattle.macs_endpoint.specs.Advancing.{BeginsWith, GoesOn, Piece, ToRaise, next_piece}
 use Rattle.macs_endpoint.specs.Calls.{AdvancesIn, IsCall, Rests}
 use Rattle.macs_endpoint.specs.Ceilings.{CeilingsAfter, Raise, standing_with_raise}
-use Rattle.macs_endpoint.specs.Lasting.{Lasts}
+use Rattle.macs_endpoint.specs.WorkThroughCalls.{Lasts}
 use Rattle.macs_endpoint.specs.Limits.{IsStill}
 use Rattle.macs_endpoint.specs.Lives.{Lives, Transition}
 use Rattle.macs_endpoint.specs.State.{Advanced, AdvancedLong, Advances, Call, Commands, Logs, Protected, Protects, Ran, Received, Receives, Refilled, Refills, RefusedLong, Reply, State, Submits, Submitted, no_logs}

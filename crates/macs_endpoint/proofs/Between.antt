@@ -6,7 +6,7 @@ use Rattle.macs_store.specs.Value.{IsIdle, StoreValue}
 use Rattle.macs_endpoint.specs.Advancing.{AdvancesAs, BeginsWith, Piece, ToKeep, ToRaise, next_piece, piece_among, turn_after, turn_after_step}
 use Rattle.macs_endpoint.specs.Calls.{AdvancesIn, IsCall}
 use Rattle.macs_endpoint.specs.Ceilings.{Raise}
-use Rattle.macs_endpoint.specs.Lasting.{IsNotDone, NoneDone, reservations_in_reply, reservations_made}
+use Rattle.macs_endpoint.specs.WorkThroughCalls.{IsNotDone, NoneDone, reservations_in_reply, reservations_made}
 use Rattle.macs_endpoint.specs.Limits.{IsStill}
 use Rattle.macs_endpoint.specs.Lives.{Lives, Transition}
 use Rattle.macs_endpoint.specs.Needed.{raise_in}

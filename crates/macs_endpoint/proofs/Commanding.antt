@@ -27,10 +27,10 @@ use Rattle.macs_endpoint.specs.Advancing.{turn_after}
 use Rattle.macs_endpoint.specs.Calls.{Fails, IsCall, Rests}
 use Rattle.macs_endpoint.specs.Ceilings.{Raise, StandsRan, standing_with_reserved}
 use Rattle.macs_endpoint.specs.Counting.{channel_counters_after_command}
-use Rattle.macs_endpoint.specs.Keeping.{KeepsCommand, most_in_command}
+use Rattle.macs_endpoint.specs.KeptCommands.{KeepsCommand, most_in_command}
 use Rattle.macs_endpoint.specs.Limits.{IsLimited, IsStill}
 use Rattle.macs_endpoint.specs.Restart.{Fits, FitsCall, state_during, state_taking_alone}
-use Rattle.macs_endpoint.specs.Spending.{reserved_in}
+use Rattle.macs_endpoint.specs.RefillCosts.{reserved_in}
 use Rattle.macs_endpoint.specs.State.{Accepts, Commands, Logs, Ran, State, state_after_fault, state_with_in_hand}
 use Rattle.macs_endpoint.specs.Step.{Step, next_after, numbers_after}
 use Rattle.macs_endpoint.specs.Value.{AreChannels, EndpointValue, IsBacked, IsSoundEndpoint, disk_in, is_stopped, state_of}

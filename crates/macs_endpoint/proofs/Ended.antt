@@ -23,7 +23,7 @@ use Rattle.macs_store.specs.Stepping.{Finishes, HasInHand, Steps}
 use Rattle.macs_store.specs.Table.{standing_of}
 use Rattle.macs_store.specs.Value.{IsIdle, IsStored, standing_in, standing_then}
 use Rattle.macs_store.specs.Value as store
-use Rattle.macs_store.specs.declared.hand.Hand.{Hand}
+use Rattle.macs_store.specs.declared.change.Change.{Change}
 use Rattle.macs_endpoint.specs.Ceilings.{Raise, standing_with_raise, standing_with_reserved}
 use Rattle.macs_endpoint.specs.Faults.{refill_fault_of}
 use Rattle.macs_endpoint.specs.Needed.{raise_in}
@@ -403,8 +403,8 @@ module _ {D : Type 0} (disk_of : D → disk.Disk) (e : EndpointValue D) (kept : 
     fault = tt;
     same = tt;
     still = λ idle. refl;
-    slots = sym (ap (λ (h : Hand). store.slots_with e.store h) rest.store);
-    generation = sym (ap (λ (h : Hand). store.generation_with e.store h) rest.store);
+    slots = sym (ap (λ (h : Change). store.slots_with e.store h) rest.store);
+    generation = sym (ap (λ (h : Change). store.generation_with e.store h) rest.store);
     most = omega arith;
   }
 

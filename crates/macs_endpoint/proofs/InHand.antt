@@ -19,7 +19,7 @@ use Rattle.macs_store.specs.Found.{StandsFor, StandsForEither}
 use Rattle.macs_store.specs.Standing.{Ceilings, Standing}
 use Rattle.macs_store.specs.Value.{IsIdle, IsStored, standing_in, standing_then}
 use Rattle.macs_store.specs.Value as store
-use Rattle.macs_store.specs.declared.hand.Hand.{Hand}
+use Rattle.macs_store.specs.declared.change.Change.{Change}
 use Rattle.macs_store.proofs.Keeping.{in_hand-image}
 use Rattle.macs_endpoint.specs.Ceilings.{Raise, RaiseRx, RaiseTx, standing_with_raise}
 use Rattle.macs_endpoint.specs.Restart.{Fits, rx_limit}
@@ -110,7 +110,7 @@ module _ {D : Type 0} (e : EndpointValue D) (kept : IsSoundEndpoint e) where
   before = standing_in e.store
 
   leads_by : IsAtRest e ⊎ (IsReserving e ⊎ IsKeeping e) → (after : Standing) × (standing_then e.store ≡ Some after)
-  leads_by (inl rest) = (before, ap (λ (h : Hand). store.standing_with before h) rest.store)
+  leads_by (inl rest) = (before, ap (λ (h : Change). store.standing_with before h) rest.store)
   leads_by (inr (inl work)) = (standing_with_raise before work.raise, work.leads)
   leads_by (inr (inr work)) = (work.after, work.leads)
 
@@ -144,7 +144,7 @@ module _ {D : Type 0} (e : EndpointValue D) (kept : IsSoundEndpoint e) where
     fits_by : (after : Standing) → standing_then e.store ≡ Some after → IsAtRest e ⊎ (IsReserving e ⊎ IsKeeping e)
         → StandsForEither before after image → Fits this_edition sectors image state
     fits_by after leads (inl rest) left =
-        let same : before ≡ after = some_is before after (sym (ap (λ (h : Hand). store.standing_with before h) rest.store) ∙ leads) in
+        let same : before ≡ after = some_is before after (sym (ap (λ (h : Change). store.standing_with before h) rest.store) ∙ leads) in
         elim left.0 [
           | inl finds ↦ fits-ahead sectors image size state before.ceilings (kept-ahead e kept) finds
           | inr finds ↦ fits-ahead sectors image size state before.ceilings (kept-ahead e kept)

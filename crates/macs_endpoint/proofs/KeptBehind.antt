@@ -13,11 +13,11 @@ use Rattle.macs_endpoint.specs.Advancing.{turn_after}
 use Rattle.macs_endpoint.specs.Calls.{Fails}
 use Rattle.macs_endpoint.specs.Ceilings.{StandsRan}
 use Rattle.macs_endpoint.specs.Counting.{channel_counters_after}
-use Rattle.macs_endpoint.specs.Keeping.{KeepsCommand, most_in_command}
+use Rattle.macs_endpoint.specs.KeptCommands.{KeepsCommand, most_in_command}
 use Rattle.macs_endpoint.specs.Limits.{IsLimited, IsStill}
 use Rattle.macs_endpoint.specs.Reserving.{FitsState, ReservationEnds}
 use Rattle.macs_endpoint.specs.Restart.{FitsCall}
-use Rattle.macs_endpoint.specs.Spending.{reserved_in}
+use Rattle.macs_endpoint.specs.RefillCosts.{reserved_in}
 use Rattle.macs_endpoint.specs.State.{Commands, Logs, Ran, State, no_logs, state_with_in_hand}
 use Rattle.macs_endpoint.specs.Step.{Step}
 use Rattle.macs_endpoint.specs.Value.{EndpointValue, IsAtRest, IsBacked, IsKeeping, IsReserving, IsSoundEndpoint, disk_in, is_stopped, state_of}
@@ -29,7 +29,7 @@ use Rattle.macs_endpoint.specs.declared.turn.Turn.TheVariants as turn
 use Rattle.macs_endpoint.proofs.Commanding.{by_accepted, ok_not_err}
 use Rattle.macs_endpoint.proofs.Ended.{not_stopped}
 use Rattle.macs_endpoint.proofs.Fitting.{fits-commanding, fits-holding}
-use Rattle.macs_endpoint.proofs.Spending.{behind-generation, behind-left, behind-reserved, behind-slots}
+use Rattle.macs_endpoint.proofs.RefillCosts.{behind-generation, behind-left, behind-reserved, behind-slots}
 
 -- ---- a few words on answers
 

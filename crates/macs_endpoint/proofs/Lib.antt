@@ -13,7 +13,7 @@ pub mod Seen
 pub mod Opened
 pub mod Commanding
 pub mod Raises
-pub mod Spending
+pub mod RefillCosts
 pub mod Begun
 mod Lifted
 pub mod Ended
@@ -28,7 +28,7 @@ pub mod Changes
 mod Idled
 pub mod Still
 pub mod Alike
-mod Lasting
+mod WorkThroughCalls
 mod Between
 mod AsBegun
 mod OneCommand

@@ -6,7 +6,7 @@ use Rattle.macs_store.specs.Value.{IsIdle, StoreValue, standing_in}
 use Rattle.macs_endpoint.specs.Advancing.{AdvancesAs, BeginsWith, GoesOn, Piece, ToRaise, piece_among, turn_after}
 use Rattle.macs_endpoint.specs.Calls.{AdvancesIn, IsCall}
 use Rattle.macs_endpoint.specs.Ceilings.{CeilingsAfter, Raise, first_raise}
-use Rattle.macs_endpoint.specs.Lasting.{IsNotReserved, Needs, NoneReserved, commands_done, commands_in_reply}
+use Rattle.macs_endpoint.specs.WorkThroughCalls.{IsNotReserved, Needs, NoneReserved, commands_done, commands_in_reply}
 use Rattle.macs_endpoint.specs.Limits.{IsStill}
 use Rattle.macs_endpoint.specs.Lives.{Lives, Transition}
 use Rattle.macs_endpoint.specs.Needed.{raise_in}

@@ -17,7 +17,7 @@ use Rattle.macs_endpoint.specs.Advancing.{turn_after, turn_after_refill}
 use Rattle.macs_endpoint.specs.Needed.{raise_in}
 use Rattle.macs_endpoint.specs.Reserving.{FitsState, Raised, ReservationEnds, ReserveStep, Reserves, ReservesAll}
 use Rattle.macs_endpoint.specs.Restart.{Fits, FitsCall}
-use Rattle.macs_endpoint.specs.Spending.{Spends}
+use Rattle.macs_endpoint.specs.RefillCosts.{Spends}
 use Rattle.macs_endpoint.specs.State.{Logs, Refilled, Refills, State, no_logs, rx_side, tx_side}
 use Rattle.macs_endpoint.specs.Step.{RefillStep, Step}
 use Rattle.macs_endpoint.specs.Value.{EndpointValue, IsBacked, IsSoundEndpoint, disk_in, is_stopped, state_of}
@@ -27,7 +27,7 @@ use Rattle.macs_endpoint.specs.declared.turn.Turn.{Turn}
 use Rattle.macs_endpoint.proofs.Alone.{alone-call}
 use Rattle.macs_endpoint.proofs.Fitting.{kept-ahead}
 use Rattle.macs_endpoint.proofs.Raises.{AreRaised, IsAhead, left, raise-less, raises-ahead, raises-parts}
-use Rattle.macs_endpoint.proofs.Spending.{HaveRaised, raised-in, raised-more, raised-not, spends-behind, spends-cut}
+use Rattle.macs_endpoint.proofs.RefillCosts.{HaveRaised, raised-in, raised-more, raised-not, spends-behind, spends-cut}
 
 -- some ceilings were raised, each the first that was needed then, by the numbers of the first of these two
 abbrev pub AreRaisedIn : {D : Type 0} → EndpointValue D → EndpointValue D → Type 0

@@ -47,7 +47,7 @@ Rests call reply new = Unit {0}
 -- What a caller sees of one call: what it is given is in range; it is a step of the machine; what becomes of configuration and ceilings;
 -- where the answers come that a step leaves to the endpoint; which calls make no device call; after which no work is in hand; what a step of
 -- its work does, and whose turn it is after; what is counted.
-pub record Behaves {D : Type 0} (disk_of : D → Disk) (old : EndpointValue D) (call : Call) (reply : Reply) (new : EndpointValue D) : Type 0 where
+pub record CallBehaves {D : Type 0} (disk_of : D → Disk) (old : EndpointValue D) (call : Call) (reply : Reply) (new : EndpointValue D) : Type 0 where
   pub in_range : IsInRange call
   pub step : (logs : Logs) → (after : Logs) × Step (state_of old logs) call reply (state_of new after)
   pub ceilings : CeilingsAfter (state_of old no_logs) (standing_in old.store) old.reserving call reply (standing_in new.store)
@@ -86,6 +86,6 @@ pub record Survives {D : Type 0} (disk_of : D → Disk) (old : EndpointValue D) 
 
 -- one call, whatever happened before it
 pub record IsCall {D : Type 0} (disk_of : D → Disk) (old : EndpointValue D) (call : Call) (reply : Reply) (new : EndpointValue D) : Type 0 where
-  pub behaves : Behaves disk_of old call reply new
+  pub behaves : CallBehaves disk_of old call reply new
   pub device : DeviceCalls disk_of old reply new
   pub survives : IsHonest (disk_in disk_of new) → IsBacked disk_of old → Survives disk_of old call new

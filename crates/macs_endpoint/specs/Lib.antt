@@ -13,12 +13,12 @@ pub mod Advancing
 pub mod Counting
 pub mod Following
 pub mod Calls
-pub mod Told
+pub mod PrivateTypes
 pub mod Parts
-pub mod Spending
+pub mod RefillCosts
 pub mod Reserving
-pub mod Keeping
+pub mod KeptCommands
 pub mod Lives
 pub mod Serving
 pub mod Rooms
-pub mod Lasting
+pub mod WorkThroughCalls

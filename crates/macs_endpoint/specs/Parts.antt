@@ -4,7 +4,7 @@ use Rattle.std.specs.Option.{option_map}
 use Rattle.macs_config.specs.declared.command.Command.{Command}
 use Rattle.macs_store.specs.Value.{StoreValue}
 use Rattle.macs_endpoint.specs.Queue.{QueueValue}
-use Rattle.macs_endpoint.specs.Told.{raise_of}
+use Rattle.macs_endpoint.specs.PrivateTypes.{raise_of}
 use Rattle.macs_endpoint.specs.Value.{EndpointValue}
 use Rattle.macs_endpoint.specs.declared.channels.Channels.{Channels}
 use Rattle.macs_endpoint.specs.declared.refilling.Raise.{Raise}

@@ -15,7 +15,7 @@ use Rattle.macs_endpoint.specs.Ceilings.{Raise, StandsRefilled, standing_with_ra
 use Rattle.macs_endpoint.specs.Limits.{IsLimited}
 use Rattle.macs_endpoint.specs.Needed.{raise_in}
 use Rattle.macs_endpoint.specs.Restart.{Fits}
-use Rattle.macs_endpoint.specs.Spending.{Spends}
+use Rattle.macs_endpoint.specs.RefillCosts.{Spends}
 use Rattle.macs_endpoint.specs.State.{Logs, Refilled, Refills, State, no_logs, rx_side, state_after_fault, tx_side}
 use Rattle.macs_endpoint.specs.Value.{EndpointValue, IsBacked, IsReserving, IsSoundEndpoint, disk_in, state_of}
 use Rattle.macs_endpoint.specs.declared.fault.RefillFault.{RefillFault}

@@ -9,7 +9,7 @@ ghost use Rattle.macs_store.specs.Standing.{accept};
 ghost use Rattle.macs_store.specs.Value.{IsIdle, standing_in};
 ghost use Rattle.macs_endpoint.specs.Calls.{IsCall};
 ghost use Rattle.macs_endpoint.specs.Opening.{BeginsOpened, IsOpening};
-ghost use Rattle.macs_endpoint.specs.Keeping.{KeepsCommand};
+ghost use Rattle.macs_endpoint.specs.KeptCommands.{KeepsCommand};
 ghost use Rattle.macs_endpoint.specs.Parts.{endpoint_of};
 ghost use Rattle.macs_endpoint.specs.Value.{EndpointValue, IsSoundEndpoint, device_in, is_stopped, state_of};
 ghost use Rattle.macs_endpoint.specs.State.{Protects, Protected, Received, Receives, no_logs};

@@ -12,7 +12,7 @@ ghost use Rattle.macs_endpoint.specs.Advancing.{ToRaise, next_piece};
 ghost use Rattle.macs_endpoint.specs.Calls.{IsCall};
 ghost use Rattle.macs_endpoint.specs.Ceilings.{Raise, standing_with_raise};
 ghost use Rattle.macs_endpoint.specs.Value.{IsSoundEndpoint, EndpointValue, state_of};
-ghost use Rattle.macs_endpoint.specs.Lasting.{Lasts, Needs, NoneDone, NoneReserved, commands_done, reservations_made, steps_made};
+ghost use Rattle.macs_endpoint.specs.WorkThroughCalls.{Lasts, Needs, NoneDone, NoneReserved, commands_done, reservations_made, steps_made};
 ghost use Rattle.macs_endpoint.specs.Lives.{Lives, Transition};
 ghost use Rattle.macs_endpoint.specs.Rooms.{HasRoom, IsBelow, IsEncodingAn, RxStays, TxStays, frames_sent};
 ghost use Rattle.macs_endpoint.specs.State.{Advanced, Advances, Call, Protects, Protected, Received, Receives, Refilled, Refills, Reply, command_made, no_logs, rx_side};

@@ -9,9 +9,9 @@ ghost use Rattle.macs_endpoint.specs.Calls.{IsCall};
 ghost use Rattle.macs_endpoint.specs.Ceilings.{Rises, standing_with_raise};
 ghost use Rattle.macs_endpoint.specs.Needed.{raise_in};
 ghost use Rattle.macs_endpoint.specs.Reserving.{Raised, ReservationEnds, ReservesAll, StartsRaise};
-ghost use Rattle.macs_endpoint.specs.Spending.{Spends};
+ghost use Rattle.macs_endpoint.specs.RefillCosts.{Spends};
 ghost use Rattle.macs_endpoint.specs.State.{Refilled, Refills};
-ghost use Rattle.macs_endpoint.specs.Told.{raise_of};
+ghost use Rattle.macs_endpoint.specs.PrivateTypes.{raise_of};
 ghost use Rattle.macs_endpoint.specs.Value.{IsAtRest, IsReserving, is_stopped};
 
 use crate::endpoint::Endpoint;

@@ -6,4 +6,4 @@ pub mod OctetLanes
 pub mod TableProducts
 pub mod StringBlocks
 pub mod Filled
-pub mod TurnSums
+pub mod StrideSums

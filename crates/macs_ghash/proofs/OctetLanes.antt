@@ -13,7 +13,7 @@ use Rattle.macs_ghash.specs.Tables.{block_of_octets, octet_from_left, octets_in,
 use Rattle.macs_ghash.proofs.OctetSteps.{block_equal}
 use Rattle.macs_ghash.proofs.OctetSums.{octets_whole}
 use Rattle.macs_ghash.specs.declared.octets.TheConstants.{BEFORE, LAST}
-use Rattle.macs_ghash.specs.declared.turns.TheConstants.{FLIPPED}
+use Rattle.macs_ghash.specs.declared.strides.TheConstants.{FLIPPED}
 
 -- an octet in its sixteen
 pub by_sixteen : (x : List ℕ) (m : ℕ) → octets_in x (m / 16) (m % 16) ≡ get_or x m 0

@@ -11,9 +11,9 @@ mod hash;
 mod octets;
 mod powers;
 mod reduction;
+mod strides;
 mod strings;
 mod tables;
-mod turns;
 
 pub use hash::ghash;
 pub use powers::Powers;

@@ -9,8 +9,8 @@ ghost use Rattle.macs_ghash.specs.declared.tables.TheConstants.{TWO};
 
 use crate::filling::{fill, room};
 use crate::octets::SIXTEENS;
+use crate::strides::{add_state, hashed};
 use crate::tables::{EIGHT, Part, TWO, products};
-use crate::turns::{add_state, hashed};
 use std::marker::Model;
 use std::simd::prelude::*;
 
@@ -83,7 +83,7 @@ impl Powers {
         }
     }
 
-    /// The hash of few blocks, two a turn.
+    /// The hash of few blocks, two a stride.
     pub(crate) fn by_twos(&self, aad: &[u8], text: &[u8], count: usize) -> u128
         requires aad { length aad.now < 2 ^ 32 }
         requires text { length text.now < 2 ^ 32 }
@@ -93,7 +93,7 @@ impl Powers {
         hashed::<TWO, 32>(&self.pair, aad, text, count)
     }
 
-    /// The hash of many blocks, eight a turn, under tables of 2 KB that are made for it.
+    /// The hash of many blocks, eight a stride, under tables of 2 KB that are made for it.
     pub(crate) fn by_eights(&self, aad: &[u8], text: &[u8], count: usize) -> u128
         requires aad { length aad.now < 2 ^ 32 }
         requires text { length text.now < 2 ^ 32 }

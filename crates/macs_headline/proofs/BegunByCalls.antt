@@ -13,7 +13,7 @@ use Rattle.macs_endpoint.specs.declared.fault.SubmitFault.{SubmitFault}
 use Rattle.macs_endpoint.specs.declared.fault.SubmitFault.TheVariants as submit
 use Rattle.macs_endpoint.specs.State.{Advanced, AdvancedLong, Advances, Call, Commands, Protected, Protects, Ran, Received, Receives, Refilled, Refills, RefusedLong, Reply, State, Submits, Submitted}
 use Rattle.macs_endpoint.specs.Step.{CommandStep, ProtectStep, ReceiveStep, RefillStep, RunningStep, Step, SubmitStep}
-use Rattle.macs_headline.specs.Begun.{OthersBeginNone}
+use Rattle.macs_headline.specs.CommandInHand.{OthersBeginNone}
 use Rattle.macs_headline.proofs.Ledger.{some_one}
 
 none_some : (c : Command) → ◌≡◌ {A = Option Command} None (Some c) → ⊥

@@ -2,7 +2,7 @@
 use Rattle.std.proofs.Common.{◌≡◌, ◌≤◌, ap, ◌++◌, ◌∙◌, ◌⊎◌, inl, inr, ℕ, true, false, is_ok, List, [], ◌∷◌, map, Option, Some, None, Ok, Err, refl, sym, subst, arith}
 use Rattle.macs_config.specs.Config.{Edition, this_edition}
 use Rattle.macs_disk.specs.Disk.{Disk, IsHonest, MayLeave, now}
-use Rattle.macs_disk.specs.Fused.{fused_disk}
+use Rattle.macs_disk.specs.Fuses.{fused_disk}
 use Rattle.macs_disk.specs.States.{DiskState, Image, IsImage, IsSound}
 use Rattle.std.specs.Prelude.{Contains}
 use Rattle.macs_endpoint.specs.Calls.{IsCall}

@@ -16,7 +16,7 @@ use Rattle.macs_headline.specs.Configurations.{AreKept, ConfigurationIs, LivesMa
 use Rattle.macs_headline.specs.History.{Blank, FitsPast, FormatLeads, Formats, Formatted, IsHistory, IsLifeSoFar, LeadOn, Leads, Life, Past, Refuses, Serves, formatted_state, state_at_end}
 use Rattle.macs_headline.specs.Moments.{Moment}
 use Rattle.macs_headline.proofs.Answered.{history-on}
-use Rattle.macs_headline.proofs.Begun.{in-hand-was-begun}
+use Rattle.macs_headline.proofs.CommandInHand.{in-hand-was-begun}
 use Rattle.macs_headline.proofs.Commands.{commands-kept}
 use Rattle.macs_headline.proofs.HandedIn.{in-hand-was-given}
 use Rattle.macs_headline.proofs.Histories.{fits-restart, found-new}

@@ -8,7 +8,7 @@ use Rattle.macs_endpoint.specs.Queue.{first_command}
 use Rattle.macs_endpoint.specs.Restart.{state_taking, state_taking_alone, state_taking_first}
 use Rattle.macs_endpoint.specs.State.{Advances, Commands, Protects, Receives, Refills, State, Submits, state_with_in_hand}
 use Rattle.macs_endpoint.specs.declared.queue.Waiting.{Waiting}
-use Rattle.macs_headline.specs.Begun.{CutsBegin, CutsKeep, MayBegin}
+use Rattle.macs_headline.specs.CommandInHand.{CutsBegin, CutsKeep, MayBegin}
 use Rattle.macs_headline.specs.Refused.{refusal_at}
 use Rattle.macs_headline.proofs.Ledger.{some_one}
 

@@ -18,7 +18,7 @@ use Rattle.macs_endpoint.specs.State.{Advanced, AdvancedLong, Advances, Call, Co
 use Rattle.macs_endpoint.specs.Step.{Exchange}
 use Rattle.macs_endpoint.specs.declared.progress.Step.TheVariants.{Done}
 use Rattle.macs_endpoint.specs.declared.queue.Waiting.{Waiting}
-use Rattle.macs_headline.specs.Begun.{MayBegin, WasBegun}
+use Rattle.macs_headline.specs.CommandInHand.{MayBegin, WasBegun}
 use Rattle.macs_headline.specs.Commands.{IsPrefix, WasHandedIn, accepted_commands, failing, waiting_after, waiting_at_end, waiting_from, without_first}
 use Rattle.macs_headline.specs.Configurations.{LivesMake}
 use Rattle.macs_headline.specs.Deliveries.{IsOtherDelivery}
@@ -26,7 +26,7 @@ use Rattle.macs_headline.specs.Drawn.{LifeWords, LogWords, MomentsAreExact, Numb
 use Rattle.macs_headline.specs.Formats.{AreUnformatted}
 use Rattle.macs_headline.specs.Frames.{IsOtherFrame}
 use Rattle.macs_headline.specs.History.{Formats, Life, Refuses, Serves}
-use Rattle.macs_headline.specs.Logged.{WasDelivered, WasWritten}
+use Rattle.macs_headline.specs.AnsweredLogs.{WasDelivered, WasWritten}
 use Rattle.macs_headline.specs.Numbers.{AreHeldIn, HasNoneTwice, IsMoved}
 use Rattle.macs_headline.specs.Received.{IsSeenBy}
 use Rattle.macs_headline.specs.Refused.{refusal_at}

@@ -18,7 +18,7 @@ use Rattle.macs_store.specs.Replay.{meaning_of, snapshot_of, standing_after_reco
 use Rattle.macs_store.specs.Standing.{Standing}
 use Rattle.macs_store.proofs.Formats.{meaning-read}
 use Rattle.macs_headline.specs.Editions.{HasLongKey, content_in}
-use Rattle.macs_headline.proofs.OneIdentity.{meaning-identity}
+use Rattle.macs_store.proofs.Identities.{meaning-identity}
 use Rattle.macs_headline.proofs.ReadByEditions.{all-short}
 
 -- ---- the head of either format

@@ -27,10 +27,10 @@ use Rattle.macs_store.specs.Value as store
 use Rattle.macs_endpoint.specs.Advancing.{turn_after_refill}
 use Rattle.macs_endpoint.specs.Calls.{IsCall}
 use Rattle.macs_endpoint.specs.Ceilings.{IsRefilled, Raise, Raises, either_raise, first_raise, standing_with_raise, standing_with_reserved}
-use Rattle.macs_endpoint.specs.Keeping.{KeepsCommand}
+use Rattle.macs_endpoint.specs.KeptCommands.{KeepsCommand}
 use Rattle.macs_endpoint.specs.Lives.{FitsLife, LeavesLife, Transition}
 use Rattle.macs_endpoint.specs.Serving.{EndsAs, is_halt}
-use Rattle.macs_endpoint.specs.Spending.{Spends, generation_in_raises, most_in_raises, reserved_in, slots_in_raises}
+use Rattle.macs_endpoint.specs.RefillCosts.{Spends, generation_in_raises, most_in_raises, reserved_in, slots_in_raises}
 use Rattle.macs_endpoint.specs.State.{Advanced, Commands, Protected, Protects, Ran, Received, Receives, Refilled, Refills, Reply, Submitted, no_logs, rx_side, tx_side}
 use Rattle.macs_endpoint.specs.Value.{EndpointValue, disk_in, state_of}
 use Rattle.macs_endpoint.specs.declared.event.ServeEnd.TheVariants.{Halted}

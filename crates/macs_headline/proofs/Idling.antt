@@ -1,8 +1,8 @@
 -- A step that is answered Idle found no work.
 use Rattle.std.proofs.Common.{◌≡◌, ◌⊎◌, inl, inr, false, List, [], ◌∷◌, Option, Some, None, Ok, refl}
 use Rattle.macs_disk.specs.Disk.{Disk}
-use Rattle.macs_store.specs.declared.hand.Hand.{Hand}
-use Rattle.macs_store.specs.declared.hand.Hand.TheVariants.{Appending, Empty, Renewing}
+use Rattle.macs_store.specs.declared.change.Change.{Change}
+use Rattle.macs_store.specs.declared.change.Change.TheVariants.{Appending, Empty, Renewing}
 use Rattle.macs_endpoint.specs.Advancing.{BeginsWith, Piece, ToKeep, ToRaise, next_piece, piece_among}
 use Rattle.macs_endpoint.specs.Calls.{IsCall}
 use Rattle.macs_endpoint.specs.Ceilings.{Raise}
@@ -17,7 +17,7 @@ use Rattle.macs_endpoint.specs.declared.turn.Turn.TheVariants as turn
 use Rattle.macs_headline.specs.Binding.{IdleFindsNoWork}
 
 -- work is in hand, or none is
-pub in_hand_or_not : (hand : Hand) → (hand ≡ Empty) ⊎ (¬ (hand ≡ Empty))
+pub in_hand_or_not : (hand : Change) → (hand ≡ Empty) ⊎ (¬ (hand ≡ Empty))
 in_hand_or_not Empty = inl refl
 in_hand_or_not (Renewing r) = inr (λ is. cc)
 in_hand_or_not (Appending r) = inr (λ is. cc)

@@ -12,7 +12,7 @@ pub mod Sound
 pub mod Logs
 pub mod Histories
 pub mod Numbers
-pub mod Fitting
+pub mod FittingImages
 pub mod Openings
 pub mod Identities
 pub mod Commands
@@ -27,7 +27,7 @@ pub mod Received
 pub mod Naming
 pub mod OctetBits
 pub mod Verdicts
-pub mod Moving
+pub mod NumbersMoved
 pub mod Steps
 pub mod StepsTaken
 pub mod Refused
@@ -36,10 +36,9 @@ pub mod AlikeEditions
 pub mod ReadByEditions
 pub mod Restored
 pub mod TakenByEditions
-pub mod OneIdentity
 pub mod EitherFormats
 pub mod ReadOn
-pub mod Begun
+pub mod CommandInHand
 pub mod BegunByCalls
 pub mod CutBeginnings
 pub mod Stopping
@@ -55,7 +54,7 @@ pub mod Formats
 pub mod Living
 pub mod Chains
 pub mod Answered
-pub mod Logged
+pub mod AnsweredLogs
 pub mod GoingOn
 pub mod Origins
 pub mod Configurations
@@ -69,8 +68,8 @@ pub mod One
 pub mod Drawn
 pub mod Beyond
 pub mod Spending
-pub mod Reserved
-pub mod Working
+pub mod NumbersWanted
+pub mod WorkInHand
 pub mod Tickets
 pub mod Waits
 mod Turns

@@ -19,7 +19,7 @@ use Rattle.macs_config.specs.declared.command.Command.TheVariants.{TxUse}
 use Rattle.macs_config.specs.declared.command.SciMode.{SciMode}
 use Rattle.macs_config.specs.declared.command.SciMode.TheVariants.{Explicit}
 use Rattle.macs_disk.specs.Disk.{Disk, IsHonest, MayLeave, disk_after_loss, now}
-use Rattle.macs_disk.specs.Fused.{fused_disk}
+use Rattle.macs_disk.specs.Fuses.{fused_disk}
 use Rattle.macs_disk.specs.Memory.{Memory, blank_memory, image_left, memory_after_loss}
 use Rattle.macs_disk.specs.States.{DiskState, IsImage, IsSound}
 use Rattle.macs_journal.specs.declared.fault.JournalFault.{JournalFault}

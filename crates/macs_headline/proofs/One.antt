@@ -31,7 +31,7 @@ use Rattle.macs_endpoint.specs.State.{State, rx_side}
 use Rattle.macs_headline.specs.Changing.{ChangesAsNamed, IsRxAsked, IsTxAsked}
 use Rattle.macs_headline.specs.Deliveries.{IsInTime, IsVerifiedDelivery, numbers_moved}
 use Rattle.macs_headline.specs.Frames.{IsStandardFrame}
-use Rattle.macs_headline.specs.Moving.{AreSet, SetsNext, SetsNumbers}
+use Rattle.macs_headline.specs.NumbersMoved.{AreSet, SetsNext, SetsNumbers}
 use Rattle.macs_headline.specs.One.{OneChangeComes, OneFrameComes, OneStateComes}
 use Rattle.macs_headline.specs.Received.{IsAhead}
 use Rattle.macs_headline.proofs.Cases.{cases-are}

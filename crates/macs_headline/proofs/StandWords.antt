@@ -13,9 +13,9 @@ use Rattle.macs_store.specs.Snapshot.{snapshot}
 use Rattle.macs_store.specs.Standing.{Standing}
 use Rattle.macs_store.specs.Value.{IsIdle, StoreValue, calls_left, calls_with, generation, generation_then}
 use Rattle.macs_store.specs.Value.{generation_with, slots_then, slots_with, used_slots}
-use Rattle.macs_endpoint.specs.Keeping.{KeepsCommand}
+use Rattle.macs_endpoint.specs.KeptCommands.{KeepsCommand}
 use Rattle.macs_endpoint.specs.Serving.{EndsAs, is_halt}
-use Rattle.macs_endpoint.specs.Spending.{reserved_in}
+use Rattle.macs_endpoint.specs.RefillCosts.{reserved_in}
 use Rattle.macs_endpoint.specs.State.{Reply, no_logs, State}
 use Rattle.macs_endpoint.specs.Value.{EndpointValue, disk_in}
 use Rattle.macs_endpoint.specs.declared.fault.CommandFault.{CommandFault}

@@ -6,7 +6,7 @@ use Rattle.macs_aes.specs.declared.keys.Key.{Key}
 use Rattle.macs_config.specs.declared.command.Command.{Command}
 use Rattle.macs_config.specs.declared.command.Command.TheVariants.{RxDrop, RxInstall, RxRemove, TxInstall, TxRemove}
 use Rattle.macs_store.specs.Value.{standing_in}
-use Rattle.macs_endpoint.specs.Lasting.{IsNotDone, IsNotReserved, commands_done, commands_in_reply, reservations_in_reply, reservations_made, steps_in_call, steps_made}
+use Rattle.macs_endpoint.specs.WorkThroughCalls.{IsNotDone, IsNotReserved, commands_done, commands_in_reply, reservations_in_reply, reservations_made, steps_in_call, steps_made}
 use Rattle.macs_endpoint.specs.Rooms.{SparesRx, SparesTx, frames_in_reply, frames_sent}
 use Rattle.macs_endpoint.specs.State.{Advanced, Advances, Call, Commands, Protected, Protects, Receives, Refilled, Refills, Reply, Submits}
 use Rattle.macs_endpoint.specs.declared.fault.CommandFault.{CommandFault}

@@ -32,10 +32,10 @@ use Rattle.macs_endpoint.specs.declared.fault.Stopped.{Stopped}
 use Rattle.macs_endpoint.specs.declared.fault.SubmitFault.{SubmitFault}
 use Rattle.macs_endpoint.specs.declared.progress.Step.{Step as Progress}
 use Rattle.macs_endpoint.specs.declared.queue.Waiting.{Waiting}
-use Rattle.macs_headline.specs.Begun.{MayBegin}
+use Rattle.macs_headline.specs.CommandInHand.{MayBegin}
 use Rattle.macs_headline.specs.Binding.{CountsOneFailure, IsBegunAnew}
 use Rattle.macs_headline.specs.Changing.{IsOnChannel, IsOnEncoding, IsOnMode, IsOnReplay, IsOnRx, IsOnTx, IsOnValidate}
-use Rattle.macs_headline.specs.Moving.{ComesInUnder, GoesOutUnder, SetsNext, SetsNumbers}
+use Rattle.macs_headline.specs.NumbersMoved.{ComesInUnder, GoesOutUnder, SetsNext, SetsNumbers}
 use Rattle.macs_headline.specs.Received.{IsDiscardedUnless, IsVerdictOf}
 use Rattle.macs_headline.specs.Steps.{IsReplyOf}
 use Rattle.macs_headline.specs.Words.{CallWords, CommandWords, EditionWords, OneComesOfIt, ReplyWords}

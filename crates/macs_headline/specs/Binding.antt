@@ -4,7 +4,7 @@ use Rattle.macs_frame.specs.Tag.{tag_of}
 use Rattle.macs_config.specs.Config.{Edition, IsUpTo, this_edition}
 use Rattle.macs_config.specs.Identity.{Identity}
 use Rattle.macs_disk.specs.Disk.{Disk, IsHonest, LeftSince, MayLeave, now}
-use Rattle.macs_disk.specs.Fused.{fused_disk}
+use Rattle.macs_disk.specs.Fuses.{fused_disk}
 use Rattle.macs_disk.specs.States.{Image, settled_state, state_after_sync}
 use Rattle.macs_record.specs.declared.format.Format.TheVariants.{One, Two}
 use Rattle.macs_journal.specs.Areas.{least_sectors}

@@ -21,7 +21,7 @@ use Rattle.macs_endpoint.specs.declared.queue.Waiting.{Waiting}
 use Rattle.macs_headline.specs.Binding.{TellsSpent}
 use Rattle.macs_headline.specs.Editions.{TellsEdition}
 use Rattle.macs_headline.specs.Moments.{WasGiven, WasUsed}
-use Rattle.macs_headline.specs.Moving.{IsFrameCall, state_but_numbers}
+use Rattle.macs_headline.specs.NumbersMoved.{IsFrameCall, state_but_numbers}
 use Rattle.macs_headline.specs.Steps.{IsToldWhole, LeavesOpen, state_but_hand}
 
 -- A plain frame and a received one are handed in by frame calls. Only `Worked` and `Disk` of a step leave open what is in hand; a larger edition may answer

@@ -21,7 +21,7 @@ use Rattle.macs_endpoint.specs.State.{Call, Commands, Delivery, Logs, Receives, 
 use Rattle.macs_endpoint.specs.Step.{Exchange, Step}
 use Rattle.macs_endpoint.specs.Value.{EndpointValue, state_of}
 use Rattle.macs_headline.specs.Answered.{WasAnswered, exchanges_of_lives, lives_at}
-use Rattle.macs_headline.specs.Begun.{MayBegin, WasBegun}
+use Rattle.macs_headline.specs.CommandInHand.{MayBegin, WasBegun}
 use Rattle.macs_headline.specs.Binding.{IsAtMoment}
 use Rattle.macs_headline.specs.Commands.{CommandsMake, IsPrefix, WasHandedIn, accepted_commands, acknowledged_commands, failing, waiting_at_end}
 use Rattle.macs_headline.specs.Configurations.{AreKept, IsMadeByLives, LivesMake}
@@ -29,9 +29,9 @@ use Rattle.macs_headline.specs.Deliveries.{IsOtherDelivery, IsVerifiedDelivery, 
 use Rattle.macs_headline.specs.Formats.{AreUnformatted}
 use Rattle.macs_headline.specs.Frames.{IsOtherFrame, IsStandardFrame, writing}
 use Rattle.macs_headline.specs.History.{FitsPast, Formats, Life, Past, Refuses, Serves, logs_of, state_at_end}
-use Rattle.macs_headline.specs.Logged.{AreAnswers, WasDelivered, WasWritten}
+use Rattle.macs_headline.specs.AnsweredLogs.{AreAnswers, WasDelivered, WasWritten}
 use Rattle.macs_headline.specs.Moments.{Moment}
-use Rattle.macs_headline.specs.Moving.{AreSet}
+use Rattle.macs_headline.specs.NumbersMoved.{AreSet}
 use Rattle.macs_headline.specs.Numbers.{AreHeldIn, HasNoneTwice, IsMoved}
 use Rattle.macs_headline.specs.Openings.{AreAsBefore}
 use Rattle.macs_headline.specs.Received.{IsSeenBy}

@@ -28,12 +28,12 @@ use Rattle.macs_endpoint.specs.Calls.{IsCall}
 use Rattle.macs_endpoint.specs.Ceilings.{IsRefilled, Raise, RaiseTx, first_raise, standing_with_raise}
 use Rattle.macs_endpoint.specs.Counting.{new_channel_counters}
 use Rattle.macs_endpoint.specs.Formatting.{IsFormat}
-use Rattle.macs_endpoint.specs.Keeping.{KeepsCommand}
+use Rattle.macs_endpoint.specs.KeptCommands.{KeepsCommand}
 use Rattle.macs_endpoint.specs.Lives.{FitsLife, LeavesLife, Transition}
 use Rattle.macs_endpoint.specs.Opening.{IsOpening}
 use Rattle.macs_endpoint.specs.Restart.{Fits, state_during}
 use Rattle.macs_endpoint.specs.Serving.{EndsAs, IsServed, Told, call_of, is_halt, reply_of}
-use Rattle.macs_endpoint.specs.Spending.{Spends}
+use Rattle.macs_endpoint.specs.RefillCosts.{Spends}
 use Rattle.macs_endpoint.specs.State.{Advanced, Advances, Commands, Protected, Protects, Ran, Received, Receives, Refilled, Refills, Reply, Submits, Submitted, no_logs, rx_side, tx_side}
 use Rattle.macs_endpoint.specs.Value.{EndpointValue, disk_in, state_of}
 use Rattle.macs_endpoint.specs.declared.event.Answer.{Answer}

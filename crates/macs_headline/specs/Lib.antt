@@ -1,7 +1,7 @@
 pub mod History
 pub mod Moments
 pub mod Numbers
-pub mod Fitting
+pub mod FittingImages
 pub mod Commands
 pub mod Configurations
 pub mod Tickets
@@ -9,7 +9,7 @@ pub mod Answered
 pub mod Frames
 pub mod Deliveries
 pub mod Windows
-pub mod Moving
+pub mod NumbersMoved
 pub mod Received
 pub mod Verdicts
 pub mod Steps
@@ -24,9 +24,9 @@ pub mod NeedWords
 pub mod FailureWords
 pub mod StandWords
 pub mod Reasons
-pub mod Begun
+pub mod CommandInHand
 pub mod Stopping
-pub mod Logged
+pub mod AnsweredLogs
 pub mod GoingOn
 pub mod Origins
 pub mod Openings
@@ -36,8 +36,8 @@ pub mod Endings
 pub mod Binding
 pub mod DeedLives
 pub mod OpeningWords
-pub mod Reserved
-pub mod Working
+pub mod NumbersWanted
+pub mod WorkInHand
 pub mod Drawn
 pub mod Cases
 pub mod Words

@@ -10,7 +10,7 @@ use Rattle.macs_endpoint.specs.State.{Reply, State}
 use Rattle.macs_headline.specs.Changing.{ChangesAsNamed}
 use Rattle.macs_headline.specs.Deliveries.{IsVerifiedDelivery}
 use Rattle.macs_headline.specs.Frames.{IsStandardFrame}
-use Rattle.macs_headline.specs.Moving.{AreSet, SetsNext, SetsNumbers}
+use Rattle.macs_headline.specs.NumbersMoved.{AreSet, SetsNext, SetsNumbers}
 use Rattle.macs_headline.specs.Received.{IsAhead}
 use Rattle.macs_headline.specs.Steps.{AreOne, LeavesOpen}
 

@@ -27,11 +27,11 @@ use Rattle.macs_store.specs.Value as store
 use Rattle.macs_endpoint.specs.Calls.{IsCall}
 use Rattle.macs_endpoint.specs.Ceilings.{Raise, standing_with_raise}
 use Rattle.macs_endpoint.specs.Formatting.{IsFormat}
-use Rattle.macs_endpoint.specs.Keeping.{KeepsCommand}
+use Rattle.macs_endpoint.specs.KeptCommands.{KeepsCommand}
 use Rattle.macs_endpoint.specs.Lives.{LeavesLife, Lives}
 use Rattle.macs_endpoint.specs.Opening.{IsOpening}
 use Rattle.macs_endpoint.specs.Serving.{EndsAs, IsServed, Told, is_halt}
-use Rattle.macs_endpoint.specs.Spending.{HasRaised, RaisesBehind, Spends, most_behind, reserved_in}
+use Rattle.macs_endpoint.specs.RefillCosts.{HasRaised, RaisesBehind, Spends, most_behind, reserved_in}
 use Rattle.macs_endpoint.specs.State.{Advanced, Advances, Commands, Ran, Reply}
 use Rattle.macs_endpoint.specs.Value.{EndpointValue, IsBacked, disk_in}
 use Rattle.macs_endpoint.specs.declared.event.ServeEnd.{ServeEnd}

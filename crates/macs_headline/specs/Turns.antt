@@ -4,7 +4,7 @@ use Rattle.std.specs.Prelude.{◌≡◌, ◌≢◌, ◌≤◌, ◌+◌, false, �
 use Rattle.macs_aes.specs.declared.keys.Key.{Key}
 use Rattle.macs_config.specs.declared.command.Command.TheVariants.{RxDrop, RxInstall, RxRemove, TxInstall, TxRemove}
 use Rattle.macs_store.specs.Value.{IsIdle, standing_in}
-use Rattle.macs_endpoint.specs.Lasting.{Lasts, Needs, NoneDone, NoneReserved, commands_done, reservations_made, steps_made}
+use Rattle.macs_endpoint.specs.WorkThroughCalls.{Lasts, Needs, NoneDone, NoneReserved, commands_done, reservations_made, steps_made}
 use Rattle.macs_endpoint.specs.Lives.{Transition}
 use Rattle.macs_endpoint.specs.Needed.{raise_in}
 use Rattle.macs_endpoint.specs.Rooms.{IsEncodingAn, RxStays, TxStays, frames_sent}

@@ -28,12 +28,13 @@ use Rattle.macs_endpoint.specs.declared.fault.Stopped.{Stopped}
 use Rattle.macs_endpoint.specs.declared.fault.SubmitFault.{SubmitFault}
 use Rattle.macs_endpoint.specs.declared.progress.Step.{Step as Progress}
 use Rattle.macs_endpoint.specs.declared.queue.Waiting.{Waiting}
-use Rattle.macs_headline.specs.Begun.{MayBegin}
+use Rattle.macs_headline.specs.CommandInHand.{MayBegin}
 use Rattle.macs_headline.specs.Binding.{CountsOneFailure, IsBegunAnew}
 use Rattle.macs_headline.specs.Changing.{IsOnChannel, IsOnEncoding, IsOnMode, IsOnReplay, IsOnRx, IsOnTx, IsOnValidate}
 use Rattle.macs_headline.specs.Editions.{content_in, with_edition}
 use Rattle.macs_headline.specs.History.{formatted_state}
-use Rattle.macs_headline.specs.Moving.{ComesInUnder, GoesOutUnder, MovesOnlyThese, SetsNext, SetsNumbers, TakesEffect}
+use Rattle.macs_headline.specs.NumbersMoved.{ComesInUnder, GoesOutUnder, MovesOnlyThese, SetsNext, SetsNumbers}
+use Rattle.macs_headline.specs.NumbersMoved.{TakesEffect}
 use Rattle.macs_headline.specs.Received.{IsVerdictOf, WasSeen}
 use Rattle.macs_headline.specs.Refused.{IsExact, IsFaultOf, fault_at}
 use Rattle.macs_headline.specs.Steps.{IsReplyOf}

@@ -23,7 +23,7 @@ ghost use Rattle.macs_headline.specs.Binding.{LivesAreDeeds, LivesEndExactly, Li
 ghost use Rattle.macs_headline.specs.Binding.{NewDeedsAreHistories, OpeningsBeginAnew};
 ghost use Rattle.macs_headline.specs.Binding.{NewDisksHaveHistories, OpeningsFind, PassedOnHaveHistories, RefusalsAreFailures, SettledHaveHistories, SpentAreSpent};
 ghost use Rattle.macs_headline.specs.Beyond.{DeliveredStaysBeyond, SentStaysBeyond};
-ghost use Rattle.macs_headline.specs.Begun.{CutsBegin, CutsChangeNone, CutsKeep, InHandWasBegun, OthersBeginNone};
+ghost use Rattle.macs_headline.specs.CommandInHand.{CutsBegin, CutsChangeNone, CutsKeep, InHandWasBegun, OthersBeginNone};
 ghost use Rattle.macs_headline.specs.Cases.{CasesAre};
 ghost use Rattle.macs_headline.specs.Changing.{CommandsChange, IsFirstConfiguration, PrintsAre};
 ghost use Rattle.macs_headline.specs.Commands.{CommandsKept, FindsOne, InHandWasGiven};
@@ -50,24 +50,24 @@ ghost use Rattle.macs_headline.specs.ExampleWords.{DaysAreCalls, ExampleWords, N
 ghost use Rattle.macs_headline.specs.WorkedWords.{MigrationWords, WorkedWords};
 ghost use Rattle.macs_headline.specs.OnceWords.{OnceWords};
 ghost use Rattle.macs_headline.specs.RefusedWords.{RefusedWords};
-ghost use Rattle.macs_headline.specs.Fitting.{RestartsFit};
+ghost use Rattle.macs_headline.specs.FittingImages.{RestartsFit};
 ghost use Rattle.macs_headline.specs.FrameWords.{FrameWords};
 ghost use Rattle.macs_headline.specs.QueueWords.{QueueWords};
 ghost use Rattle.macs_headline.specs.EndWords.{EndWords};
 ghost use Rattle.macs_headline.specs.Formats.{FormatsOnce, RefusedByHistory};
 ghost use Rattle.macs_headline.specs.Frames.{FramesAreStandard, WrittenBelow, WrittenOnce};
 ghost use Rattle.macs_headline.specs.GoingOn.{LivesGoOn};
-ghost use Rattle.macs_headline.specs.Logged.{LogsAreAnswers};
+ghost use Rattle.macs_headline.specs.AnsweredLogs.{LogsAreAnswers};
 ghost use Rattle.macs_headline.specs.Numbers.{BeginAsAsked, GivenApart, GivenBelow, NothingForgotten, OkApart, SkipsFew};
 ghost use Rattle.macs_headline.specs.Numbers.{SkipsFewReceived, UsedBelow, UsedOnce, UsedOnceAtEnd};
 ghost use Rattle.macs_headline.specs.Moments.{EditionsRise, OfItsEdition};
-ghost use Rattle.macs_headline.specs.Moving.{FramesChangeFew, NoneAppear, NumbersAreSet, NumbersMove, SidesAreConfigured};
+ghost use Rattle.macs_headline.specs.NumbersMoved.{FramesChangeFew, NoneAppear, NumbersAreSet, NumbersMove, SidesAreConfigured};
 ghost use Rattle.macs_headline.specs.Origins.{ComeUponAlone, LivesCameSo};
 ghost use Rattle.macs_headline.specs.Reasons.{ReasonsAreNamed};
 ghost use Rattle.macs_headline.specs.Received.{ChannelsAreNamed, HeldAreAhead, LateAreDiscarded, SeenAreVerified, TheseAreTimely};
 ghost use Rattle.macs_headline.specs.Received.{TimelyAreDelivered, UnverifiedAreSettled};
 ghost use Rattle.macs_headline.specs.Refused.{FaultsAreNamed, LimitsAre, RefusalsAreExact};
-ghost use Rattle.macs_headline.specs.Reserved.{ReservationsAreWanted};
+ghost use Rattle.macs_headline.specs.NumbersWanted.{ReservationsAreWanted};
 ghost use Rattle.macs_headline.specs.Steps.{RepliesAreOfCalls, StepsAreOne, StepsAreTaken};
 ghost use Rattle.macs_headline.specs.Stopping.{StoppedStays};
 ghost use Rattle.macs_headline.specs.Tickets.{TicketsKept};
@@ -77,7 +77,7 @@ ghost use Rattle.macs_headline.specs.One.{OneChangeComes, OneFrameComes, OneStat
 ghost use Rattle.macs_headline.specs.Waits.{CommandsWait};
 ghost use Rattle.macs_headline.specs.Windows.{WindowsAreKept};
 ghost use Rattle.macs_headline.specs.Words.{CallWords, CommandWords, EditionWords, OneComesOfIt, ReplyWords};
-ghost use Rattle.macs_headline.specs.Working.{CallsAreStill, StepsWork};
+ghost use Rattle.macs_headline.specs.WorkInHand.{CallsAreStill, StepsWork};
 ghost use Rattle.macs_headline.specs.OpeningWords.{JournalWords, OpeningWords, RefusalWords};
 ghost use Rattle.macs_headline.specs.Openings.{IdentityWasGiven, NothingChanges, RefusedForDiskOrBlank, RefusedForDiskOrSpent, SpentAreLast};
 

@@ -11,14 +11,14 @@ use Rattle.macs_journal.specs.Appending.{IsReady}
 use Rattle.macs_journal.specs.Areas.{least_sectors}
 use Rattle.macs_journal.specs.Found.{JournalIs}
 use Rattle.macs_journal.specs.Opening.{IsNoJournal, IsRefused, Recovers, StandsFromFirst}
-use Rattle.macs_journal.specs.Recovery.{FindingIs, IsBehind, IsByContent, IsLeftBy, IsNamed, content_at, read_in}
+use Rattle.macs_journal.specs.Recovery.{IsBehind, IsByContent, IsLeftBy, IsNamed, MeaningIs, content_at, read_in}
 use Rattle.macs_journal.specs.Work.{FailsWith}
 use Rattle.macs_journal.specs.declared.fault.JournalFault.{JournalFault}
 use Rattle.macs_journal.specs.declared.fault.JournalFault.TheVariants.{BadJournal, Disk, NotFormatted, TooSmall}
 use Rattle.macs_journal.specs.declared.hand.Hand.TheVariants.{Empty}
 use Rattle.macs_journal.specs.declared.place.Place.{Place}
-use Rattle.macs_journal.specs.declared.recovery.Finding.{Finding}
-use Rattle.macs_journal.specs.declared.recovery.Finding.TheVariants.{Journal, Refused}
+use Rattle.macs_journal.specs.declared.recovery.Meaning.{Meaning}
+use Rattle.macs_journal.specs.declared.recovery.Meaning.TheVariants.{Journal, Refused}
 
 -- a disk that is too small
 pub refused-small : {D : Type 0} (disk_of : D → disk.Disk) (old : D) → (disk_of old).sectors < least_sectors
@@ -73,12 +73,12 @@ module _ {D : Type 0} (disk_of : D → disk.Disk) (old new : D) (large : least_s
     }
 
     -- what stands there is no journal
-    pub refused-found : (finding : Finding) (fault : JournalFault) (room : List Record) → finding ≡ Refused fault → IsNamed finding
-        → (disk.IsHonest (disk_of new) → FindingIs (disk.now (disk_of old)).seen finding (read_in finding room))
+    pub refused-found : (meaning : Meaning) (fault : JournalFault) (room : List Record) → meaning ≡ Refused fault → IsNamed meaning
+        → (disk.IsHonest (disk_of new) → MeaningIs (disk.now (disk_of old)).seen meaning (read_in meaning room))
         → IsRefused disk_of (IsNoJournal disk_of old) old new fault
-    refused-found finding fault room is named found = by_name (subst IsNamed is named) where
+    refused-found meaning fault room is named found = by_name (subst IsNamed is named) where
       is_found : disk.IsHonest (disk_of new) → JournalIs least_sectors (disk.now (disk_of old)).seen (Err fault)
-      is_found honest = subst (λ (f : Finding). FindingIs (disk.now (disk_of old)).seen f (read_in f room)) is (found honest)
+      is_found honest = subst (λ (f : Meaning). MeaningIs (disk.now (disk_of old)).seen f (read_in f room)) is (found honest)
 
       by_name : IsByContent fault → IsRefused disk_of (IsNoJournal disk_of old) old new fault
       by_name (inl blank) =
@@ -91,14 +91,14 @@ module _ {D : Type 0} (disk_of : D → disk.Disk) (old new : D) (large : least_s
           (λ honest. (large, (subst (λ (f : JournalFault). JournalIs least_sectors (disk.now (disk_of old)).seen (Err f)) bad (is_found honest)).1)) settled)
 
     -- a journal was found
-    pub recovers-found : (finding : Finding) (place : Place) (room : List Record) (format : Format) (identity : Identity) (count : ℕ)
-        → format ≡ place.head.format → identity ≡ place.head.identity → count ≡ place.head.count → finding ≡ Journal place
-        → IsBehind finding (read_in finding room) → (disk.IsHonest (disk_of new) → FindingIs (disk.now (disk_of old)).seen finding (read_in finding room))
+    pub recovers-found : (meaning : Meaning) (place : Place) (room : List Record) (format : Format) (identity : Identity) (count : ℕ)
+        → format ≡ place.head.format → identity ≡ place.head.identity → count ≡ place.head.count → meaning ≡ Journal place
+        → IsBehind meaning (read_in meaning room) → (disk.IsHonest (disk_of new) → MeaningIs (disk.now (disk_of old)).seen meaning (read_in meaning room))
         → Recovers disk_of old (record { disk = new; place = place; hand = Empty; stopped = false }) format identity count (take place.free room)
-    recovers-found finding place room format identity count form whose counted is behind found =
-        let stands : IsBehind (Journal place) (take place.free room) = subst (λ (f : Finding). IsBehind f (read_in f room)) is behind in
+    recovers-found meaning place room format identity count form whose counted is behind found =
+        let stands : IsBehind (Journal place) (take place.free room) = subst (λ (f : Meaning). IsBehind f (read_in f room)) is behind in
         let is_found : disk.IsHonest (disk_of new) → JournalIs least_sectors (disk.now (disk_of old)).seen (Ok (content_at place (take place.free room))) =
-        λ honest. subst (λ (f : Finding). FindingIs (disk.now (disk_of old)).seen f (read_in f room)) is (found honest) in
+        λ honest. subst (λ (f : Meaning). MeaningIs (disk.now (disk_of old)).seen f (read_in f room)) is (found honest) in
         record {
           device = record { large = large; works = works; fails = steady; settled = settled; from_first = from_first; any_moment = nothing };
           running = refl;

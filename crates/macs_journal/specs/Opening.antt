@@ -13,7 +13,7 @@ use Rattle.macs_journal.specs.Value.{HoldsContent, IsIdle, JournalValue, content
 use Rattle.macs_journal.specs.Work.{FailsWith}
 use Rattle.macs_journal.specs.declared.fault.JournalFault.{JournalFault}
 use Rattle.macs_journal.specs.declared.fault.JournalFault.TheVariants as variant
-use Rattle.macs_journal.specs.declared.recovery.Found.{Found}
+use Rattle.macs_journal.specs.declared.recovery.FoundJournal.{FoundJournal}
 use Rattle.macs_journal.specs.declared.recovery.RecoverRefused.{RecoverRefused}
 use Rattle.macs_journal.specs.declared.recovery.Recovered.{Recovered}
 
@@ -68,7 +68,8 @@ IsNoJournal disk_of disk fault = JournalIs (disk_of disk).sectors (now (disk_of 
 
 -- The journal of a disk is recovered with the first records of a room, or refused for what stands on the disk, or for a device call that
 -- failed.
-abbrev pub IsRecoveryInto : {D : Type 0} → (D → Disk) → D → Result (Found D) (RecoverRefused D) → List Record → Type 0
+abbrev pub IsRecoveryInto : {D : Type 0} → (D → Disk) → D → Result (FoundJournal D) (RecoverRefused D) → List Record
+    → Type 0
 IsRecoveryInto disk_of disk (Ok found) room = Recovers disk_of disk found.journal found.format found.identity found.count (take found.used room)
 IsRecoveryInto disk_of disk (Err refused) room = IsRefused disk_of (IsNoJournal disk_of disk) disk refused.disk refused.fault
 

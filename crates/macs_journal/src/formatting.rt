@@ -13,10 +13,10 @@ ghost use Rattle.macs_journal.specs.Rewriting.{HasNewGates};
 ghost use Rattle.macs_journal.specs.Work.{IsSpared};
 
 use crate::area::{Area, LEAST_SECTORS};
+use crate::bodies::write_bodies;
 use crate::fault::JournalFault;
-use crate::filling::write_bodies;
 use crate::gates::close_gates;
-use crate::opening::open_head;
+use crate::head_gate::open_head;
 use macs_config::Identity;
 use macs_disk::{DeviceFault, SectorDisk};
 use macs_record::{Format, Head, Record, SECTOR, is_open};

@@ -174,14 +174,14 @@ impl<D: SectorDisk> Journal<D> {
             → i ≢ gate self.old.place.area (self.old.place.free + 1)
             → IsSpared (disk_in D.disk self.old) (disk_in D.disk self.new) i }
     {
-        while self.is_busy() {
+        while self.has_work() {
             self.step_append()?;
         }
         Ok(())
     }
 
     /// Whether an append is in hand.
-    fn is_busy(&self) -> bool
+    fn has_work(&self) -> bool
         requires no_compact { IsNoCompact self.now.hand }
         ensures busy { IsTrue result ↔ (1 ≤ append_left self.now.hand) }
         ensures idle { result ≡ false → IsIdle self.now }

@@ -4,18 +4,18 @@
 
 mod appending;
 mod area;
+mod bodies;
 mod compact_calls;
 mod compact_stage;
 mod compaction;
 mod fault;
-mod filling;
 mod formatting;
 mod gates;
 mod hand;
+mod head_gate;
 mod heads;
 mod journal;
 pub mod laws;
-mod opening;
 mod place;
 mod record_source;
 mod recovery;
@@ -27,6 +27,6 @@ pub use fault::JournalFault;
 pub use formatting::format;
 pub use journal::Journal;
 pub use record_source::RecordSource;
-pub use recovery::{Found, RecoverRefused, Recovered, recover, recover_into};
+pub use recovery::{FoundJournal, RecoverRefused, Recovered, recover, recover_into};
 pub use slots::{Records, Room, new_room};
 pub use work::{JournalStep, Work};

@@ -9,7 +9,7 @@ use Rattle.macs_disk.specs.Files.{values_from}
 use Rattle.macs_disk.specs.FileEvidence.{length-values, value-at}
 use Rattle.macs_mem_file.specs.Blocks.{are_octets, flag_in, is_in_first_half, left_of, octet_at}
 use Rattle.macs_mem_file.specs.declared.blocks.Left.{Left}
-use Rattle.macs_disk.specs.Recorded.{flag_at}
+use Rattle.macs_disk.specs.CallLists.{flag_at}
 
 -- the first n blocks whose flag is this were copied
 pub record Copied (block n : ℕ) (flags : List Bool) (which : Bool) (first from now : List ℕ) : Type 0 where

@@ -11,7 +11,7 @@ use Rattle.macs_mem_file.specs.declared.blocks.Left.{Left}
 use Rattle.macs_mem_file.specs.declared.blocks.Left.TheVariants.{Durable, Half, Written, Zeros}
 use Rattle.macs_mem_file.specs.Evidence.{block-of}
 use Rattle.macs_mem_file.specs.MemFiles.{file_after_loss, file_pressed}
-use Rattle.macs_disk.specs.Recorded.{flag_at}
+use Rattle.macs_disk.specs.CallLists.{flag_at}
 
 -- octets outside what was put are as before
 put-before : (f : ℕ → ℕ) (at p : ℕ) (xs : List ℕ) → p < at → put_from f at xs p ≡ f p

@@ -1,7 +1,7 @@
 -- Octets in memory by their blocks, and what a file in memory keeps of them.
 use Rattle.std.specs.Prelude.{◌≡◌, ◌<◌, ◌*◌, ◌/◌, ◌%◌, ◌^◌, ◌==◌, ℕ, if◌then◌else◌, nat_lt, Bool, true, false, List, length, get_or}
 use Rattle.macs_disk.specs.Files.{FileState}
-use Rattle.macs_disk.specs.Recorded.{flag_at}
+use Rattle.macs_disk.specs.CallLists.{flag_at}
 use Rattle.macs_mem_file.specs.declared.blocks.Left.{Left}
 use Rattle.macs_mem_file.specs.declared.blocks.Left.TheVariants.{Durable, Written, Half, Zeros}
 

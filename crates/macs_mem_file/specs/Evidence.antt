@@ -4,7 +4,7 @@ use Rattle.std.proofs.Common.{◌≡◌, ◌<◌, ◌+◌, ◌*◌, ◌/◌, ℕ
 use Rattle.std.proofs.Math.Nat.{div-eq_of_lt-le, mul_comm, add-mul}
 use Rattle.macs_disk.specs.Files.{IsSoundFile}
 use Rattle.macs_mem_file.specs.Blocks.{IsKept, file_in_memory}
-use Rattle.macs_disk.specs.Recorded.{flag_at}
+use Rattle.macs_disk.specs.CallLists.{flag_at}
 
 -- the block of an octet
 pub block-of : (block n k : ℕ) → k < block → (block * n + k) / block ≡ n

@@ -3,7 +3,7 @@
 ghost use Rattle.std.specs.Prelude.{◌≡◌, ◌<◌, ◌≤◌, ◌+◌, ◌*◌, ◌/◌, ◌^◌, ◌||◌, ℕ, nat_lt, not, false, true, length, take};
 ghost use Rattle.macs_disk.specs.Files.{has_some, put_from, values_from};
 ghost use Rattle.macs_mem_file.specs.Blocks.{are_octets, flag_in, is_in_first_half, left_of, octet_at, size_left};
-ghost use Rattle.macs_disk.specs.Recorded.{flag_at};
+ghost use Rattle.macs_disk.specs.CallLists.{flag_at};
 
 use std::alloc::Allocator;
 
@@ -104,7 +104,7 @@ pub(crate) fn fetch(from: &[u8], at: usize, into: &mut [u8], count: usize)
     }
 }
 
-// Copies the octets from `at` up to before `end`.
+/// Copies the octets from `at` up to before `end`.
 fn copy_part<A: Allocator>(to: &mut Vec<u8, A>, from: &[u8], at: usize, end: usize)
     requires ordered { at ≤ end }
     requires within { end ≤ length to.old.items }
@@ -119,7 +119,7 @@ fn copy_part<A: Allocator>(to: &mut Vec<u8, A>, from: &[u8], at: usize, end: usi
     }
 }
 
-// Puts zeros from `at` up to before `end`.
+/// Puts zeros from `at` up to before `end`.
 fn clear_part<A: Allocator>(to: &mut Vec<u8, A>, at: usize, end: usize)
     requires ordered { at ≤ end }
     requires within { end ≤ length to.old.items }
@@ -156,7 +156,7 @@ pub(crate) fn copy_blocks<A: Allocator>(
     }
 }
 
-// Leaves in one block what a power loss does.
+/// Leaves in one block what a power loss does.
 fn spoil_block<A: Allocator>(
     durable: &mut Vec<u8, A>,
     written: &[u8],

@@ -32,7 +32,7 @@ use Rattle.macs_frame.specs.Tag.{tag_of}
 use Rattle.macs_frame.proofs.Readings.{verified_once}
 use Rattle.macs_journal.specs.declared.fault.JournalFault.TheVariants as journal
 use Rattle.macs_pcap.specs.States.{SinkState}
-use Rattle.macs_program.specs.Answer.{Answers, AnswersRequest, answer_status, answer_text, refusal_text, valid_text}
+use Rattle.macs_program.specs.Opened.{Answers, AnswersRequest, answer_status, answer_text, refusal_text, valid_text}
 use Rattle.macs_program.specs.Applying.{Applies, EndsRun, SaysCommands, answer_of, commit_fault, outcome_lines}
 use Rattle.macs_program.specs.Capturing.{EndsWith, IsFlushed}
 use Rattle.macs_program.specs.Contents.{HasOpenGate, IsBlankFile}
@@ -41,19 +41,19 @@ use Rattle.macs_program.specs.Drawn.{TextLineWords, is_silent}
 use Rattle.macs_program.specs.Failing.{failure_of_run}
 use Rattle.macs_program.specs.NewDisks.{Permits}
 use Rattle.macs_program.specs.Inputs.{InputRead}
-use Rattle.macs_program.specs.Request.{InputFaultHolds, IsFourLines, input_faults, offset_text}
+use Rattle.macs_program.specs.OpenInput.{InputFaultHolds, IsFourLines, input_faults, offset_text}
 use Rattle.macs_program.specs.Run.{HasPrinted, OpenFails}
 use Rattle.macs_program.specs.Values.{SpellsLayout}
-use Rattle.macs_program.specs.declared.answer.Answer.{Answer}
-use Rattle.macs_program.specs.declared.answer.Answer.TheVariants.{Refused, Valid}
+use Rattle.macs_program.specs.declared.opened.Opened.{Opened}
+use Rattle.macs_program.specs.declared.opened.Opened.TheVariants.{Refused, Valid}
 use Rattle.macs_program.specs.declared.contents.Contents.TheVariants as contents
 use Rattle.macs_program.specs.declared.failure.DiskFault.{DiskFault}
 use Rattle.macs_program.specs.declared.failure.DiskFault.TheVariants as disk
 use Rattle.macs_program.specs.declared.failure.Failure.{Failure}
 use Rattle.macs_program.specs.declared.failure.Failure.TheVariants as failures
-use Rattle.macs_program.specs.declared.request.InputFault.{InputFault}
-use Rattle.macs_program.specs.declared.request.InputFault.TheVariants as fault
-use Rattle.macs_program.specs.declared.request.Request.{Request}
+use Rattle.macs_program.specs.declared.open_input.InputFault.{InputFault}
+use Rattle.macs_program.specs.declared.open_input.InputFault.TheVariants as fault
+use Rattle.macs_program.specs.declared.open_input.OpenInput.{OpenInput}
 use Rattle.macs_program.proofs.TextLines.{lines-ended, lines-last, lines-nil, trimmed-other, trimmed-return}
 use Rattle.macs_words.specs.declared.action.Action.{Action}
 use Rattle.macs_words.specs.declared.action.Action.TheVariants.{Apply, Check, Format, Key, Open, Protect, Relay, Show, Validate}
@@ -77,18 +77,18 @@ octets_once : (line a b : List ℕ) → decode_of line ≡ Ok a → decode_of li
 octets_once line a b is same = cc
 
 -- an answer, over the parts of its request
-abbrev IsAnswered : (frame key sci : List ℕ) → ℕ → Answer → Type 0
+abbrev IsAnswered : (frame key sci : List ℕ) → ℕ → Opened → Type 0
 IsAnswered frame key sci offset (Valid an pn plain) = NoneHolds (OpenFaultHolds frame key sci offset) open_faults
     × Verified frame key sci offset plain.items
     × (an ≡ (tag_of frame).an) × (pn ≡ (tag_of frame).pn)
 IsAnswered frame key sci offset (Refused fault) = IsFirst (OpenFaultHolds frame key sci offset) open_faults fault
 
-answered : (r : Request) (answer : Answer) → AnswersRequest r answer
+answered : (r : OpenInput) (answer : Opened) → AnswersRequest r answer
     → IsAnswered r.frame.items (octets_of_key r.key) r.sci (octets_of r.offset) answer
 answered r (Valid an pn plain) is = (is.faultless, is.verified, is.association, is.number)
 answered r (Refused fault) is = is
 
-answered_once : (frame key sci : List ℕ) (offset : ℕ) (a b : Answer) → IsAnswered frame key sci offset a
+answered_once : (frame key sci : List ℕ) (offset : ℕ) (a b : Opened) → IsAnswered frame key sci offset a
     → IsAnswered frame key sci offset b
     → (answer_text a ≡ answer_text b) × (answer_status a ≡ answer_status b)
 answered_once frame key sci offset (Valid an pn plain) (Valid an' pn' plain') (none, verified, is_an, is_pn)
@@ -105,7 +105,7 @@ answered_once frame key sci offset (Refused fault) (Refused other) first second 
     let same = first-once (OpenFaultHolds frame key sci offset) open_faults fault other first second in
     (ap refusal_text same, refl)
 
-answer_once : (input : List ℕ) (a b : Answer) → Answers input a → Answers input b → (answer_text a ≡ answer_text b)
+answer_once : (input : List ℕ) (a b : Opened) → Answers input a → Answers input b → (answer_text a ≡ answer_text b)
     × (answer_status a ≡ answer_status b)
 answer_once input a b x y =
     let frame = octets_once _ x.request.frame.items y.request.frame.items x.spelled.frame y.spelled.frame in

@@ -17,7 +17,7 @@ pub mod JudgedFiles
 pub mod Inspected
 pub mod Looks
 pub mod Made
-pub mod Opened
+pub mod OpenedFrames
 pub mod Performed
 pub mod Printing
 pub mod Relayed

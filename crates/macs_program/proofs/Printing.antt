@@ -3,12 +3,12 @@ use Rattle.std.proofs.Common.{◌≡◌, ℕ, ◌++◌, List, [], ◌∷◌, len
 use Rattle.std.proofs.lemmas.List.{take_all}
 use Rattle.std.specs.Io.KnownBytes.{Appends}
 use Rattle.macs_fields.specs.First.{IsFirst}
-use Rattle.macs_program.specs.Answer.{Answers, answer_status, answer_text}
-use Rattle.macs_program.specs.Request.{InputFaultHolds, input_faults}
+use Rattle.macs_program.specs.Opened.{Answers, answer_status, answer_text}
+use Rattle.macs_program.specs.OpenInput.{InputFaultHolds, input_faults}
 use Rattle.macs_program.specs.Run.{Prints}
-use Rattle.macs_program.specs.declared.answer.Answer.{Answer}
-use Rattle.macs_program.specs.declared.answer.Answer.TheVariants as answers
-use Rattle.macs_program.specs.declared.request.InputFault.{InputFault}
+use Rattle.macs_program.specs.declared.opened.Opened.{Opened}
+use Rattle.macs_program.specs.declared.opened.Opened.TheVariants as answers
+use Rattle.macs_program.specs.declared.open_input.InputFault.{InputFault}
 use Rattle.macs_program.specs.declared.status.Status.{Status}
 use Rattle.macs_program.specs.declared.status.Status.TheVariants.{Done, Refused}
 
@@ -20,7 +20,7 @@ appended-read None limit text h = tt
 appended-read (Some octets) limit text h = h
 
 -- an input that spells a request was read whole
-read-whole : (input octets : List ℕ) (answer : Answer) → input ≡ take 20001 octets → Answers input answer → Answers octets answer
+read-whole : (input octets : List ℕ) (answer : Opened) → input ≡ take 20001 octets → Answers input answer → Answers octets answer
 read-whole input octets answer read answers =
     let short = answers.spelled.four.0 in
     let count = length-take 20001 octets in
@@ -32,7 +32,7 @@ pub prints-text : (before after : Option (List ℕ)) (text other : List ℕ) →
 prints-text before after text other same printed = subst (λ (x : List ℕ). Appends before after x) same printed
 
 -- the answer to what was read is printed
-pub prints : (remaining before after : Option (List ℕ)) (input line : List ℕ) (answer : Answer) (status : Status)
+pub prints : (remaining before after : Option (List ℕ)) (input line : List ℕ) (answer : Opened) (status : Status)
     → IfSome remaining (λ octets. input ≡ take 20001 octets) → Answers input answer → line ≡ answer_text answer ++ 10 ∷ []
     → Appends before after line → status ≡ answer_status answer → IfSome remaining (λ octets. Prints octets before after status)
 prints None before after input line answer status read answers text printed end = tt
@@ -40,7 +40,7 @@ prints (Some octets) before after input line answer status read answers text pri
     (answer, read-whole input octets answer read answers, prints-text before after line _ text printed, end)
 
 -- an answer ends the run as done or refused
-pub answered : (answer : Answer) (status : Status) → status ≡ answer_status answer → (status ≡ Done) ⊎ (status ≡ Refused)
+pub answered : (answer : Opened) (status : Status) → status ≡ answer_status answer → (status ≡ Done) ⊎ (status ≡ Refused)
 answered (answers.Valid an pn plain) status is = inl is
 answered (answers.Refused fault) status is = inr is
 

@@ -61,7 +61,7 @@ module _ {F : Type 0} (file : F → FileState) where
 
   pub relay-words : RelayWords file
   relay-words = record {
-    busy = λ turns. refl;
+    sleepless = λ turns. refl;
     waiting = λ limit turns. refl;
     unended = λ limit. refl;
     turns = λ running. refl;

@@ -4,7 +4,7 @@ use Rattle.std.specs.Result.{result_ok}
 use Rattle.hex.specs.Hex.{decode_of, decode_sized}
 use Rattle.hex.specs.declared.error.FromHexError.{FromHexError}
 use Rattle.hex.proofs.HexLemmas.{decode_of-ok, decode_sized-ok, decode_sized-twice}
-use Rattle.macs_program.specs.Request.{SpellsKey, SpellsSized}
+use Rattle.macs_program.specs.OpenInput.{SpellsKey, SpellsSized}
 
 -- a line that decodes at a size spells so many octets
 spells-decoded : (line : List ℕ) (n : ℕ) (octets : List ℕ) → decode_sized line n ≡ Ok octets → SpellsSized line n octets

@@ -44,7 +44,7 @@ use Rattle.macs_journal.specs.declared.fault.JournalFault.{JournalFault}
 use Rattle.macs_journal.specs.declared.fault.JournalFault.TheVariants as journal
 use Rattle.macs_pcap.specs.States.{SinkState, SourceState}
 use Rattle.macs_program.specs.Addresses.{SpellsBoth, SpellsNone}
-use Rattle.macs_program.specs.Answer.{Answers, answer_status, answer_text}
+use Rattle.macs_program.specs.Opened.{Answers, answer_status, answer_text}
 use Rattle.macs_program.specs.Applying.{Applies, AppliesAll, AppliesSome, EndsRun, SaysCommands, commit_fault}
 use Rattle.macs_program.specs.Applying.{outcome_lines, outcomes_status}
 use Rattle.macs_program.specs.CaptureFiles.{Asked, Asks, AsksInOrder, Makes, Opens as OpensCapture}
@@ -57,19 +57,19 @@ use Rattle.macs_program.specs.Failing.{failure_text}
 use Rattle.macs_program.specs.Inputs.{InputRead}
 use Rattle.macs_program.specs.Lines.{line_at, lines, trimmed_line}
 use Rattle.macs_program.specs.NewDisks.{BlankFails, FormatFails, Formats, IsTaken, Permits}
-use Rattle.macs_program.specs.Request.{IsFourLines, Spells, SpellsKey, SpellsSci, offset_text}
+use Rattle.macs_program.specs.OpenInput.{IsFourLines, Spells, SpellsKey, SpellsSci, offset_text}
 use Rattle.macs_program.specs.Run.{HasPrinted, OpenFails, Prints, PrintsUnlessFailed, code_of, complaint}
 use Rattle.macs_program.specs.Values.{SpellsIdentity, SpellsLayout}
 use Rattle.macs_program.specs.declared.addresses.WireAddresses.{WireAddresses}
-use Rattle.macs_program.specs.declared.answer.Answer.{Answer}
-use Rattle.macs_program.specs.declared.answer.Answer.TheVariants.{Refused, Valid}
+use Rattle.macs_program.specs.declared.opened.Opened.{Opened}
+use Rattle.macs_program.specs.declared.opened.Opened.TheVariants.{Refused, Valid}
 use Rattle.macs_program.specs.declared.failure.DiskFault.{DiskFault}
 use Rattle.macs_program.specs.declared.failure.DiskFault.TheVariants as disk
 use Rattle.macs_program.specs.declared.failure.Failure.{Failure}
 use Rattle.macs_program.specs.declared.failure.Failure.TheVariants as failures
-use Rattle.macs_program.specs.declared.request.InputFault.{InputFault}
-use Rattle.macs_program.specs.declared.request.InputFault.TheVariants as fault
-use Rattle.macs_program.specs.declared.request.Request.{Request}
+use Rattle.macs_program.specs.declared.open_input.InputFault.{InputFault}
+use Rattle.macs_program.specs.declared.open_input.InputFault.TheVariants as fault
+use Rattle.macs_program.specs.declared.open_input.OpenInput.{OpenInput}
 use Rattle.macs_program.specs.declared.status.Status.{Status}
 use Rattle.macs_program.specs.declared.status.Status.TheVariants as ends
 use Rattle.macs_words.specs.declared.action.WireEnds.{WireEnds}
@@ -84,14 +84,14 @@ use Rattle.macs_words.specs.declared.pace.Running.{Running}
 -- 20,000 octets, and four such lines are taken. The answer is that of the frame under this key, SCI and offset: verified
 -- as this plain frame, with the AN and the PN of its SecTAG, where no fault holds, or refused for the first one.
 pub record AnswerWords : Type 0 where
-  pub one : (input : List ℕ) (a b : Answer) → Answers input a → Answers input b → (answer_text a ≡ answer_text b)
+  pub one : (input : List ℕ) (a b : Opened) → Answers input a → Answers input b → (answer_text a ≡ answer_text b)
       × (answer_status a ≡ answer_status b)
-  pub spelled : (input : List ℕ) (answer : Answer) (a : Answers input answer) → Spells input a.request
-  pub four : (input : List ℕ) (r : Request) → Spells input r → (length input ≤ 20000) × (length (lines input) ≡ 4)
+  pub spelled : (input : List ℕ) (answer : Opened) (a : Answers input answer) → Spells input a.request
+  pub four : (input : List ℕ) (r : OpenInput) → Spells input r → (length input ≤ 20000) × (length (lines input) ≡ 4)
       × (decode_of (line_at input 0) ≡ Ok (octets_of_key r.key)) × (decode_of (line_at input 1) ≡ Ok r.sci)
       × (length r.sci ≡ 8)
       × (line_at input 2 ≡ offset_text r.offset) × (decode_of (line_at input 3) ≡ Ok r.frame.items)
-  pub taken : (input : List ℕ) (r : Request) → length input ≤ 20000 → length (lines input) ≡ 4
+  pub taken : (input : List ℕ) (r : OpenInput) → length input ≤ 20000 → length (lines input) ≡ 4
       → decode_of (line_at input 0) ≡ Ok (octets_of_key r.key)
       → (length (octets_of_key r.key) ≡ 16) ⊎ (length (octets_of_key r.key) ≡ 32)
       → decode_of (line_at input 1) ≡ Ok r.sci → length r.sci ≡ 8 → line_at input 2 ≡ offset_text r.offset
@@ -290,7 +290,7 @@ is_silent action = false
 -- code, and each failure its status.
 pub record LineWords : Type 0 where
   pub prints : (input : List ℕ) (before after : Option (List ℕ)) (status : Status) → Prints input before after status
-      → (answer : Answer) × Answers input answer
+      → (answer : Opened) × Answers input answer
       × Appends before after (answer_text answer ++ 10 ∷ []) × (status ≡ answer_status answer)
   pub no_input : (input : InputRead) (failure : Failure) → OpenFails input failure
       → failure ≡ failures.Input fault.Input

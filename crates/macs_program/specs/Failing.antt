@@ -26,8 +26,8 @@ use Rattle.macs_program.specs.declared.failure.DiskFault.{DiskFault}
 use Rattle.macs_program.specs.declared.failure.DiskFault.TheVariants as disk
 use Rattle.macs_program.specs.declared.failure.Failure.{Failure}
 use Rattle.macs_program.specs.declared.failure.Failure.TheVariants as failure
-use Rattle.macs_program.specs.declared.request.InputFault.{InputFault}
-use Rattle.macs_program.specs.declared.request.InputFault.TheVariants as input
+use Rattle.macs_program.specs.declared.open_input.InputFault.{InputFault}
+use Rattle.macs_program.specs.declared.open_input.InputFault.TheVariants as input
 use Rattle.macs_program.specs.declared.status.Status.{Status}
 use Rattle.macs_program.specs.declared.status.Status.TheVariants as ends
 use Rattle.macs_program.specs.declared.values.ValueFault.{ValueFault}

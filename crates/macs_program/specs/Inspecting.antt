@@ -18,7 +18,7 @@ use Rattle.macs_pcap.specs.States.{SourceState}
 use Rattle.macs_pcap.specs.declared.fault.PcapFault.{PcapFault}
 use Rattle.macs_pcap.specs.declared.header.Header.{Header}
 use Rattle.macs_texts.specs.Lines.{line}
-use Rattle.macs_program.specs.Answer.{refusal_text}
+use Rattle.macs_program.specs.Opened.{refusal_text}
 use Rattle.macs_program.specs.Failing.{failure_of_capture}
 use Rattle.macs_program.specs.declared.failure.Failure.{Failure}
 use Rattle.macs_program.specs.declared.failure.Failure.TheVariants as failures

@@ -1,7 +1,7 @@
 pub mod Lines
-pub mod Request
+pub mod OpenInput
 pub mod Inputs
-pub mod Answer
+pub mod Opened
 pub mod Values
 pub mod Addresses
 pub mod Contents

@@ -15,7 +15,7 @@ use Rattle.macs_endpoint.specs.declared.fault.RefillFault.TheVariants as refill
 use Rattle.macs_journal.specs.declared.fault.JournalFault.TheVariants as journal
 use Rattle.macs_words.specs.declared.pace.Milliseconds.{Milliseconds}
 use Rattle.macs_words.specs.declared.pace.Running.{Running}
-use Rattle.macs_words.specs.declared.pace.Pace.TheVariants.{Busy, Waiting}
+use Rattle.macs_words.specs.declared.pace.Pace.TheVariants.{Sleepless, Waiting}
 use Rattle.macs_program.specs.Endpoints.{IsEndpointIn}
 use Rattle.macs_program.specs.Failing.{failure_of_refill}
 use Rattle.macs_program.specs.Relaying.{ComesTo, Course, RelayEndsIn, course_of, turns_of}
@@ -46,7 +46,7 @@ RunsAs file course old result new controlled common =
 -- otherwise, nothing was done with the endpoint, since a wire or a socket is not bound, or there is no memory; or a step
 -- was answered with a fault, which has its name; or it came to its summary, and that is not written.
 pub record RelayWords {F : Type 0} (file : F → FileState) : Type 0 where
-  pub busy : (turns : ℕ) → turns_of (Busy turns) ≡ turns
+  pub sleepless : (turns : ℕ) → turns_of (Sleepless turns) ≡ turns
   pub waiting : (limit : Milliseconds) (turns : ℕ) → turns_of (Waiting limit (Some turns)) ≡ turns
   pub unended : (limit : Milliseconds) → turns_of (Waiting limit None) ≡ 2 ^ 64 - 1
   pub turns : (running : Running) → (course_of running).turns ≡ turns_of running.pace

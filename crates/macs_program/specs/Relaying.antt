@@ -13,7 +13,7 @@ use Rattle.macs_endpoint.specs.Value.{EndpointValue}
 use Rattle.macs_endpoint.specs.declared.fault.RefillFault.{RefillFault}
 use Rattle.macs_words.specs.declared.pace.Pace.{Pace}
 use Rattle.macs_words.specs.declared.pace.Running.{Running}
-use Rattle.macs_words.specs.declared.pace.Pace.TheVariants.{Busy, Waiting}
+use Rattle.macs_words.specs.declared.pace.Pace.TheVariants.{Sleepless, Waiting}
 use Rattle.macs_program.specs.Endpoints.{IsEndpointIn}
 use Rattle.macs_program.specs.Failing.{failure_of_refill}
 use Rattle.macs_program.specs.declared.failure.Failure.{Failure}
@@ -25,13 +25,13 @@ new_wire = record { waiting = None; sent = None; failed_receives = 0; failed_sen
 
 -- how many turns a relay takes: as many as 64 bits count where it waits and none are given
 abbrev pub turns_of : Pace → ℕ
-turns_of (Busy turns) = turns
+turns_of (Sleepless turns) = turns
 turns_of (Waiting limit None) = 2 ^ 64 - 1
 turns_of (Waiting limit (Some turns)) = turns
 
 -- how many receives in a row a wire of it leaves out at most, where it gives nothing: none where the relay does not sleep
 abbrev pub left_out : Pace → ℕ
-left_out (Busy turns) = 0
+left_out (Sleepless turns) = 0
 left_out (Waiting limit turns) = 7
 
 -- what a relay is to be: whether a desk attends it, and how many turns it takes at most

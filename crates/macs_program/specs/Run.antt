@@ -11,7 +11,7 @@ use Rattle.macs_rxsc.specs.declared.verdict.Verdict.{Verdict}
 use Rattle.macs_edge.specs.declared.relaying.RelaySummary.{RelaySummary}
 use Rattle.macs_edge.specs.declared.settling.Side.TheVariants.{Common, Controlled}
 use Rattle.macs_program.specs.Addresses.{AddressFaultHolds, SpellsBoth, address_faults}
-use Rattle.macs_program.specs.Answer.{Answers, answer_status, answer_text}
+use Rattle.macs_program.specs.Opened.{Answers, answer_status, answer_text}
 use Rattle.macs_program.specs.Asking.{IsOfAsking, PrintsAnswer, PrintsFront}
 use Rattle.macs_program.specs.Applying.{outcome_lines}
 use Rattle.macs_program.specs.Checking.{CheckFails, PrintsCount}
@@ -25,7 +25,7 @@ use Rattle.macs_words.specs.Help.{topic_text}
 use Rattle.macs_program.specs.Inputs.{InputRead, read_of}
 use Rattle.macs_program.specs.NewDisks.{FormatFails, Formats}
 use Rattle.macs_program.specs.Relaying.{ComesTo, RelayEndsIn, course_of}
-use Rattle.macs_program.specs.Request.{InputFaultHolds, input_faults}
+use Rattle.macs_program.specs.OpenInput.{InputFaultHolds, input_faults}
 use Rattle.macs_texts.specs.Lines.{line}
 use Rattle.macs_program.specs.Summing.{pass_status, relay_line, summary_line}
 use Rattle.macs_program.specs.Values.{SpellsIdentity, SpellsLayout, ValueFaultHolds, value_faults}
@@ -33,12 +33,12 @@ use Rattle.macs_words.specs.Words.{AreRefused, AsksFor, AsksForNothing, Names, m
 use Rattle.macs_words.specs.declared.action.Action.{Action}
 use Rattle.macs_words.specs.declared.action.Action.TheVariants.{Open, Format, Apply, Show, Protect, Validate, Relay, Ask, Key, Inspect, Check}
 use Rattle.macs_program.specs.declared.addresses.AddressFault.{AddressFault}
-use Rattle.macs_program.specs.declared.answer.Answer.{Answer}
+use Rattle.macs_program.specs.declared.opened.Opened.{Opened}
 use Rattle.macs_program.specs.declared.capturing.Direction.TheVariants as direction
 use Rattle.macs_program.specs.declared.failure.Failure.{Failure}
 use Rattle.macs_program.specs.declared.failure.Failure.TheVariants.{Address, Input, Memory, Output, Value}
-use Rattle.macs_program.specs.declared.request.InputFault.{InputFault}
-use Rattle.macs_program.specs.declared.request.InputFault.TheVariants as request_faults
+use Rattle.macs_program.specs.declared.open_input.InputFault.{InputFault}
+use Rattle.macs_program.specs.declared.open_input.InputFault.TheVariants as request_faults
 use Rattle.macs_words.specs.declared.action.UsageFault.{UsageFault}
 use Rattle.macs_words.specs.declared.help.Topic.{Topic}
 use Rattle.macs_program.specs.declared.status.Status.{Status}
@@ -48,7 +48,7 @@ use Rattle.macs_program.specs.declared.values.ValueFault.{ValueFault}
 -- `open`: the answer that belongs to the input is printed as one line, and the run ends with its status
 abbrev pub Prints : List ℕ → Option (List ℕ) → Option (List ℕ) → Status → Type 0
 Prints input before after status =
-    (answer : Answer) × Answers input answer × Appends before after (line (answer_text answer)) × (status ≡ answer_status answer)
+    (answer : Opened) × Answers input answer × Appends before after (line (answer_text answer)) × (status ≡ answer_status answer)
 
 -- What a run prints that does what it is asked for, where `state_of` says what files are. Which file has a name is not known here: the lines are
 -- those of what is done with some endpoint that was opened on a disk in a file; that of a relay is what some endpoint comes to

@@ -43,7 +43,7 @@ use Rattle.macs_words.specs.declared.action.WireEnds.{WireEnds}
 use Rattle.macs_words.specs.declared.help.Topic.{Topic}
 use Rattle.macs_words.specs.declared.pace.Running.{Running}
 use Rattle.macs_program.specs.Addresses.{AddressFaultHolds, SpellsBoth, address_faults}
-use Rattle.macs_program.specs.Answer.{Answers, answer_status, answer_text}
+use Rattle.macs_program.specs.Opened.{Answers, answer_status, answer_text}
 use Rattle.macs_program.specs.Applying.{Applies, SaysCommands, outcome_lines, outcomes_status}
 use Rattle.macs_program.specs.Capturing.{EndsPass, PassesCapture}
 use Rattle.macs_program.specs.Checking.{CountsCommands, IsSaidOfFile, count_line}
@@ -55,19 +55,19 @@ use Rattle.macs_program.specs.Judging.{EndsEach, JudgesCapture, JudgingEndsIn, v
 use Rattle.macs_program.specs.Keys.{PrintsKey, key_octets}
 use Rattle.macs_program.specs.NewDisks.{FormatFails, Permits}
 use Rattle.macs_program.specs.Relaying.{ComesTo, RelayEndsIn, course_of}
-use Rattle.macs_program.specs.Request.{InputFaultHolds, input_faults}
+use Rattle.macs_program.specs.OpenInput.{InputFaultHolds, input_faults}
 use Rattle.macs_program.specs.Run.{Does, FailsAs, FailsFor, HasPrinted, HasWrongValues, PrintedBefore, Replies}
 use Rattle.macs_program.specs.Run.{WrongValues}
 use Rattle.macs_program.specs.Summing.{pass_status, relay_line, summary_line}
 use Rattle.macs_program.specs.Values.{SpellsIdentity, SpellsLayout, ValueFaultHolds, value_faults}
 use Rattle.macs_program.specs.declared.addresses.AddressFault.{AddressFault}
-use Rattle.macs_program.specs.declared.answer.Answer.{Answer}
+use Rattle.macs_program.specs.declared.opened.Opened.{Opened}
 use Rattle.macs_program.specs.declared.capturing.Direction.TheVariants as direction
 use Rattle.macs_program.specs.declared.failure.DiskFault.TheVariants as disk
 use Rattle.macs_program.specs.declared.failure.Failure.{Failure}
 use Rattle.macs_program.specs.declared.failure.Failure.TheVariants as failures
-use Rattle.macs_program.specs.declared.request.InputFault.{InputFault}
-use Rattle.macs_program.specs.declared.request.InputFault.TheVariants as request_faults
+use Rattle.macs_program.specs.declared.open_input.InputFault.{InputFault}
+use Rattle.macs_program.specs.declared.open_input.InputFault.TheVariants as request_faults
 use Rattle.macs_program.specs.declared.status.Status.{Status}
 use Rattle.macs_program.specs.declared.status.Status.TheVariants as ends
 use Rattle.macs_program.specs.declared.values.ValueFault.{ValueFault}
@@ -87,7 +87,7 @@ pub record ReplyWords {F : Type 0} (file : F → FileState) : Type 0 where
       ⊎ ((takes macsecd words ≡ true) × (action : Action) × Names (subcommand_of macsecd words) action
       × Does file action input before after status)
   pub opened : (input : InputRead) (before after : Option (List ℕ)) (status : Status)
-      → Does file Open input before after status → IfSome input.octets (λ octets. (answer : Answer)
+      → Does file Open input before after status → IfSome input.octets (λ octets. (answer : Opened)
       × Answers octets answer × Appends before after (answer_text answer ++ 10 ∷ [])
       × (status ≡ answer_status answer))
   pub formatted : (path sci : Bor Text) (tx_block rx_block : ℕ) (block : Option (Bor Text)) (is_over : Bool)

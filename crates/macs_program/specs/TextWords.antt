@@ -46,7 +46,7 @@ use Rattle.macs_texts.specs.Refusals.{refusal_name}
 use Rattle.macs_words.specs.declared.action.UsageFault.TheVariants as usage
 use Rattle.macs_words.specs.declared.action.WireEnds.{WireEnds}
 use Rattle.macs_program.specs.Addresses.{AddressFaultHolds, SpellsNone, address_faults}
-use Rattle.macs_program.specs.Answer.{answer_status, answer_text, refusal_text, valid_text}
+use Rattle.macs_program.specs.Opened.{answer_status, answer_text, refusal_text, valid_text}
 use Rattle.macs_program.specs.Applying.{longest_file, outcome_lines}
 use Rattle.macs_program.specs.Asking.{failure_in}
 use Rattle.macs_program.specs.Checking.{IsSaidOfFile, count_line, fault_text, key_reason, key_word}
@@ -56,20 +56,20 @@ use Rattle.macs_program.specs.Failing.{failure_of_journal, failure_of_run, failu
 use Rattle.macs_program.specs.Inspecting.{AreLinesOf, IsLineOf, IsSaidOf, bit_text, bits_text, name_text}
 use Rattle.macs_program.specs.Inspecting.{numbers_text, tag_text}
 use Rattle.macs_program.specs.Judging.{verdict_lines}
-use Rattle.macs_program.specs.Request.{InputFaultHolds, IsFourLines, SpellsKey, SpellsOctets, SpellsOffset, SpellsSci}
-use Rattle.macs_program.specs.Request.{input_faults}
+use Rattle.macs_program.specs.OpenInput.{InputFaultHolds, IsFourLines, SpellsKey, SpellsOctets, SpellsOffset, SpellsSci}
+use Rattle.macs_program.specs.OpenInput.{input_faults}
 use Rattle.macs_program.specs.Lines.{line_at}
 use Rattle.macs_program.specs.Summing.{pass_status, relay_line, summary_line}
 use Rattle.macs_program.specs.Values.{SpellsLayout, ValueFaultHolds, value_faults}
 use Rattle.macs_program.specs.declared.addresses.AddressFault.{AddressFault}
 use Rattle.macs_program.specs.declared.addresses.AddressFault.TheVariants.{Own1, Peer1, Own2, Peer2}
-use Rattle.macs_program.specs.declared.answer.Answer.TheVariants.{Refused, Valid}
+use Rattle.macs_program.specs.declared.opened.Opened.TheVariants.{Refused, Valid}
 use Rattle.macs_program.specs.declared.capturing.Direction.TheVariants as direction
 use Rattle.macs_program.specs.declared.failure.DiskFault.{DiskFault}
 use Rattle.macs_program.specs.declared.failure.DiskFault.TheVariants as disk
 use Rattle.macs_program.specs.declared.failure.Failure.TheVariants as failures
-use Rattle.macs_program.specs.declared.request.InputFault.{InputFault}
-use Rattle.macs_program.specs.declared.request.InputFault.TheVariants as input
+use Rattle.macs_program.specs.declared.open_input.InputFault.{InputFault}
+use Rattle.macs_program.specs.declared.open_input.InputFault.TheVariants as input
 use Rattle.macs_program.specs.declared.status.Status.TheVariants as ends
 use Rattle.macs_program.specs.declared.values.ValueFault.{ValueFault}
 use Rattle.macs_program.specs.declared.values.ValueFault.TheVariants as value

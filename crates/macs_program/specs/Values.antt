@@ -3,7 +3,7 @@ use Rattle.std.specs.Prelude.{◌≡◌, ℕ, List, [], ◌∷◌, Option, Some,
 use Rattle.macs_config.specs.Identity.{Identity, IsBlock}
 use Rattle.macs_disk.specs.declared.layout.Layout.{Layout}
 use Rattle.macs_disk.specs.declared.layout.Layout.TheVariants.{Packed, Spaced}
-use Rattle.macs_program.specs.Request.{SpellsSci}
+use Rattle.macs_program.specs.OpenInput.{SpellsSci}
 use Rattle.macs_program.specs.declared.values.ValueFault.{ValueFault}
 use Rattle.macs_program.specs.declared.values.ValueFault.TheVariants as fault
 

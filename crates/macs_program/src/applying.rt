@@ -107,7 +107,7 @@ fn outcome_of(fault: CommandFault) -> Result<Option<Refusal>, DiskFault>
 }
 
 /// Gives a command to the endpoint, which keeps or refuses it.
-fn settle<D: SectorDisk>(
+fn give<D: SectorDisk>(
     endpoint: &mut Endpoint<D>,
     command: Command,
 ) -> Result<Option<Refusal>, DiskFault>
@@ -136,7 +136,7 @@ fn apply_command<D: SectorDisk, W: Stream>(
     ensures silent { IfErr result (λ failure. failure ≢ Failure.Output → out.new ≡ out.old) }
     ensures broken { IfErr result (λ failure. failure ≡ Failure.Output → W.failed out.new ≡ true) }
 {
-    let outcome = settle(endpoint, command)?;
+    let outcome = give(endpoint, command)?;
     let line = outcome_line(at, outcome);
     print_octets(out, line.as_slice())?;
     Ok(outcome.is_some())

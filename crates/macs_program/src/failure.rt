@@ -1,7 +1,7 @@
 //! What ends a run before its answer.
 
 use crate::addresses::AddressFault;
-use crate::request::InputFault;
+use crate::open_input::InputFault;
 use crate::status::Status;
 use crate::values::ValueFault;
 use macs_control::{AskFault, ControlFault};

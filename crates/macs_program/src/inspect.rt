@@ -7,11 +7,11 @@ ghost use Rattle.macs_texts.specs.Lines.{line};
 ghost use Rattle.macs_program.specs.Inspecting.{InspectFails, Inspects, InspectsNext, IsLineOf, IsOfInspecting, IsSaidOf};
 ghost use Rattle.macs_program.specs.Inspecting.{PrintsFrames, RunsCapture, RunsRecords, bit_text, bits_text, numbers_text, tag_text};
 
-use crate::answer::refusal_text;
 use crate::capture_file::CaptureFile;
 use crate::failure::Failure;
 use crate::files::open_capture;
 use crate::hex_text::HexText;
+use crate::opened::refusal_text;
 use crate::output::print;
 use crate::status::Status;
 use crate::stream::Stream;

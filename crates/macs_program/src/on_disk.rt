@@ -35,7 +35,7 @@ ghost use Rattle.macs_texts.specs.Lines.{line};
 
 use crate::addresses::{Addresses, WireAddresses, addresses_of};
 use crate::applying::apply_commands;
-use crate::attended::{desk_for, leave};
+use crate::attendants::{desk_for, leave};
 use crate::capture_file::CaptureFile;
 use crate::captures::{Captures, SystemCaptures};
 use crate::capturing::{Direction, pass_frames};
@@ -513,7 +513,7 @@ fn left_out(pace: Pace) -> u8
     ensures { result ≡ left_out pace }
 {
     match pace {
-        Pace::Busy { .. } => 0,
+        Pace::Sleepless { .. } => 0,
         Pace::Waiting { .. } => LEFT_OUT,
     }
 }
@@ -631,7 +631,7 @@ fn turns_of(pace: Pace) -> u64
     ensures { result ≡ turns_of pace }
 {
     match pace {
-        Pace::Busy { turns } => turns,
+        Pace::Sleepless { turns } => turns,
         Pace::Waiting {
             turns: Some(turns),
             ..
@@ -667,7 +667,7 @@ impl<T: Files + Net + Clock + Env, D: SectorDisk, W: Stream> Task<D, W> for Rela
             return wires.attend(self.rt, self.alloc, endpoint, self.running, turns, out);
         }
         match self.running.pace {
-            Pace::Busy { .. } => wires.relay(endpoint, turns, out),
+            Pace::Sleepless { .. } => wires.relay(endpoint, turns, out),
             Pace::Waiting { limit, .. } => wires.relay_resting(endpoint, limit, turns, out),
         }
     }

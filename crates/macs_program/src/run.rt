@@ -3,7 +3,7 @@
 ghost use Rattle.std.specs.Prelude.{◌≡◌, ◌≢◌, ◌⊎◌, ◌++◌, ◌∷◌, ℕ, List, [], Option, true, take, IfErr, IfOk, IfSome, OnErr, OnOk, string_bytes};
 ghost use Rattle.std.specs.Io.KnownBytes.{Appends};
 ghost use Rattle.clap.specs.Words.{subcommand_of, takes};
-ghost use Rattle.macs_program.specs.Answer.{answer_text};
+ghost use Rattle.macs_program.specs.Opened.{answer_text};
 ghost use Rattle.macs_program.specs.Failing.{failure_status};
 ghost use Rattle.macs_program.specs.Inputs.{InputRead, read_of};
 ghost use Rattle.macs_program.specs.Run.{Acts, FailsFor, HasPrinted, HasWrongValues, OpenFails, Performs, PrintedBefore, Prints};
@@ -13,7 +13,6 @@ ghost use Rattle.macs_words.specs.declared.action.Action.{Action};
 ghost use Rattle.macs_program.specs.declared.failure.Failure.{Failure};
 ghost use Rattle.macs_program.specs.declared.status.Status.{Status};
 
-use crate::answer::{Answer, answer_of};
 use crate::asking::ask;
 use crate::capture_file::CaptureFile;
 use crate::capturing::Direction;
@@ -23,8 +22,9 @@ use crate::input::{Input, InputText};
 use crate::inspect::inspect;
 use crate::key::key;
 use crate::on_disk::{apply, format, judge, pass, relay, show};
+use crate::open_input::InputFault;
+use crate::opened::{Opened, answer_of};
 use crate::output::print;
-use crate::request::InputFault;
 use crate::status::Status;
 use crate::stream::{PrintFailed, Stream};
 use macs_words::{Action, action_of, topic_of};
@@ -46,7 +46,7 @@ fn read_input<R: Input>(input: &mut R) -> Result<InputText, Failure>
 }
 
 /// The line that `open` prints, with its line feed.
-pub fn line_of<A: Allocator>(alloc: A, answer: &Answer) -> Result<String<A>, AllocError>
+pub fn line_of<A: Allocator>(alloc: A, answer: &Opened) -> Result<String<A>, AllocError>
     ensures { IfOk result (λ line. string_bytes line ≡ answer_text answer.now ++ 10 ∷ []) }
 {
     format!(in alloc; "{answer}\n")

@@ -5,7 +5,7 @@ ghost use Rattle.macs_config.specs.Identity.{IsBlock};
 ghost use Rattle.macs_fields.specs.First.{IsFirst};
 ghost use Rattle.macs_program.specs.Values.{SpellsIdentity, SpellsLayout, ValueFaultHolds, value_faults};
 
-use crate::request::sci_of;
+use crate::open_input::sci_of;
 use macs_config::Identity;
 use macs_disk::Layout;
 

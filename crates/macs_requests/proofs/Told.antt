@@ -1,4 +1,4 @@
--- Commands by their kinds, and the words that name these.
+-- Commands by their words, and the texts of these.
 use Rattle.std.proofs.Common.{◌≡◌, ℕ, Bool, List, Some, codes, refl}
 use Rattle.macs_aes.specs.declared.keys.Key.{Key}
 use Rattle.macs_config.specs.declared.command.Command.{Command}
@@ -7,9 +7,9 @@ use Rattle.macs_config.specs.declared.command.Command.TheVariants.{TxInstall, Tx
 use Rattle.macs_config.specs.declared.command.Command.TheVariants.{RxAdd, RxDrop, RxInstall, RxRemove}
 use Rattle.macs_config.specs.declared.command.SciMode.{SciMode}
 use Rattle.macs_config.specs.declared.command.Validate.{Validate}
-use Rattle.macs_requests.specs.Kinds.{kind_named, kind_of}
+use Rattle.macs_requests.specs.CommandWords.{command_word_of, word_read}
 use Rattle.macs_requests.specs.Lines.{word_of}
-use Rattle.macs_requests.specs.declared.kinds.Kind.TheVariants as kind
+use Rattle.macs_requests.specs.declared.command_word.CommandWord.TheVariants as words
 use Rattle.macs_requests.proofs.Blanks.{Lacks, lacks}
 
 -- ---- the word of a command
@@ -27,8 +27,8 @@ word_lacks (RxDrop sci) = lacks 32 (codes "rx-drop") refl
 word_lacks (RxInstall sci an key start offset) = lacks 32 (codes "rx-install") refl
 word_lacks (RxRemove sci an) = lacks 32 (codes "rx-remove") refl
 
--- it names the kind of the command
-pub named : (command : Command) → kind_named (word_of command) ≡ Some (kind_of command)
+-- it names the word of the command
+pub named : (command : Command) → word_read (word_of command) ≡ Some (command_word_of command)
 named (SetValidate mode) = refl
 named (SetReplay on window) = refl
 named (SetSciMode mode) = refl
@@ -40,10 +40,10 @@ named (RxDrop sci) = refl
 named (RxInstall sci an key start offset) = refl
 named (RxRemove sci an) = refl
 
--- ---- the commands of a kind
+-- ---- the commands of a word
 
 pub for_set_validate : (S : Command → Type 0) → ((mode : Validate) → S (SetValidate mode))
-    → (command : Command) → kind.SetValidate ≡ kind_of command → S command
+    → (command : Command) → words.SetValidate ≡ command_word_of command → S command
 for_set_validate S here (SetValidate mode) same = here mode
 for_set_validate S here (SetReplay on window) same = absurd cc
 for_set_validate S here (SetSciMode mode) same = absurd cc
@@ -56,7 +56,7 @@ for_set_validate S here (RxInstall sci an key start offset) same = absurd cc
 for_set_validate S here (RxRemove sci an) same = absurd cc
 
 pub for_set_replay : (S : Command → Type 0) → ((on : Bool) (window : ℕ) → S (SetReplay on window))
-    → (command : Command) → kind.SetReplay ≡ kind_of command → S command
+    → (command : Command) → words.SetReplay ≡ command_word_of command → S command
 for_set_replay S here (SetValidate mode) same = absurd cc
 for_set_replay S here (SetReplay on window) same = here on window
 for_set_replay S here (SetSciMode mode) same = absurd cc
@@ -69,7 +69,7 @@ for_set_replay S here (RxInstall sci an key start offset) same = absurd cc
 for_set_replay S here (RxRemove sci an) same = absurd cc
 
 pub for_set_sci_mode : (S : Command → Type 0) → ((mode : SciMode) → S (SetSciMode mode))
-    → (command : Command) → kind.SetSciMode ≡ kind_of command → S command
+    → (command : Command) → words.SetSciMode ≡ command_word_of command → S command
 for_set_sci_mode S here (SetValidate mode) same = absurd cc
 for_set_sci_mode S here (SetReplay on window) same = absurd cc
 for_set_sci_mode S here (SetSciMode mode) same = here mode
@@ -83,7 +83,7 @@ for_set_sci_mode S here (RxRemove sci an) same = absurd cc
 
 pub for_tx_install : (S : Command → Type 0) → ((an : ℕ) (key : Key) (start : ℕ) (confidential : Bool) (offset : ℕ)
     → S (TxInstall an key start confidential offset))
-    → (command : Command) → kind.TxInstall ≡ kind_of command → S command
+    → (command : Command) → words.TxInstall ≡ command_word_of command → S command
 for_tx_install S here (SetValidate mode) same = absurd cc
 for_tx_install S here (SetReplay on window) same = absurd cc
 for_tx_install S here (SetSciMode mode) same = absurd cc
@@ -96,7 +96,7 @@ for_tx_install S here (RxInstall sci an key start offset) same = absurd cc
 for_tx_install S here (RxRemove sci an) same = absurd cc
 
 pub for_tx_use : (S : Command → Type 0) → ((an : ℕ) → S (TxUse an))
-    → (command : Command) → kind.TxUse ≡ kind_of command → S command
+    → (command : Command) → words.TxUse ≡ command_word_of command → S command
 for_tx_use S here (SetValidate mode) same = absurd cc
 for_tx_use S here (SetReplay on window) same = absurd cc
 for_tx_use S here (SetSciMode mode) same = absurd cc
@@ -109,7 +109,7 @@ for_tx_use S here (RxInstall sci an key start offset) same = absurd cc
 for_tx_use S here (RxRemove sci an) same = absurd cc
 
 pub for_tx_remove : (S : Command → Type 0) → ((an : ℕ) → S (TxRemove an))
-    → (command : Command) → kind.TxRemove ≡ kind_of command → S command
+    → (command : Command) → words.TxRemove ≡ command_word_of command → S command
 for_tx_remove S here (SetValidate mode) same = absurd cc
 for_tx_remove S here (SetReplay on window) same = absurd cc
 for_tx_remove S here (SetSciMode mode) same = absurd cc
@@ -122,7 +122,7 @@ for_tx_remove S here (RxInstall sci an key start offset) same = absurd cc
 for_tx_remove S here (RxRemove sci an) same = absurd cc
 
 pub for_rx_add : (S : Command → Type 0) → ((sci : List ℕ) → S (RxAdd sci))
-    → (command : Command) → kind.RxAdd ≡ kind_of command → S command
+    → (command : Command) → words.RxAdd ≡ command_word_of command → S command
 for_rx_add S here (SetValidate mode) same = absurd cc
 for_rx_add S here (SetReplay on window) same = absurd cc
 for_rx_add S here (SetSciMode mode) same = absurd cc
@@ -135,7 +135,7 @@ for_rx_add S here (RxInstall sci an key start offset) same = absurd cc
 for_rx_add S here (RxRemove sci an) same = absurd cc
 
 pub for_rx_drop : (S : Command → Type 0) → ((sci : List ℕ) → S (RxDrop sci))
-    → (command : Command) → kind.RxDrop ≡ kind_of command → S command
+    → (command : Command) → words.RxDrop ≡ command_word_of command → S command
 for_rx_drop S here (SetValidate mode) same = absurd cc
 for_rx_drop S here (SetReplay on window) same = absurd cc
 for_rx_drop S here (SetSciMode mode) same = absurd cc
@@ -149,7 +149,7 @@ for_rx_drop S here (RxRemove sci an) same = absurd cc
 
 pub for_rx_install : (S : Command → Type 0) → ((sci : List ℕ) (an : ℕ) (key : Key) (start : ℕ) (offset : ℕ)
     → S (RxInstall sci an key start offset))
-    → (command : Command) → kind.RxInstall ≡ kind_of command → S command
+    → (command : Command) → words.RxInstall ≡ command_word_of command → S command
 for_rx_install S here (SetValidate mode) same = absurd cc
 for_rx_install S here (SetReplay on window) same = absurd cc
 for_rx_install S here (SetSciMode mode) same = absurd cc
@@ -162,7 +162,7 @@ for_rx_install S here (RxInstall sci an key start offset) same = here sci an key
 for_rx_install S here (RxRemove sci an) same = absurd cc
 
 pub for_rx_remove : (S : Command → Type 0) → ((sci : List ℕ) (an : ℕ) → S (RxRemove sci an))
-    → (command : Command) → kind.RxRemove ≡ kind_of command → S command
+    → (command : Command) → words.RxRemove ≡ command_word_of command → S command
 for_rx_remove S here (SetValidate mode) same = absurd cc
 for_rx_remove S here (SetReplay on window) same = absurd cc
 for_rx_remove S here (SetSciMode mode) same = absurd cc

@@ -1,7 +1,7 @@
 pub mod Cutting
 pub mod Fields
 pub mod Lines
-pub mod Kinds
+pub mod CommandWords
 pub mod Requests
 pub mod Inboxes
 pub mod Talks

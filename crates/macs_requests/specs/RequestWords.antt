@@ -16,7 +16,7 @@ use Rattle.macs_config.specs.declared.command.Validate.{Validate}
 use Rattle.macs_config.specs.declared.command.Validate.TheVariants.{Strict, Check}
 use Rattle.macs_requests.specs.Fields.{key_digits, protection_word, replay_word, sci_mode_word, validate_word}
 use Rattle.macs_requests.specs.Inboxes.{HasNoFeed, TakesLine}
-use Rattle.macs_requests.specs.Kinds.{kind_named, kind_of}
+use Rattle.macs_requests.specs.CommandWords.{command_word_of, word_read}
 use Rattle.macs_requests.specs.Lines.{HasItsKey, IsTold, word_of}
 use Rattle.macs_requests.specs.Requests.{IsAsked, end_line, request_line}
 use Rattle.macs_requests.specs.declared.requests.Request.TheVariants.{Apply, Counters, Show, Stop}
@@ -50,7 +50,7 @@ pub record LineWords : Type 0 where
       → request_line (Apply (RxRemove sci an)) ≡ codes "rx-remove" ++ (codes " " ++ (encode_lower sci ++ (codes " "
       ++ decimal an)))
   pub ends : (status : ℕ) → end_line status ≡ codes "end" ++ (codes " " ++ decimal status)
-  pub kinds : (command : Command) → kind_named (word_of command) ≡ Some (kind_of command)
+  pub kinds : (command : Command) → word_read (word_of command) ≡ Some (command_word_of command)
   pub taken : (old line new : List ℕ)
       → TakesLine old (Some line) new ↔ ((old ≡ line ++ 10 ∷ new) × HasNoFeed line)
   pub none : (old new : List ℕ) → TakesLine old None new ↔ ((new ≡ old) × HasNoFeed old)

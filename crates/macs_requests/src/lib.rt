@@ -2,17 +2,17 @@
 #![tactic(auto)]
 
 mod clients;
+mod command_word;
+mod commands_of_lines;
 mod cutting;
 mod ends;
 mod fields;
 mod inbox;
-mod kinds;
 pub mod laws;
 mod lines;
 mod metrics;
 mod modes;
 mod requests;
-mod taking;
 
 pub use clients::{Client, Clients, Heard};
 pub use ends::{end_of_line, line_of_end};

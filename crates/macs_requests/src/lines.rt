@@ -8,9 +8,9 @@ ghost use Rattle.macs_config.specs.declared.command.Command.TheVariants as told;
 ghost use Rattle.macs_requests.specs.Fields.{key_digits, sci_mode_word, validate_word};
 ghost use Rattle.macs_requests.specs.Lines.{IsTold, command_line, fields_of, word_of};
 
+use crate::commands_of_lines::taken_for;
 use crate::cutting::spaced;
 use crate::modes::{protection_word, replay_word, sci_mode_word, validate_word};
-use crate::taking::taken_for;
 use macs_aes::Key;
 use macs_config::{Command, SciMode, Validate};
 use macs_fields::{An, Sci};

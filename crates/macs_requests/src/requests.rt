@@ -4,8 +4,8 @@ ghost use Rattle.std.specs.Prelude.{◌≡◌, Some, IfOk, IfSome, string_bytes}
 ghost use Rattle.macs_requests.specs.Requests.{IsAsked, plain_request, request_line};
 ghost use Rattle.macs_requests.specs.declared.requests.Request.{Request};
 
+use crate::commands_of_lines::taken_for;
 use crate::lines::line_of_command;
-use crate::taking::taken_for;
 use macs_config::Command;
 use std::alloc::{AllocError, Global};
 

@@ -9,7 +9,7 @@ ghost use Rattle.macs_rxsc.specs.Value.{packet_numbers, sa_of, association_under
 
 use crate::need::RxNeed;
 use crate::policy::Policy;
-use crate::settling::settle;
+use crate::unverified::discard_or_deliver;
 use crate::verdict::{Kind, Reason, Verdict};
 use macs_config::Replay;
 use macs_frame::{An, END_OF_NUMBERS, FrameBuf, Offset, Parts, Pn, Sci, open_parts};
@@ -50,7 +50,7 @@ fn greatest(seen: Option<Pn>, pn: Pn) -> Pn
 }
 
 /// The lowest acceptable number of an association rises with the window, where one stands.
-pub(crate) fn slide(association: &mut Option<Association>, window: u32)
+pub(crate) fn slide_if_any(association: &mut Option<Association>, window: u32)
     ensures { association.new ≡ option_map (association_under window) association.old }
 {
     if let Some(association) = association {
@@ -127,7 +127,7 @@ impl Association {
             return Verdict::Discarded(Reason::Late);
         }
         if !open_parts(&self.key, sci, self.offset, frame, parts, out) {
-            return settle(
+            return discard_or_deliver(
                 policy.validate,
                 Reason::NotValid,
                 Kind::Invalid,

@@ -11,11 +11,11 @@ ghost use Rattle.macs_rxsc.specs.Value.{ceilings_in, numbers_in, packet_numbers,
 ghost use Rattle.macs_config.specs.Tables.{put};
 ghost use Rattle.macs_rxsc.specs.declared.association.Association.{Association};
 
-use crate::association::{Association, RxNumbers, slide};
+use crate::association::{Association, RxNumbers, slide_if_any};
 use crate::counters::ChannelCounters;
 use crate::need::RxNeed;
 use crate::policy::Policy;
-use crate::settling::settle;
+use crate::unverified::discard_or_deliver;
 use crate::verdict::{Kind, Reason, Verdict};
 use macs_frame::{ASSOCIATIONS, An, FrameBuf, Parts, Sci};
 
@@ -73,7 +73,7 @@ impl Channel {
         ensures { self.new ≡ channel_under window self.old }
     {
         for association in self.associations.iter_mut() {
-            slide(association, window);
+            slide_if_any(association, window);
         }
     }
 
@@ -95,7 +95,7 @@ impl Channel {
         ensures counters { self.new.counters ≡ channel_counters_after_verdict result self.old.counters }
     {
         let verdict = self.decide(policy, frame, parts, out);
-        self.counters.count(verdict);
+        self.counters.add(verdict);
         verdict
     }
 
@@ -112,7 +112,7 @@ impl Channel {
         let an = parts.tag.an;
         match &mut self.associations[an.get() as usize] {
             Some(association) => association.receive(self.sci, policy, frame, parts, out),
-            None => settle(
+            None => discard_or_deliver(
                 policy.validate,
                 Reason::NotUsingSa,
                 Kind::UnusedSa,

@@ -96,7 +96,7 @@ impl RxCounters {
     }
 
     /// A verdict is given once more.
-    pub fn count(&mut self, verdict: Verdict)
+    pub fn add(&mut self, verdict: Verdict)
         ensures { self.new ≡ counters_after_verdict verdict self.old }
     {
         match verdict {
@@ -156,7 +156,7 @@ impl ChannelCounters {
     }
 
     /// A verdict is given once more.
-    pub fn count(&mut self, verdict: Verdict)
+    pub fn add(&mut self, verdict: Verdict)
         ensures { self.new ≡ channel_counters_after_verdict verdict self.old }
     {
         match verdict {

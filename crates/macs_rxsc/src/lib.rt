@@ -9,8 +9,8 @@ pub mod laws;
 mod need;
 mod policy;
 mod receive;
-mod settling;
 mod table;
+mod unverified;
 mod verdict;
 
 pub use association::RxNumbers;

@@ -222,7 +222,7 @@ impl Rx {
             ≡ counters_after_verdict_at (channel_of (rx_side_of self.old) frame.now) result (channel_counters_of self.old) }
     {
         let verdict = self.table.receive(self.policy, frame, out);
-        self.counters.count(verdict);
+        self.counters.add(verdict);
         verdict
     }
 

@@ -21,7 +21,7 @@ use crate::association::Association;
 use crate::channel::Channel;
 use crate::need::RxNeed;
 use crate::policy::Policy;
-use crate::settling::{refuse, settle};
+use crate::unverified::{discard_or_deliver, refuse};
 use crate::verdict::{Kind, Reason, Verdict};
 use arrayvec::ArrayVec;
 use macs_config::MAX_CHANNELS;
@@ -55,7 +55,7 @@ fn place_after(channels: &[Channel], sci: Sci) -> usize
 }
 
 /// The lowest acceptable number of each association rises with the window, and never falls.
-fn slide(channels: &mut [Channel], window: u32)
+fn slide_all(channels: &mut [Channel], window: u32)
     ensures { channels.new ≡ map (channel_under window) channels.old }
 {
     for channel in channels.iter_mut() {
@@ -100,10 +100,10 @@ impl Table {
     pub(crate) fn slide(&mut self, window: u32)
         ensures { self.new.channels.items ≡ map (channel_under window) self.old.channels.items }
     {
-        slide(self.channels.as_mut_slice(), window);
+        slide_all(self.channels.as_mut_slice(), window);
     }
 
-    /// A new channel, of an SCI of which none stands, where fewer than 8 stand.
+    /// A new channel, of an SCI of which none stands, where fewer than 32 stand.
     pub(crate) fn add(&mut self, sci: Sci)
         requires free { list_any (λ other. bytes_eq other sci) (scis_of self.old.channels.items) ≡ false }
         requires room { length (scis_of self.old.channels.items) < this_edition.channels }
@@ -208,7 +208,7 @@ impl Table {
     {
         match place_named(self.channels.as_slice(), frame, parts.tag.name) {
             Some(place) => self.channels[place].receive(policy, frame, parts, out),
-            None => settle(
+            None => discard_or_deliver(
                 policy.validate,
                 Reason::NoSci,
                 Kind::UnknownSci,

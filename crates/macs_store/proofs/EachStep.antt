@@ -19,9 +19,9 @@ use Rattle.macs_store.specs.Found.{StandsForEither}
 use Rattle.macs_store.specs.Standing.{Standing}
 use Rattle.macs_store.specs.Stepping.{Finishes, Steps}
 use Rattle.macs_store.specs.Table.{standing_of}
-use Rattle.macs_store.specs.Value.{FitsHand, IsIdle, IsStored, StoreValue, calls_left, calls_with, disk_in, generation_then, generation_with, is_stopped, slots_then, slots_with, standing_in, standing_then, standing_with}
-use Rattle.macs_store.specs.declared.hand.Hand.{Hand}
-use Rattle.macs_store.specs.declared.hand.Hand.TheVariants.{Appending, Empty, Renewing}
+use Rattle.macs_store.specs.Value.{FitsChange, IsIdle, IsStored, StoreValue, calls_left, calls_with, disk_in, generation_then, generation_with, is_stopped, slots_then, slots_with, standing_in, standing_then, standing_with}
+use Rattle.macs_store.specs.declared.change.Change.{Change}
+use Rattle.macs_store.specs.declared.change.Change.TheVariants.{Appending, Empty, Renewing}
 use Rattle.macs_store.proofs.Keeping.{in_hand-image, stored-image}
 
 -- ---- a call is left while work is in hand
@@ -37,7 +37,7 @@ append-calls journal_work.Empty is = absurd is
 append-calls (journal_work.Append work) is = some-calls work.stage
 append-calls (journal_work.Compact work) is = absurd is
 
-pub calls-some : {D : Type 0} (s : StoreValue D) (hand : Hand) → FitsHand s.journal (standing_in s) hand → (hand ≡ Empty → ⊥) → 1 ≤ calls_with s hand
+pub calls-some : {D : Type 0} (s : StoreValue D) (hand : Change) → FitsChange s.journal (standing_in s) hand → (hand ≡ Empty → ⊥) → 1 ≤ calls_with s hand
 calls-some s Empty fits busy = absurd (busy refl)
 calls-some s (Renewing r) fits busy = omega arith
 calls-some s (Appending r) fits busy = append-calls s.journal.hand fits.2

@@ -2,6 +2,7 @@ pub mod Replaying
 pub mod Tables
 pub mod Adjusting
 pub mod Formats
+pub mod Identities
 pub mod Keeping
 pub mod Compacting
 pub mod Migrating

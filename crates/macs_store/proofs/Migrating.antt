@@ -32,7 +32,7 @@ use Rattle.macs_store.specs.Snapshot.{snapshot}
 use Rattle.macs_store.specs.Standing.{Standing}
 use Rattle.macs_store.specs.Table.{standing_of}
 use Rattle.macs_store.specs.Value.{IsIdle, IsStored, LeadsTo, StoreValue, device_in, disk_in, standing_in, standing_next}
-use Rattle.macs_store.specs.declared.hand.Hand.{Hand}
+use Rattle.macs_store.specs.declared.change.Change.{Change}
 use Rattle.macs_store.proofs.Compacting.{meaning-compacted}
 
 -- ---- over plain values
@@ -92,8 +92,8 @@ idle_stored disk_of s c idle rests holds stands form = record {
     made = subst (λ (h : journal_hand.Hand). IsMadeOf h (snapshot (standing_in s)) c c) (sym rests) tt;
   };
   stands = stands;
-  becomes = subst (λ (h : Hand). meaning_of this_edition c ≡ standing_next (standing_in s) h) (sym idle) stands;
-  leads = subst (λ (h : Hand). LeadsTo h c c) (sym idle) refl;
+  becomes = subst (λ (h : Change). meaning_of this_edition c ≡ standing_next (standing_in s) h) (sym idle) stands;
+  leads = subst (λ (h : Change). LeadsTo h c c) (sym idle) refl;
   form = form;
   form_next = form;
 }

@@ -28,9 +28,9 @@ use Rattle.macs_store.specs.Snapshot.{snapshot}
 use Rattle.macs_store.specs.Standing.{Standing}
 use Rattle.macs_store.specs.Stepping.{IsAppending, IsRenewing, Steps}
 use Rattle.macs_store.specs.Table.{StandingValue, standing_of}
-use Rattle.macs_store.specs.Value.{FitsHand, IsIdle, IsStored, StoreValue, calls_left, calls_with, disk_in, generation_with, is_stopped, slots_with, snapshot_length, standing_in, standing_next, standing_then, standing_with}
-use Rattle.macs_store.specs.declared.hand.Hand.{Hand}
-use Rattle.macs_store.specs.declared.hand.Hand.TheVariants.{Appending, Empty, Renewing}
+use Rattle.macs_store.specs.Value.{FitsChange, IsIdle, IsStored, StoreValue, calls_left, calls_with, disk_in, generation_with, is_stopped, slots_with, snapshot_length, standing_in, standing_next, standing_then, standing_with}
+use Rattle.macs_store.specs.declared.change.Change.{Change}
+use Rattle.macs_store.specs.declared.change.Change.TheVariants.{Appending, Empty, Renewing}
 use Rattle.macs_store.proofs.InHand.{task-appends}
 use Rattle.macs_store.proofs.Keeping.{either-image, held-within, in_hand-image, standing-with, stored-image}
 
@@ -105,17 +105,17 @@ module _ {D : Type 0} (disk_of : D → Disk) (s : StoreValue D) where
 -- ---- what is read of a store with work in hand
 
 -- the slots, the generation and the calls, by what is read of its journal
-slots-kept : {D : Type 0} (old new : StoreValue D) (hand : Hand) → new.journal.place ≡ old.journal.place → new.held ≡ old.held → slots_with new hand ≡ slots_with old hand
+slots-kept : {D : Type 0} (old new : StoreValue D) (hand : Change) → new.journal.place ≡ old.journal.place → new.held ≡ old.held → slots_with new hand ≡ slots_with old hand
 slots-kept old new Empty place held = ap (λ (p : Place). p.free) place
 slots-kept old new (Renewing r) place held = ap (λ (h : StandingValue). length (snapshot (standing_of h)) + 1) held
 slots-kept old new (Appending r) place held = ap (λ (p : Place). p.free + 1) place
 
-generation-kept : {D : Type 0} (old new : StoreValue D) (hand : Hand) → new.journal.place ≡ old.journal.place → generation_with new hand ≡ generation_with old hand
+generation-kept : {D : Type 0} (old new : StoreValue D) (hand : Change) → new.journal.place ≡ old.journal.place → generation_with new hand ≡ generation_with old hand
 generation-kept old new Empty place = ap (λ (p : Place). p.head.generation) place
 generation-kept old new (Renewing r) place = ap (λ (p : Place). p.head.generation + 1) place
 generation-kept old new (Appending r) place = ap (λ (p : Place). p.head.generation) place
 
-calls-fewer : {D : Type 0} (old new : StoreValue D) (hand : Hand) → hand ≢ Empty → left_of new.journal.hand + 1 ≤ left_of old.journal.hand
+calls-fewer : {D : Type 0} (old new : StoreValue D) (hand : Change) → hand ≢ Empty → left_of new.journal.hand + 1 ≤ left_of old.journal.hand
     → calls_with new hand + 1 ≤ calls_with old hand
 calls-fewer old new Empty busy less = absurd (busy refl)
 calls-fewer old new (Renewing r) busy less = omega (arith, less)
@@ -399,29 +399,29 @@ pub must-follow : (fits : Bool) (found : Option Standing) (next : Standing) → 
 must-follow true found next some follows refused = follows refl
 must-follow false found next some follows refused = absurd (not-none found some (refused refl))
 
-appending-is : (hand : Hand) → IsAppending hand → (r : Record) × (hand ≡ Appending r)
+appending-is : (hand : Change) → IsAppending hand → (r : Record) × (hand ≡ Appending r)
 appending-is Empty is = absurd is
 appending-is (Renewing r) is = absurd is
 appending-is (Appending r) is = (r, refl)
 
-renewing-is : (hand : Hand) → IsRenewing hand → (r : Record) × (hand ≡ Renewing r)
+renewing-is : (hand : Change) → IsRenewing hand → (r : Record) × (hand ≡ Renewing r)
 renewing-is Empty is = absurd is
 renewing-is (Renewing r) is = (r, refl)
 renewing-is (Appending r) is = absurd is
 
-module _ {D : Type 0} (disk_of : D → Disk) (s : StoreValue D) (fits : FitsHand s.journal (standing_in s) s.hand) where
+module _ {D : Type 0} (disk_of : D → Disk) (s : StoreValue D) (fits : FitsChange s.journal (standing_in s) s.hand) where
   -- what the invariant says of a record that is being appended, and of one that waits
-  pub fits-append : (r : Record) → s.hand ≡ Appending r → FitsHand s.journal (standing_in s) (Appending r)
-  fits-append r is = subst (λ (h : Hand). FitsHand s.journal (standing_in s) h) is fits
+  pub fits-append : (r : Record) → s.hand ≡ Appending r → FitsChange s.journal (standing_in s) (Appending r)
+  fits-append r is = subst (λ (h : Change). FitsChange s.journal (standing_in s) h) is fits
 
-  pub fits-renewal : (r : Record) → s.hand ≡ Renewing r → FitsHand s.journal (standing_in s) (Renewing r)
-  fits-renewal r is = subst (λ (h : Hand). FitsHand s.journal (standing_in s) h) is fits
+  pub fits-renewal : (r : Record) → s.hand ≡ Renewing r → FitsChange s.journal (standing_in s) (Renewing r)
+  fits-renewal r is = subst (λ (h : Change). FitsChange s.journal (standing_in s) h) is fits
 
   module _ (is : IsAppending s.hand) where
     the-append : (r : Record) × (s.hand ≡ Appending r)
     the-append = appending-is s.hand is
 
-    its-append : FitsHand s.journal (standing_in s) (Appending the-append.0)
+    its-append : FitsChange s.journal (standing_in s) (Appending the-append.0)
     its-append = fits-append the-append.0 the-append.1
 
     pub append-failed : (at : JournalFault) (j : JournalValue D) → journal.Steps disk_of s.journal [] (refuses at) j
@@ -447,7 +447,7 @@ module _ {D : Type 0} (disk_of : D → Disk) (s : StoreValue D) (fits : FitsHand
     the-renewal : (r : Record) × (s.hand ≡ Renewing r)
     the-renewal = renewing-is s.hand is
 
-    its-renewal : FitsHand s.journal (standing_in s) (Renewing the-renewal.0)
+    its-renewal : FitsChange s.journal (standing_in s) (Renewing the-renewal.0)
     its-renewal = fits-renewal the-renewal.0 the-renewal.1
 
     -- as its journal is lent the records of the snapshot

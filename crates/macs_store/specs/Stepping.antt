@@ -20,8 +20,8 @@ use Rattle.macs_store.specs.Replay.{standing_after_record}
 use Rattle.macs_store.specs.Standing.{Standing, accept}
 use Rattle.macs_store.specs.Value.{IsIdle, IsStored, StoreValue, calls_left, device_in, disk_in, generation, generation_then, is_stopped, slots_then, standing_in, standing_then, used_slots}
 use Rattle.macs_store.specs.declared.fault.CommitFault.{CommitFault}
-use Rattle.macs_store.specs.declared.hand.Hand.{Hand}
-use Rattle.macs_store.specs.declared.hand.Hand.TheVariants.{Appending, Renewing}
+use Rattle.macs_store.specs.declared.change.Change.{Change}
+use Rattle.macs_store.specs.declared.change.Change.TheVariants.{Appending, Renewing}
 use Rattle.macs_store.specs.declared.fault.CommitFault.TheVariants as commit
 
 -- ---- work is taken in hand
@@ -69,12 +69,12 @@ pub record StartsRecord {D : Type 0} (disk_of : D → disk.Disk) (old : StoreVal
 -- ---- one device call
 
 -- the journal is to begin anew
-abbrev pub IsRenewing : Hand → Type 0
+abbrev pub IsRenewing : Change → Type 0
 IsRenewing (Renewing r) = Unit {0}
 IsRenewing other = ⊥
 
 -- a record is being appended
-abbrev pub IsAppending : Hand → Type 0
+abbrev pub IsAppending : Change → Type 0
 IsAppending (Appending r) = Unit {0}
 IsAppending other = ⊥
 

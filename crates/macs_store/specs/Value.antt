@@ -15,14 +15,14 @@ use Rattle.macs_store.specs.Replay.{meaning_of, standing_after_record}
 use Rattle.macs_store.specs.Snapshot.{snapshot}
 use Rattle.macs_store.specs.Standing.{Standing}
 use Rattle.macs_store.specs.Table.{StandingValue, standing_of}
-use Rattle.macs_store.specs.declared.hand.Hand.{Hand}
-use Rattle.macs_store.specs.declared.hand.Hand.TheVariants.{Appending, Empty, Renewing}
+use Rattle.macs_store.specs.declared.change.Change.{Change}
+use Rattle.macs_store.specs.declared.change.Change.TheVariants.{Appending, Empty, Renewing}
 
 -- what a store keeps
 pub record StoreValue (D : Type 0) : Type 0 where
   pub journal : JournalValue D
   pub held : StandingValue
-  pub hand : Hand
+  pub hand : Change
 
 -- what stands in memory
 abbrev pub standing_in : {D : Type 0} → StoreValue D → Standing
@@ -59,7 +59,7 @@ abbrev pub IsIdle : {D : Type 0} → StoreValue D → Type 0
 IsIdle s = s.hand ≡ Empty
 
 -- what stands once the work in hand is done
-abbrev pub standing_with : Standing → Hand → Option Standing
+abbrev pub standing_with : Standing → Change → Option Standing
 standing_with standing Empty = Some standing
 standing_with standing (Renewing r) = standing_after_record standing r
 standing_with standing (Appending r) = standing_after_record standing r
@@ -69,7 +69,7 @@ abbrev pub standing_then : {D : Type 0} → StoreValue D → Option Standing
 standing_then s = standing_with (standing_in s) s.hand
 
 -- how many slots are used once the work in hand is done
-abbrev pub slots_with : {D : Type 0} → StoreValue D → Hand → ℕ
+abbrev pub slots_with : {D : Type 0} → StoreValue D → Change → ℕ
 slots_with s Empty = used_slots s
 slots_with s (Renewing r) = snapshot_length s + 1
 slots_with s (Appending r) = used_slots s + 1
@@ -79,7 +79,7 @@ abbrev pub slots_then : {D : Type 0} → StoreValue D → ℕ
 slots_then s = slots_with s s.hand
 
 -- and in which generation
-abbrev pub generation_with : {D : Type 0} → StoreValue D → Hand → ℕ
+abbrev pub generation_with : {D : Type 0} → StoreValue D → Change → ℕ
 generation_with s Empty = generation s
 generation_with s (Renewing r) = generation s + 1
 generation_with s (Appending r) = generation s
@@ -89,7 +89,7 @@ abbrev pub generation_then : {D : Type 0} → StoreValue D → ℕ
 generation_then s = generation_with s s.hand
 
 -- how many device calls are still to come, at most
-abbrev pub calls_with : {D : Type 0} → StoreValue D → Hand → ℕ
+abbrev pub calls_with : {D : Type 0} → StoreValue D → Change → ℕ
 calls_with s Empty = 0
 calls_with s (Renewing r) = left_of s.journal.hand + 4
 calls_with s (Appending r) = left_of s.journal.hand
@@ -99,11 +99,11 @@ abbrev pub calls_left : {D : Type 0} → StoreValue D → ℕ
 calls_left s = calls_with s s.hand
 
 -- the record in hand follows from what stands, and the journal is at work for it
-abbrev pub FitsHand : {D : Type 0} → JournalValue D → Standing → Hand → Type 0
-FitsHand j standing Empty = journal.IsIdle j
-FitsHand j standing (Renewing r) =
+abbrev pub FitsChange : {D : Type 0} → JournalValue D → Standing → Change → Type 0
+FitsChange j standing Empty = journal.IsIdle j
+FitsChange j standing (Renewing r) =
     (journal.is_stopped j ≡ false) × IsSome (standing_after_record standing r) × RenewsWith j.place j.hand (snapshot standing)
-FitsHand j standing (Appending r) = (journal.is_stopped j ≡ false) × IsSome (standing_after_record standing r) × IsAppendHand j.hand
+FitsChange j standing (Appending r) = (journal.is_stopped j ≡ false) × IsSome (standing_after_record standing r) × IsAppendHand j.hand
 
 -- a record is that of a raised ceiling
 abbrev pub is_ceiling : Record → Bool
@@ -117,21 +117,21 @@ IsOfRecord r None = is_ceiling r ≡ true
 IsOfRecord r (Some command) = record_of command ≡ Some r
 
 -- what was judged beside the work in hand is of the record in hand, and nothing is left of it where no work is in hand
-abbrev pub IsOfHand : Hand → Option Command → Type 0
-IsOfHand Empty checked = checked ≡ None
-IsOfHand (Renewing r) checked = IsOfRecord r checked
-IsOfHand (Appending r) checked = IsOfRecord r checked
+abbrev pub IsOfChange : Change → Option Command → Type 0
+IsOfChange Empty checked = checked ≡ None
+IsOfChange (Renewing r) checked = IsOfRecord r checked
+IsOfChange (Appending r) checked = IsOfRecord r checked
 
 -- ---- on its disk
 
 -- what the journal's content stands for once its own work is done: an append adds its record, a compaction changes nothing
-abbrev pub standing_next : Standing → Hand → Option Standing
+abbrev pub standing_next : Standing → Change → Option Standing
 standing_next standing Empty = Some standing
 standing_next standing (Renewing r) = Some standing
 standing_next standing (Appending r) = standing_after_record standing r
 
 -- and that content: the same, one behind a compaction, or one with the record
-abbrev pub LeadsTo : Hand → Content → Content → Type 0
+abbrev pub LeadsTo : Change → Content → Content → Type 0
 LeadsTo Empty before after = after ≡ before
 LeadsTo (Renewing r) before after = Unit {0}
 LeadsTo (Appending r) before after = after ≡ content_with_record before r

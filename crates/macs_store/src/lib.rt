@@ -3,16 +3,16 @@
 #![tactic(auto)]
 
 mod ahead;
+mod ceiling_table;
+mod change;
 mod fault;
-mod hand;
 pub mod laws;
+mod meaning;
 mod opening;
-mod reading;
 mod snapshot;
 mod standing;
 mod stepping;
 mod store;
-mod table;
 mod walk;
 
 pub use fault::CommitFault;

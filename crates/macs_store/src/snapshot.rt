@@ -10,9 +10,9 @@ ghost use Rattle.macs_store.specs.Snapshot.{settings_record, snapshot, spent_rec
 ghost use Rattle.macs_store.specs.Table.{standing_of, table_ceilings};
 ghost use Rattle.macs_store.specs.Walk.{new_walk, walk_past, walk_past_all};
 
+use crate::ceiling_table::CeilingTable;
 use crate::laws::snapshot_stands_for_itself;
 use crate::standing::Standing;
-use crate::table::CeilingTable;
 use crate::walk::Walk;
 use macs_config::{Config, Fingerprints, MAX_FINGERPRINTS, Role};
 use macs_fields::{An, Sci};

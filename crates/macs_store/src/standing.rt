@@ -15,8 +15,8 @@ ghost use Rattle.macs_store.specs.Table.{StandingValue, table_ceilings, table_sc
 ghost use Rattle.macs_store.specs.Value.{IsOfRecord};
 
 use crate::ahead::ahead;
-use crate::reading::{Snapshot, plain_command_of};
-use crate::table::CeilingTable;
+use crate::ceiling_table::CeilingTable;
+use crate::meaning::{Snapshot, plain_command_of};
 use macs_config::{Checked, Command, Config, Identity, Judged, Refusal};
 use macs_fields::{An, Sci};
 use macs_record::{Ceiling, Format, Kind, Record};
@@ -99,7 +99,7 @@ impl Standing {
             ≡ (if result then Some (standing_of self.new) else None) }
     {
         let (snapshot, later) = records.split_at(count);
-        self.restore(snapshot) && self.follow_all(later)
+        self.restore(snapshot) && self.replay_records(later)
     }
 
     /// Makes it what a snapshot stands for under its identity, and answers whether it stands for something.
@@ -116,12 +116,12 @@ impl Standing {
     }
 
     /// Goes on with the records behind a snapshot, and answers whether each of them fits.
-    fn follow_all(&mut self, records: &[Record]) -> bool
+    fn replay_records(&mut self, records: &[Record]) -> bool
         ensures { standing_after_records (standing_of self.old) records.now
             ≡ (if result then Some (standing_of self.new) else None) }
     {
         for value in records {
-            if !self.follow(value) {
+            if !self.replay_record(value) {
                 return false;
             }
         }
@@ -129,13 +129,13 @@ impl Standing {
     }
 
     /// Goes on with the record of a command or of a raised ceiling, and answers whether it fits.
-    pub(crate) fn follow(&mut self, value: &Record) -> bool
+    pub(crate) fn replay_record(&mut self, value: &Record) -> bool
         ensures fits { result ≡ true → standing_after_record (standing_of self.old) value.now ≡ Some (standing_of self.new) }
         ensures refused { result ≡ false → standing_after_record (standing_of self.old) value.now ≡ None }
     {
         match value {
-            Record::TxCeiling { an, ceiling } => self.follow_tx(*an, *ceiling),
-            Record::RxCeiling { sci, an, ceiling } => self.follow_rx(*sci, *an, *ceiling),
+            Record::TxCeiling { an, ceiling } => self.replay_tx(*an, *ceiling),
+            Record::RxCeiling { sci, an, ceiling } => self.replay_rx(*sci, *an, *ceiling),
             _ => match self.judge(value) {
                 Some(checked) => {
                     self.accept_checked(&checked);
@@ -171,13 +171,13 @@ impl Standing {
         match checked {
             Some(checked) => self.accept_checked(&checked),
             None => {
-                self.follow(value);
+                self.replay_record(value);
             }
         }
     }
 
     /// Goes on with a raised ceiling of a transmit association, and answers whether it is one.
-    fn follow_tx(&mut self, an: An, ceiling: Ceiling) -> bool
+    fn replay_tx(&mut self, an: An, ceiling: Ceiling) -> bool
         ensures fits { result ≡ is_raise ((standing_of self.old).ceilings.tx an) ceiling }
         ensures raised { result ≡ true → standing_of self.new ≡ standing_with_tx_ceiling (standing_of self.old) an ceiling }
     {
@@ -189,7 +189,7 @@ impl Standing {
     }
 
     /// Goes on with a raised ceiling of a receive association, and answers whether it is one.
-    fn follow_rx(&mut self, sci: Sci, an: An, ceiling: Ceiling) -> bool
+    fn replay_rx(&mut self, sci: Sci, an: An, ceiling: Ceiling) -> bool
         ensures fits { result ≡ is_raise ((standing_of self.old).ceilings.rx sci an) ceiling }
         ensures raised { result ≡ true → standing_of self.new ≡ standing_with_rx_ceiling (standing_of self.old) sci an ceiling }
     {

@@ -16,8 +16,8 @@ ghost use Rattle.macs_store.specs.Table.{standing_of};
 ghost use Rattle.macs_store.specs.Value.{IsIdle, IsOfRecord, calls_left, is_stopped, standing_in};
 
 use crate::ahead::ahead;
+use crate::change::Change;
 use crate::fault::CommitFault;
-use crate::hand::Hand;
 use crate::standing::Standing;
 use crate::store::Store;
 use macs_config::{Checked, Command};
@@ -101,11 +101,11 @@ impl<D: SectorDisk> Store<D> {
         if self.journal.is_full() {
             self.standing.facts();
             start_renewal(&mut self.journal, &self.standing)?;
-            self.hand = Hand::Renewing(value);
+            self.hand = Change::Renewing(value);
             self.checked = checked;
         } else {
             self.journal.start_append(&value)?;
-            self.hand = Hand::Appending(value);
+            self.hand = Change::Appending(value);
             self.checked = checked;
         }
         Ok(())
@@ -119,9 +119,9 @@ impl<D: SectorDisk> Store<D> {
         ensures { Steps D.disk self.old result self.new }
     {
         match &self.hand {
-            Hand::Empty => self.rest(),
-            Hand::Renewing(_) => self.step_renewal(),
-            Hand::Appending(_) => self.step_append(),
+            Change::Empty => self.rest(),
+            Change::Renewing(_) => self.step_renewal(),
+            Change::Appending(_) => self.step_append(),
         }
     }
 
@@ -132,22 +132,22 @@ impl<D: SectorDisk> Store<D> {
         if self.is_stopped() {
             return Err(JournalFault::Stopped);
         }
-        while self.is_busy() {
+        while self.has_work() {
             self.step()?;
         }
         Ok(())
     }
 
     /// Whether work is in hand.
-    fn is_busy(&self) -> bool
+    fn has_work(&self) -> bool
         ensures idle { result ≡ false → IsIdle self.now }
         ensures busy { result ≡ true → ¬ IsIdle self.now }
         ensures some { result ≡ true → 1 ≤ calls_left self.now }
     {
         match &self.hand {
-            Hand::Empty => false,
-            Hand::Renewing(_) => true,
-            Hand::Appending(_) => true,
+            Change::Empty => false,
+            Change::Renewing(_) => true,
+            Change::Appending(_) => true,
         }
     }
 
@@ -170,16 +170,16 @@ impl<D: SectorDisk> Store<D> {
         match step_with_snapshot(&mut self.journal, &self.standing) {
             Ok(step) => match step {
                 JournalStep::Finished => {
-                    if let Hand::Renewing(value) = replace(&mut self.hand, Hand::Empty) {
+                    if let Change::Renewing(value) = replace(&mut self.hand, Change::Empty) {
                         self.journal.start_append(&value).unwrap();
-                        self.hand = Hand::Appending(value);
+                        self.hand = Change::Appending(value);
                     }
                     Ok(JournalStep::Going)
                 }
                 _ => Ok(JournalStep::Going),
             },
             Err(fault) => {
-                self.hand = Hand::Empty; // The next opening finds what stands.
+                self.hand = Change::Empty; // The next opening finds what stands.
                 self.checked = None;
                 Err(fault)
             }
@@ -196,7 +196,7 @@ impl<D: SectorDisk> Store<D> {
             Ok(step) => match step {
                 JournalStep::Finished => {
                     let checked = self.checked.take();
-                    if let Hand::Appending(value) = replace(&mut self.hand, Hand::Empty) {
+                    if let Change::Appending(value) = replace(&mut self.hand, Change::Empty) {
                         self.standing.keep(&value, checked);
                     }
                     Ok(JournalStep::Finished)
@@ -204,7 +204,7 @@ impl<D: SectorDisk> Store<D> {
                 _ => Ok(JournalStep::Going), // What stands is as it was.
             },
             Err(fault) => {
-                self.hand = Hand::Empty; // The next opening finds the record or not.
+                self.hand = Change::Empty; // The next opening finds the record or not.
                 self.checked = None;
                 Err(fault)
             }

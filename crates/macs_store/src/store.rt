@@ -5,12 +5,12 @@ ghost use Rattle.macs_config.specs.Apply.{Named};
 ghost use Rattle.macs_config.specs.Value.{config_of};
 ghost use Rattle.macs_store.specs.Keeps.{Commits, Keeps};
 ghost use Rattle.macs_store.specs.Table.{standing_of};
-ghost use Rattle.macs_store.specs.Value.{FitsHand, IsIdle, IsOfHand, StoreValue, device_in, is_stopped, standing_in};
+ghost use Rattle.macs_store.specs.Value.{FitsChange, IsIdle, IsOfChange, StoreValue, device_in, is_stopped, standing_in};
 ghost use Rattle.macs_config.specs.Numbers.{block_beyond};
 ghost use Rattle.macs_store.specs.Standing.{IsStanding, accept, standing_with_rx_raised, standing_with_tx_raised};
 
+use crate::change::Change;
 use crate::fault::CommitFault;
-use crate::hand::Hand;
 use crate::standing::Standing;
 use macs_config::{Checked, Command, Config, Identity, Refusal};
 use macs_disk::SectorDisk;
@@ -27,7 +27,7 @@ use std::marker::Model;
 pub struct Store<D: SectorDisk> {
     pub(crate) journal: Journal<D>,
     pub(crate) standing: Standing,
-    pub(crate) hand: Hand,
+    pub(crate) hand: Change,
     /// What the check of the command in hand judged; `None` where a ceiling is being raised or no work is in hand, so
     /// that a key is kept no longer than its record is in hand.
     pub(crate) checked: Option<Checked>,
@@ -38,7 +38,7 @@ impl<D: SectorDisk> Model for Store<D> {
 
     ghost view = { λ s. record { journal = s.journal; held = s.standing; hand = s.hand } };
 
-    ghost invariant = { λ s. FitsHand s.journal (standing_of s.standing) s.hand × IsOfHand s.hand s.checked };
+    ghost invariant = { λ s. FitsChange s.journal (standing_of s.standing) s.hand × IsOfChange s.hand s.checked };
 }
 
 impl<D: SectorDisk> Store<D> {
@@ -120,9 +120,9 @@ impl<D: SectorDisk> Store<D> {
         ensures { IsTrue result ↔ IsIdle self.now }
     {
         match &self.hand {
-            Hand::Empty => true,
-            Hand::Renewing(_) => false,
-            Hand::Appending(_) => false,
+            Change::Empty => true,
+            Change::Renewing(_) => false,
+            Change::Appending(_) => false,
         }
     }
 

@@ -9,6 +9,7 @@ use macs_story_disk::{StoryDisk, an_of, ask_config, command_of, sci_of, tell_ide
 use macs_story_text::{Answer, Words, whole};
 use std::alloc::Global;
 
+/// An endpoint over the disk of a story.
 pub type Played = Endpoint<StoryDisk>;
 
 /// More steps than any piece of work takes.

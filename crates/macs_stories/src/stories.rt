@@ -8,7 +8,7 @@ use macs_endpoint::Endpoint;
 use macs_journal::{JournalFault, recover};
 use macs_store::Store;
 use macs_story_disk::{Controls, JournalLife, StoryDisk};
-use macs_story_text::{Block, Kind, Line, Place, Play, Report, Script};
+use macs_story_text::{Block, BlockKind, Line, Place, Play, Report, Script};
 use std::alloc::Global;
 use std::fs::File;
 use std::rc::Rc;
@@ -223,7 +223,7 @@ pub fn play<'a>(
         let Some(block) = place.block() else {
             return Some(report);
         };
-        if block.kind == Kind::Story {
+        if block.kind == BlockKind::Story {
             report = play_rows(rt, alloc, source, block, report)?;
         }
         place = block.body;

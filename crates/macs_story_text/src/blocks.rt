@@ -13,7 +13,7 @@ pub struct Place<'a> {
 
 /// What a block of lines is.
 #[derive(Clone, Copy, PartialEq, Eq)]
-pub enum Kind {
+pub enum BlockKind {
     Story,
     /// Lines that stories use.
     Setup,
@@ -22,7 +22,7 @@ pub enum Kind {
 /// A story or a setup: its lines stand below its head, up to the next head.
 #[derive(Clone, Copy)]
 pub struct Block<'a> {
-    pub kind: Kind,
+    pub kind: BlockKind,
     pub name: &'a str,
     pub body: Place<'a>,
 }
@@ -118,11 +118,11 @@ fn parts(text: &str, mark: char) -> (&str, &str) {
 }
 
 /// What a line begins, and its name.
-fn head_of(line: &str) -> Option<(Kind, &str)> {
+fn head_of(line: &str) -> Option<(BlockKind, &str)> {
     let (word, name) = first_word(line);
     match word {
-        "story" => Some((Kind::Story, name.trim())),
-        "setup" => Some((Kind::Setup, name.trim())),
+        "story" => Some((BlockKind::Story, name.trim())),
+        "setup" => Some((BlockKind::Setup, name.trim())),
         _ => None,
     }
 }
@@ -132,7 +132,7 @@ pub fn setup_of<'a>(text: &'a str, name: &str, values: Values<'_>) -> Option<Pla
     let mut place = Place::new(text);
     for _ in 0..u64::MAX {
         let block = place.block()?;
-        if block.kind == Kind::Setup && is_wanted(block.name, name, values) {
+        if block.kind == BlockKind::Setup && is_wanted(block.name, name, values) {
             return Some(block.body);
         }
         place = block.body;

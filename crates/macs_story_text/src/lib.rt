@@ -12,7 +12,7 @@ mod values;
 mod words;
 
 pub use answer::Answer;
-pub use blocks::{Block, Kind, Place, Play};
+pub use blocks::{Block, BlockKind, Place, Play};
 pub use captures::{Captures, act_with_captures};
 pub use frames::{filled, frame_at, octets_of, tell_frame, tell_sent};
 pub use report::{Report, Telling};

@@ -164,7 +164,7 @@ impl Tx {
     {
         out.clear();
         let answer = self.send(plain, out);
-        self.counters.count(&answer);
+        self.counters.add(&answer);
         answer
     }
 

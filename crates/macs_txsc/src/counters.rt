@@ -64,7 +64,7 @@ impl TxCounters {
     }
 
     /// One more frame got this answer.
-    pub fn count(&mut self, answer: &Result<Pn, TxFault>)
+    pub fn add(&mut self, answer: &Result<Pn, TxFault>)
         ensures { self.new ≡ counters_after_answer answer.now self.old }
     {
         match answer {

@@ -6,7 +6,7 @@ use Rattle.macs_words.specs.Waits.{IsRoom, IsWaitLimit}
 use Rattle.macs_words.specs.Words.{FitsPace, HasNumber, HasPace, MayHaveNumber, MayHaveRoom}
 use Rattle.macs_words.specs.declared.pace.Milliseconds.{Milliseconds}
 use Rattle.macs_words.specs.declared.pace.Pace.{Pace}
-use Rattle.macs_words.specs.declared.pace.Pace.TheVariants.{Busy, Waiting}
+use Rattle.macs_words.specs.declared.pace.Pace.TheVariants.{Sleepless, Waiting}
 
 -- a number that is there
 pub number-unread : (rows : List Row) (name text : Text) (read : Option ℕ) → first_of name rows ≡ Some text
@@ -19,14 +19,14 @@ number-unread rows name text read there found is (Some n) has fits = let some = 
 pub turns-unread : (rows : List Row) (read : Option ℕ) → first_of (codes "wait") rows ≡ None
     → ((n : ℕ) → HasNumber rows (codes "turns") n → n < 2 ^ 64 → IsSome read) → read ≡ None
     → (pace : Pace) → HasPace rows pace → FitsPace pace → ⊥
-turns-unread rows read none found is (Busy turns) has fits = let some = found turns has.0 fits in cc
+turns-unread rows read none found is (Sleepless turns) has fits = let some = found turns has.0 fits in cc
 turns-unread rows read none found is (Waiting limit turns) has fits = let e = sym none ∙ has.0.1 in cc
 
 -- a wait that is there
 pub wait-unread : (rows : List Row) (text : Text) (read : Option Milliseconds) → first_of (codes "wait") rows ≡ Some text
     → ((n : ℕ) → HasNumber rows (codes "wait") n → IsWaitLimit n → IsSome read) → read ≡ None
     → (pace : Pace) → HasPace rows pace → FitsPace pace → ⊥
-wait-unread rows text read there found is (Busy turns) has fits = let e = sym there ∙ has.1 in cc
+wait-unread rows text read there found is (Sleepless turns) has fits = let e = sym there ∙ has.1 in cc
 wait-unread rows text read there found is (Waiting limit turns) has fits = let some = found limit.0 has.0 has.1 in cc
 
 -- the octets of a buffer, where they are given

@@ -27,7 +27,7 @@ use Rattle.macs_words.specs.declared.action.Action.TheVariants.{Open, Format, Ap
 use Rattle.macs_words.specs.declared.action.Question.{Question}
 use Rattle.macs_words.specs.declared.action.Question.TheVariants as question
 use Rattle.macs_words.specs.declared.pace.Pace.{Pace}
-use Rattle.macs_words.specs.declared.pace.Pace.TheVariants.{Busy, Waiting}
+use Rattle.macs_words.specs.declared.pace.Pace.TheVariants.{Sleepless, Waiting}
 use Rattle.macs_words.specs.declared.action.UsageFault.{UsageFault}
 use Rattle.macs_words.specs.declared.action.UsageFault.TheVariants.{Usage, Memory}
 use Rattle.macs_words.specs.Waits.{IsRoom}
@@ -305,7 +305,7 @@ paced rows count limit = go (first_of (codes "turns") rows) (first_of (codes "wa
         let in_range = count text there in
         let number = digits_value 10 (without_leading_plus text) in
         let fits : number < 2 ^ 64 = in_range.1 in
-        inr (Busy number, ((text, there, in_range.0, refl), no_wait), fits)
+        inr (Sleepless number, ((text, there, in_range.0, refl), no_wait), fits)
     go None (Some word) no_turns there =
         let in_range = limit word there in
         let number = digits_value 10 (without_leading_plus word) in

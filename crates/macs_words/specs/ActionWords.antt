@@ -18,12 +18,13 @@ use Rattle.macs_words.specs.declared.help_texts.TheConstants.{APPLY, ASK, CHECK,
 use Rattle.macs_words.specs.declared.help_texts.TheConstants.{RELAY, SHOW, VALIDATE, VERSION}
 use Rattle.macs_words.specs.declared.pace.Milliseconds.{Milliseconds}
 use Rattle.macs_words.specs.declared.pace.Pace.{Pace}
-use Rattle.macs_words.specs.declared.pace.Pace.TheVariants.{Busy, Waiting}
+use Rattle.macs_words.specs.declared.pace.Pace.TheVariants.{Sleepless, Waiting}
 use Rattle.macs_words.specs.declared.pace.Running.{Running}
 
 -- Words without a subcommand, and `open`, name the opening of a frame. Each other subcommand names its own action, with
 -- the texts that stand at its values: `format` writes over a file exactly where `--over` is used, and takes a block of
--- the device exactly where `--block` is. A number is its digits, in decimal. A relay that is given turns alone is busy;
+-- the device exactly where `--block` is. A number is its digits, in decimal. A relay that is given turns alone is
+-- sleepless;
 -- one that is given a wait, any of 1 to 60,000 ms, waits so long at most. A running relay is asked one of four words,
 -- and of these `apply` alone with a file. An option without a value is on exactly where it is used. Words that the
 -- program does not take are refused, and so are a relay without turns and without a wait, and an `ask` of anything else;
@@ -85,7 +86,7 @@ pub record ActionWords : Type 0 where
   pub number : (values : List Row) (name : Text) (n : ℕ) → HasNumber values name n
       → (text : Text) × (first_of name values ≡ Some text) × IsNumeral 10 (without_leading_plus text)
       × (n ≡ digits_value 10 (without_leading_plus text))
-  pub busy : (values : List Row) (turns : ℕ) → HasPace values (Busy turns)
+  pub sleepless : (values : List Row) (turns : ℕ) → HasPace values (Sleepless turns)
       → HasNumber values (codes "turns") turns × (first_of (codes "wait") values ≡ None)
   pub waiting : (values : List Row) (limit : Milliseconds) (turns : ℕ) → HasPace values (Waiting limit (Some turns))
       → HasNumber values (codes "wait") limit.0 × (1 ≤ limit.0) × (limit.0 ≤ 60000)

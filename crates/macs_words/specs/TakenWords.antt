@@ -20,7 +20,7 @@ use Rattle.macs_words.specs.declared.action.Question.TheVariants as question
 use Rattle.macs_words.specs.declared.action.UsageFault.TheVariants.{Usage}
 use Rattle.macs_words.specs.declared.action.WireEnds.{WireEnds}
 use Rattle.macs_words.specs.declared.pace.Milliseconds.{Milliseconds}
-use Rattle.macs_words.specs.declared.pace.Pace.TheVariants.{Busy, Waiting}
+use Rattle.macs_words.specs.declared.pace.Pace.TheVariants.{Sleepless, Waiting}
 use Rattle.macs_words.specs.declared.pace.Running.{Running}
 
 -- There are eleven subcommands. These are the values and options of each, in their order; those with `--`; those that
@@ -107,7 +107,7 @@ pub record TakenWords : Type 0 where
   pub check : (values : List Row) (file : Bor Text) → first_of (codes "FILE") values ≡ Some file.now
       → Names (Some (codes "check", values)) (Check file)
   pub busy : (values : List Row) (turns : ℕ) → HasNumber values (codes "turns") turns
-      → first_of (codes "wait") values ≡ None → HasPace values (Busy turns)
+      → first_of (codes "wait") values ≡ None → HasPace values (Sleepless turns)
   pub waiting : (values : List Row) (limit : Milliseconds) (turns : ℕ) → HasNumber values (codes "wait") limit.0
       → 1 ≤ limit.0 → limit.0 ≤ 60000 → HasNumber values (codes "turns") turns
       → HasPace values (Waiting limit (Some turns))

@@ -19,7 +19,7 @@ use Rattle.macs_words.specs.declared.action.Action.TheVariants.{Open, Format, Ap
 use Rattle.macs_words.specs.declared.action.Question.{Question}
 use Rattle.macs_words.specs.declared.action.Question.TheVariants as question
 use Rattle.macs_words.specs.declared.pace.Pace.{Pace}
-use Rattle.macs_words.specs.declared.pace.Pace.TheVariants.{Busy, Waiting}
+use Rattle.macs_words.specs.declared.pace.Pace.TheVariants.{Sleepless, Waiting}
 use Rattle.macs_words.specs.declared.help.Topic.{Topic}
 use Rattle.macs_words.specs.declared.help.Topic.TheVariants.{Help, HelpOn, Version}
 use Rattle.macs_words.specs.declared.help.Subcommand.{Subcommand}
@@ -141,7 +141,7 @@ MayHaveNumber values name (Some number) = HasNumber values name number
 -- How a relay takes its turns: so many, and no wait is given; or it waits so long at most, 1 to 60,000 ms, and takes so many where they
 -- are given
 abbrev pub HasPace : List Row → Pace → Type 0
-HasPace values (Busy turns) = HasNumber values (codes "turns") turns × (first_of (codes "wait") values ≡ None)
+HasPace values (Sleepless turns) = HasNumber values (codes "turns") turns × (first_of (codes "wait") values ≡ None)
 HasPace values (Waiting limit turns) =
     HasNumber values (codes "wait") limit.0 × IsWaitLimit limit.0 × MayHaveNumber values (codes "turns") turns
 
@@ -217,7 +217,7 @@ AreRefused words = (takes macsecd words ≢ true) ⊎ NamesNothing (subcommand_o
 
 -- the turns have 64 bits
 abbrev pub FitsPace : Pace → Type 0
-FitsPace (Busy turns) = turns < 2 ^ 64
+FitsPace (Sleepless turns) = turns < 2 ^ 64
 FitsPace (Waiting limit turns) = IfSome turns (λ count. count < 2 ^ 64)
 
 -- the numbers of the action, if it has any, have so many bits

@@ -570,7 +570,7 @@ fn pace_in(values: &ArgMatches) -> Option<Pace>
     match text_in(values, "wait") {
         None => {
             let turns = count_in(values, "turns")?;
-            Some(Pace::Busy { turns })
+            Some(Pace::Sleepless { turns })
         }
         Some(_) => {
             let limit = wait_in(values, "wait")?;

@@ -8,7 +8,7 @@ pub struct Milliseconds(pub u16);
 #[derive(Clone, Copy)]
 pub enum Pace {
     /// So many turns, one right after the other: `--turns n` alone.
-    Busy {
+    Sleepless {
         turns: u64,
     },
     /// A turn that brought nothing is followed by a sleep, until a datagram is there: `--wait MS`.

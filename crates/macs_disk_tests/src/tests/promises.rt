@@ -5,7 +5,7 @@ ghost use Rattle.std.specs.Prelude.{◌≡◌, ◌<◌, ℕ, true, IsErr};
 ghost use Rattle.macs_disk.specs.States.{settled_state, zero_sector};
 ghost use Rattle.macs_disk.specs.Disk.{IsHonest, IsWork, now};
 ghost use Rattle.macs_disk.specs.Runs.{Leaves};
-ghost use Rattle.macs_disk.specs.Fused.{disk_of_fuse};
+ghost use Rattle.macs_disk.specs.Fuses.{disk_of_fuse};
 ghost use Rattle.macs_disk.specs.MemDisks.{disk_of};
 
 use super::Step::{Crash, Find, Tear};

@@ -6,7 +6,7 @@ use super::{INPUT, INTEGRITY_LINE, KEY, OPENED, Outcome, expect_of, status_of};
 use linked_list_allocator::LocalHeap;
 use macs_fixtures::{Failure, NarrowWriter};
 use macs_program::run::line_of;
-use macs_program::{Answer, answer_of};
+use macs_program::{Opened, answer_of};
 use std::alloc::Global;
 use std::fs::File;
 use std::io::{self, Read, Write};
@@ -275,7 +275,7 @@ fn the_status_tells_without_standard_error(rt: HostRuntime) {
 }
 
 /// Whether a heap of so many octets has room for the line, which is then whole.
-fn has_room(rt: &impl Abort, alloc: Global, answer: &Answer, octets: usize) -> Result<bool, Fail> {
+fn has_room(rt: &impl Abort, alloc: Global, answer: &Opened, octets: usize) -> Result<bool, Fail> {
     let heap = LocalHeap::new(alloc, octets)?;
     match line_of(&heap, answer) {
         Ok(line) => {

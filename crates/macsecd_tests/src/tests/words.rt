@@ -765,7 +765,7 @@ fn question_parts<'a>(question: Question<'a>) -> (&'static str, &'a str) {
 /// How a relay takes its turns: whether it is given turns; these, and the milliseconds of a wait.
 fn pace_parts(pace: Pace) -> (&'static str, [u64; 2]) {
     match pace {
-        Pace::Busy { turns } => ("relay", [turns, 0]),
+        Pace::Sleepless { turns } => ("relay", [turns, 0]),
         Pace::Waiting { limit, turns } => {
             let milliseconds = u64::from(limit.0);
             match turns {

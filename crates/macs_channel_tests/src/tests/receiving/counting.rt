@@ -47,7 +47,7 @@ fn count_of(counters: &RxCounters, verdict: Verdict) -> u64 {
 }
 
 fn count(counters: &mut RxCounters, verdict: Verdict) {
-    counters.count(verdict);
+    counters.add(verdict);
 }
 
 fn channel_count_of(counters: &ChannelCounters, verdict: Verdict) -> u64 {
@@ -55,7 +55,7 @@ fn channel_count_of(counters: &ChannelCounters, verdict: Verdict) -> u64 {
 }
 
 fn count_for_channel(counters: &mut ChannelCounters, verdict: Verdict) {
-    counters.count(verdict);
+    counters.add(verdict);
 }
 
 #[test]

@@ -13,13 +13,13 @@ use Rattle.macs_config.proofs.restore.restore.Goals.{After-add_all}
 others : (g : Over) (c : After-add_all g) (made : Option Config) → cond c.add_all.result (Some (config_in c.add_all.new.contents)) None ≡ made
     → config_of_listed this_edition c.args.identity.now (g.P.PartSource.listed c.args.parts.now) ≡ whole_config c.args.identity.now made
 others g c made is =
-    listed-whole this_edition c.args.identity.now (g.P.PartSource.listed c.args.parts.now) c.part.result (config_in c.reset.new.self) (config_in c.settle.new.contents) made
-    c.part.ensures (sym c.if-not-settle.ensures.test) c.reset.ensures (c.settle.ensures.settled c.if-not-settle.false) (c.add_all.ensures ∙ is)
+    listed-whole this_edition c.args.identity.now (g.P.PartSource.listed c.args.parts.now) c.part.result (config_in c.reset.new.self) (config_in c.take_settings.new.contents) made
+    c.part.ensures (sym c.if-not-take_settings.ensures.test) c.reset.ensures (c.take_settings.ensures.settled c.if-not-take_settings.false) (c.add_all.ensures ∙ is)
 
-pub returns-then-not-settle : goal.returns-then-not-settle
-returns-then-not-settle g c =
+pub returns-then-not-take_settings : goal.returns-then-not-take_settings
+returns-then-not-take_settings g c =
     listed-refused this_edition c.args.identity.now (g.P.PartSource.listed c.args.parts.now)
-    (ap (λ (first : Option Part). option_map_or (λ part. nat_le (place_of part) 1) first false) (sym c.part.ensures) ∙ sym c.if-not-settle.ensures.test)
+    (ap (λ (first : Option Part). option_map_or (λ part. nat_le (place_of part) 1) first false) (sym c.part.ensures) ∙ sym c.if-not-take_settings.ensures.test)
 
 pub returns-then-add_all : goal.returns-then-add_all
 returns-then-add_all g c =

@@ -1,6 +1,6 @@
 use Rattle.std.proofs.Common.{◌≡◌, ◌<◌, ◌≤◌, ℕ, length}
 use Rattle.std.specs.Prelude.{unwrap_or}
-use Rattle.macs_disk.specs.Recorded.{choice_at, sectors_in}
+use Rattle.macs_disk.specs.CallLists.{choice_at, sectors_in}
 use Rattle.macs_disk.proofs.memory.choose.Given as goal
 
 abbrev pub invariant-loop-i : goal.invariant-loop-i

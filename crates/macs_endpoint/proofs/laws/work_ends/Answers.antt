@@ -1,4 +1,4 @@
-use Rattle.macs_endpoint.proofs.Lasting.{work-ends}
+use Rattle.macs_endpoint.proofs.WorkThroughCalls.{work-ends}
 use Rattle.macs_endpoint.proofs.laws.work_ends.Goals as goal
 
 pub returns : goal.returns

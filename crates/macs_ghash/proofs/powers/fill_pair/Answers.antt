@@ -1,7 +1,7 @@
 use Rattle.std.proofs.Common.{◌≡◌, ◌-◌, ◌∙◌, ℕ, [], ◌∷◌, arith, get_or}
 use Rattle.macs_gf.specs.Ghash.{subkey_power}
 use Rattle.macs_ghash.proofs.TableProducts.{of_same_powers}
-use Rattle.macs_ghash.proofs.TurnSums.{second_power, two_powers}
+use Rattle.macs_ghash.proofs.StrideSums.{second_power, two_powers}
 use Rattle.macs_ghash.specs.declared.octets.TheConstants.{SIXTEENS}
 use Rattle.macs_ghash.specs.declared.tables.TheConstants.{TWO}
 use Rattle.macs_ghash.proofs.powers.fill_pair.Goals as goal

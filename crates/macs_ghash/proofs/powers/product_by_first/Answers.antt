@@ -2,7 +2,7 @@ use Rattle.std.proofs.Common.{◌≡◌, ◌∙◌, ℕ, ap, arith, bit_xor}
 use lib.Bits.{xor_zero_r}
 use Rattle.macs_gf.specs.Ghash.{block_at}
 use Rattle.macs_ghash.proofs.StringBlocks.{zero_block}
-use Rattle.macs_ghash.proofs.TurnSums.{first_of_two}
+use Rattle.macs_ghash.proofs.StrideSums.{first_of_two}
 use Rattle.macs_ghash.proofs.powers.product_by_first.Goals as goal
 
 pub returns : goal.returns

@@ -1,6 +1,6 @@
 use Rattle.macs_headline.proofs.AlikeEditions.{editions-alike}
 use Rattle.macs_headline.proofs.Answered.{answers-are-held, delivered-below, given-once, moments-are-histories, never-ok-again, written-below, written-once}
-use Rattle.macs_headline.proofs.Begun.{cuts-change-none, in-hand-was-begun}
+use Rattle.macs_headline.proofs.CommandInHand.{cuts-change-none, in-hand-was-begun}
 use Rattle.macs_headline.proofs.BegunByCalls.{others-begin-none}
 use Rattle.macs_headline.proofs.Cases.{cases-are}
 use Rattle.macs_headline.proofs.Changing.{commands-change, is-first-configuration, prints-are}
@@ -8,15 +8,15 @@ use Rattle.macs_headline.proofs.Commands.{commands-kept}
 use Rattle.macs_headline.proofs.Configurations.{configuration-is}
 use Rattle.macs_headline.proofs.CutBeginnings.{cuts-begin, cuts-keep}
 use Rattle.macs_headline.proofs.Deliveries.{deliveries-are-verified, others-are-bare}
-use Rattle.macs_headline.proofs.Fitting.{restarts-fit}
+use Rattle.macs_headline.proofs.FittingImages.{restarts-fit}
 use Rattle.macs_headline.proofs.FormatsOnce.{formats-once, refused-by-history}
 use Rattle.macs_headline.proofs.FoundOnce.{finds-one}
 use Rattle.macs_headline.proofs.GoingOn.{lives-go-on}
 use Rattle.macs_headline.proofs.HandedIn.{in-hand-was-given}
 use Rattle.macs_headline.proofs.Identities.{identity-was-given}
-use Rattle.macs_headline.proofs.Logged.{logs-are-answers}
+use Rattle.macs_headline.proofs.AnsweredLogs.{logs-are-answers}
 use Rattle.macs_headline.proofs.Logs.{nothing-forgotten}
-use Rattle.macs_headline.proofs.Moving.{frames-change-few, none-appear, numbers-are-set, numbers-move, sides-are-configured}
+use Rattle.macs_headline.proofs.NumbersMoved.{frames-change-few, none-appear, numbers-are-set, numbers-move, sides-are-configured}
 use Rattle.macs_headline.proofs.Naming.{channels-are-named, late-are-discarded}
 use Rattle.macs_headline.proofs.Numbers.{begin-as-asked, given-apart, given-below, ok-apart, skips-few, skips-few-received, used-below, used-once, used-once-at-end, windows-are-kept}
 use Rattle.macs_headline.proofs.Older.{editions-rise}

@@ -6,12 +6,12 @@ use Rattle.macs_headline.proofs.ExactEnds.{lives-end-exactly}
 use Rattle.macs_headline.proofs.Faults.{faults-are-failures}
 use Rattle.macs_headline.proofs.Idling.{idle-finds-no-work}
 use Rattle.macs_headline.proofs.Moments.{cut-deliveries-are-below, cut-frames-are-below, ends-are-cuts, frames-are-delivered-once, frames-are-written-once, lives-are-moments, lives-fit, lives-fit-unbegun, lives-keep-commands, openings-find}
+use Rattle.macs_headline.proofs.NumbersWanted.{reservations-are-wanted}
 use Rattle.macs_headline.proofs.OpeningWords.{refusals-are-one}
 use Rattle.macs_headline.proofs.Refusals.{refusals-are-failures}
-use Rattle.macs_headline.proofs.Reserved.{reservations-are-wanted}
 use Rattle.macs_headline.proofs.Spending.{spent-are-spent}
 use Rattle.macs_headline.proofs.Tickets.{lives-keep-tickets}
-use Rattle.macs_headline.proofs.Working.{calls-are-still, steps-work}
+use Rattle.macs_headline.proofs.WorkInHand.{calls-are-still, steps-work}
 use Rattle.macs_headline.proofs.laws.histories.Goals as goal
 
 pub returns-clause-sizes : goal.returns-clause-sizes

@@ -1,5 +1,5 @@
 use Rattle.std.proofs.Common.{arith, min, subst, sym}
-use Rattle.macs_disk.specs.Fused.{disk_of_fuse}
+use Rattle.macs_disk.specs.Fuses.{disk_of_fuse}
 use Rattle.macs_disk.specs.MemDisks.{disk_of, memory_of}
 use Rattle.macs_headline.specs.Binding.{IsNewDisk}
 use Rattle.macs_headline.proofs.Nights.{blank-new, fused-new}

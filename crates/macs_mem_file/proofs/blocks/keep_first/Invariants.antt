@@ -1,5 +1,5 @@
 use Rattle.std.proofs.Common.{◌≡◌, ℕ, false, length}
-use Rattle.macs_disk.specs.Recorded.{flag_at}
+use Rattle.macs_disk.specs.CallLists.{flag_at}
 use Rattle.macs_mem_file.proofs.blocks.keep_first.Given as goal
 
 abbrev pub invariant-loop-n : goal.invariant-loop-n

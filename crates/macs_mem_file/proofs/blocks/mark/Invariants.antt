@@ -1,6 +1,6 @@
 use Rattle.std.proofs.Common.{◌≡◌, ◌<◌, ◌≤◌, ◌||◌, ℕ, length}
 use Rattle.macs_disk.specs.Files.{has_some}
-use Rattle.macs_disk.specs.Recorded.{flag_at}
+use Rattle.macs_disk.specs.CallLists.{flag_at}
 use Rattle.macs_mem_file.proofs.blocks.mark.Given as goal
 
 abbrev pub invariant-loop-n : goal.invariant-loop-n

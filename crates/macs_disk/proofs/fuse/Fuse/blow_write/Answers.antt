@@ -1,5 +1,5 @@
 use Rattle.std.proofs.Common.{◌≡◌, ◌+◌, ◌∙◌, sym, arith, true, false}
-use Rattle.macs_disk.specs.Fused.{FuseValue}
+use Rattle.macs_disk.specs.Fuses.{FuseValue}
 use Rattle.macs_disk.proofs.BlownWrites.{blown-write, none-added}
 use Rattle.macs_disk.proofs.fuse.Fuse.blow_write.Goals as goal
 

@@ -1,5 +1,5 @@
 use Rattle.std.proofs.Common.{◌≡◌, ◌∙◌, sym, subst, ℕ, List}
-use Rattle.macs_disk.specs.Fused.{BlowsWrite}
+use Rattle.macs_disk.specs.Fuses.{BlowsWrite}
 use Rattle.macs_disk.proofs.BlownWrites.{same-fill}
 use Rattle.macs_disk.proofs.MissedCalls.{missed-by-fuse, missed-write}
 use Rattle.macs_disk.proofs.fuse.FuseSectorDisk.write.Goals as goal

@@ -1,8 +1,8 @@
 use Rattle.std.proofs.Common.{◌+◌, refl, arith, length-set}
-use Rattle.macs_disk.specs.declared.record.Entry.{Entry}
-use Rattle.macs_disk.specs.declared.record.Call.TheVariants.{Write}
+use Rattle.macs_disk.specs.declared.call_list.Entry.{Entry}
+use Rattle.macs_disk.specs.declared.call_list.Call.TheVariants.{Write}
 use Rattle.macs_disk.proofs.Kept.{kept-on, kept-write, choices-write}
-use Rattle.macs_disk.proofs.RecordedCalls.{kept-call}
+use Rattle.macs_disk.proofs.ListedCalls.{kept-call}
 use Rattle.macs_disk.proofs.memory.MemDiskSectorDisk.write.Goals as goal
 
 pub invariant_of-self : goal.invariant_of-self

@@ -1,6 +1,6 @@
 use Rattle.std.proofs.Common.{◌∙◌, sym, ap}
 use Rattle.std.specs.Option.{option_map}
-use Rattle.macs_endpoint.specs.Told.{piece_of}
+use Rattle.macs_endpoint.specs.PrivateTypes.{piece_of}
 use Rattle.macs_endpoint.proofs.Taken.{idle-call}
 use Rattle.macs_endpoint.proofs.endpoint.Endpoint.begin.Goals as goal
 

@@ -1,6 +1,6 @@
 use Rattle.std.proofs.Common.{◌≡◌, ◌∙◌, Result, Ok, Err, sym, ap, subst}
 use Rattle.macs_store.specs.declared.fault.CommitFault.{CommitFault}
-use Rattle.macs_endpoint.specs.Keeping.{StartsFirst}
+use Rattle.macs_endpoint.specs.KeptCommands.{StartsFirst}
 use Rattle.macs_endpoint.specs.Needed.{raise_in}
 use Rattle.macs_endpoint.specs.Queue.{first_waiting}
 use Rattle.macs_endpoint.specs.Value.{EndpointValue, IsSoundEndpoint}

@@ -4,7 +4,7 @@ use Rattle.macs_config.specs.Config.{this_edition}
 use Rattle.macs_config.specs.declared.command.Command.{Command}
 use Rattle.macs_store.specs.Standing.{accept}
 use Rattle.macs_store.specs.Value.{standing_in}
-use Rattle.macs_endpoint.specs.Keeping.{KeepsCommand}
+use Rattle.macs_endpoint.specs.KeptCommands.{KeepsCommand}
 use Rattle.macs_endpoint.specs.Parts.{endpoint_of}
 use Rattle.macs_endpoint.specs.Value.{EndpointValue, is_stopped}
 use Rattle.macs_endpoint.specs.declared.fault.CommandFault.TheVariants.{Refused}

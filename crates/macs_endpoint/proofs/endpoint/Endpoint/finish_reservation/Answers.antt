@@ -7,7 +7,7 @@ use Rattle.macs_store.specs.Value.{standing_in}
 use Rattle.macs_endpoint.specs.Faults.{refill_fault_of}
 use Rattle.macs_endpoint.specs.Parts.{endpoint_of}
 use Rattle.macs_endpoint.specs.Reserving.{ReservationEnds}
-use Rattle.macs_endpoint.specs.Told.{raise_of}
+use Rattle.macs_endpoint.specs.PrivateTypes.{raise_of}
 use Rattle.macs_endpoint.specs.Value.{EndpointValue, IsAtRest, IsReserving, IsSoundEndpoint, is_stopped}
 use Rattle.macs_endpoint.specs.declared.refilling.Raise.{Raise}
 use Rattle.macs_endpoint.proofs.Ended.{IsDone, faulted-ends, faulted-kept, finish-done, finished-ends, may-lift, none-ends, none-reserving, raised-kept, raised_to, which-reserving}

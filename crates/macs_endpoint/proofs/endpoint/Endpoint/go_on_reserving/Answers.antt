@@ -9,7 +9,7 @@ use Rattle.macs_store.specs.Value.{standing_in}
 use Rattle.macs_endpoint.specs.Calls.{IsCall}
 use Rattle.macs_endpoint.specs.Parts.{endpoint_of}
 use Rattle.macs_endpoint.specs.State.{Advanced, Advances}
-use Rattle.macs_endpoint.specs.Told.{raise_of}
+use Rattle.macs_endpoint.specs.PrivateTypes.{raise_of}
 use Rattle.macs_endpoint.specs.Value.{EndpointValue, IsReserving, IsSoundEndpoint}
 use Rattle.macs_endpoint.specs.declared.refilling.Raise.{Raise as Told}
 use Rattle.macs_endpoint.specs.declared.progress.Step.TheVariants.{Reserved}

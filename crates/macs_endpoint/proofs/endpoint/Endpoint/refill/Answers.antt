@@ -1,6 +1,6 @@
 use Rattle.std.proofs.Common.{◌≡◌, ◌∙◌, [], refl, sym, ap, subst}
 use Rattle.macs_endpoint.specs.Calls.{IsCall}
-use Rattle.macs_endpoint.specs.Spending.{Spends}
+use Rattle.macs_endpoint.specs.RefillCosts.{Spends}
 use Rattle.macs_endpoint.specs.State.{Refilled, Refills}
 use Rattle.macs_endpoint.specs.Value.{EndpointValue}
 use Rattle.macs_endpoint.specs.declared.turn.Turn.{Turn}

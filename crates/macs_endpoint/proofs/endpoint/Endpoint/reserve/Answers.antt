@@ -4,11 +4,11 @@ use Rattle.std.proofs.lemmas.Result.{err_from_is_err_and}
 use Rattle.macs_endpoint.specs.Needed.{raise_in}
 use Rattle.macs_endpoint.specs.Reserving.{Raised}
 use Rattle.macs_endpoint.specs.State.{no_logs}
-use Rattle.macs_endpoint.specs.Told.{raise_of}
+use Rattle.macs_endpoint.specs.PrivateTypes.{raise_of}
 use Rattle.macs_endpoint.specs.declared.fault.RefillFault.{RefillFault}
 use Rattle.macs_endpoint.proofs.InHand.{at-rest}
 use Rattle.macs_endpoint.proofs.RefillCall.{cut-refill, done-refill, reserves-none, reserves-on, turn-less, turn-moves, turn-raised}
-use Rattle.macs_endpoint.proofs.Spending.{raised-none}
+use Rattle.macs_endpoint.proofs.RefillCosts.{raised-none}
 use Rattle.macs_endpoint.proofs.endpoint.Endpoint.reserve.Given.{Over}
 use Rattle.macs_endpoint.proofs.endpoint.Endpoint.reserve.Goals.{After-facts, After-raise}
 use Rattle.macs_endpoint.proofs.endpoint.Endpoint.reserve.Goals as goal

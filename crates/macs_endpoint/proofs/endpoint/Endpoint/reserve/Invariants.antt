@@ -6,7 +6,7 @@ use Rattle.macs_endpoint.specs.Needed.{raise_in}
 use Rattle.macs_endpoint.specs.Reserving.{Reserves}
 use Rattle.macs_endpoint.specs.State.{no_logs, rx_side, tx_side}
 use Rattle.macs_endpoint.proofs.Raises.{left}
-use Rattle.macs_endpoint.proofs.Spending.{HaveRaised}
+use Rattle.macs_endpoint.proofs.RefillCosts.{HaveRaised}
 use Rattle.macs_endpoint.proofs.endpoint.Endpoint.reserve.Given as goal
 
 abbrev pub invariant-loop-raise : goal.invariant-loop-raise

@@ -5,7 +5,7 @@ use Rattle.macs_store.specs.Stepping.{StartsCommit}
 use Rattle.macs_store.specs.Value.{IsIdle, standing_in}
 use Rattle.macs_store.specs.declared.fault.CommitFault.{CommitFault}
 use Rattle.macs_store.proofs.StartedCommands.{commit-refused}
-use Rattle.macs_endpoint.specs.Keeping.{StartsFirst}
+use Rattle.macs_endpoint.specs.KeptCommands.{StartsFirst}
 use Rattle.macs_endpoint.specs.Parts.{endpoint_of}
 use Rattle.macs_endpoint.specs.Queue.{first_waiting}
 use Rattle.macs_endpoint.specs.Value.{EndpointValue, IsSoundEndpoint, is_stopped}

@@ -6,7 +6,7 @@ use Rattle.macs_endpoint.specs.Ceilings.{standing_with_raise}
 use Rattle.macs_endpoint.specs.Needed.{raise_in}
 use Rattle.macs_endpoint.specs.Parts.{endpoint_of}
 use Rattle.macs_endpoint.specs.State.{no_logs, rx_side, tx_side}
-use Rattle.macs_endpoint.specs.Told.{raise_of}
+use Rattle.macs_endpoint.specs.PrivateTypes.{raise_of}
 use Rattle.macs_endpoint.specs.Value.{EndpointValue, is_stopped, state_of}
 use Rattle.macs_endpoint.proofs.Begun.{first-rises}
 use Rattle.macs_endpoint.proofs.Ended.{begun-kept, begun-reserving}

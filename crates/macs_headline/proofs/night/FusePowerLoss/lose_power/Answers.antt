@@ -1,5 +1,5 @@
 use Rattle.std.proofs.Common.{◌+◌, arith, min, subst, sym}
-use Rattle.macs_disk.specs.Fused.{FuseValue, disk_of_fuse}
+use Rattle.macs_disk.specs.Fuses.{FuseValue, disk_of_fuse}
 use Rattle.macs_headline.specs.Endings.{LosesPower}
 use Rattle.macs_headline.proofs.Nights.{fuse-loses}
 use Rattle.macs_headline.proofs.night.FusePowerLoss.lose_power.Goals as goal

@@ -71,18 +71,18 @@ loop-self-preserved g c =
     let i = c.loop-self.invariant in
     let step = c.in_ok-step_compact.ensures in
     let done = step.advances in
-    let is_busy : IsCompactHand mid.hand = busy g path in
+    let has_work : IsCompactHand mid.hand = busy g path in
     record {
       running = done.after;
-      renews = head-next head mid.hand new.hand is_busy i.renews done.task;
+      renews = head-next head mid.hand new.hand has_work i.renews done.task;
       lent = done.lent records i.lent;
       works = Works-on _ _ _ i.works done.work.works;
       steady = done.work.fails ∙ i.steady;
-      place = λ still. done.place (not-idle new.hand still) ∙ i.place is_busy;
-      moved = λ idle. done.moved idle ∙ place-moved start.place mid.place records mid.hand is_busy i.renews (i.place is_busy);
+      place = λ still. done.place (not-idle new.hand still) ∙ i.place has_work;
+      moved = λ idle. done.moved idle ∙ place-moved start.place mid.place records mid.hand has_work i.renews (i.place has_work);
       most = (let so_far = i.most in let one = done.call in let left = done.left in omega (arith, so_far, one, left));
       at = λ honest.
-          subst (λ (p : Place). AtNextCall (d start.disk) (d new.disk) (other_area p.area) head records new.hand) (i.place is_busy)
+          subst (λ (p : Place). AtNextCall (d start.disk) (d new.disk) (other_area p.area) head records new.hand) (i.place has_work)
           (step.next honest (d start.disk) head (at-call g path honest));
     }
 

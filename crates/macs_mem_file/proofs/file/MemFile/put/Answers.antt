@@ -1,6 +1,6 @@
 use Rattle.std.proofs.Common.{◌≡◌, ◌+◌, ◌||◌, ◌∙◌, ℕ, length, length-take-le, take, refl, arith}
 use Rattle.macs_disk.specs.Files.{has_some}
-use Rattle.macs_disk.specs.Recorded.{flag_at}
+use Rattle.macs_disk.specs.CallLists.{flag_at}
 use Rattle.macs_mem_file.proofs.MemoryFile.{kept_put, put_writes}
 use Rattle.macs_mem_file.proofs.file.MemFile.put.Goals as goal
 

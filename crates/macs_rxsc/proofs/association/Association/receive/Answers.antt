@@ -42,7 +42,8 @@ returns-then-not-open_parts-clause-verdict c = λ side ceilings v r ch rx nu ce.
     settles_bare side ceilings c.args.frame.now NotVerified NotValid Invalid c.args.policy.validate
     (first_not_verified side c.args.frame.now c.args.parts.now c.requires.read c.args.sci ch (sa_of c.args.self.now) (packet_numbers c.args.self.now) rx nu
     (in_time path c.if-is_late.false side r) closed)
-    refl refl v _ _ _ c.settle.ensures.verdict c.settle.ensures.given (put_numbers-same side.numbers c.args.sci _ _ nu)
+    refl refl v _ _ _ c.discard_or_deliver.ensures.verdict c.discard_or_deliver.ensures.given
+    (put_numbers-same side.numbers c.args.sci _ _ nu)
 
 opened : (c : After-arrive) → Verified c.args.frame.now c.args.self.now.key c.args.sci (octets_of c.args.self.now.offset) c.open_parts.new.out.items
 opened c =

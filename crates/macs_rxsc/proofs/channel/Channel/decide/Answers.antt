@@ -39,5 +39,5 @@ returns-in-None-clause-verdict c = λ side ceilings v r ch rx nu ce.
     let there = subst (λ n. get_or c.args.self.now.associations n None ≡ None) an place in
     settles_bare side ceilings c.args.frame.now NoAssociation NotUsingSa UnusedSa c.args.policy.validate
     (first_no_association side c.args.frame.now c.args.parts.now c.requires.read c.args.self.now.sci ch (ap (λ f. f (tag_of c.args.frame.now).an) rx ∙ ap (option_map sa_of) there))
-    refl refl v _ _ _ c.settle.ensures.verdict c.settle.ensures.given
+    refl refl v _ _ _ c.discard_or_deliver.ensures.verdict c.discard_or_deliver.ensures.given
     (decided_same side c.args.self.now _ (ap (numbers_with c.args.self.now) (set-get_or c.args.self.now.associations c.get.result c.index-self-get.result)) nu)

@@ -71,8 +71,8 @@ returns-in-None c =
     record {
       outcome = settles_bare side (ceilings_among c.args.self.now.channels.items) c.args.frame.now NoChannel NoSci UnknownSci c.args.policy.validate
           (first_no_channel side c.args.frame.now c.args.parts.now c.requires.read (absent p c.in-None.is))
-          refl refl refl _ _ _ c.settle.ensures.verdict c.settle.ensures.given refl;
+          refl refl refl _ _ _ c.discard_or_deliver.ensures.verdict c.discard_or_deliver.ensures.given refl;
       side = refl;
       ceilings = refl;
-      counters = sym (ap (λ (o : Option (List ℕ)). counters_after_verdict_at o c.settle.result (counters_among c.args.self.now.channels.items)) (absent p c.in-None.is));
+      counters = sym (ap (λ (o : Option (List ℕ)). counters_after_verdict_at o c.discard_or_deliver.result (counters_among c.args.self.now.channels.items)) (absent p c.in-None.is));
     }

@@ -26,4 +26,4 @@ returns-in-Some c =
 
 pub returns-in-None : goal.returns-in-None
 returns-in-None c =
-    must-follow c.follow.result _ (standing_of c.follow.new.self) c.requires.follows c.follow.ensures.fits c.follow.ensures.refused
+    must-follow c.replay_record.result _ (standing_of c.replay_record.new.self) c.requires.follows c.replay_record.ensures.fits c.replay_record.ensures.refused

@@ -5,8 +5,8 @@ use Rattle.macs_journal.specs.declared.work.JournalStep.TheVariants.{Finished}
 use Rattle.macs_store.specs.Snapshot.{snapshot}
 use Rattle.macs_store.specs.Stepping.{IsRenewing}
 use Rattle.macs_store.specs.Table.{standing_of}
-use Rattle.macs_store.specs.Value.{FitsHand, StoreValue}
-use Rattle.macs_store.specs.declared.hand.Hand.TheVariants.{Renewing}
+use Rattle.macs_store.specs.Value.{FitsChange, StoreValue}
+use Rattle.macs_store.specs.declared.change.Change.TheVariants.{Renewing}
 use Rattle.macs_store.proofs.Turns.{fits-renewal, renewal-failed, renewal-finished, renewal-on, renewal-room}
 use Rattle.macs_store.proofs.store.Store.step_renewal.Given.{Over}
 use Rattle.macs_store.proofs.store.Store.step_renewal.Goals.{After-step_with_snapshot, In-Renewing}
@@ -16,7 +16,7 @@ module _ (g : Over) (c : After-step_with_snapshot g) where
   abbrev old : StoreValue g.row.D.Denot
   old = record { journal = c.self.inside.journal; held = c.self.inside.standing; hand = c.self.inside.hand }
 
-  fits : FitsHand c.self.inside.journal (standing_of c.self.inside.standing) c.self.inside.hand
+  fits : FitsChange c.self.inside.journal (standing_of c.self.inside.standing) c.self.inside.hand
   fits = c.self.invariant.0
 
   is : IsRenewing c.self.inside.hand
@@ -30,7 +30,7 @@ module _ (g : Over) (c : In-Renewing g) where
   hand_is : c.self.inside.hand ≡ Renewing c.in-Renewing.value
   hand_is = sym c.replace.ensures.value ∙ c.in-Renewing.is
 
-  its : FitsHand c.self.inside.journal (standing_of c.self.inside.standing) (Renewing c.in-Renewing.value)
+  its : FitsChange c.self.inside.journal (standing_of c.self.inside.standing) (Renewing c.in-Renewing.value)
   its = fits-renewal g.D.SectorDisk.disk was c.self.invariant.0 c.in-Renewing.value hand_is
 
   last : journal.Steps g.D.SectorDisk.disk c.self.inside.journal (snapshot (standing_of c.self.inside.standing)) (Ok Finished) c.step_with_snapshot.new.journal

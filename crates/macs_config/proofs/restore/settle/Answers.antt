@@ -1,5 +1,0 @@
-use Rattle.std.proofs.Common.{refl}
-use Rattle.macs_config.proofs.restore.settle.Goals as goal
-
-pub returns-clause-settled : goal.returns-clause-settled
-returns-clause-settled c = λ done. rw (c.in-Some-Settings.is, c.in-Some-Settings.field-0-is) refl

@@ -1,0 +1,209 @@
+-- Work on what is in hand at the end of a life began in a call that may begin it, and it is accepted.
+use Rattle.std.proofs.Common.{◌≡◌, ◌⊎◌, ◌&&◌, inl, inr, ℕ, Bool, true, false, cond, not, is_ok, List, [], ◌∷◌, Option, Some, None, Result, Ok, Err, refl, sym, ◌∙◌, ap, subst}
+use Rattle.std.proofs.lemmas.Bool.{false≢true}
+use Rattle.macs_config.specs.Apply.{apply}
+use Rattle.macs_config.specs.declared.command.Command.{Command}
+use Rattle.macs_rxsc.specs.declared.verdict.Verdict.{Verdict}
+use Rattle.macs_endpoint.specs.Queue.{first_command}
+use Rattle.macs_endpoint.specs.Restart.{opened_state, state_taking, state_taking_alone, state_taking_first}
+use Rattle.macs_endpoint.specs.declared.fault.CommandFault.{CommandFault}
+use Rattle.macs_endpoint.specs.declared.fault.CommandFault.TheVariants as ran
+use Rattle.macs_endpoint.specs.declared.fault.ProtectFault.{ProtectFault}
+use Rattle.macs_endpoint.specs.declared.fault.ProtectFault.TheVariants as protect
+use Rattle.macs_endpoint.specs.declared.fault.RefillFault.{RefillFault}
+use Rattle.macs_endpoint.specs.declared.fault.RefillFault.TheVariants as refill
+use Rattle.macs_endpoint.specs.declared.fault.StepFault.{StepFault}
+use Rattle.macs_endpoint.specs.declared.fault.StepFault.TheVariants as advance
+use Rattle.macs_endpoint.specs.declared.fault.Stopped.{Stopped}
+use Rattle.macs_endpoint.specs.declared.fault.SubmitFault.{SubmitFault}
+use Rattle.macs_endpoint.specs.declared.fault.SubmitFault.TheVariants as submit
+use Rattle.macs_endpoint.specs.declared.progress.Step.{Step as Progress}
+use Rattle.macs_endpoint.specs.declared.progress.Step.TheVariants.{Done, Worked}
+use Rattle.macs_endpoint.specs.declared.queue.Waiting.{Waiting}
+use Rattle.macs_endpoint.specs.State.{Advanced, AdvancedLong, Advances, Call, Commands, Protected, Protects, Ran, Received, Receives, Refilled, Refills, RefusedLong, Reply, State, Submits, Submitted, state_with_in_hand}
+use Rattle.macs_endpoint.specs.Step.{AdvanceStep, CommandStep, Ends, Exchange, ProtectStep, ReceiveStep, RefillStep, RunningStep, Step, Steps, SubmitStep, TakesUp}
+use Rattle.macs_headline.specs.CommandInHand.{CutsChangeNone, InHandWasBegun, MayBegin, WasBegun}
+use Rattle.macs_headline.specs.Commands.{waiting_at_end}
+use Rattle.macs_headline.specs.History.{logs_of, state_at_end}
+use Rattle.macs_headline.specs.Refused.{refusal_at}
+use Rattle.macs_headline.specs.Steps.{state_but_hand}
+use Rattle.macs_headline.proofs.Accepted.{no-refusal}
+use Rattle.macs_headline.proofs.Commands.{waits-from}
+use Rattle.macs_headline.proofs.Ledger.{some_one}
+
+none_some : (c : Command) → ◌≡◌ {A = Option Command} None (Some c) → ⊥
+none_some c is = cc
+
+-- ---- what is in hand after an answer
+
+-- no reason holds to refuse what is in hand
+abbrev IsAccepted : State → Type 0
+IsAccepted s = (c : Command) → s.in_hand ≡ Some c → refusal_at s c ≡ None
+
+none_in_hand : (s : State) → s.in_hand ≡ None → IsAccepted s
+none_in_hand s none c hand = absurd (none_some c (sym none ∙ hand))
+
+one_in_hand : (old : State) (c : Command) → refusal_at old c ≡ None → IsAccepted (state_with_in_hand old c)
+one_in_hand old c why d hand = subst (λ (c : Command). refusal_at old c ≡ None) (some_one (Some c) c d refl hand) why
+
+same_state : (old new : State) → new ≡ old → IsAccepted old → IsAccepted new
+same_state old new is was = subst (λ (s : State). IsAccepted s) (sym is) was
+
+by_command : (old : State) (c : Command) (result : Result (Unit {0}) CommandFault) (new : State) → CommandStep old c result new → IsAccepted old → IsAccepted new
+by_command old c (Ok done) new (none, makes) was = none_in_hand new (ap (λ (s : State). s.in_hand) makes.2)
+by_command old c (Err ran.Stopped) new h was = absurd h
+by_command old c (Err ran.Disk) new (none, accepts, is) was = subst (λ (s : State). IsAccepted s) (sym is) (one_in_hand old c (no-refusal old.edition old.identity old.config c accepts))
+by_command old c (Err ran.Busy) new (some, is) was = same_state old new is was
+by_command old c (Err (ran.Refused refusal)) new (none, why, is) was = same_state old new is was
+by_command old c (Err ran.GenerationsSpent) new (none, accepts, is) was = same_state old new is was
+
+by_refill : (old : State) (result : Result (Unit {0}) RefillFault) (new : State) → RefillStep old result new → IsAccepted old → IsAccepted new
+by_refill old (Ok done) new (none, is) was = same_state old new is was
+by_refill old (Err refill.Stopped) new h was = absurd h
+by_refill old (Err refill.Disk) new (none, is) was = subst (λ (s : State). IsAccepted s) (sym is) was
+by_refill old (Err refill.Busy) new (some, is) was = same_state old new is was
+by_refill old (Err refill.GenerationsSpent) new (none, is) was = same_state old new is was
+
+by_submit : (old : State) (c : Command) (result : Result ℕ SubmitFault) (new : State) → SubmitStep old c result new → IsAccepted old → IsAccepted new
+by_submit old c (Ok ticket) new (few, left, is_ticket, is) was = subst (λ (s : State). IsAccepted s) (sym is) was
+by_submit old c (Err submit.QueueFull) new (many, is) was = same_state old new is was
+by_submit old c (Err submit.TicketsSpent) new (few, spent, is) was = same_state old new is was
+by_submit old c (Err submit.Stopped) new h was = absurd h
+
+taken_up : (old new : State) → TakesUp old new → IsAccepted new
+taken_up old new (first, rest, waiting, idle, accepts, is) = subst (λ (s : State). IsAccepted s) (sym is) (one_in_hand old first.command (no-refusal old.edition old.identity old.config first.command accepts))
+
+by_end : (old : State) (first : Waiting) (rest : List Waiting) (result : Result (Unit {0}) CommandFault) (new : State) → Ends old first rest result new
+    → IsAccepted new
+by_end old first rest (Ok done) new makes = none_in_hand new (ap (λ (s : State). s.in_hand) makes.2)
+by_end old first rest (Err (ran.Refused refusal)) new (idle, why, is) = none_in_hand new (ap (λ (s : State). s.in_hand) is)
+by_end old first rest (Err ran.GenerationsSpent) new (idle, accepts, is) = none_in_hand new (ap (λ (s : State). s.in_hand) is)
+by_end old first rest (Err fault) new h = absurd h
+
+by_advance : (old : State) (result : Result Progress StepFault) (new : State) → AdvanceStep old result new → IsAccepted old → IsAccepted new
+by_advance old (Ok Worked) new (inl is) was = same_state old new is was
+by_advance old (Ok Worked) new (inr takes) was = taken_up old new takes
+by_advance old (Ok (Done ticket result)) new (first, rest, waiting, is_ticket, ends) was = by_end old first rest result new ends
+by_advance old (Err advance.Disk) new (inl is) was = subst (λ (s : State). IsAccepted s) (sym is) was
+by_advance old (Err advance.Disk) new (inr (mid, takes, is)) was = subst (λ (s : State). IsAccepted s) (sym is) (taken_up old mid takes)
+by_advance old (Err advance.Stopped) new h was = absurd h
+by_advance old result new is was = same_state old new is was
+
+by_protect : (old : State) (plain : List ℕ) (result : Result ℕ ProtectFault) (out : List ℕ) (new : State) → ProtectStep old plain result out new
+    → IsAccepted old → IsAccepted new
+by_protect old plain (Ok pn) out new (none, (o, is_o, is_pn, is_out, is)) was = subst (λ (s : State). IsAccepted s) (sym is) was
+by_protect old plain (Err (protect.Tx fault)) out new (why, empty, is) was = same_state old new is was
+by_protect old plain (Err protect.Stopped) out new h was = absurd h
+
+by_receive : (old : State) (frame : List ℕ) (result : Result Verdict Stopped) (out : List ℕ) (new : State) → ReceiveStep old frame result out new
+    → IsAccepted old → IsAccepted new
+by_receive old frame (Ok verdict) out new (inl (step, is_first, is_verdict, is_out, is)) was = same_state old new is was
+by_receive old frame (Ok verdict) out new (inr (a, there, inl (is_verdict, above, is_out, is))) was = subst (λ (s : State). IsAccepted s) (sym is) was
+by_receive old frame (Ok verdict) out new (inr (a, there, inr (is_verdict, is_out, is))) was = subst (λ (s : State). IsAccepted s) (sym is) was
+by_receive old frame (Err stopped) out new h was = absurd h
+
+by_call : (old : State) (call : Call) (reply : Reply) (new : State) → RunningStep old call reply new → IsAccepted old → IsAccepted new
+by_call old (Commands c) (Ran result) new h was = by_command old c result new h was
+by_call old Refills (Refilled result) new h was = by_refill old result new h was
+by_call old (Submits c) (Submitted result) new h was = by_submit old c result new h was
+by_call old Advances (Advanced result) new h was = by_advance old result new h was
+by_call old (Protects plain) (Protected result out) new h was = by_protect old plain result out new h was
+by_call old (Receives frame) (Received result out) new h was = by_receive old frame result out new h was
+by_call old (Commands c) RefusedLong new (none, why, is) was = same_state old new is was
+by_call old Advances (AdvancedLong ticket) new (first, rest, waiting, is_ticket, (idle, why, is)) was = none_in_hand new (ap (λ (s : State). s.in_hand) is)
+by_call old call reply new h was = absurd h
+
+by_step : (old : State) (call : Call) (reply : Reply) (new : State) → Step old call reply new → IsAccepted old → IsAccepted new
+by_step old call reply new (inl (stopped, answer, is)) was = same_state old new is was
+by_step old call reply new (inr (running, h)) was = by_call old call reply new h was
+
+by_steps : (old : State) (exchanges : List Exchange) (new : State) → Steps old exchanges new → IsAccepted old → IsAccepted new
+by_steps old [] new is was = same_state old new is was
+by_steps old (e ∷ exchanges) new (mid, step, steps) was = by_steps mid exchanges new steps (by_step old e.call e.reply mid step was)
+
+-- ---- the end of a life
+
+and_right : (x y : Bool) → (x && y) ≡ true → y ≡ true
+and_right true y is = is
+and_right false y is = absurd (false≢true is)
+
+not_left : (x y : Bool) → (not x && y) ≡ true → x ≡ false
+not_left true y is = absurd (false≢true is)
+not_left false y is = refl
+
+module _ (exchanges : List Exchange) (s : State) (waits : s.waiting ≡ waiting_at_end exchanges) (accepted : IsAccepted s) where
+  -- in hand after the last answer
+  by_answers : (cut : Option Call) (c : Command) → s.in_hand ≡ Some c → WasBegun exchanges s cut c
+  by_answers cut c is = record { begun = inl is; accepted = accepted c is }
+
+  -- or taken in the call that is cut short
+  either_hand : (test : Bool) (d c : Command) → (cond test (state_with_in_hand s d) s).in_hand ≡ Some c → (s.in_hand ≡ Some c) ⊎ ((test ≡ true) × (d ≡ c))
+  either_hand true d c is = inr (refl, some_one (Some d) d c refl is)
+  either_hand false d c is = inl is
+
+  taken : (cut : Option Call) (d c : Command) → MayBegin cut (waiting_at_end exchanges) d
+      → (cond (not s.stopped && is_ok (apply s.edition s.identity s.config d)) (state_with_in_hand s d) s).in_hand ≡ Some c → WasBegun exchanges s cut c
+  taken cut d c may is = elim (either_hand (not s.stopped && is_ok (apply s.edition s.identity s.config d)) d c is) [
+    | inl hand ↦ by_answers cut c hand
+    | inr one ↦
+        let accepts = and_right (not s.stopped) (is_ok (apply s.edition s.identity s.config d)) one.0 in
+        let running = not_left s.stopped (is_ok (apply s.edition s.identity s.config d)) one.0 in
+        subst (λ (c : Command). WasBegun exchanges s cut c) one.1
+        (record { begun = inr (running, may); accepted = no-refusal s.edition s.identity s.config d accepts })
+  ]
+
+  alone : (d : Command) (waiting : List Waiting) (c : Command) → s.waiting ≡ waiting → (state_taking_alone s d waiting).in_hand ≡ Some c
+      → WasBegun exchanges s (Some (Commands d)) c
+  alone d [] c none is =
+      taken (Some (Commands d)) d c (subst (λ (waiting : List Waiting). MayBegin (Some (Commands d)) waiting d) (sym none ∙ waits) refl) is
+  alone d (first ∷ rest) c some is = by_answers (Some (Commands d)) c is
+
+  first_one : (in_hand : Option Command) (waiting : List Waiting) (c : Command) → s.waiting ≡ waiting → (state_taking_first s in_hand waiting).in_hand ≡ Some c
+      → WasBegun exchanges s (Some Advances) c
+  first_one None [] c none is = by_answers (Some Advances) c is
+  first_one None (first ∷ rest) c waiting is =
+      taken (Some Advances) first.command c (sym (ap first_command waits) ∙ ap first_command waiting) is
+  first_one (Some d) waiting c some is = by_answers (Some Advances) c is
+
+  at_end : (cut : Option Call) (c : Command) → (state_at_end s cut).in_hand ≡ Some c → WasBegun exchanges s cut c
+  at_end None c is = by_answers None c is
+  at_end (Some (Commands d)) c is = alone d s.waiting c refl is
+  at_end (Some Refills) c is = by_answers (Some Refills) c is
+  at_end (Some (Submits d)) c is = by_answers (Some (Submits d)) c is
+  at_end (Some Advances) c is = first_one s.in_hand s.waiting c refl is
+  at_end (Some (Protects plain)) c is = by_answers (Some (Protects plain)) c is
+  at_end (Some (Receives frame)) c is = by_answers (Some (Receives frame)) c is
+
+pub in-hand-was-begun : (sectors : ℕ) → InHandWasBegun sectors
+in-hand-was-begun sectors last m cut command is =
+    let begun = opened_state m.life.found (logs_of m.past) in
+    at_end m.exchanges last (waits-from [] begun m.exchanges last refl m.life.steps)
+    (by_steps begun m.exchanges last m.life.steps (none_in_hand begun refl)) cut command is
+
+-- ---- what a call that is cut short leaves
+
+either_but_hand : (b : Bool) (x y s : State) → state_but_hand x ≡ state_but_hand s → state_but_hand y ≡ state_but_hand s
+    → state_but_hand (cond b x y) ≡ state_but_hand s
+either_but_hand true x y s is other = is
+either_but_hand false x y s is other = other
+
+taking_but_hand : (s : State) (c : Command) → state_but_hand (state_taking s c) ≡ state_but_hand s
+taking_but_hand s c = either_but_hand (not s.stopped && is_ok (apply s.edition s.identity s.config c)) (state_with_in_hand s c) s s refl refl
+
+alone_but_hand : (s : State) (c : Command) (waiting : List Waiting) → state_but_hand (state_taking_alone s c waiting) ≡ state_but_hand s
+alone_but_hand s c [] = taking_but_hand s c
+alone_but_hand s c (first ∷ rest) = refl
+
+first_but_hand : (s : State) (in_hand : Option Command) (waiting : List Waiting) → state_but_hand (state_taking_first s in_hand waiting) ≡ state_but_hand s
+first_but_hand s None [] = refl
+first_but_hand s None (first ∷ rest) = taking_but_hand s first.command
+first_but_hand s (Some c) waiting = refl
+
+pub cuts-change-none : CutsChangeNone
+cuts-change-none s None = refl
+cuts-change-none s (Some (Commands c)) = alone_but_hand s c s.waiting
+cuts-change-none s (Some Refills) = refl
+cuts-change-none s (Some (Submits c)) = refl
+cuts-change-none s (Some Advances) = first_but_hand s s.in_hand s.waiting
+cuts-change-none s (Some (Protects plain)) = refl
+cuts-change-none s (Some (Receives frame)) = refl

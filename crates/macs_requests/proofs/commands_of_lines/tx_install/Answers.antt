@@ -1,0 +1,29 @@
+use Rattle.std.proofs.Common.{◌∙◌, ℕ, List, arith, decimal}
+use Rattle.macs_requests.specs.Cutting.{spaced}
+use Rattle.macs_requests.specs.Fields.{key_digits, protection_word}
+use Rattle.macs_requests.proofs.Blanks.{cut_at, decimal_lacks}
+use Rattle.macs_requests.proofs.Values.{confidential_said, key_lacks, protection_lacks}
+use Rattle.macs_requests.proofs.commands_of_lines.tx_install.Goals as goal
+
+pub returns : goal.returns
+returns c = λ an key start confidential offset told is.
+    let first = c.cut-first.result in
+    let second = c.cut-second.result in
+    let third = c.cut-third.result in
+    let fourth = c.cut-fourth.result in
+    let after_start : List ℕ = spaced (protection_word confidential) (decimal offset) in
+    let after_key : List ℕ = spaced (decimal start) after_start in
+    let after_an : List ℕ = spaced (key_digits key) after_key in
+    let a = cut_at c.args.text.now first.word.now first.rest.now (decimal an) after_an c.cut-first.ensures is
+    (decimal_lacks an (omega (arith, told.0.0))) in
+    let b = cut_at first.rest.now second.word.now second.rest.now (key_digits key) after_key c.cut-second.ensures a.1
+    (key_lacks key told.0.1 told.1) in
+    let d = cut_at second.rest.now third.word.now third.rest.now (decimal start) after_start c.cut-third.ensures b.1
+    (decimal_lacks start (omega (arith, told.0.2))) in
+    let e = cut_at third.rest.now fourth.word.now fourth.rest.now (protection_word confidential) (decimal offset)
+    c.cut-fourth.ensures d.1 (protection_lacks confidential) in
+    let an_is = c.an.ensures an told.0.0 a.0 in
+    let key_is = c.key.ensures key told.0.1 told.1 b.0 in
+    let start_is = c.number.ensures start told.0.2 d.0 in
+    let how_is = c.eq.ensures ∙ confidential_said confidential fourth.word.now e.0 in
+    let offset_is = c.octet.ensures offset told.0.3 e.1 in cc
