@@ -15,7 +15,10 @@
 #include <string.h>
 #include <time.h>
 
-enum { ROOM = 9216, AAD = 28, LENGTHS = 4, CHECKED = 13, LIBRARIES = 4 };
+enum { ROOM = 9216, AAD = 28, LENGTHS = 4, LIBRARIES = 4 };
+
+/* Texts of 0 to so many octets are compared, and one of the longest frame. */
+enum { COMPARED = 2100, LONGEST = 9172 };
 
 /* The two lengths of keys. */
 enum { SHORT, LONG, KEYS };
@@ -32,7 +35,6 @@ CALLS(v3, )
 CALLS(v3, _long)
 
 static const size_t octets_of_frames[LENGTHS] = {64, 256, 1500, 9184};
-static const size_t checked[CHECKED] = {0, 1, 15, 16, 17, 52, 127, 128, 255, 256, 257, 1488, 9172};
 
 static const char *const ciphers[KEYS] = {"AES-128", "AES-256"};
 
@@ -251,9 +253,11 @@ int main(int count, char **words) {
     int rounds = count > 1 ? atoi(words[1]) : 200;
     static rows seal[KEYS], open[KEYS];
     prepare();
-    for (int keys = 0; keys < KEYS; keys++)
-        for (int i = 0; i < CHECKED; i++) check_length(keys, checked[i]);
-    printf("all give the same octets at %d lengths, under short and long keys\n", CHECKED);
+    for (int keys = 0; keys < KEYS; keys++) {
+        for (size_t len = 0; len <= COMPARED; len++) check_length(keys, len);
+        check_length(keys, LONGEST);
+    }
+    printf("all give the same octets at each length of 0 to %d and at %d, under short and long keys\n", COMPARED, LONGEST);
 
     for (int keys = 0; keys < KEYS; keys++)
         for (int i = 0; i < LIBRARIES; i++)

@@ -1,12 +1,13 @@
 #!/usr/bin/env python3
-"""Measures `macsecd protect` beside sealing alone: time, peak memory, and the calls of the system.
+"""Measures `macsecd protect` and `validate` beside sealing alone: time, peak memory, and the calls of the system.
 
     python3 bench/protect.py [FOLDER] [FRAMES] [ROUNDS]
 
 FOLDER, where the captures and the disk file are made, should be on a real disk; it is the system's folder for temporary files unless
 one is named. FRAMES is 100,000, ROUNDS 10: more of them where other work on the machine disturbs. Frames have 1,500 octets, blocks 65,536 packet numbers. Both programs are built for one level of
-processors, x86-64-v3 unless MACSECD_CPU names another, and run in turn in each round; times are of the processor (user and system). The ratio is given three times: of the two least times, of the two
-tenths (a tenth of the runs took less), and as the median of the rounds' own ratios.
+processors, x86-64-v3 unless MACSECD_CPU names another, and run in turn in each round; times are of the processor (user and system). `validate` takes what
+`protect` made, at another end; opening takes as long as sealing, to 3 of 100 (`bench/run`). Each ratio is given three times: of the two least times, of the
+two tenths (a tenth of the runs took less), and as the median of the rounds' own ratios.
 Each run writes a new file: to give back the pages of an old one would be counted too. strace, where there is one, counts the calls of one more run.
 """
 
@@ -37,6 +38,19 @@ offset = 0
 [[command]]
 do = "tx-use"
 an = 0
+"""
+RECEIVING = """
+[[command]]
+do = "rx-add"
+sci = "0200000000010001"
+
+[[command]]
+do = "rx-install"
+sci = "0200000000010001"
+an = 0
+key = "000102030405060708090a0b0c0d0e0f"
+start = 1
+offset = 0
 """
 
 
@@ -86,9 +100,10 @@ def main():
     folder = tempfile.mkdtemp(dir=sys.argv[1] if len(sys.argv) > 1 else None)
     at = lambda name: os.path.join(folder, name)
     try:
-        open(at("commands"), "w").write(COMMANDS)
-        subprocess.run([PROGRAM, "format", at("disk"), "0200000000010001", "65536", "65536"], check=True)
-        subprocess.run([PROGRAM, "apply", at("disk"), at("commands")], check=True)
+        for disk, sci, commands in ("disk", "0200000000010001", COMMANDS), ("other", "0200000000020001", RECEIVING):
+            open(at("commands"), "w").write(commands)
+            subprocess.run([PROGRAM, "format", at(disk), sci, "65536", "65536"], check=True)
+            subprocess.run([PROGRAM, "apply", at(disk), at("commands")], check=True)
         write_capture(at("few"), 1000)
         write_capture(at("many"), frames)
         protect = lambda name: [PROGRAM, "protect", at("disk"), at(name), at("out")]
@@ -97,13 +112,17 @@ def main():
         for _ in range(int(sys.argv[3]) if len(sys.argv) > 3 else ROUNDS):
             sealing, _ = measured([*seal, str(frames)])
             whole, _ = measured(protect("many"))
+            other, _ = measured([PROGRAM, "validate", at("other"), at("out"), at("plain")])
+            assert os.path.getsize(at("plain")) == os.path.getsize(at("many"))
             os.remove(at("out"))
-            rounds.append((sealing, whole))
-            print(f"sealing {sealing:.3f} s, protect {whole:.3f} s")
-        sealing, whole = map(sorted, zip(*rounds))
-        for name, at_rank in ("the least", 0), ("the tenths", len(rounds) // 10):
-            print(f"{name}: sealing {sealing[at_rank]:.3f} s, protect {whole[at_rank]:.3f} s, ratio {whole[at_rank] / sealing[at_rank]:.3f}")
-        print(f"the median of {len(rounds)} ratios: {median(whole / sealing for sealing, whole in rounds):.3f}")
+            os.remove(at("plain"))
+            rounds.append((sealing, whole, other))
+            print(f"sealing {sealing:.3f} s, protect {whole:.3f} s, validate {other:.3f} s")
+        for word, at_word in ("protect", 1), ("validate", 2):
+            sealing, whole = sorted(it[0] for it in rounds), sorted(it[at_word] for it in rounds)
+            for name, at_rank in ("the least", 0), ("the tenths", len(rounds) // 10):
+                print(f"{name}: sealing {sealing[at_rank]:.3f} s, {word} {whole[at_rank]:.3f} s, ratio {whole[at_rank] / sealing[at_rank]:.3f}")
+            print(f"the median of {len(rounds)} ratios: {median(it[at_word] / it[0] for it in rounds):.3f}")
         _, few = measured(protect("few"))
         _, many = measured(protect("many"))
         print(f"peak memory: {few:.1f} MiB with 1,000 frames, {many:.1f} MiB with {frames}")
