@@ -75,11 +75,12 @@ use Rattle.macs_program.specs.declared.values.ValueFault.{ValueFault}
 -- A run that replies was asked for help and prints it, or its words are taken and name the action that it does. Each
 -- action does this: `open` prints the answer to its input; `format` makes a file a disk that, when it was settled, was
 -- one that may be written over, blanks it in the layout of its words and formats it with the identity of its words;
--- `apply` gives the commands of a file to an endpoint in a file, and prints a line for each; `show` prints its text, as
--- it was opened; `protect` and `validate` take a capture through it, each from its own side, and `validate --each` prints
--- the line of each verdict before its own; `relay` prints what it came to; `ask` prints lines of outcomes, or a text; `key` prints as many octets as it is to, in hex; `inspect` prints a line
--- for each record of a capture, up to its end; `check` prints how many commands some octets say. Of a capture that is
--- given, octets that are given, and a key that is given, it is this one.
+-- `apply` gives the commands of a file to an endpoint in a file, and prints a line for each; `show` prints its text,
+-- as it was opened; `protect` and `validate` take a capture through it, each from its own side, and `validate --each`
+-- prints the line of each verdict before its own; `relay` prints what it came to; `ask` prints lines of outcomes, or a
+-- text; `key` prints as many octets as it is to, in hex; `inspect` prints a line for each record of a capture, up to
+-- its end; `check` prints how many commands some octets say. Of a capture that is given, octets that are given, and a
+-- key that is given, it is this one.
 pub record ReplyWords {F : Type 0} (file : F → FileState) : Type 0 where
   pub replied : (words : List Text) (input : InputRead) (before after : Option (List ℕ)) (status : Status)
       → Replies file words input before after status

@@ -71,7 +71,7 @@ impl fmt::Display for Opened {
 }
 
 /// Opens the frame of a request under its key, SCI and offset.
-fn opened(request: &OpenInput) -> Opened
+fn open_request(request: &OpenInput) -> Opened
     ensures { AnswersRequest request.now result }
 {
     let key = GcmKey::new(&request.key);
@@ -90,5 +90,5 @@ pub fn answer_of(input: &[u8]) -> Result<Opened, InputFault>
         → (result ≡ Err fault) ↔ IsFirst (InputFaultHolds input.now) input_faults fault }
 {
     let request = request_of(input)?;
-    Ok(opened(&request))
+    Ok(open_request(&request))
 }

@@ -1,6 +1,6 @@
 use Rattle.std.proofs.Common.{refl}
 use Rattle.macs_program.proofs.OpenedFrames.{opens, refused}
-use Rattle.macs_program.proofs.opened.opened.Goals as goal
+use Rattle.macs_program.proofs.opened.open_request.Goals as goal
 
 pub returns-in-Ok : goal.returns-in-Ok
 returns-in-Ok c =
